@@ -1,0 +1,249 @@
+//! Words and lanes of memory, the events and answers of the machine, and the flat memory that
+//! they speak of.
+//!
+//! These are plain types that every other crate uses. What they mean as flat memory stands in
+//! `specs/Flat.antt`: which answers an event may get, and what each pair of them changes.
+#![tactic(auto)]
+
+ghost use Rattle.std.specs.Prelude.{⊤, ◌≡◌, ◌==◌, [], ◌∷◌, codes, bit_and, if◌then◌else◌};
+ghost use Rattle.flat_model.specs.Words.{merged, joined, has_any, has_all};
+
+use bitflags::{Flag, Flags, bitflag_items};
+use std::alloc::AllocError;
+use thiserror::Error;
+
+/// A word of memory: four bytes in memory order, byte 0 first.
+#[derive(Clone, Copy, PartialEq, Eq, Debug, Default)]
+pub struct Word {
+    /// Byte 0, the first in memory.
+    pub b0: u8,
+    /// Byte 1.
+    pub b1: u8,
+    /// Byte 2.
+    pub b2: u8,
+    /// Byte 3, the last in memory.
+    pub b3: u8,
+}
+
+/// A set of the four lanes of a word: bit `k` stands for the lane of byte `k`.
+///
+/// Only these four bits have a meaning. `from_bits_retain` keeps any others that it is given:
+/// they name no lane, a merge passes them over and [`Lanes::has_any`] doesn't count them, but two
+/// sets that differ in them are not `==`.
+#[derive(Clone, Copy, PartialEq, Eq, Debug, Default)]
+pub struct Lanes(pub u8);
+
+bitflag_items! {
+    impl Lanes: u8 {
+        const LANE_0 = 1;
+        const LANE_1 = 2;
+        const LANE_2 = 4;
+        const LANE_3 = 8;
+    }
+}
+
+impl Flags for Lanes {
+    type Bits = u8;
+
+    ghost exact = { ⊤ };
+
+    ghost table = { (codes "LANE_0", 1)
+        ∷ (codes "LANE_1", 2)
+        ∷ (codes "LANE_2", 4)
+        ∷ (codes "LANE_3", 8)
+        ∷ [] };
+
+    ghost set_of = { λ m. m.0 };
+
+    fn flags<'a>() -> &'a [Flag<Lanes>] {
+        Lanes::FLAGS
+    }
+
+    fn bits(&self) -> u8 {
+        self.0
+    }
+
+    fn from_bits_retain(bits: u8) -> Lanes {
+        Lanes(bits)
+    }
+}
+
+#[tactic(auto, unfolding(crate::specs::Words::has, crate::specs::Words::joined))]
+impl Lanes {
+    /// Whether one of the four lanes is set.
+    pub fn has_any(self) -> bool
+        ensures { result ≡ has_any self }
+    {
+        self.contains(Lanes::LANE_0)
+            || self.contains(Lanes::LANE_1)
+            || self.contains(Lanes::LANE_2)
+            || self.contains(Lanes::LANE_3)
+    }
+
+    /// Whether all four lanes are set.
+    pub fn has_all(self) -> bool
+        ensures { result ≡ has_all self }
+    {
+        self.contains(Lanes::LANE_0)
+            && self.contains(Lanes::LANE_1)
+            && self.contains(Lanes::LANE_2)
+            && self.contains(Lanes::LANE_3)
+    }
+
+    /// The lanes of either set.
+    pub fn joined(self, other: Lanes) -> Lanes
+        ensures { result ≡ joined self other }
+    {
+        let mut all = self;
+        all.insert(other);
+        all
+    }
+}
+
+// One byte of a merge.
+fn byte_in(under: u8, over: u8, lanes: Lanes, lane: Lanes) -> u8
+    ensures { result ≡ (if bit_and lanes.0 lane.0 == lane.0 then over else under) }
+{
+    if lanes.contains(lane) { over } else { under }
+}
+
+/// The bytes of `over` in the lanes, and those of `under` elsewhere.
+#[tactic(auto, unfolding(crate::specs::Words::merged, crate::specs::Words::has))]
+pub fn merge(under: Word, over: Word, lanes: Lanes) -> Word
+    ensures { result ≡ merged under over lanes }
+{
+    Word {
+        b0: byte_in(under.b0, over.b0, lanes, Lanes::LANE_0),
+        b1: byte_in(under.b1, over.b1, lanes, Lanes::LANE_1),
+        b2: byte_in(under.b2, over.b2, lanes, Lanes::LANE_2),
+        b3: byte_in(under.b3, over.b3, lanes, Lanes::LANE_3),
+    }
+}
+
+/// Why an event is refused. Of the causes that hold, the first in the order of the event's own
+/// list is answered, and every refusal leaves everything unchanged.
+#[derive(Clone, Copy, PartialEq, Eq, Debug)]
+pub enum Cause {
+    /// The word or block number isn't below the number of words or blocks.
+    OutOfRange = 1,
+    /// A store has no lane set.
+    NoLanes = 2,
+    /// The tag is awaited or stands ready.
+    TagInUse = 3,
+    /// As many loads are awaited and ready as there may be.
+    RepliesFull = 4,
+    /// Four loads wait for the word already.
+    TargetsFull = 5,
+    /// Never answered; the number isn't used again.
+    BlockQueued = 6,
+    /// Every register is valid.
+    NoRegister = 7,
+    /// Every way of the set is pending.
+    SetPending = 8,
+    /// The write queue has too few free places for the words that a frame would give up.
+    QueueFull = 9,
+    /// A bank has too little room for the commands that it would be sent.
+    BankFull = 10,
+    /// No frame holds the block.
+    NotPresent = 11,
+    /// The input stack is full.
+    StackFull = 12,
+    /// No register waits for the word.
+    StrayWord = 13,
+}
+
+/// One step that the machine is asked to make.
+#[derive(Clone, Copy, PartialEq, Eq, Debug)]
+pub enum Event {
+    /// The processor asks for the word at `at`, under a tag.
+    Load { tag: u16, at: u32 },
+    /// The processor writes the bytes of `word` in the lanes at `at`.
+    Store { at: u32, word: Word, lanes: Lanes },
+    /// The block of the word at `at` is wanted in the cache.
+    Prefetch { at: u32 },
+    /// The block is given up.
+    Evict { block: u32 },
+    /// The front of the write queue goes to its bank.
+    Drain,
+    /// The bank serves its first command.
+    Serve { bank: u32 },
+    /// The bank's answer at `place` comes to the input stack.
+    Arrive { bank: u32, place: u32 },
+    /// The entry of the input stack at `place` is processed.
+    Process { place: u32 },
+    /// The ready reply at `place` is taken.
+    Take { place: u32 },
+}
+
+/// What the machine answers.
+#[derive(Clone, Copy, PartialEq, Eq, Debug)]
+pub enum Answer {
+    /// A request or an eviction was accepted.
+    Accepted,
+    /// Something moved on.
+    Moved,
+    /// A reply was taken: the word that the load under `tag` was owed.
+    Value { tag: u16, word: Word },
+    /// There was nothing to do.
+    Nothing,
+    /// Refused for this cause, with everything unchanged.
+    Refused(Cause),
+}
+
+/// The numbers of a machine that are given when it is made.
+#[derive(Clone, Copy, PartialEq, Eq, Debug)]
+pub struct Shape {
+    /// Words of memory: 1 to 1,048,576, and a multiple of the words of a block.
+    pub words: u32,
+    /// Sets of the cache: 1 to 1024.
+    pub sets: u32,
+    /// Banks of memory: 1 to 16.
+    pub banks: u32,
+    /// Commands that wait at a bank at most: from the words of a block divided by the banks,
+    /// rounded up, to 64.
+    pub bank_queue: u32,
+    /// Words that wait in the write queue at most: from the words of a block to 256.
+    pub write_queue: u32,
+    /// Loads that are awaited and ready together at most: 1 to 64.
+    pub replies: u32,
+}
+
+/// A number of a part or a machine that can be out of its range, in the order of the checks.
+#[derive(Clone, Copy, PartialEq, Eq, Debug)]
+pub enum ShapeField {
+    BlockWords,
+    Ways,
+    Regs,
+    Depth,
+    Words,
+    Sets,
+    Banks,
+    BankQueue,
+    WriteQueue,
+    Replies,
+    Ports,
+    Journal,
+    Image,
+}
+
+/// Why a part can't be made. A bad field is named first, before any memory is asked for.
+#[derive(Clone, Copy, PartialEq, Eq, Debug, Error)]
+pub enum MakeFault {
+    /// The first field, in the order of the checks, that is out of its range.
+    #[error("{0:?} is out of range")]
+    BadShape(ShapeField),
+    /// There was too little memory.
+    #[error("out of memory")]
+    OutOfMemory,
+}
+
+impl From<AllocError> for MakeFault {
+    ghost use Rattle.std.specs.Prelude.{◌≡◌};
+    ghost use Rattle.flat_model.specs.declared.MakeFault.TheVariants.{OutOfMemory};
+
+    ghost from_gives = { λ e f. f ≡ OutOfMemory };
+
+    fn from(_fault: AllocError) -> MakeFault {
+        MakeFault::OutOfMemory
+    }
+}
