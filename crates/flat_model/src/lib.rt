@@ -6,7 +6,7 @@
 #![tactic(auto)]
 
 ghost use Rattle.std.specs.Prelude.{⊤, ◌≡◌, ◌==◌, [], ◌∷◌, codes, bit_and, if◌then◌else◌};
-ghost use Rattle.flat_model.specs.Words.{merged, joined, has_any, has_all};
+ghost use Rattle.flat_model.specs.Words.{no_lanes, merged, joined, has_any, has_all};
 
 use bitflags::{Flag, Flags, bitflag_items};
 use std::alloc::AllocError;
@@ -70,6 +70,13 @@ impl Flags for Lanes {
 
 #[tactic(auto, unfolding(crate::specs::Words::has, crate::specs::Words::joined))]
 impl Lanes {
+    /// No lane.
+    pub fn none() -> Lanes
+        ensures { result ≡ no_lanes }
+    {
+        Lanes(0)
+    }
+
     /// Whether one of the four lanes is set.
     pub fn has_any(self) -> bool
         ensures { result ≡ has_any self }

@@ -1,0 +1,22 @@
+//! The cache's control: requests, arriving words, evictions and replies.
+#![tactic(auto)]
+
+use flat_model::{Lanes, Word};
+
+/// What the processor asks of the cache.
+#[derive(Clone, Copy, PartialEq, Eq, Debug)]
+pub enum Request {
+    /// The word at `at`, under a tag.
+    Load { tag: u16, at: u32 },
+    /// The bytes of `word` in the lanes are written at `at`.
+    Store { at: u32, word: Word, lanes: Lanes },
+    /// The block of the word at `at` is wanted in the cache.
+    Prefetch { at: u32 },
+}
+
+/// A value that stands ready for the processor.
+#[derive(Clone, Copy, PartialEq, Eq, Debug, Default)]
+pub struct Reply {
+    pub tag: u16,
+    pub word: Word,
+}

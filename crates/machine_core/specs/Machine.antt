@@ -1,0 +1,128 @@
+-- The machine: the cache unit and its banks.
+use Rattle.std.specs.Prelude.{ℕ, ◌*◌, ◌/◌, ◌%◌, Bool, ◌&&◌, List, [], ◌∷◌, map, replicate, Option, Some, None, slice_get, slice_set}
+use Rattle.std.specs.Option.{option_map}
+use Rattle.std.specs.List.{list_all, range_with_len, remove}
+use Rattle.flat_model.specs.declared.Word.{Word}
+use Rattle.flat_model.specs.declared.Cause.{Cause}
+use Rattle.flat_model.specs.declared.Event.{Event}
+use Rattle.flat_model.specs.declared.Event.TheVariants.{Load, Store, Prefetch, Evict, Drain, Serve, Arrive, Process, Take}
+use Rattle.flat_model.specs.declared.Answer.{Answer}
+use Rattle.flat_model.specs.declared.Answer.TheVariants.{Moved, Nothing, Refused}
+use Rattle.flat_model.specs.Flat.{Flat, word_at}
+use Rattle.memory_banks.specs.declared.Command.{Command}
+use Rattle.memory_banks.specs.declared.BankAnswer.{BankAnswer}
+use Rattle.memory_banks.specs.Banks.{Bank, bank_at, words_after, all_pending, served, room_in, all_sent, opening_banks}
+use Rattle.cache_unit.specs.State.{Sizes, Cache, empty_frame, free_register, frame_of, block_of, place_in}
+use Rattle.write_queue.specs.Queue.{overlaid}
+use Rattle.cache_unit.specs.Views.{is_empty, is_clean}
+use Rattle.cache_unit.specs.Causes.{arrive_cause}
+use Rattle.cache_unit.specs.Steps.{Stepped, load_step, store_step, prefetch_step, evict_step, drain_step, arrived, process_step, take_step}
+use Rattle.cache_unit.specs.Forms.{form, owed, filled_by}
+
+pub record Machine : Type 0 where
+  pub cache : Cache
+  pub banks : List Bank
+
+-- a whole machine: its numbers, and its shown state
+pub record MachineState : Type 0 where
+  pub sizes : Sizes
+  pub machine : Machine
+
+pub record Outcome : Type 0 where
+  pub answer : Answer
+  pub machine : Machine
+
+-- ---- one event
+
+abbrev pub joined_with : List Bank → Stepped → Outcome
+joined_with banks s = record { answer = s.answer; machine = record { cache = s.cache; banks = all_sent banks s.sent } }
+
+abbrev pub serve_from : Machine → ℕ → List Command → Outcome
+serve_from m b [] = record { answer = Nothing; machine = m }
+serve_from m b (first ∷ rest) =
+    record { answer = Moved; machine = record m { banks = slice_set m.banks b (served (bank_at m.banks b) first rest) } }
+
+abbrev pub without_answer : Bank → ℕ → Bank
+without_answer b place = record b { answers = remove b.answers place }
+
+-- an answer leaves its bank, unless the unit refuses it
+abbrev pub take_in : Sizes → Machine → ℕ → ℕ → BankAnswer → Option Cause → Outcome
+take_in z m b place a (Some cause) = record { answer = Refused cause; machine = m }
+take_in z m b place a None =
+    record {
+      answer = Moved;
+      machine =
+          record {
+            cache = arrived m.cache a.slot a.i a.word;
+            banks = slice_set m.banks b (without_answer (bank_at m.banks b) place);
+          };
+    }
+
+abbrev pub arrive_from : Sizes → Machine → ℕ → ℕ → Option BankAnswer → Outcome
+arrive_from z m b place None = record { answer = Nothing; machine = m }
+arrive_from z m b place (Some a) = take_in z m b place a (arrive_cause z m.cache a.slot a.i)
+
+abbrev pub apply : Sizes → Machine → Event → Outcome
+apply z m (Load tag at) = joined_with m.banks (load_step z (room_in z.bank_queue m.banks) m.cache tag at)
+apply z m (Store at word lanes) = joined_with m.banks (store_step z (room_in z.bank_queue m.banks) m.cache at word lanes)
+apply z m (Prefetch at) = joined_with m.banks (prefetch_step z (room_in z.bank_queue m.banks) m.cache at)
+apply z m (Evict block) = joined_with m.banks (evict_step z m.cache block)
+apply z m Drain = joined_with m.banks (drain_step z (room_in z.bank_queue m.banks) m.cache)
+apply z m (Serve bank) = serve_from m bank (bank_at m.banks bank).queue
+apply z m (Arrive bank place) = arrive_from z m bank place (slice_get (bank_at m.banks bank).answers place)
+apply z m (Process place) = joined_with m.banks (process_step m.cache place)
+apply z m (Take place) = joined_with m.banks (take_step m.cache place)
+
+-- ---- walks
+
+abbrev pub opening : Sizes → List Word → Machine
+opening z image =
+    record {
+      cache =
+          record {
+            frames = replicate (z.sets * z.ways) empty_frame;
+            orders = replicate z.sets [];
+            registers = replicate z.regs free_register;
+            stack = [];
+            queue = [];
+            ready = [];
+          };
+      banks = opening_banks image z.banks;
+    }
+
+abbrev pub walked : Sizes → Machine → List Event → Machine
+walked z m [] = m
+walked z m (event ∷ events) = walked z (apply z m event).machine events
+
+abbrev pub told : Sizes → Machine → List Event → List Answer
+told z m [] = []
+told z m (event ∷ events) = (apply z m event).answer ∷ told z (apply z m event).machine events
+
+-- ---- flat memory
+
+-- the word of memory at an address, once all that waits has been written there
+abbrev pub backing : Sizes → Machine → ℕ → Word
+backing z m at = overlaid (word_at (words_after (bank_at m.banks (at % z.banks))) (at / z.banks)) m.cache.queue at
+
+-- the word at an address: its form, filled, where its block is present
+abbrev pub flat_word_in : Sizes → Machine → ℕ → Option ℕ → Word
+flat_word_in z m at None = backing z m at
+flat_word_in z m at (Some f) = filled_by (all_pending m.banks) (form m.cache (block_of z at) (place_in z at))
+
+abbrev pub flat_word : Sizes → Machine → ℕ → Word
+flat_word z m at = flat_word_in z m at (frame_of m.cache (block_of z at))
+
+abbrev pub flat_due : Machine → ℕ → Option Word
+flat_due m tag = option_map (filled_by (all_pending m.banks)) (owed m.cache tag)
+
+abbrev pub flat_of : Sizes → Machine → Flat
+flat_of z m = record { mem = map (flat_word z m) (range_with_len 0 z.words); due = flat_due m }
+
+-- the word of memory at an address, as it now stands in its bank
+abbrev pub bank_word : Sizes → Machine → ℕ → Word
+bank_word z m at = word_at (bank_at m.banks (at % z.banks)).words (at / z.banks)
+
+-- ---- settled, and the weight
+
+abbrev pub settled : Machine → Bool
+settled m = is_clean m.cache && list_all (λ b. is_empty b.queue) m.banks

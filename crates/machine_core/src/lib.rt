@@ -1,0 +1,2 @@
+//! The whole core.
+#![tactic(auto)]

@@ -1,0 +1,56 @@
+//! Interleaved banks of memory, each of which serves its commands first in, first out.
+#![tactic(auto)]
+
+ghost use Rattle.std.specs.Prelude.{◌≡◌, ◌≢◌, ℕ, ◌+◌, ◌<◌, List, [], ◌∷◌, ◌++◌};
+ghost use Rattle.memory_banks.specs.declared.Command.{Command};
+
+use flat_model::{Lanes, Word};
+
+/// What a bank is asked to do.
+#[derive(Clone, Copy, PartialEq, Eq, Debug)]
+pub enum Command {
+    /// The register in `slot` asks for its word `i`, which lies at `place` of the bank.
+    Read { slot: u32, i: u32, place: u32 },
+    /// The bytes of `word` in `lanes` are written at `place` of the bank.
+    Write {
+        place: u32,
+        word: Word,
+        lanes: Lanes,
+    },
+}
+
+/// What a bank answers to a read: the word `i` of the register in `slot`.
+#[derive(Clone, Copy, PartialEq, Eq, Debug)]
+pub struct BankAnswer {
+    pub slot: u32,
+    pub i: u32,
+    pub word: Word,
+}
+
+/// Where the cache sends its commands: a row of banks, each with room for some.
+pub trait Lines {
+    /// The commands sent to each bank, the oldest first.
+    ghost sent_to: { Self → ℕ → List Command };
+
+    /// How many more commands each bank takes.
+    ghost room_of: { Self → ℕ → ℕ };
+
+    /// The second may be what sends made of the first: all else is as it was.
+    ghost same: { Self → Self → Type 0 };
+
+    /// How many more commands a bank takes: 0 for a bank that isn't there.
+    fn room(&self, bank: u32) -> u32
+        ensures { result ≡ room_of self.now bank };
+
+    /// One command goes last to a bank that has room for it.
+    fn send(&mut self, bank: u32, command: Command)
+        requires { 0 < room_of self.old bank }
+        ensures same { same self.old self.new }
+        ensures sent { sent_to self.new bank ≡ sent_to self.old bank ++ command ∷ [] }
+        ensures room { room_of self.new bank + 1 ≡ room_of self.old bank }
+        ensures others { (b : ℕ) → b ≢ bank → (sent_to self.new b ≡ sent_to self.old b) × (room_of self.new b ≡ room_of self.old b) };
+
+    ghost same_self: { (a : Self) → same a a };
+
+    ghost same_steps: { (a b c : Self) → same a b → same b c → same a c };
+}

@@ -1,0 +1,5 @@
+pub mod Registers
+pub mod Waiting
+pub mod Marks
+pub mod View
+pub mod Views

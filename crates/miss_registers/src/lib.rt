@@ -1,0 +1,126 @@
+//! The registers that keep what is known of missing blocks.
+#![tactic(auto)]
+
+ghost use Rattle.std.specs.Prelude.{◌≡◌, ◌<◌, ◌++◌, [], ◌∷◌, length, slice_get};
+
+mod file;
+mod slot;
+
+pub use file::RegisterFile;
+
+use arrayvec::ArrayVec;
+use flat_model::{Lanes, Word};
+use std::marker::Model;
+
+/// A load that waits for a word, and the bytes that it has already.
+#[derive(Clone, Copy, PartialEq, Eq, Debug, Default)]
+pub struct Owed {
+    pub tag: u16,
+    pub held: Word,
+    pub lanes: Lanes,
+}
+
+/// What a register shows of itself. What doesn't apply is 0 or clear: all of a free register, and
+/// the frame of one that isn't live.
+#[derive(Clone, Copy, PartialEq, Eq, Debug, Default)]
+pub struct RegisterView {
+    /// Whether it stands for a block that is missing words.
+    pub valid: bool,
+    /// Whether its block lost its frame.
+    pub obsolete: bool,
+    /// The missing block.
+    pub block: u32,
+    /// The frame of a live register.
+    pub frame: u32,
+    /// How many words of the block are processed.
+    pub processed: u32,
+}
+
+/// What a register shows of one word of its block. What doesn't apply is 0 or clear.
+#[derive(Clone, Copy, PartialEq, Eq, Debug, Default)]
+pub struct FieldView {
+    /// Whether a load waits for the word.
+    pub send: bool,
+    /// Whether the word stands in the input stack.
+    pub in_stack: bool,
+    /// Whether the word was processed.
+    pub processed: bool,
+    /// The lanes of the buffer that the arriving word mustn't change.
+    pub code: Lanes,
+    /// The tag of the first load that waits.
+    pub tag: u16,
+    /// The lanes whose bytes that load has already.
+    pub held_lanes: Lanes,
+    /// The bytes in these lanes, and zero bytes elsewhere.
+    pub held: Word,
+    /// How many loads wait.
+    pub targets: u32,
+}
+
+// What is kept of a word, beside the loads that wait for it.
+#[derive(Clone, Copy, Default)]
+struct Mark {
+    in_stack: bool,
+    processed: bool,
+    code: Lanes,
+}
+
+// A load that waits for word `i`.
+#[derive(Clone, Copy, Default)]
+struct Target {
+    i: u32,
+    owed: Owed,
+}
+
+/// At most four loads, in their order.
+#[derive(Drop)]
+pub struct OwedList {
+    items: ArrayVec<Owed, 4>,
+}
+
+impl Model for OwedList {
+    ghost use Rattle.std.specs.Prelude.{List};
+    ghost use Rattle.miss_registers.specs.declared.Owed.{Owed};
+
+    ghost Value = { List Owed };
+
+    ghost view = { λ a. a.items.items };
+}
+
+impl OwedList {
+    fn new() -> Self
+        ensures { result ≡ [] }
+    {
+        OwedList {
+            items: ArrayVec::new(),
+        }
+    }
+
+    fn push(&mut self, owed: Owed)
+        requires { length self.old < 4 }
+        ensures { self.new ≡ self.old ++ owed ∷ [] }
+    {
+        self.items.push(owed);
+    }
+
+    pub fn len(&self) -> u32
+        ensures { result ≡ length self.now }
+    {
+        self.items.len() as u32
+    }
+
+    pub fn get(&self, place: u32) -> Option<Owed>
+        ensures { result ≡ slice_get self.now place }
+    {
+        self.items.get(place as usize).copied()
+    }
+}
+
+/// What became of a word that has come.
+#[derive(Drop)]
+pub struct WordEnd {
+    pub send: OwedList,
+    pub keep: Lanes,
+    pub live: Option<u32>,
+    pub last: bool,
+}
