@@ -1,0 +1,157 @@
+-- The opening machine, and a settled one.
+use Rattle.std.proofs.Common.{◌≡◌, ◌≢◌, ℕ, zero, suc, ◌+◌, ◌-◌, ◌*◌, ◌/◌, ◌%◌, ◌<◌, ◌≤◌, Bool, true, false, cond, not, ◌&&◌, ◌||◌, ◌==◌, nat_lt, List, [], ◌∷◌, ◌++◌, map, length, get_or, set, replicate, Option, Some, None, refl, sym, ap, ap₂, ◌∙◌, subst, arith, ◌⊎◌, inl, inr, ⊎_elim, mod-lt, div-add-mod', flat_map, ext_get_or, le-div_iff_mul-le, zero-add, length-set}
+use Rattle.std.specs.List.{range_with_len, list_all, list_any}
+use Rattle.std.proofs.lemmas.Bool.{and_parts, not-true}
+use Rattle.flat_model.specs.declared.Word.{Word}
+use Rattle.flat_model.specs.Words.{merged, zero_word, no_lanes, has_any}
+use Rattle.flat_model.specs.Flat.{word_at}
+use Rattle.memory_banks.specs.Banks.{Bank, no_bank, bank_at, pending, all_pending, words_after, share_of, opening_banks}
+use Rattle.cache_unit.specs.declared.Reply.{Reply}
+use Rattle.cache_unit.specs.State.{Sizes, Frame, Register, zero_cell, empty_frame, free_register, frame_at, frame_of, register_at, is_live, cell_in, cell_of, gathered, targets_of, targets, block_of, place_in}
+use Rattle.cache_directory.specs.declared.Cell.{Cell}
+use Rattle.write_queue.specs.Queue.{overlaid}
+use Rattle.machine_core.specs.Law.{IsLawful}
+use Rattle.machine_core.specs.Machine.{Machine, backing, opening, settled, bank_word, flat_due, flat_of}
+use Rattle.cache_unit.specs.Views.{is_empty, is_clean}
+use Rattle.machine_core.proofs.Lists.{tally}
+use Rattle.flat_model.proofs.Lanewise.{merged-none, merged_no_lane, has-none}
+use Rattle.machine_core.proofs.Finding.{frame_of-none}
+use Rattle.machine_core.proofs.Coming.{word_now, word_now_in, flat_word-now, flat_due-in, has_tag, dues, due_in}
+use Rattle.machine_core.proofs.Sound.{IsSound, wanted}
+use Rattle.machine_core.proofs.Installing.{range_at, range_length}
+use Rattle.machine_core.proofs.Requests.{mem_length, mem_at}
+
+all_default : {X : Type 0} (n : ℕ) (d : X) (k : ℕ) → get_or (replicate n d) k d ≡ d
+all_default zero d k = refl
+all_default (suc n) d zero = refl
+all_default (suc n) d (suc k) = all_default n d k
+
+replicate_length : {X : Type 0} (n : ℕ) (d : X) → length (replicate n d) ≡ n
+replicate_length zero d = refl
+replicate_length (suc n) d = ap suc (replicate_length n d)
+
+no_targets : (n k : ℕ) → gathered targets_of k (replicate n free_register) ≡ []
+no_targets zero k = refl
+no_targets (suc n) k = no_targets n (suc k)
+
+no_pending : (g : ℕ → Bank) (ks : List ℕ) → ((k : ℕ) → pending (g k) ≡ []) → flat_map pending (map g ks) ≡ []
+no_pending g [] h = refl
+no_pending g (k ∷ ks) h = ap₂ ◌++◌ (h k) (no_pending g ks h)
+
+module _ (z : Sizes) (lawful : IsLawful z) (image : List Word) (fits : length image ≡ z.words) where
+  abbrev m0 : Machine
+  m0 = opening z image
+
+  abbrev bank_of : ℕ → Bank
+  bank_of b = record { words = share_of image z.banks b; queue = []; answers = [] }
+
+  empty_frames : (k : ℕ) → frame_at m0.cache k ≡ empty_frame
+  empty_frames k = all_default (z.sets * z.ways) empty_frame k
+
+  free_registers : (t : ℕ) → register_at m0.cache t ≡ free_register
+  free_registers t = all_default z.regs free_register t
+
+  no_block : (k b : ℕ) → (frame_at m0.cache k).block ≡ Some b → ⊥
+  no_block k b e = let n : (frame_at m0.cache k).block ≡ None = ap (λ (x : Frame). x.block) (empty_frames k) in cc
+
+  no_valid : (t : ℕ) → (register_at m0.cache t).valid ≡ true → ⊥
+  no_valid t e = let n : (register_at m0.cache t).valid ≡ false = ap (λ (x : Register). x.valid) (free_registers t) in cc
+
+  no_live : (t : ℕ) → is_live (register_at m0.cache t) ≡ true → ⊥
+  no_live t e = let n : is_live (register_at m0.cache t) ≡ false = ap is_live (free_registers t) in cc
+
+  no_order : (s f : ℕ) → list_any (λ g. g == f) (get_or m0.cache.orders s []) ≡ true → ⊥
+  no_order s f e = let n : list_any (λ g. g == f) (get_or m0.cache.orders s []) ≡ false = ap (list_any (λ g. g == f)) (all_default z.sets [] s) in cc
+
+  absent : (b : ℕ) → frame_of m0.cache b ≡ None
+  absent b = frame_of-none m0.cache b (λ k e. no_block k b e)
+
+  bank_is : (b : ℕ) → b < z.banks → bank_at m0.banks b ≡ bank_of b
+  bank_is b l = range_at bank_of no_bank 0 z.banks b l ∙ ap bank_of (zero-add b)
+
+  -- the place of an address lies in its bank's share
+  place_there : (at : ℕ) → at < z.words → at / z.banks < (length image + z.banks - 1 - at % z.banks) / z.banks
+  place_there at l =
+      let e = div-add-mod' at z.banks in
+      let r = mod-lt at lawful.some_banks in
+      let fits' = fits in
+      let le : suc (at / z.banks) * z.banks ≤ length image + z.banks - 1 - at % z.banks = omega arith in
+      (le-div_iff_mul-le lawful.some_banks).1 le
+
+  share_length : (at : ℕ) → length (bank_of (at % z.banks)).words ≡ (length image + z.banks - 1 - at % z.banks) / z.banks
+  share_length at = range_length (λ k. word_at image (k * z.banks + at % z.banks)) 0 _
+
+  word_there : (at : ℕ) → at < z.words → word_at (words_after (bank_at m0.banks (at % z.banks))) (at / z.banks) ≡ word_at image at
+  word_there at l =
+      ap (λ b. word_at (words_after b) (at / z.banks)) (bank_is (at % z.banks) (mod-lt at lawful.some_banks)) ∙ range_at (λ k. word_at image (k * z.banks + at % z.banks)) zero_word 0 _ (at / z.banks) (place_there at l) ∙ ap (λ k. word_at image (k * z.banks + at % z.banks)) (zero-add (at / z.banks)) ∙ ap (word_at image) (div-add-mod' at z.banks)
+
+  opening_word : (at : ℕ) → word_now z m0 at ≡ backing z m0 at
+  unfolding word_now
+  opening_word at = ap (word_now_in z m0 at) (absent (block_of z at))
+
+  nothing_pending : all_pending m0.banks ≡ []
+  nothing_pending = no_pending bank_of (range_with_len 0 z.banks) (λ k. refl)
+
+  nothing_due : dues m0 ≡ []
+  unfolding dues targets
+  nothing_due = ap (map _) (no_targets z.regs 0)
+
+  pub opening_sound : IsSound z m0
+  opening_sound =
+      record {
+        frames_apart = λ f g b p q. absurd (no_block f b p);
+        live_apart = λ s t p q e. absurd (no_live s p);
+        live_present = λ s p. absurd (no_live s p);
+        counted = λ s i. ap (λ ps. tally (Rattle.machine_core.proofs.Coming.is_for s i) ps + 0) nothing_pending ∙ sym (ap (λ r. wanted z r i) (free_registers s));
+        once = λ tag. subst (λ ds. tally (has_tag tag) ds ≤ 1) (sym nothing_due) (omega arith);
+        kept = λ at. opening_word at ∙ sym (merged-none (backing z m0 at) zero_word) ∙ ap (λ o. merged (backing z m0 at) (cell_in m0.cache o (place_in z at)).word (cell_in m0.cache o (place_in z at)).dirty) (sym (absent (block_of z at)));
+        whole_frames = λ f b p. absurd (no_block f b p);
+        whole_registers = λ s v. absurd (no_valid s v);
+        queue_in = tt;
+        frames_are = replicate_length (z.sets * z.ways) empty_frame;
+        in_order = record { placed = λ f b p. absurd (no_block f b p); in_set = λ s f p. absurd (no_order s f p); sized = replicate_length z.sets [] };
+        registers_are = replicate_length z.regs free_register;
+        banks_are = range_length bank_of 0 z.banks;
+        banks_hold = λ at l. subst (λ n. at / z.banks < n) (sym (ap (λ (b : Bank). length b.words) (bank_is (at % z.banks) (mod-lt at lawful.some_banks)) ∙ share_length at)) (place_there at l);
+      }
+
+  pub opening_is : flat_of z m0 ≡ record { mem = image; due = λ tag. None }
+  unfolding due_in
+  opening_is =
+      let mem : (flat_of z m0).mem ≡ image = ext_get_or zero_word (flat_of z m0).mem image (mem_length z m0 ∙ sym fits) (λ k l. let l' : k < z.words = let n = mem_length z m0 in omega arith in mem_at z m0 k l' ∙ flat_word-now z m0 k ∙ opening_word k ∙ word_there k l') in
+      let due : (tag : ℕ) → flat_due m0 tag ≡ None = λ tag. flat_due-in m0 tag ∙ none tag in
+      λ i. record { mem = mem i; due = λ tag. due tag i }
+    where
+      none : (tag : ℕ) → due_in (dues m0) tag ≡ None
+      none tag = ap (λ ds. Rattle.std.proofs.Common.option_map (λ (r : Reply). r.word) (Rattle.std.proofs.Common.find (has_tag tag) ds)) nothing_due
+
+-- ---- settled machines
+
+all_at : {X : Type 0} (p : X → Bool) (d : X) (xs : List X) (k : ℕ) → p d ≡ true → list_all p xs ≡ true → p (get_or xs k d) ≡ true
+all_at p d [] k hd h = hd
+all_at p d (x ∷ xs) zero hd h = (and_parts (p x) (list_all p xs) h).0
+all_at p d (x ∷ xs) (suc k) hd h = all_at p d xs k hd (and_parts (p x) (list_all p xs) h).1
+
+nil_from : {X : Type 0} (xs : List X) → is_empty xs ≡ true → xs ≡ []
+nil_from [] e = refl
+nil_from (x ∷ xs) e = cc
+
+none_dirty : has_any no_lanes ≡ false
+none_dirty =
+    ap₂ (λ x y. x || y) (has-none Rattle.flat_model.specs.Words.Lane0) (ap₂ (λ x y. x || y) (has-none Rattle.flat_model.specs.Words.Lane1) (ap₂ (λ x y. x || y) (has-none Rattle.flat_model.specs.Words.Lane2) (has-none Rattle.flat_model.specs.Words.Lane3)))
+
+pub settled_ok : (z : Sizes) (m : Machine) → IsSound z m → settled m ≡ true → (at : ℕ) → at < z.words → bank_word z m at ≡ word_at (flat_of z m).mem at
+settled_ok z m h s at l =
+    let r = and_parts (is_clean m.cache) (list_all (λ (b : Bank). is_empty b.queue) m.banks) s in
+    let p = and_parts (list_all (λ (x : Register). not x.valid) m.cache.registers) _ r.0 in
+    let q = and_parts (list_all (λ (f : Frame). list_all (λ (cell : Cell). not (has_any cell.dirty)) f.cells) m.cache.frames) _ p.1 in
+    let queue : m.cache.queue ≡ [] = nil_from m.cache.queue q.1 in
+    let bank : (bank_at m.banks (at % z.banks)).queue ≡ [] = nil_from _ (all_at (λ (b : Bank). is_empty b.queue) no_bank m.banks (at % z.banks) refl r.1) in
+    let base : backing z m at ≡ bank_word z m at = ap₂ (λ qs cs. overlaid (word_at (Rattle.memory_banks.specs.Banks.after (bank_at m.banks (at % z.banks)).words cs) (at / z.banks)) qs at) queue bank in
+    let clean : has_any (cell_of m.cache (block_of z at) (place_in z at)).dirty ≡ false = by_frame (frame_of m.cache (block_of z at)) q.0 in
+    sym (mem_at z m at l ∙ flat_word-now z m at ∙ h.kept at ∙ merged_no_lane (backing z m at) _ _ clean ∙ base)
+  where
+    by_frame : (o : Option ℕ) → list_all (λ (f : Frame). list_all (λ (cell : Cell). not (has_any cell.dirty)) f.cells) m.cache.frames ≡ true → has_any (cell_in m.cache o (place_in z at)).dirty ≡ false
+    by_frame None e = none_dirty
+    by_frame (Some f) e =
+        not-true _ (all_at (λ (cell : Cell). not (has_any cell.dirty)) zero_cell (frame_at m.cache f).cells (place_in z at) (ap not none_dirty) (all_at (λ (x : Frame). list_all (λ (cell : Cell). not (has_any cell.dirty)) x.cells) empty_frame m.cache.frames f refl e))

@@ -1,0 +1,323 @@
+-- Loads, stores, prefetches and evictions.
+use Rattle.std.proofs.Common.{◌≡◌, ◌≢◌, ℕ, zero, suc, ◌+◌, ◌*◌, ◌/◌, ◌%◌, ◌<◌, ◌≤◌, Bool, true, false, cond, not, ◌&&◌, ◌||◌, ◌==◌, nat_lt, nat_le, List, [], ◌∷◌, ◌++◌, map, length, get_or, set, Option, Some, None, option_map, find, is_some, is_none, refl, sym, ap, ap₂, ◌∙◌, subst, arith, ◌⊎◌, inl, inr, ⊎_elim, ltb-true, lt-ltb, add-zero, div-add-mod', mod-lt}
+use Rattle.std.specs.List.{range_with_len, list_any, list_all, filter}
+use Rattle.std.proofs.lemmas.Bool.{not-false}
+use Rattle.flat_model.specs.declared.Word.{Word}
+use Rattle.flat_model.specs.declared.Lanes.{Lanes}
+use Rattle.flat_model.specs.declared.Cause.{Cause}
+use Rattle.flat_model.specs.declared.Cause.TheVariants.{OutOfRange, NoLanes, TagInUse, RepliesFull, TargetsFull, NoRegister, SetPending, QueueFull, BankFull, NotPresent, StackFull, StrayWord}
+use Rattle.flat_model.specs.declared.Event.{Event}
+use Rattle.flat_model.specs.declared.Event.TheVariants.{Load, Store, Prefetch, Evict}
+use Rattle.flat_model.specs.declared.Answer.TheVariants.{Accepted, Refused}
+use Rattle.flat_model.specs.Words.{merged, has_any, zero_word}
+use Rattle.flat_model.specs.Flat.{word_at, stored, with_due, flat_after, may_answer, load_refusals, store_refusals, prefetch_refusals, is_between}
+use Rattle.cache_unit.specs.declared.Reply.{Reply}
+use Rattle.cache_unit.specs.State.{Sizes, Cache, frame_of, is_present, frame_at, live_for, free_slot, cell_of, cell_in, tags, targets, block_of, place_in, address, is_pending}
+use Rattle.cache_directory.specs.declared.Cell.{Cell}
+use Rattle.cache_unit.specs.Causes.{first_cause, ways_of, choose, found, targets_full, is_in_use, miss_causes, lacks_places, lacks_room, dirty_words, dirty_of_block, dirty_from, order_of, load_cause, store_cause, prefetch_cause, evict_cause}
+use Rattle.cache_unit.specs.Steps.{load_step, store_step, prefetch_step, evict_step, Stepped, unless, fetched, fetches, loaded, written, released, evicted, evicted_from, obsoleted, without}
+use Rattle.machine_core.specs.Law.{IsLawful}
+use Rattle.machine_core.specs.Machine.{Machine, joined_with, flat_word, flat_due, flat_of}
+use Rattle.memory_banks.specs.Banks.{room_in}
+use Rattle.machine_core.proofs.Lists.{tally, none_from_find}
+use Rattle.machine_core.proofs.Finding.{frame_of-some}
+use Rattle.machine_core.proofs.Coming.{flat_word-now, flat_due-in, has_tag, dues, due_in, reply_to}
+use Rattle.machine_core.proofs.Sound.{IsSound, Same, Kept, KeptBy, flat_of-same}
+use Rattle.machine_core.proofs.Owing.{due_in-added}
+use Rattle.machine_core.proofs.Evicting.{retired, given_up_sound, given_up_same}
+use Rattle.machine_core.proofs.Loading.{load_hit}
+use Rattle.machine_core.proofs.Storing.{store_hit}
+use Rattle.machine_core.proofs.Installing.{range_at, range_length}
+use Rattle.machine_core.proofs.Orders.{InOrder-released}
+use Rattle.machine_core.proofs.Fetching.{Able, fetched_machine, FetchedBy, fetch_ok}
+
+-- ---- memory as a list
+
+pub mem_length : (z : Sizes) (m : Machine) → length (flat_of z m).mem ≡ z.words
+mem_length z m = range_length (flat_word z m) 0 z.words
+
+pub mem_at : (z : Sizes) (m : Machine) (at : ℕ) → at < z.words → word_at (flat_of z m).mem at ≡ flat_word z m at
+mem_at z m at l = range_at (flat_word z m) zero_word 0 z.words at l ∙ ap (flat_word z m) (omega arith)
+
+-- a list made from numbers, of which one has another value
+range_set : (f g : ℕ → Word) (a n k : ℕ) → ((j : ℕ) → (j ≡ a + k → ⊥) → g j ≡ f j) → k < n → map g (range_with_len a n) ≡ set (map f (range_with_len a n)) k (g (a + k))
+range_set f g a zero k others l = absurd (omega arith)
+range_set f g a (suc n) zero others l =
+    ap₂ (λ (x : Word) xs. x ∷ xs) (ap g (sym (add-zero a))) (rest (a + 1) n (omega arith))
+  where
+    rest : (b c : ℕ) → a < b → map g (range_with_len b c) ≡ map f (range_with_len b c)
+    rest b zero q = refl
+    rest b (suc c) q = ap₂ (λ (x : Word) xs. x ∷ xs) (others b (λ e. omega arith)) (rest (b + 1) c (omega arith))
+range_set f g a (suc n) (suc k) others l =
+    let e : a + 1 + k ≡ a + suc k = omega arith in
+    ap₂ (λ (x : Word) xs. x ∷ xs) (others a (λ q. omega arith)) (range_set f g (a + 1) n k (λ j ne. others j (λ q. ne (q ∙ sym e))) (omega arith) ∙ ap (λ x. set (map f (range_with_len (a + 1) n)) k (g x)) e)
+
+-- ---- refusals
+
+-- a refusal that may come changes nothing
+refusal : (z : Sizes) (m : Machine) (event : Event) (cause : Cause) → IsSound z m → may_answer (flat_of z m) event (Refused cause) ≡ true → flat_after (flat_of z m) event (Refused cause) ≡ flat_of z m → KeptBy z m event (record { answer = Refused cause; machine = m })
+refusal z m event cause h may stays =
+    record { sound = h; run = ap (λ b. cond b (Some (flat_after (flat_of z m) event (Refused cause))) None) may ∙ ap Some stays }
+
+-- ---- tags
+
+any-append : {X : Type 0} (p : X → Bool) (xs ys : List X) → list_any p (xs ++ ys) ≡ (list_any p xs || list_any p ys)
+any-append p [] ys = refl
+any-append p (x ∷ xs) ys = elim (p x) as (λ b. (b || list_any p (xs ++ ys)) ≡ ((b || list_any p xs) || list_any p ys)) [ true ↦ refl | false ↦ any-append p xs ys ]
+
+any-map : {X Y : Type 0} (f : X → Y) (p : Y → Bool) (xs : List X) → list_any p (map f xs) ≡ list_any (λ x. p (f x)) xs
+any-map f p [] = refl
+any-map f p (x ∷ xs) = ap (λ b. p (f x) || b) (any-map f p xs)
+
+any-find : {X : Type 0} (p : X → Bool) (xs : List X) → list_any p xs ≡ is_some (find p xs)
+any-find p [] = refl
+any-find p (x ∷ xs) = elim (p x) as (λ b. (b || list_any p xs) ≡ is_some (cond b (Some x) (find p xs))) [ true ↦ refl | false ↦ any-find p xs ]
+
+some-map : {X Y : Type 0} (f : X → Y) (o : Option X) → is_some (option_map f o) ≡ is_some o
+some-map f None = refl
+some-map f (Some x) = refl
+
+in_use_is : (m : Machine) (tag : ℕ) → is_in_use m.cache tag ≡ is_some (due_in (dues m) tag)
+unfolding due_in dues
+in_use_is m tag =
+    any-append (λ t. t == tag) (map (λ r. r.tag) m.cache.ready) _ ∙ ap₂ (λ x y. x || y) (any-map (λ (r : Reply). r.tag) (λ t. t == tag) m.cache.ready) (any-map (λ t. t.load.tag) (λ t. t == tag) (targets m.cache.registers) ∙ sym (any-map (reply_to m) (has_tag tag) (targets m.cache.registers))) ∙ sym (any-append (has_tag tag) m.cache.ready (map (reply_to m) (targets m.cache.registers))) ∙ any-find (has_tag tag) (m.cache.ready ++ map (reply_to m) (targets m.cache.registers)) ∙ sym (some-map (λ (r : Reply). r.word) (find (has_tag tag) (m.cache.ready ++ map (reply_to m) (targets m.cache.registers))))
+
+not_due : (replies : List Reply) (tag : ℕ) → is_some (due_in replies tag) ≡ false → tally (has_tag tag) replies ≡ 0
+unfolding due_in
+not_due replies tag e = none_from_find (has_tag tag) replies (go (find (has_tag tag) replies) e)
+  where
+    go : (o : Option Reply) → is_some (option_map (λ (r : Reply). r.word) o) ≡ false → o ≡ None
+    go None q = refl
+    go (Some r) q = cc
+
+flat_in_use : (m : Machine) (tag : ℕ) → not (is_none (flat_due m tag)) ≡ is_in_use m.cache tag
+flat_in_use m tag = ap (λ o. not (is_none o)) (flat_due-in m tag) ∙ twice (is_some (due_in (dues m) tag)) ∙ sym (in_use_is m tag)
+  where
+    twice : (b : Bool) → not (not b) ≡ b
+    twice true = refl
+    twice false = refl
+
+flat_not_due : (m : Machine) (tag : ℕ) → is_in_use m.cache tag ≡ false → is_none (flat_due m tag) ≡ true
+flat_not_due m tag e = not-false (is_none (flat_due m tag)) (flat_in_use m tag ∙ e)
+
+-- ---- the causes of a miss
+
+-- a block begins in memory where one of its words is there
+starts_in : (z : Sizes) (at : ℕ) → at < z.words → address z (block_of z at) 0 < z.words
+starts_in z at l = let e = div-add-mod' at z.block_words in omega arith
+
+-- ---- requests
+
+-- the event is kept, whichever of a miss's causes holds, if there is one; `go_on` is the case of none
+miss_or : (z : Sizes) (m : Machine) (block : ℕ) (event : Event) (step : Stepped) → IsSound z m → ((cause : Cause) → is_between cause 7 10 ≡ true → KeptBy z m event (record { answer = Refused cause; machine = m })) → (Able z m.cache block → KeptBy z m event (joined_with m.banks step)) → KeptBy z m event (joined_with m.banks (unless (first_cause (miss_causes z (room_in z.bank_queue m.banks) m.cache block)) m.cache step))
+miss_or z m block event step h refuse go_on = go (length (filter (λ r. r.valid) m.cache.registers) == z.regs) refl (list_all (is_pending m.cache) (ways_of z block)) refl (lacks_places z m.cache (choose z m.cache block)) (lacks_room z (room_in z.bank_queue m.banks) block)
+  where
+    go : (a : Bool) → (length (filter (λ r. r.valid) m.cache.registers) == z.regs) ≡ a → (b : Bool) → list_all (is_pending m.cache) (ways_of z block) ≡ b → (c d : Bool) → KeptBy z m event (joined_with m.banks (unless (cond a (Some NoRegister) (cond b (Some SetPending) (cond c (Some QueueFull) (cond d (Some BankFull) None)))) m.cache step))
+    go true p b q c d = refuse NoRegister refl
+    go false p true q c d = refuse SetPending refl
+    go false p false q true d = refuse QueueFull refl
+    go false p false q false true = refuse BankFull refl
+    go false p false q false false = go_on (p, q)
+
+module _ (z : Sizes) (lawful : IsLawful z) (m : Machine) (h : IsSound z m) where
+  -- ---- loads
+
+  accept_load : (tag at : ℕ) → at < z.words → is_in_use m.cache tag ≡ false → (m2 : Machine) → FetchedBy z m (block_of z at) m2 → KeptBy z m (Load tag at) (record { answer = Accepted; machine = record { cache = loaded m2.cache tag (place_in z at) (cell_of m2.cache (block_of z at) (place_in z at)).word (found m2.cache (block_of z at) (place_in z at)); banks = m2.banks } })
+  accept_load tag at l unused m2 f =
+      let free : is_some (due_in (dues m2) tag) ≡ false = ap is_some (f.same.owing tag) ∙ sym (in_use_is m tag) ∙ unused in
+      let fresh = not_due (dues m2) tag free in
+      let by = load_hit z lawful m2 f.sound tag at fresh f.frame f.present in
+      let m3 : Machine = record { cache = loaded m2.cache tag (place_in z at) (cell_of m2.cache (block_of z at) (place_in z at)).word (found m2.cache (block_of z at) (place_in z at)); banks = m2.banks } in
+      let word : by.word ≡ word_at (flat_of z m).mem at = by.right ∙ f.same.words at ∙ sym (flat_word-now z m at) ∙ sym (mem_at z m at l) in
+      let words : (a : ℕ) → flat_word z m3 a ≡ flat_word z m a = λ a. flat_word-now z m3 a ∙ by.words a ∙ f.same.words a ∙ sym (flat_word-now z m a) in
+      let gained : (t : ℕ) → flat_due m3 t ≡ with_due (flat_due m) tag (Some (word_at (flat_of z m).mem at)) t = λ t. flat_due-in m3 t ∙ due_in-added (record { tag = tag; word = by.word }) (dues m2) (dues m3) by.more fresh t ∙ ap₂ (λ o d. cond (t == tag) (Some o) d) word (f.same.owing t ∙ sym (flat_due-in m t)) in
+      let after : flat_after (flat_of z m) (Load tag at) Accepted ≡ flat_of z m3 = λ i. record { mem = map (λ a. sym (words a) i) (range_with_len 0 z.words); due = λ t. sym (gained t) i } in
+      let may : may_answer (flat_of z m) (Load tag at) Accepted ≡ true = ap₂ (λ x y. nat_lt at x && y) (mem_length z m) (flat_not_due m tag unused) ∙ ap (λ b. b && true) (lt-ltb at z.words l) in
+      record {
+        sound = by.sound;
+        run = ap (λ b. cond b (Some (flat_after (flat_of z m) (Load tag at) Accepted)) None) may ∙ ap Some after;
+      }
+
+  load_may : (tag at : ℕ) (cause : Cause) (x y : Bool) → nat_lt at z.words ≡ x → is_in_use m.cache tag ≡ y → load_refusals x y cause ≡ true → may_answer (flat_of z m) (Load tag at) (Refused cause) ≡ true
+  load_may tag at cause x y p q e =
+      ap₂ (λ a b. load_refusals a b cause) (ap (nat_lt at) (mem_length z m) ∙ p) (flat_in_use m tag ∙ q) ∙ e
+
+  refuse_load : (tag at : ℕ) (cause : Cause) (x y : Bool) → nat_lt at z.words ≡ x → is_in_use m.cache tag ≡ y → load_refusals x y cause ≡ true → KeptBy z m (Load tag at) (record { answer = Refused cause; machine = m })
+  refuse_load tag at cause x y p q e = refusal z m (Load tag at) cause h (load_may tag at cause x y p q e) refl
+
+  pub load_ok : (tag at : ℕ) → Kept z m (Load tag at)
+  unfolding load_step load_cause
+  load_ok tag at =
+      go (nat_lt at z.words) refl (is_in_use m.cache tag) refl (nat_le z.replies (length (tags m.cache))) (is_present m.cache (block_of z at)) refl
+    where
+      block : ℕ
+      block = block_of z at
+
+      c : Cache
+      c = m.cache
+
+      step : Stepped
+      step =
+          record {
+            answer = Accepted;
+            cache = loaded (fetched z m.cache (block_of z at)) tag (place_in z at) (cell_of (fetched z m.cache (block_of z at)) (block_of z at) (place_in z at)).word (found (fetched z m.cache (block_of z at)) (block_of z at) (place_in z at));
+            sent = fetches z m.cache (block_of z at);
+          }
+
+      accept : at < z.words → is_in_use m.cache tag ≡ false → (is_present m.cache (block_of z at) ≡ false → Able z m.cache (block_of z at)) → KeptBy z m (Load tag at) (joined_with m.banks step)
+      accept l u able =
+          accept_load tag at l u (fetched_machine z m (block_of z at)) (fetch_ok z lawful m h (block_of z at) (starts_in z at l) able)
+
+      four : Bool
+      four = targets_full m.cache (place_in z at) (found m.cache (block_of z at) (place_in z at))
+
+      between : (cause : Cause) → is_between cause 7 10 ≡ true → is_between cause 4 10 ≡ true
+      between OutOfRange e = cc
+      between NoLanes e = cc
+      between TagInUse e = cc
+      between NotPresent e = cc
+      between StackFull e = cc
+      between StrayWord e = cc
+      between _ e = refl
+
+      present_or : (x : Bool) → at < z.words → nat_lt at z.words ≡ true → is_in_use m.cache tag ≡ false → (b : Bool) → is_present m.cache (block_of z at) ≡ b → KeptBy z m (Load tag at) (joined_with m.banks (unless (first_cause (cond b ((four, TargetsFull) ∷ []) (miss_causes z (room_in z.bank_queue m.banks) m.cache (block_of z at)))) m.cache step))
+      present_or x l p u true e = by_four four
+        where
+          by_four : (y : Bool) → KeptBy z m (Load tag at) (joined_with m.banks (unless (cond y (Some TargetsFull) None) m.cache step))
+          by_four true = refuse_load tag at TargetsFull true false p u refl
+          by_four false = accept l u (λ q. cc)
+      present_or x l p u false e =
+          miss_or z m (block_of z at) (Load tag at) step h (λ cause q. refuse_load tag at cause true false p u (between cause q)) (λ able. accept l u (λ q. able))
+
+      go : (x : Bool) → nat_lt at z.words ≡ x → (y : Bool) → is_in_use m.cache tag ≡ y → (v b : Bool) → is_present m.cache (block_of z at) ≡ b → KeptBy z m (Load tag at) (joined_with m.banks (unless (cond (not x) (Some OutOfRange) (cond y (Some TagInUse) (cond v (Some RepliesFull) (first_cause (cond b ((four, TargetsFull) ∷ []) (miss_causes z (room_in z.bank_queue m.banks) m.cache (block_of z at))))))) m.cache step))
+      go false p y q v b e = refuse_load tag at OutOfRange false y p q refl
+      go true p true q v b e = refuse_load tag at TagInUse true true p q refl
+      go true p false q true b e = refuse_load tag at RepliesFull true false p q refl
+      go true p false q false b e = present_or true (ltb-true at z.words p) p q b e
+
+  -- ---- stores
+
+  accept_store : (at : ℕ) (word : Word) (lanes : Lanes) → at < z.words → has_any lanes ≡ true → (m2 : Machine) → FetchedBy z m (block_of z at) m2 → KeptBy z m (Store at word lanes) (record { answer = Accepted; machine = record { cache = written m2.cache (block_of z at) (place_in z at) word lanes; banks = m2.banks } })
+  accept_store at word lanes l any m2 f =
+      let by = store_hit z lawful m2 f.sound at word lanes f.frame f.present in
+      let m3 : Machine = record { cache = written m2.cache (block_of z at) (place_in z at) word lanes; banks = m2.banks } in
+      let others : (j : ℕ) → (j ≡ 0 + at → ⊥) → flat_word z m3 j ≡ flat_word z m j = λ j n. flat_word-now z m3 j ∙ by.others j (λ q. n (q ∙ sym (Rattle.std.proofs.Common.zero-add at))) ∙ f.same.words j ∙ sym (flat_word-now z m j) in
+      let there : flat_word z m3 (0 + at) ≡ merged (word_at (flat_of z m).mem at) word lanes = ap (flat_word z m3) (Rattle.std.proofs.Common.zero-add at) ∙ flat_word-now z m3 at ∙ by.there ∙ ap (λ u. merged u word lanes) (f.same.words at ∙ sym (flat_word-now z m at) ∙ sym (mem_at z m at l)) in
+      let mem : map (flat_word z m3) (range_with_len 0 z.words) ≡ stored (flat_of z m).mem at word lanes = range_set (flat_word z m) (flat_word z m3) 0 z.words at others l ∙ ap (set (flat_of z m).mem at) there in
+      let owing : (t : ℕ) → flat_due m3 t ≡ flat_due m t = λ t. flat_due-in m3 t ∙ ap (λ ds. due_in ds t) by.owing ∙ f.same.owing t ∙ sym (flat_due-in m t) in
+      let after : flat_after (flat_of z m) (Store at word lanes) Accepted ≡ flat_of z m3 = λ i. record { mem = sym mem i; due = λ t. sym (owing t) i } in
+      let may : may_answer (flat_of z m) (Store at word lanes) Accepted ≡ true = ap₂ (λ x y. nat_lt at x && y) (mem_length z m) any ∙ ap (λ b. b && true) (lt-ltb at z.words l) in
+      record {
+        sound = by.sound;
+        run = ap (λ b. cond b (Some (flat_after (flat_of z m) (Store at word lanes) Accepted)) None) may ∙ ap Some after;
+      }
+
+  refuse_store : (at : ℕ) (word : Word) (lanes : Lanes) (cause : Cause) (x y : Bool) → nat_lt at z.words ≡ x → has_any lanes ≡ y → store_refusals x y cause ≡ true → KeptBy z m (Store at word lanes) (record { answer = Refused cause; machine = m })
+  refuse_store at word lanes cause x y p q e =
+      refusal z m (Store at word lanes) cause h (ap₂ (λ a b. store_refusals a b cause) (ap (nat_lt at) (mem_length z m) ∙ p) q ∙ e) refl
+
+  pub store_ok : (at : ℕ) (word : Word) (lanes : Lanes) → Kept z m (Store at word lanes)
+  unfolding store_step store_cause
+  store_ok at word lanes = go (nat_lt at z.words) refl (has_any lanes) refl (is_present m.cache (block_of z at)) refl
+    where
+      step : Stepped
+      step =
+          record {
+            answer = Accepted;
+            cache = written (fetched z m.cache (block_of z at)) (block_of z at) (place_in z at) word lanes;
+            sent = fetches z m.cache (block_of z at);
+          }
+
+      accept : at < z.words → has_any lanes ≡ true → (is_present m.cache (block_of z at) ≡ false → Able z m.cache (block_of z at)) → KeptBy z m (Store at word lanes) (joined_with m.banks step)
+      accept l u able =
+          accept_store at word lanes l u (fetched_machine z m (block_of z at)) (fetch_ok z lawful m h (block_of z at) (starts_in z at l) able)
+
+      between : (cause : Cause) → is_between cause 7 10 ≡ true → is_between cause 6 10 ≡ true
+      between OutOfRange e = cc
+      between NoLanes e = cc
+      between TagInUse e = cc
+      between RepliesFull e = cc
+      between TargetsFull e = cc
+      between NotPresent e = cc
+      between StackFull e = cc
+      between StrayWord e = cc
+      between _ e = refl
+
+      go : (x : Bool) → nat_lt at z.words ≡ x → (y : Bool) → has_any lanes ≡ y → (b : Bool) → is_present m.cache (block_of z at) ≡ b → KeptBy z m (Store at word lanes) (joined_with m.banks (unless (cond (not x) (Some OutOfRange) (cond (not y) (Some NoLanes) (first_cause (cond b [] (miss_causes z (room_in z.bank_queue m.banks) m.cache (block_of z at)))))) m.cache step))
+      go false p y q b e = refuse_store at word lanes OutOfRange false y p q refl
+      go true p false q b e = refuse_store at word lanes NoLanes true false p q refl
+      go true p true q true e = accept (ltb-true at z.words p) q (λ r. cc)
+      go true p true q false e =
+          miss_or z m (block_of z at) (Store at word lanes) step h (λ cause r. refuse_store at word lanes cause true true p q (between cause r)) (λ able. accept (ltb-true at z.words p) q (λ r. able))
+
+  -- ---- prefetches
+
+  refuse_prefetch : (at : ℕ) (cause : Cause) (x : Bool) → nat_lt at z.words ≡ x → prefetch_refusals x cause ≡ true → KeptBy z m (Prefetch at) (record { answer = Refused cause; machine = m })
+  refuse_prefetch at cause x p e =
+      refusal z m (Prefetch at) cause h (ap (λ a. prefetch_refusals a cause) (ap (nat_lt at) (mem_length z m) ∙ p) ∙ e) refl
+
+  pub prefetch_ok : (at : ℕ) → Kept z m (Prefetch at)
+  unfolding prefetch_step prefetch_cause
+  prefetch_ok at = go (nat_lt at z.words) refl (is_present m.cache (block_of z at)) refl
+    where
+      step : Stepped
+      step = record { answer = Accepted; cache = fetched z m.cache (block_of z at); sent = fetches z m.cache (block_of z at) }
+
+      accept : at < z.words → (is_present m.cache (block_of z at) ≡ false → Able z m.cache (block_of z at)) → KeptBy z m (Prefetch at) (joined_with m.banks step)
+      accept l able =
+          let f = fetch_ok z lawful m h (block_of z at) (starts_in z at l) able in
+          record {
+            sound = f.sound;
+            run = ap (λ b. cond b (Some (flat_of z m)) None) (ap (nat_lt at) (mem_length z m) ∙ lt-ltb at z.words l) ∙ ap Some (sym (flat_of-same z m (fetched_machine z m (block_of z at)) f.same));
+          }
+
+      between : (cause : Cause) → is_between cause 7 10 ≡ true → is_between cause 6 10 ≡ true
+      between OutOfRange e = cc
+      between NoLanes e = cc
+      between TagInUse e = cc
+      between RepliesFull e = cc
+      between TargetsFull e = cc
+      between NotPresent e = cc
+      between StackFull e = cc
+      between StrayWord e = cc
+      between _ e = refl
+
+      go : (x : Bool) → nat_lt at z.words ≡ x → (b : Bool) → is_present m.cache (block_of z at) ≡ b → KeptBy z m (Prefetch at) (joined_with m.banks (unless (cond (not x) (Some OutOfRange) (first_cause (cond b [] (miss_causes z (room_in z.bank_queue m.banks) m.cache (block_of z at))))) m.cache step))
+      go false p b e = refuse_prefetch at OutOfRange false p refl
+      go true p true e = accept (ltb-true at z.words p) (λ r. cc)
+      go true p false e =
+          miss_or z m (block_of z at) (Prefetch at) step h (λ cause r. refuse_prefetch at cause true p (between cause r)) (λ able. accept (ltb-true at z.words p) (λ r. able))
+
+  -- ---- evictions
+
+  evicted_ok : (block f : ℕ) → frame_of m.cache block ≡ Some f → IsSound z (record { cache = evicted z m.cache block f; banks = m.banks }) × Same z m (record { cache = evicted z m.cache block f; banks = m.banks })
+  unfolding evicted released
+  evicted_ok block f e =
+      let at_f = (frame_of-some m.cache block f e).1 in
+      let orders = set m.cache.orders (f / z.ways) (without (order_of m.cache.orders (f / z.ways)) f) in
+      let ret = retired z m block h (live_for m.cache block) refl in
+      let ordered = InOrder-released z m.cache.frames m.cache.orders f h.in_order in
+      let q : m.cache.queue ++ dirty_words z m.cache (Some f) ≡ m.cache.queue ++ dirty_from block (address z block 0) (frame_at m.cache f).cells = ap (λ o. m.cache.queue ++ dirty_of_block z o (frame_at m.cache f).cells) at_f in
+      let registers = obsoleted m.cache (live_for m.cache block) in
+      let sound = given_up_sound z lawful m h block f at_f registers orders ret ordered in
+      let same = given_up_same z lawful m h block f at_f registers orders ret ordered in
+      subst (λ qs. IsSound z (record { cache = record m.cache { frames = set m.cache.frames f Rattle.cache_unit.specs.State.empty_frame; orders = orders; queue = qs; registers = registers }; banks = m.banks }) × Same z m (record { cache = record m.cache { frames = set m.cache.frames f Rattle.cache_unit.specs.State.empty_frame; orders = orders; queue = qs; registers = registers }; banks = m.banks })) (sym q) (sound, same)
+
+  pub evict_ok : (block : ℕ) → Kept z m (Evict block)
+  unfolding evict_step evict_cause
+  evict_ok block = go (nat_lt (address z block 0) z.words) (frame_of m.cache block) refl
+    where
+      accept : (o : Option ℕ) → frame_of m.cache block ≡ o → KeptBy z m (Evict block) (record { answer = Accepted; machine = record { cache = evicted_from z m.cache block o; banks = m.banks } })
+      accept None e = record { sound = h; run = refl }
+      accept (Some f) e =
+          let ok = evicted_ok block f e in
+          record { sound = ok.0; run = ap Some (sym (flat_of-same z m (record { cache = evicted z m.cache block f; banks = m.banks }) ok.1)) }
+
+      go : (x : Bool) (o : Option ℕ) → frame_of m.cache block ≡ o → KeptBy z m (Evict block) (joined_with m.banks (unless (cond (not x) (Some OutOfRange) (cond (not (is_some o)) (Some NotPresent) (cond (lacks_places z m.cache o) (Some QueueFull) None))) m.cache (record { answer = Accepted; cache = evicted_from z m.cache block o; sent = [] })))
+      go false o e = refusal z m (Evict block) OutOfRange h refl refl
+      go true None e = refusal z m (Evict block) NotPresent h refl refl
+      go true (Some f) e = by_room (lacks_places z m.cache (Some f))
+        where
+          by_room : (b : Bool) → KeptBy z m (Evict block) (joined_with m.banks (unless (cond b (Some QueueFull) None) m.cache (record { answer = Accepted; cache = evicted_from z m.cache block (Some f); sent = [] })))
+          by_room true = refusal z m (Evict block) QueueFull h refl refl
+          by_room false = accept (Some f) e

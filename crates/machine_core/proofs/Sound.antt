@@ -1,0 +1,87 @@
+-- What each machine that a walk comes to keeps, and what it is for two machines to stand for the same.
+use Rattle.std.proofs.Common.{◌≡◌, ℕ, ◌+◌, ◌*◌, ◌/◌, ◌%◌, ◌<◌, ◌≤◌, Bool, true, cond, not, ◌&&◌, ◌==◌, nat_lt, List, [], ◌∷◌, map, length, get_or, Option, Some, None, refl, sym, ap, ◌∙◌}
+use Rattle.std.specs.List.{range_with_len}
+use Rattle.flat_model.specs.declared.Word.{Word}
+use Rattle.flat_model.specs.Words.{merged}
+use Rattle.flat_model.specs.Flat.{flat_step}
+use Rattle.flat_model.specs.declared.Event.{Event}
+use Rattle.memory_banks.specs.Banks.{bank_at, all_pending}
+use Rattle.input_stack.specs.declared.Entry.{Entry}
+use Rattle.write_queue.specs.declared.Queued.{Queued}
+use Rattle.cache_unit.specs.State.{Sizes, Register, clear_field, frame_at, frame_of, register_at, field_at, is_live, live_for, cell_in, cell_of, block_of, place_in, address}
+use Rattle.machine_core.specs.Machine.{Machine, Outcome, apply, backing, flat_word, flat_due, flat_of}
+use Rattle.machine_core.proofs.Lists.{tally, bit}
+use Rattle.machine_core.proofs.Orders.{InOrder}
+use Rattle.machine_core.proofs.Coming.{is_for, coming, shown_word, word_now_in, word_now, flat_word-now, has_tag, dues, due_in, flat_due-in}
+
+abbrev pub is_entry_for : ℕ → ℕ → Entry → Bool
+is_entry_for slot i e = (e.slot == slot) && (e.i == i)
+
+-- 1 where a register waits for its word i from memory, else 0
+abbrev pub wanted : Sizes → Register → ℕ → ℕ
+wanted z r i = bit (r.valid && (nat_lt i z.block_words && not (get_or r.fields i clear_field).processed))
+
+abbrev pub AllIn : Sizes → List Queued → Type 0
+AllIn z [] = Unit {0}
+AllIn z (q ∷ rest) = (q.at < z.words) × AllIn z rest
+
+pub record IsSound (z : Sizes) (m : Machine) : Type 0 where
+  -- a block is in one frame, and has one live register, and then it is present
+  pub frames_apart : (f g b : ℕ) → (frame_at m.cache f).block ≡ Some b → (frame_at m.cache g).block ≡ Some b → f ≡ g
+  pub live_apart : (s t : ℕ) → is_live (register_at m.cache s) ≡ true → is_live (register_at m.cache t) ≡ true → (register_at m.cache s).block ≡ (register_at m.cache t).block → s ≡ t
+  pub live_present : (s : ℕ) → is_live (register_at m.cache s) ≡ true → (f : ℕ) × ((frame_at m.cache f).block ≡ Some (register_at m.cache s).block)
+  -- each word that a register waits for is once on its way, and nothing else is
+  pub counted : (s i : ℕ) → tally (is_for s i) (all_pending m.banks) + tally (is_entry_for s i) m.cache.stack ≡ wanted z (register_at m.cache s) i
+  -- no tag is owed two values
+  pub once : (tag : ℕ) → tally (has_tag tag) (dues m) ≤ 1
+  -- a word is its backing with the buffer's bytes in the dirty lanes
+  pub kept : (at : ℕ) → word_now z m at ≡ merged (backing z m at) (cell_of m.cache (block_of z at) (place_in z at)).word (cell_of m.cache (block_of z at) (place_in z at)).dirty
+  -- the sizes of the parts
+  pub whole_frames : (f b : ℕ) → (frame_at m.cache f).block ≡ Some b → (length (frame_at m.cache f).cells ≡ z.block_words) × (address z b 0 < z.words)
+  pub whole_registers : (s : ℕ) → (register_at m.cache s).valid ≡ true → length (register_at m.cache s).fields ≡ z.block_words
+  pub queue_in : AllIn z m.cache.queue
+  pub in_order : InOrder z m.cache.frames m.cache.orders
+  pub registers_are : length m.cache.registers ≡ z.regs
+  pub frames_are : length m.cache.frames ≡ z.sets * z.ways
+  pub banks_are : length m.banks ≡ z.banks
+  pub banks_hold : (at : ℕ) → at < z.words → at / z.banks < length (bank_at m.banks (at % z.banks)).words
+
+-- two machines stand for the same flat memory
+pub record Same (z : Sizes) (m m' : Machine) : Type 0 where
+  pub words : (at : ℕ) → word_now z m' at ≡ word_now z m at
+  pub owing : (tag : ℕ) → due_in (dues m') tag ≡ due_in (dues m) tag
+
+pub flat_of-same : (z : Sizes) (m m' : Machine) → Same z m m' → flat_of z m' ≡ flat_of z m
+flat_of-same z m m' s =
+    let w : (at : ℕ) → flat_word z m' at ≡ flat_word z m at = λ at. flat_word-now z m' at ∙ s.words at ∙ sym (flat_word-now z m at) in
+    let d : (tag : ℕ) → flat_due m' tag ≡ flat_due m tag = λ tag. flat_due-in m' tag ∙ s.owing tag ∙ sym (flat_due-in m tag) in
+    λ i. record { mem = map (λ at. w at i) (range_with_len 0 z.words); due = λ tag. d tag i }
+
+-- an event's outcome is sound, and a step of flat memory
+pub record KeptBy (z : Sizes) (m : Machine) (event : Event) (o : Outcome) : Type 0 where
+  pub sound : IsSound z o.machine
+  pub run : flat_step (flat_of z m) event o.answer ≡ Some (flat_of z o.machine)
+
+abbrev pub Kept : Sizes → Machine → Event → Type 0
+Kept z m event = KeptBy z m event (apply z m event)
+
+-- the word at an address goes by these parts alone
+pub word_now-same : (z : Sizes) (m m' : Machine) (at : ℕ) → frame_of m'.cache (block_of z at) ≡ frame_of m.cache (block_of z at) → live_for m'.cache (block_of z at) ≡ live_for m.cache (block_of z at) → (cell_of m'.cache (block_of z at) (place_in z at)).word ≡ (cell_of m.cache (block_of z at) (place_in z at)).word → ((slot : ℕ) → live_for m.cache (block_of z at) ≡ Some slot → ((field_at m'.cache slot (place_in z at)).processed ≡ (field_at m.cache slot (place_in z at)).processed) × ((field_at m'.cache slot (place_in z at)).code ≡ (field_at m.cache slot (place_in z at)).code) × (coming m' slot (place_in z at) ≡ coming m slot (place_in z at))) → backing z m' at ≡ backing z m at → word_now z m' at ≡ word_now z m at
+unfolding word_now
+word_now-same z m m' at ef el ec parts eb =
+    ap (λ o. word_now_in z m' at o) ef ∙ go (frame_of m.cache (block_of z at)) refl
+  where
+    i : ℕ
+    i = place_in z at
+
+    live : (o : Option ℕ) → live_for m.cache (block_of z at) ≡ o → (w : Word) → shown_word m' o (place_in z at) w ≡ shown_word m o (place_in z at) w
+    live None e w = refl
+    live (Some slot) e w =
+        let p = parts slot e in
+        ap (λ b. cond b w (merged (coming m' slot (place_in z at)) w (field_at m'.cache slot (place_in z at)).code)) p.0 ∙ ap (λ k. cond (field_at m.cache slot (place_in z at)).processed w (merged (coming m' slot (place_in z at)) w k)) p.1 ∙ ap (λ u. cond (field_at m.cache slot (place_in z at)).processed w (merged u w (field_at m.cache slot (place_in z at)).code)) p.2
+
+    go : (o : Option ℕ) → frame_of m.cache (block_of z at) ≡ o → word_now_in z m' at o ≡ word_now_in z m at o
+    go None e = eb
+    go (Some f) e =
+        let word : (cell_in m'.cache (Some f) (place_in z at)).word ≡ (cell_in m.cache (Some f) (place_in z at)).word = ap (λ o. (cell_in m'.cache o (place_in z at)).word) (sym (ef ∙ e)) ∙ ec ∙ ap (λ o. (cell_in m.cache o (place_in z at)).word) e in
+        ap (λ o. shown_word m' o (place_in z at) (cell_in m'.cache (Some f) (place_in z at)).word) el ∙ live (live_for m.cache (block_of z at)) refl (cell_in m'.cache (Some f) (place_in z at)).word ∙ ap (λ w. shown_word m (live_for m.cache (block_of z at)) (place_in z at) w) word
