@@ -14,22 +14,7 @@ use Rattle.input_stack.specs.Stack.{stack_word}
 use Rattle.cache_unit.specs.Forms.{Byte, Asked, missing_form, coming_form, over_form, bytes_of, form_in, target_form, value, filled_by}
 use Rattle.machine_core.specs.Machine.{Machine, backing, flat_word, flat_word_in, flat_due}
 use Rattle.flat_model.proofs.Lanewise.{byte_word_of, same_word_from, byte-merged}
-
--- an answer for word i of the register in this slot
-abbrev pub is_for : ℕ → ℕ → BankAnswer → Bool
-is_for slot i a = (a.slot == slot) && (a.i == i)
-
-abbrev pub word_in : Option BankAnswer → Word
-word_in None = zero_word
-word_in (Some a) = a.word
-
-abbrev pub coming_from : Option Word → List BankAnswer → ℕ → ℕ → Word
-coming_from (Some w) answers slot i = w
-coming_from None answers slot i = word_in (find (is_for slot i) answers)
-
--- the word that register `slot` has, or will have, from memory for its word i
-unfoldable pub coming : Machine → ℕ → ℕ → Word
-coming m slot i = coming_from (stack_word m.cache.stack slot i) (all_pending m.banks) slot i
+use Rattle.machine_core.specs.Sound.{is_for, word_in, coming_from, coming, shown_word, word_now_in, word_now, reply_to, dues, has_tag}
 
 value-byte : (answers : List BankAnswer) (b : ℕ) → value answers (Byte b) ≡ b
 value-byte [] b = refl
@@ -64,19 +49,6 @@ filled-bytes answers w = same_word_from _ _ (λ l. byte_word_of (λ k. value ans
 
 -- ---- the word at an address
 
--- the buffer's word, or the one that comes with the code's lanes of the buffer's
-abbrev pub shown_word : Machine → Option ℕ → ℕ → Word → Word
-shown_word m None i buffer = buffer
-shown_word m (Some slot) i buffer =
-    cond (field_at m.cache slot i).processed buffer (merged (coming m slot i) buffer (field_at m.cache slot i).code)
-
-abbrev pub word_now_in : Sizes → Machine → ℕ → Option ℕ → Word
-word_now_in z m at None = backing z m at
-word_now_in z m at (Some f) = shown_word m (live_for m.cache (block_of z at)) (place_in z at) (cell_in m.cache (Some f) (place_in z at)).word
-
-unfoldable pub word_now : Sizes → Machine → ℕ → Word
-word_now z m at = word_now_in z m at (frame_of m.cache (block_of z at))
-
 filled-form : (m : Machine) (live : Option ℕ) (i : ℕ) (buffer : Word) → filled_by (all_pending m.banks) (form_in m.cache live i buffer) ≡ shown_word m live i buffer
 unfolding coming
 filled-form m None i buffer = filled-bytes (all_pending m.banks) buffer
@@ -93,16 +65,6 @@ flat_word-now z m at = go (frame_of m.cache (block_of z at)) refl
         filled-form m (live_for m.cache (block_of z at)) (place_in z at) (cell_of m.cache (block_of z at) (place_in z at)).word ∙ ap (λ o. shown_word m (live_for m.cache (block_of z at)) (place_in z at) (cell_in m.cache o (place_in z at)).word) e
 
 -- ---- what is owed
-
--- what a waiting load will be told
-abbrev pub reply_to : Machine → Target → Reply
-reply_to m t = record { tag = t.load.tag; word = merged (coming m t.slot t.i) t.load.held t.load.lanes }
-
-unfoldable pub dues : Machine → List Reply
-dues m = m.cache.ready ++ map (reply_to m) (targets m.cache.registers)
-
-abbrev pub has_tag : ℕ → Reply → Bool
-has_tag tag r = r.tag == tag
 
 unfoldable pub due_in : List Reply → ℕ → Option Word
 due_in replies tag = option_map (λ r. r.word) (find (has_tag tag) replies)

@@ -11,7 +11,7 @@ use Rattle.write_queue.specs.Queue.{overlaid}
 use Rattle.cache_unit.specs.Causes.{dirty_from}
 use Rattle.machine_core.specs.Law.{IsLawful}
 use Rattle.flat_model.proofs.Lanewise.{merged-none, merged_no_lane, merged_held}
-use Rattle.machine_core.proofs.Sound.{AllIn}
+use Rattle.machine_core.specs.Sound.{AllIn}
 
 pub overlaid-append : (w : Word) (xs ys : List Queued) (at : ℕ) → overlaid w (xs ++ ys) at ≡ overlaid (overlaid w xs at) ys at
 overlaid-append w [] ys at = refl

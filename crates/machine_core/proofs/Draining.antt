@@ -16,9 +16,10 @@ use Rattle.write_queue.specs.Queue.{overlaid}
 use Rattle.cache_unit.specs.Steps.{drain_first, drain_step}
 use Rattle.machine_core.specs.Law.{IsLawful}
 use Rattle.machine_core.specs.Machine.{Machine, backing, joined_with}
-use Rattle.machine_core.proofs.Lists.{tally, flat_map_part}
-use Rattle.machine_core.proofs.Coming.{is_for, coming, coming_from, word_now, has_tag, dues, due_in}
-use Rattle.machine_core.proofs.Sound.{IsSound, AllIn, Kept, KeptBy, flat_of-same, word_now-same, is_entry_for}
+use Rattle.machine_core.specs.Sound.{tally, is_for, coming, coming_from, word_now, has_tag, dues, IsSound, AllIn, is_entry_for}
+use Rattle.machine_core.proofs.Lists.{flat_map_part}
+use Rattle.machine_core.proofs.Coming.{due_in}
+use Rattle.machine_core.proofs.Sound.{Kept, KeptBy, flat_of-same, word_now-same}
 use Rattle.machine_core.proofs.Serving.{read_set, dues-same}
 
 pub length-after : (words : List Word) (commands : List Command) → length (after words commands) ≡ length words

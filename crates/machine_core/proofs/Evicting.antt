@@ -13,13 +13,13 @@ use Rattle.cache_unit.specs.Causes.{dirty_from}
 use Rattle.cache_unit.specs.Steps.{without_code, made_obsolete, obsoleted}
 use Rattle.machine_core.specs.Law.{IsLawful}
 use Rattle.machine_core.specs.Machine.{Machine, backing}
-use Rattle.machine_core.proofs.Lists.{tally, bit, gathered_part}
+use Rattle.machine_core.specs.Sound.{tally, bit, coming, word_now_in, word_now, has_tag, dues, InOrder, IsSound}
+use Rattle.machine_core.proofs.Lists.{gathered_part}
 use Rattle.flat_model.proofs.Lanewise.{merged-none}
 use Rattle.machine_core.proofs.Parts.{in_range}
 use Rattle.machine_core.proofs.Finding.{frame_of-some, frame_of-is, frame_of-none, none_in_frames, live_for-some, live_for-is, live_for-none, none_live}
-use Rattle.machine_core.proofs.Coming.{coming, word_now_in, word_now, has_tag, dues, due_in}
-use Rattle.machine_core.proofs.Orders.{InOrder}
-use Rattle.machine_core.proofs.Sound.{IsSound, Same, word_now-same}
+use Rattle.machine_core.proofs.Coming.{due_in}
+use Rattle.machine_core.proofs.Sound.{Same, word_now-same}
 use Rattle.machine_core.proofs.Serving.{read_set, dues-same}
 use Rattle.machine_core.proofs.Dirty.{overlaid-append, overlaid_below, overlaid_at, overlaid_past, address_is, block_in, outside, AllIn-append, AllIn-dirty}
 

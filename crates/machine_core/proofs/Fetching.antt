@@ -14,12 +14,13 @@ use Rattle.cache_unit.specs.Steps.{without, fresh_frame, released, installed, mi
 use Rattle.machine_core.specs.Law.{IsLawful}
 use Rattle.machine_core.specs.Machine.{Machine, backing}
 use Rattle.memory_banks.specs.Banks.{all_sent}
-use Rattle.machine_core.proofs.Lists.{tally, passes_from_find, place_of-some}
+use Rattle.machine_core.specs.Sound.{tally, coming, word_now, has_tag, dues, InOrder, is_in, IsSound}
+use Rattle.machine_core.proofs.Lists.{passes_from_find, place_of-some}
 use Rattle.machine_core.proofs.Parts.{in_range}
 use Rattle.machine_core.proofs.Finding.{frame_of-some, frame_of-like, none_in_frames}
-use Rattle.machine_core.proofs.Coming.{coming, word_now, has_tag, dues, due_in}
-use Rattle.machine_core.proofs.Orders.{InOrder, InOrder-released, InOrder-installed, is_in, found_in, member, one_fails}
-use Rattle.machine_core.proofs.Sound.{IsSound, Same, word_now-same}
+use Rattle.machine_core.proofs.Coming.{due_in}
+use Rattle.machine_core.proofs.Orders.{InOrder-released, InOrder-installed, found_in, member, one_fails}
+use Rattle.machine_core.proofs.Sound.{Same, word_now-same}
 use Rattle.machine_core.proofs.Serving.{read_set, dues-same}
 use Rattle.machine_core.proofs.Evicting.{retired, given_up, given_up_sound, given_up_same, other_found, empty_now}
 use Rattle.machine_core.proofs.Installing.{with_block_sound, with_block_same, with_block_present}

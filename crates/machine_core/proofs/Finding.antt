@@ -6,7 +6,7 @@ use Rattle.flat_model.specs.Places.{is_number}
 use Rattle.machine_core.specs.Machine.{Machine}
 use Rattle.machine_core.proofs.Lists.{place_of-some, place_of-only, place_of-none, place_of-all_none}
 use Rattle.machine_core.proofs.Parts.{place_of-like}
-use Rattle.machine_core.proofs.Coming.{shown_word, word_now_in, word_now}
+use Rattle.machine_core.specs.Sound.{shown_word, word_now_in, word_now}
 
 pub number_from : (o : Option ℕ) (n : ℕ) → is_number o n ≡ true → o ≡ Some n
 number_from None n h = cc

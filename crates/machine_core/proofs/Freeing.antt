@@ -14,11 +14,12 @@ use Rattle.input_stack.specs.Stack.{stack_word}
 use Rattle.cache_unit.specs.Steps.{answered, filled, filled_in, finished, processed, process_entry, process_step}
 use Rattle.machine_core.specs.Law.{IsLawful}
 use Rattle.machine_core.specs.Machine.{Machine, joined_with}
-use Rattle.machine_core.proofs.Lists.{tally, bit, gathered_part}
+use Rattle.machine_core.specs.Sound.{tally, bit, coming, shown_word, word_now_in, word_now, has_tag, dues, IsSound, wanted}
+use Rattle.machine_core.proofs.Lists.{gathered_part}
 use Rattle.machine_core.proofs.Parts.{in_range, nested_same, nested_other}
 use Rattle.machine_core.proofs.Finding.{frame_of-some, live_for-some, live_for-is, live_for-none, none_live}
-use Rattle.machine_core.proofs.Coming.{coming, shown_word, word_now_in, word_now, has_tag, dues, due_in}
-use Rattle.machine_core.proofs.Sound.{IsSound, Same, Kept, KeptBy, flat_of-same, wanted}
+use Rattle.machine_core.proofs.Coming.{due_in}
+use Rattle.machine_core.proofs.Sound.{Same, Kept, KeptBy, flat_of-same}
 use Rattle.machine_core.proofs.Serving.{read_set, dues-same}
 use Rattle.machine_core.proofs.Processing.{Filling, done, with_fields, partly, partly_sound, partly_same, slot_there, waits}
 

@@ -17,14 +17,14 @@ use Rattle.cache_unit.specs.Causes.{addresses}
 use Rattle.cache_unit.specs.Steps.{fresh_frame, fresh_register}
 use Rattle.machine_core.specs.Law.{IsLawful}
 use Rattle.machine_core.specs.Machine.{Machine, backing}
-use Rattle.machine_core.proofs.Lists.{tally, bit, find_none, gathered_part}
+use Rattle.machine_core.specs.Sound.{tally, bit, is_for, coming, coming_from, word_in, shown_word, word_now_in, word_now, has_tag, dues, reply_to, InOrder, IsSound, is_entry_for, wanted}
+use Rattle.machine_core.proofs.Lists.{find_none, gathered_part}
 use Rattle.flat_model.proofs.Lanewise.{merged-none}
 use Rattle.machine_core.proofs.Overlaid.{overlaid-split}
 use Rattle.machine_core.proofs.Parts.{targets_map}
 use Rattle.machine_core.proofs.Finding.{frame_of-some, frame_of-is, frame_of-none, none_in_frames, live_for-some, live_for-is, live_for-none, none_live, word_now-live}
-use Rattle.machine_core.proofs.Coming.{is_for, coming, coming_from, word_in, shown_word, word_now_in, word_now, has_tag, dues, due_in, reply_to}
-use Rattle.machine_core.proofs.Orders.{InOrder}
-use Rattle.machine_core.proofs.Sound.{IsSound, Same, word_now-same, is_entry_for, wanted}
+use Rattle.machine_core.proofs.Coming.{due_in}
+use Rattle.machine_core.proofs.Sound.{Same, word_now-same}
 use Rattle.machine_core.proofs.Arriving.{bit-le}
 use Rattle.machine_core.proofs.Dirty.{address_is}
 use Rattle.machine_core.proofs.Sending.{base_in, answer_at, commands, AddsAll-tally, AddsAll-find_other, AddsAll-find, sent_words, sent_lengths, sent_number, sent_adds, reads_other, reads_tally, reads_find}

@@ -24,3 +24,4 @@ pub mod Opening
 pub mod Requests
 pub mod Walking
 pub mod Weighing
+pub mod Contract

@@ -4,16 +4,9 @@ use Rattle.std.specs.Option.{option_or}
 use Rattle.std.proofs.lemmas.List.Folds.{find-append}
 use Rattle.flat_model.specs.Places.{place_of}
 use Rattle.cache_unit.specs.State.{gathered}
+use Rattle.machine_core.specs.Sound.{bit, tally}
 
 -- ---- counts
-
-abbrev pub bit : Bool → ℕ
-bit true = 1
-bit false = 0
-
-abbrev pub tally : {X : Type 0} → (X → Bool) → List X → ℕ
-tally p [] = 0
-tally p (x ∷ xs) = bit (p x) + tally p xs
 
 pub tally-append : {X : Type 0} (p : X → Bool) (xs ys : List X) → tally p (xs ++ ys) ≡ tally p xs + tally p ys
 tally-append p [] ys = sym (zero-add (tally p ys))

@@ -12,12 +12,12 @@ use Rattle.cache_unit.specs.Causes.{Found, Here, found, found_in, found_missing}
 use Rattle.cache_unit.specs.Steps.{replied, awaited, loaded}
 use Rattle.machine_core.specs.Law.{IsLawful}
 use Rattle.machine_core.specs.Machine.{Machine}
-use Rattle.machine_core.proofs.Lists.{tally, bit, Adds, Adds-tally, Adds-push, Adds-left, Adds-right, Adds-same, Adds-map}
+use Rattle.machine_core.specs.Sound.{tally, bit, coming, coming_from, shown_word, word_now, has_tag, dues, reply_to, IsSound}
+use Rattle.machine_core.proofs.Lists.{Adds, Adds-tally, Adds-push, Adds-left, Adds-right, Adds-same, Adds-map}
 use Rattle.flat_model.proofs.Lanewise.{merged_held, merged-all}
 use Rattle.machine_core.proofs.Parts.{in_range, word_part}
 use Rattle.machine_core.proofs.Finding.{live_for-some, word_now-live, word_now-resident}
-use Rattle.machine_core.proofs.Coming.{coming, coming_from, shown_word, word_now, has_tag, dues, reply_to}
-use Rattle.machine_core.proofs.Sound.{IsSound, word_now-same}
+use Rattle.machine_core.proofs.Sound.{word_now-same}
 use Rattle.machine_core.proofs.Processing.{with_fields, with_field_in}
 use Rattle.machine_core.proofs.Fields.{same_at, field_part, live_with_field}
 use Rattle.machine_core.proofs.Owing.{with_ready, with_ready-words, with_ready-dues, with_ready-sound}

@@ -13,11 +13,10 @@ use Rattle.write_queue.specs.Queue.{overlaid}
 use Rattle.machine_core.specs.Law.{IsLawful}
 use Rattle.machine_core.specs.Machine.{Machine, backing, opening, settled, bank_word, flat_due, flat_of}
 use Rattle.cache_unit.specs.Views.{is_empty, is_clean}
-use Rattle.machine_core.proofs.Lists.{tally}
+use Rattle.machine_core.specs.Sound.{tally, word_now, word_now_in, has_tag, dues, IsSound, wanted}
 use Rattle.flat_model.proofs.Lanewise.{merged-none, merged_no_lane, has-none}
 use Rattle.machine_core.proofs.Finding.{frame_of-none}
-use Rattle.machine_core.proofs.Coming.{word_now, word_now_in, flat_word-now, flat_due-in, has_tag, dues, due_in}
-use Rattle.machine_core.proofs.Sound.{IsSound, wanted}
+use Rattle.machine_core.proofs.Coming.{flat_word-now, flat_due-in, due_in}
 use Rattle.machine_core.proofs.Installing.{range_at, range_length}
 use Rattle.machine_core.proofs.Requests.{mem_length, mem_at}
 
@@ -102,7 +101,7 @@ module _ (z : Sizes) (lawful : IsLawful z) (image : List Word) (fits : length im
         frames_apart = λ f g b p q. absurd (no_block f b p);
         live_apart = λ s t p q e. absurd (no_live s p);
         live_present = λ s p. absurd (no_live s p);
-        counted = λ s i. ap (λ ps. tally (Rattle.machine_core.proofs.Coming.is_for s i) ps + 0) nothing_pending ∙ sym (ap (λ r. wanted z r i) (free_registers s));
+        counted = λ s i. ap (λ ps. tally (Rattle.machine_core.specs.Sound.is_for s i) ps + 0) nothing_pending ∙ sym (ap (λ r. wanted z r i) (free_registers s));
         once = λ tag. subst (λ ds. tally (has_tag tag) ds ≤ 1) (sym nothing_due) (omega arith);
         kept = λ at. opening_word at ∙ sym (merged-none (backing z m0 at) zero_word) ∙ ap (λ o. merged (backing z m0 at) (cell_in m0.cache o (place_in z at)).word (cell_in m0.cache o (place_in z at)).dirty) (sym (absent (block_of z at)));
         whole_frames = λ f b p. absurd (no_block f b p);

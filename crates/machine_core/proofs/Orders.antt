@@ -6,18 +6,7 @@ use Rattle.std.proofs.lemmas.List.{get_or_past, set_past}
 use Rattle.cache_unit.specs.State.{Sizes, Frame, empty_frame}
 use Rattle.cache_unit.specs.Causes.{order_of}
 use Rattle.cache_unit.specs.Steps.{without}
-
-abbrev pub is_in : List ℕ → ℕ → Bool
-is_in order f = list_any (λ g. g == f) order
-
-abbrev pub block_at : List Frame → ℕ → Option ℕ
-block_at frames f = (get_or frames f empty_frame).block
-
--- each frame that holds a block stands in its set's order, and no other set's
-pub record InOrder (z : Sizes) (frames : List Frame) (orders : List (List ℕ)) : Type 0 where
-  pub placed : (f b : ℕ) → block_at frames f ≡ Some b → is_in (order_of orders (f / z.ways)) f ≡ true
-  pub in_set : (s f : ℕ) → is_in (order_of orders s) f ≡ true → f / z.ways ≡ s
-  pub sized : length orders ≡ z.sets
+use Rattle.machine_core.specs.Sound.{is_in, block_at, InOrder}
 
 pub InOrder-same : (z : Sizes) (frames frames' : List Frame) (orders : List (List ℕ)) → ((f : ℕ) → block_at frames' f ≡ block_at frames f) → InOrder z frames orders → InOrder z frames' orders
 InOrder-same z frames frames' orders same h =

@@ -6,9 +6,9 @@ use Rattle.cache_unit.specs.declared.Reply.{Reply}
 use Rattle.cache_unit.specs.State.{Sizes, frame_of, live_for, targets}
 use Rattle.input_stack.specs.Stack.{stack_word}
 use Rattle.machine_core.specs.Machine.{Machine}
-use Rattle.machine_core.proofs.Lists.{tally, bit, Adds, Adds-tally, Adds-find_other, Adds-find_same, find_none}
-use Rattle.machine_core.proofs.Coming.{coming, word_now, has_tag, dues, due_in, reply_to}
-use Rattle.machine_core.proofs.Sound.{IsSound}
+use Rattle.machine_core.specs.Sound.{tally, bit, coming, word_now, has_tag, dues, reply_to, IsSound}
+use Rattle.machine_core.proofs.Lists.{Adds, Adds-tally, Adds-find_other, Adds-find_same, find_none}
+use Rattle.machine_core.proofs.Coming.{due_in}
 
 -- ---- a test of tags, both ways round
 

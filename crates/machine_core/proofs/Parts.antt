@@ -6,7 +6,8 @@ use Rattle.std.proofs.lemmas.List.{get_or_past, map-append, set_past}
 use Rattle.std.proofs.lemmas.List.Folds.{find-append}
 use Rattle.cache_unit.specs.State.{Register, Field, Target, gathered, targets_of_field, targets_of, targets, free_register, clear_field}
 use Rattle.flat_model.specs.Places.{place_of}
-use Rattle.machine_core.proofs.Lists.{tally, tally-append, option_or_comm, gathered_part}
+use Rattle.machine_core.specs.Sound.{tally}
+use Rattle.machine_core.proofs.Lists.{tally-append, option_or_comm, gathered_part}
 
 -- the first place goes by the tests at each place
 pub place_of-like : {X : Type 0} (p : X → Bool) (d : X) (xs ys : List X) → length xs ≡ length ys → ((k : ℕ) → p (get_or xs k d) ≡ p (get_or ys k d)) → place_of p xs ≡ place_of p ys

@@ -12,13 +12,14 @@ use Rattle.cache_directory.specs.declared.Cell.{Cell}
 use Rattle.input_stack.specs.Stack.{stack_word}
 use Rattle.cache_unit.specs.Steps.{answered}
 use Rattle.machine_core.specs.Machine.{Machine, backing}
-use Rattle.machine_core.proofs.Lists.{tally, bit, Adds, Adds-tally, Adds-find_other, Adds-find_same, Adds-remove}
+use Rattle.machine_core.specs.Sound.{tally, bit, is_for, coming, coming_from, word_now, has_tag, dues, reply_to, IsSound, is_entry_for, wanted}
+use Rattle.machine_core.proofs.Lists.{Adds, Adds-tally, Adds-find_other, Adds-find_same, Adds-remove}
 use Rattle.flat_model.proofs.Lanewise.{merged_held}
 use Rattle.machine_core.proofs.Parts.{in_range, nested_set, nested_same, nested_other, find_swapped, tally_swapped, targets_map, WordPart, word_part}
 use Rattle.machine_core.proofs.Finding.{frame_of-some, frame_of-is, frame_of-like, live_for-some, live_for-is, live_for-like, word_now-live}
-use Rattle.machine_core.proofs.Coming.{is_for, coming, coming_from, word_now, has_tag, dues, due_in, reply_to}
+use Rattle.machine_core.proofs.Coming.{due_in}
 use Rattle.machine_core.proofs.Orders.{InOrder-same}
-use Rattle.machine_core.proofs.Sound.{IsSound, Same, word_now-same, is_entry_for, wanted}
+use Rattle.machine_core.proofs.Sound.{Same, word_now-same}
 use Rattle.machine_core.proofs.Serving.{read_set}
 use Rattle.machine_core.proofs.Arriving.{bit-le, bit-pos}
 

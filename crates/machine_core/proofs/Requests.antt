@@ -19,10 +19,11 @@ use Rattle.cache_unit.specs.Steps.{load_step, store_step, prefetch_step, evict_s
 use Rattle.machine_core.specs.Law.{IsLawful}
 use Rattle.machine_core.specs.Machine.{Machine, joined_with, flat_word, flat_due, flat_of}
 use Rattle.memory_banks.specs.Banks.{room_in}
-use Rattle.machine_core.proofs.Lists.{tally, none_from_find}
+use Rattle.machine_core.specs.Sound.{tally, has_tag, dues, reply_to, IsSound}
+use Rattle.machine_core.proofs.Lists.{none_from_find}
 use Rattle.machine_core.proofs.Finding.{frame_of-some}
-use Rattle.machine_core.proofs.Coming.{flat_word-now, flat_due-in, has_tag, dues, due_in, reply_to}
-use Rattle.machine_core.proofs.Sound.{IsSound, Same, Kept, KeptBy, flat_of-same}
+use Rattle.machine_core.proofs.Coming.{flat_word-now, flat_due-in, due_in}
+use Rattle.machine_core.proofs.Sound.{Same, Kept, KeptBy, flat_of-same}
 use Rattle.machine_core.proofs.Owing.{due_in-added}
 use Rattle.machine_core.proofs.Evicting.{retired, given_up_sound, given_up_same}
 use Rattle.machine_core.proofs.Loading.{load_hit}

@@ -10,8 +10,8 @@ use Rattle.memory_banks.specs.declared.Command.TheVariants.{Read, Write}
 use Rattle.memory_banks.specs.declared.BankAnswer.{BankAnswer}
 use Rattle.memory_banks.specs.Banks.{Bank, bank_at, no_bank, pending, all_pending, words_after, answers_to, after, with_command, all_sent}
 use Rattle.cache_unit.specs.State.{Sizes}
-use Rattle.machine_core.proofs.Lists.{tally, bit, Adds, Adds-tally, Adds-find_other, Adds-find_same, Adds-push, Adds-left, Adds-right, Adds-same, find_none, flat_map_part}
-use Rattle.machine_core.proofs.Coming.{is_for}
+use Rattle.machine_core.specs.Sound.{tally, bit, is_for}
+use Rattle.machine_core.proofs.Lists.{Adds, Adds-tally, Adds-find_other, Adds-find_same, Adds-push, Adds-left, Adds-right, Adds-same, find_none, flat_map_part}
 use Rattle.machine_core.proofs.Serving.{read_set, map_same}
 
 -- the word of memory at an address, once the queue of its bank is served

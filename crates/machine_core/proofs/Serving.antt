@@ -12,9 +12,10 @@ use Rattle.cache_unit.specs.State.{Sizes, targets, block_of, place_in, cell_of}
 use Rattle.input_stack.specs.Stack.{stack_word}
 use Rattle.write_queue.specs.Queue.{overlaid}
 use Rattle.machine_core.specs.Machine.{Machine, backing, serve_from}
-use Rattle.machine_core.proofs.Lists.{tally, flat_map_part}
-use Rattle.machine_core.proofs.Coming.{is_for, coming, coming_from, word_now, has_tag, dues, due_in, reply_to}
-use Rattle.machine_core.proofs.Sound.{IsSound, Same, Kept, KeptBy, flat_of-same, word_now-same, is_entry_for}
+use Rattle.machine_core.specs.Sound.{tally, is_for, coming, coming_from, word_now, has_tag, dues, reply_to, IsSound, is_entry_for}
+use Rattle.machine_core.proofs.Lists.{flat_map_part}
+use Rattle.machine_core.proofs.Coming.{due_in}
+use Rattle.machine_core.proofs.Sound.{Same, Kept, KeptBy, flat_of-same, word_now-same}
 
 -- the banks of two machines come to the same words and answers
 pub record SameBanks (banks banks' : List Bank) : Type 0 where

@@ -10,41 +10,8 @@ use Rattle.input_stack.specs.declared.Entry.{Entry}
 use Rattle.write_queue.specs.declared.Queued.{Queued}
 use Rattle.cache_unit.specs.State.{Sizes, Register, clear_field, frame_at, frame_of, register_at, field_at, is_live, live_for, cell_in, cell_of, block_of, place_in, address}
 use Rattle.machine_core.specs.Machine.{Machine, Outcome, apply, backing, flat_word, flat_due, flat_of}
-use Rattle.machine_core.proofs.Lists.{tally, bit}
-use Rattle.machine_core.proofs.Orders.{InOrder}
-use Rattle.machine_core.proofs.Coming.{is_for, coming, shown_word, word_now_in, word_now, flat_word-now, has_tag, dues, due_in, flat_due-in}
-
-abbrev pub is_entry_for : ℕ → ℕ → Entry → Bool
-is_entry_for slot i e = (e.slot == slot) && (e.i == i)
-
--- 1 where a register waits for its word i from memory, else 0
-abbrev pub wanted : Sizes → Register → ℕ → ℕ
-wanted z r i = bit (r.valid && (nat_lt i z.block_words && not (get_or r.fields i clear_field).processed))
-
-abbrev pub AllIn : Sizes → List Queued → Type 0
-AllIn z [] = Unit {0}
-AllIn z (q ∷ rest) = (q.at < z.words) × AllIn z rest
-
-pub record IsSound (z : Sizes) (m : Machine) : Type 0 where
-  -- a block is in one frame, and has one live register, and then it is present
-  pub frames_apart : (f g b : ℕ) → (frame_at m.cache f).block ≡ Some b → (frame_at m.cache g).block ≡ Some b → f ≡ g
-  pub live_apart : (s t : ℕ) → is_live (register_at m.cache s) ≡ true → is_live (register_at m.cache t) ≡ true → (register_at m.cache s).block ≡ (register_at m.cache t).block → s ≡ t
-  pub live_present : (s : ℕ) → is_live (register_at m.cache s) ≡ true → (f : ℕ) × ((frame_at m.cache f).block ≡ Some (register_at m.cache s).block)
-  -- each word that a register waits for is once on its way, and nothing else is
-  pub counted : (s i : ℕ) → tally (is_for s i) (all_pending m.banks) + tally (is_entry_for s i) m.cache.stack ≡ wanted z (register_at m.cache s) i
-  -- no tag is owed two values
-  pub once : (tag : ℕ) → tally (has_tag tag) (dues m) ≤ 1
-  -- a word is its backing with the buffer's bytes in the dirty lanes
-  pub kept : (at : ℕ) → word_now z m at ≡ merged (backing z m at) (cell_of m.cache (block_of z at) (place_in z at)).word (cell_of m.cache (block_of z at) (place_in z at)).dirty
-  -- the sizes of the parts
-  pub whole_frames : (f b : ℕ) → (frame_at m.cache f).block ≡ Some b → (length (frame_at m.cache f).cells ≡ z.block_words) × (address z b 0 < z.words)
-  pub whole_registers : (s : ℕ) → (register_at m.cache s).valid ≡ true → length (register_at m.cache s).fields ≡ z.block_words
-  pub queue_in : AllIn z m.cache.queue
-  pub in_order : InOrder z m.cache.frames m.cache.orders
-  pub registers_are : length m.cache.registers ≡ z.regs
-  pub frames_are : length m.cache.frames ≡ z.sets * z.ways
-  pub banks_are : length m.banks ≡ z.banks
-  pub banks_hold : (at : ℕ) → at < z.words → at / z.banks < length (bank_at m.banks (at % z.banks)).words
+use Rattle.machine_core.specs.Sound.{tally, bit, InOrder, is_for, coming, shown_word, word_now_in, word_now, has_tag, dues, is_entry_for, wanted, AllIn, IsSound}
+use Rattle.machine_core.proofs.Coming.{flat_word-now, due_in, flat_due-in}
 
 -- two machines stand for the same flat memory
 pub record Same (z : Sizes) (m m' : Machine) : Type 0 where

@@ -10,13 +10,12 @@ use Rattle.input_stack.specs.Stack.{stack_word}
 use Rattle.cache_unit.specs.Steps.{noted, written_in, written}
 use Rattle.machine_core.specs.Law.{IsLawful}
 use Rattle.machine_core.specs.Machine.{Machine, backing}
-use Rattle.machine_core.proofs.Lists.{tally, bit}
+use Rattle.machine_core.specs.Sound.{tally, bit, coming, shown_word, word_now, has_tag, dues, IsSound}
 use Rattle.flat_model.proofs.Lanewise.{merged_over}
 use Rattle.machine_core.proofs.Parts.{in_range, nested_same, nested_other, word_part}
 use Rattle.machine_core.proofs.Finding.{frame_of-some, frame_of-like, live_for-some, live_for-like, word_now-live, word_now-resident}
-use Rattle.machine_core.proofs.Coming.{coming, shown_word, word_now, has_tag, dues}
 use Rattle.machine_core.proofs.Orders.{InOrder-same}
-use Rattle.machine_core.proofs.Sound.{IsSound, word_now-same}
+use Rattle.machine_core.proofs.Sound.{word_now-same}
 use Rattle.machine_core.proofs.Serving.{read_set, dues-same}
 use Rattle.machine_core.proofs.Processing.{with_fields, with_field_in}
 use Rattle.machine_core.proofs.Fields.{same_at, field_elsewhere, field_here, field_part}

@@ -20,9 +20,7 @@ use Rattle.cache_unit.specs.Steps.{answered, filled, finished, processed, proces
 use Rattle.machine_core.specs.Machine.{Machine, Outcome, apply, serve_from, arrive_from, take_in, without_answer, joined_with}
 use Rattle.machine_core.specs.Pump.{total, command_weight, bank_weight, field_weight, register_weight, weight, lowest, has_items, when, pumped}
 use Rattle.machine_core.specs.Law.{IsLawful, HasRoom, WalkIsDriven}
-use Rattle.machine_core.proofs.Sound.{IsSound, is_entry_for, wanted}
-use Rattle.machine_core.proofs.Lists.{tally, bit}
-use Rattle.machine_core.proofs.Coming.{is_for}
+use Rattle.machine_core.specs.Sound.{IsSound, is_entry_for, wanted, tally, bit, is_for}
 use Rattle.machine_core.proofs.Processing.{done, with_fields, waits, slot_there, field_there}
 use Rattle.machine_core.proofs.Freeing.{filled_only, all_processed}
 use Rattle.machine_core.proofs.Arriving.{not_stray}

@@ -1,3 +1,4 @@
 pub mod Machine
 pub mod Pump
+pub mod Sound
 pub mod Law

@@ -1,0 +1,131 @@
+-- What each machine that a walk comes to keeps.
+use Rattle.std.specs.Prelude.{◌≡◌, ℕ, ◌+◌, ◌*◌, ◌/◌, ◌%◌, ◌<◌, ◌≤◌, Bool, true, false, ◌&&◌, not, if◌then◌else◌, ◌==◌, nat_lt, List, [], ◌∷◌, ◌++◌, map, length, Option, Some, None, slice_index_or}
+use Rattle.std.specs.List.{find, list_any, list_all}
+use Rattle.flat_model.specs.declared.Word.{Word}
+use Rattle.flat_model.specs.Words.{merged, zero_word}
+use Rattle.memory_banks.specs.declared.BankAnswer.{BankAnswer}
+use Rattle.memory_banks.specs.Banks.{bank_at, all_pending}
+use Rattle.input_stack.specs.declared.Entry.{Entry}
+use Rattle.input_stack.specs.Stack.{stack_word}
+use Rattle.write_queue.specs.declared.Queued.{Queued}
+use Rattle.cache_unit.specs.declared.Reply.{Reply}
+use Rattle.cache_unit.specs.State.{Sizes, Frame, Register, Target, empty_frame, clear_field, frame_at, frame_of, register_at, field_at, is_live, live_for, cell_in, cell_of, targets, tags, block_of, place_in, address}
+use Rattle.cache_unit.specs.Causes.{order_of}
+use Rattle.machine_core.specs.Machine.{Machine, backing}
+
+-- ---- counts
+
+-- 1 where a test passes, else 0
+abbrev pub bit : Bool → ℕ
+bit true = 1
+bit false = 0
+
+-- how many elements pass a test
+abbrev pub tally : {X : Type 0} → (X → Bool) → List X → ℕ
+tally p [] = 0
+tally p (x ∷ xs) = bit (p x) + tally p xs
+
+-- ---- words on their way
+
+-- an answer for word i of the register in this slot
+abbrev pub is_for : ℕ → ℕ → BankAnswer → Bool
+is_for slot i a = (a.slot == slot) && (a.i == i)
+
+-- an entry of the stack for it
+abbrev pub is_entry_for : ℕ → ℕ → Entry → Bool
+is_entry_for slot i e = (e.slot == slot) && (e.i == i)
+
+-- 1 where a register waits for its word i from memory, else 0
+abbrev pub wanted : Sizes → Register → ℕ → ℕ
+wanted z r i = bit (r.valid && (nat_lt i z.block_words && not (slice_index_or r.fields i clear_field).processed))
+
+abbrev pub word_in : Option BankAnswer → Word
+word_in None = zero_word
+word_in (Some a) = a.word
+
+abbrev pub coming_from : Option Word → List BankAnswer → ℕ → ℕ → Word
+coming_from (Some w) answers slot i = w
+coming_from None answers slot i = word_in (find (is_for slot i) answers)
+
+-- the word that register `slot` has, or will have, from memory for its word i
+unfoldable pub coming : Machine → ℕ → ℕ → Word
+coming m slot i = coming_from (stack_word m.cache.stack slot i) (all_pending m.banks) slot i
+
+-- ---- the word at an address
+
+-- the buffer's word, or the one that comes with the code's lanes of the buffer's
+abbrev pub shown_word : Machine → Option ℕ → ℕ → Word → Word
+shown_word m None i buffer = buffer
+shown_word m (Some slot) i buffer =
+    if (field_at m.cache slot i).processed then buffer else merged (coming m slot i) buffer (field_at m.cache slot i).code
+
+abbrev pub word_now_in : Sizes → Machine → ℕ → Option ℕ → Word
+word_now_in z m at None = backing z m at
+word_now_in z m at (Some f) = shown_word m (live_for m.cache (block_of z at)) (place_in z at) (cell_in m.cache (Some f) (place_in z at)).word
+
+-- the word that flat memory has at an address
+unfoldable pub word_now : Sizes → Machine → ℕ → Word
+word_now z m at = word_now_in z m at (frame_of m.cache (block_of z at))
+
+-- ---- what is owed
+
+-- what a waiting load will be told
+abbrev pub reply_to : Machine → Target → Reply
+reply_to m t = record { tag = t.load.tag; word = merged (coming m t.slot t.i) t.load.held t.load.lanes }
+
+-- the replies that stand ready, and those to come
+unfoldable pub dues : Machine → List Reply
+dues m = m.cache.ready ++ map (reply_to m) (targets m.cache.registers)
+
+abbrev pub has_tag : ℕ → Reply → Bool
+has_tag tag r = r.tag == tag
+
+-- ---- orders
+
+abbrev pub is_in : List ℕ → ℕ → Bool
+is_in order f = list_any (λ g. g == f) order
+
+abbrev pub block_at : List Frame → ℕ → Option ℕ
+block_at frames f = (slice_index_or frames f empty_frame).block
+
+-- each frame that holds a block stands in its set's order, and no other set's
+pub record InOrder (z : Sizes) (frames : List Frame) (orders : List (List ℕ)) : Type 0 where
+  pub placed : (f b : ℕ) → block_at frames f ≡ Some b → is_in (order_of orders (f / z.ways)) f ≡ true
+  pub in_set : (s f : ℕ) → is_in (order_of orders s) f ≡ true → f / z.ways ≡ s
+  pub sized : length orders ≡ z.sets
+
+-- ---- the invariants
+
+-- every queued word lies in memory
+abbrev pub AllIn : Sizes → List Queued → Type 0
+AllIn z [] = Unit {0}
+AllIn z (q ∷ rest) = (q.at < z.words) × AllIn z rest
+
+pub record IsSound (z : Sizes) (m : Machine) : Type 0 where
+  -- a block is in one frame, and has one live register, and then it is present
+  pub frames_apart : (f g b : ℕ) → (frame_at m.cache f).block ≡ Some b → (frame_at m.cache g).block ≡ Some b → f ≡ g
+  pub live_apart : (s t : ℕ) → is_live (register_at m.cache s) ≡ true → is_live (register_at m.cache t) ≡ true → (register_at m.cache s).block ≡ (register_at m.cache t).block → s ≡ t
+  pub live_present : (s : ℕ) → is_live (register_at m.cache s) ≡ true → (f : ℕ) × ((frame_at m.cache f).block ≡ Some (register_at m.cache s).block)
+  -- each word that a register waits for is once on its way, and nothing else is
+  pub counted : (s i : ℕ) → tally (is_for s i) (all_pending m.banks) + tally (is_entry_for s i) m.cache.stack ≡ wanted z (register_at m.cache s) i
+  -- no tag is owed two values
+  pub once : (tag : ℕ) → tally (has_tag tag) (dues m) ≤ 1
+  -- a word is its backing with the buffer's bytes in the dirty lanes
+  pub kept : (at : ℕ) → word_now z m at ≡ merged (backing z m at) (cell_of m.cache (block_of z at) (place_in z at)).word (cell_of m.cache (block_of z at) (place_in z at)).dirty
+  -- the sizes of the parts
+  pub whole_frames : (f b : ℕ) → (frame_at m.cache f).block ≡ Some b → (length (frame_at m.cache f).cells ≡ z.block_words) × (address z b 0 < z.words)
+  pub whole_registers : (s : ℕ) → (register_at m.cache s).valid ≡ true → length (register_at m.cache s).fields ≡ z.block_words
+  pub queue_in : AllIn z m.cache.queue
+  pub in_order : InOrder z m.cache.frames m.cache.orders
+  pub registers_are : length m.cache.registers ≡ z.regs
+  pub frames_are : length m.cache.frames ≡ z.sets * z.ways
+  pub banks_are : length m.banks ≡ z.banks
+  pub banks_hold : (at : ℕ) → at < z.words → at / z.banks < length (bank_at m.banks (at % z.banks)).words
+
+-- what is on its way is within the limits
+pub record IsBounded (z : Sizes) (m : Machine) : Type 0 where
+  -- a valid register waits for a word
+  pub unfinished : (s : ℕ) → (register_at m.cache s).valid ≡ true → list_all (λ f. f.processed) (register_at m.cache s).fields ≡ false
+  pub few_tags : length (tags m.cache) ≤ z.replies
+  pub few_queued : length m.cache.queue ≤ z.write_queue
+  pub few_commands : (b : ℕ) → length (bank_at m.banks b).queue ≤ z.bank_queue
