@@ -1,5 +1,5 @@
 -- The write queue, and what stands in it for one word.
-use Rattle.std.specs.Prelude.{ℕ, if◌then◌else◌, ◌==◌, List, [], ◌∷◌}
+use Rattle.std.specs.Prelude.{ℕ, ◌≤◌, Bool, ◌&&◌, nat_le, if◌then◌else◌, ◌==◌, List, [], ◌∷◌, length}
 use Rattle.flat_model.specs.declared.Word.{Word}
 use Rattle.flat_model.specs.declared.Lanes.{Lanes}
 use Rattle.flat_model.specs.Words.{zero_word, no_lanes, joined, merged}
@@ -10,6 +10,19 @@ use Rattle.write_queue.specs.declared.Forward.{Forward}
 pub record Queue : Type 0 where
   pub entries : List Queued
   pub limit : ℕ
+
+abbrev pub queue : List Queued → ℕ → Queue
+queue entries limit = record { entries = entries; limit = limit }
+
+-- whether a queue may take at most so many
+abbrev pub is_limit : ℕ → Bool
+is_limit n = nat_le 1 n && nat_le n 256
+
+-- what is so of every write queue
+pub record IsQueue (q : Queue) : Type 0 where
+  pub some : 1 ≤ q.limit
+  pub most : q.limit ≤ 256
+  pub within : length q.entries ≤ q.limit
 
 -- the entries' bytes for a word laid over it, in their order
 abbrev pub overlaid : Word → List Queued → ℕ → Word

@@ -1,7 +1,18 @@
-//! The words on their way to memory.
+//! The words that the cache has given up and that are on their way to memory.
+//!
+//! A write queue is a list of entries, the oldest first, and a limit. Several entries may stand in
+//! it for one word; where they have the same lane, the newest one's byte counts.
 #![tactic(auto)]
 
-use flat_model::{Lanes, Word};
+ghost use Rattle.std.specs.List.{list_any};
+ghost use Rattle.std.specs.Prelude.{◌≡◌, ◌-◌, ◌<◌, ◌==◌, [], ◌∷◌, ◌++◌, length, drop, slice_get, if◌then◌else◌, IsTrue, IfOk, IfErr, OnOk};
+ghost use Rattle.write_queue.specs.Queue.{queue, is_limit, IsQueue};
+ghost use Rattle.write_queue.specs.Queue as spec;
+
+use circular_buffer::HeapCircularBuffer;
+use flat_model::{Lanes, MakeFault, ShapeField, Word, merge};
+use std::alloc::Global;
+use std::marker::Model;
 
 /// A word that a given-up block owes to memory: the bytes of `word` in `lanes` are the newest for
 /// the word at `at`, which lies in `block`.
@@ -18,4 +29,106 @@ pub struct Queued {
 pub struct Forward {
     pub word: Word,
     pub lanes: Lanes,
+}
+
+/// A queue of at most 256 words that wait to be written to memory, first in, first out.
+#[derive(Drop)]
+pub struct WriteQueue {
+    waiting: HeapCircularBuffer<Queued>,
+}
+
+impl Model for WriteQueue {
+    ghost use Rattle.write_queue.specs.Queue.{Queue, queue, IsQueue};
+
+    ghost Value = { Queue };
+
+    ghost view = { λ a. queue a.waiting.items a.waiting.capacity };
+
+    ghost invariant = { λ a. IsQueue (queue a.waiting.items a.waiting.capacity) };
+}
+
+impl WriteQueue {
+    /// An empty queue for at most `cap` words. `BadShape(WriteQueue)` says that `cap` is 0 or over
+    /// 256, and `OutOfMemory` that there was too little memory.
+    pub fn new(alloc: Global, cap: u32) -> Result<Self, MakeFault>
+        ensures ok { IfOk result (λ q. q ≡ queue [] cap) }
+        ensures in_range { OnOk result (IsTrue (is_limit cap)) }
+        ensures fault { IfErr result (λ e. e ≡ (if is_limit cap then MakeFault.OutOfMemory else MakeFault.BadShape ShapeField.WriteQueue)) }
+    {
+        if cap < 1 || cap > 256 {
+            return Err(MakeFault::BadShape(ShapeField::WriteQueue));
+        }
+        let waiting = HeapCircularBuffer::with_capacity(alloc, cap as usize)?;
+        Ok(WriteQueue { waiting })
+    }
+
+    /// How many words wait.
+    pub fn len(&self) -> u32
+        ensures value { result ≡ length self.now.entries }
+        ensures within { IsQueue self.now }
+    {
+        self.waiting.len() as u32
+    }
+
+    /// How many more words the queue takes.
+    pub fn room(&self) -> u32
+        ensures value { result ≡ self.now.limit - length self.now.entries }
+        ensures within { IsQueue self.now }
+    {
+        (self.waiting.capacity() - self.waiting.len()) as u32
+    }
+
+    /// Puts a word last into a queue that has room for it.
+    pub fn push(&mut self, entry: Queued)
+        requires { length self.old.entries < self.old.limit }
+        ensures { self.new ≡ queue (self.old.entries ++ entry ∷ []) self.old.limit }
+    {
+        let _ = self.waiting.try_push_back(entry);
+    }
+
+    /// The word that has waited longest; `None` where none waits.
+    pub fn front(&self) -> Option<Queued>
+        ensures { result ≡ slice_get self.now.entries 0 }
+    {
+        self.waiting.front().copied()
+    }
+
+    /// Takes out the word that has waited longest. `None` says that none waits, and changes
+    /// nothing.
+    pub fn pop(&mut self) -> Option<Queued>
+        ensures value { result ≡ slice_get self.old.entries 0 }
+        ensures rest { self.new ≡ queue (drop 1 self.old.entries) self.old.limit }
+    {
+        self.waiting.pop_front()
+    }
+
+    /// The word that stands at `place`, counted from the oldest; `None` where none stands there.
+    pub fn get(&self, place: u32) -> Option<Queued>
+        ensures { result ≡ slice_get self.now.entries place }
+    {
+        self.waiting.get(place as usize).copied()
+    }
+
+    /// Whether a word of the block waits.
+    pub fn holds_block(&self, block: u32) -> bool
+        ensures { result ≡ list_any (λ q. q.block == block) self.now.entries }
+    {
+        self.waiting.iter().any(|q| q.block == block)
+    }
+
+    /// The newest queued bytes of the word at `at`: the lanes of all its entries, in each lane the
+    /// byte of the last entry that has it, and zero bytes elsewhere.
+    pub fn newest(&self, at: u32) -> Forward
+        ensures { result ≡ spec.newest self.now.entries at }
+    {
+        let mut word = Word::default();
+        let mut lanes = Lanes::none();
+        for q in self.waiting.iter() {
+            if q.at == at {
+                word = merge(word, q.word, q.lanes);
+                lanes = lanes.joined(q.lanes);
+            }
+        }
+        Forward { word, lanes }
+    }
 }
