@@ -2,3 +2,4 @@ pub mod Machine
 pub mod Pump
 pub mod Sound
 pub mod Law
+pub mod Examples
