@@ -6,9 +6,13 @@
 #![tactic(auto)]
 
 ghost use Rattle.std.specs.Prelude.{⊤, ◌≡◌, ◌==◌, [], ◌∷◌, codes, bit_and, if◌then◌else◌};
+ghost use Rattle.flat_model.specs.Flat.{number};
 ghost use Rattle.flat_model.specs.Words.{no_lanes, merged, joined, has_any, has_all};
 
+mod memory;
+
 use bitflags::{Flag, Flags, bitflag_items};
+pub use memory::{FlatMemory, ReplayFault};
 use std::alloc::AllocError;
 use thiserror::Error;
 
@@ -157,6 +161,15 @@ pub enum Cause {
     StackFull = 12,
     /// No register waits for the word.
     StrayWord = 13,
+}
+
+impl Cause {
+    /// The number of the cause, 1 to 13, by which a trace shows it.
+    pub fn number(self) -> u8
+        ensures { result ≡ number self }
+    {
+        self as u8
+    }
 }
 
 /// One step that the machine is asked to make.

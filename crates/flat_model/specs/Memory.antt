@@ -1,0 +1,28 @@
+-- What a `FlatMemory` shows, and what the faults of a replay say.
+use Rattle.std.specs.Prelude.{ℕ, ⊤, ◌≡◌, ◌≢◌, List, length, Option, Some, None, nat_eq}
+use Rattle.std.specs.HashMap.{get}
+use Rattle.flat_model.specs.declared.Event.{Event}
+use Rattle.flat_model.specs.declared.Event.TheVariants.{Load, Store, Prefetch, Take}
+use Rattle.flat_model.specs.declared.Answer.{Answer}
+use Rattle.flat_model.specs.declared.memory.FlatMemory.{FlatMemory}
+use Rattle.flat_model.specs.declared.memory.ReplayFault.{ReplayFault}
+use Rattle.flat_model.specs.declared.memory.ReplayFault.TheVariants.{Lengths, Mismatch, OutOfMemory}
+use Rattle.flat_model.specs.Flat.{Flat, first_fault, flat_run}
+
+-- the flat memory that it stands for
+unfoldable pub shown : FlatMemory → Flat
+shown m = record { mem = m.words.items; due = get nat_eq m.due }
+
+-- an event that points at no word of memory and takes no value
+abbrev pub MovesOnly : Event → Type 0
+MovesOnly (Load tag at) = ⊥
+MovesOnly (Store at word lanes) = ⊥
+MovesOnly (Prefetch at) = ⊥
+MovesOnly (Take place) = ⊥
+MovesOnly event = ⊤
+
+-- what each fault says of the run that was replayed
+abbrev pub FaultIs : Flat → List Event → List Answer → ReplayFault → Type 0
+FaultIs s events answers Lengths = (length events ≢ length answers) × (flat_run s events answers ≡ None)
+FaultIs s events answers (Mismatch place) = (first_fault s events answers ≡ Some place) × (length events ≡ length answers) × (flat_run s events answers ≡ None)
+FaultIs s events answers OutOfMemory = length events ≡ length answers

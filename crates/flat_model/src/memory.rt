@@ -1,0 +1,308 @@
+//! Flat memory as a value, and the replay of a run of events and answers over it.
+
+ghost use Rattle.std.specs.Prelude.{◌≡◌, ◌≢◌, Ok, Err, ◌+◌, ℕ, Bool, true, length, None, Some, Option, nat_eq, nat_lt, is_none, not, slice_get, IfOk, IfErr, OnOk, OnErr, ◌<◌, ◌≤◌, ◌-◌};
+ghost use Rattle.std.specs.HashMap.{spare};
+ghost use Rattle.flat_model.specs.Flat.{Flat, opening, word_at, stored, with_due, first_fault, may_answer, flat_after, flat_run, is_between, load_refusals, store_refusals, prefetch_refusals, is_owed, number};
+ghost use Rattle.flat_model.specs.declared.memory.ReplayFault.TheVariants.{Lengths, Mismatch};
+ghost use Rattle.flat_model.specs.Memory.{shown, FaultIs, MovesOnly};
+
+use crate::{Answer, Cause, Event, Lanes, Word, merge};
+use std::alloc::{AllocError, Global};
+use std::collections::HashMap;
+use thiserror::Error;
+
+/// Why a replay failed. After each of these the memory is as it was.
+#[derive(Clone, Copy, PartialEq, Eq, Debug, Error)]
+pub enum ReplayFault {
+    /// There are not as many answers as events.
+    #[error("as many answers as events are needed")]
+    Lengths,
+    /// The answer at this place, counted from 0, is the first that flat memory doesn't give to
+    /// its event.
+    #[error("the answer at place {place} is not one of flat memory")]
+    Mismatch { place: usize },
+    /// There was too little memory.
+    #[error("out of memory")]
+    OutOfMemory,
+}
+
+impl From<AllocError> for ReplayFault {
+    ghost use Rattle.std.specs.Prelude.{◌≡◌};
+    ghost use Rattle.flat_model.specs.declared.memory.ReplayFault.TheVariants.{OutOfMemory};
+
+    ghost from_gives = { λ e f. f ≡ OutOfMemory };
+
+    fn from(_fault: AllocError) -> ReplayFault {
+        ReplayFault::OutOfMemory
+    }
+}
+
+/// The words of memory, and for each tag that is owed one the word that it is owed.
+#[derive(Drop)]
+pub struct FlatMemory {
+    words: Vec<Word>,
+    due: HashMap<u16, Word>,
+}
+
+#[tactic(auto, unfolding(crate::specs::Memory::shown))]
+impl FlatMemory {
+    /// Memory with these words, in which no tag is owed a word.
+    pub fn new(alloc: Global, image: &[Word]) -> Result<FlatMemory, AllocError>
+        ensures { IfOk result (λ m. shown m ≡ opening image.now) }
+    {
+        let words = Vec::from_slice(alloc, image)?;
+        let due = HashMap::new(alloc);
+        Ok(FlatMemory { words, due })
+    }
+
+    /// The word at an address, or `None` where memory has no such word.
+    pub fn word(&self, at: u32) -> Option<Word>
+        ensures { result ≡ slice_get (shown self.now).mem at }
+    {
+        self.words.get(at as usize).copied()
+    }
+
+    /// The word that a tag is owed, or `None` where it is owed none.
+    pub fn due_word(&self, tag: u16) -> Option<Word>
+        ensures { result ≡ (shown self.now).due tag }
+    {
+        self.due.get(&tag).copied()
+    }
+
+    /// Goes through a run of events and answers, pair by pair, from this memory on.
+    ///
+    /// It is `Ok` exactly where each answer is one that flat memory may give to its event, in the
+    /// state that the pairs before it left, and the memory is then as the last pair left it.
+    /// [`ReplayFault::Lengths`] is found before anything else, all memory is taken before the
+    /// first pair is looked at, and after every fault the memory is as it was.
+    pub fn replay(
+        &mut self,
+        alloc: Global,
+        events: &[Event],
+        answers: &[Answer],
+    ) -> Result<(), ReplayFault>
+        ensures ok { OnOk result (flat_run (shown self.old) events.now answers.now ≡ Some (shown self.new)) }
+        ensures lengths { length events.now ≢ length answers.now → result ≡ Err Lengths }
+        ensures fault { IfErr result (FaultIs (shown self.old) events.now answers.now) }
+        ensures unchanged { OnErr result (shown self.new ≡ shown self.old) }
+    {
+        if events.len() != answers.len() {
+            return Err(ReplayFault::Lengths);
+        }
+        let mut next = self.copy_with_room(alloc, events.len())?;
+        next.follow(events, answers)?;
+        *self = next;
+        Ok(())
+    }
+
+    // Makes the steps of a run, up to the first pair that is none.
+    fn follow(&mut self, events: &[Event], answers: &[Answer]) -> Result<(), ReplayFault>
+        requires lengths { length events.now ≡ length answers.now }
+        requires room { length events.now ≤ spare self.old.due }
+        ensures ok { OnOk result (flat_run (shown self.old) events.now answers.now ≡ Some (shown self.new)) }
+        ensures fault { IfErr result (FaultIs (shown self.old) events.now answers.now) }
+    {
+        for place in 0..events.len() {
+            let event = events[place];
+            let answer = answers[place];
+            if !self.may_answer(event, answer) {
+                return Err(ReplayFault::Mismatch { place });
+            }
+            self.step(event, answer);
+        }
+        Ok(())
+    }
+
+    // A copy with room for so many tags more.
+    fn copy_with_room(&self, alloc: Global, room: usize) -> Result<FlatMemory, AllocError>
+        ensures same { IfOk result (λ m. shown m ≡ shown self.now) }
+        ensures room { IfOk result (λ m. room ≤ spare m.due) }
+    {
+        let words = Vec::from_slice(alloc, self.words.as_slice())?;
+        let mut due = self.due.clone()?;
+        due.reserve(room)?;
+        Ok(FlatMemory { words, due })
+    }
+
+    // Whether there is a word at this address.
+    fn has_word(&self, at: u32) -> bool
+        ensures { result ≡ nat_lt at (length (shown self.now).mem) }
+    {
+        (at as usize) < self.words.len()
+    }
+
+    // Whether this answer to the event is one of flat memory.
+    fn may_answer(&self, event: Event, answer: Answer) -> bool
+        ensures { result ≡ may_answer (shown self.now) event answer }
+    {
+        match event {
+            Event::Load { tag, at } => self.may_load(tag, at, answer),
+            Event::Store { at, word, lanes } => self.may_store(at, word, lanes, answer),
+            Event::Prefetch { at } => self.may_prefetch(at, answer),
+            Event::Take { place } => self.may_take(place, answer),
+            _ => may_move(event, answer),
+        }
+    }
+
+    // Whether this answer to a load is one of flat memory.
+    fn may_load(&self, tag: u16, at: u32, answer: Answer) -> bool
+        ensures { result ≡ may_answer (shown self.now) (Event.Load tag at) answer }
+    {
+        let inside = self.has_word(at);
+        let owed = self.due.contains_key(&tag);
+        match answer {
+            Answer::Accepted => inside && !owed,
+            Answer::Refused(cause) => load_refused(inside, owed, cause),
+            _ => false,
+        }
+    }
+
+    // Whether this answer to a store is one of flat memory.
+    fn may_store(&self, at: u32, word: Word, lanes: Lanes, answer: Answer) -> bool
+        ensures { result ≡ may_answer (shown self.now) (Event.Store at word lanes) answer }
+    {
+        let inside = self.has_word(at);
+        match answer {
+            Answer::Accepted => inside && lanes.has_any(),
+            Answer::Refused(cause) => store_refused(inside, lanes.has_any(), cause),
+            _ => false,
+        }
+    }
+
+    // Whether this answer to a prefetch is one of flat memory.
+    fn may_prefetch(&self, at: u32, answer: Answer) -> bool
+        ensures { result ≡ may_answer (shown self.now) (Event.Prefetch at) answer }
+    {
+        let inside = self.has_word(at);
+        match answer {
+            Answer::Accepted => inside,
+            Answer::Refused(cause) => prefetch_refused(inside, cause),
+            _ => false,
+        }
+    }
+
+    // Whether this answer to a take is one of flat memory.
+    fn may_take(&self, place: u32, answer: Answer) -> bool
+        ensures { result ≡ may_answer (shown self.now) (Event.Take place) answer }
+    {
+        match answer {
+            Answer::Nothing => true,
+            Answer::Value { tag, word } => is_owed(self.due_word(tag), word),
+            _ => false,
+        }
+    }
+
+    // The change that a pair of flat memory makes.
+    fn step(&mut self, event: Event, answer: Answer)
+        requires may { may_answer (shown self.old) event answer ≡ true }
+        requires room { 0 < spare self.old.due }
+        ensures shown { shown self.new ≡ flat_after (shown self.old) event answer }
+        ensures room { spare self.old.due ≤ spare self.new.due + 1 }
+    {
+        match (event, answer) {
+            (Event::Load { tag, at }, Answer::Accepted) => self.owe(tag, at),
+            (Event::Store { at, word, lanes }, Answer::Accepted) => self.store(at, word, lanes),
+            (Event::Take { place: _ }, Answer::Value { tag, word: _ }) => self.pay(tag),
+            _ => {}
+        }
+    }
+
+    // The tag is owed the word at an address.
+    fn owe(&mut self, tag: u16, at: u32)
+        requires inside { at < length (shown self.old).mem }
+        requires room { 0 < spare self.old.due }
+        ensures mem { (shown self.new).mem ≡ (shown self.old).mem }
+        ensures due { (shown self.new).due ≡ with_due (shown self.old).due tag (Some (word_at (shown self.old).mem at)) }
+        ensures room { spare self.old.due ≤ spare self.new.due + 1 }
+    {
+        let word = self.words[at as usize];
+        let _owed = self.due.insert(tag, word);
+    }
+
+    // The bytes of a word are written in these lanes.
+    fn store(&mut self, at: u32, word: Word, lanes: Lanes)
+        requires { at < length (shown self.old).mem }
+        ensures mem { (shown self.new).mem ≡ stored (shown self.old).mem at word lanes }
+        ensures due { self.new.due ≡ self.old.due }
+    {
+        let old = self.words[at as usize];
+        self.words[at as usize] = merge(old, word, lanes);
+    }
+
+    // The tag is owed nothing.
+    fn pay(&mut self, tag: u16)
+        ensures shown { shown self.new ≡ record { mem = (shown self.old).mem; due = with_due (shown self.old).due tag None } }
+        ensures room { spare self.old.due ≤ spare self.new.due }
+    {
+        self.due.remove(&tag);
+    }
+}
+
+// Whether this answer to an event that points at no word and takes nothing is one of flat memory.
+fn may_move(event: Event, answer: Answer) -> bool
+    ensures { MovesOnly event → (s : Flat) → result ≡ may_answer s event answer }
+{
+    match answer {
+        Answer::Accepted => matches!(event, Event::Evict { .. }),
+        Answer::Moved | Answer::Nothing => !matches!(event, Event::Evict { .. }),
+        Answer::Value { .. } => false,
+        Answer::Refused(cause) => match event {
+            Event::Evict { .. } => is_between(cause, 1, 1)
+                || is_between(cause, 9, 9)
+                || is_between(cause, 11, 11),
+            Event::Drain => is_between(cause, 10, 10),
+            Event::Arrive { .. } => is_between(cause, 12, 12),
+            _ => false,
+        },
+    }
+}
+
+// Whether the word is the one that is owed.
+fn is_owed(owed: Option<Word>, word: Word) -> bool
+    ensures { result ≡ is_owed owed word }
+{
+    match owed {
+        Some(due) => due == word,
+        None => false,
+    }
+}
+
+// Whether a cause has one of these numbers, the first and the last among them.
+fn is_between(cause: Cause, first: u8, last: u8) -> bool
+    ensures { result ≡ is_between cause first last }
+{
+    first <= cause.number() && cause.number() <= last
+}
+
+// Whether a load may be refused for this cause.
+fn load_refused(inside: bool, owed: bool, cause: Cause) -> bool
+    ensures { result ≡ load_refusals inside owed cause }
+{
+    match (inside, owed) {
+        (false, _) => is_between(cause, 1, 1),
+        (true, true) => is_between(cause, 3, 3),
+        (true, false) => is_between(cause, 4, 10),
+    }
+}
+
+// Whether a store may be refused for this cause.
+fn store_refused(inside: bool, any_lane: bool, cause: Cause) -> bool
+    ensures { result ≡ store_refusals inside any_lane cause }
+{
+    match (inside, any_lane) {
+        (false, _) => is_between(cause, 1, 1),
+        (true, false) => is_between(cause, 2, 2),
+        (true, true) => is_between(cause, 6, 10),
+    }
+}
+
+// Whether a prefetch may be refused for this cause.
+fn prefetch_refused(inside: bool, cause: Cause) -> bool
+    ensures { result ≡ prefetch_refusals inside cause }
+{
+    if inside {
+        is_between(cause, 6, 10)
+    } else {
+        is_between(cause, 1, 1)
+    }
+}
