@@ -1,0 +1,171 @@
+-- A missing block gets a frame and a register, and its words are asked for.
+use Rattle.std.proofs.Common.{◌≡◌, ℕ, zero, suc, ◌+◌, ◌<◌, true, false, cond, not, ◌==◌, List, [], ◌++◌, map, length, get_or, set, Option, Some, None, refl, sym, ap, ◌∙◌, arith, ◌⊎◌, inl, inr, ⊎_elim, mod-lt, div-add-mod', get_or-set_same, get_or-set_other, add-zero, eq-eqb, ne_eqb}
+use Rattle.std.specs.List.{range_with_len}
+use Rattle.std.proofs.lemmas.Bool.{cases_eq, and_parts}
+use Rattle.flat_model.specs.declared.Word.{Word}
+use Rattle.flat_model.specs.Words.{zero_word, no_lanes}
+use Rattle.write_queue.specs.declared.Queued.{Queued}
+use Rattle.write_queue.specs.Queue.{overlaid, queued_lanes}
+use Rattle.input_stack.specs.Stack.{stack_word}
+use Rattle.cache_unit.specs.State.{Sizes, Frame, Field, Register, Cache, zero_cell, empty_frame, clear_field, free_register, frame_at, frame_of, register_at, field_at, is_live, live_for, cell_in, gathered, targets_of, targets_of_field, targets, block_of, place_in, address}
+use Rattle.cache_unit.specs.Causes.{dirty_words}
+use Rattle.cache_unit.specs.Steps.{fresh_frame, fresh_register}
+use Rattle.cache_unit.specs.Forms.{Form, Asked, bytes_of, missing_form, over_form, form_in}
+use Rattle.cache_unit.specs.FormLaws.{form_at, words_without, asked_form, missed_words, fetched_words}
+use Rattle.cache_unit.specs.SoundCache.{IsSoundCache}
+use Rattle.cache_unit.proofs.FormsLists.{gathered_part}
+use Rattle.cache_unit.proofs.FormsFinding.{live_for-some, none_in_frames}
+use Rattle.cache_unit.proofs.FormsPlaces.{frame-stays, frame-comes, frame-goes, holds-not, live-stays, live-comes, serves-not, stack_word-none}
+use Rattle.cache_unit.proofs.FormsSame.{form_at-same, form_at-live, form_at-absent}
+use Rattle.cache_unit.proofs.FormsEvicting.{cell-other}
+
+range_at : {X : Type 0} (g : ℕ → X) (d : X) (a n j : ℕ) → j < n → get_or (map g (range_with_len a n)) j d ≡ g (a + j)
+range_at g d a zero j l = absurd (omega arith)
+range_at g d a (suc n) zero l = ap g (sym (add-zero a))
+range_at g d a (suc n) (suc j) l = let e : a + 1 + j ≡ a + suc j = omega arith in range_at g d (a + 1) n j (omega arith) ∙ ap g e
+
+range_length : {X : Type 0} (g : ℕ → X) (a n : ℕ) → length (map g (range_with_len a n)) ≡ n
+range_length g a zero = refl
+range_length g a (suc n) = ap suc (range_length g (a + 1) n)
+
+no_loads : (queue : List Queued) (slot n a k : ℕ) → gathered (targets_of_field slot) n (map (λ (at : ℕ). let f : Field = record { processed = false; code = queued_lanes queue at; waiting = [] } in f) (range_with_len a k)) ≡ []
+no_loads queue slot n a zero = refl
+no_loads queue slot n a (suc k) = no_loads queue slot (suc n) (a + 1) k
+
+address_is : (z : Sizes) (at : ℕ) → address z (block_of z at) 0 + place_in z at ≡ at
+address_is z at = let e = div-add-mod' at z.block_words in omega arith
+
+-- the unit in which a block is present
+pub record FetchedBy (z : Sizes) (c : Cache) (block : ℕ) (d : Cache) : Type 0 where
+  pub words : (at : ℕ) → form_at z d at ≡ fetched_words z c block at
+  pub same_targets : targets d.registers ≡ targets c.registers
+  pub same_ready : d.ready ≡ c.ready
+  pub same_stack : d.stack ≡ c.stack
+  pub frame : ℕ
+  pub present : frame_of d block ≡ Some frame
+  pub cells : length (frame_at d frame).cells ≡ z.block_words
+  pub fields : (s : ℕ) → live_for d block ≡ Some s → length (register_at d s).fields ≡ z.block_words
+
+module _ (z : Sizes) (c : Cache) (h : IsSoundCache z c) (block f slot : ℕ) (absent : frame_of c block ≡ None) (f_there : f < length c.frames) (slot_there : slot < length c.registers) (invalid : (register_at c slot).valid ≡ false) (orders : List (List ℕ)) where
+  abbrev queue_then : List Queued
+  queue_then = c.queue ++ dirty_words z c (Some f)
+
+  abbrev with_block : Cache
+  with_block =
+      record {
+        frames = set c.frames f (fresh_frame z queue_then block);
+        orders = orders;
+        registers = set c.registers slot (fresh_register z queue_then block);
+        stack = c.stack;
+        queue = queue_then;
+        ready = c.ready;
+      }
+
+  -- ---- frames and registers
+
+  own_frame : frame_at with_block f ≡ fresh_frame z queue_then block
+  own_frame = get_or-set_same c.frames f _ empty_frame f_there
+
+  own_register : register_at with_block slot ≡ fresh_register z queue_then block
+  own_register = get_or-set_same c.registers slot _ free_register slot_there
+
+  found_now : frame_of with_block block ≡ Some f
+  found_now =
+      frame-comes c with_block f (fresh_frame z queue_then block) block refl f_there refl (λ k e. absurd (none_in_frames c block absent k e))
+
+  live_now : live_for with_block block ≡ Some slot
+  live_now =
+      live-comes c with_block slot (fresh_register z queue_then block) block refl slot_there (eq-eqb block block refl) (λ t l e. let p = h.live_present t l in absurd (none_in_frames c block absent p.0 (p.1 ∙ ap Some e)))
+
+  not_live : is_live (register_at c slot) ≡ true → ⊥
+  not_live l = let v = (and_parts (register_at c slot).valid (not (register_at c slot).obsolete) l).0 in cc
+
+  live_same : (b : ℕ) → (b ≡ block → ⊥) → live_for with_block b ≡ live_for c b
+  live_same b n =
+      live-stays c with_block slot (fresh_register z queue_then block) b refl (ne_eqb block b (λ q. n (sym q)) ∙ sym (serves-not (register_at c slot) b (λ l e. not_live l)))
+
+  -- ---- the block's words
+
+  own_cell : (j : ℕ) → j < z.block_words → cell_in with_block (Some f) j ≡ record { word = overlaid zero_word queue_then (address z block 0 + j); dirty = no_lanes }
+  own_cell j l =
+      ap (λ (x : Frame). get_or x.cells j zero_cell) own_frame ∙ range_at (λ at. record { word = overlaid zero_word queue_then at; dirty = no_lanes }) zero_cell (address z block 0) z.block_words j l
+
+  own_field : (j : ℕ) → j < z.block_words → field_at with_block slot j ≡ record { processed = false; code = queued_lanes queue_then (address z block 0 + j); waiting = [] }
+  own_field j l =
+      ap (λ (r : Register). get_or r.fields j clear_field) own_register ∙ range_at (λ at. record { processed = false; code = queued_lanes queue_then at; waiting = [] }) clear_field (address z block 0) z.block_words j l
+
+  none_came : (j : ℕ) → stack_word c.stack slot j ≡ None
+  none_came j =
+      stack_word-none c.stack slot j (λ k e q s i. let v : (register_at c slot).valid ≡ true = ap (λ x. (register_at c x).valid) (sym s) ∙ (h.entries k e q).valid in cc)
+
+  abbrev form_with : ℕ → Word → Field → Option Word → Form
+  form_with j w x o = cond x.processed (bytes_of w) (over_form x.code w (missing_form o slot j))
+
+  word_asked : (at : ℕ) → block_of z at ≡ block → form_at z with_block at ≡ Some (asked_form z queue_then slot at)
+  word_asked at e =
+      let j = place_in z at in
+      let l : place_in z at < z.block_words = mod-lt at h.some_words in
+      let a : address z block 0 + place_in z at ≡ at = ap (λ b. address z b 0 + place_in z at) (sym e) ∙ address_is z at in
+      let w = overlaid zero_word queue_then (address z block 0 + place_in z at) in
+      form_at-live z with_block at f slot (place_in z at) (ap (frame_of with_block) e ∙ found_now) (ap (live_for with_block) e ∙ live_now) refl ∙ ap (λ x. Some (form_in with_block (Some slot) (place_in z at) x.word)) (own_cell (place_in z at) l) ∙ ap (λ x. Some (form_with (place_in z at) w x (stack_word c.stack slot (place_in z at)))) (own_field (place_in z at) l) ∙ ap (λ o. Some (over_form (queued_lanes queue_then (address z block 0 + place_in z at)) w (missing_form o slot (place_in z at)))) (none_came (place_in z at)) ∙ ap (λ n. Some (over_form (queued_lanes queue_then n) (overlaid zero_word queue_then n) (λ k. Asked slot (place_in z at) k))) a
+
+  -- ---- the other words
+
+  word_kept : (at : ℕ) → (block_of z at ≡ block → ⊥) → form_at z with_block at ≡ words_without z (form_at z c) (frame_at c f).block at
+  word_kept at n = ⊎_elim gone stays (cases_holds (frame_at c f).block refl)
+    where
+      b : ℕ
+      b = block_of z at
+
+      cases_holds : (o : Option ℕ) → (frame_at c f).block ≡ o → ((frame_at c f).block ≡ Some (block_of z at)) ⊎ ((frame_at c f).block ≡ Some (block_of z at) → ⊥)
+      cases_holds None e = inr (λ q. cc)
+      cases_holds (Some x) e = ⊎_elim (λ q. inl (e ∙ ap Some q)) (λ q. inr (λ p. let s : Some x ≡ Some (block_of z at) = sym e ∙ p in let t : x ≡ block_of z at = cc in q t)) (cases_eq x (block_of z at))
+
+      other : Some block ≡ Some (block_of z at) → ⊥
+      other q = let s : block_of z at ≡ block = cc in n s
+
+      gone : (frame_at c f).block ≡ Some (block_of z at) → form_at z with_block at ≡ words_without z (form_at z c) (frame_at c f).block at
+      gone e =
+          form_at-absent z with_block at (frame-goes c with_block f (fresh_frame z queue_then block) (block_of z at) refl f_there other (λ k q. h.frames_apart k f (block_of z at) q e)) ∙ sym (ap (λ o. words_without z (form_at z c) o at) e ∙ ap (λ x. cond x None (form_at z c at)) (eq-eqb (block_of z at) (block_of z at) refl))
+
+      stays : ((frame_at c f).block ≡ Some (block_of z at) → ⊥) → form_at z with_block at ≡ words_without z (form_at z c) (frame_at c f).block at
+      stays far =
+          let no = holds-not (frame_at c f) (block_of z at) far in
+          let ef = frame-stays c with_block f (fresh_frame z queue_then block) (block_of z at) refl (ne_eqb block (block_of z at) (λ q. n (sym q)) ∙ sym no) in
+          form_at-same z c with_block at ef (live_same (block_of z at) n) (ap (λ x. x.word) (cell-other z c with_block at f (fresh_frame z queue_then block) refl ef far)) (λ t l.
+          let same = get_or-set_other c.registers slot t (fresh_register z queue_then block) free_register (λ q. not_live (ap (λ x. is_live (register_at c x)) (sym q) ∙ (live_for-some c (block_of z at) t l).0)) in
+          (ap (λ (r : Register). (get_or r.fields (place_in z at) clear_field).processed) same, ap (λ (r : Register). (get_or r.fields (place_in z at) clear_field).code) same, refl)) ∙ sym (ap (λ x. cond x None (form_at z c at)) no)
+
+  word_missed : (at : ℕ) → form_at z with_block at ≡ missed_words z c block (Some f) (Some slot) at
+  word_missed at = ⊎_elim here there (cases_eq (block_of z at) block)
+    where
+      old : Option Form
+      old = words_without z (form_at z c) (frame_at c f).block at
+
+      here : block_of z at ≡ block → form_at z with_block at ≡ cond (block_of z at == block) (Some (asked_form z queue_then slot at)) (words_without z (form_at z c) (frame_at c f).block at)
+      here e = word_asked at e ∙ sym (ap (λ x. cond x (Some (asked_form z queue_then slot at)) old) (eq-eqb (block_of z at) block e))
+
+      there : (block_of z at ≡ block → ⊥) → form_at z with_block at ≡ cond (block_of z at == block) (Some (asked_form z queue_then slot at)) (words_without z (form_at z c) (frame_at c f).block at)
+      there n = word_kept at n ∙ sym (ap (λ x. cond x (Some (asked_form z queue_then slot at)) old) (ne_eqb (block_of z at) block n))
+
+  -- ---- what is owed
+
+  targets_kept : targets with_block.registers ≡ targets c.registers
+  unfolding targets
+  targets_kept =
+      let p = gathered_part targets_of free_register 0 c.registers slot slot_there in
+      let r = register_at c slot in
+      p.then (fresh_register z queue_then block) ∙ ap (λ l. p.front ++ (l ++ p.back)) (no_loads queue_then (0 + slot) 0 (address z block 0) z.block_words ∙ sym (ap (λ v. cond v (gathered (targets_of_field (0 + slot)) 0 r.fields) []) invalid)) ∙ sym p.now
+
+  pub installed-by : (words : ℕ → Option Form) → words ≡ missed_words z c block (Some f) (Some slot) → fetched_words z c block ≡ words → FetchedBy z c block with_block
+  installed-by words e k =
+      record {
+        words = λ at. word_missed at ∙ ap (λ g. g at) (sym (k ∙ e));
+        same_targets = targets_kept;
+        same_ready = refl;
+        same_stack = refl;
+        frame = f;
+        present = found_now;
+        cells = ap (λ (x : Frame). length x.cells) own_frame ∙ range_length _ (address z block 0) z.block_words;
+        fields = λ s l. let q : s ≡ slot = let e : Some s ≡ Some slot = sym l ∙ live_now in cc in ap (λ x. length (register_at with_block x).fields) q ∙ ap (λ (r : Register). length r.fields) own_register ∙ range_length _ (address z block 0) z.block_words;
+      }

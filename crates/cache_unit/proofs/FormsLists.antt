@@ -1,0 +1,257 @@
+-- Lists: counts of what passes a test, one element more, parts of a gathered list.
+use Rattle.std.proofs.Common.{◌≡◌, ℕ, zero, suc, ◌+◌, ◌<◌, ◌≤◌, Bool, true, false, cond, List, [], ◌∷◌, ◌++◌, map, length, get_or, set, take, drop, Option, Some, None, option_map, find, remove, filter, refl, sym, ap, ap₂, ◌∙◌, subst, arith, slice_get, flat_map, append_assoc, append-nil, add-zero, zero-add}
+use Rattle.std.specs.Option.{option_or}
+use Rattle.std.proofs.lemmas.List.Folds.{find-append}
+use Rattle.flat_model.specs.Places.{place_of}
+use Rattle.cache_unit.specs.State.{gathered}
+
+-- ---- counts
+
+abbrev pub bit : Bool → ℕ
+bit true = 1
+bit false = 0
+
+abbrev pub tally : {X : Type 0} → (X → Bool) → List X → ℕ
+tally p [] = 0
+tally p (x ∷ xs) = bit (p x) + tally p xs
+
+pub tally-append : {X : Type 0} (p : X → Bool) (xs ys : List X) → tally p (xs ++ ys) ≡ tally p xs + tally p ys
+tally-append p [] ys = sym (zero-add (tally p ys))
+tally-append p (x ∷ xs) ys = let ih = tally-append p xs ys in omega arith
+
+pub find_none : {X : Type 0} (p : X → Bool) (xs : List X) → tally p xs ≡ 0 → find p xs ≡ None
+find_none p [] h = refl
+find_none p (x ∷ xs) h =
+    elim (p x) as (λ b. bit b + tally p xs ≡ 0 → cond b (Some x) (find p xs) ≡ None) [ true ↦ λ k. absurd (omega arith) | false ↦ λ k. find_none p xs (omega arith) ] h
+
+pub none_from_find : {X : Type 0} (p : X → Bool) (xs : List X) → find p xs ≡ None → tally p xs ≡ 0
+none_from_find p [] h = refl
+none_from_find p (x ∷ xs) h =
+    elim (p x) as (λ b. cond b (Some x) (find p xs) ≡ None → bit b + tally p xs ≡ 0) [ true ↦ λ k. cc | false ↦ λ k. let ih = none_from_find p xs k in omega arith ] h
+
+pub some_from_find : {X : Type 0} (p : X → Bool) (xs : List X) (x : X) → find p xs ≡ Some x → 1 ≤ tally p xs
+some_from_find p [] x h = cc
+some_from_find p (y ∷ xs) x h =
+    elim (p y) as (λ b. cond b (Some y) (find p xs) ≡ Some x → 1 ≤ bit b + tally p xs) [ true ↦ λ k. omega arith | false ↦ λ k. let ih = some_from_find p xs x k in omega arith ] h
+
+-- what is found passes
+pub passes_from_find : {X : Type 0} (p : X → Bool) (xs : List X) (x : X) → find p xs ≡ Some x → p x ≡ true
+passes_from_find p [] x h = cc
+passes_from_find p (y ∷ xs) x h =
+    go (p y) refl (passes_from_find p xs x) h
+  where
+    go : (b : Bool) → p y ≡ b → (find p xs ≡ Some x → p x ≡ true) → cond b (Some y) (find p xs) ≡ Some x → p x ≡ true
+    go true e rest k = let same : y ≡ x = cc in ap p (sym same) ∙ e
+    go false e rest k = rest k
+
+-- where at most one passes, two parts may change places
+pub option_or_comm : {X : Type 0} (p : X → Bool) (xs ys : List X) → tally p xs + tally p ys ≤ 1 → option_or (find p xs) (find p ys) ≡ option_or (find p ys) (find p xs)
+option_or_comm p xs ys h = go (find p xs) (find p ys) refl refl
+  where
+    go : (a b : Option _) → find p xs ≡ a → find p ys ≡ b → option_or a b ≡ option_or b a
+    go None None e k = refl
+    go None (Some y) e k = refl
+    go (Some x) None e k = refl
+    go (Some x) (Some y) e k = absurd (omega (arith, some_from_find p xs x e, some_from_find p ys y k))
+
+-- ---- one element more
+
+pub record Adds {X : Type 0} (x : X) (xs ys : List X) : Type 0 where
+  pub front : List X
+  pub back : List X
+  pub without : xs ≡ front ++ back
+  pub with : ys ≡ front ++ x ∷ back
+
+pub Adds-tally : {X : Type 0} (p : X → Bool) (x : X) (xs ys : List X) → Adds x xs ys → tally p ys ≡ bit (p x) + tally p xs
+Adds-tally p x xs ys a =
+    let e = ap (tally p) a.without ∙ tally-append p a.front a.back in
+    let k = ap (tally p) a.with ∙ tally-append p a.front (x ∷ a.back) in
+    omega arith
+
+pub Adds-find_other : {X : Type 0} (p : X → Bool) (x : X) (xs ys : List X) → Adds x xs ys → p x ≡ false → find p ys ≡ find p xs
+Adds-find_other p x xs ys a h =
+    ap (find p) a.with ∙ find-append p a.front (x ∷ a.back) ∙ ap (λ b. option_or (find p a.front) (cond b (Some x) (find p a.back))) h ∙ sym (find-append p a.front a.back) ∙ sym (ap (find p) a.without)
+
+pub Adds-find_same : {X : Type 0} (p : X → Bool) (x : X) (xs ys : List X) → Adds x xs ys → p x ≡ true → tally p xs ≡ 0 → find p ys ≡ Some x
+Adds-find_same p x xs ys a h none =
+    let e = ap (tally p) a.without ∙ tally-append p a.front a.back in
+    let front_none = find_none p a.front (omega arith) in
+    ap (find p) a.with ∙ find-append p a.front (x ∷ a.back) ∙ ap (λ o. option_or o (cond (p x) (Some x) (find p a.back))) front_none ∙ ap (λ b. cond b (Some x) (find p a.back)) h
+
+pub Adds-same : {X : Type 0} (x : X) (xs ys xs' ys' : List X) → xs' ≡ xs → ys' ≡ ys → Adds x xs ys → Adds x xs' ys'
+Adds-same x xs ys xs' ys' p q a =
+    record { front = a.front; back = a.back; without = p ∙ a.without; with = q ∙ a.with }
+
+pub Adds-push : {X : Type 0} (x : X) (xs : List X) → Adds x xs (xs ++ x ∷ [])
+Adds-push x xs = record { front = xs; back = []; without = sym (append-nil xs); with = refl }
+
+pub Adds-left : {X : Type 0} (zs : List X) (x : X) (xs ys : List X) → Adds x xs ys → Adds x (zs ++ xs) (zs ++ ys)
+Adds-left zs x xs ys a =
+    record {
+      front = zs ++ a.front;
+      back = a.back;
+      without = ap (λ l. zs ++ l) a.without ∙ sym (append_assoc zs a.front a.back);
+      with = ap (λ l. zs ++ l) a.with ∙ sym (append_assoc zs a.front (x ∷ a.back));
+    }
+
+pub Adds-right : {X : Type 0} (zs : List X) (x : X) (xs ys : List X) → Adds x xs ys → Adds x (xs ++ zs) (ys ++ zs)
+Adds-right zs x xs ys a =
+    record {
+      front = a.front;
+      back = a.back ++ zs;
+      without = ap (λ l. l ++ zs) a.without ∙ append_assoc a.front a.back zs;
+      with = ap (λ l. l ++ zs) a.with ∙ append_assoc a.front (x ∷ a.back) zs;
+    }
+
+map-append' : {X Y : Type 0} (f : X → Y) (xs ys : List X) → map f (xs ++ ys) ≡ map f xs ++ map f ys
+map-append' f [] ys = refl
+map-append' f (x ∷ xs) ys = ap (λ l. f x ∷ l) (map-append' f xs ys)
+
+pub Adds-map : {X Y : Type 0} (f : X → Y) (x : X) (xs ys : List X) → Adds x xs ys → Adds (f x) (map f xs) (map f ys)
+Adds-map f x xs ys a =
+    record {
+      front = map f a.front;
+      back = map f a.back;
+      without = ap (map f) a.without ∙ map-append' f a.front a.back;
+      with = ap (map f) a.with ∙ map-append' f a.front (x ∷ a.back);
+    }
+
+-- a removal, read backwards
+pub Adds-remove : {X : Type 0} (x : X) (xs : List X) (k : ℕ) → slice_get xs k ≡ Some x → Adds x (remove xs k) xs
+Adds-remove x xs k h = record { front = take k xs; back = drop (suc k) xs; without = refl; with = split xs k h }
+  where
+    split : (l : List _) (n : ℕ) → slice_get l n ≡ Some x → l ≡ take n l ++ x ∷ drop (suc n) l
+    split [] n e = cc
+    split (y ∷ l) zero e = let same : y ≡ x = cc in ap (λ v. v ∷ l) same
+    split (y ∷ l) (suc n) e = ap (λ v. y ∷ v) (split l n e)
+
+-- ---- the first place
+
+pub place_of-none : {X : Type 0} (p : X → Bool) (d : X) (xs : List X) → p d ≡ false → place_of p xs ≡ None → (k : ℕ) → p (get_or xs k d) ≡ false
+place_of-none p d [] hd h k = hd
+place_of-none p d (x ∷ xs) hd h zero = elim (p x) as (λ b. cond b (Some 0) (option_map (λ k. suc k) (place_of p xs)) ≡ None → b ≡ false) [ true ↦ λ e. cc | false ↦ λ e. refl ] h
+place_of-none p d (x ∷ xs) hd h (suc k) = place_of-none p d xs hd (go (p x) (place_of p xs) h) k
+  where
+    go : (b : Bool) (o : Option ℕ) → cond b (Some 0) (option_map (λ k. suc k) o) ≡ None → o ≡ None
+    go true o e = cc
+    go false None e = refl
+    go false (Some j) e = cc
+
+pub place_of-some : {X : Type 0} (p : X → Bool) (d : X) (xs : List X) (k : ℕ) → place_of p xs ≡ Some k → (k < length xs) × (p (get_or xs k d) ≡ true)
+place_of-some p d [] k h = cc
+place_of-some p d (x ∷ xs) k h = go (λ j. place_of-some p d xs j) (p x) refl (place_of p xs) refl h
+  where
+    go : ((j : ℕ) → place_of p xs ≡ Some j → (j < length xs) × (p (get_or xs j d) ≡ true)) → (b : Bool) → p x ≡ b → (o : Option ℕ) → place_of p xs ≡ o → cond b (Some 0) (option_map (λ j. suc j) o) ≡ Some k → (k < suc (length xs)) × (p (get_or (x ∷ xs) k d) ≡ true)
+    go rest true e o q r = let z : 0 ≡ k = cc in (omega arith, subst (λ j. p (get_or (x ∷ xs) j d) ≡ true) z e)
+    go rest false e None q r = cc
+    go rest false e (Some j) q r =
+        let z : suc j ≡ k = cc in
+        let ih = rest j q in
+        (omega arith, subst (λ n. p (get_or (x ∷ xs) n d) ≡ true) z ih.1)
+
+pub place_of-only : {X : Type 0} (p : X → Bool) (d : X) (xs : List X) (k : ℕ) → p d ≡ false → p (get_or xs k d) ≡ true → ((j : ℕ) → p (get_or xs j d) ≡ true → j ≡ k) → place_of p xs ≡ Some k
+place_of-only p d xs k hd h only = go (place_of p xs) refl
+  where
+    go : (o : Option ℕ) → place_of p xs ≡ o → place_of p xs ≡ Some k
+    go None e = let f = place_of-none p d xs hd e k in cc
+    go (Some j) e = let s = place_of-some p d xs j e in e ∙ ap Some (only j s.1)
+
+pub place_of-all_none : {X : Type 0} (p : X → Bool) (d : X) (xs : List X) → ((j : ℕ) → p (get_or xs j d) ≡ false) → place_of p xs ≡ None
+place_of-all_none p d xs h = go (place_of p xs) refl
+  where
+    go : (o : Option ℕ) → place_of p xs ≡ o → place_of p xs ≡ None
+    go None e = e
+    go (Some j) e = let s = place_of-some p d xs j e in let f = h j in cc
+
+-- two lists of which the tests say the same at each place
+pub place_of-same : {X Y : Type 0} (p : X → Bool) (q : Y → Bool) (xs : List X) (ys : List Y) → map p xs ≡ map q ys → place_of p xs ≡ place_of q ys
+place_of-same p q [] [] h = refl
+place_of-same p q [] (y ∷ ys) h = cc
+place_of-same p q (x ∷ xs) [] h = cc
+place_of-same p q (x ∷ xs) (y ∷ ys) h =
+    let head : p x ≡ q y = cc in
+    let tail : map p xs ≡ map q ys = cc in
+    let ih = place_of-same p q xs ys tail in
+    cc
+
+-- ---- parts of a gathered list
+
+-- the part at place k, and what stands there once that element is another
+pub record Part {X Y : Type 0} (whole : List X → List Y) (xs : List X) (k : ℕ) (part : X → List Y) (x : X) : Type 0 where
+  pub front : List Y
+  pub back : List Y
+  pub now : whole xs ≡ front ++ (part x ++ back)
+  pub then : (y : X) → whole (set xs k y) ≡ front ++ (part y ++ back)
+
+pub gathered_part : {X Y : Type 0} (f : ℕ → X → List Y) (d : X) (n : ℕ) (xs : List X) (k : ℕ) → k < length xs → Part (gathered f n) xs k (f (n + k)) (get_or xs k d)
+gathered_part f d n [] k h = absurd (omega arith)
+gathered_part f d n (x ∷ xs) zero h =
+    let e = add-zero n in
+    record {
+      front = [];
+      back = gathered f (suc n) xs;
+      now = ap (λ j. f j x ++ gathered f (suc n) xs) (sym e);
+      then = λ y. ap (λ j. f j y ++ gathered f (suc n) xs) (sym e);
+    }
+gathered_part f d n (x ∷ xs) (suc k) h =
+    let ih = gathered_part f d (suc n) xs k (omega arith) in
+    let e : suc n + k ≡ n + suc k = omega arith in
+    record {
+      front = f n x ++ ih.front;
+      back = ih.back;
+      now = ap (λ l. f n x ++ l) ih.now ∙ sym (append_assoc (f n x) ih.front _) ∙ ap (λ j. (f n x ++ ih.front) ++ (f j (get_or xs k d) ++ ih.back)) e;
+      then = λ y. ap (λ l. f n x ++ l) (ih.then y) ∙ sym (append_assoc (f n x) ih.front _) ∙ ap (λ j. (f n x ++ ih.front) ++ (f j y ++ ih.back)) e;
+    }
+
+pub flat_map_part : {X Y : Type 0} (f : X → List Y) (d : X) (xs : List X) (k : ℕ) → k < length xs → Part (flat_map f) xs k f (get_or xs k d)
+flat_map_part f d [] k h = absurd (omega arith)
+flat_map_part f d (x ∷ xs) zero h = record { front = []; back = flat_map f xs; now = refl; then = λ y. refl }
+flat_map_part f d (x ∷ xs) (suc k) h =
+    let ih = flat_map_part f d xs k (omega arith) in
+    record {
+      front = f x ++ ih.front;
+      back = ih.back;
+      now = ap (λ l. f x ++ l) ih.now ∙ sym (append_assoc (f x) ih.front _);
+      then = λ y. ap (λ l. f x ++ l) (ih.then y) ∙ sym (append_assoc (f x) ih.front _);
+    }
+
+-- ---- a list with one element changed
+
+-- it is read at any place as before, where the new element reads so
+pub read_set : {X Y : Type 0} (f : X → Y) (d : X) (xs : List X) (k : ℕ) (y : X) → f y ≡ f (get_or xs k d) → (j : ℕ) → f (get_or (set xs k y) j d) ≡ f (get_or xs j d)
+read_set f d [] k y e j = refl
+read_set f d (x ∷ xs) zero y e zero = e
+read_set f d (x ∷ xs) zero y e (suc j) = refl
+read_set f d (x ∷ xs) (suc k) y e zero = refl
+read_set f d (x ∷ xs) (suc k) y e (suc j) = read_set f d xs k y e j
+
+-- ---- counts of what is mapped
+
+pub tally-map : {X Y : Type 0} (f : X → Y) (p : Y → Bool) (xs : List X) → tally p (map f xs) ≡ tally (λ x. p (f x)) xs
+tally-map f p [] = refl
+tally-map f p (x ∷ xs) = ap (λ n. bit (p (f x)) + n) (tally-map f p xs)
+
+pub tally-filter : {X : Type 0} (p : X → Bool) (xs : List X) → length (filter p xs) ≡ tally p xs
+tally-filter p [] = refl
+tally-filter p (x ∷ xs) =
+    elim (p x) as (λ b. length (cond b (x ∷ filter p xs) (filter p xs)) ≡ bit b + tally p xs) [ true ↦ let e = tally-filter p xs in omega arith | false ↦ let e = tally-filter p xs in omega arith ]
+
+pub map-same : {X Y : Type 0} (f g : X → Y) (xs : List X) → ((x : X) → f x ≡ g x) → map f xs ≡ map g xs
+map-same f g [] h = refl
+map-same f g (x ∷ xs) h = ap₂ (λ y ys. y ∷ ys) (h x) (map-same f g xs h)
+
+pub find-map : {X Y : Type 0} (f : X → Y) (p : Y → Bool) (xs : List X) → find p (map f xs) ≡ option_map f (find (λ x. p (f x)) xs)
+find-map f p [] = refl
+find-map f p (x ∷ xs) =
+    elim (p (f x)) as (λ b. cond b (Some (f x)) (find p (map f xs)) ≡ option_map f (cond b (Some x) (find (λ y. p (f y)) xs))) [ true ↦ refl | false ↦ find-map f p xs ]
+
+-- the only element that passes is found
+pub find-only : {X : Type 0} (p : X → Bool) (xs : List X) (k : ℕ) (x : X) → slice_get xs k ≡ Some x → p x ≡ true → ((j : ℕ) (y : X) → slice_get xs j ≡ Some y → p y ≡ true → j ≡ k) → find p xs ≡ Some x
+find-only p [] k x at passes only = cc
+find-only p (y ∷ xs) zero x at passes only = let same : y ≡ x = cc in ap (λ b. cond b (Some y) (find p xs)) (ap p same ∙ passes) ∙ ap Some same
+find-only p (y ∷ xs) (suc k) x at passes only =
+    go (p y) refl (find-only p xs k x at passes (λ j v e q. let n : suc j ≡ suc k = only (suc j) v e q in omega arith))
+  where
+    go : (b : Bool) → p y ≡ b → find p xs ≡ Some x → cond b (Some y) (find p xs) ≡ Some x
+    go true e rest = let n : 0 ≡ suc k = only 0 y refl e in absurd (omega arith)
+    go false e rest = rest

@@ -1,0 +1,9 @@
+pub mod FormsLists
+pub mod FormsParts
+pub mod FormsFinding
+pub mod FormsFields
+pub mod FormsSame
+pub mod FormsEvents
+pub mod FormsPlaces
+pub mod FormsEvicting
+pub mod FormsFetching
