@@ -3,3 +3,4 @@ pub mod Waiting
 pub mod Marks
 pub mod View
 pub mod Views
+pub mod Whole

@@ -6,17 +6,19 @@ ghost use Rattle.std.specs.Prelude.{◌≡◌, ◌<◌, ◌++◌, [], ◌∷◌,
 mod file;
 mod slot;
 
-pub use file::RegisterFile;
-
 use arrayvec::ArrayVec;
+pub use file::RegisterFile;
 use flat_model::{Lanes, Word};
 use std::marker::Model;
 
 /// A load that waits for a word, and the bytes that it has already.
 #[derive(Clone, Copy, PartialEq, Eq, Debug, Default)]
 pub struct Owed {
+    /// The load's tag.
     pub tag: u16,
+    /// The bytes that it has already, in the lanes.
     pub held: Word,
+    /// The lanes that the arriving word mustn't give it.
     pub lanes: Lanes,
 }
 
@@ -103,12 +105,14 @@ impl OwedList {
         self.items.push(owed);
     }
 
+    /// How many loads there are: four at most.
     pub fn len(&self) -> u32
         ensures { result ≡ length self.now }
     {
         self.items.len() as u32
     }
 
+    /// The load at a place, counted from 0; None where there is none.
     pub fn get(&self, place: u32) -> Option<Owed>
         ensures { result ≡ slice_get self.now place }
     {
@@ -116,11 +120,15 @@ impl OwedList {
     }
 }
 
-/// What became of a word that has come.
+/// What a word that is processed leaves to do.
 #[derive(Drop)]
 pub struct WordEnd {
+    /// The loads that waited for it, in the order in which they were accepted.
     pub send: OwedList,
+    /// Its code: the lanes of the buffer that the word mustn't change.
     pub keep: Lanes,
+    /// The frame that the word goes into, where the register is live.
     pub live: Option<u32>,
+    /// Whether it was the last word of its block, so that the register is free now.
     pub last: bool,
 }

@@ -1,15 +1,20 @@
 //! One register.
-ghost use Rattle.std.specs.Prelude.{ℕ, ◌≡◌, ◌<◌, ◌≤◌, ◌&&◌, ◌==◌, length, slice_set, slice_index_or, IsTrue, true, false, None, Some, if◌then◌else◌, map, replicate};
-ghost use Rattle.std.specs.List.{list_all, filter};
-ghost use Rattle.miss_registers.specs.Registers.{free_register, field_of, awaited, finished, finished_fields, is_live, made_obsolete, fresh, expects, marked};
+ghost use Rattle.std.specs.Prelude.{ℕ, ◌≡◌, ◌<◌, ◌≤◌, ◌&&◌, ◌==◌, nat_lt, length, slice_set, slice_get, IsTrue, true, false, not, None, Some, if◌then◌else◌, map, replicate, count_by};
+ghost use Rattle.std.specs.List.{list_all, list_any, filter};
+ghost use Rattle.miss_registers.specs.Registers as spec;
+ghost use Rattle.miss_registers.specs.Views as shows;
 ghost use Rattle.miss_registers.specs.Waiting.{waiting_of, waits_elsewhere};
-ghost use Rattle.miss_registers.specs.Marks.{clear_mark, finished_mark, without_mark_code, expects_in, in_stack_mark};
+ghost use Rattle.miss_registers.specs.Marks.{clear_mark, finished_mark, without_mark_code, mark_at, expects_in, in_stack_mark, noted_mark};
 
-use crate::{Mark, Owed, OwedList, Target, WordEnd};
+use crate::{FieldView, Mark, Owed, OwedList, RegisterView, Target, WordEnd};
 use arrayvec::ArrayVec;
 use flat_model::Lanes;
 use std::marker::Model;
 
+/// A register: the block that it stands for, what is kept of each word, and the loads that wait.
+///
+/// The loads of all words stand in one list, in the order in which they were accepted, each with
+/// the number of its word. A free register keeps nothing.
 #[derive(Drop)]
 pub struct Slot {
     valid: bool,
@@ -33,8 +38,9 @@ impl Model for Slot {
 }
 
 impl Slot {
+    /// A free register.
     pub fn new() -> Self
-        ensures { result ≡ free_register }
+        ensures { result ≡ spec.free_register }
     {
         Slot {
             valid: false,
@@ -46,21 +52,24 @@ impl Slot {
         }
     }
 
+    /// Whether the register stands for a block.
     pub fn is_valid(&self) -> bool
         ensures { result ≡ self.now.valid }
     {
         self.valid
     }
 
+    /// Whether the register is live and stands for this block.
     pub fn is_live_for(&self, block: u32) -> bool
-        ensures { result ≡ (is_live self.now && self.now.block == block) }
+        ensures { result ≡ (spec.is_live self.now && self.now.block == block) }
     {
         self.valid && !self.obsolete && self.block == block
     }
 
+    /// Takes the register for a block of so many words, all of them still to come.
     pub fn allocate(&mut self, words: u32, block: u32, frame: u32)
         requires { words ≤ 16 }
-        ensures { self.new ≡ fresh words block frame }
+        ensures { self.new ≡ spec.fresh words block frame }
     {
         self.valid = true;
         self.obsolete = false;
@@ -70,53 +79,101 @@ impl Slot {
         self.targets.clear();
     }
 
+    /// One more load waits for word `i`, last in the word's list.
     pub fn await_word(&mut self, i: u32, owed: Owed)
         requires there { i < length self.old.fields }
-        requires room { length (field_of self.old i).waiting < 4 }
-        ensures { self.new ≡ awaited self.old i owed }
+        requires room { length (spec.field_of self.old i).waiting < 4 }
+        ensures { self.new ≡ spec.awaited self.old i owed }
     {
         self.targets.push(Target { i, owed });
     }
 
+    /// The lanes join the code of word `i`.
+    pub fn note_store(&mut self, i: u32, lanes: Lanes)
+        requires { i < length self.old.fields }
+        ensures { self.new ≡ spec.noted self.old i lanes }
+    {
+        join_code(&mut self.marks, i, lanes);
+    }
+
+    /// Answers the loads that wait for word `i`, and frees the register where it was the last word.
     pub fn finish_word(&mut self, i: u32) -> WordEnd
         requires there { i < length self.old.fields }
-        ensures register { self.new ≡ finished self.old i }
-        ensures send { result.send ≡ (field_of self.old i).waiting }
-        ensures keep { result.keep ≡ (field_of self.old i).code }
+        ensures register { self.new ≡ spec.finished self.old i }
+        ensures send { result.send ≡ (spec.field_of self.old i).waiting }
+        ensures keep { result.keep ≡ (spec.field_of self.old i).code }
         ensures live { result.live ≡ (if self.old.obsolete then None else Some self.old.frame) }
-        ensures last { result.last ≡ list_all (λ f. f.processed) (finished_fields self.old i) }
+        ensures last { result.last ≡ spec.is_done (spec.finished_fields self.old i) }
     {
         let send = waiting_for(self.targets.as_slice(), i);
         let keep = self.marks.as_slice()[i as usize].code;
-        let live = if self.obsolete { None } else { Some(self.frame) };
+        let live = if self.obsolete {
+            None
+        } else {
+            Some(self.frame)
+        };
         finish_mark(&mut self.marks, i);
         answer_word(&mut self.targets, i);
         let last = all_processed(self.marks.as_slice());
         if last {
-            self.valid = false;
+            self.free();
         }
-        WordEnd { send, keep, live, last }
+        WordEnd {
+            send,
+            keep,
+            live,
+            last,
+        }
     }
 
+    // The register is free, and its storage clear.
+    fn free(&mut self)
+        ensures { self.new ≡ spec.free_register }
+    {
+        self.valid = false;
+        self.obsolete = false;
+        self.block = 0;
+        self.frame = 0;
+        self.marks.clear();
+        self.targets.clear();
+    }
+
+    /// Whether word `i` is still to come: unprocessed, and not in the stack.
     pub fn expects(&self, i: u32) -> bool
-        ensures { result ≡ expects self.now i }
+        ensures { result ≡ spec.expects self.now i }
     {
         self.valid && expected_in(self.marks.as_slice(), i)
     }
 
+    /// Word `i` stands in the input stack.
     pub fn mark_in_stack(&mut self, i: u32)
         requires { i < length self.old.fields }
-        ensures { self.new ≡ marked self.old i }
+        ensures { self.new ≡ spec.marked self.old i }
     {
         put_in_stack(&mut self.marks, i);
     }
 
+    /// The register no longer changes the buffer, and its codes are cleared.
     pub fn make_obsolete(&mut self)
-        requires { self.old.valid ≡ true }
-        ensures { self.new ≡ made_obsolete self.old }
+        ensures { self.new ≡ spec.made_obsolete self.old }
     {
         self.obsolete = true;
         clear_codes(&mut self.marks);
+    }
+
+    /// Whether a load with this tag waits for one of the words.
+    pub fn tag_waits(&self, tag: u16) -> bool
+        ensures { result ≡ spec.has_tag (spec.tags_of self.now) tag }
+    {
+        tag_among(self.targets.as_slice(), tag)
+    }
+
+    /// How many loads wait for words of this register: 64 at most.
+    pub fn awaited(&self) -> u32
+        ensures count { result ≡ length (spec.tags_of self.now) }
+        ensures few { result ≤ 64 }
+    {
+        self.targets.len() as u32
     }
 }
 
@@ -139,6 +196,12 @@ fn answer_word(targets: &mut ArrayVec<Target, 64>, i: u32)
     ensures { targets.new.items ≡ filter (waits_elsewhere i) targets.old.items }
 {
     targets.retain(|t| t.i != i);
+}
+
+fn tag_among(targets: &[Target], tag: u16) -> bool
+    ensures { result ≡ list_any (λ t. t.owed.tag == tag) targets.now }
+{
+    targets.iter().any(|t| t.owed.tag == tag)
 }
 
 fn all_processed(marks: &[Mark]) -> bool
@@ -196,12 +259,24 @@ fn expected_in(marks: &[Mark], i: u32) -> bool
 
 fn put_in_stack(marks: &mut ArrayVec<Mark, 16>, i: u32)
     requires { i < length marks.old.items }
-    ensures { marks.new.items ≡ slice_set marks.old.items i (in_stack_mark (slice_index_or marks.old.items i clear_mark)) }
+    ensures { marks.new.items ≡ slice_set marks.old.items i (in_stack_mark (mark_at marks.old.items i)) }
 {
     let m = marks.as_slice()[i as usize];
     marks.as_mut_slice()[i as usize] = Mark {
         in_stack: true,
         processed: m.processed,
         code: m.code,
+    };
+}
+
+fn join_code(marks: &mut ArrayVec<Mark, 16>, i: u32, lanes: Lanes)
+    requires { i < length marks.old.items }
+    ensures { marks.new.items ≡ slice_set marks.old.items i (noted_mark (mark_at marks.old.items i) lanes) }
+{
+    let m = marks.as_slice()[i as usize];
+    marks.as_mut_slice()[i as usize] = Mark {
+        in_stack: m.in_stack,
+        processed: m.processed,
+        code: m.code.joined(lanes),
     };
 }
