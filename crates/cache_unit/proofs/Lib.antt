@@ -1,3 +1,10 @@
+pub mod Lists
+pub mod Process
+pub mod Keeps
+pub mod Calls
+pub mod Arrive
+pub mod Ranges
+pub mod SentReads
 pub mod FormsLists
 pub mod FormsParts
 pub mod FormsFinding

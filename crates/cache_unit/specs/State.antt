@@ -1,5 +1,5 @@
 -- The shown state of the cache unit, and how it is read.
-use Rattle.std.specs.Prelude.{ℕ, suc, ◌+◌, ◌*◌, ◌/◌, ◌%◌, Bool, false, ◌&&◌, not, if◌then◌else◌, ◌==◌, List, [], ◌∷◌, ◌++◌, map, Option, Some, None, is_some, slice_set, slice_index_or}
+use Rattle.std.specs.Prelude.{ℕ, suc, ◌+◌, ◌*◌, ◌/◌, ◌%◌, Bool, false, ◌&&◌, not, if◌then◌else◌, ◌==◌, List, [], ◌∷◌, ◌++◌, map, replicate, Option, Some, None, is_some, slice_set, slice_index_or}
 use Rattle.flat_model.specs.declared.Lanes.{Lanes}
 use Rattle.cache_unit.specs.declared.Reply.{Reply}
 use Rattle.input_stack.specs.declared.Entry.{Entry}
@@ -162,3 +162,17 @@ place_in z at = at % z.block_words
 
 abbrev pub address : Sizes → ℕ → ℕ → ℕ
 address z block i = block * z.block_words + i
+
+-- ---- the beginning
+
+-- the cache before its first event: no block, no register in use, and nothing that waits
+abbrev pub opening_cache : Sizes → Cache
+opening_cache z =
+    record {
+      frames = replicate (z.sets * z.ways) empty_frame;
+      orders = replicate z.sets [];
+      registers = replicate z.regs free_register;
+      stack = [];
+      queue = [];
+      ready = [];
+    }

@@ -1,7 +1,11 @@
 //! The cache's control: requests, arriving words, evictions and replies.
 #![tactic(auto)]
 
+mod reads;
+mod unit;
+
 use flat_model::{Lanes, Word};
+pub use unit::CacheUnit;
 
 /// What the processor asks of the cache.
 #[derive(Clone, Copy, PartialEq, Eq, Debug)]

@@ -1,0 +1,343 @@
+-- A word comes into the stack.
+use Rattle.std.proofs.Common.{◌≡◌, ℕ, suc, zero, nat_lt, nat_le, ◌+◌, ◌<◌, ◌≤◌, ◌==◌, Bool, true, false, ◌&&◌, ◌||◌, not, if◌then◌else◌, List, [], ◌∷◌, ◌++◌, map, length, set, get_or, Option, Some, None, is_some, refl, ap, sym, ◌∙◌, arith, length-set, length-append, ◌-◌, ◌⊎◌, inl, inr, subst}
+use Rattle.std.specs.List.{find, sum_by}
+use Rattle.std.specs.Option.{option_map}
+use Rattle.std.proofs.lemmas.List.{map-set, get_or-set_same, get_or-set_other, get_or_past, get_or_append_left, get_or-append_right}
+use Rattle.std.proofs.lemmas.List.Sums.{sum_by-set}
+use Rattle.std.proofs.Math.Seq.{map-set_same}
+use Rattle.std.proofs.lemmas.Bool.{false≢true, cases_lt, cases_eq}
+use Rattle.std.proofs.lemmas.Bool.Decides.{nat_tests}
+use Rattle.std.proofs.lemmas.Grind.{common_steps}
+use borrow.Author.Tests.{ltb-true}
+use Rattle.flat_model.specs.declared.Word.{Word}
+use Rattle.cache_directory.specs.Frames as dir
+use Rattle.miss_registers.specs.Registers as regs
+use Rattle.input_stack.specs.declared.Entry.{Entry}
+use Rattle.cache_unit.specs.declared.Reply.{Reply}
+use Rattle.write_queue.specs.declared.Queued.{Queued}
+use Rattle.input_stack.specs.Stack.{stack_word}
+use Rattle.write_queue.specs.Queue.{Queue}
+use Rattle.cache_unit.specs.State.{Sizes, UnitState, Field, Register, Cache, register_at, field_at}
+use Rattle.cache_unit.specs.Causes.{is_stray, arrive_cause}
+use Rattle.flat_model.specs.declared.Cause.TheVariants.{StrayWord, StackFull}
+use Rattle.flat_model.specs.declared.Answer.TheVariants.{Refused}
+use Rattle.cache_unit.specs.Steps.{Stepped, moved, arrived, arrive_step}
+use Rattle.cache_unit.specs.Shown.{as_frame, as_field, as_register, as_cache}
+use Rattle.cache_unit.specs.Sound.{no_entry, entry_at, HasInStack, Stands, HasFrame, FilledBy, IsSound, register_waits, waits}
+use Rattle.cache_unit.proofs.Process.{register_at-shown, field_at-shown}
+use Rattle.cache_unit.proofs.Lists.{get_or-map}
+use Rattle.cache_unit.proofs.Keeps.{slot_within, length_kept, Since, live_before, apart_before}
+
+-- ---- the marks are those of the stack
+
+same_bool : (a b : Bool) → (a ≡ true → b ≡ true) → (b ≡ true → a ≡ true) → a ≡ b
+same_bool true b p q = sym (p refl)
+same_bool false true p q = q refl
+same_bool false false p q = refl
+
+abbrev is_for : ℕ → ℕ → Entry → Bool
+is_for s i e = (e.slot == s) && (e.i == i)
+
+find_cons : (b : Bool) (x : Entry) (o : Option Entry) → is_some (if b then Some x else o) ≡ (b || is_some o)
+find_cons true x o = refl
+find_cons false x o = refl
+
+or_true : (b : Bool) → (b || true) ≡ true
+or_true true = refl
+or_true false = refl
+
+same_test : (e : Entry) (s i : ℕ) → e.slot ≡ s → e.i ≡ i → is_for s i e ≡ true
+same_test e s i a b = grind (arith, nat_tests, common_steps)
+
+other_test : (e : Entry) (s i : ℕ) → (e.slot ≡ s → ⊥) ⊎ (e.i ≡ i → ⊥) → is_for s i e ≡ false
+other_test e s i (inl a) = grind (arith, nat_tests, common_steps)
+other_test e s i (inr b) = grind (arith, nat_tests, common_steps)
+
+later : (e : Entry) (st : List Entry) (s i : ℕ) → Stands st s i → Stands (e ∷ st) s i
+later e st s i w = record { place = suc w.place; within = omega (arith, w.within); slot = w.slot; word = w.word }
+
+-- an entry for the word, by recursion
+Stands-found : (st : List Entry) (s i : ℕ) → is_some (find (is_for s i) st) ≡ true → Stands st s i
+Stands-found [] s i h = absurd (false≢true h)
+Stands-found (e ∷ st) s i h =
+    let c = find_cons (is_for s i e) e (find (is_for s i) st) in
+    elim (cases_eq e.slot s) [
+      | inl a ↦ elim (cases_eq e.i i) [
+        | inl b ↦ record { place = 0; within = omega arith; slot = a; word = b }
+        | inr b ↦ later e st s i (Stands-found st s i (rw (other_test e s i (inr b)) at (sym c ∙ h)))
+      ]
+      | inr a ↦ later e st s i (Stands-found st s i (rw (other_test e s i (inl a)) at (sym c ∙ h)))
+    ]
+
+found_at : (st : List Entry) (s i k : ℕ) → k < length st → (entry_at st k).slot ≡ s → (entry_at st k).i ≡ i → is_some (find (is_for s i) st) ≡ true
+found_at [] s i k h a b = absurd (omega arith)
+found_at (e ∷ st) s i zero h a b = rw (find_cons (is_for s i e) e (find (is_for s i) st), same_test e s i a b) refl
+found_at (e ∷ st) s i (suc k) h a b = rw (find_cons (is_for s i e) e (find (is_for s i) st), found_at st s i k (omega arith) a b) (or_true (is_for s i e))
+
+is_some-map : {X Y : Type 0} (f : X → Y) (o : Option X) → is_some (option_map f o) ≡ is_some o
+is_some-map f None = refl
+is_some-map f (Some x) = refl
+
+pub in_stack-shown : (z : Sizes) (d : dir.Frames) (rs : List regs.Register) (st : List Entry) (q : Queue) (ready : List Reply) (s i : ℕ) → IsSound z d rs st q ready → is_some (stack_word st s i) ≡ (regs.field_of (regs.register_at rs s) i).in_stack
+unfolding stack_word
+in_stack-shown z d rs st q ready s i h =
+    is_some-map (λ (e : Entry). e.word) (find (is_for s i) st) ∙ same_bool _ _ (λ t. (
+    let w = Stands-found st s i t in
+    let m = (h.entries w.place w.within).marked in
+    subst (λ (x : ℕ). (regs.field_of (regs.register_at rs s) x).in_stack ≡ true) w.word (subst (λ (x : ℕ). (regs.field_of (regs.register_at rs x) (entry_at st w.place).i).in_stack ≡ true) w.slot m)))
+    (λ t. (let w = h.marks s i t in found_at st s i w.place w.within w.slot w.word))
+
+-- ---- a stray word
+
+stray_tests : (a p m : Bool) → not (a && (not p && not m)) ≡ (not a || (p || m))
+stray_tests false p m = refl
+stray_tests true true m = refl
+stray_tests true false true = refl
+stray_tests true false false = refl
+
+stray_by : (v : Bool) (w n : ℕ) (p m t : Bool) → (v ≡ true → n ≡ w) → t ≡ m → (i : ℕ) → not (v && (nat_lt i n && (not p && not m))) ≡ (not v || (not (nat_lt i w) || (p || t)))
+stray_by false w n p m t l e i = refl
+stray_by true w n p m t l e i = rw (l refl, e) (stray_tests (nat_lt i w) p m)
+
+pub stray-shown : (z : Sizes) (d : dir.Frames) (rs : List regs.Register) (st : List Entry) (q : Queue) (ready : List Reply) (s i : ℕ) → IsSound z d rs st q ready → not (regs.expects (regs.register_at rs s) i) ≡ is_stray z (as_cache d rs st q.entries ready) s i
+stray-shown z d rs st q ready s i h =
+    let r = regs.register_at rs s in
+    let a = stray_by r.valid z.block_words (length r.fields) (regs.field_of r i).processed (regs.field_of r i).in_stack (is_some (stack_word st s i)) (h.lengths s) (in_stack-shown z d rs st q ready s i h) i in
+    a ∙ rw (register_at-shown d rs st q.entries ready s, get_or-map as_field r.fields i regs.clear_field) refl
+
+-- ---- what the mark changes
+
+pub register-marked : (r : regs.Register) (i : ℕ) → as_register (regs.marked r i) ≡ as_register r
+unfolding regs.marked
+register-marked r i =
+    ap (λ (fs : List Field). record { valid = r.valid; obsolete = r.obsolete; block = r.block; fields = fs }) (map-set_same as_field r.fields i (record (regs.field_of r i) { in_stack = true }) regs.clear_field refl)
+
+pub registers-marked : (rs : List regs.Register) (s i : ℕ) → map as_register (set rs s (regs.marked (regs.register_at rs s) i)) ≡ map as_register rs
+registers-marked rs s i = map-set_same as_register rs s (regs.marked (regs.register_at rs s) i) regs.free_register (register-marked (regs.register_at rs s) i)
+
+-- a field of a register with a new mark
+field-marked_other : (r : regs.Register) (i j : ℕ) → (j ≡ i → ⊥) → regs.field_of (regs.marked r i) j ≡ regs.field_of r j
+unfolding regs.marked
+field-marked_other r i j n = get_or-set_other r.fields i j (record (regs.field_of r i) { in_stack = true }) regs.clear_field n
+
+field-marked_same : (r : regs.Register) (i : ℕ) → i < length r.fields → regs.field_of (regs.marked r i) i ≡ record (regs.field_of r i) { in_stack = true }
+unfolding regs.marked
+field-marked_same r i h = get_or-set_same r.fields i (record (regs.field_of r i) { in_stack = true }) regs.clear_field h
+
+length-marked : (r : regs.Register) (i : ℕ) → length (regs.marked r i).fields ≡ length r.fields
+unfolding regs.marked
+length-marked r i = length-set r.fields i (record (regs.field_of r i) { in_stack = true })
+
+-- the same but for the fields
+record Same (r r' : regs.Register) : Type 0 where
+  valid : r'.valid ≡ r.valid
+  obsolete : r'.obsolete ≡ r.obsolete
+  block : r'.block ≡ r.block
+  frame : r'.frame ≡ r.frame
+
+Same-marked : (r : regs.Register) (i : ℕ) → Same r (regs.marked r i)
+unfolding regs.marked
+Same-marked r i = record { valid = refl; obsolete = refl; block = refl; frame = refl }
+
+waits-marked : (r : regs.Register) (i : ℕ) → i < length r.fields → register_waits (regs.marked r i) ≡ register_waits r
+unfolding regs.marked
+waits-marked r i h =
+    let e = sum_by-set (λ (f : regs.Field). length f.waiting) r.fields i (record (regs.field_of r i) { in_stack = true }) regs.clear_field h in
+    omega (arith, e)
+
+HasInStack-marked : (r : regs.Register) (i : ℕ) → r.valid ≡ true → i < length r.fields → (regs.field_of r i).processed ≡ false → HasInStack (regs.marked r i) i
+HasInStack-marked r i v h p = record {
+  valid = (Same-marked r i).valid ∙ v;
+  there = rw (length-marked r i) h;
+  waits = rw (field-marked_same r i h) p;
+  marked = rw (field-marked_same r i h) refl;
+}
+
+HasInStack-still : (r : regs.Register) (i j : ℕ) → HasInStack r j → HasInStack (regs.marked r i) j
+HasInStack-still r i j h =
+    elim (cases_eq j i) [
+      | inl e ↦ rw e (HasInStack-marked r i h.valid (rw e at h.there) (rw e at h.waits))
+      | inr e ↦ record {
+        valid = (Same-marked r i).valid ∙ h.valid;
+        there = rw (length-marked r i) h.there;
+        waits = rw (field-marked_other r i j e) h.waits;
+        marked = rw (field-marked_other r i j e) h.marked;
+      }
+    ]
+
+-- one register of the list is put in place of another
+register_at-set : (P : regs.Register → Type 0) (rs : List regs.Register) (s t : ℕ) (r : regs.Register) → s < length rs → (t ≡ s → P r) → ((t ≡ s → ⊥) → P (regs.register_at rs t)) → P (regs.register_at (set rs s r) t)
+register_at-set P rs s t r l p q =
+    elim (cases_eq t s) [
+      | inl e ↦ (
+          let same : regs.register_at (set rs s r) t ≡ r = rw e (get_or-set_same rs s r regs.free_register l) in
+          subst P (sym same) (p e))
+      | inr e ↦ subst P (sym (get_or-set_other rs s t r regs.free_register e)) (q e)
+    ]
+
+entry_at-old : (st : List Entry) (e : Entry) (k : ℕ) → k < length st → entry_at (st ++ e ∷ []) k ≡ entry_at st k
+entry_at-old st e k h = get_or_append_left st (e ∷ []) no_entry k h
+
+entry_at-new : (st : List Entry) (e : Entry) → entry_at (st ++ e ∷ []) (length st) ≡ e
+entry_at-new st e = get_or-append_right st (e ∷ []) (length st) (length st) no_entry refl (omega arith) ∙ (let z : length st - length st ≡ 0 = omega arith in rw z refl)
+
+-- ---- what still holds
+
+-- what the register expects
+pub record Expected (r : regs.Register) (i : ℕ) : Type 0 where
+  pub valid : r.valid ≡ true
+  pub there : i < length r.fields
+  pub waits : (regs.field_of r i).processed ≡ false
+  pub unmarked : (regs.field_of r i).in_stack ≡ false
+
+expected_by : (v a p m : Bool) → (v && (a && (not p && not m))) ≡ true → (v ≡ true) × (a ≡ true) × (p ≡ false) × (m ≡ false)
+expected_by true true false false e = (refl, refl, refl, refl)
+expected_by false a p m e = absurd (false≢true e)
+expected_by true false p m e = absurd (false≢true e)
+expected_by true true true m e = absurd (false≢true e)
+expected_by true true false true e = absurd (false≢true e)
+
+pub Expected-from : (r : regs.Register) (i : ℕ) → regs.expects r i ≡ true → Expected r i
+Expected-from r i h =
+    let q = expected_by r.valid (nat_lt i (length r.fields)) (regs.field_of r i).processed (regs.field_of r i).in_stack h in
+    record { valid = q.0; there = ltb-true i (length r.fields) q.1; waits = q.2; unmarked = q.3 }
+
+pub slot_of : (rs : List regs.Register) (s i : ℕ) → Expected (regs.register_at rs s) i → s < length rs
+slot_of rs s i h =
+    elim (cases_lt s (length rs)) [
+      | inl p ↦ p
+      | inr p ↦ absurd (false≢true (sym (ap (λ (r : regs.Register). r.valid) (get_or_past rs s regs.free_register p)) ∙ h.valid))
+    ]
+
+live-marked : (r : regs.Register) (i : ℕ) → regs.is_live (regs.marked r i) ≡ regs.is_live r
+unfolding regs.marked
+live-marked r i = refl
+
+Since-marked : (r : regs.Register) (i : ℕ) → regs.is_live (regs.marked r i) ≡ true → Since r (regs.marked r i)
+Since-marked r i h =
+    let s = Same-marked r i in
+    record { live = sym (live-marked r i) ∙ h; block = s.block; frame = s.frame; count = length-marked r i }
+
+HasFrame-marked : (d : List dir.Frame) (r r' : regs.Register) → Since r r' → HasFrame d r → HasFrame d r'
+HasFrame-marked d r r' s h =
+    record {
+      holds = rw (s.block, s.frame) h.holds;
+      cells = rw (s.frame, s.count) h.cells;
+      pending = rw s.frame h.pending;
+    }
+
+FilledBy-marked : (rs : List regs.Register) (s i f : ℕ) → s < length rs → FilledBy rs f → FilledBy (set rs s (regs.marked (regs.register_at rs s) i)) f
+FilledBy-marked rs s i f l w =
+    elim (cases_eq w.slot s) [
+      | inl e ↦ (
+          let own = get_or-set_same rs s (regs.marked (regs.register_at rs s) i) regs.free_register l in
+          let live : regs.is_live (regs.register_at rs s) ≡ true = ap (λ t. regs.is_live (regs.register_at rs t)) (sym e) ∙ w.live in
+          let frame : (regs.register_at rs s).frame ≡ f = ap (λ t. (regs.register_at rs t).frame) (sym e) ∙ w.frame in
+          record {
+            slot = s;
+            live = ap regs.is_live own ∙ live-marked (regs.register_at rs s) i ∙ live;
+            frame = ap (λ (y : regs.Register). y.frame) own ∙ (Same-marked (regs.register_at rs s) i).frame ∙ frame;
+          })
+      | inr e ↦ (
+          let other = get_or-set_other rs s w.slot (regs.marked (regs.register_at rs s) i) regs.free_register e in
+          record { slot = w.slot; live = ap regs.is_live other ∙ w.live; frame = ap (λ (y : regs.Register). y.frame) other ∙ w.frame })
+    ]
+
+Stands-push : (st : List Entry) (e : Entry) (s i : ℕ) → Stands st s i → Stands (st ++ e ∷ []) s i
+Stands-push st e s i h =
+    let o = entry_at-old st e h.place h.within in
+    record { place = h.place; within = omega (arith, h.within, length-append st (e ∷ [])); slot = rw o h.slot; word = rw o h.word }
+
+Stands-new : (st : List Entry) (e : Entry) → Stands (st ++ e ∷ []) e.slot e.i
+Stands-new st e =
+    let n = entry_at-new st e in
+    record { place = length st; within = omega (arith, length-append st (e ∷ [])); slot = ap (λ (x : Entry). x.slot) n; word = ap (λ (x : Entry). x.i) n }
+
+mark-marked : (r : regs.Register) (i j : ℕ) → (regs.field_of (regs.marked r i) j).in_stack ≡ true → (j ≡ i) ⊎ ((regs.field_of r j).in_stack ≡ true)
+mark-marked r i j h = elim (cases_eq j i) [ inl e ↦ inl e | inr e ↦ inr (rw (field-marked_other r i j e) at h) ]
+
+no_other : (z : Sizes) (d : dir.Frames) (rs : List regs.Register) (st : List Entry) (q : Queue) (ready : List Reply) (s i k : ℕ) → IsSound z d rs st q ready → Expected (regs.register_at rs s) i → k < length st → (entry_at st k).slot ≡ s → (entry_at st k).i ≡ i → ⊥
+no_other z d rs st q ready s i k h x p a b =
+    let m = (h.entries k p).marked in
+    let m' : (regs.field_of (regs.register_at rs s) i).in_stack ≡ true = subst (λ (y : ℕ). (regs.field_of (regs.register_at rs s) y).in_stack ≡ true) b (subst (λ (y : ℕ). (regs.field_of (regs.register_at rs y) (entry_at st k).i).in_stack ≡ true) a m) in
+    false≢true (sym x.unmarked ∙ m')
+
+pub IsSound-arrived : (z : Sizes) (d : dir.Frames) (rs : List regs.Register) (st : List Entry) (q : Queue) (ready : List Reply) (e : Entry) → IsSound z d rs st q ready → Expected (regs.register_at rs e.slot) e.i → IsSound z d (set rs e.slot (regs.marked (regs.register_at rs e.slot) e.i)) (st ++ e ∷ []) q ready
+IsSound-arrived z d rs st q ready e h x =
+    let r = regs.register_at rs e.slot in
+    let l = slot_of rs e.slot e.i x in
+    let n = length-append st (e ∷ []) in
+    let since : (s : ℕ) → regs.is_live (regs.register_at (set rs e.slot (regs.marked r e.i)) s) ≡ true → Since (regs.register_at rs s) (regs.register_at (set rs e.slot (regs.marked r e.i)) s) = λ s. live_before rs e.slot s (regs.marked r e.i) l (Since-marked r e.i) in
+    record {
+      ranges = h.ranges;
+      slots = length-set rs e.slot _ ∙ h.slots;
+      live_apart = apart_before rs _ since h.live_apart;
+      frames = λ s v. HasFrame-marked d.frames _ _ (since s v) (h.frames s (since s v).live);
+      pending = λ f v. FilledBy-marked rs e.slot e.i f l (h.pending f v);
+      limit = h.limit;
+      within = h.within;
+      addresses = h.addresses;
+      entries = λ k p. elim (cases_lt k (length st)) [
+        | inl q ↦ rw (entry_at-old st e k q) (register_at-set (λ y. HasInStack y (entry_at st k).i) rs e.slot (entry_at st k).slot (regs.marked r e.i) l (λ a. HasInStack-still r e.i (entry_at st k).i (subst (λ (y : ℕ). HasInStack (regs.register_at rs y) (entry_at st k).i) a (h.entries k q))) (λ a. h.entries k q))
+        | inr q ↦ (
+            let m : k ≡ length st = omega arith in
+            rw (m, entry_at-new st e) (register_at-set (λ y. HasInStack y e.i) rs e.slot e.slot (regs.marked r e.i) l (λ a. HasInStack-marked r e.i x.valid x.there x.waits) (λ a. absurd (a refl))))
+      ];
+      distinct = λ j k o p a b. elim (cases_lt k (length st)) [
+        | inl w ↦ h.distinct j k o w (rw (entry_at-old st e j (omega arith), entry_at-old st e k w) at a) (rw (entry_at-old st e j (omega arith), entry_at-old st e k w) at b)
+        | inr w ↦ (
+            let m : k ≡ length st = omega arith in
+            no_other z d rs st q ready e.slot e.i j h x (omega arith) (rw (m, entry_at-new st e, entry_at-old st e j (omega arith)) at a) (rw (m, entry_at-new st e, entry_at-old st e j (omega arith)) at b))
+      ];
+      room = (
+          let a = sum_by-set register_waits rs e.slot (regs.marked r e.i) regs.free_register l in
+          let w = waits-marked r e.i x.there in
+          omega (arith, a, w, h.room));
+      marks = λ s i. register_at-set (λ y. (regs.field_of y i).in_stack ≡ true → Stands (st ++ e ∷ []) s i) rs e.slot s (regs.marked r e.i) l
+          (λ a v. elim (mark-marked r e.i i v) [
+            | inl c ↦ rw (a, c) (Stands-new st e)
+            | inr c ↦ rw a (Stands-push st e e.slot i (h.marks e.slot i c))
+          ])
+          (λ a v. Stands-push st e s i (h.marks s i v));
+      lengths = λ s. register_at-set (λ y. y.valid ≡ true → length y.fields ≡ z.block_words) rs e.slot s (regs.marked r e.i) l (λ a v. length-marked r e.i ∙ h.lengths e.slot x.valid) (λ a. h.lengths s);
+    }
+
+-- ---- the step
+
+le-leb : {m n : ℕ} → m ≤ n → nat_le m n ≡ true
+le-leb {m} {n} h = grind (arith, nat_tests)
+
+not_le : {m n : ℕ} → n < m → nat_le m n ≡ false
+not_le {m} {n} h = grind (arith, nat_tests)
+
+abbrev made : Sizes → Cache → UnitState
+made z c = record { sizes = z; cache = c }
+
+not_false : (b : Bool) → not b ≡ true → b ≡ false
+not_false true h = absurd (false≢true h)
+not_false false h = refl
+
+pub arrive-stray : (z : Sizes) (c : Cache) (u : UnitState) (s i : ℕ) (word : Word) → made z c ≡ u → is_stray z c s i ≡ true → arrive_step u.sizes u.cache s i word ≡ record { answer = Refused StrayWord; cache = u.cache; sent = [] }
+unfolding arrive_step arrive_cause
+arrive-stray z c u s i word e h = subst (λ (v : UnitState). arrive_step v.sizes v.cache s i word ≡ record { answer = Refused StrayWord; cache = v.cache; sent = [] }) e (rw h refl)
+
+pub arrive-full : (z : Sizes) (c : Cache) (u : UnitState) (s i : ℕ) (word : Word) → made z c ≡ u → is_stray z c s i ≡ false → z.depth ≤ length c.stack → arrive_step u.sizes u.cache s i word ≡ record { answer = Refused StackFull; cache = u.cache; sent = [] }
+unfolding arrive_step arrive_cause
+arrive-full z c u s i word e h f = subst (λ (v : UnitState). arrive_step v.sizes v.cache s i word ≡ record { answer = Refused StackFull; cache = v.cache; sent = [] }) e (rw (h, le-leb f) refl)
+
+pub arrive-moved : (z : Sizes) (c : Cache) (u : UnitState) (s i : ℕ) (word : Word) → made z c ≡ u → is_stray z c s i ≡ false → length c.stack < z.depth → arrive_step u.sizes u.cache s i word ≡ moved (arrived u.cache s i word)
+unfolding arrive_step arrive_cause
+arrive-moved z c u s i word e h f = subst (λ (v : UnitState). arrive_step v.sizes v.cache s i word ≡ moved (arrived v.cache s i word)) e (rw (h, not_le f) refl)
+
+pub arrived-shown : (d : dir.Frames) (rs : List regs.Register) (st : List Entry) (q : List Queued) (ready : List Reply) (s i : ℕ) (word : Word) → as_cache d (set rs s (regs.marked (regs.register_at rs s) i)) (st ++ record { slot = s; i = i; word = word } ∷ []) q ready ≡ arrived (as_cache d rs st q ready) s i word
+unfolding arrived
+arrived-shown d rs st q ready s i word =
+    ap (λ (xs : List Register). record { frames = map as_frame d.frames; orders = d.orders; registers = xs; stack = st ++ record { slot = s; i = i; word = word } ∷ []; queue = q; ready = ready }) (registers-marked rs s i)
+
+pub view_after : (z : Sizes) (u : UnitState) (c x : Cache) (s i : ℕ) (word : Word) → made z c ≡ u → x ≡ arrived c s i word → arrive_step u.sizes u.cache s i word ≡ moved (arrived u.cache s i word) → record { sizes = z; cache = x } ≡ record u { cache = (arrive_step u.sizes u.cache s i word).cache }
+view_after z u c x s i word e p m =
+    let a : record { sizes = z; cache = x } ≡ record u { cache = arrived u.cache s i word } = subst (λ (v : UnitState). record { sizes = z; cache = x } ≡ record v { cache = arrived v.cache s i word }) e (ap (made z) p) in
+    a ∙ ap (λ (y : Stepped). record u { cache = y.cache }) (sym m)
+
+pub at_least : {m n : ℕ} → (n < m → ⊥) → m ≤ n
+at_least {m} {n} h = elim (cases_lt n m) [ inl p ↦ absurd (h p) | inr p ↦ p ]

@@ -1,0 +1,451 @@
+-- What holds of the parts still holds once a word has left the stack.
+use Rattle.std.proofs.Common.{◌≡◌, ℕ, suc, zero, ◌+◌, ◌<◌, ◌≤◌, Bool, true, false, ◌&&◌, not, if◌then◌else◌, List, [], ◌∷◌, ◌++◌, map, length, set, get_or, Option, Some, None, refl, ap, sym, ◌∙◌, arith, length-set, length-append, eqb-true, ◌-◌, ◌⊎◌, inl, inr, subst}
+use Rattle.std.specs.List.{list_all, remove, sum_by}
+use Rattle.std.proofs.lemmas.List.{get_or-set_same, get_or-set_other, get_or_past}
+use Rattle.std.proofs.lemmas.List.Edits.{length-remove, get_or-remove_below, get_or-remove_above}
+use Rattle.std.proofs.lemmas.List.Sums.{sum_by-set}
+use Rattle.std.proofs.lemmas.Bool.{false≢true, cases_lt, cases_eq, cases_order}
+use Rattle.flat_model.specs.declared.Word.{Word}
+use Rattle.flat_model.specs.declared.Lanes.{Lanes}
+use Rattle.flat_model.specs.Places.{place_of}
+use Rattle.cache_directory.specs.Frames as dir
+use Rattle.miss_registers.specs.Registers as regs
+use Rattle.input_stack.specs.declared.Entry.{Entry}
+use Rattle.miss_registers.specs.declared.Owed.{Owed}
+use Rattle.cache_unit.specs.declared.Reply.{Reply}
+use Rattle.std.specs.Option.{option_map}
+use Rattle.std.proofs.lemmas.Option.{none-some, same_Some}
+use Rattle.cache_unit.specs.Parts.{filled_live, settled_if, CanFill}
+use Rattle.write_queue.specs.Queue.{Queue}
+use Rattle.flat_model.specs.Places.{is_number}
+use Rattle.cache_unit.specs.State.{Sizes}
+use Rattle.cache_unit.specs.Sound.{no_entry, entry_at, HasInStack, Stands, HasFrame, FilledBy, IsSound, register_waits, waits}
+use Rattle.cache_unit.proofs.Lists.{list_all-at, place_of-some}
+use Rattle.cache_unit.proofs.Process.{live_of}
+
+-- ---- one register
+
+HasInStack-by : (b : Bool) (r : regs.Register) (fs : List regs.Field) (i : ℕ) → b ≡ false → r.valid ≡ true → i < length fs → (get_or fs i regs.clear_field).processed ≡ false → (get_or fs i regs.clear_field).in_stack ≡ true → HasInStack (if b then regs.free_register else record r { fields = fs }) i
+HasInStack-by true r fs i e v h p m = absurd (false≢true (sym e))
+HasInStack-by false r fs i e v h p m = record { valid = v; there = h; waits = p; marked = m }
+
+live-open : (r : regs.Register) → regs.is_live r ≡ true → r.obsolete ≡ false
+live-open r h = open_by r.valid r.obsolete h
+  where
+    open_by : (v o : Bool) → (v && not o) ≡ true → o ≡ false
+    open_by true false e = refl
+    open_by true true e = absurd (false≢true e)
+    open_by false o e = absurd (false≢true e)
+
+is_false : (b : Bool) → (b ≡ true → ⊥) → b ≡ false
+is_false true h = absurd (h refl)
+is_false false h = refl
+
+pub HasInStack-finished : (r : regs.Register) (i j : ℕ) → HasInStack r j → (j ≡ i → ⊥) → HasInStack (regs.finished r i) j
+unfolding regs.finished
+HasInStack-finished r i j h n =
+    let fs = regs.finished_fields r i in
+    let l : length fs ≡ length r.fields = length-set r.fields i regs.finished_field in
+    let m : (get_or fs j regs.clear_field).in_stack ≡ true = ap (λ (f : regs.Field). f.in_stack) (get_or-set_other r.fields i j regs.finished_field regs.clear_field n) ∙ h.marked in
+    let p : (get_or fs j regs.clear_field).processed ≡ false = ap (λ (f : regs.Field). f.processed) (get_or-set_other r.fields i j regs.finished_field regs.clear_field n) ∙ h.waits in
+    let there : j < length fs = omega (arith, l, h.there) in
+    HasInStack-by (list_all (λ f. f.processed) fs) r fs j (is_false _ (λ t. false≢true (sym p ∙ list_all-at (λ (f : regs.Field). f.processed) fs j regs.clear_field t there))) h.valid there p m
+
+finished-live : (b : Bool) (r : regs.Register) (fs : List regs.Field) → regs.is_live (if b then regs.free_register else record r { fields = fs }) ≡ true → ((if b then regs.free_register else record r { fields = fs }) ≡ record r { fields = fs }) × (regs.is_live r ≡ true) × (b ≡ false)
+finished-live true r fs h = absurd (false≢true h)
+finished-live false r fs h = (refl, h, refl)
+
+waits_by : (b : Bool) (r : regs.Register) (fs : List regs.Field) (n : ℕ) → sum_by (λ f. length f.waiting) fs + n ≤ register_waits r → register_waits (if b then regs.free_register else record r { fields = fs }) + n ≤ register_waits r
+waits_by true r fs n h = omega arith
+waits_by false r fs n h = h
+
+pub waits-finished : (r : regs.Register) (i : ℕ) → i < length r.fields → register_waits (regs.finished r i) + length (regs.field_of r i).waiting ≤ register_waits r
+unfolding regs.finished
+waits-finished r i h =
+    let fs = regs.finished_fields r i in
+    let e = sum_by-set (λ (f : regs.Field). length f.waiting) r.fields i regs.finished_field regs.clear_field h in
+    waits_by (list_all (λ f. f.processed) fs) r fs _ (omega (arith, e))
+
+-- ---- the frames
+
+-- the same blocks stand in the same frames
+pub record SameBlocks (d d' : List dir.Frame) : Type 0 where
+  pub holds : (b : ℕ) → dir.frame_of d' b ≡ dir.frame_of d b
+  pub cells : (f : ℕ) → length (dir.frame_at d' f).cells ≡ length (dir.frame_at d f).cells
+
+place_of-set : {X : Type 0} (p : X → Bool) (xs : List X) (i : ℕ) (y d : X) → p y ≡ p (get_or xs i d) → place_of p (set xs i y) ≡ place_of p xs
+place_of-set p [] i y d e = refl
+place_of-set p (x ∷ xs) zero y d e = rw e refl
+place_of-set p (x ∷ xs) (suc i) y d e = rw (place_of-set p xs i y d e) refl
+
+length_at-set : (xs : List dir.Frame) (i f : ℕ) (y : dir.Frame) → length y.cells ≡ length (dir.frame_at xs i).cells → length (dir.frame_at (set xs i y) f).cells ≡ length (dir.frame_at xs f).cells
+length_at-set [] i f y e = refl
+length_at-set (x ∷ xs) zero zero y e = e
+length_at-set (x ∷ xs) zero (suc f) y e = refl
+length_at-set (x ∷ xs) (suc i) zero y e = refl
+length_at-set (x ∷ xs) (suc i) (suc f) y e = length_at-set xs i f y e
+
+SameBlocks-set : (d : List dir.Frame) (f : ℕ) (y : dir.Frame) → y.block ≡ (dir.frame_at d f).block → length y.cells ≡ length (dir.frame_at d f).cells → SameBlocks d (set d f y)
+unfolding dir.frame_of
+SameBlocks-set d f y e l = record {
+  holds = λ b. place_of-set (λ (x : dir.Frame). is_number x.block b) d f y dir.empty_frame (ap (λ (o : Option ℕ). is_number o b) e);
+  cells = λ g. length_at-set d f g y l;
+}
+
+SameBlocks-trans : (a b c : List dir.Frame) → SameBlocks a b → SameBlocks b c → SameBlocks a c
+SameBlocks-trans a b c p q = record { holds = λ x. q.holds x ∙ p.holds x; cells = λ f. q.cells f ∙ p.cells f }
+
+SameBlocks-settled : (last : Bool) (d : dir.Frames) (f : ℕ) → SameBlocks d.frames (settled_if last d f).frames
+unfolding dir.settled
+SameBlocks-settled true d f = SameBlocks-set d.frames f _ refl refl
+SameBlocks-settled false d f = record { holds = λ b. refl; cells = λ g. refl }
+
+pub SameBlocks-filled : (d : dir.Frames) (live : Option ℕ) (i : ℕ) (word : Word) (keep : Lanes) (last : Bool) → SameBlocks d.frames (filled_live d live i word keep last).frames
+unfolding filled_live dir.filled
+SameBlocks-filled d None i word keep last = record { holds = λ b. refl; cells = λ g. refl }
+SameBlocks-filled d (Some f) i word keep last =
+    SameBlocks-trans _ _ _ (SameBlocks-set d.frames f (dir.filled (dir.frame_at d.frames f) i word keep) refl (length-set _ i _)) (SameBlocks-settled last (record d { frames = set d.frames f (dir.filled (dir.frame_at d.frames f) i word keep) }) f)
+
+-- ---- pending frames
+
+pending-set : (fs : List dir.Frame) (f g : ℕ) (y : dir.Frame) → y.pending ≡ (dir.frame_at fs f).pending → (dir.frame_at (set fs f y) g).pending ≡ (dir.frame_at fs g).pending
+pending-set [] f g y e = refl
+pending-set (x ∷ xs) zero zero y e = e
+pending-set (x ∷ xs) zero (suc g) y e = refl
+pending-set (x ∷ xs) (suc f) zero y e = refl
+pending-set (x ∷ xs) (suc f) (suc g) y e = pending-set xs f g y e
+
+-- a frame that is put in place and isn't pending leaves the others
+pub pending_elsewhere : (fs : List dir.Frame) (f g : ℕ) (y : dir.Frame) → y.pending ≡ false → (dir.frame_at (set fs f y) g).pending ≡ true → (g ≡ f → ⊥) × ((dir.frame_at fs g).pending ≡ true)
+pending_elsewhere [] f g y e h = absurd (false≢true h)
+pending_elsewhere (x ∷ xs) zero zero y e h = absurd (false≢true (sym e ∙ h))
+pending_elsewhere (x ∷ xs) zero (suc g) y e h = (λ z. absurd (omega arith), h)
+pending_elsewhere (x ∷ xs) (suc f) zero y e h = (λ z. absurd (omega arith), h)
+pending_elsewhere (x ∷ xs) (suc f) (suc g) y e h =
+    let r = pending_elsewhere xs f g y e h in
+    (λ z. r.0 (omega arith), r.1)
+
+-- a frame that was pending still is, but for one whose last word has come
+pending-filled : (d : dir.Frames) (live : Option ℕ) (i : ℕ) (word : Word) (keep : Lanes) (last : Bool) (g : ℕ) → (last ≡ true → live ≡ Some g → ⊥) → (dir.frame_at (filled_live d live i word keep last).frames g).pending ≡ (dir.frame_at d.frames g).pending
+unfolding filled_live dir.filled dir.settled
+pending-filled d None i word keep last g n = refl
+pending-filled d (Some f) i word keep false g n = pending-set d.frames f g _ refl
+pending-filled d (Some f) i word keep true g n =
+    let other : g ≡ f → ⊥ = λ e. n refl (ap Some (sym e)) in
+    ap (λ (x : dir.Frame). x.pending) (get_or-set_other _ f g _ dir.empty_frame other) ∙ pending-set d.frames f g _ refl
+
+was_pending : (d : dir.Frames) (live : Option ℕ) (i : ℕ) (word : Word) (keep : Lanes) (last : Bool) (g : ℕ) → (dir.frame_at (filled_live d live i word keep last).frames g).pending ≡ true → ((dir.frame_at d.frames g).pending ≡ true) × (last ≡ true → live ≡ Some g → ⊥)
+unfolding filled_live dir.filled dir.settled
+was_pending d None i word keep last g h = (h, λ l e. none-some _ e)
+was_pending d (Some f) i word keep false g h = (sym (pending-set d.frames f g _ refl) ∙ h, λ l e. false≢true l)
+was_pending d (Some f) i word keep true g h =
+    let p = pending_elsewhere _ f g _ refl h in
+    (sym (pending-set d.frames f g _ refl) ∙ p.1, λ l e. p.0 (sym (same_Some f g e)))
+
+pub number_from : (o : Option ℕ) (n : ℕ) → is_number o n ≡ true → o ≡ Some n
+number_from None n h = cc
+number_from (Some k) n h = ap Some (eqb-true k n h)
+
+-- a frame holds the block for which it is found
+pub frame_of-some : (fs : List dir.Frame) (b f : ℕ) → dir.frame_of fs b ≡ Some f → (f < length fs) × ((dir.frame_at fs f).block ≡ Some b)
+unfolding dir.frame_of
+frame_of-some fs b f e =
+    let s = place_of-some (λ (x : dir.Frame). is_number x.block b) dir.empty_frame fs f e in
+    (s.0, number_from _ b s.1)
+
+-- two live registers bring the words of two frames
+pub frame_apart : (z : Sizes) (d : dir.Frames) (rs : List regs.Register) (st : List Entry) (q : Queue) (ready : List Reply) (s t : ℕ) → IsSound z d rs st q ready → regs.is_live (regs.register_at rs s) ≡ true → regs.is_live (regs.register_at rs t) ≡ true → (regs.register_at rs s).frame ≡ (regs.register_at rs t).frame → s ≡ t
+frame_apart z d rs st q ready s t h a b e =
+    let x = (frame_of-some d.frames _ _ (h.frames s a).holds).1 in
+    let y = (frame_of-some d.frames _ _ (h.frames t b).holds).1 in
+    let m : Some (regs.register_at rs s).block ≡ Some (regs.register_at rs t).block = sym x ∙ ap (λ f. (dir.frame_at d.frames f).block) e ∙ y in
+    h.live_apart s t a b (same_Some _ _ m)
+
+live_of-some : (o : Bool) (f g : ℕ) → (if o then None else Some f) ≡ Some g → (o ≡ false) × (f ≡ g)
+live_of-some true f g e = absurd (none-some g e)
+live_of-some false f g e = (refl, same_Some f g e)
+
+-- ---- the stack
+
+-- the place of an entry before one was taken out
+pub record Before (st : List Entry) (k j m : ℕ) : Type 0 where
+  pub within : m < length st
+  pub other : m ≡ k → ⊥
+  pub same : entry_at (remove st k) j ≡ entry_at st m
+
+abbrev pub before : ℕ → ℕ → ℕ
+before k j = elim (cases_lt j k) [ inl p ↦ j | inr p ↦ j + 1 ]
+
+pub Before-at : (st : List Entry) (k j : ℕ) → k < length st → j < length (remove st k) → Before st k j (before k j)
+Before-at st k j h l =
+    let n = length-remove st k h in
+    elim (cases_lt j k) as (λ z. Before st k j (elim z [ inl p ↦ j | inr p ↦ j + 1 ])) [
+      | inl p ↦ record { within = omega (arith, n); other = λ e. omega (arith); same = get_or-remove_below st k no_entry j p h }
+      | inr p ↦ record { within = omega (arith, n); other = λ e. omega (arith); same = get_or-remove_above st k no_entry j p h }
+    ]
+
+pub before-lt : (k i j : ℕ) → i < j → before k i < before k j
+before-lt k i j h =
+    elim (cases_lt i k) as (λ z. elim z [ inl p ↦ i | inr p ↦ i + 1 ] < before k j) [
+      | inl p ↦ elim (cases_lt j k) as (λ z. i < elim z [ inl q ↦ j | inr q ↦ j + 1 ]) [ inl q ↦ h | inr q ↦ omega arith ]
+      | inr p ↦ elim (cases_lt j k) as (λ z. i + 1 < elim z [ inl q ↦ j | inr q ↦ j + 1 ]) [ inl q ↦ absurd (omega arith) | inr q ↦ omega arith ]
+    ]
+
+-- ---- the whole
+
+pub slot_within : (rs : List regs.Register) (s i : ℕ) → HasInStack (regs.register_at rs s) i → s < length rs
+slot_within rs s i h =
+    elim (cases_lt s (length rs)) [
+      | inl p ↦ p
+      | inr p ↦ absurd (false≢true (sym (ap (λ (r : regs.Register). r.valid) (get_or_past rs s regs.free_register p)) ∙ h.valid))
+    ]
+
+-- no other entry is for the same word
+other_word : (z : Sizes) (d : dir.Frames) (rs : List regs.Register) (st : List Entry) (q : Queue) (ready : List Reply) (k m : ℕ) → IsSound z d rs st q ready → k < length st → m < length st → (m ≡ k → ⊥) → (entry_at st m).slot ≡ (entry_at st k).slot → (entry_at st m).i ≡ (entry_at st k).i → ⊥
+other_word z d rs st q ready k m h p o n a b =
+    elim (cases_order m k) [
+      | inl e ↦ n e
+      | inr w ↦ elim w [ inl l ↦ h.distinct m k l p a b | inr l ↦ h.distinct k m l o (sym a) (sym b) ]
+    ]
+
+entry_kept : (rs : List regs.Register) (s i s' i' : ℕ) → s < length rs → HasInStack (regs.register_at rs s') i' → (s' ≡ s → i' ≡ i → ⊥) → HasInStack (regs.register_at (set rs s (regs.finished (regs.register_at rs s) i)) s') i'
+entry_kept rs s i s' i' l h n =
+    elim (cases_eq s' s) [
+      | inl e ↦ (
+          let same : regs.register_at (set rs s (regs.finished (regs.register_at rs s) i)) s' ≡ regs.finished (regs.register_at rs s) i = rw e (get_or-set_same rs s (regs.finished (regs.register_at rs s) i) regs.free_register l) in
+          let h' : HasInStack (regs.register_at rs s) i' = subst (λ (x : ℕ). HasInStack (regs.register_at rs x) i') e h in
+          rw same (HasInStack-finished (regs.register_at rs s) i i' h' (n e)))
+      | inr e ↦ rw (get_or-set_other rs s s' (regs.finished (regs.register_at rs s) i) regs.free_register e) h
+    ]
+
+-- one register of a list is another: what is live was live, for the same block and frame
+pub record Since (r r' : regs.Register) : Type 0 where
+  pub live : regs.is_live r ≡ true
+  pub block : r'.block ≡ r.block
+  pub frame : r'.frame ≡ r.frame
+  pub count : length r'.fields ≡ length r.fields
+
+Since-self : (r : regs.Register) → regs.is_live r ≡ true → Since r r
+Since-self r l = record { live = l; block = refl; frame = refl; count = refl }
+
+pub live_before : (rs : List regs.Register) (s t : ℕ) (r : regs.Register) → s < length rs → (regs.is_live r ≡ true → Since (regs.register_at rs s) r) → regs.is_live (regs.register_at (set rs s r) t) ≡ true → Since (regs.register_at rs t) (regs.register_at (set rs s r) t)
+live_before rs s t r l f h =
+    elim (cases_eq t s) [
+      | inl e ↦ (
+          let same : regs.register_at (set rs s r) t ≡ r = rw e (get_or-set_same rs s r regs.free_register l) in
+          rw (same, e) (f (rw same at h)))
+      | inr e ↦ (
+          let same : regs.register_at (set rs s r) t ≡ regs.register_at rs t = get_or-set_other rs s t r regs.free_register e in
+          rw same (Since-self (regs.register_at rs t) (rw same at h)))
+    ]
+
+pub apart_before : (rs rs' : List regs.Register) → ((s : ℕ) → regs.is_live (regs.register_at rs' s) ≡ true → Since (regs.register_at rs s) (regs.register_at rs' s)) → ((s t : ℕ) → regs.is_live (regs.register_at rs s) ≡ true → regs.is_live (regs.register_at rs t) ≡ true → (regs.register_at rs s).block ≡ (regs.register_at rs t).block → s ≡ t) → (s t : ℕ) → regs.is_live (regs.register_at rs' s) ≡ true → regs.is_live (regs.register_at rs' t) ≡ true → (regs.register_at rs' s).block ≡ (regs.register_at rs' t).block → s ≡ t
+apart_before rs rs' b h s t ls lt e =
+    let x = b s ls in
+    let y = b t lt in
+    h s t x.live y.live (sym x.block ∙ e ∙ y.block)
+
+finished-since : (r : regs.Register) (i : ℕ) → regs.is_live (regs.finished r i) ≡ true → Since r (regs.finished r i)
+unfolding regs.finished
+finished-since r i h =
+    let q = finished-live (list_all (λ g. g.processed) (regs.finished_fields r i)) r (regs.finished_fields r i) h in
+    rw q.0 (record { live = q.1; block = refl; frame = refl; count = length-set r.fields i regs.finished_field })
+
+finished-last : (r : regs.Register) (i : ℕ) → regs.is_live (regs.finished r i) ≡ true → list_all (λ f. f.processed) (regs.finished_fields r i) ≡ false
+unfolding regs.finished
+finished-last r i h =
+    (finished-live (list_all (λ g. g.processed) (regs.finished_fields r i)) r (regs.finished_fields r i) h).2
+
+not_last : (b : Bool) (r : regs.Register) (fs : List regs.Field) → b ≡ false → regs.is_live r ≡ true → (regs.is_live (if b then regs.free_register else record r { fields = fs }) ≡ true) × ((if b then regs.free_register else record r { fields = fs }).frame ≡ r.frame)
+not_last true r fs e l = absurd (false≢true (sym e))
+not_last false r fs e l = (l, refl)
+
+finished-still : (r : regs.Register) (i : ℕ) → list_all (λ f. f.processed) (regs.finished_fields r i) ≡ false → regs.is_live r ≡ true → (regs.is_live (regs.finished r i) ≡ true) × ((regs.finished r i).frame ≡ r.frame)
+unfolding regs.finished
+finished-still r i e l = not_last _ r (regs.finished_fields r i) e l
+
+HasFrame-since : (d d' : List dir.Frame) (r r' : regs.Register) → Since r r' → SameBlocks d d' → (dir.frame_at d' r.frame).pending ≡ (dir.frame_at d r.frame).pending → HasFrame d r → HasFrame d' r'
+HasFrame-since d d' r r' w s p h =
+    record {
+      holds = ap (dir.frame_of d') w.block ∙ s.holds r.block ∙ h.holds ∙ ap Some (sym w.frame);
+      cells = ap (λ f. length (dir.frame_at d' f).cells) w.frame ∙ s.cells r.frame ∙ h.cells ∙ sym w.count;
+      pending = ap (λ f. (dir.frame_at d' f).pending) w.frame ∙ p ∙ h.pending;
+    }
+
+lt_from : {k m : ℕ} → (k ≡ m) ⊎ ((k < m) ⊎ (m < k)) → (m ≡ k → ⊥) → k ≤ m → k < m
+lt_from (inl e) n p = absurd (n (sym e))
+lt_from (inr (inl l)) n p = l
+lt_from (inr (inr l)) n p = absurd (omega arith)
+
+Stands-remove : (st : List Entry) (k s i : ℕ) → k < length st → (h : Stands st s i) → (h.place ≡ k → ⊥) → Stands (remove st k) s i
+Stands-remove st k s i l h n =
+    let z = length-remove st k l in
+    elim (cases_lt h.place k) [
+      | inl p ↦ (
+          let e : entry_at (remove st k) h.place ≡ entry_at st h.place = get_or-remove_below st k no_entry h.place p l in
+          record { place = h.place; within = omega (arith, z); slot = rw e h.slot; word = rw e h.word })
+      | inr p ↦ (
+          let q : k < h.place = lt_from (cases_order k h.place) n p in
+          let w : (h.place - 1) + 1 ≡ h.place = omega arith in
+          let e : entry_at (remove st k) (h.place - 1) ≡ entry_at st h.place = get_or-remove_above st k no_entry (h.place - 1) (omega arith) l ∙ rw w refl in
+          record { place = h.place - 1; within = omega (arith, z, h.within); slot = rw e h.slot; word = rw e h.word })
+    ]
+
+marked_by : (b : Bool) (r : regs.Register) (fs : List regs.Field) (i : ℕ) → (regs.field_of (if b then regs.free_register else record r { fields = fs }) i).in_stack ≡ true → (get_or fs i regs.clear_field).in_stack ≡ true
+marked_by true r fs i h = absurd (false≢true h)
+marked_by false r fs i h = h
+
+-- a word that is still marked is another one, and was marked
+marked-finished : (r : regs.Register) (i j : ℕ) → i < length r.fields → (regs.field_of (regs.finished r i) j).in_stack ≡ true → (j ≡ i → ⊥) × ((regs.field_of r j).in_stack ≡ true)
+unfolding regs.finished
+marked-finished r i j l h =
+    let m = marked_by (list_all (λ f. f.processed) (regs.finished_fields r i)) r (regs.finished_fields r i) j h in
+    elim (cases_eq j i) [
+      | inl e ↦ absurd (false≢true (sym (ap (λ (f : regs.Field). f.in_stack) (get_or-set_same r.fields i regs.finished_field regs.clear_field l)) ∙ (rw e at m)))
+      | inr e ↦ (e, rw (get_or-set_other r.fields i j regs.finished_field regs.clear_field e) at m)
+    ]
+
+mark_kept : (rs : List regs.Register) (st : List Entry) (k s i s' i' : ℕ) → k < length st → s < length rs → i < length (regs.register_at rs s).fields → (entry_at st k).slot ≡ s → (entry_at st k).i ≡ i → ((t j : ℕ) → (regs.field_of (regs.register_at rs t) j).in_stack ≡ true → Stands st t j) → (regs.field_of (regs.register_at (set rs s (regs.finished (regs.register_at rs s) i)) s') i').in_stack ≡ true → Stands (remove st k) s' i'
+mark_kept rs st k s i s' i' p l t a b f h =
+    elim (cases_eq s' s) [
+      | inl e ↦ (
+          let same : regs.register_at (set rs s (regs.finished (regs.register_at rs s) i)) s' ≡ regs.finished (regs.register_at rs s) i = rw e (get_or-set_same rs s (regs.finished (regs.register_at rs s) i) regs.free_register l) in
+          let m = marked-finished (regs.register_at rs s) i i' t (rw same at h) in
+          let w = f s i' m.1 in
+          rw e (Stands-remove st k s i' p w (λ z. m.0 (sym w.word ∙ ap (λ (n : ℕ). (entry_at st n).i) z ∙ b))))
+      | inr e ↦ (
+          let same : regs.register_at (set rs s (regs.finished (regs.register_at rs s) i)) s' ≡ regs.register_at rs s' = get_or-set_other rs s s' (regs.finished (regs.register_at rs s) i) regs.free_register e in
+          let w = f s' i' (rw same at h) in
+          Stands-remove st k s' i' p w (λ z. e (sym w.slot ∙ ap (λ (n : ℕ). (entry_at st n).slot) z ∙ a)))
+    ]
+
+length_by : (b : Bool) (r : regs.Register) (fs : List regs.Field) (n : ℕ) → (r.valid ≡ true → length fs ≡ n) → (if b then regs.free_register else record r { fields = fs }).valid ≡ true → length (if b then regs.free_register else record r { fields = fs }).fields ≡ n
+length_by true r fs n f h = absurd (false≢true h)
+length_by false r fs n f h = f h
+
+length-finished : (r : regs.Register) (i n : ℕ) → (r.valid ≡ true → length r.fields ≡ n) → (regs.finished r i).valid ≡ true → length (regs.finished r i).fields ≡ n
+unfolding regs.finished
+length-finished r i n f h =
+    length_by (list_all (λ g. g.processed) (regs.finished_fields r i)) r (regs.finished_fields r i) n (λ v. length-set r.fields i regs.finished_field ∙ f v) h
+
+pub length_kept : (words : ℕ) (rs : List regs.Register) (s s' : ℕ) (r : regs.Register) → s < length rs → (r.valid ≡ true → length r.fields ≡ words) → ((t : ℕ) → (regs.register_at rs t).valid ≡ true → length (regs.register_at rs t).fields ≡ words) → (regs.register_at (set rs s r) s').valid ≡ true → length (regs.register_at (set rs s r) s').fields ≡ words
+length_kept words rs s s' r l f g h =
+    elim (cases_eq s' s) [
+      | inl e ↦ (
+          let same : regs.register_at (set rs s r) s' ≡ r = rw e (get_or-set_same rs s r regs.free_register l) in
+          rw same (f (rw same at h)))
+      | inr e ↦ (
+          let same : regs.register_at (set rs s r) s' ≡ regs.register_at rs s' = get_or-set_other rs s s' r regs.free_register e in
+          rw same (g s' (rw same at h)))
+    ]
+
+module _ (z : Sizes) (d : dir.Frames) (rs : List regs.Register) (st : List Entry) (q : Queue) (ready : List Reply) (h : IsSound z d rs st q ready) (k : ℕ) (p : k < length st) (word : Word) (keep : Lanes) where
+  abbrev e : Entry
+  e = entry_at st k
+
+  abbrev r : regs.Register
+  r = regs.register_at rs (entry_at st k).slot
+
+  abbrev last : Bool
+  last = list_all (λ f. f.processed) (regs.finished_fields (regs.register_at rs (entry_at st k).slot) (entry_at st k).i)
+
+  abbrev pub d_processed : dir.Frames
+  d_processed = filled_live d (live_of (regs.register_at rs (entry_at st k).slot)) (entry_at st k).i word keep (list_all (λ f. f.processed) (regs.finished_fields (regs.register_at rs (entry_at st k).slot) (entry_at st k).i))
+
+  abbrev pub rs_processed : List regs.Register
+  rs_processed = set rs (entry_at st k).slot (regs.finished (regs.register_at rs (entry_at st k).slot) (entry_at st k).i)
+
+  slot_there : (entry_at st k).slot < length rs
+  slot_there = slot_within rs (entry_at st k).slot (entry_at st k).i (h.entries k p)
+
+  since : (s : ℕ) → regs.is_live (regs.register_at rs_processed s) ≡ true → Since (regs.register_at rs s) (regs.register_at rs_processed s)
+  since s = live_before rs (entry_at st k).slot s _ slot_there (finished-since (regs.register_at rs (entry_at st k).slot) (entry_at st k).i)
+
+  own : regs.register_at rs_processed (entry_at st k).slot ≡ regs.finished (regs.register_at rs (entry_at st k).slot) (entry_at st k).i
+  own = get_or-set_same rs (entry_at st k).slot _ regs.free_register slot_there
+
+  -- where the last word comes, no other live register has the frame, and its own is free
+  not_settled : (s : ℕ) → regs.is_live (regs.register_at rs_processed s) ≡ true → last ≡ true → live_of r ≡ Some (regs.register_at rs s).frame → ⊥
+  not_settled s l t w =
+      let o = live_of-some r.obsolete r.frame _ w in
+      let live : regs.is_live r ≡ true = rw ((h.entries k p).valid, o.0) refl in
+      let x : s ≡ (entry_at st k).slot = frame_apart z d rs st q ready s _ h (since s l).live live (sym o.1) in
+      let l' : regs.is_live (regs.finished r (entry_at st k).i) ≡ true = sym (ap regs.is_live (ap (regs.register_at rs_processed) x ∙ own)) ∙ l in
+      false≢true (sym (finished-last r (entry_at st k).i l') ∙ t)
+
+  frames_kept : (s : ℕ) → regs.is_live (regs.register_at rs_processed s) ≡ true → HasFrame d_processed.frames (regs.register_at rs_processed s)
+  frames_kept s l =
+      let w = since s l in
+      HasFrame-since d.frames _ _ _ w (SameBlocks-filled d (live_of r) (entry_at st k).i word keep last) (pending-filled d (live_of r) (entry_at st k).i word keep last (regs.register_at rs s).frame (not_settled s l)) (h.frames s w.live)
+
+  pending_kept : (f : ℕ) → (dir.frame_at d_processed.frames f).pending ≡ true → FilledBy rs_processed f
+  pending_kept f t =
+      let b = was_pending d (live_of r) (entry_at st k).i word keep last f t in
+      let w = h.pending f b.0 in
+      elim (cases_eq w.slot (entry_at st k).slot) [
+        | inl x ↦ here w b.1 x
+        | inr x ↦ (
+            let same : regs.register_at rs_processed w.slot ≡ regs.register_at rs w.slot = get_or-set_other rs (entry_at st k).slot w.slot _ regs.free_register x in
+            record { slot = w.slot; live = ap regs.is_live same ∙ w.live; frame = ap (λ (y : regs.Register). y.frame) same ∙ w.frame })
+      ]
+    where
+      here : (w : FilledBy rs f) → (last ≡ true → live_of r ≡ Some f → ⊥) → w.slot ≡ (entry_at st k).slot → FilledBy rs_processed f
+      here w n x =
+          let live : regs.is_live r ≡ true = ap (λ s. regs.is_live (regs.register_at rs s)) (sym x) ∙ w.live in
+          let frame : r.frame ≡ f = ap (λ s. (regs.register_at rs s).frame) (sym x) ∙ w.frame in
+          let open_ : r.obsolete ≡ false = live-open r live in
+          let few : last ≡ false = is_false last (λ t. n t (rw open_ (ap Some frame))) in
+          let s = finished-still r (entry_at st k).i few live in
+          record { slot = (entry_at st k).slot; live = ap regs.is_live own ∙ s.0; frame = ap (λ (y : regs.Register). y.frame) own ∙ s.1 ∙ frame }
+
+  pub IsSound-processed : (ready' : List Reply) → length ready' ≡ length ready + length (regs.field_of r (entry_at st k).i).waiting → IsSound z d_processed rs_processed (remove st k) q ready'
+  IsSound-processed ready' n =
+      record {
+        ranges = h.ranges;
+        slots = length-set rs (entry_at st k).slot _ ∙ h.slots;
+        lengths = λ s t. length_kept z.block_words rs (entry_at st k).slot s _ slot_there (length-finished r (entry_at st k).i z.block_words (h.lengths (entry_at st k).slot)) h.lengths t;
+        live_apart = apart_before rs rs_processed since h.live_apart;
+        entries = λ j l. (
+            let b = Before-at st k j p l in
+            rw b.same (entry_kept rs (entry_at st k).slot (entry_at st k).i _ _ slot_there (h.entries (before k j) b.within) (λ a c. other_word z d rs st q ready k (before k j) h p b.within b.other a c)));
+        distinct = λ i j l m a c. (
+            let t = length-remove st k p in
+            let bi = Before-at st k i p (omega arith) in
+            let bj = Before-at st k j p m in
+            h.distinct (before k i) (before k j) (before-lt k i j l) bj.within (rw (bi.same, bj.same) at a) (rw (bi.same, bj.same) at c));
+        marks = λ s i t. mark_kept rs st k (entry_at st k).slot (entry_at st k).i s i p slot_there (h.entries k p).there refl refl h.marks t;
+        frames = frames_kept;
+        pending = pending_kept;
+        room = (
+            let a = sum_by-set register_waits rs (entry_at st k).slot (regs.finished r (entry_at st k).i) regs.free_register slot_there in
+            let w = waits-finished r (entry_at st k).i (h.entries k p).there in
+            let o = h.room in
+            omega (arith, n, a, w, o));
+        limit = h.limit;
+        within = h.within;
+        addresses = h.addresses;
+      }
+
+-- ---- what the calls of the step need
+
+CanFill-by : (o : Bool) (d : dir.Frames) (r : regs.Register) (i : ℕ) → r.obsolete ≡ o → r.valid ≡ true → i < length r.fields → (regs.is_live r ≡ true → HasFrame d.frames r) → CanFill d (if o then None else Some r.frame) i
+CanFill-by true d r i e v l h = tt
+CanFill-by false d r i e v l h =
+    let f = h (rw (v, e) refl) in
+    ((frame_of-some d.frames r.block r.frame f.holds).0, omega (arith, f.cells))
+
+pub CanFill-live : (z : Sizes) (d : dir.Frames) (rs : List regs.Register) (st : List Entry) (q : Queue) (ready : List Reply) (k : ℕ) → IsSound z d rs st q ready → k < length st → CanFill d (live_of (regs.register_at rs (entry_at st k).slot)) (entry_at st k).i
+CanFill-live z d rs st q ready k h p =
+    let r = regs.register_at rs (entry_at st k).slot in
+    let e = h.entries k p in
+    CanFill-by r.obsolete d r (entry_at st k).i refl e.valid e.there (h.frames (entry_at st k).slot)
+
+pub room_for : (z : Sizes) (d : dir.Frames) (rs : List regs.Register) (st : List Entry) (q : Queue) (ready : List Reply) (k : ℕ) → IsSound z d rs st q ready → k < length st → length ready + length (regs.field_of (regs.register_at rs (entry_at st k).slot) (entry_at st k).i).waiting ≤ 64
+room_for z d rs st q ready k h p =
+    let e = entry_at st k in
+    let within = slot_within rs e.slot e.i (h.entries k p) in
+    let a = sum_by-set register_waits rs e.slot (regs.finished (regs.register_at rs e.slot) e.i) regs.free_register within in
+    let w = waits-finished (regs.register_at rs e.slot) e.i (h.entries k p).there in
+    let r = h.room in
+    let f = h.ranges.few_replies in
+    omega (arith, a, w, r, f)

@@ -1,0 +1,94 @@
+-- What holds of the parts of a unit.
+use Rattle.std.specs.Prelude.{ℕ, ◌+◌, ◌-◌, ◌*◌, ◌/◌, ◌%◌, ◌<◌, ◌≤◌, ◌≡◌, Bool, true, false, List, length, Option, Some, slice_index_or}
+use Rattle.std.specs.List.{sum_by, All}
+use Rattle.flat_model.specs.Words.{zero_word}
+use Rattle.input_stack.specs.declared.Entry.{Entry}
+use Rattle.write_queue.specs.declared.Queued.{Queued}
+use Rattle.write_queue.specs.Queue.{Queue}
+use Rattle.cache_unit.specs.declared.Reply.{Reply}
+use Rattle.cache_directory.specs.Frames as dir
+use Rattle.miss_registers.specs.Registers as regs
+use Rattle.cache_unit.specs.State.{Sizes}
+
+-- each number of a unit is in its range
+pub record InRange (z : Sizes) : Type 0 where
+  pub some_words : 1 ≤ z.block_words
+  pub few_words : z.block_words ≤ 16
+  pub some_ways : 1 ≤ z.ways
+  pub few_ways : z.ways ≤ 8
+  pub some_regs : 1 ≤ z.regs
+  pub few_regs : z.regs ≤ 16
+  pub some_depth : 1 ≤ z.depth
+  pub few_depth : z.depth ≤ 16
+  pub some_memory : 1 ≤ z.words
+  pub little_memory : z.words ≤ 1048576
+  pub whole_blocks : z.words % z.block_words ≡ 0
+  pub some_sets : 1 ≤ z.sets
+  pub few_sets : z.sets ≤ 1024
+  pub some_banks : 1 ≤ z.banks
+  pub few_banks : z.banks ≤ 16
+  pub enough_commands : z.block_words ≤ z.bank_queue * z.banks
+  pub few_commands : z.bank_queue ≤ 64
+  pub enough_queue : z.block_words ≤ z.write_queue
+  pub short_queue : z.write_queue ≤ 256
+  pub some_replies : 1 ≤ z.replies
+  pub few_replies : z.replies ≤ 64
+
+abbrev pub no_entry : Entry
+no_entry = record { slot = 0; i = 0; word = zero_word }
+
+abbrev pub entry_at : List Entry → ℕ → Entry
+entry_at stack k = slice_index_or stack k no_entry
+
+-- a register has the word and waits for it, and the word stands in the stack
+pub record HasInStack (r : regs.Register) (i : ℕ) : Type 0 where
+  pub valid : r.valid ≡ true
+  pub there : i < length r.fields
+  pub waits : (regs.field_of r i).processed ≡ false
+  pub marked : (regs.field_of r i).in_stack ≡ true
+
+-- a live register's frame holds its block, and is pending
+pub record HasFrame (d : List dir.Frame) (r : regs.Register) : Type 0 where
+  pub holds : dir.frame_of d r.block ≡ Some r.frame
+  pub cells : length (dir.frame_at d r.frame).cells ≡ length r.fields
+  pub pending : (dir.frame_at d r.frame).pending ≡ true
+
+-- a live register brings the words of a frame
+pub record FilledBy (rs : List regs.Register) (f : ℕ) : Type 0 where
+  pub slot : ℕ
+  pub live : regs.is_live (regs.register_at rs slot) ≡ true
+  pub frame : (regs.register_at rs slot).frame ≡ f
+
+abbrev pub register_waits : regs.Register → ℕ
+register_waits r = sum_by (λ f. length f.waiting) r.fields
+
+-- how many loads wait
+abbrev pub waits : List regs.Register → ℕ
+waits rs = sum_by register_waits rs
+
+-- an entry for this word stands in the stack
+pub record Stands (stack : List Entry) (s i : ℕ) : Type 0 where
+  pub place : ℕ
+  pub within : place < length stack
+  pub slot : (entry_at stack place).slot ≡ s
+  pub word : (entry_at stack place).i ≡ i
+
+pub record IsSound (z : Sizes) (d : dir.Frames) (rs : List regs.Register) (stack : List Entry) (queue : Queue) (ready : List Reply) : Type 0 where
+  pub ranges : InRange z
+  -- the registers: each has a word for each of its block's, and a block has at most one live register
+  pub slots : length rs ≡ z.regs
+  pub lengths : (s : ℕ) → (regs.register_at rs s).valid ≡ true → length (regs.register_at rs s).fields ≡ z.block_words
+  pub live_apart : (s t : ℕ) → regs.is_live (regs.register_at rs s) ≡ true → regs.is_live (regs.register_at rs t) ≡ true → (regs.register_at rs s).block ≡ (regs.register_at rs t).block → s ≡ t
+  -- the stack: each entry is for a marked word, no two for one word, and each marked word has one
+  pub entries : (k : ℕ) → k < length stack → HasInStack (regs.register_at rs (entry_at stack k).slot) (entry_at stack k).i
+  pub distinct : (j k : ℕ) → j < k → k < length stack → (entry_at stack j).slot ≡ (entry_at stack k).slot → (entry_at stack j).i ≡ (entry_at stack k).i → ⊥
+  pub marks : (s i : ℕ) → (regs.field_of (regs.register_at rs s) i).in_stack ≡ true → Stands stack s i
+  -- a frame is pending exactly where a live register brings its words
+  pub frames : (s : ℕ) → regs.is_live (regs.register_at rs s) ≡ true → HasFrame d.frames (regs.register_at rs s)
+  pub pending : (f : ℕ) → (dir.frame_at d.frames f).pending ≡ true → FilledBy rs f
+  -- the loads that wait and the replies are at most so many
+  pub room : length ready + waits rs ≤ z.replies
+  -- the write queue is within its limit, and its words are in memory
+  pub limit : queue.limit ≡ z.write_queue
+  pub within : length queue.entries ≤ z.write_queue
+  pub addresses : All (λ e. e.at < z.words) queue.entries

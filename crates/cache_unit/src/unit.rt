@@ -1,0 +1,213 @@
+//! The cache unit.
+ghost use Rattle.std.specs.Prelude.{◌≡◌, ◌+◌, ◌≤◌, ◌++◌, length, slice_get};
+ghost use Rattle.memory_banks.specs.Banks.{HasSent};
+ghost use Rattle.cache_unit.specs.Steps as steps;
+ghost use Rattle.cache_unit.specs.Views as views;
+ghost use Rattle.cache_unit.specs.Parts.{filled_live, CanFill};
+
+use crate::Reply;
+use arrayvec::ArrayVec;
+use cache_directory::Directory;
+use flat_model::{Answer, Cause, Lanes, Shape, Word, merge};
+use input_stack::{Entry, InputStack};
+use memory_banks::{Command, Lines};
+use miss_registers::{OwedList, RegisterFile};
+use std::marker::Model;
+use write_queue::{Queued, WriteQueue};
+
+/// The cache's control.
+#[derive(Drop)]
+pub struct CacheUnit<const WAYS: usize, const WORDS: usize, const REGS: usize, const DEPTH: usize> {
+    shape: Shape,
+    directory: Directory<WAYS, WORDS>,
+    registers: RegisterFile<WORDS, REGS>,
+    stack: InputStack<DEPTH>,
+    queue: WriteQueue,
+    ready: ArrayVec<Reply, 64>,
+}
+
+impl<const WAYS: usize, const WORDS: usize, const REGS: usize, const DEPTH: usize> Model
+    for CacheUnit<WAYS, WORDS, REGS, DEPTH> {
+    ghost use Rattle.cache_unit.specs.State.{UnitState};
+
+    ghost Value = { UnitState };
+
+    ghost use Rattle.cache_unit.specs.View.{unit_shown, IsSoundUnit};
+
+    ghost view = { unit_shown };
+
+    ghost invariant = { IsSoundUnit };
+}
+
+impl<const WAYS: usize, const WORDS: usize, const REGS: usize, const DEPTH: usize> CacheUnit<
+    WAYS,
+    WORDS,
+    REGS,
+    DEPTH,
+> {
+    /// How many words stand in the input stack.
+    pub fn stack_len(&self) -> u32
+        ensures { result ≡ length self.now.cache.stack }
+    {
+        self.stack.len()
+    }
+
+    /// The entry of the input stack at `place`, where there is one.
+    pub fn stack_entry(&self, place: u32) -> Option<Entry>
+        ensures { result ≡ slice_get self.now.cache.stack place }
+    {
+        self.stack.get(place)
+    }
+
+    /// How many words stand in the write queue.
+    pub fn queue_len(&self) -> u32
+        ensures { result ≡ length self.now.cache.queue }
+    {
+        self.queue.len()
+    }
+
+    /// The entry of the write queue at `place`, where there is one.
+    pub fn queue_entry(&self, place: u32) -> Option<Queued>
+        ensures { result ≡ slice_get self.now.cache.queue place }
+    {
+        self.queue.get(place)
+    }
+
+    /// How many values stand ready.
+    pub fn replies_len(&self) -> u32
+        ensures { result ≡ length self.now.cache.ready }
+    {
+        self.ready.len() as u32
+    }
+
+    /// The value that a take at `place` would answer, where there is one.
+    pub fn reply(&self, place: u32) -> Option<Answer>
+        ensures { result ≡ views.reply_view self.now.cache place }
+    {
+        self.ready.get(place as usize).map(value_of)
+    }
+
+    /// Sends the front of the write queue to its bank. `Nothing` says that the queue is empty, and
+    /// a refusal (10) that the bank has no room; both leave everything unchanged.
+    #[tactic(auto, unfolding(crate::specs::Steps::drain_step))]
+    pub fn drain<L: Lines>(&mut self, lines: &mut L) -> Answer
+        ensures answer { result ≡ (steps.drain_step self.old.sizes (L.room_of lines.old) self.old.cache).answer }
+        ensures unit { self.new
+            ≡ record self.old { cache = (steps.drain_step self.old.sizes (L.room_of lines.old) self.old.cache).cache } }
+        ensures lines { HasSent L.sent_to L.room_of L.same lines.old lines.new (steps.drain_step self.old.sizes (L.room_of lines.old) self.old.cache).sent }
+    {
+        let Some(front) = self.queue.front() else {
+            return Answer::Nothing;
+        };
+        let bank = front.at % self.shape.banks;
+        if lines.room(bank) == 0 {
+            return Answer::Refused(Cause::BankFull);
+        }
+        self.queue.pop();
+        let place = front.at / self.shape.banks;
+        lines.send(
+            bank,
+            Command::Write {
+                place,
+                word: front.word,
+                lanes: front.lanes,
+            },
+        );
+        Answer::Moved
+    }
+
+    /// Takes a reply.
+    #[tactic(auto, unfolding(crate::specs::Steps::take_step))]
+    pub fn take(&mut self, place: u32) -> Answer
+        ensures answer { result ≡ (steps.take_step self.old.cache place).answer }
+        ensures unit { self.new ≡ record self.old { cache = (steps.take_step self.old.cache place).cache } }
+    {
+        if (place as usize) < self.ready.len() {
+            let reply = self.ready.remove(place as usize);
+            Answer::Value {
+                tag: reply.tag,
+                word: reply.word,
+            }
+        } else {
+            Answer::Nothing
+        }
+    }
+
+    /// Puts a word that came from memory into the stack.
+    pub fn arrive(&mut self, slot: u32, i: u32, word: Word) -> Answer
+        ensures answer { result ≡ (steps.arrive_step self.old.sizes self.old.cache slot i word).answer }
+        ensures unit { self.new
+            ≡ record self.old { cache = (steps.arrive_step self.old.sizes self.old.cache slot i word).cache } }
+    {
+        if !self.registers.expects(slot, i) {
+            return Answer::Refused(Cause::StrayWord);
+        }
+        match self.stack.push(Entry { slot, i, word }) {
+            Ok(()) => {
+                self.registers.mark_in_stack(slot, i);
+                Answer::Moved
+            }
+            Err(_) => Answer::Refused(Cause::StackFull),
+        }
+    }
+
+    /// Takes a word out of the stack, and answers the loads that wait for it.
+    #[tactic(auto, unfolding(crate::specs::Steps::process_step))]
+    pub fn process(&mut self, place: u32) -> Answer
+        ensures answer { result ≡ (steps.process_step self.old.cache place).answer }
+        ensures unit { self.new ≡ record self.old { cache = (steps.process_step self.old.cache place).cache } }
+    {
+        let Some(e) = self.stack.remove(place) else {
+            return Answer::Nothing;
+        };
+        let end = self.registers.finish_word(e.slot, e.i);
+        fill_live(&mut self.directory, &e, end.live, end.keep, end.last);
+        answer_all(&mut self.ready, e.word, &end.send);
+        Answer::Moved
+    }
+}
+
+// What a take of the reply answers.
+fn value_of(reply: &Reply) -> Answer
+    ensures { result ≡ Answer.Value reply.now.tag reply.now.word }
+{
+    Answer::Value {
+        tag: reply.tag,
+        word: reply.word,
+    }
+}
+
+// A live register's word goes into its frame.
+#[tactic(auto, unfolding(crate::specs::Parts::filled_live))]
+fn fill_live<const WAYS: usize, const WORDS: usize>(
+    directory: &mut Directory<WAYS, WORDS>,
+    e: &Entry,
+    live: Option<u32>,
+    keep: Lanes,
+    last: bool,
+)
+    requires { CanFill directory.old live e.now.i }
+    ensures { directory.new ≡ filled_live directory.old live e.now.i e.now.word keep last }
+{
+    if let Some(frame) = live {
+        directory.fill(frame, e.i, e.word, keep);
+        if last {
+            directory.settle_frame(frame);
+        }
+    }
+}
+
+// The loads that waited for a word are answered, in their order.
+fn answer_all(ready: &mut ArrayVec<Reply, 64>, word: Word, send: &OwedList)
+    requires { length ready.old.items + length send.now ≤ 64 }
+    ensures { ready.new.items ≡ ready.old.items ++ steps.answered word send.now }
+{
+    for k in 0..send.len() {
+        if let Some(owed) = send.get(k) {
+            ready.push(Reply {
+                tag: owed.tag,
+                word: merge(word, owed.held, owed.lanes),
+            });
+        }
+    }
+}
