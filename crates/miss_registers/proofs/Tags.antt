@@ -1,18 +1,15 @@
 -- The tags that wait.
-use Rattle.std.proofs.Common.{◌≡◌, ℕ, suc, zero, ◌+◌, ◌<◌, ◌≤◌, nat_lt, ◌==◌, Bool, true, false, ◌||◌, cond, List, [], ◌∷◌, ◌++◌, map, length, set, get_or, take, refl, ap, sym, ◌∙◌, inl, inr, arith, rules, length-append, zero-add}
+use Rattle.std.proofs.Common.{◌≡◌, ℕ, ◌+◌, ◌<◌, nat_lt, ◌==◌, Bool, true, false, ◌||◌, cond, List, [], ◌∷◌, ◌++◌, map, length, get_or, take, refl, ap, sym, ◌∙◌, arith, length-append, zero-add}
 use Rattle.std.specs.List.{list_any, flat_map, sum_by, count_by}
 use Rattle.std.proofs.lemmas.Bool.Decides.{nat_tests}
-use Rattle.std.proofs.lemmas.Grind.{common_steps}
 use Rattle.std.proofs.lemmas.List.{length-map, take_more}
 use Rattle.std.proofs.lemmas.List.Sums.{sum_by-cons, sum_by-append}
 use Rattle.std.proofs.lemmas.List.Folds.{list_any-append}
-use Rattle.std.proofs.lemmas.List.Concat.{length-flat_map}
 use Rattle.std.proofs.lemmas.Grind.{flat_map-append}
 use Rattle.miss_registers.specs.declared.Owed.{Owed}
 use Rattle.miss_registers.specs.declared.Mark.{Mark}
 use Rattle.miss_registers.specs.declared.Target.{Target}
-use Rattle.miss_registers.specs.Registers.{Field, Register, free_register, tags_of, tags_of_field, has_tag, waiting_tags, tag_waits}
-use Rattle.miss_registers.specs.Waiting.{waiting_of}
+use Rattle.miss_registers.specs.Registers.{Field, Register, tags_of, tags_of_field, has_tag, waiting_tags, tag_waits}
 use Rattle.miss_registers.specs.View.{fields_from, shown, Fitting}
 use Rattle.miss_registers.proofs.Fields.{load_sum, load_sum-all}
 

@@ -1,8 +1,8 @@
 -- Words that a register has.
-use Rattle.std.proofs.Common.{◌≡◌, ℕ, ◌<◌, ◌≤◌, Bool, true, false, length, List, get_or, refl, ap, sym, ◌∙◌, inl, inr, arith}
+use Rattle.std.proofs.Common.{◌≡◌, ℕ, ◌<◌, ◌≤◌, true, length, ap, sym, ◌∙◌, inl, inr}
 use Rattle.std.proofs.lemmas.Bool.{cases_lt, false≢true}
 use Rattle.std.proofs.lemmas.List.{get_or_past}
-use Rattle.miss_registers.specs.Registers.{Field, Register, clear_field, register_at, field_of}
+use Rattle.miss_registers.specs.Registers.{Field, Register, clear_field, field_of}
 
 -- a word that isn't there has a clear field
 pub field_past : (r : Register) (i : ℕ) → length r.fields ≤ i → field_of r i ≡ clear_field

@@ -5,7 +5,7 @@ use Rattle.flat_model.specs.Words.{zero_word, no_lanes}
 use Rattle.miss_registers.specs.declared.Owed.{Owed}
 use Rattle.miss_registers.specs.declared.RegisterView.{RegisterView}
 use Rattle.miss_registers.specs.declared.FieldView.{FieldView}
-use Rattle.miss_registers.specs.Registers.{Field, Register, register_at, field_at, is_live}
+use Rattle.miss_registers.specs.Registers.{Field, Register, field_at, is_live}
 
 -- no load
 abbrev pub no_load : Owed

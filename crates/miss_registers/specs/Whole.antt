@@ -1,5 +1,5 @@
 -- What holds of the registers at all times.
-use Rattle.std.specs.Prelude.{ℕ, ◌≤◌, ◌≡◌, Bool, true, false, ◌==◌, List, length}
+use Rattle.std.specs.Prelude.{ℕ, ◌≤◌, ◌≡◌, true, false, ◌==◌, List, length}
 use Rattle.std.specs.List.{count_by}
 use Rattle.flat_model.specs.Words.{no_lanes}
 use Rattle.miss_registers.specs.Registers.{Register, free_register, register_at, field_of, finished_field, is_live, is_done, waiting_tags}

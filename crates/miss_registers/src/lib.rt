@@ -2,6 +2,7 @@
 #![tactic(auto)]
 
 ghost use Rattle.std.specs.Prelude.{◌≡◌, ◌<◌, ◌++◌, [], ◌∷◌, length, slice_get};
+ghost use Rattle.miss_registers.specs.Views.{load_at_front};
 
 mod file;
 mod slot;
@@ -103,6 +104,25 @@ impl OwedList {
         ensures { self.new ≡ self.old ++ owed ∷ [] }
     {
         self.items.push(owed);
+    }
+
+    // The load that is answered first: one of tag 0 with nothing held where there is none.
+    fn first(&self) -> Owed
+        ensures { result ≡ load_at_front self.now }
+    {
+        match self.get(0) {
+            Some(owed) => owed,
+            None => Owed {
+                tag: 0,
+                held: Word {
+                    b0: 0,
+                    b1: 0,
+                    b2: 0,
+                    b3: 0,
+                },
+                lanes: Lanes::none(),
+            },
+        }
     }
 
     /// How many loads there are: four at most.

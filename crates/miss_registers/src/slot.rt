@@ -5,6 +5,7 @@ ghost use Rattle.miss_registers.specs.Registers as spec;
 ghost use Rattle.miss_registers.specs.Views as shows;
 ghost use Rattle.miss_registers.specs.Waiting.{waiting_of, waits_elsewhere};
 ghost use Rattle.miss_registers.specs.Marks.{clear_mark, finished_mark, without_mark_code, mark_at, expects_in, in_stack_mark, noted_mark};
+ghost use Rattle.miss_registers.specs.Fields.{field_from};
 
 use crate::{FieldView, Mark, Owed, OwedList, RegisterView, Target, WordEnd};
 use arrayvec::ArrayVec;
@@ -175,6 +176,37 @@ impl Slot {
     {
         self.targets.len() as u32
     }
+
+    /// What the register shows of itself.
+    pub fn view(&self) -> RegisterView
+        ensures { result ≡ shows.shown_register self.now }
+    {
+        RegisterView {
+            valid: self.valid,
+            obsolete: self.obsolete,
+            block: self.block,
+            frame: frame_shown(self.valid, self.obsolete, self.frame),
+            processed: processed_in(self.marks.as_slice()),
+        }
+    }
+
+    /// What the register shows of word `i`; all clear where it has no such word.
+    pub fn field(&self, i: u32) -> FieldView
+        ensures { result ≡ shows.shown_field (spec.field_of self.now i) }
+    {
+        field_shown(
+            mark_of(self.marks.as_slice(), i),
+            &waiting_for(self.targets.as_slice(), i),
+        )
+    }
+
+    /// The load at a place among those that wait for word `i`.
+    pub fn target(&self, i: u32, place: u32) -> Option<Owed>
+        ensures { result ≡ slice_get (spec.field_of self.now i).waiting place }
+    {
+        let waiting = waiting_for(self.targets.as_slice(), i);
+        waiting.get(place)
+    }
 }
 
 // The loads that wait for word `i`.
@@ -279,4 +311,51 @@ fn join_code(marks: &mut ArrayVec<Mark, 16>, i: u32, lanes: Lanes)
         processed: m.processed,
         code: m.code.joined(lanes),
     };
+}
+
+// A register that isn't live shows no frame.
+fn frame_shown(valid: bool, obsolete: bool, frame: u32) -> u32
+    ensures { result ≡ (if valid && not obsolete then frame else 0) }
+{
+    if valid && !obsolete { frame } else { 0 }
+}
+
+// How many words are processed.
+fn processed_in(marks: &[Mark]) -> u32
+    requires { length marks.now ≤ 16 }
+    ensures { result ≡ count_by (λ m. m.processed) marks.now }
+{
+    marks.iter().filter(|m| m.processed).count() as u32
+}
+
+// What is kept of word `i`: nothing where there is no such word.
+fn mark_of(marks: &[Mark], i: u32) -> Mark
+    ensures { result ≡ mark_at marks.now i }
+{
+    if (i as usize) < marks.len() {
+        marks[i as usize]
+    } else {
+        Mark {
+            in_stack: false,
+            processed: false,
+            code: Lanes::none(),
+        }
+    }
+}
+
+// What a word with this mark and these loads shows.
+fn field_shown(mark: Mark, waiting: &OwedList) -> FieldView
+    ensures { result ≡ shows.shown_field (field_from mark waiting.now) }
+{
+    let first = waiting.first();
+    FieldView {
+        send: waiting.len() > 0,
+        in_stack: mark.in_stack,
+        processed: mark.processed,
+        code: mark.code,
+        tag: first.tag,
+        held_lanes: first.lanes,
+        held: first.held,
+        targets: waiting.len(),
+    }
 }

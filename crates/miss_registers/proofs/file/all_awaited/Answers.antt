@@ -1,6 +1,6 @@
-use Rattle.std.proofs.Common.{◌≡◌, ◌+◌, length, get_or, take, sym, ◌∙◌, ap, arith}
+use Rattle.std.proofs.Common.{◌≡◌, length, get_or, sym, ◌∙◌, ap, arith}
 use Rattle.std.proofs.lemmas.List.{get_or_default}
-use Rattle.miss_registers.specs.Registers.{Register, free_register, tags_of, waiting_tags}
+use Rattle.miss_registers.specs.Registers.{Register, free_register, tags_of}
 use Rattle.miss_registers.proofs.Tags.{waiting_tags-none, length-waiting_tags_more}
 use Rattle.miss_registers.proofs.file.all_awaited.Goals as goal
 

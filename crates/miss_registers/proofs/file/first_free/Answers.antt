@@ -1,6 +1,6 @@
-use Rattle.std.proofs.Common.{◌≡◌, ℕ, ◌<◌, Bool, not, true, false, length, get_or, sym, ◌∙◌, ap, arith, rules}
+use Rattle.std.proofs.Common.{◌≡◌, not, true, get_or, sym, ◌∙◌, ap, arith}
 use Rattle.std.proofs.lemmas.List.{get_or_default}
-use Rattle.miss_registers.specs.Registers.{Register, free_register}
+use Rattle.miss_registers.specs.Registers.{free_register}
 use Rattle.miss_registers.proofs.Places.{free_slot-first, free_slot-none}
 use Rattle.miss_registers.proofs.file.first_free.Goals as goal
 

@@ -1,6 +1,6 @@
-use Rattle.std.proofs.Common.{◌≡◌, ◌<◌, List, length, sym, ◌∙◌}
+use Rattle.std.proofs.Common.{◌≡◌, ◌<◌, length, ◌∙◌}
 use Rattle.std.proofs.lemmas.List.{get_or_default}
-use Rattle.miss_registers.specs.Registers.{Register, free_register, register_at}
+use Rattle.miss_registers.specs.Registers.{free_register, register_at}
 use Rattle.miss_registers.proofs.Words.{in_stack_there}
 use Rattle.miss_registers.proofs.file.RegisterFile.finish_word.Goals as goal
 
