@@ -144,16 +144,17 @@ module _ (z : Sizes) (m : Machine) (b place : ℕ) (a : BankAnswer) (h : IsSound
 
 arrived_ok : (z : Sizes) (m : Machine) (b place : ℕ) → IsSound z m → (o : Option BankAnswer) → slice_get (bank_at m.banks b).answers place ≡ o → KeptBy z m (Arrive b place) (arrive_from z m b place o)
 unfolding moved_in arrive_cause
-arrived_ok z m b place h None e = record { sound = h; run = refl }
+arrived_ok z m b place h None e = record { sound = h; run = refl; few = λ l. l }
 arrived_ok z m b place h (Some a) e =
     subst (λ t. KeptBy z m (Arrive b place) (take_in z m b place a (cond t (Some StrayWord) (first_cause ((nat_le z.depth (length m.cache.stack), StackFull) ∷ []))))) (sym (not_stray z m b place a h e)) (go (nat_le z.depth (length m.cache.stack)))
   where
     go : (t : Bool) → KeptBy z m (Arrive b place) (take_in z m b place a (cond t (Some StackFull) None))
-    go true = record { sound = h; run = refl }
+    go true = record { sound = h; run = refl; few = λ l. l }
     go false =
         record {
           sound = sound_after z m b place a h e;
-          run = ap Some (sym (flat_of-same z m (moved_in m b place a) (record { words = words_same z m b place a h e; owing = λ tag. ap (λ ds. due_in ds tag) (dues_same z m b place a h e) })));
+          run = ap Some (sym (flat_of-same z m (moved_in m b place a) (record { words = words_same z m b place a h e; owing = λ tag. ap (λ ds. due_in ds tag) (dues_same z m b place a h e); as_many = ap length (dues_same z m b place a h e) })));
+          few = λ l. subst (λ n. n ≤ z.replies) (sym (ap length (dues_same z m b place a h e))) l;
         }
 
 pub arrive_ok : (z : Sizes) (m : Machine) (b place : ℕ) → IsSound z m → Kept z m (Arrive b place)

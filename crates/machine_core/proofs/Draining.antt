@@ -147,16 +147,17 @@ module _ (z : Sizes) (lawful : IsLawful z) (m : Machine) (h : IsSound z m) (q : 
 
 drained_ok : (z : Sizes) (lawful : IsLawful z) (m : Machine) → IsSound z m → (queue : List Queued) → m.cache.queue ≡ queue → KeptBy z m Drain (joined_with m.banks (drain_first z (room_in z.bank_queue m.banks) m.cache queue))
 unfolding drained
-drained_ok z lawful m h [] e = record { sound = h; run = refl }
+drained_ok z lawful m h [] e = record { sound = h; run = refl; few = λ l. l }
 drained_ok z lawful m h (q ∷ rest) e = go (nat_lt 0 (room_in z.bank_queue m.banks (q.at % z.banks)))
   where
     go : (t : Bool) → KeptBy z m Drain (joined_with m.banks (cond t (record { answer = Rattle.flat_model.specs.declared.Answer.TheVariants.Moved; cache = record m.cache { queue = rest }; sent = (q.at % z.banks, Write (q.at / z.banks) q.word q.lanes) ∷ [] }) (record { answer = Rattle.flat_model.specs.declared.Answer.TheVariants.Refused Rattle.flat_model.specs.declared.Cause.TheVariants.BankFull; cache = m.cache; sent = [] })))
     go true =
         record {
           sound = sound_after z lawful m h q rest e;
-          run = ap Some (sym (flat_of-same z m (drained z lawful m h q rest e) (record { words = words_same z lawful m h q rest e; owing = λ tag. ap (λ ds. due_in ds tag) (dues_kept z lawful m h q rest e) })));
+          run = ap Some (sym (flat_of-same z m (drained z lawful m h q rest e) (record { words = words_same z lawful m h q rest e; owing = λ tag. ap (λ ds. due_in ds tag) (dues_kept z lawful m h q rest e); as_many = ap length (dues_kept z lawful m h q rest e) })));
+          few = λ l. subst (λ n. n ≤ z.replies) (sym (ap length (dues_kept z lawful m h q rest e))) l;
         }
-    go false = record { sound = h; run = refl }
+    go false = record { sound = h; run = refl; few = λ l. l }
 
 pub drain_ok : (z : Sizes) (lawful : IsLawful z) (m : Machine) → IsSound z m → Kept z m Drain
 unfolding drain_step

@@ -275,4 +275,4 @@ module _ (z : Sizes) (lawful : IsLawful z) (m : Machine) (h : IsSound z m) (bloc
       }
 
   pub given_up_same : Same z m given_up
-  given_up_same = record { words = words_given_up; owing = λ tag. ap (λ ds. due_in ds tag) dues_given_up }
+  given_up_same = record { words = words_given_up; owing = λ tag. ap (λ ds. due_in ds tag) dues_given_up; as_many = ap length dues_given_up }

@@ -93,7 +93,7 @@ module _ (z : Sizes) (m : Machine) (h : IsSound z m) (f : ℕ) (free : (frame_at
       }
 
   pub cleared_same : Same z m cleared
-  cleared_same = record { words = same_words; owing = λ tag. ap (λ ds. due_in ds tag) same_dues }
+  cleared_same = record { words = same_words; owing = λ tag. ap (λ ds. due_in ds tag) same_dues; as_many = ap length same_dues }
 
 -- ---- the frame that is chosen
 
@@ -181,7 +181,7 @@ fill_frame z lawful m m1 block f slot h same absent free f_there own invalid slo
     let s = with_block_same z lawful m1 h block f slot absent free f_there invalid slot_there in_memory orders ordered in
     record {
       sound = with_block_sound z lawful m1 h block f slot absent free f_there invalid slot_there in_memory orders ordered;
-      same = record { words = λ at. s.words at ∙ same.words at; owing = λ tag. s.owing tag ∙ same.owing tag };
+      same = record { words = λ at. s.words at ∙ same.words at; owing = λ tag. s.owing tag ∙ same.owing tag; as_many = s.as_many ∙ same.as_many };
       frame = f;
       present = with_block_present z lawful m1 h block f slot absent free f_there invalid slot_there in_memory orders ordered;
     }
@@ -287,7 +287,7 @@ fetch_ok z lawful m h block in_memory able = go (frame_of m.cache block) refl
 
     go : (o : Option ℕ) → frame_of m.cache block ≡ o → FetchedBy z m block (fetched_machine z m block)
     go (Some k) e =
-        subst (λ b. FetchedBy z m block (by b (choose z m.cache block) (free_slot m.cache))) (sym (ap is_some e)) (record { sound = h; same = record { words = λ at. refl; owing = λ tag. refl }; frame = k; present = e })
+        subst (λ b. FetchedBy z m block (by b (choose z m.cache block) (free_slot m.cache))) (sym (ap is_some e)) (record { sound = h; same = record { words = λ at. refl; owing = λ tag. refl; as_many = refl }; frame = k; present = e })
     go None e =
         let a = able (ap is_some e) in
         subst (λ b. FetchedBy z m block (by b (choose z m.cache block) (free_slot m.cache))) (sym (ap is_some e)) (taken (free_slot m.cache) refl (choose z m.cache block) refl (some_slot z m h a.0) (some_frame z lawful m h block a.1) e)

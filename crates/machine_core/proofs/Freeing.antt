@@ -159,7 +159,7 @@ module _ (z : Sizes) (lawful : IsLawful z) (m : Machine) (s : ℕ) (h : IsSound 
       }
 
   freed_same : Same z m freed
-  freed_same = record { words = freed_words; owing = λ tag. ap (λ ds. due_in ds tag) freed_dues }
+  freed_same = record { words = freed_words; owing = λ tag. ap (λ ds. due_in ds tag) freed_dues; as_many = ap length freed_dues }
 
 -- ---- the whole step
 
@@ -261,15 +261,15 @@ turned_ok z lawful m place e h found frames filling = go (list_all (λ f. f.proc
         let all : list_all (λ f. f.processed) (register_at m1.cache e.slot).fields ≡ true = ap (λ (r : Register). list_all (λ f. f.processed) r.fields) own ∙ q in
         let sound2 = freed_sound z lawful m1 e.slot sound1 v all in
         let same2 = freed_same z lawful m1 e.slot sound1 v all in
-        let same : Same z m (turned m place e frames (set m1.cache.registers e.slot free_register)) = record { words = λ at. same2.words at ∙ same1.words at; owing = λ tag. same2.owing tag ∙ same1.owing tag } in
+        let same : Same z m (turned m place e frames (set m1.cache.registers e.slot free_register)) = record { words = λ at. same2.words at ∙ same1.words at; owing = λ tag. same2.owing tag ∙ same1.owing tag; as_many = same2.as_many ∙ same1.as_many } in
         subst (λ rs. IsSound z (turned m place e frames rs) × Same z m (turned m place e frames rs)) (set-set m.cache.registers e.slot (with_fields (register_at m.cache e.slot) fields) free_register) (sound2, same)
 
 processed_ok : (z : Sizes) (lawful : IsLawful z) (m : Machine) (place : ℕ) → IsSound z m → (o : Option Entry) → slice_get m.cache.stack place ≡ o → KeptBy z m (Process place) (joined_with m.banks (process_entry m.cache place o))
 unfolding processed
-processed_ok z lawful m place h None e = record { sound = h; run = refl }
+processed_ok z lawful m place h None e = record { sound = h; run = refl; few = λ l. l }
 processed_ok z lawful m place h (Some e) found =
     let ok = turned_ok z lawful m place e h found (filled m.cache e.slot e.i e.word).frames (filling_of z m place e h found) in
-    subst (λ (d : Cache). KeptBy z m (Process place) (record { answer = Moved; machine = record { cache = record d { stack = remove m.cache.stack place; ready = m.cache.ready ++ answered e.word (field_at m.cache e.slot e.i).waiting; registers = set m.cache.registers e.slot (finished (register_at m.cache e.slot) e.i) }; banks = m.banks } })) (sym (filled_only m.cache e.slot e.i e.word)) (record { sound = ok.0; run = ap Some (sym (flat_of-same z m _ ok.1)) })
+    subst (λ (d : Cache). KeptBy z m (Process place) (record { answer = Moved; machine = record { cache = record d { stack = remove m.cache.stack place; ready = m.cache.ready ++ answered e.word (field_at m.cache e.slot e.i).waiting; registers = set m.cache.registers e.slot (finished (register_at m.cache e.slot) e.i) }; banks = m.banks } })) (sym (filled_only m.cache e.slot e.i e.word)) (record { sound = ok.0; run = ap Some (sym (flat_of-same z m _ ok.1)); few = λ l. subst (λ n. n ≤ z.replies) (sym (ok.1.as_many)) l })
 
 pub process_ok : (z : Sizes) (lawful : IsLawful z) (m : Machine) (place : ℕ) → IsSound z m → Kept z m (Process place)
 unfolding process_step

@@ -337,4 +337,4 @@ module _ (z : Sizes) (lawful : IsLawful z) (m : Machine) (h : IsSound z m) (bloc
       whole_after t v = ⊎_elim (λ q. ap (λ x. length (register_at with_block.cache x).fields) q ∙ ap (λ (r : Register). length r.fields) own_register ∙ range_length _ (address z block 0) z.block_words) (λ n. ap (λ (r : Register). length r.fields) (other_register t n) ∙ h.whole_registers t (ap (λ (r : Register). r.valid) (sym (other_register t n)) ∙ v)) (cases_eq t slot)
 
   pub with_block_same : Same z m with_block
-  with_block_same = record { words = words_with_block; owing = λ tag. ap (λ ds. due_in ds tag) dues_with_block }
+  with_block_same = record { words = words_with_block; owing = λ tag. ap (λ ds. due_in ds tag) dues_with_block; as_many = ap length dues_with_block }

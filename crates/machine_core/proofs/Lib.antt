@@ -23,5 +23,6 @@ pub mod Fetching
 pub mod Opening
 pub mod Requests
 pub mod Walking
+pub mod Bounding
 pub mod Weighing
 pub mod Contract

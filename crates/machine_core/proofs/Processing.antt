@@ -1,5 +1,5 @@
 -- A word of the stack is processed.
-use Rattle.std.proofs.Common.{◌≡◌, ℕ, ◌+◌, ◌<◌, ◌≤◌, Bool, true, false, cond, not, ◌&&◌, ◌==◌, nat_lt, List, [], ◌∷◌, ◌++◌, map, length, get_or, set, Option, Some, None, option_map, find, remove, slice_get, refl, sym, ap, ap₂, ◌∙◌, subst, arith, length-set, ◌⊎◌, inl, inr, ⊎_elim, eqb-true, eq-eqb}
+use Rattle.std.proofs.Common.{◌≡◌, ℕ, ◌+◌, ◌<◌, ◌≤◌, Bool, true, false, cond, not, ◌&&◌, ◌==◌, nat_lt, List, [], ◌∷◌, ◌++◌, map, length, get_or, set, Option, Some, None, option_map, find, remove, slice_get, refl, sym, ap, ap₂, ◌∙◌, subst, arith, length-set, ◌⊎◌, inl, inr, ⊎_elim, eqb-true, eq-eqb, length-append}
 use Rattle.std.proofs.lemmas.Bool.{cases_eq, cases_Bool, and_parts, not-true, ltb-true, false_from_ne_true}
 use Rattle.std.proofs.lemmas.List.{map-append}
 use Rattle.flat_model.specs.Words.{merged, no_lanes}
@@ -333,4 +333,16 @@ module _ (z : Sizes) (m : Machine) (place : ℕ) (e : Entry) (h : IsSound z m) (
         }
 
     pub partly_same : Same z m partly
-    partly_same = record { words = words_same; owing = owing_same }
+    partly_same = record { words = words_same; owing = owing_same; as_many = as_many }
+      where
+        as_many : length (dues partly) ≡ length (dues m)
+        as_many =
+            let a = ap length dues_after in
+            let b = ap length dues_before in
+            let a1 = length-append (m.cache.ready ++ seg) (map (reply_to m) part.front ++ map (reply_to m) part.back) in
+            let a2 = length-append m.cache.ready seg in
+            let a3 = length-append (map (reply_to m) part.front) (map (reply_to m) part.back) in
+            let b1 = length-append m.cache.ready (map (reply_to m) part.front ++ (seg ++ map (reply_to m) part.back)) in
+            let b2 = length-append (map (reply_to m) part.front) (seg ++ map (reply_to m) part.back) in
+            let b3 = length-append seg (map (reply_to m) part.back) in
+            omega arith

@@ -1,7 +1,7 @@
 -- Loads, stores, prefetches and evictions.
-use Rattle.std.proofs.Common.{◌≡◌, ◌≢◌, ℕ, zero, suc, ◌+◌, ◌*◌, ◌/◌, ◌%◌, ◌<◌, ◌≤◌, Bool, true, false, cond, not, ◌&&◌, ◌||◌, ◌==◌, nat_lt, nat_le, List, [], ◌∷◌, ◌++◌, map, length, get_or, set, Option, Some, None, option_map, find, is_some, is_none, refl, sym, ap, ap₂, ◌∙◌, subst, arith, ◌⊎◌, inl, inr, ⊎_elim, ltb-true, lt-ltb, add-zero, div-add-mod', mod-lt}
+use Rattle.std.proofs.Common.{◌≡◌, ◌≢◌, ℕ, zero, suc, ◌+◌, ◌*◌, ◌/◌, ◌%◌, ◌<◌, ◌≤◌, Bool, true, false, cond, not, ◌&&◌, ◌||◌, ◌==◌, nat_lt, nat_le, List, [], ◌∷◌, ◌++◌, map, length, get_or, set, Option, Some, None, option_map, find, is_some, is_none, refl, sym, ap, ap₂, ◌∙◌, subst, arith, ◌⊎◌, inl, inr, ⊎_elim, ltb-true, lt-ltb, add-zero, div-add-mod', mod-lt, length-append}
 use Rattle.std.specs.List.{range_with_len, list_any, list_all, filter}
-use Rattle.std.proofs.lemmas.Bool.{not-false}
+use Rattle.std.proofs.lemmas.Bool.{not-false, leb-false}
 use Rattle.flat_model.specs.declared.Word.{Word}
 use Rattle.flat_model.specs.declared.Lanes.{Lanes}
 use Rattle.flat_model.specs.declared.Cause.{Cause}
@@ -12,7 +12,7 @@ use Rattle.flat_model.specs.declared.Answer.TheVariants.{Accepted, Refused}
 use Rattle.flat_model.specs.Words.{merged, has_any, zero_word}
 use Rattle.flat_model.specs.Flat.{word_at, stored, with_due, flat_after, may_answer, load_refusals, store_refusals, prefetch_refusals, is_between}
 use Rattle.cache_unit.specs.declared.Reply.{Reply}
-use Rattle.cache_unit.specs.State.{Sizes, Cache, frame_of, is_present, frame_at, live_for, free_slot, cell_of, cell_in, tags, targets, block_of, place_in, address, is_pending}
+use Rattle.cache_unit.specs.State.{Sizes, Cache, frame_of, is_present, frame_at, live_for, free_slot, cell_of, cell_in, tags, targets, block_of, place_in, address, is_pending, Target}
 use Rattle.cache_directory.specs.declared.Cell.{Cell}
 use Rattle.cache_unit.specs.Causes.{first_cause, ways_of, choose, found, targets_full, is_in_use, miss_causes, lacks_places, lacks_room, dirty_words, dirty_of_block, dirty_from, order_of, load_cause, store_cause, prefetch_cause, evict_cause}
 use Rattle.cache_unit.specs.Steps.{load_step, store_step, prefetch_step, evict_step, Stepped, unless, fetched, fetches, loaded, written, released, evicted, evicted_from, obsoleted, without}
@@ -20,7 +20,7 @@ use Rattle.machine_core.specs.Law.{IsLawful}
 use Rattle.machine_core.specs.Machine.{Machine, joined_with, flat_word, flat_due, flat_of}
 use Rattle.memory_banks.specs.Banks.{room_in}
 use Rattle.machine_core.specs.Sound.{tally, has_tag, dues, reply_to, IsSound}
-use Rattle.machine_core.proofs.Lists.{none_from_find}
+use Rattle.machine_core.proofs.Lists.{none_from_find, Adds-length}
 use Rattle.machine_core.proofs.Finding.{frame_of-some}
 use Rattle.machine_core.proofs.Coming.{flat_word-now, flat_due-in, due_in}
 use Rattle.machine_core.proofs.Sound.{Same, Kept, KeptBy, flat_of-same}
@@ -31,6 +31,7 @@ use Rattle.machine_core.proofs.Storing.{store_hit}
 use Rattle.machine_core.proofs.Installing.{range_at, range_length}
 use Rattle.machine_core.proofs.Orders.{InOrder-released}
 use Rattle.machine_core.proofs.Fetching.{Able, fetched_machine, FetchedBy, fetch_ok}
+use Rattle.std.proofs.lemmas.List.{length-map}
 
 -- ---- memory as a list
 
@@ -58,7 +59,7 @@ range_set f g a (suc n) (suc k) others l =
 -- a refusal that may come changes nothing
 refusal : (z : Sizes) (m : Machine) (event : Event) (cause : Cause) → IsSound z m → may_answer (flat_of z m) event (Refused cause) ≡ true → flat_after (flat_of z m) event (Refused cause) ≡ flat_of z m → KeptBy z m event (record { answer = Refused cause; machine = m })
 refusal z m event cause h may stays =
-    record { sound = h; run = ap (λ b. cond b (Some (flat_after (flat_of z m) event (Refused cause))) None) may ∙ ap Some stays }
+    record { sound = h; run = ap (λ b. cond b (Some (flat_after (flat_of z m) event (Refused cause))) None) may ∙ ap Some stays; few = λ l. l }
 
 -- ---- tags
 
@@ -90,6 +91,12 @@ not_due replies tag e = none_from_find (has_tag tag) replies (go (find (has_tag 
     go : (o : Option Reply) → is_some (option_map (λ (r : Reply). r.word) o) ≡ false → o ≡ None
     go None q = refl
     go (Some r) q = cc
+
+-- as many tags are awaited and ready as values are owed
+pub tags_dues : (m : Machine) → length (tags m.cache) ≡ length (dues m)
+unfolding dues
+tags_dues m =
+    length-append (map (λ (r : Reply). r.tag) m.cache.ready) _ ∙ ap₂ (λ x y. x + y) (length-map m.cache.ready (λ (r : Reply). r.tag)) (length-map (targets m.cache.registers) (λ (t : Target). t.load.tag) ∙ sym (length-map (targets m.cache.registers) (reply_to m))) ∙ sym (length-append m.cache.ready (map (reply_to m) (targets m.cache.registers)))
 
 flat_in_use : (m : Machine) (tag : ℕ) → not (is_none (flat_due m tag)) ≡ is_in_use m.cache tag
 flat_in_use m tag = ap (λ o. not (is_none o)) (flat_due-in m tag) ∙ twice (is_some (due_in (dues m) tag)) ∙ sym (in_use_is m tag)
@@ -123,8 +130,8 @@ miss_or z m block event step h refuse go_on = go (length (filter (λ r. r.valid)
 module _ (z : Sizes) (lawful : IsLawful z) (m : Machine) (h : IsSound z m) where
   -- ---- loads
 
-  accept_load : (tag at : ℕ) → at < z.words → is_in_use m.cache tag ≡ false → (m2 : Machine) → FetchedBy z m (block_of z at) m2 → KeptBy z m (Load tag at) (record { answer = Accepted; machine = record { cache = loaded m2.cache tag (place_in z at) (cell_of m2.cache (block_of z at) (place_in z at)).word (found m2.cache (block_of z at) (place_in z at)); banks = m2.banks } })
-  accept_load tag at l unused m2 f =
+  accept_load : (tag at : ℕ) → at < z.words → is_in_use m.cache tag ≡ false → length (dues m) < z.replies → (m2 : Machine) → FetchedBy z m (block_of z at) m2 → KeptBy z m (Load tag at) (record { answer = Accepted; machine = record { cache = loaded m2.cache tag (place_in z at) (cell_of m2.cache (block_of z at) (place_in z at)).word (found m2.cache (block_of z at) (place_in z at)); banks = m2.banks } })
+  accept_load tag at l unused room m2 f =
       let free : is_some (due_in (dues m2) tag) ≡ false = ap is_some (f.same.owing tag) ∙ sym (in_use_is m tag) ∙ unused in
       let fresh = not_due (dues m2) tag free in
       let by = load_hit z lawful m2 f.sound tag at fresh f.frame f.present in
@@ -137,6 +144,7 @@ module _ (z : Sizes) (lawful : IsLawful z) (m : Machine) (h : IsSound z m) where
       record {
         sound = by.sound;
         run = ap (λ b. cond b (Some (flat_after (flat_of z m) (Load tag at) Accepted)) None) may ∙ ap Some after;
+        few = λ q. (let k = Adds-length (record { tag = tag; word = by.word }) (dues m2) (dues m3) by.more in let s = f.same.as_many in omega arith);
       }
 
   load_may : (tag at : ℕ) (cause : Cause) (x y : Bool) → nat_lt at z.words ≡ x → is_in_use m.cache tag ≡ y → load_refusals x y cause ≡ true → may_answer (flat_of z m) (Load tag at) (Refused cause) ≡ true
@@ -149,7 +157,7 @@ module _ (z : Sizes) (lawful : IsLawful z) (m : Machine) (h : IsSound z m) where
   pub load_ok : (tag at : ℕ) → Kept z m (Load tag at)
   unfolding load_step load_cause
   load_ok tag at =
-      go (nat_lt at z.words) refl (is_in_use m.cache tag) refl (nat_le z.replies (length (tags m.cache))) (is_present m.cache (block_of z at)) refl
+      go (nat_lt at z.words) refl (is_in_use m.cache tag) refl (nat_le z.replies (length (tags m.cache))) refl (is_present m.cache (block_of z at)) refl
     where
       block : ℕ
       block = block_of z at
@@ -165,9 +173,9 @@ module _ (z : Sizes) (lawful : IsLawful z) (m : Machine) (h : IsSound z m) where
             sent = fetches z m.cache (block_of z at);
           }
 
-      accept : at < z.words → is_in_use m.cache tag ≡ false → (is_present m.cache (block_of z at) ≡ false → Able z m.cache (block_of z at)) → KeptBy z m (Load tag at) (joined_with m.banks step)
-      accept l u able =
-          accept_load tag at l u (fetched_machine z m (block_of z at)) (fetch_ok z lawful m h (block_of z at) (starts_in z at l) able)
+      accept : at < z.words → is_in_use m.cache tag ≡ false → nat_le z.replies (length (tags m.cache)) ≡ false → (is_present m.cache (block_of z at) ≡ false → Able z m.cache (block_of z at)) → KeptBy z m (Load tag at) (joined_with m.banks step)
+      accept l u r able =
+          accept_load tag at l u (subst (λ n. n < z.replies) (tags_dues m) (leb-false z.replies (length (tags m.cache)) r)) (fetched_machine z m (block_of z at)) (fetch_ok z lawful m h (block_of z at) (starts_in z at l) able)
 
       four : Bool
       four = targets_full m.cache (place_in z at) (found m.cache (block_of z at) (place_in z at))
@@ -181,20 +189,20 @@ module _ (z : Sizes) (lawful : IsLawful z) (m : Machine) (h : IsSound z m) where
       between StrayWord e = cc
       between _ e = refl
 
-      present_or : (x : Bool) → at < z.words → nat_lt at z.words ≡ true → is_in_use m.cache tag ≡ false → (b : Bool) → is_present m.cache (block_of z at) ≡ b → KeptBy z m (Load tag at) (joined_with m.banks (unless (first_cause (cond b ((four, TargetsFull) ∷ []) (miss_causes z (room_in z.bank_queue m.banks) m.cache (block_of z at)))) m.cache step))
-      present_or x l p u true e = by_four four
+      present_or : at < z.words → nat_lt at z.words ≡ true → is_in_use m.cache tag ≡ false → nat_le z.replies (length (tags m.cache)) ≡ false → (b : Bool) → is_present m.cache (block_of z at) ≡ b → KeptBy z m (Load tag at) (joined_with m.banks (unless (first_cause (cond b ((four, TargetsFull) ∷ []) (miss_causes z (room_in z.bank_queue m.banks) m.cache (block_of z at)))) m.cache step))
+      present_or l p u r true e = by_four four
         where
           by_four : (y : Bool) → KeptBy z m (Load tag at) (joined_with m.banks (unless (cond y (Some TargetsFull) None) m.cache step))
           by_four true = refuse_load tag at TargetsFull true false p u refl
-          by_four false = accept l u (λ q. cc)
-      present_or x l p u false e =
-          miss_or z m (block_of z at) (Load tag at) step h (λ cause q. refuse_load tag at cause true false p u (between cause q)) (λ able. accept l u (λ q. able))
+          by_four false = accept l u r (λ q. cc)
+      present_or l p u r false e =
+          miss_or z m (block_of z at) (Load tag at) step h (λ cause q. refuse_load tag at cause true false p u (between cause q)) (λ able. accept l u r (λ q. able))
 
-      go : (x : Bool) → nat_lt at z.words ≡ x → (y : Bool) → is_in_use m.cache tag ≡ y → (v b : Bool) → is_present m.cache (block_of z at) ≡ b → KeptBy z m (Load tag at) (joined_with m.banks (unless (cond (not x) (Some OutOfRange) (cond y (Some TagInUse) (cond v (Some RepliesFull) (first_cause (cond b ((four, TargetsFull) ∷ []) (miss_causes z (room_in z.bank_queue m.banks) m.cache (block_of z at))))))) m.cache step))
-      go false p y q v b e = refuse_load tag at OutOfRange false y p q refl
-      go true p true q v b e = refuse_load tag at TagInUse true true p q refl
-      go true p false q true b e = refuse_load tag at RepliesFull true false p q refl
-      go true p false q false b e = present_or true (ltb-true at z.words p) p q b e
+      go : (x : Bool) → nat_lt at z.words ≡ x → (y : Bool) → is_in_use m.cache tag ≡ y → (v : Bool) → nat_le z.replies (length (tags m.cache)) ≡ v → (b : Bool) → is_present m.cache (block_of z at) ≡ b → KeptBy z m (Load tag at) (joined_with m.banks (unless (cond (not x) (Some OutOfRange) (cond y (Some TagInUse) (cond v (Some RepliesFull) (first_cause (cond b ((four, TargetsFull) ∷ []) (miss_causes z (room_in z.bank_queue m.banks) m.cache (block_of z at))))))) m.cache step))
+      go false p y q v r b e = refuse_load tag at OutOfRange false y p q refl
+      go true p true q v r b e = refuse_load tag at TagInUse true true p q refl
+      go true p false q true r b e = refuse_load tag at RepliesFull true false p q refl
+      go true p false q false r b e = present_or (ltb-true at z.words p) p q r b e
 
   -- ---- stores
 
@@ -211,6 +219,7 @@ module _ (z : Sizes) (lawful : IsLawful z) (m : Machine) (h : IsSound z m) where
       record {
         sound = by.sound;
         run = ap (λ b. cond b (Some (flat_after (flat_of z m) (Store at word lanes) Accepted)) None) may ∙ ap Some after;
+        few = λ q. (let k = ap length by.owing in let s = f.same.as_many in omega arith);
       }
 
   refuse_store : (at : ℕ) (word : Word) (lanes : Lanes) (cause : Cause) (x y : Bool) → nat_lt at z.words ≡ x → has_any lanes ≡ y → store_refusals x y cause ≡ true → KeptBy z m (Store at word lanes) (record { answer = Refused cause; machine = m })
@@ -270,6 +279,7 @@ module _ (z : Sizes) (lawful : IsLawful z) (m : Machine) (h : IsSound z m) where
           record {
             sound = f.sound;
             run = ap (λ b. cond b (Some (flat_of z m)) None) (ap (nat_lt at) (mem_length z m) ∙ lt-ltb at z.words l) ∙ ap Some (sym (flat_of-same z m (fetched_machine z m (block_of z at)) f.same));
+            few = λ q. subst (λ n. n ≤ z.replies) (sym (f.same.as_many)) q;
           }
 
       between : (cause : Cause) → is_between cause 7 10 ≡ true → is_between cause 6 10 ≡ true
@@ -309,10 +319,10 @@ module _ (z : Sizes) (lawful : IsLawful z) (m : Machine) (h : IsSound z m) where
   evict_ok block = go (nat_lt (address z block 0) z.words) (frame_of m.cache block) refl
     where
       accept : (o : Option ℕ) → frame_of m.cache block ≡ o → KeptBy z m (Evict block) (record { answer = Accepted; machine = record { cache = evicted_from z m.cache block o; banks = m.banks } })
-      accept None e = record { sound = h; run = refl }
+      accept None e = record { sound = h; run = refl; few = λ l. l }
       accept (Some f) e =
           let ok = evicted_ok block f e in
-          record { sound = ok.0; run = ap Some (sym (flat_of-same z m (record { cache = evicted z m.cache block f; banks = m.banks }) ok.1)) }
+          record { sound = ok.0; run = ap Some (sym (flat_of-same z m (record { cache = evicted z m.cache block f; banks = m.banks }) ok.1)); few = λ l. subst (λ n. n ≤ z.replies) (sym (ok.1.as_many)) l }
 
       go : (x : Bool) (o : Option ℕ) → frame_of m.cache block ≡ o → KeptBy z m (Evict block) (joined_with m.banks (unless (cond (not x) (Some OutOfRange) (cond (not (is_some o)) (Some NotPresent) (cond (lacks_places z m.cache o) (Some QueueFull) None))) m.cache (record { answer = Accepted; cache = evicted_from z m.cache block o; sent = [] })))
       go false o e = refusal z m (Evict block) OutOfRange h refl refl

@@ -1,5 +1,5 @@
 -- A bank's turn.
-use Rattle.std.proofs.Common.{◌≡◌, ℕ, zero, suc, ◌+◌, ◌/◌, ◌%◌, ◌<◌, ◌≤◌, List, [], ◌∷◌, ◌++◌, map, length, get_or, set, Some, refl, sym, ap, ap₂, ◌∙◌, subst, append_assoc, append-nil, length-set, ⊎_elim}
+use Rattle.std.proofs.Common.{◌≡◌, ℕ, zero, suc, ◌+◌, ◌/◌, ◌%◌, ◌<◌, ◌≤◌, List, [], ◌∷◌, ◌++◌, map, length, get_or, set, Some, refl, sym, ap, ap₂, ◌∙◌, subst, append_assoc, append-nil, length-set, ⊎_elim, arith}
 use Rattle.std.proofs.lemmas.Bool.{cases_lt}
 use Rattle.std.proofs.lemmas.List.{get_or_past}
 use Rattle.flat_model.specs.Words.{merged}
@@ -76,6 +76,7 @@ with_banks-same z m banks same =
     record {
       words = with_banks-word z m banks same;
       owing = λ tag. ap (λ ds. due_in ds tag) (with_banks-dues m banks same.same_pending);
+      as_many = ap length (with_banks-dues m banks same.same_pending);
     }
 
 pub with_banks-sound : (z : Sizes) (m : Machine) (banks : List Bank) → SameBanks m.banks banks → IsSound z m → IsSound z (with_banks m banks)
@@ -128,7 +129,7 @@ there banks b first rest e =
 
 served_ok : (z : Sizes) (m : Machine) (b : ℕ) → IsSound z m → (q : List Command) → (bank_at m.banks b).queue ≡ q → KeptBy z m (Serve b) (serve_from m b q)
 unfolding with_banks
-served_ok z m b h [] e = record { sound = h; run = refl }
+served_ok z m b h [] e = record { sound = h; run = refl; few = λ l. l }
 served_ok z m b h (first ∷ rest) e =
     let bank = bank_at m.banks b in
     let same = same_banks_set m.banks b (served bank first rest) (there m.banks b first rest e) (served-pending bank first rest e) (served-words bank first rest e) (served-length bank first rest) in
@@ -136,6 +137,7 @@ served_ok z m b h (first ∷ rest) e =
     record {
       sound = with_banks-sound z m banks' same h;
       run = ap Some (sym (flat_of-same z m (with_banks m banks') (with_banks-same z m banks' same)));
+      few = λ l. subst (λ n. n ≤ z.replies) (sym ((with_banks-same z m banks' same).as_many)) l;
     }
 
 pub serve_ok : (z : Sizes) (m : Machine) (b : ℕ) → IsSound z m → Kept z m (Serve b)

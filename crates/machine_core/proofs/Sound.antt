@@ -17,6 +17,7 @@ use Rattle.machine_core.proofs.Coming.{flat_word-now, due_in, flat_due-in}
 pub record Same (z : Sizes) (m m' : Machine) : Type 0 where
   pub words : (at : ℕ) → word_now z m' at ≡ word_now z m at
   pub owing : (tag : ℕ) → due_in (dues m') tag ≡ due_in (dues m) tag
+  pub as_many : length (dues m') ≡ length (dues m)
 
 pub flat_of-same : (z : Sizes) (m m' : Machine) → Same z m m' → flat_of z m' ≡ flat_of z m
 flat_of-same z m m' s =
@@ -28,6 +29,7 @@ flat_of-same z m m' s =
 pub record KeptBy (z : Sizes) (m : Machine) (event : Event) (o : Outcome) : Type 0 where
   pub sound : IsSound z o.machine
   pub run : flat_step (flat_of z m) event o.answer ≡ Some (flat_of z o.machine)
+  pub few : length (dues m) ≤ z.replies → length (dues o.machine) ≤ z.replies
 
 abbrev pub Kept : Sizes → Machine → Event → Type 0
 Kept z m event = KeptBy z m event (apply z m event)

@@ -10,7 +10,7 @@ use Rattle.cache_unit.specs.State.{Sizes, targets}
 use Rattle.cache_unit.specs.Steps.{take_reply, take_step}
 use Rattle.machine_core.specs.Machine.{Machine, joined_with, flat_word, flat_due, flat_of}
 use Rattle.machine_core.specs.Sound.{tally, has_tag, dues, reply_to, IsSound}
-use Rattle.machine_core.proofs.Lists.{Adds, Adds-tally, Adds-right, Adds-remove}
+use Rattle.machine_core.proofs.Lists.{Adds, Adds-tally, Adds-right, Adds-remove, Adds-length}
 use Rattle.machine_core.proofs.Coming.{flat_word-now, flat_due-in}
 use Rattle.machine_core.proofs.Sound.{KeptBy, Kept}
 use Rattle.machine_core.proofs.Owing.{due_in-removed, due_in-at, with_ready, with_ready-words, with_ready-dues, with_ready-sound}
@@ -24,7 +24,7 @@ same_word-same w =
 
 took_ok : (z : Sizes) (m : Machine) (place : ℕ) → IsSound z m → (o : Option Reply) → slice_get m.cache.ready place ≡ o → KeptBy z m (Take place) (joined_with m.banks (take_reply m.cache place o))
 unfolding with_ready
-took_ok z m place h None e = record { sound = h; run = refl }
+took_ok z m place h None e = record { sound = h; run = refl; few = λ l. l }
 took_ok z m place h (Some r) e =
     let rest = remove m.cache.ready place in
     let m' = with_ready m rest in
@@ -37,6 +37,7 @@ took_ok z m place h (Some r) e =
     record {
       sound = with_ready-sound z m rest once h;
       run = ap (λ b. cond b (Some (flat_after (flat_of z m) (Take place) (Value r.tag r.word))) None) owed ∙ ap Some after;
+      few = λ l. (let k = Adds-length r (dues m') (dues m) less in omega arith);
     }
 
 pub take_ok : (z : Sizes) (m : Machine) (place : ℕ) → IsSound z m → Kept z m (Take place)

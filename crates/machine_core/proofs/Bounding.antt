@@ -1,0 +1,469 @@
+-- What is on its way stays within the limits.
+use Rattle.std.proofs.Common.{◌≡◌, ℕ, zero, suc, ◌+◌, ◌-◌, ◌/◌, ◌%◌, ◌<◌, ◌≤◌, Bool, true, false, cond, not, ◌&&◌, ◌||◌, ◌==◌, nat_lt, nat_le, List, [], ◌∷◌, ◌++◌, map, length, get_or, set, Option, Some, None, slice_get, refl, sym, ap, ◌∙◌, subst, arith, length-append, length-set, ⊎_elim, get_or-set_same, get_or-set_other, ltb-true, lt-ltb, eqb-true}
+use Rattle.std.specs.List.{list_all, list_any, filter, range_with_len}
+use Rattle.std.proofs.lemmas.Bool.{cases_eq, cases_lt, ltb-false, eqb-false}
+use Rattle.std.proofs.lemmas.List.{get_or_past, set_past}
+use Rattle.flat_model.specs.declared.Word.{Word}
+use Rattle.flat_model.specs.declared.Lanes.{Lanes}
+use Rattle.flat_model.specs.declared.Cause.{Cause}
+use Rattle.flat_model.specs.declared.Cause.TheVariants.{OutOfRange, NoLanes, TagInUse, RepliesFull, TargetsFull, NoRegister, SetPending, QueueFull, BankFull, NotPresent}
+use Rattle.flat_model.specs.declared.Event.{Event}
+use Rattle.flat_model.specs.declared.Event.TheVariants.{Load, Store, Prefetch, Evict, Drain, Serve, Arrive, Process, Take}
+use Rattle.flat_model.specs.declared.Answer.TheVariants.{Moved, Refused}
+use Rattle.flat_model.specs.Words.{no_lanes, has_any, joined}
+use Rattle.memory_banks.specs.declared.Command.{Command}
+use Rattle.memory_banks.specs.declared.Command.TheVariants.{Read, Write}
+use Rattle.memory_banks.specs.declared.BankAnswer.{BankAnswer}
+use Rattle.memory_banks.specs.Banks.{Bank, bank_at, no_bank, with_command, served, room_in, all_sent, commands_for}
+use Rattle.input_stack.specs.declared.Entry.{Entry}
+use Rattle.write_queue.specs.declared.Queued.{Queued}
+use Rattle.write_queue.specs.Queue.{queued_lanes}
+use Rattle.cache_unit.specs.declared.Reply.{Reply}
+use Rattle.cache_unit.specs.State.{Sizes, Field, Register, Cache, clear_field, free_register, frame_of, is_present, register_at, field_at, live_for, free_slot, with_cell, with_field, block_of, place_in, address, tags, is_pending}
+use Rattle.cache_unit.specs.Causes.{first_cause, ways_of, targets_full, found, is_in_use, choose, dirty_words, addresses, lacks_places, lacks_room, miss_causes, Found, Here, Coming, load_cause, store_cause, prefetch_cause, evict_cause, arrive_cause}
+use Rattle.cache_unit.specs.Steps.{Stepped, unless, without_code, made_obsolete, obsoleted, released, evicted, evicted_from, fresh_register, installed, missed, reads, fetched, fetches, loaded, noted, written_in, written, load_step, store_step, prefetch_step, evict_step, drain_first, drain_step, arrived, filled, finished, processed, process_entry, process_step, take_reply, take_step}
+use Rattle.machine_core.specs.Law.{IsLawful}
+use Rattle.machine_core.specs.Machine.{Machine, apply, joined_with, serve_from, take_in, arrive_from, without_answer, opening}
+use Rattle.machine_core.specs.Sound.{bit, dues, IsSound, IsBounded}
+use Rattle.machine_core.proofs.Processing.{done}
+use Rattle.machine_core.proofs.Freeing.{filled_only}
+use Rattle.machine_core.proofs.Requests.{tags_dues}
+use Rattle.machine_core.proofs.Walking.{event_ok}
+
+each-set : {X : Type 0} (P : X → Type 0) (d : X) (xs : List X) (k : ℕ) (y : X) → ((t : ℕ) → P (get_or xs t d)) → P y → (t : ℕ) → P (get_or (set xs k y) t d)
+each-set P d xs k y h own t =
+    ⊎_elim here (λ n. subst P (sym (get_or-set_other xs k t y d n)) (h t)) (cases_eq t k)
+  where
+    within : t ≡ k → k < length xs → P (get_or (set xs k y) t d)
+    within q l = subst P (sym (ap (λ j. get_or (set xs k y) j d) q ∙ get_or-set_same xs k y d l)) own
+
+    past : length xs ≤ k → P (get_or (set xs k y) t d)
+    past l = subst (λ ys. P (get_or ys t d)) (sym (set_past xs k y l)) (h t)
+
+    here : t ≡ k → P (get_or (set xs k y) t d)
+    here q = ⊎_elim (within q) past (cases_lt k (length xs))
+
+-- ---- registers that wait, and the length of the write queue
+
+-- a register that waits for a word, where it is valid
+abbrev Waits : Register → Type 0
+Waits r = r.valid ≡ true → list_all (λ (f : Field). f.processed) r.fields ≡ false
+
+record Little (z : Sizes) (c : Cache) : Type 0 where
+  wait : (s : ℕ) → Waits (get_or c.registers s free_register)
+  queued : length c.queue ≤ z.write_queue
+
+all-set : (fields : List Field) (i : ℕ) (f : Field) → f.processed ≡ (get_or fields i clear_field).processed → list_all (λ (x : Field). x.processed) (set fields i f) ≡ list_all (λ (x : Field). x.processed) fields
+all-set [] i f e = refl
+all-set (x ∷ fields) zero f e = ap (λ b. b && list_all (λ (y : Field). y.processed) fields) e
+all-set (x ∷ fields) (suc i) f e = ap (λ b. x.processed && b) (all-set fields i f e)
+
+all-codeless : (fields : List Field) → list_all (λ (x : Field). x.processed) (map without_code fields) ≡ list_all (λ (x : Field). x.processed) fields
+all-codeless [] = refl
+all-codeless (f ∷ fields) = ap (λ b. f.processed && b) (all-codeless fields)
+
+fresh_waits : (queue : List Queued) (a n : ℕ) → 0 < n → list_all (λ (x : Field). x.processed) (map (λ at. record { processed = false; code = queued_lanes queue at; waiting = [] }) (range_with_len a n)) ≡ false
+fresh_waits queue a zero l = absurd (omega arith)
+fresh_waits queue a (suc n) l = refl
+
+-- ---- a miss
+
+little_released : (z : Sizes) (c : Cache) (f : ℕ) → Little z c → lacks_places z c (Some f) ≡ false → Little z (released z c f)
+unfolding released
+little_released z c f h e =
+    record {
+      wait = h.wait;
+      queued = let n = length-append c.queue (dirty_words z c (Some f)) in let l = ltb-false (z.write_queue - length c.queue) (length (dirty_words z c (Some f))) e in let q = h.queued in omega arith;
+    }
+
+little_installed : (z : Sizes) (c : Cache) (block f slot : ℕ) → 0 < z.block_words → Little z c → Little z (installed z c block f slot)
+unfolding installed
+little_installed z c block f slot some h =
+    record {
+      wait = each-set Waits free_register c.registers slot (fresh_register z c.queue block) h.wait (λ v. fresh_waits c.queue (address z block 0) z.block_words some);
+      queued = h.queued;
+    }
+
+little_fetched : (z : Sizes) (c : Cache) (block : ℕ) → 0 < z.block_words → Little z c → (is_present c block ≡ false → lacks_places z c (choose z c block) ≡ false) → Little z (fetched z c block)
+unfolding fetched
+little_fetched z c block some h places = go (is_present c block) refl (choose z c block) refl (free_slot c)
+  where
+    go : (b : Bool) → is_present c block ≡ b → (o : Option ℕ) → choose z c block ≡ o → (s : Option ℕ) → Little z (cond b c (missed z c block o s))
+    go true p o q s = h
+    go false p None q s = h
+    go false p (Some f) q None = h
+    go false p (Some f) q (Some slot) =
+        little_installed z (released z c f) block f slot some (little_released z c f h (ap (lacks_places z c) (sym q) ∙ places p))
+
+-- ---- loads and stores of a present block
+
+little_field : (z : Sizes) (c : Cache) (slot i : ℕ) (f : Field) → Little z c → f.processed ≡ (field_at c slot i).processed → Little z (with_field c slot i f)
+unfolding with_field
+little_field z c slot i f h e =
+    record {
+      wait = each-set Waits free_register c.registers slot (record (register_at c slot) { fields = set (register_at c slot).fields i f }) h.wait (λ v. all-set (register_at c slot).fields i f e ∙ h.wait slot v);
+      queued = h.queued;
+    }
+
+little_loaded : (z : Sizes) (c : Cache) (tag i : ℕ) (buffer : Word) (o : Found) → Little z c → Little z (loaded c tag i buffer o)
+little_loaded z c tag i buffer (Here w) h = record { wait = h.wait; queued = h.queued }
+little_loaded z c tag i buffer (Coming slot) h = little_field z c slot i _ h refl
+
+little_noted : (z : Sizes) (c : Cache) (o : Option ℕ) (i : ℕ) (lanes : Lanes) → Little z c → Little z (noted c o i lanes)
+little_noted z c None i lanes h = h
+little_noted z c (Some slot) i lanes h = go (field_at c slot i).processed
+  where
+    go : (b : Bool) → Little z (cond b c (with_field c slot i (record (field_at c slot i) { code = joined (field_at c slot i).code lanes })))
+    go true = h
+    go false = little_field z c slot i _ h refl
+
+little_written_in : (z : Sizes) (c : Cache) (o : Option ℕ) (i : ℕ) (word : Word) (lanes : Lanes) → Little z c → Little z (written_in c o i word lanes)
+unfolding with_cell
+little_written_in z c None i word lanes h = h
+little_written_in z c (Some f) i word lanes h = record { wait = h.wait; queued = h.queued }
+
+little_written : (z : Sizes) (c : Cache) (block i : ℕ) (word : Word) (lanes : Lanes) → Little z c → Little z (written c block i word lanes)
+little_written z c block i word lanes h =
+    little_noted z (written_in c (frame_of c block) i word lanes) (live_for c block) i lanes (little_written_in z c (frame_of c block) i word lanes h)
+
+-- ---- evictions, and words that have come
+
+little_evicted : (z : Sizes) (c : Cache) (block : ℕ) (o : Option ℕ) → Little z c → lacks_places z c o ≡ false → Little z (evicted_from z c block o)
+unfolding evicted
+little_evicted z c block None h e = h
+little_evicted z c block (Some f) h e = both (little_released z c f h e)
+  where
+    waits : (o : Option ℕ) (s : ℕ) → Waits (get_or (obsoleted c o) s free_register)
+    waits None = h.wait
+    waits (Some slot) =
+        each-set Waits free_register c.registers slot (made_obsolete (register_at c slot)) h.wait (λ v. all-codeless (register_at c slot).fields ∙ h.wait slot v)
+
+    both : Little z (released z c f) → Little z (evicted z c block f)
+    both r = record { wait = waits (live_for c block); queued = r.queued }
+
+little_processed : (z : Sizes) (c : Cache) (place : ℕ) (e : Entry) → Little z c → Little z (processed c place e)
+unfolding processed
+little_processed z c place e h =
+    record {
+      wait = each-set Waits free_register c.registers e.slot (finished (register_at c e.slot) e.i) h.wait (fin (list_all (λ (x : Field). x.processed) (set (register_at c e.slot).fields e.i done)) refl);
+      queued = subst (λ (d : Cache). length d.queue ≤ z.write_queue) (sym (filled_only c e.slot e.i e.word)) h.queued;
+    }
+  where
+    fin : (b : Bool) → list_all (λ (x : Field). x.processed) (set (register_at c e.slot).fields e.i done) ≡ b → Waits (cond b free_register (record (register_at c e.slot) { fields = set (register_at c e.slot).fields e.i done }))
+    fin true q v = cc
+    fin false q v = q
+
+-- ---- commands
+
+abbrev Fits : Sizes → Bank → Type 0
+Fits z b = length b.queue ≤ z.bank_queue
+
+all_sent-length : (banks : List Bank) (sent : List (ℕ × Command)) → length (all_sent banks sent) ≡ length banks
+all_sent-length banks [] = refl
+all_sent-length banks (c ∷ rest) = all_sent-length (set banks c.0 (with_command (bank_at banks c.0) c.1)) rest ∙ length-set banks c.0 _
+
+one_sent : (banks : List Bank) (k : ℕ) (command : Command) (b : ℕ) → length (bank_at (set banks k (with_command (bank_at banks k) command)) b).queue ≤ length (bank_at banks b).queue + bit (k == b)
+unfolding with_command
+one_sent banks k command b = go (k == b) refl
+  where
+    new : Bank
+    new = with_command (bank_at banks k) command
+
+    old : length (bank_at banks b).queue ≤ length (bank_at banks b).queue + 1
+    old = omega arith
+
+    go : (t : Bool) → (k == b) ≡ t → length (bank_at (set banks k (with_command (bank_at banks k) command)) b).queue ≤ length (bank_at banks b).queue + bit t
+    go true e = ⊎_elim within past (cases_lt k (length banks))
+      where
+        same : k ≡ b
+        same = eqb-true k b e
+
+        within : k < length banks → length (bank_at (set banks k (with_command (bank_at banks k) command)) b).queue ≤ length (bank_at banks b).queue + 1
+        within l =
+            let own = ap (λ (x : Bank). length x.queue) (get_or-set_same banks k (with_command (bank_at banks k) command) no_bank l) in
+            let n = length-append (bank_at banks k).queue (command ∷ []) in
+            subst (λ j. length (bank_at (set banks k (with_command (bank_at banks k) command)) j).queue ≤ length (bank_at banks j).queue + 1) same (omega arith)
+
+        past : length banks ≤ k → length (bank_at (set banks k (with_command (bank_at banks k) command)) b).queue ≤ length (bank_at banks b).queue + 1
+        past l = subst (λ (xs : List Bank). length (bank_at xs b).queue ≤ length (bank_at banks b).queue + 1) (sym (set_past banks k (with_command (bank_at banks k) command) l)) old
+    go false e =
+        let other = ap (λ (x : Bank). length x.queue) (get_or-set_other banks k b (with_command (bank_at banks k) command) no_bank (λ q. eqb-false k b e (sym q))) in
+        omega arith
+
+sent_few : (banks : List Bank) (sent : List (ℕ × Command)) (b : ℕ) → length (bank_at (all_sent banks sent) b).queue ≤ length (bank_at banks b).queue + length (commands_for b sent)
+sent_few banks [] b = omega arith
+sent_few banks (c ∷ rest) b =
+    go (c.0 == b) (one_sent banks c.0 c.1 b) (sent_few (set banks c.0 (with_command (bank_at banks c.0) c.1)) rest b)
+  where
+    banks1 : List Bank
+    banks1 = set banks c.0 (with_command (bank_at banks c.0) c.1)
+
+    go : (t : Bool) → length (bank_at banks1 b).queue ≤ length (bank_at banks b).queue + bit t → length (bank_at (all_sent banks1 rest) b).queue ≤ length (bank_at banks1 b).queue + length (commands_for b rest) → length (bank_at (all_sent banks1 rest) b).queue ≤ length (bank_at banks b).queue + length (cond t (c.1 ∷ commands_for b rest) (commands_for b rest))
+    go true one ih = omega arith
+    go false one ih = omega arith
+
+reads_for : (z : Sizes) (slot b : ℕ) (ats : List ℕ) → length (commands_for b (map (λ at. (at % z.banks, Read slot (at % z.block_words) (at / z.banks))) ats)) ≡ length (filter (λ at. at % z.banks == b) ats)
+reads_for z slot b [] = refl
+reads_for z slot b (at ∷ ats) = go (at % z.banks == b) (reads_for z slot b ats)
+  where
+    sends : List (ℕ × Command)
+    sends = map (λ a. (a % z.banks, Read slot (a % z.block_words) (a / z.banks))) ats
+
+    go : (t : Bool) → length (commands_for b sends) ≡ length (filter (λ a. a % z.banks == b) ats) → length (cond t (Read slot (at % z.block_words) (at / z.banks) ∷ commands_for b sends) (commands_for b sends)) ≡ length (cond t (at ∷ filter (λ a. a % z.banks == b) ats) (filter (λ a. a % z.banks == b) ats))
+    go true ih = ap suc ih
+    go false ih = ih
+
+any_none : (p : ℕ → Bool) (a n k : ℕ) → list_any p (range_with_len a n) ≡ false → a ≤ k → k < a + n → p k ≡ false
+any_none p a zero k e lo hi = absurd (omega arith)
+any_none p a (suc n) k e lo hi = go (p a) refl e (any_none p (a + 1) n k)
+  where
+    go : (b : Bool) → p a ≡ b → (b || list_any p (range_with_len (a + 1) n)) ≡ false → (list_any p (range_with_len (a + 1) n) ≡ false → a + 1 ≤ k → k < a + 1 + n → p k ≡ false) → p k ≡ false
+    go true q r rest = cc
+    go false q r rest = ⊎_elim (λ s. ap p s ∙ q) (λ s. rest r (omega arith) (omega arith)) (cases_eq k a)
+
+-- the commands of a step that was not refused fit
+fits_sent : (z : Sizes) (banks : List Bank) (sent : List (ℕ × Command)) → ((b : ℕ) → Fits z (bank_at banks b)) → ((b : ℕ) → b < length banks → length (bank_at banks b).queue + length (commands_for b sent) ≤ z.bank_queue) → (b : ℕ) → Fits z (bank_at (all_sent banks sent) b)
+fits_sent z banks sent h room b = ⊎_elim within past (cases_lt b (length banks))
+  where
+    within : b < length banks → Fits z (bank_at (all_sent banks sent) b)
+    within l = let k = sent_few banks sent b in let r = room b l in omega arith
+
+    past : length banks ≤ b → Fits z (bank_at (all_sent banks sent) b)
+    past l =
+        let n = all_sent-length banks sent in
+        let k = ap (λ (x : Bank). length x.queue) (get_or_past (all_sent banks sent) b no_bank (omega arith)) in
+        omega arith
+
+fits_fetch : (z : Sizes) (banks : List Bank) (c : Cache) (block : ℕ) → length banks ≡ z.banks → ((b : ℕ) → Fits z (bank_at banks b)) → (is_present c block ≡ false → lacks_room z (room_in z.bank_queue banks) block ≡ false) → (b : ℕ) → Fits z (bank_at (all_sent banks (fetches z c block)) b)
+unfolding fetches
+fits_fetch z banks c block n h rooms = go (is_present c block) refl (free_slot c)
+  where
+    go : (p : Bool) → is_present c block ≡ p → (s : Option ℕ) → (b : ℕ) → Fits z (bank_at (all_sent banks (cond p [] (reads z block s))) b)
+    go true e s = h
+    go false e None = h
+    go false e (Some slot) = fits_sent z banks (reads z block (Some slot)) h room
+      where
+        room : (b : ℕ) → b < length banks → length (bank_at banks b).queue + length (commands_for b (reads z block (Some slot))) ≤ z.bank_queue
+        room b l =
+            let some = any_none (λ k. nat_lt (room_in z.bank_queue banks k) (length (filter (λ at. at % z.banks == k) (addresses z block)))) 0 z.banks b (rooms e) (omega arith) (omega arith) in
+            let le = ltb-false (room_in z.bank_queue banks b) (length (filter (λ at. at % z.banks == b) (addresses z block))) some in
+            let is : room_in z.bank_queue banks b ≡ z.bank_queue - length (bank_at banks b).queue = ap (λ t. cond t (z.bank_queue - length (bank_at banks b).queue) 0) (lt-ltb b (length banks) l) in
+            let count = reads_for z slot b (addresses z block) in
+            let fits = h b in
+            omega arith
+
+-- ---- what follows where there is no cause
+
+-- a miss has no cause
+abbrev MayMiss : Sizes → Machine → ℕ → Type 0
+MayMiss z m block = is_present m.cache block ≡ false → first_cause (miss_causes z (room_in z.bank_queue m.banks) m.cache block) ≡ None
+
+may_places : (z : Sizes) (m : Machine) (block : ℕ) → MayMiss z m block → is_present m.cache block ≡ false → lacks_places z m.cache (choose z m.cache block) ≡ false
+may_places z m block may e =
+    go (length (filter (λ (r : Register). r.valid) m.cache.registers) == z.regs) (list_all (is_pending m.cache) (ways_of z block)) (lacks_places z m.cache (choose z m.cache block)) (lacks_room z (room_in z.bank_queue m.banks) block) (may e)
+  where
+    go : (a b c d : Bool) → cond a (Some NoRegister) (cond b (Some SetPending) (cond c (Some QueueFull) (cond d (Some BankFull) None))) ≡ None → c ≡ false
+    go false false false d q = refl
+    go true b c d q = cc
+    go false true c d q = cc
+    go false false true d q = cc
+
+may_rooms : (z : Sizes) (m : Machine) (block : ℕ) → MayMiss z m block → is_present m.cache block ≡ false → lacks_room z (room_in z.bank_queue m.banks) block ≡ false
+may_rooms z m block may e =
+    go (length (filter (λ (r : Register). r.valid) m.cache.registers) == z.regs) (list_all (is_pending m.cache) (ways_of z block)) (lacks_places z m.cache (choose z m.cache block)) (lacks_room z (room_in z.bank_queue m.banks) block) (may e)
+  where
+    go : (a b c d : Bool) → cond a (Some NoRegister) (cond b (Some SetPending) (cond c (Some QueueFull) (cond d (Some BankFull) None))) ≡ None → d ≡ false
+    go false false false false q = refl
+    go true b c d q = cc
+    go false true c d q = cc
+    go false false true d q = cc
+    go false false false true q = cc
+
+load_may_miss : (z : Sizes) (m : Machine) (tag at : ℕ) → load_cause z (room_in z.bank_queue m.banks) m.cache tag at ≡ None → MayMiss z m (block_of z at)
+unfolding load_cause
+load_may_miss z m tag at e absent =
+    go (nat_lt at z.words) (is_in_use m.cache tag) (nat_le z.replies (length (tags m.cache))) (is_present m.cache (block_of z at)) absent e
+  where
+    here : List (Bool × Cause)
+    here = (targets_full m.cache (place_in z at) (found m.cache (block_of z at) (place_in z at)), TargetsFull) ∷ []
+
+    go : (a b c p : Bool) → p ≡ false → cond (not a) (Some OutOfRange) (cond b (Some TagInUse) (cond c (Some RepliesFull) (first_cause (cond p here (miss_causes z (room_in z.bank_queue m.banks) m.cache (block_of z at)))))) ≡ None → first_cause (miss_causes z (room_in z.bank_queue m.banks) m.cache (block_of z at)) ≡ None
+    go true false false false p q = q
+    go a b c true p q = cc
+    go false b c false p q = cc
+    go true true c false p q = cc
+    go true false true false p q = cc
+
+store_may_miss : (z : Sizes) (m : Machine) (at : ℕ) (lanes : Lanes) → store_cause z (room_in z.bank_queue m.banks) m.cache at lanes ≡ None → MayMiss z m (block_of z at)
+unfolding store_cause
+store_may_miss z m at lanes e absent =
+    go (nat_lt at z.words) (has_any lanes) (is_present m.cache (block_of z at)) absent e
+  where
+    go : (a b p : Bool) → p ≡ false → cond (not a) (Some OutOfRange) (cond (not b) (Some NoLanes) (first_cause (cond p [] (miss_causes z (room_in z.bank_queue m.banks) m.cache (block_of z at))))) ≡ None → first_cause (miss_causes z (room_in z.bank_queue m.banks) m.cache (block_of z at)) ≡ None
+    go true true false p q = q
+    go a b true p q = cc
+    go false b false p q = cc
+    go true false false p q = cc
+
+prefetch_may_miss : (z : Sizes) (m : Machine) (at : ℕ) → prefetch_cause z (room_in z.bank_queue m.banks) m.cache at ≡ None → MayMiss z m (block_of z at)
+unfolding prefetch_cause
+prefetch_may_miss z m at e absent = go (nat_lt at z.words) (is_present m.cache (block_of z at)) absent e
+  where
+    go : (a p : Bool) → p ≡ false → cond (not a) (Some OutOfRange) (first_cause (cond p [] (miss_causes z (room_in z.bank_queue m.banks) m.cache (block_of z at)))) ≡ None → first_cause (miss_causes z (room_in z.bank_queue m.banks) m.cache (block_of z at)) ≡ None
+    go true false p q = q
+    go a true p q = cc
+    go false false p q = cc
+
+evict_places : (z : Sizes) (c : Cache) (block : ℕ) → evict_cause z c block ≡ None → lacks_places z c (frame_of c block) ≡ false
+unfolding evict_cause
+evict_places z c block e =
+    go (nat_lt (address z block 0) z.words) (is_present c block) (lacks_places z c (frame_of c block)) e
+  where
+    go : (a b c : Bool) → cond (not a) (Some OutOfRange) (cond (not b) (Some NotPresent) (cond c (Some QueueFull) None)) ≡ None → c ≡ false
+    go true true false q = refl
+    go false b c q = cc
+    go true false c q = cc
+    go true true true q = cc
+
+-- ---- each event
+
+-- what a step leaves
+record Within (z : Sizes) (m : Machine) : Type 0 where
+  little : Little z m.cache
+  fits : (b : ℕ) → Fits z (bank_at m.banks b)
+
+-- a step that is refused changes nothing
+unless_within : (z : Sizes) (m : Machine) (cause : Option Cause) (step : Stepped) → Within z m → (cause ≡ None → Within z (joined_with m.banks step).machine) → Within z (joined_with m.banks (unless cause m.cache step)).machine
+unless_within z m None step h go_on = go_on refl
+unless_within z m (Some cause) step h go_on = h
+
+module _ (z : Sizes) (lawful : IsLawful z) (m : Machine) (sound : IsSound z m) (h : Within z m) where
+  fetched_little : (block : ℕ) → MayMiss z m block → Little z (fetched z m.cache block)
+  fetched_little block may = little_fetched z m.cache block lawful.some_words h.little (may_places z m block may)
+
+  fetched_fits : (block : ℕ) → MayMiss z m block → (b : ℕ) → Fits z (bank_at (all_sent m.banks (fetches z m.cache block)) b)
+  fetched_fits block may = fits_fetch z m.banks m.cache block sound.banks_are h.fits (may_rooms z m block may)
+
+  load_within : (tag at : ℕ) → Within z (apply z m (Load tag at)).machine
+  unfolding load_step
+  load_within tag at =
+      unless_within z m (load_cause z (room_in z.bank_queue m.banks) m.cache tag at) _ h (λ e.
+      let may = load_may_miss z m tag at e in
+      record { little = little_loaded z _ tag _ _ _ (fetched_little (block_of z at) may); fits = fetched_fits (block_of z at) may })
+
+  store_within : (at : ℕ) (word : Word) (lanes : Lanes) → Within z (apply z m (Store at word lanes)).machine
+  unfolding store_step
+  store_within at word lanes =
+      unless_within z m (store_cause z (room_in z.bank_queue m.banks) m.cache at lanes) _ h (λ e.
+      let may = store_may_miss z m at lanes e in
+      record { little = little_written z _ _ _ word lanes (fetched_little (block_of z at) may); fits = fetched_fits (block_of z at) may })
+
+  prefetch_within : (at : ℕ) → Within z (apply z m (Prefetch at)).machine
+  unfolding prefetch_step
+  prefetch_within at =
+      unless_within z m (prefetch_cause z (room_in z.bank_queue m.banks) m.cache at) _ h (λ e.
+      let may = prefetch_may_miss z m at e in
+      record { little = fetched_little (block_of z at) may; fits = fetched_fits (block_of z at) may })
+
+  evict_within : (block : ℕ) → Within z (apply z m (Evict block)).machine
+  unfolding evict_step
+  evict_within block =
+      unless_within z m (evict_cause z m.cache block) _ h (λ e.
+      record { little = little_evicted z m.cache block (frame_of m.cache block) h.little (evict_places z m.cache block e); fits = h.fits })
+
+  drain_within : Within z (apply z m Drain).machine
+  unfolding drain_step
+  drain_within = go m.cache.queue refl
+    where
+      go : (queue : List Queued) → m.cache.queue ≡ queue → Within z (joined_with m.banks (drain_first z (room_in z.bank_queue m.banks) m.cache queue)).machine
+      go [] e = h
+      go (q ∷ rest) e = by_room (nat_lt 0 (room_in z.bank_queue m.banks (q.at % z.banks))) refl
+        where
+          write : Command
+          write = Write (q.at / z.banks) q.word q.lanes
+
+          room : nat_lt 0 (room_in z.bank_queue m.banks (q.at % z.banks)) ≡ true → (b : ℕ) → b < length m.banks → length (bank_at m.banks b).queue + length (commands_for b ((q.at % z.banks, write) ∷ [])) ≤ z.bank_queue
+          room e' b l = by_bank (q.at % z.banks == b) refl
+            where
+              by_bank : (t : Bool) → (q.at % z.banks == b) ≡ t → length (bank_at m.banks b).queue + length (cond t (write ∷ []) []) ≤ z.bank_queue
+              by_bank false p = let f = h.fits b in omega arith
+              by_bank true p =
+                  let here : nat_lt 0 (room_in z.bank_queue m.banks b) ≡ true = ap (λ k. nat_lt 0 (room_in z.bank_queue m.banks k)) (sym (eqb-true (q.at % z.banks) b p)) ∙ e' in
+                  let some = ltb-true 0 (room_in z.bank_queue m.banks b) here in
+                  let is : room_in z.bank_queue m.banks b ≡ z.bank_queue - length (bank_at m.banks b).queue = ap (λ t. cond t (z.bank_queue - length (bank_at m.banks b).queue) 0) (lt-ltb b (length m.banks) l) in
+                  omega arith
+
+          by_room : (t : Bool) → nat_lt 0 (room_in z.bank_queue m.banks (q.at % z.banks)) ≡ t → Within z (joined_with m.banks (cond t (record { answer = Moved; cache = record m.cache { queue = rest }; sent = (q.at % z.banks, write) ∷ [] }) (record { answer = Refused BankFull; cache = m.cache; sent = [] }))).machine
+          by_room false p = h
+          by_room true p =
+              record {
+                little = record { wait = h.little.wait; queued = let l = h.little.queued in let k = ap length e in omega arith };
+                fits = fits_sent z m.banks ((q.at % z.banks, write) ∷ []) h.fits (room p);
+              }
+
+  serve_within : (bank : ℕ) → Within z (apply z m (Serve bank)).machine
+  unfolding served
+  serve_within bank = go (bank_at m.banks bank).queue refl
+    where
+      go : (queue : List Command) → (bank_at m.banks bank).queue ≡ queue → Within z (serve_from m bank queue).machine
+      go [] e = h
+      go (first ∷ rest) e =
+          record {
+            little = h.little;
+            fits = each-set (Fits z) no_bank m.banks bank (served (bank_at m.banks bank) first rest) h.fits (let f = h.fits bank in let k = ap length e in omega arith);
+          }
+
+  arrive_within : (bank place : ℕ) → Within z (apply z m (Arrive bank place)).machine
+  unfolding arrived
+  arrive_within bank place = go (slice_get (bank_at m.banks bank).answers place)
+    where
+      go : (o : Option BankAnswer) → Within z (arrive_from z m bank place o).machine
+      go None = h
+      go (Some a) = by_cause (arrive_cause z m.cache a.slot a.i)
+        where
+          by_cause : (o : Option Cause) → Within z (take_in z m bank place a o).machine
+          by_cause (Some cause) = h
+          by_cause None =
+              record {
+                little = record { wait = h.little.wait; queued = h.little.queued };
+                fits = each-set (Fits z) no_bank m.banks bank (without_answer (bank_at m.banks bank) place) h.fits (h.fits bank);
+              }
+
+  process_within : (place : ℕ) → Within z (apply z m (Process place)).machine
+  unfolding process_step
+  process_within place = go (slice_get m.cache.stack place)
+    where
+      go : (o : Option Entry) → Within z (joined_with m.banks (process_entry m.cache place o)).machine
+      go None = h
+      go (Some e) = record { little = little_processed z m.cache place e h.little; fits = h.fits }
+
+  take_within : (place : ℕ) → Within z (apply z m (Take place)).machine
+  unfolding take_step
+  take_within place = go (slice_get m.cache.ready place)
+    where
+      go : (o : Option Reply) → Within z (joined_with m.banks (take_reply m.cache place o)).machine
+      go None = h
+      go (Some r) = record { little = record { wait = h.little.wait; queued = h.little.queued }; fits = h.fits }
+
+  event_within : (event : Event) → Within z (apply z m event).machine
+  event_within (Load tag at) = load_within tag at
+  event_within (Store at word lanes) = store_within at word lanes
+  event_within (Prefetch at) = prefetch_within at
+  event_within (Evict block) = evict_within block
+  event_within Drain = drain_within
+  event_within (Serve bank) = serve_within bank
+  event_within (Arrive bank place) = arrive_within bank place
+  event_within (Process place) = process_within place
+  event_within (Take place) = take_within place
+
+-- each event keeps the limits
+pub event_bounded : (z : Sizes) → IsLawful z → (m : Machine) → IsSound z m → IsBounded z m → (event : Event) → IsBounded z (apply z m event).machine
+event_bounded z lawful m sound h event =
+    let w = event_within z lawful m sound (record { little = record { wait = h.unfinished; queued = h.few_queued }; fits = h.few_commands }) event in
+    let few : length (dues (apply z m event).machine) ≤ z.replies = (event_ok z lawful m sound event).few (subst (λ n. n ≤ z.replies) (tags_dues m) h.few_tags) in
+    record {
+      unfinished = w.little.wait;
+      few_tags = subst (λ n. n ≤ z.replies) (sym (tags_dues (apply z m event).machine)) few;
+      few_queued = w.little.queued;
+      few_commands = w.fits;
+    }
