@@ -1,16 +1,29 @@
 //! Interleaved banks of memory, each of which serves its commands first in, first out.
+//!
+//! Word `a` of memory lies in bank `a % banks`, at place `a / banks`. A bank has its words, a queue
+//! of commands and the answers that it gave and that nobody has taken. Nothing orders two banks.
 #![tactic(auto)]
 
 ghost use Rattle.std.specs.Prelude.{◌≡◌, ◌≢◌, ℕ, ◌+◌, ◌<◌, List, [], ◌∷◌, ◌++◌};
 ghost use Rattle.memory_banks.specs.declared.Command.{Command};
 
+mod bank;
+mod memory;
+
+#[doc(hidden)]
+pub use bank::MemoryBank;
 use flat_model::{Lanes, Word};
+pub use memory::Banks;
 
 /// What a bank is asked to do.
 #[derive(Clone, Copy, PartialEq, Eq, Debug)]
 pub enum Command {
     /// The register in `slot` asks for its word `i`, which lies at `place` of the bank.
-    Read { slot: u32, i: u32, place: u32 },
+    Read {
+        slot: u32,
+        i: u32,
+        place: u32,
+    },
     /// The bytes of `word` in `lanes` are written at `place` of the bank.
     Write {
         place: u32,

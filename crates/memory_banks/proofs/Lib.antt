@@ -1,0 +1,4 @@
+pub mod Places
+pub mod Serving
+pub mod Sending
+mod Making

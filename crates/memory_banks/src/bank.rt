@@ -1,0 +1,186 @@
+//! One bank of memory.
+ghost use Rattle.std.specs.Prelude.{◌≡◌, ℕ, ◌+◌, ◌-◌, ◌*◌, ◌/◌, ◌<◌, ◌≤◌, ◌↔◌, ◌++◌, [], ◌∷◌, length, slice_get, slice_index_or, IfOk, IsTrue, map};
+ghost use Rattle.std.specs.List.{count_by, range_with_len};
+ghost use Rattle.flat_model.specs.Flat.{word_at, stored};
+ghost use Rattle.memory_banks.specs.Banks.{with_command, share_of};
+ghost use Rattle.memory_banks.specs.Memory.{serve_bank, without_answer, is_read, is_idle, share_length};
+
+use crate::{BankAnswer, Command};
+use circular_buffer::HeapCircularBuffer;
+use flat_model::{Lanes, Word, merge};
+use std::alloc::{AllocError, Global};
+use std::marker::Model;
+
+/// The most commands that may wait at a bank.
+pub(crate) const MOST_QUEUED: u32 = 64;
+
+// The most answers that may stand in a bank: 256 before a serve, and one more.
+const MOST_ANSWERS: usize = 257;
+
+/// A bank: its words, the commands that wait, and the answers that nobody has taken.
+#[derive(Drop)]
+pub struct MemoryBank {
+    words: Vec<Word>,
+    queue: HeapCircularBuffer<Command>,
+    answers: Vec<BankAnswer>,
+}
+
+impl Model for MemoryBank {
+    ghost use Rattle.std.specs.Prelude.{◌≡◌, ◌<◌, ◌≤◌, ◌^◌, length, vec_len, vec_capacity};
+    ghost use Rattle.memory_banks.specs.Banks.{Bank};
+
+    ghost Value = { Bank };
+
+    ghost view = { λ a. record { words = a.words.items; queue = a.queue.items; answers = a.answers.items } };
+
+    ghost invariant = { λ a. (a.queue.capacity ≡ 64) × (length a.queue.items ≤ 64) × (vec_capacity a.answers ≡ 257) × (length a.answers.items ≤ 257) };
+}
+
+#[tactic(auto, unfolding(crate::specs::Banks::served, crate::specs::Banks::with_command))]
+impl MemoryBank {
+    /// Bank `bank` of `banks`, with its share of the image.
+    pub(crate) fn new(
+        alloc: Global,
+        image: &[Word],
+        banks: usize,
+        bank: usize,
+    ) -> Result<Self, AllocError>
+        requires here { bank < banks }
+        requires few { banks ≤ 16 }
+        requires fits { length image.now ≤ 1048576 }
+        ensures { IfOk result (λ b. b ≡ record { words = share_of image.now banks bank; queue = []; answers = [] }) }
+    {
+        let words = share(alloc, image, banks, bank)?;
+        let queue = HeapCircularBuffer::with_capacity(alloc, MOST_QUEUED as usize)?;
+        let answers = Vec::with_capacity(alloc, MOST_ANSWERS)?;
+        Ok(MemoryBank {
+            words,
+            queue,
+            answers,
+        })
+    }
+
+    /// How many commands wait.
+    pub(crate) fn queued(&self) -> u32
+        ensures value { result ≡ length self.now.queue }
+        ensures within { result ≤ 64 }
+    {
+        self.queue.len() as u32
+    }
+
+    /// How many reads wait.
+    pub(crate) fn reads(&self) -> u32
+        ensures { result ≡ count_by is_read self.now.queue }
+    {
+        let reads = self.queue.iter().filter(|c| is_read(c)).count();
+        reads as u32
+    }
+
+    /// How many answers stand.
+    pub(crate) fn answers(&self) -> u32
+        ensures { result ≡ length self.now.answers }
+    {
+        self.answers.len() as u32
+    }
+
+    /// Whether neither a command nor an answer stands here.
+    pub(crate) fn is_idle(&self) -> bool
+        ensures { result ≡ is_idle self.now }
+    {
+        self.queue.is_empty() && self.answers.is_empty()
+    }
+
+    /// The word at `place`: the zero word, where there is none.
+    pub(crate) fn word(&self, place: u32) -> Word
+        ensures { result ≡ word_at self.now.words place }
+    {
+        word_at(&self.words, place)
+    }
+
+    /// One more command, last.
+    pub(crate) fn send(&mut self, command: Command)
+        requires { length self.old.queue < 64 }
+        ensures { self.new ≡ with_command self.old command }
+    {
+        let _ = self.queue.try_push_back(command);
+    }
+
+    /// Serves the first command, where there is one.
+    pub(crate) fn serve(&mut self) -> bool
+        requires { length self.old.answers ≤ 256 }
+        ensures moved { IsTrue result ↔ (0 < length self.old.queue) }
+        ensures bank { self.new ≡ serve_bank self.old self.old.queue }
+    {
+        match self.queue.pop_front() {
+            None => false,
+            Some(Command::Read { slot, i, place }) => {
+                let word = word_at(&self.words, place);
+                self.answers.push_reserved(BankAnswer { slot, i, word });
+                true
+            }
+            Some(Command::Write { place, word, lanes }) => {
+                store(&mut self.words, place, word, lanes);
+                true
+            }
+        }
+    }
+
+    /// The answer at `place`, which stays.
+    pub(crate) fn answer_at(&self, place: u32) -> Option<BankAnswer>
+        ensures { result ≡ slice_get self.now.answers place }
+    {
+        self.answers.get(place as usize).copied()
+    }
+
+    /// Takes out the answer at `place`.
+    pub(crate) fn take_answer(&mut self, place: u32) -> Option<BankAnswer>
+        ensures value { result ≡ slice_get self.old.answers place }
+        ensures bank { self.new ≡ without_answer self.old place }
+    {
+        if (place as usize) < self.answers.len() {
+            Some(self.answers.remove(place as usize))
+        } else {
+            None
+        }
+    }
+}
+
+fn is_read(command: &Command) -> bool
+    ensures { result ≡ is_read command.now }
+{
+    match command {
+        Command::Read { .. } => true,
+        Command::Write { .. } => false,
+    }
+}
+
+fn word_at(words: &[Word], place: u32) -> Word
+    ensures { result ≡ word_at words.now place }
+{
+    words.get(place as usize).copied().unwrap_or_default()
+}
+
+// Writes the lanes of a word, where there is such a word.
+fn store(words: &mut Vec<Word>, place: u32, word: Word, lanes: Lanes)
+    ensures { words.new.items ≡ stored words.old.items place word lanes }
+{
+    let place = place as usize;
+    if place < words.len() {
+        words[place] = merge(words[place], word, lanes);
+    }
+}
+
+// The words of an image that lie in a bank: every `banks`-th, from `bank` on.
+fn share(alloc: Global, image: &[Word], banks: usize, bank: usize) -> Result<Vec<Word>, AllocError>
+    requires here { bank < banks }
+    requires few { banks ≤ 16 }
+    requires fits { length image.now ≤ 1048576 }
+    ensures { IfOk result (λ v. v.items ≡ share_of image.now banks bank) }
+{
+    let count = (image.len() + banks - 1 - bank) / banks;
+    let mut words = Vec::with_capacity(alloc, count)?;
+    for k in 0..count {
+        words.push(image[k * banks + bank])?;
+    }
+    Ok(words)
+}
