@@ -1,0 +1,166 @@
+-- What a look and a choice find.
+use Rattle.std.proofs.Common.{◌≡◌, ℕ, suc, zero, ◌+◌, ◌*◌, ◌/◌, ◌%◌, ◌<◌, ◌≤◌, Bool, true, false, not, cond, ◌&&◌, ◌==◌, List, [], ◌∷◌, ◌++◌, length, get_or, Option, Some, None, is_some, is_none, refl, ap, sym, ◌∙◌, arith, inl, inr, ◌⊎◌, eq-eqb}
+use Rattle.std.specs.List.{find, All, range_with_len, list_all}
+use Rattle.std.proofs.lemmas.Bool.{cases_eq, cases_lt, cases_Bool, both_ways, false_from_ne_true, true_from_ne_false, not-true, not-false, eqb-true}
+use Rattle.std.proofs.lemmas.Nat.{row_fits}
+use Rattle.flat_model.specs.Places.{place_of, is_number}
+use Rattle.flat_model.proofs.Places.{place_of-first, place_of-none}
+use Rattle.cache_directory.specs.declared.directory.Choice.{Choice}
+use Rattle.cache_directory.specs.declared.directory.Choice.TheVariants.{Free, Victim, AllPending}
+use Rattle.cache_directory.specs.Frames.{Frame, Frames, IsWhole, empty_frame, frame_at, is_held, frame_of, order_of, ways_of, set_of, times_in, choice_from, free_way, oldest, chosen, is_all_pending, are_pending}
+use Rattle.cache_directory.proofs.Finds.{place_of-nowhere, place_of-passes, find-passes, find-all, find-nowhere, range_within, All-range, list_all-passes, range_not_all}
+use Rattle.cache_directory.proofs.Orders.{times-all}
+use Rattle.cache_directory.proofs.Whole.{held_there, in_row, of_row, in_order, held_in_order, order_held, slot_in}
+
+-- a block that is this number
+is_number-true : (o : Option ℕ) (b : ℕ) → is_number o b ≡ true → o ≡ Some b
+is_number-true (Some c) b e = ap (λ k. Some k) (eqb-true c b e)
+is_number-true None b e = absurd (cc)
+
+is_number-same : (o : Option ℕ) (b : ℕ) → o ≡ Some b → is_number o b ≡ true
+is_number-same o b e = ap (λ k. is_number k b) e ∙ eq-eqb b b refl
+
+-- ---- the frame that holds a block
+
+-- it is there, and holds the block
+pub found_there : (d : Frames) (block f : ℕ) → frame_of d.frames block ≡ Some f → (f < length d.frames) × ((frame_at d.frames f).block ≡ Some block)
+unfolding frame_of
+found_there d block f e =
+    let h = place_of-passes (λ (y : Frame). is_number y.block block) d.frames f empty_frame e in
+    (h.0, is_number-true (frame_at d.frames f).block block h.1)
+
+-- no frame holds the block
+pub found_nowhere : (d : Frames) (block f : ℕ) → frame_of d.frames block ≡ None → (frame_at d.frames f).block ≡ Some block → ⊥
+unfolding frame_of
+found_nowhere d block f e held =
+    let no = place_of-nowhere (λ (y : Frame). is_number y.block block) d.frames f empty_frame e (held_there d f (ap is_some held)) in
+    both_ways (is_number (frame_at d.frames f).block block) no (is_number-same (frame_at d.frames f).block block held)
+
+-- the one frame that holds it
+pub found_held : (ways words : ℕ) (d : Frames) (block f : ℕ) → IsWhole ways words d → (frame_at d.frames f).block ≡ Some block → frame_of d.frames block ≡ Some f
+unfolding frame_of
+found_held ways words d block f h held =
+    place_of-first (λ (y : Frame). is_number y.block block) d.frames f empty_frame (held_there d f (ap is_some held)) (λ j l. false_from_ne_true (is_number (frame_at d.frames j).block block) (λ y. (let q = h.alone j f block (is_number-true (frame_at d.frames j).block block y) held in absurd (omega arith)))) (is_number-same (frame_at d.frames f).block block held)
+
+found_none : (d : Frames) (block : ℕ) → ((f : ℕ) → (frame_at d.frames f).block ≡ Some block → ⊥) → frame_of d.frames block ≡ None
+unfolding frame_of
+found_none d block nowhere =
+    place_of-none (λ (y : Frame). is_number y.block block) d.frames empty_frame (λ j l. false_from_ne_true (is_number (frame_at d.frames j).block block) (λ y. nowhere j (is_number-true (frame_at d.frames j).block block y)))
+
+-- a look over the ways of the block's set finds it
+pub look_in_set : (ways words : ℕ) (d : Frames) (block : ℕ) → IsWhole ways words d → find (λ f. is_number (frame_at d.frames f).block block) (ways_of ways (set_of d block)) ≡ frame_of d.frames block
+look_in_set ways words d block h = go (find p row) refl
+  where
+    p : ℕ → Bool
+    p f = is_number (frame_at d.frames f).block block
+
+    set : ℕ
+    set = set_of d block
+
+    row : List ℕ
+    row = ways_of ways set
+
+    go : (o : Option ℕ) → find p row ≡ o → find p row ≡ frame_of d.frames block
+    go (Some f) e = e ∙ sym (found_held ways words d block f h (is_number-true (frame_at d.frames f).block block (find-passes p row f e)))
+    go None e = e ∙ sym (found_none d block (λ f held. (let at = in_row f ways set h.some_way (h.in_set f block held) in both_ways (p f) (All-range (λ x. p x ≡ false) (set * ways) ways f (find-nowhere p row e) at.0 at.1) (is_number-same (frame_at d.frames f).block block held))))
+
+-- ---- the choice
+
+-- a free frame of a set
+pub record IsFreeWay (ways : ℕ) (d : Frames) (set f : ℕ) : Type 0 where
+  pub there : f < length d.frames
+  pub in_set : f / ways ≡ set
+  pub free : (frame_at d.frames f).block ≡ None
+
+-- a frame of a set that holds a block with all its words
+pub record IsResidentWay (ways : ℕ) (d : Frames) (set f : ℕ) : Type 0 where
+  pub there : f < length d.frames
+  pub in_set : f / ways ≡ set
+  pub held : is_held d f ≡ true
+  pub settled : (frame_at d.frames f).pending ≡ false
+
+not_some : (o : Option ℕ) → is_none o ≡ true → o ≡ None
+not_some (Some x) e = absurd (cc)
+not_some None e = refl
+
+not_none : (o : Option ℕ) → is_none o ≡ false → is_some o ≡ true
+not_none (Some x) e = refl
+not_none None e = absurd (cc)
+
+pub free_way_is : (ways words : ℕ) (d : Frames) (set f : ℕ) → IsWhole ways words d → set < length d.orders → free_way ways d set ≡ Some f → IsFreeWay ways d set f
+unfolding free_way
+free_way_is ways words d set f h s e =
+    let at = find-all (λ f. is_none (frame_at d.frames f).block) (λ x. (set * ways ≤ x) × (x < set * ways + ways)) (ways_of ways set) f e (range_within (λ x. (set * ways ≤ x) × (x < set * ways + ways)) (set * ways) ways (λ x l m. (l, m))) in
+    record {
+      there = omega (arith, h.frames_there, row_fits set ways (length d.orders) ways s (omega arith));
+      in_set = of_row f ways set at.0 at.1;
+      free = not_some (frame_at d.frames f).block (find-passes (λ f. is_none (frame_at d.frames f).block) (ways_of ways set) f e);
+    }
+
+pub oldest_is : (ways words : ℕ) (d : Frames) (set f : ℕ) → IsWhole ways words d → oldest d set ≡ Some f → IsResidentWay ways d set f
+unfolding oldest
+oldest_is ways words d set f h e =
+    let at = find-all (λ f. not (frame_at d.frames f).pending) (λ x. (is_held d x ≡ true) × (x / ways ≡ set)) (order_of d set) f e (order_held ways words d set h) in
+    record {
+      there = held_there d f at.0;
+      in_set = at.1;
+      held = at.0;
+      settled = not-true (frame_at d.frames f).pending (find-passes (λ f. not (frame_at d.frames f).pending) (order_of d set) f e);
+    }
+
+pub chosen-free : (ways words : ℕ) (d : Frames) (set f : ℕ) → IsWhole ways words d → set < length d.orders → chosen ways d set ≡ Free f → IsFreeWay ways d set f
+unfolding chosen
+chosen-free ways words d set f h s e = go (free_way ways d set) refl (oldest d set) e
+  where
+    go : (o : Option ℕ) → free_way ways d set ≡ o → (v : Option ℕ) → choice_from o v ≡ Free f → IsFreeWay ways d set f
+    go (Some g) q v e =
+        let same : g ≡ f = cc in
+        free_way_is ways words d set f h s (rw (← same) q)
+    go None q (Some g) e = absurd (cc)
+    go None q None e = absurd (cc)
+
+pub chosen-victim : (ways words : ℕ) (d : Frames) (set f : ℕ) → IsWhole ways words d → chosen ways d set ≡ Victim f → IsResidentWay ways d set f
+unfolding chosen
+chosen-victim ways words d set f h e = go (free_way ways d set) (oldest d set) refl e
+  where
+    go : (o v : Option ℕ) → oldest d set ≡ v → choice_from o v ≡ Victim f → IsResidentWay ways d set f
+    go (Some g) v q e = absurd (cc)
+    go None (Some g) q e =
+        let same : g ≡ f = cc in
+        oldest_is ways words d set f h (rw (← same) q)
+    go None None q e = absurd (cc)
+
+-- where there is no frame to take, all ways of the set are pending, and only there
+pub chosen-all_pending : (ways words : ℕ) (d : Frames) (set : ℕ) → IsWhole ways words d → is_all_pending (chosen ways d set) ≡ are_pending ways d set
+unfolding chosen free_way oldest
+chosen-all_pending ways words d set h = go (find free row) refl (find settled (order_of d set)) refl
+  where
+    free : ℕ → Bool
+    free f = is_none (frame_at d.frames f).block
+
+    settled : ℕ → Bool
+    settled f = not (frame_at d.frames f).pending
+
+    pending : ℕ → Bool
+    pending f = (frame_at d.frames f).pending
+
+    row : List ℕ
+    row = ways_of ways set
+
+    waits : (f : ℕ) → find free row ≡ None → find settled (order_of d set) ≡ None → set * ways ≤ f → f < set * ways + ways → pending f ≡ true
+    waits f e q l m =
+        let held : is_held d f ≡ true = not_none (frame_at d.frames f).block (All-range (λ x. free x ≡ false) (set * ways) ways f (find-nowhere free row e) l m) in
+        let stands = held_in_order ways words d set f h held (of_row f ways set l m) in
+        not-false (pending f) (times-all (λ x. settled x ≡ false) (order_of d set) f (find-nowhere settled (order_of d set) q) (omega arith))
+
+    go : (o : Option ℕ) → find free row ≡ o → (v : Option ℕ) → find settled (order_of d set) ≡ v → is_all_pending (choice_from o v) ≡ are_pending ways d set
+    go (Some f) e v q =
+        let at = find-all free (λ x. (set * ways ≤ x) × (x < set * ways + ways)) row f e (range_within (λ x. (set * ways ≤ x) × (x < set * ways + ways)) (set * ways) ways (λ x l m. (l, m))) in
+        let vacant = h.empty f (not_some (frame_at d.frames f).block (find-passes free row f e)) in
+        sym (range_not_all pending (set * ways) ways f at.0 at.1 (ap (λ (y : Frame). y.pending) vacant))
+    go None e (Some f) q =
+        let held = find-all settled (λ x. (is_held d x ≡ true) × (x / ways ≡ set)) (order_of d set) f q (order_held ways words d set h) in
+        let at = in_row f ways set h.some_way held.1 in
+        sym (range_not_all pending (set * ways) ways f at.0 at.1 (not-true (pending f) (find-passes settled (order_of d set) f q)))
+    go None e None q =
+        sym (list_all-passes pending row (range_within (λ x. pending x ≡ true) (set * ways) ways (λ x l m. waits x e q l m)))
