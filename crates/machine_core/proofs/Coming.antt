@@ -1,6 +1,6 @@
 -- What a machine stands for, word by word: the word that comes to a register, the word at an
 -- address, and the values that are owed.
-use Rattle.std.proofs.Common.{◌≡◌, ℕ, Bool, true, false, cond, ◌&&◌, ◌==◌, List, [], ◌∷◌, ◌++◌, map, Option, Some, None, option_map, find, refl, sym, ap, ◌∙◌}
+use Rattle.std.proofs.Common.{◌≡◌, ℕ, Bool, true, false, cond, ◌&&◌, ◌==◌, List, [], ◌∷◌, map, Option, Some, None, option_map, find, refl, sym, ap, ◌∙◌}
 use Rattle.std.specs.Option.{option_or}
 use Rattle.std.proofs.lemmas.List.Folds.{find-append}
 use Rattle.flat_model.specs.declared.Word.{Word}
@@ -12,7 +12,7 @@ use Rattle.cache_unit.specs.declared.Reply.{Reply}
 use Rattle.cache_unit.specs.State.{Sizes, Target, Cache, field_at, frame_of, live_for, cell_in, cell_of, targets, block_of, place_in}
 use Rattle.input_stack.specs.Stack.{stack_word}
 use Rattle.cache_unit.specs.Forms.{Byte, Asked, missing_form, coming_form, over_form, bytes_of, form_in, target_form, value, filled_by}
-use Rattle.machine_core.specs.Machine.{Machine, backing, flat_word, flat_word_in, flat_due}
+use Rattle.machine_core.specs.Machine.{Machine, flat_word, flat_word_in, flat_due}
 use Rattle.flat_model.proofs.Lanewise.{byte_word_of, same_word_from, byte-merged}
 use Rattle.machine_core.specs.Sound.{is_for, word_in, coming_from, coming, shown_word, word_now_in, word_now, reply_to, dues, has_tag}
 

@@ -1,17 +1,20 @@
 -- What the machine's calls rest on.
-use Rattle.std.proofs.Common.{◌≡◌, ℕ, ◌<◌, true, List, length, Option, Some, None, ◌∙◌}
+use Rattle.std.proofs.Common.{◌≡◌, ℕ, ◌<◌, ◌≤◌, true, List, length, Some, None, ◌∙◌}
 use Rattle.flat_model.specs.declared.Word.{Word}
 use Rattle.flat_model.specs.declared.Event.{Event}
-use Rattle.flat_model.specs.Flat.{word_at, flat_step, flat_run}
+use Rattle.flat_model.specs.Flat.{flat_step, flat_run}
 use Rattle.cache_unit.specs.State.{Sizes}
-use Rattle.machine_core.specs.Law.{IsLawful, HasRoom}
+use Rattle.machine_core.specs.Law.{IsLawful, HasRoom, most_weight, ServesRequests, IsServed}
 use Rattle.machine_core.specs.Machine.{Machine, apply, opening, walked, told, flat_of, flat_word, bank_word, settled}
 use Rattle.machine_core.specs.Pump.{weight, pumped}
-use Rattle.machine_core.specs.Sound.{IsSound}
+use Rattle.machine_core.specs.Sound.{IsSound, IsBounded}
 use Rattle.machine_core.proofs.Opening.{opening_sound, opening_is, settled_ok}
 use Rattle.machine_core.proofs.Requests.{mem_at}
 use Rattle.machine_core.proofs.Walking.{event_ok, walk_sound, walk_runs}
 use Rattle.machine_core.proofs.Weighing.{pump_lowers, pump_rests, pump_at_rest}
+use Rattle.machine_core.proofs.Bounding.{event_bounded}
+use Rattle.machine_core.proofs.Counting
+use Rattle.machine_core.proofs.Resting
 
 -- ---- a new machine
 
@@ -21,6 +24,9 @@ sound_opening z lawful image fits = opening_sound z lawful image fits
 pub flat_opening : (z : Sizes) → IsLawful z → (image : List Word) → length image ≡ z.words → flat_of z (opening z image) ≡ record { mem = image; due = λ tag. None }
 flat_opening z lawful image fits = opening_is z lawful image fits
 
+pub bounded_opening : (z : Sizes) → IsLawful z → (image : List Word) → length image ≡ z.words → IsBounded z (opening z image)
+bounded_opening z lawful image fits = Resting.opening_bounded z lawful image fits
+
 -- ---- one event
 
 pub sound_apply : (z : Sizes) → IsLawful z → (m : Machine) → IsSound z m → (event : Event) → IsSound z (apply z m event).machine
@@ -28,6 +34,9 @@ sound_apply z lawful m sound event = (event_ok z lawful m sound event).sound
 
 pub flat_apply : (z : Sizes) → IsLawful z → (m : Machine) → IsSound z m → (event : Event) → flat_step (flat_of z m) event (apply z m event).answer ≡ Some (flat_of z (apply z m event).machine)
 flat_apply z lawful m sound event = (event_ok z lawful m sound event).run
+
+pub bounded_apply : (z : Sizes) → IsLawful z → (m : Machine) → IsSound z m → IsBounded z m → (event : Event) → IsBounded z (apply z m event).machine
+bounded_apply z lawful m sound bounded event = event_bounded z lawful m sound bounded event
 
 -- ---- a walk
 
@@ -52,3 +61,14 @@ pumped_rests z lawful roomy m sound e = pump_rests z lawful roomy m sound e
 
 pub pumped_at_rest : (z : Sizes) → IsLawful z → HasRoom z → (m : Machine) → IsSound z m → weight m ≡ 0 → pumped z m ≡ None
 pumped_at_rest z lawful roomy m sound e = pump_at_rest z lawful roomy m sound e
+
+-- ---- how long a request may wait
+
+pub weight_bound : (z : Sizes) (m : Machine) → IsSound z m → IsBounded z m → weight m ≤ most_weight z
+weight_bound z m sound bounded = Counting.weight_bound z m sound bounded
+
+pub bound_at_rest : (z : Sizes) → IsLawful z → HasRoom z → (m : Machine) → IsSound z m → IsBounded z m → weight m ≡ 0 → ServesRequests z m
+bound_at_rest z lawful roomy m sound bounded rest = Resting.bound_at_rest z lawful roomy m sound bounded rest
+
+pub served_after_pumps : (z : Sizes) → IsLawful z → HasRoom z → (m : Machine) → IsSound z m → IsBounded z m → IsServed z m
+served_after_pumps z lawful roomy m sound bounded = Resting.served_after_pumps z lawful roomy m sound bounded

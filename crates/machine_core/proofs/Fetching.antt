@@ -1,5 +1,5 @@
 -- A miss: the frame that it takes, the block that goes, and the one that comes.
-use Rattle.std.proofs.Common.{◌≡◌, ℕ, zero, suc, ◌+◌, ◌*◌, ◌/◌, ◌%◌, ◌<◌, ◌≤◌, Bool, true, false, cond, not, ◌==◌, List, [], ◌∷◌, ◌++◌, map, length, get_or, set, Option, Some, None, option_map, find, is_some, is_none, refl, sym, ap, ◌∙◌, subst, arith, length-set, ◌⊎◌, inl, inr, mod-lt, append-nil, get_or-set_same, get_or-set_other, mul-le-mul_right, eq-eqb}
+use Rattle.std.proofs.Common.{◌≡◌, ℕ, zero, suc, ◌+◌, ◌*◌, ◌/◌, ◌%◌, ◌<◌, ◌≤◌, Bool, true, false, cond, not, ◌==◌, List, [], ◌∷◌, ◌++◌, length, get_or, set, Option, Some, None, option_map, find, is_some, is_none, refl, sym, ap, ◌∙◌, subst, arith, length-set, ◌⊎◌, inl, inr, mod-lt, append-nil, get_or-set_same, get_or-set_other, mul-le-mul_right, eq-eqb}
 use Rattle.std.specs.List.{range_with_len, list_all, filter}
 use native.Mathlib.Nat.{div-eq_of_lt-le}
 use Rattle.std.specs.Option.{option_or}

@@ -24,5 +24,7 @@ pub mod Opening
 pub mod Requests
 pub mod Walking
 pub mod Bounding
+pub mod Counting
+pub mod Resting
 pub mod Weighing
 pub mod Contract

@@ -20,7 +20,7 @@ use Rattle.machine_core.proofs.Coming.{flat_word-now, flat_due-in, due_in}
 use Rattle.machine_core.proofs.Installing.{range_at, range_length}
 use Rattle.machine_core.proofs.Requests.{mem_length, mem_at}
 
-all_default : {X : Type 0} (n : ℕ) (d : X) (k : ℕ) → get_or (replicate n d) k d ≡ d
+pub all_default : {X : Type 0} (n : ℕ) (d : X) (k : ℕ) → get_or (replicate n d) k d ≡ d
 all_default zero d k = refl
 all_default (suc n) d zero = refl
 all_default (suc n) d (suc k) = all_default n d k
@@ -91,7 +91,7 @@ module _ (z : Sizes) (lawful : IsLawful z) (image : List Word) (fits : length im
   nothing_pending : all_pending m0.banks ≡ []
   nothing_pending = no_pending bank_of (range_with_len 0 z.banks) (λ k. refl)
 
-  nothing_due : dues m0 ≡ []
+  pub nothing_due : dues m0 ≡ []
   unfolding dues targets
   nothing_due = ap (map _) (no_targets z.regs 0)
 
@@ -131,7 +131,7 @@ all_at p d [] k hd h = hd
 all_at p d (x ∷ xs) zero hd h = (and_parts (p x) (list_all p xs) h).0
 all_at p d (x ∷ xs) (suc k) hd h = all_at p d xs k hd (and_parts (p x) (list_all p xs) h).1
 
-nil_from : {X : Type 0} (xs : List X) → is_empty xs ≡ true → xs ≡ []
+pub nil_from : {X : Type 0} (xs : List X) → is_empty xs ≡ true → xs ≡ []
 nil_from [] e = refl
 nil_from (x ∷ xs) e = cc
 

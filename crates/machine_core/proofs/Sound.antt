@@ -1,16 +1,13 @@
 -- What each machine that a walk comes to keeps, and what it is for two machines to stand for the same.
-use Rattle.std.proofs.Common.{◌≡◌, ℕ, ◌+◌, ◌*◌, ◌/◌, ◌%◌, ◌<◌, ◌≤◌, Bool, true, cond, not, ◌&&◌, ◌==◌, nat_lt, List, [], ◌∷◌, map, length, get_or, Option, Some, None, refl, sym, ap, ◌∙◌}
+use Rattle.std.proofs.Common.{◌≡◌, ℕ, ◌≤◌, cond, map, length, Option, Some, None, refl, sym, ap, ◌∙◌}
 use Rattle.std.specs.List.{range_with_len}
 use Rattle.flat_model.specs.declared.Word.{Word}
 use Rattle.flat_model.specs.Words.{merged}
 use Rattle.flat_model.specs.Flat.{flat_step}
 use Rattle.flat_model.specs.declared.Event.{Event}
-use Rattle.memory_banks.specs.Banks.{bank_at, all_pending}
-use Rattle.input_stack.specs.declared.Entry.{Entry}
-use Rattle.write_queue.specs.declared.Queued.{Queued}
-use Rattle.cache_unit.specs.State.{Sizes, Register, clear_field, frame_at, frame_of, register_at, field_at, is_live, live_for, cell_in, cell_of, block_of, place_in, address}
+use Rattle.cache_unit.specs.State.{Sizes, frame_of, field_at, live_for, cell_in, cell_of, block_of, place_in}
 use Rattle.machine_core.specs.Machine.{Machine, Outcome, apply, backing, flat_word, flat_due, flat_of}
-use Rattle.machine_core.specs.Sound.{tally, bit, InOrder, is_for, coming, shown_word, word_now_in, word_now, has_tag, dues, is_entry_for, wanted, AllIn, IsSound}
+use Rattle.machine_core.specs.Sound.{coming, shown_word, word_now_in, word_now, dues, IsSound}
 use Rattle.machine_core.proofs.Coming.{flat_word-now, due_in, flat_due-in}
 
 -- two machines stand for the same flat memory

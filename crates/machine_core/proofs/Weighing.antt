@@ -71,6 +71,21 @@ items_none : {X : Type 0} (xs : List X) → has_items xs ≡ false → length xs
 items_none [] e = refl
 items_none (x ∷ xs) e = cc
 
+-- a bank takes a command
+some_queue : (z : Sizes) → IsLawful z → HasRoom z → 0 < z.bank_queue
+some_queue z lawful roomy = go z.bank_queue refl
+  where
+    go : (n : ℕ) → z.bank_queue ≡ n → 0 < n
+    go zero e = let l = subst (λ k. z.block_words ≤ k * z.banks) e roomy.banks_take_a_block in let some = lawful.some_words in absurd (omega arith)
+    go (suc n) e = omega arith
+
+-- nothing is pending at idle banks
+pub all_idle : (banks : List Bank) → ((b : ℕ) → b < length banks → ((bank_at banks b).answers ≡ []) × ((bank_at banks b).queue ≡ [])) → flat_map pending banks ≡ []
+all_idle [] f = refl
+all_idle (x ∷ banks) f =
+    let p = f 0 (omega arith) in
+    ap₂ ◌++◌ (ap₂ (λ xs q. xs ++ answers_to x.words q) p.0 p.1) (all_idle banks (λ b l. f (suc b) (omega arith)))
+
 -- ---- each event
 
 module _ (z : Sizes) (lawful : IsLawful z) (roomy : HasRoom z) (m : Machine) (h : IsSound z m) where
@@ -144,7 +159,7 @@ module _ (z : Sizes) (lawful : IsLawful z) (roomy : HasRoom z) (m : Machine) (h 
       let b = q.at % z.banks in
       let bank = bank_at m.banks b in
       let l : b < length m.banks = let k = mod-lt q.at lawful.some_banks in let n = h.banks_are in omega arith in
-      let free : nat_lt 0 (room_in z.bank_queue m.banks b) ≡ true = ap (λ x. nat_lt 0 (cond x (z.bank_queue - length bank.queue) 0)) (lt-ltb b (length m.banks) l) ∙ ap (λ xs. nat_lt 0 (z.bank_queue - length xs)) none ∙ lt-ltb 0 (z.bank_queue - 0) (let k = roomy.some_queue in omega arith) in
+      let free : nat_lt 0 (room_in z.bank_queue m.banks b) ≡ true = ap (λ x. nat_lt 0 (cond x (z.bank_queue - length bank.queue) 0)) (lt-ltb b (length m.banks) l) ∙ ap (λ xs. nat_lt 0 (z.bank_queue - length xs)) none ∙ lt-ltb 0 (z.bank_queue - 0) (let k = some_queue z lawful roomy in omega arith) in
       let write = Write (q.at / z.banks) q.word q.lanes in
       let by_bank = total_set bank_weight no_bank m.banks b (with_command bank write) l in
       let more = total_append command_weight bank.queue (write ∷ []) in
@@ -234,12 +249,6 @@ module _ (z : Sizes) (lawful : IsLawful z) (roomy : HasRoom z) (m : Machine) (h 
 
           nothing : all_pending m.banks ≡ []
           nothing = all_idle m.banks (λ b l. let l' : b < z.banks = let n = h.banks_are in omega arith in (nil_from _ (no_answer ea b l'), nil_from _ (no_turn et b l')))
-            where
-              all_idle : (banks : List Bank) → ((b : ℕ) → b < length banks → ((bank_at banks b).answers ≡ []) × ((bank_at banks b).queue ≡ [])) → flat_map pending banks ≡ []
-              all_idle [] f = refl
-              all_idle (x ∷ banks) f =
-                  let p = f 0 (omega arith) in
-                  ap₂ ◌++◌ (ap₂ (λ xs q. xs ++ answers_to x.words q) p.0 p.1) (all_idle banks (λ b l. f (suc b) (omega arith)))
 
           quiet : (s : ℕ) → s < length m.cache.registers → register_weight (register_at m.cache s) ≡ 0
           quiet s l = by_valid (register_at m.cache s).valid refl
