@@ -1,8 +1,8 @@
 -- Words that a register has.
-use Rattle.std.proofs.Common.{◌≡◌, ℕ, ◌<◌, ◌≤◌, true, length, ap, sym, ◌∙◌, inl, inr}
-use Rattle.std.proofs.lemmas.Bool.{cases_lt, false≢true}
+use Rattle.std.proofs.Common.{◌≡◌, ℕ, ◌<◌, ◌≤◌, true, false, length, sym, ap, ◌∙◌, inl, inr}
+use Rattle.std.proofs.lemmas.Bool.{cases_lt, and_parts, ltb-true, not-true, false≢true}
 use Rattle.std.proofs.lemmas.List.{get_or_past}
-use Rattle.miss_registers.specs.Registers.{Field, Register, clear_field, field_of}
+use Rattle.miss_registers.specs.Registers.{Field, Register, clear_field, field_of, expects}
 
 -- a word that isn't there has a clear field
 pub field_past : (r : Register) (i : ℕ) → length r.fields ≤ i → field_of r i ≡ clear_field
@@ -13,3 +13,17 @@ in_stack_there r i h = elim (cases_lt i (length r.fields)) [
   | inl p ↦ p
   | inr p ↦ absurd (false≢true (sym (ap (λ (f : Field). f.in_stack) (field_past r i p)) ∙ h))
 ]
+
+-- an expected word
+pub record Expected (r : Register) (i : ℕ) : Type 0 where
+  pub valid : r.valid ≡ true
+  pub there : i < length r.fields
+  pub unprocessed : (field_of r i).processed ≡ false
+  pub not_in_stack : (field_of r i).in_stack ≡ false
+
+pub expects-parts : (r : Register) (i : ℕ) → expects r i ≡ true → Expected r i
+expects-parts r i h =
+    let a = and_parts _ _ h in
+    let b = and_parts _ _ a.1 in
+    let c = and_parts _ _ b.1 in
+    record { valid = a.0; there = ltb-true _ _ b.0; unprocessed = not-true _ c.0; not_in_stack = not-true _ c.1 }

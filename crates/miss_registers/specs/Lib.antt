@@ -5,3 +5,4 @@ pub mod Fields
 pub mod View
 pub mod Views
 pub mod Whole
+pub mod Making

@@ -1,0 +1,17 @@
+use Rattle.std.proofs.Common.{◌≡◌, ◌<◌, length, ◌∙◌}
+use Rattle.std.proofs.lemmas.List.{get_or_default}
+use Rattle.miss_registers.specs.Registers.{free_register, register_at}
+use Rattle.miss_registers.proofs.Whole.{awaited-whole}
+use Rattle.miss_registers.proofs.file.RegisterFile.await_word.Goals as goal
+
+pub invariant_of-self : goal.invariant_of-self
+invariant_of-self g c =
+    let xs = c.self.inside.slots.items in
+    let v : xs ≡ c.args.self.now = c.self.view_is in
+    let h : c.args.slot < length xs = rw v c.requires.slot in
+    let e : c.index_mut-s.result.now ≡ register_at xs c.args.slot = c.index_mut-s.ensures.value ∙ get_or_default xs c.args.slot _ free_register h in
+    let w = awaited-whole _ _ c.args.self.now c.args.slot c.args.i _ (rw v at c.self.invariant) c.requires.slot c.requires.live c.requires.expected c.requires.room c.requires.new_tag in
+    rw (c.await_word.ensures, e, v) w
+
+pub returns-clause-whole : goal.returns-clause-whole
+returns-clause-whole g c = invariant_of-self g c
