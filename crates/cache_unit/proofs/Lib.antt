@@ -14,3 +14,8 @@ pub mod FormsEvents
 pub mod FormsPlaces
 pub mod FormsEvicting
 pub mod FormsFetching
+pub mod FormsChoosing
+pub mod FormsLoading
+pub mod FormsProcessing
+pub mod FormsRequests
+pub mod FormsStoring
