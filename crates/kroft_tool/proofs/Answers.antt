@@ -1,0 +1,75 @@
+-- The answers about a shape file that are not for want of memory.
+use Rattle.std.proofs.Common.{◌≡◌, ◌≢◌, ℕ, ℤ, Bool, true, false, ◌&&◌, ◌||◌, ◌==◌, nat_le, ◌+◌, ◌-◌, ◌/◌, ◌%◌, pos, negsuc, cond, Result, Ok, Err, Option, Some, None, refl, ap, codes}
+use Rattle.flat_model.specs.declared.ShapeField.{ShapeField}
+use Rattle.flat_model.specs.declared.ShapeField.TheVariants.{Ways, Regs, Words, Sets, Banks, BankQueue, WriteQueue, Replies}
+use Rattle.toml.specs.Data.{Members}
+use Rattle.kroft_tool.specs.declared.shape_file.ToolShape.{ToolShape}
+use Rattle.kroft_tool.specs.declared.shape_file.ShapeFault.{ShapeFault}
+use Rattle.kroft_tool.specs.declared.shape_file.ShapeFault.TheVariants.{NotToml, UnknownKey, NotWhole, BadShape, OutOfMemory}
+use Rattle.kroft_tool.specs.declared.shape_file.Numbers.{Numbers}
+use Rattle.kroft_tool.specs.ShapeFile.{and_then, integer_at, whole, numbers_of, ranged, kept, is_register_count, shape_of, has_other_key, table_says}
+
+-- whether an answer is not for want of memory
+abbrev pub has_room : {A : Type 0} → Result A ShapeFault → Bool
+has_room (Ok x) = true
+has_room (Err OutOfMemory) = false
+has_room (Err e) = true
+
+then_room : {A B : Type 0} (r : Result A ShapeFault) (f : A → Result B ShapeFault) → has_room r ≡ true → ((x : A) → has_room (f x) ≡ true) → has_room (and_then r f) ≡ true
+then_room (Ok x) f h k = k x
+then_room (Err NotToml) f h k = refl
+then_room (Err UnknownKey) f h k = refl
+then_room (Err (NotWhole e)) f h k = refl
+then_room (Err (BadShape e)) f h k = refl
+then_room (Err OutOfMemory) f h k = h
+
+whole_room : (e : ShapeField) (z : ℤ) (found : Option (Option ℤ)) → has_room (whole e z found) ≡ true
+whole_room e z None = refl
+whole_room e z (Some (Some n)) = refl
+whole_room e z (Some None) = refl
+
+kept_room : (e : ShapeField) (good : Bool) (n : ℕ) → has_room (kept e good n) ≡ true
+kept_room e true n = refl
+kept_room e false n = refl
+
+ranged_room : (e : ShapeField) (z : ℤ) (low high : ℕ) → has_room (ranged e z low high) ≡ true
+ranged_room e (pos n) low high = kept_room e (nat_le low n && nat_le n high) n
+ranged_room e (negsuc n) low high = refl
+
+numbers_room : (ms : Members) → has_room (numbers_of ms) ≡ true
+numbers_room ms =
+    then_room _ _ (whole_room Ways (pos 2) (integer_at (codes "ways") ms)) (λ ways.
+    then_room _ _ (whole_room Regs (pos 4) (integer_at (codes "regs") ms)) (λ regs.
+    then_room _ _ (whole_room Words (pos 64) (integer_at (codes "words") ms)) (λ words.
+    then_room _ _ (whole_room Sets (pos 4) (integer_at (codes "sets") ms)) (λ sets.
+    then_room _ _ (whole_room Banks (pos 4) (integer_at (codes "banks") ms)) (λ banks.
+    then_room _ _ (whole_room BankQueue (pos 8) (integer_at (codes "bank_queue") ms)) (λ bank_queue.
+    then_room _ _ (whole_room WriteQueue (pos 8) (integer_at (codes "write_queue") ms)) (λ write_queue.
+    then_room _ _ (whole_room Replies (pos 8) (integer_at (codes "replies") ms)) (λ replies. refl))))))))
+
+shape_room : (n : Numbers) → has_room (shape_of n) ≡ true
+shape_room n =
+    then_room _ _ (ranged_room Ways n.ways 1 2) (λ ways.
+    then_room _ _ (ranged_room Regs n.regs 1 8) (λ number.
+    then_room _ _ (kept_room Regs (is_register_count number) number) (λ regs.
+    then_room _ _ (ranged_room Words n.words 1 1048576) (λ number.
+    then_room _ _ (kept_room Words (number % 4 == 0) number) (λ words.
+    then_room _ _ (ranged_room Sets n.sets 1 1024) (λ sets.
+    then_room _ _ (ranged_room Banks n.banks 1 16) (λ banks.
+    then_room _ _ (ranged_room BankQueue n.bank_queue ((4 + banks - 1) / banks) 64) (λ bank_queue.
+    then_room _ _ (ranged_room WriteQueue n.write_queue 4 256) (λ write_queue.
+    then_room _ _ (ranged_room Replies n.replies 1 64) (λ replies. refl))))))))))
+
+pub table_room : (ms : Members) → has_room (table_says ms) ≡ true
+table_room ms = go (has_other_key ms)
+  where
+    go : (b : Bool) → has_room (cond b (Err UnknownKey) (and_then (numbers_of ms) shape_of)) ≡ true
+    go true = refl
+    go false = then_room _ _ (numbers_room ms) shape_room
+
+-- a table is never refused for want of memory
+pub table_has_room : (ms : Members) → table_says ms ≢ Err OutOfMemory
+table_has_room ms h = absurd (false_is (ap has_room h) (table_room ms))
+  where
+    false_is : {b : Bool} → b ≡ false → b ≡ true → ⊥
+    false_is h k = cc

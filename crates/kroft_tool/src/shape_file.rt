@@ -1,0 +1,244 @@
+//! The shape file: the numbers of a machine, as a TOML table.
+
+ghost use Rattle.std.specs.Prelude.{◌≡◌, ◌≢◌, ℕ, pos, ◌/◌, ◌+◌, ◌-◌, ◌<◌, ◌≤◌, Ok, Err, Some, option_map};
+ghost use Rattle.toml.specs.Data.{get_member};
+ghost use Rattle.toml.specs.Errors.{IsBlank};
+ghost use Rattle.toml.specs.Parse.{parse_document};
+ghost use Rattle.toml.specs.View.{table_view};
+ghost use Rattle.kroft_tool.specs.declared.shape_file.ShapeFault.TheVariants.{OutOfMemory};
+ghost use Rattle.kroft_tool.specs.ShapeFile.{is_key, has_other_key, integer_at, whole, numbers_of, ranged, kept, is_register_count, shape_of, table_says, text_says};
+
+use flat_model::{Shape, ShapeField};
+use std::alloc::Global;
+use thiserror::Error;
+use toml::Table;
+
+/// Words of a block in each machine of the program.
+pub const BLOCK_WORDS: u32 = 4;
+
+/// The shape of a machine that the program can make.
+#[derive(Clone, Copy, PartialEq, Eq, Debug)]
+pub struct ToolShape {
+    /// The numbers that are given when the machine is made.
+    pub shape: Shape,
+    /// Frames per set: 1 or 2.
+    pub ways: u32,
+    /// Registers: 1, 2, 4 or 8.
+    pub regs: u32,
+}
+
+/// Why a shape file is refused.
+#[derive(Clone, Copy, PartialEq, Eq, Debug, Error)]
+pub enum ShapeFault {
+    /// The text is no TOML.
+    #[error("shape: not TOML")]
+    NotToml,
+    /// The table has a key that no shape has.
+    #[error("shape: unknown key")]
+    UnknownKey,
+    /// What stands at the key is no whole number.
+    #[error("shape: {} is not a whole number", key_of(*.0))]
+    NotWhole(ShapeField),
+    /// The number at the key is out of its range.
+    #[error("shape: {} out of range", key_of(*.0))]
+    BadShape(ShapeField),
+    /// There was too little memory.
+    #[error("out of memory")]
+    OutOfMemory,
+}
+
+// The key of a number in a shape file. The last five have none there.
+fn key_of(field: ShapeField) -> &'static str {
+    match field {
+        ShapeField::Words => "words",
+        ShapeField::Sets => "sets",
+        ShapeField::Ways => "ways",
+        ShapeField::Regs => "regs",
+        ShapeField::Banks => "banks",
+        ShapeField::BankQueue => "bank_queue",
+        ShapeField::WriteQueue => "write_queue",
+        ShapeField::Replies => "replies",
+        ShapeField::BlockWords => "block_words",
+        ShapeField::Depth => "depth",
+        ShapeField::Ports => "ports",
+        ShapeField::Journal => "journal",
+        ShapeField::Image => "image",
+    }
+}
+
+/// The numbers of a shape file as they stand there, before their ranges are looked at.
+#[derive(Clone, Copy, PartialEq, Eq, Debug)]
+struct Numbers {
+    ways: i64,
+    regs: i64,
+    words: i64,
+    sets: i64,
+    banks: i64,
+    bank_queue: i64,
+    write_queue: i64,
+    replies: i64,
+}
+
+/// Reads the text of a shape file: a TOML table of whole numbers, in which a key that is missing
+/// has its default.
+///
+/// The text that is no TOML is found first, then a key that no shape has, then what is no whole
+/// number, then a number out of its range; each of the last two in the order ways, regs, words,
+/// sets, banks, bank_queue, write_queue, replies. Memory is asked for only while the text is read.
+#[tactic(auto, using(crate::proofs::Answers::table_has_room))]
+pub fn read_shape(alloc: Global, text: &str) -> Result<ToolShape, ShapeFault>
+    ensures answer { result ≢ Err OutOfMemory → result ≡ text_says (parse_document text.now) }
+    ensures memory { result ≡ Err OutOfMemory → ¬ IsBlank text.now }
+{
+    match toml::table_from_str(alloc, text) {
+        Ok(table) => shape_of_table(&table),
+        Err(fault) if fault.is_memory() => Err(ShapeFault::OutOfMemory),
+        Err(_) => Err(ShapeFault::NotToml),
+    }
+}
+
+// What a table says.
+fn shape_of_table(table: &Table) -> Result<ToolShape, ShapeFault>
+    ensures { result ≡ table_says (table_view table.now) }
+{
+    if has_other_key(table) {
+        return Err(ShapeFault::UnknownKey);
+    }
+    let numbers = numbers_of(table)?;
+    shape_of(&numbers)
+}
+
+// Whether a shape file may have this key.
+fn is_key(key: &str) -> bool
+    ensures { result ≡ is_key key.now }
+{
+    key == "words"
+        || key == "sets"
+        || key == "ways"
+        || key == "regs"
+        || key == "banks"
+        || key == "bank_queue"
+        || key == "write_queue"
+        || key == "replies"
+}
+
+// Whether a key stands at the top that no shape has.
+fn has_other_key(table: &Table) -> bool
+    ensures { result ≡ has_other_key (table_view table.now) }
+{
+    for key in table.keys() {
+        if !is_key(key.as_str()) {
+            return true;
+        }
+    }
+    false
+}
+
+// What stands at a key: nothing, a whole number, or (`Some(None)`) something else.
+fn integer_at(table: &Table, key: &str) -> Option<Option<i64>>
+    ensures { result ≡ integer_at key.now (table_view table.now) }
+{
+    match table.get(key) {
+        Some(value) => Some(value.as_integer()),
+        None => None,
+    }
+}
+
+// A whole number, the default where nothing stands.
+fn whole(field: ShapeField, default: i64, found: Option<Option<i64>>) -> Result<i64, ShapeFault>
+    ensures { result ≡ whole field default found }
+{
+    match found {
+        Some(Some(number)) => Ok(number),
+        Some(None) => Err(ShapeFault::NotWhole(field)),
+        None => Ok(default),
+    }
+}
+
+// The numbers of a table. The first that is no whole number is refused.
+fn numbers_of(table: &Table) -> Result<Numbers, ShapeFault>
+    ensures { result ≡ numbers_of (table_view table.now) }
+{
+    let ways = whole(ShapeField::Ways, 2, integer_at(table, "ways"))?;
+    let regs = whole(ShapeField::Regs, 4, integer_at(table, "regs"))?;
+    let words = whole(ShapeField::Words, 64, integer_at(table, "words"))?;
+    let sets = whole(ShapeField::Sets, 4, integer_at(table, "sets"))?;
+    let banks = whole(ShapeField::Banks, 4, integer_at(table, "banks"))?;
+    let bank_queue = whole(ShapeField::BankQueue, 8, integer_at(table, "bank_queue"))?;
+    let write_queue = whole(ShapeField::WriteQueue, 8, integer_at(table, "write_queue"))?;
+    let replies = whole(ShapeField::Replies, 8, integer_at(table, "replies"))?;
+    Ok(Numbers {
+        ways,
+        regs,
+        words,
+        sets,
+        banks,
+        bank_queue,
+        write_queue,
+        replies,
+    })
+}
+
+// The number, where it lies between the first and the last, these among them.
+fn ranged(field: ShapeField, number: i64, first: u32, last: u32) -> Result<u32, ShapeFault>
+    ensures { result ≡ ranged field number first last }
+{
+    if (first as i64) <= number && number <= (last as i64) {
+        Ok(number as u32)
+    } else {
+        Err(ShapeFault::BadShape(field))
+    }
+}
+
+// The number, where it is good.
+fn kept(field: ShapeField, good: bool, number: u32) -> Result<u32, ShapeFault>
+    ensures { result ≡ kept field good number }
+{
+    if good {
+        Ok(number)
+    } else {
+        Err(ShapeFault::BadShape(field))
+    }
+}
+
+// Whether there may be so many registers.
+fn is_register_count(number: u32) -> bool
+    ensures { result ≡ is_register_count number }
+{
+    number == 1 || number == 2 || number == 4 || number == 8
+}
+
+// The shape of these numbers. The first that is out of its range is refused.
+fn shape_of(numbers: &Numbers) -> Result<ToolShape, ShapeFault>
+    ensures { result ≡ shape_of numbers.now }
+{
+    let ways = ranged(ShapeField::Ways, numbers.ways, 1, 2)?;
+    let regs = ranged(ShapeField::Regs, numbers.regs, 1, 8)?;
+    let regs = kept(ShapeField::Regs, is_register_count(regs), regs)?;
+    let words = ranged(ShapeField::Words, numbers.words, 1, 1_048_576)?;
+    let words = kept(ShapeField::Words, words % BLOCK_WORDS == 0, words)?;
+    let sets = ranged(ShapeField::Sets, numbers.sets, 1, 1024)?;
+    let banks = ranged(ShapeField::Banks, numbers.banks, 1, 16)?;
+    let bank_queue = ranged(
+        ShapeField::BankQueue,
+        numbers.bank_queue,
+        (BLOCK_WORDS + banks - 1) / banks,
+        64,
+    )?;
+    let write_queue = ranged(
+        ShapeField::WriteQueue,
+        numbers.write_queue,
+        BLOCK_WORDS,
+        256,
+    )?;
+    let replies = ranged(ShapeField::Replies, numbers.replies, 1, 64)?;
+    let shape = Shape {
+        words,
+        sets,
+        banks,
+        bank_queue,
+        write_queue,
+        replies,
+    };
+    Ok(ToolShape { shape, ways, regs })
+}
