@@ -8,6 +8,7 @@ use Rattle.flat_model.specs.Places.{is_number}
 use Rattle.cache_directory.specs.declared.directory.Choice.{Choice}
 use Rattle.cache_directory.specs.declared.directory.Choice.TheVariants.{Free, Victim, AllPending}
 use Rattle.cache_directory.specs.Frames.{Frame, Frames, IsWhole, empty_frame, frame_at, is_held, frame_of, order_of, set_of, with_frame, filled, written, settled, fresh_frame, without, installed, released, choice_from, free_way, oldest, chosen, is_all_pending, are_pending}
+use Rattle.cache_directory.proofs.Misses.{MayInstall}
 use Rattle.cache_directory.proofs.Choices.{look_in_set, chosen-all_pending}
 use Rattle.cache_directory.proofs.Whole.{held_there, slot_in, order_short, order_there, whole-filled, whole-written, whole-settled, whole-installed, whole-released}
 
@@ -36,12 +37,6 @@ settle_whole ways words d v f x y h e held read change =
     rw (change, frame_read d f x held' read) (whole-settled ways words d f h held')
 
 -- what `install` asks, of what the fields show
-pub record MayInstall (ways : ℕ) (d : Frames) (f block : ℕ) : Type 0 where
-  pub there : f < length d.frames
-  pub free : (frame_at d.frames f).block ≡ None
-  pub of_set : f / ways ≡ set_of d block
-  pub absent : frame_of d.frames block ≡ None
-
 pub may_install : (ways : ℕ) (d v : Frames) (f block : ℕ) → d ≡ v → f < length v.frames → (frame_at v.frames f).block ≡ None → f / ways ≡ set_of v block → frame_of v.frames block ≡ None → MayInstall ways d f block
 may_install ways d v f block e there free of_set absent =
     rw e (record { there = there; free = free; of_set = of_set; absent = absent })

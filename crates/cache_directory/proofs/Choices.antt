@@ -42,7 +42,8 @@ unfolding frame_of
 found_held ways words d block f h held =
     place_of-first (λ (y : Frame). is_number y.block block) d.frames f empty_frame (held_there d f (ap is_some held)) (λ j l. false_from_ne_true (is_number (frame_at d.frames j).block block) (λ y. (let q = h.alone j f block (is_number-true (frame_at d.frames j).block block y) held in absurd (omega arith)))) (is_number-same (frame_at d.frames f).block block held)
 
-found_none : (d : Frames) (block : ℕ) → ((f : ℕ) → (frame_at d.frames f).block ≡ Some block → ⊥) → frame_of d.frames block ≡ None
+-- where none does, a look finds none
+pub found_none : (d : Frames) (block : ℕ) → ((f : ℕ) → (frame_at d.frames f).block ≡ Some block → ⊥) → frame_of d.frames block ≡ None
 unfolding frame_of
 found_none d block nowhere =
     place_of-none (λ (y : Frame). is_number y.block block) d.frames empty_frame (λ j l. false_from_ne_true (is_number (frame_at d.frames j).block block) (λ y. nowhere j (is_number-true (frame_at d.frames j).block block y)))
