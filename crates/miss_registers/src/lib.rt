@@ -1,7 +1,8 @@
 //! The registers that keep what is known of missing blocks.
 #![tactic(auto)]
 
-ghost use Rattle.std.specs.Prelude.{◌≡◌, ◌<◌, ◌++◌, [], ◌∷◌, length, slice_get};
+ghost use Rattle.std.specs.Prelude.{◌≡◌, ◌<◌, ◌≤◌, ◌++◌, [], ◌∷◌, length, slice_get};
+ghost use Rattle.miss_registers.specs.Marks.{clear_mark};
 ghost use Rattle.miss_registers.specs.Views.{load_at_front};
 
 mod file;
@@ -68,6 +69,19 @@ struct Mark {
     code: Lanes,
 }
 
+impl Mark {
+    // The mark of a word that has still to come.
+    fn clear() -> Self
+        ensures { result ≡ clear_mark }
+    {
+        Mark {
+            in_stack: false,
+            processed: false,
+            code: Lanes::none(),
+        }
+    }
+}
+
 // A load that waits for word `i`.
 #[derive(Clone, Copy, Default)]
 struct Target {
@@ -127,7 +141,8 @@ impl OwedList {
 
     /// How many loads there are: four at most.
     pub fn len(&self) -> u32
-        ensures { result ≡ length self.now }
+        ensures count { result ≡ length self.now }
+        ensures few { result ≤ 4 }
     {
         self.items.len() as u32
     }

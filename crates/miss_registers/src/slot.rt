@@ -215,9 +215,9 @@ fn waiting_for(targets: &[Target], i: u32) -> OwedList
     ensures { result ≡ waiting_of targets.now i }
 {
     let mut send = OwedList::new();
-    for t in targets {
-        if t.i == i {
-            send.push(t.owed);
+    for target in targets {
+        if target.i == i {
+            send.push(target.owed);
         }
     }
     send
@@ -227,19 +227,19 @@ fn waiting_for(targets: &[Target], i: u32) -> OwedList
 fn answer_word(targets: &mut ArrayVec<Target, 64>, i: u32)
     ensures { targets.new.items ≡ filter (waits_elsewhere i) targets.old.items }
 {
-    targets.retain(|t| t.i != i);
+    targets.retain(|target| target.i != i);
 }
 
 fn tag_among(targets: &[Target], tag: u16) -> bool
     ensures { result ≡ list_any (λ t. t.owed.tag == tag) targets.now }
 {
-    targets.iter().any(|t| t.owed.tag == tag)
+    targets.iter().any(|target| target.owed.tag == tag)
 }
 
 fn all_processed(marks: &[Mark]) -> bool
     ensures { result ≡ list_all (λ m. m.processed) marks.now }
 {
-    marks.iter().all(|m| m.processed)
+    marks.iter().all(|mark| mark.processed)
 }
 
 fn clear_codes(marks: &mut ArrayVec<Mark, 16>)
@@ -252,8 +252,8 @@ fn clear_codes_of(marks: &mut [Mark])
     ensures { marks.new ≡ map without_mark_code marks.old }
 {
     for k in 0..marks.len() {
-        let m = &mut marks[k];
-        m.code = Lanes::none();
+        let mark = &mut marks[k];
+        mark.code = Lanes::none();
     }
 }
 
@@ -274,11 +274,7 @@ fn clear_marks(words: u32) -> ArrayVec<Mark, 16>
 {
     let mut marks = ArrayVec::new();
     for k in 0..words {
-        marks.push(Mark {
-            in_stack: false,
-            processed: false,
-            code: Lanes::none(),
-        });
+        marks.push(Mark::clear());
     }
     marks
 }
@@ -293,24 +289,16 @@ fn put_in_stack(marks: &mut ArrayVec<Mark, 16>, i: u32)
     requires { i < length marks.old.items }
     ensures { marks.new.items ≡ slice_set marks.old.items i (in_stack_mark (mark_at marks.old.items i)) }
 {
-    let m = marks.as_slice()[i as usize];
-    marks.as_mut_slice()[i as usize] = Mark {
-        in_stack: true,
-        processed: m.processed,
-        code: m.code,
-    };
+    let mark = &mut marks.as_mut_slice()[i as usize];
+    mark.in_stack = true;
 }
 
 fn join_code(marks: &mut ArrayVec<Mark, 16>, i: u32, lanes: Lanes)
     requires { i < length marks.old.items }
     ensures { marks.new.items ≡ slice_set marks.old.items i (noted_mark (mark_at marks.old.items i) lanes) }
 {
-    let m = marks.as_slice()[i as usize];
-    marks.as_mut_slice()[i as usize] = Mark {
-        in_stack: m.in_stack,
-        processed: m.processed,
-        code: m.code.joined(lanes),
-    };
+    let mark = &mut marks.as_mut_slice()[i as usize];
+    mark.code = mark.code.joined(lanes);
 }
 
 // A register that isn't live shows no frame.
@@ -325,7 +313,7 @@ fn processed_in(marks: &[Mark]) -> u32
     requires { length marks.now ≤ 16 }
     ensures { result ≡ count_by (λ m. m.processed) marks.now }
 {
-    marks.iter().filter(|m| m.processed).count() as u32
+    marks.iter().filter(|mark| mark.processed).count() as u32
 }
 
 // What is kept of word `i`: nothing where there is no such word.
@@ -335,11 +323,7 @@ fn mark_of(marks: &[Mark], i: u32) -> Mark
     if (i as usize) < marks.len() {
         marks[i as usize]
     } else {
-        Mark {
-            in_stack: false,
-            processed: false,
-            code: Lanes::none(),
-        }
+        Mark::clear()
     }
 }
 

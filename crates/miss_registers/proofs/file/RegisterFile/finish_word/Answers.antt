@@ -10,15 +10,15 @@ finish_word-requires g c =
     let xs = c.self.inside.slots.items in
     let v : xs ≡ c.args.self.now = c.self.view_is in
     let h : c.args.slot < length xs = rw v c.requires.slot in
-    let e : c.index_mut-s.result.now ≡ register_at xs c.args.slot = c.index_mut-s.ensures.value ∙ get_or_default xs c.args.slot _ free_register h in
-    record { there = in_stack_there c.index_mut-s.result.now c.args.i (rw (e, v) c.requires.in_stack) }
+    let e : c.index_mut-register.result.now ≡ register_at xs c.args.slot = c.index_mut-register.ensures.value ∙ get_or_default xs c.args.slot _ free_register h in
+    record { there = in_stack_there c.index_mut-register.result.now c.args.i (rw (e, v) c.requires.in_stack) }
 
 pub invariant_of-self : goal.invariant_of-self
 invariant_of-self g c =
     let xs = c.self.inside.slots.items in
     let v : xs ≡ c.args.self.now = c.self.view_is in
     let h : c.args.slot < length xs = rw v c.requires.slot in
-    let e : c.index_mut-s.result.now ≡ register_at xs c.args.slot = c.index_mut-s.ensures.value ∙ get_or_default xs c.args.slot _ free_register h in
+    let e : c.index_mut-register.result.now ≡ register_at xs c.args.slot = c.index_mut-register.ensures.value ∙ get_or_default xs c.args.slot _ free_register h in
     let w = finished-whole _ _ c.args.self.now c.args.slot c.args.i (rw v at c.self.invariant) c.requires.slot c.requires.in_stack in
     rw (c.finish_word.ensures.register, e, v) w
 

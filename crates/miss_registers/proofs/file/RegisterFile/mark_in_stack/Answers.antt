@@ -9,7 +9,7 @@ invariant_of-self g c =
     let xs = c.self.inside.slots.items in
     let v : xs ≡ c.args.self.now = c.self.view_is in
     let h : c.args.slot < length xs = rw v c.requires.slot in
-    let e : c.index_mut-s.result.now ≡ register_at xs c.args.slot = c.index_mut-s.ensures.value ∙ get_or_default xs c.args.slot _ free_register h in
+    let e : c.index_mut-register.result.now ≡ register_at xs c.args.slot = c.index_mut-register.ensures.value ∙ get_or_default xs c.args.slot _ free_register h in
     let w = marked-whole _ _ c.args.self.now c.args.slot c.args.i (rw v at c.self.invariant) c.requires.slot c.requires.expected in
     rw (c.mark_in_stack.ensures, e, v) w
 
