@@ -23,10 +23,12 @@ use Rattle.flat_model.specs.declared.Cause.TheVariants.{StrayWord, StackFull}
 use Rattle.flat_model.specs.declared.Answer.TheVariants.{Refused}
 use Rattle.cache_unit.specs.Steps.{Stepped, moved, arrived, arrive_step}
 use Rattle.cache_unit.specs.Shown.{as_frame, as_field, as_register, as_cache}
-use Rattle.cache_unit.specs.Sound.{no_entry, entry_at, HasInStack, Stands, HasFrame, FilledBy, IsSound, register_waits, waits}
+use Rattle.cache_unit.specs.Sound.{no_entry, entry_at, HasInStack, Stands, HasFrame, FilledBy, IsSound, loads_of}
+use Rattle.miss_registers.specs.Whole.{IsWhole}
+use Rattle.cache_unit.proofs.Owing.{loads-set, owes-same}
 use Rattle.cache_unit.proofs.Process.{register_at-shown, field_at-shown}
 use Rattle.cache_unit.proofs.Lists.{get_or-map}
-use Rattle.cache_unit.proofs.Keeps.{slot_within, length_kept, Since, live_before, apart_before}
+use Rattle.cache_unit.proofs.Keeps.{slot_within, Since, live_before}
 
 -- ---- the marks are those of the stack
 
@@ -83,9 +85,9 @@ unfolding stack_word
 in_stack-shown z d rs st q ready s i h =
     is_some-map (λ (e : Entry). e.word) (find (is_for s i) st) ∙ same_bool _ _ (λ t. (
     let w = Stands-found st s i t in
-    let m = (h.entries w.place w.within).marked in
+    let m = (h.stack_sound.entries w.place w.within).marked in
     subst (λ (x : ℕ). (regs.field_of (regs.register_at rs s) x).in_stack ≡ true) w.word (subst (λ (x : ℕ). (regs.field_of (regs.register_at rs x) (entry_at st w.place).i).in_stack ≡ true) w.slot m)))
-    (λ t. (let w = h.marks s i t in found_at st s i w.place w.within w.slot w.word))
+    (λ t. (let w = h.stack_sound.marks s i t in found_at st s i w.place w.within w.slot w.word))
 
 -- ---- a stray word
 
@@ -102,7 +104,7 @@ stray_by true w n p m t l e i = rw (l refl, e) (stray_tests (nat_lt i w) p m)
 pub stray-shown : (z : Sizes) (d : dir.Frames) (rs : List regs.Register) (st : List Entry) (q : Queue) (ready : List Reply) (s i : ℕ) → IsSound z d rs st q ready → not (regs.expects (regs.register_at rs s) i) ≡ is_stray z (as_cache d rs st q.entries ready) s i
 stray-shown z d rs st q ready s i h =
     let r = regs.register_at rs s in
-    let a = stray_by r.valid z.block_words (length r.fields) (regs.field_of r i).processed (regs.field_of r i).in_stack (is_some (stack_word st s i)) (h.lengths s) (in_stack-shown z d rs st q ready s i h) i in
+    let a = stray_by r.valid z.block_words (length r.fields) (regs.field_of r i).processed (regs.field_of r i).in_stack (is_some (stack_word st s i)) ((h.registers.each s).fields_there) (in_stack-shown z d rs st q ready s i h) i in
     a ∙ rw (register_at-shown d rs st q.entries ready s, get_or-map as_field r.fields i regs.clear_field) refl
 
 -- ---- what the mark changes
@@ -139,10 +141,10 @@ Same-marked : (r : regs.Register) (i : ℕ) → Same r (regs.marked r i)
 unfolding regs.marked
 Same-marked r i = record { valid = refl; obsolete = refl; block = refl; frame = refl }
 
-waits-marked : (r : regs.Register) (i : ℕ) → i < length r.fields → register_waits (regs.marked r i) ≡ register_waits r
+loads-marked : (p : ℕ → Bool) (r : regs.Register) (i : ℕ) → i < length r.fields → loads_of p (regs.marked r i) ≡ loads_of p r
 unfolding regs.marked
-waits-marked r i h =
-    let e = sum_by-set (λ (f : regs.Field). length f.waiting) r.fields i (record (regs.field_of r i) { in_stack = true }) regs.clear_field h in
+loads-marked p r i h =
+    let e = loads-set p r i (record (regs.field_of r i) { in_stack = true }) h in
     omega (arith, e)
 
 HasInStack-marked : (r : regs.Register) (i : ℕ) → r.valid ≡ true → i < length r.fields → (regs.field_of r i).processed ≡ false → HasInStack (regs.marked r i) i
@@ -258,48 +260,45 @@ mark-marked r i j h = elim (cases_eq j i) [ inl e ↦ inl e | inr e ↦ inr (rw 
 
 no_other : (z : Sizes) (d : dir.Frames) (rs : List regs.Register) (st : List Entry) (q : Queue) (ready : List Reply) (s i k : ℕ) → IsSound z d rs st q ready → Expected (regs.register_at rs s) i → k < length st → (entry_at st k).slot ≡ s → (entry_at st k).i ≡ i → ⊥
 no_other z d rs st q ready s i k h x p a b =
-    let m = (h.entries k p).marked in
+    let m = (h.stack_sound.entries k p).marked in
     let m' : (regs.field_of (regs.register_at rs s) i).in_stack ≡ true = subst (λ (y : ℕ). (regs.field_of (regs.register_at rs s) y).in_stack ≡ true) b (subst (λ (y : ℕ). (regs.field_of (regs.register_at rs y) (entry_at st k).i).in_stack ≡ true) a m) in
     false≢true (sym x.unmarked ∙ m')
 
-pub IsSound-arrived : (z : Sizes) (d : dir.Frames) (rs : List regs.Register) (st : List Entry) (q : Queue) (ready : List Reply) (e : Entry) → IsSound z d rs st q ready → Expected (regs.register_at rs e.slot) e.i → IsSound z d (set rs e.slot (regs.marked (regs.register_at rs e.slot) e.i)) (st ++ e ∷ []) q ready
-IsSound-arrived z d rs st q ready e h x =
+pub IsSound-arrived : (z : Sizes) (d : dir.Frames) (rs : List regs.Register) (st : List Entry) (q : Queue) (ready : List Reply) (e : Entry) → IsSound z d rs st q ready → Expected (regs.register_at rs e.slot) e.i → IsWhole z.block_words z.regs (set rs e.slot (regs.marked (regs.register_at rs e.slot) e.i)) → IsSound z d (set rs e.slot (regs.marked (regs.register_at rs e.slot) e.i)) (st ++ e ∷ []) q ready
+IsSound-arrived z d rs st q ready e h x whole =
     let r = regs.register_at rs e.slot in
     let l = slot_of rs e.slot e.i x in
     let n = length-append st (e ∷ []) in
     let since : (s : ℕ) → regs.is_live (regs.register_at (set rs e.slot (regs.marked r e.i)) s) ≡ true → Since (regs.register_at rs s) (regs.register_at (set rs e.slot (regs.marked r e.i)) s) = λ s. live_before rs e.slot s (regs.marked r e.i) l (Since-marked r e.i) in
     record {
       ranges = h.ranges;
-      slots = length-set rs e.slot _ ∙ h.slots;
-      live_apart = apart_before rs _ since h.live_apart;
-      frames = λ s v. HasFrame-marked d.frames _ _ (since s v) (h.frames s (since s v).live);
-      pending = λ f v. FilledBy-marked rs e.slot e.i f l (h.pending f v);
-      limit = h.limit;
-      within = h.within;
-      addresses = h.addresses;
-      entries = λ k p. elim (cases_lt k (length st)) [
-        | inl q ↦ rw (entry_at-old st e k q) (register_at-set (λ y. HasInStack y (entry_at st k).i) rs e.slot (entry_at st k).slot (regs.marked r e.i) l (λ a. HasInStack-still r e.i (entry_at st k).i (subst (λ (y : ℕ). HasInStack (regs.register_at rs y) (entry_at st k).i) a (h.entries k q))) (λ a. h.entries k q))
-        | inr q ↦ (
-            let m : k ≡ length st = omega arith in
-            rw (m, entry_at-new st e) (register_at-set (λ y. HasInStack y e.i) rs e.slot e.slot (regs.marked r e.i) l (λ a. HasInStack-marked r e.i x.valid x.there x.waits) (λ a. absurd (a refl))))
-      ];
-      distinct = λ j k o p a b. elim (cases_lt k (length st)) [
-        | inl w ↦ h.distinct j k o w (rw (entry_at-old st e j (omega arith), entry_at-old st e k w) at a) (rw (entry_at-old st e j (omega arith), entry_at-old st e k w) at b)
-        | inr w ↦ (
-            let m : k ≡ length st = omega arith in
-            no_other z d rs st q ready e.slot e.i j h x (omega arith) (rw (m, entry_at-new st e, entry_at-old st e j (omega arith)) at a) (rw (m, entry_at-new st e, entry_at-old st e j (omega arith)) at b))
-      ];
-      room = (
-          let a = sum_by-set register_waits rs e.slot (regs.marked r e.i) regs.free_register l in
-          let w = waits-marked r e.i x.there in
-          omega (arith, a, w, h.room));
-      marks = λ s i. register_at-set (λ y. (regs.field_of y i).in_stack ≡ true → Stands (st ++ e ∷ []) s i) rs e.slot s (regs.marked r e.i) l
-          (λ a v. elim (mark-marked r e.i i v) [
-            | inl c ↦ rw (a, c) (Stands-new st e)
-            | inr c ↦ rw a (Stands-push st e e.slot i (h.marks e.slot i c))
-          ])
-          (λ a v. Stands-push st e s i (h.marks s i v));
-      lengths = λ s. register_at-set (λ y. y.valid ≡ true → length y.fields ≡ z.block_words) rs e.slot s (regs.marked r e.i) l (λ a v. length-marked r e.i ∙ h.lengths e.slot x.valid) (λ a. h.lengths s);
+      directory = h.directory;
+      sets = h.sets;
+      in_memory = h.in_memory;
+      registers = whole;
+      stack_sound = record {
+        entries = λ k p. elim (cases_lt k (length st)) [
+          | inl q ↦ rw (entry_at-old st e k q) (register_at-set (λ y. HasInStack y (entry_at st k).i) rs e.slot (entry_at st k).slot (regs.marked r e.i) l (λ a. HasInStack-still r e.i (entry_at st k).i (subst (λ (y : ℕ). HasInStack (regs.register_at rs y) (entry_at st k).i) a (h.stack_sound.entries k q))) (λ a. h.stack_sound.entries k q))
+          | inr q ↦ (
+              let m : k ≡ length st = omega arith in
+              rw (m, entry_at-new st e) (register_at-set (λ y. HasInStack y e.i) rs e.slot e.slot (regs.marked r e.i) l (λ a. HasInStack-marked r e.i x.valid x.there x.waits) (λ a. absurd (a refl))))
+        ];
+        distinct = λ j k o p a b. elim (cases_lt k (length st)) [
+          | inl w ↦ h.stack_sound.distinct j k o w (rw (entry_at-old st e j (omega arith), entry_at-old st e k w) at a) (rw (entry_at-old st e j (omega arith), entry_at-old st e k w) at b)
+          | inr w ↦ (
+              let m : k ≡ length st = omega arith in
+              no_other z d rs st q ready e.slot e.i j h x (omega arith) (rw (m, entry_at-new st e, entry_at-old st e j (omega arith)) at a) (rw (m, entry_at-new st e, entry_at-old st e j (omega arith)) at b))
+        ];
+        marks = λ s i. register_at-set (λ y. (regs.field_of y i).in_stack ≡ true → Stands (st ++ e ∷ []) s i) rs e.slot s (regs.marked r e.i) l
+            (λ a v. elim (mark-marked r e.i i v) [
+              | inl c ↦ rw (a, c) (Stands-new st e)
+              | inr c ↦ rw a (Stands-push st e e.slot i (h.stack_sound.marks e.slot i c))
+            ])
+            (λ a v. Stands-push st e s i (h.stack_sound.marks s i v));
+      };
+      tied = record { frames = λ s v. HasFrame-marked d.frames _ _ (since s v) (h.tied.frames s (since s v).live); pending = λ f v. FilledBy-marked rs e.slot e.i f l (h.tied.pending f v) };
+      queue_sound = h.queue_sound;
+      owes = owes-same z ready rs e.slot (regs.marked r e.i) l (λ p. loads-marked p r e.i x.there) h.owes;
     }
 
 -- ---- the step

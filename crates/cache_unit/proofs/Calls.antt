@@ -18,6 +18,7 @@ use Rattle.cache_unit.specs.Steps.{answered, processed, process_step, process_en
 use Rattle.cache_unit.specs.Shown.{as_cache}
 use Rattle.cache_unit.specs.Parts.{filled_live, CanFill}
 use Rattle.cache_unit.specs.Sound.{no_entry, entry_at, HasInStack, IsSound}
+use Rattle.miss_registers.specs.Whole.{IsWhole}
 use Rattle.cache_unit.proofs.Process.{live_of, processed-shown}
 use Rattle.cache_unit.proofs.Keeps.{slot_within, IsSound-processed, CanFill-live, room_for}
 
@@ -41,28 +42,27 @@ Taken-from st k e h = record { within = slice_get_within st k e h; same = get_or
 
 pub can_finish : (z : Sizes) (d : dir.Frames) (rs : List regs.Register) (st : List Entry) (q : Queue) (ready : List Reply) (k : ℕ) (e : Entry) → IsSound z d rs st q ready → Taken st k e → (e.slot < length rs) × ((regs.field_of (regs.register_at rs e.slot) e.i).in_stack ≡ true)
 can_finish z d rs st q ready k e h t =
-    subst (λ (x : Entry). (x.slot < length rs) × ((regs.field_of (regs.register_at rs x.slot) x.i).in_stack ≡ true)) t.same (slot_within rs _ _ (h.entries k t.within), (h.entries k t.within).marked)
+    subst (λ (x : Entry). (x.slot < length rs) × ((regs.field_of (regs.register_at rs x.slot) x.i).in_stack ≡ true)) t.same (slot_within rs _ _ (h.stack_sound.entries k t.within), (h.stack_sound.entries k t.within).marked)
 
-pub can_fill : (z : Sizes) (d : dir.Frames) (rs : List regs.Register) (st : List Entry) (q : Queue) (ready : List Reply) (k : ℕ) (e : Entry) → IsSound z d rs st q ready → Taken st k e → CanFill d (live_of (regs.register_at rs e.slot)) e.i
-can_fill z d rs st q ready k e h t = subst (λ (x : Entry). CanFill d (live_of (regs.register_at rs x.slot)) x.i) t.same (CanFill-live z d rs st q ready k h t.within)
+pub can_fill : (z : Sizes) (d : dir.Frames) (rs : List regs.Register) (st : List Entry) (q : Queue) (ready : List Reply) (k : ℕ) (e : Entry) → IsSound z d rs st q ready → Taken st k e → CanFill z.block_words d (live_of (regs.register_at rs e.slot)) e.i
+can_fill z d rs st q ready k e h t = subst (λ (x : Entry). CanFill z.block_words d (live_of (regs.register_at rs x.slot)) x.i) t.same (CanFill-live z d rs st q ready k h t.within)
 
 pub can_answer : (z : Sizes) (d : dir.Frames) (rs : List regs.Register) (st : List Entry) (q : Queue) (ready : List Reply) (k : ℕ) (e : Entry) → IsSound z d rs st q ready → Taken st k e → length ready + length (regs.field_of (regs.register_at rs e.slot) e.i).waiting ≤ 64
 can_answer z d rs st q ready k e h t = subst (λ (x : Entry). length ready + length (regs.field_of (regs.register_at rs x.slot) x.i).waiting ≤ 64) t.same (room_for z d rs st q ready k h t.within)
 
-length_after : (ready ready' : List Reply) (word : Word) (ws : List Owed) → ready' ≡ ready ++ answered word ws → length ready' ≡ length ready + length ws
-length_after ready ready' word ws e = ap length e ∙ length-append ready (answered word ws) ∙ ap (λ (n : ℕ). length ready + n) (length-map ws (reply_to word))
-
-pub sound_after : (z : Sizes) (d : dir.Frames) (rs : List regs.Register) (st : List Entry) (q : Queue) (ready ready' : List Reply) (k : ℕ) (e : Entry) (keep : Lanes) → IsSound z d rs st q ready → Taken st k e → ready' ≡ ready ++ answered e.word (regs.field_of (regs.register_at rs e.slot) e.i).waiting → IsSound z (filled_live d (live_of (regs.register_at rs e.slot)) e.i e.word keep (list_all (λ f. f.processed) (regs.finished_fields (regs.register_at rs e.slot) e.i))) (set rs e.slot (regs.finished (regs.register_at rs e.slot) e.i)) (remove st k) q ready'
-sound_after z d rs st q ready ready' k e keep h t p =
-    let P : Entry → Type 0 = λ x. ready' ≡ ready ++ answered x.word (regs.field_of (regs.register_at rs x.slot) x.i).waiting → IsSound z (filled_live d (live_of (regs.register_at rs x.slot)) x.i x.word keep (list_all (λ f. f.processed) (regs.finished_fields (regs.register_at rs x.slot) x.i))) (set rs x.slot (regs.finished (regs.register_at rs x.slot) x.i)) (remove st k) q ready' in
-    subst P t.same (λ w. IsSound-processed z d rs st q ready h k t.within _ keep ready' (length_after ready ready' _ _ w)) p
+pub sound_after : (z : Sizes) (d : dir.Frames) (rs : List regs.Register) (st : List Entry) (q : Queue) (ready : List Reply) (k : ℕ) (e : Entry) (keep : Lanes) → IsSound z d rs st q ready → Taken st k e → dir.IsWhole z.ways z.block_words (filled_live d (live_of (regs.register_at rs e.slot)) e.i e.word keep (regs.is_done (regs.finished_fields (regs.register_at rs e.slot) e.i))) → IsWhole z.block_words z.regs (set rs e.slot (regs.finished (regs.register_at rs e.slot) e.i)) → IsSound z (filled_live d (live_of (regs.register_at rs e.slot)) e.i e.word keep (regs.is_done (regs.finished_fields (regs.register_at rs e.slot) e.i))) (set rs e.slot (regs.finished (regs.register_at rs e.slot) e.i)) (remove st k) q (ready ++ answered e.word (regs.field_of (regs.register_at rs e.slot) e.i).waiting)
+sound_after z d rs st q ready k e keep h t =
+    let after : Entry → dir.Frames = λ x. filled_live d (live_of (regs.register_at rs x.slot)) x.i e.word keep (regs.is_done (regs.finished_fields (regs.register_at rs x.slot) x.i)) in
+    let regs_after : Entry → List regs.Register = λ x. set rs x.slot (regs.finished (regs.register_at rs x.slot) x.i) in
+    let P : Entry → Type 0 = λ x. dir.IsWhole z.ways z.block_words (after x) → IsWhole z.block_words z.regs (regs_after x) → IsSound z (after x) (regs_after x) (remove st k) q (ready ++ answered e.word (regs.field_of (regs.register_at rs x.slot) x.i).waiting) in
+    subst P t.same (IsSound-processed z d rs st q ready h k t.within e.word keep)
 
 pub step_after : (z : Sizes) (d : dir.Frames) (rs : List regs.Register) (st : List Entry) (q : Queue) (ready : List Reply) (k : ℕ) (e : Entry) (last : Bool) → IsSound z d rs st q ready → slice_get st k ≡ Some e → as_cache (filled_live d (live_of (regs.register_at rs e.slot)) e.i e.word (regs.field_of (regs.register_at rs e.slot) e.i).code last) (set rs e.slot (regs.finished (regs.register_at rs e.slot) e.i)) (remove st k) q.entries (ready ++ answered e.word (regs.field_of (regs.register_at rs e.slot) e.i).waiting) ≡ (process_step (as_cache d rs st q.entries ready) k).cache
 unfolding process_step
 step_after z d rs st q ready k e last h s =
     let t = Taken-from st k e s in
-    let v : (regs.register_at rs e.slot).valid ≡ true = subst (λ (x : Entry). (regs.register_at rs x.slot).valid ≡ true) t.same (h.entries k t.within).valid in
-    processed-shown d rs st q.entries ready k e last (regs.register_at rs e.slot) refl v (h.frames e.slot) ∙ ap (λ (o : Option Entry). (process_entry (as_cache d rs st q.entries ready) k o).cache) (sym s)
+    let v : (regs.register_at rs e.slot).valid ≡ true = subst (λ (x : Entry). (regs.register_at rs x.slot).valid ≡ true) t.same (h.stack_sound.entries k t.within).valid in
+    processed-shown d rs st q.entries ready k e last (regs.register_at rs e.slot) refl v (h.tied.frames e.slot) ∙ ap (λ (o : Option Entry). (process_entry (as_cache d rs st q.entries ready) k o).cache) (sym s)
 
 -- the parts after a step are those of the unit after it
 pub unit_after : (z : Sizes) (u : UnitState) (c x : Cache) (place : ℕ) → record { sizes = z; cache = c } ≡ u → x ≡ (process_step c place).cache → record { sizes = z; cache = x } ≡ record u { cache = (process_step u.cache place).cache }

@@ -1,5 +1,5 @@
 -- What holds of the parts still holds once a word has left the stack.
-use Rattle.std.proofs.Common.{◌≡◌, ℕ, suc, zero, ◌+◌, ◌<◌, ◌≤◌, Bool, true, false, ◌&&◌, not, if◌then◌else◌, List, [], ◌∷◌, ◌++◌, map, length, set, get_or, Option, Some, None, refl, ap, sym, ◌∙◌, arith, length-set, length-append, eqb-true, ◌-◌, ◌⊎◌, inl, inr, subst}
+use Rattle.std.proofs.Common.{◌≡◌, ℕ, suc, zero, ◌+◌, ◌<◌, ◌≤◌, Bool, true, false, ◌&&◌, not, if◌then◌else◌, List, [], ◌∷◌, ◌++◌, map, length, set, get_or, Option, Some, None, is_some, refl, ap, sym, ◌∙◌, arith, length-set, length-append, eqb-true, ◌-◌, ◌⊎◌, inl, inr, subst}
 use Rattle.std.specs.List.{list_all, remove, sum_by}
 use Rattle.std.proofs.lemmas.List.{get_or-set_same, get_or-set_other, get_or_past}
 use Rattle.std.proofs.lemmas.List.Edits.{length-remove, get_or-remove_below, get_or-remove_above}
@@ -19,9 +19,12 @@ use Rattle.cache_unit.specs.Parts.{filled_live, settled_if, CanFill}
 use Rattle.write_queue.specs.Queue.{Queue}
 use Rattle.flat_model.specs.Places.{is_number}
 use Rattle.cache_unit.specs.State.{Sizes}
-use Rattle.cache_unit.specs.Sound.{no_entry, entry_at, HasInStack, Stands, HasFrame, FilledBy, IsSound, register_waits, waits}
+use Rattle.cache_unit.specs.Sound.{no_entry, entry_at, HasInStack, Stands, HasFrame, FilledBy, IsSound}
+use Rattle.cache_unit.specs.Steps.{answered}
+use Rattle.miss_registers.specs.Whole.{IsWhole}
+use Rattle.cache_unit.proofs.Owing.{count_by-all, loads_there, owes-finished}
 use Rattle.cache_unit.proofs.Lists.{list_all-at, place_of-some}
-use Rattle.cache_unit.proofs.Process.{live_of}
+use Rattle.cache_unit.proofs.Process.{live_of, filled_live-orders}
 
 -- ---- one register
 
@@ -49,22 +52,11 @@ HasInStack-finished r i j h n =
     let m : (get_or fs j regs.clear_field).in_stack ≡ true = ap (λ (f : regs.Field). f.in_stack) (get_or-set_other r.fields i j regs.finished_field regs.clear_field n) ∙ h.marked in
     let p : (get_or fs j regs.clear_field).processed ≡ false = ap (λ (f : regs.Field). f.processed) (get_or-set_other r.fields i j regs.finished_field regs.clear_field n) ∙ h.waits in
     let there : j < length fs = omega (arith, l, h.there) in
-    HasInStack-by (list_all (λ f. f.processed) fs) r fs j (is_false _ (λ t. false≢true (sym p ∙ list_all-at (λ (f : regs.Field). f.processed) fs j regs.clear_field t there))) h.valid there p m
+    HasInStack-by (regs.is_done fs) r fs j (is_false _ (λ t. false≢true (sym p ∙ list_all-at (λ (f : regs.Field). f.processed) fs j regs.clear_field t there))) h.valid there p m
 
 finished-live : (b : Bool) (r : regs.Register) (fs : List regs.Field) → regs.is_live (if b then regs.free_register else record r { fields = fs }) ≡ true → ((if b then regs.free_register else record r { fields = fs }) ≡ record r { fields = fs }) × (regs.is_live r ≡ true) × (b ≡ false)
 finished-live true r fs h = absurd (false≢true h)
 finished-live false r fs h = (refl, h, refl)
-
-waits_by : (b : Bool) (r : regs.Register) (fs : List regs.Field) (n : ℕ) → sum_by (λ f. length f.waiting) fs + n ≤ register_waits r → register_waits (if b then regs.free_register else record r { fields = fs }) + n ≤ register_waits r
-waits_by true r fs n h = omega arith
-waits_by false r fs n h = h
-
-pub waits-finished : (r : regs.Register) (i : ℕ) → i < length r.fields → register_waits (regs.finished r i) + length (regs.field_of r i).waiting ≤ register_waits r
-unfolding regs.finished
-waits-finished r i h =
-    let fs = regs.finished_fields r i in
-    let e = sum_by-set (λ (f : regs.Field). length f.waiting) r.fields i regs.finished_field regs.clear_field h in
-    waits_by (list_all (λ f. f.processed) fs) r fs _ (omega (arith, e))
 
 -- ---- the frames
 
@@ -72,6 +64,7 @@ waits-finished r i h =
 pub record SameBlocks (d d' : List dir.Frame) : Type 0 where
   pub holds : (b : ℕ) → dir.frame_of d' b ≡ dir.frame_of d b
   pub cells : (f : ℕ) → length (dir.frame_at d' f).cells ≡ length (dir.frame_at d f).cells
+  pub blocks : (f : ℕ) → (dir.frame_at d' f).block ≡ (dir.frame_at d f).block
 
 place_of-set : {X : Type 0} (p : X → Bool) (xs : List X) (i : ℕ) (y d : X) → p y ≡ p (get_or xs i d) → place_of p (set xs i y) ≡ place_of p xs
 place_of-set p [] i y d e = refl
@@ -85,24 +78,32 @@ length_at-set (x ∷ xs) zero (suc f) y e = refl
 length_at-set (x ∷ xs) (suc i) zero y e = refl
 length_at-set (x ∷ xs) (suc i) (suc f) y e = length_at-set xs i f y e
 
+pub block_at-set : (xs : List dir.Frame) (i f : ℕ) (y : dir.Frame) → y.block ≡ (dir.frame_at xs i).block → (dir.frame_at (set xs i y) f).block ≡ (dir.frame_at xs f).block
+block_at-set [] i f y e = refl
+block_at-set (x ∷ xs) zero zero y e = e
+block_at-set (x ∷ xs) zero (suc f) y e = refl
+block_at-set (x ∷ xs) (suc i) zero y e = refl
+block_at-set (x ∷ xs) (suc i) (suc f) y e = block_at-set xs i f y e
+
 SameBlocks-set : (d : List dir.Frame) (f : ℕ) (y : dir.Frame) → y.block ≡ (dir.frame_at d f).block → length y.cells ≡ length (dir.frame_at d f).cells → SameBlocks d (set d f y)
 unfolding dir.frame_of
 SameBlocks-set d f y e l = record {
   holds = λ b. place_of-set (λ (x : dir.Frame). is_number x.block b) d f y dir.empty_frame (ap (λ (o : Option ℕ). is_number o b) e);
   cells = λ g. length_at-set d f g y l;
+  blocks = λ g. block_at-set d f g y e;
 }
 
 SameBlocks-trans : (a b c : List dir.Frame) → SameBlocks a b → SameBlocks b c → SameBlocks a c
-SameBlocks-trans a b c p q = record { holds = λ x. q.holds x ∙ p.holds x; cells = λ f. q.cells f ∙ p.cells f }
+SameBlocks-trans a b c p q = record { holds = λ x. q.holds x ∙ p.holds x; cells = λ f. q.cells f ∙ p.cells f; blocks = λ f. q.blocks f ∙ p.blocks f }
 
 SameBlocks-settled : (last : Bool) (d : dir.Frames) (f : ℕ) → SameBlocks d.frames (settled_if last d f).frames
 unfolding dir.settled
 SameBlocks-settled true d f = SameBlocks-set d.frames f _ refl refl
-SameBlocks-settled false d f = record { holds = λ b. refl; cells = λ g. refl }
+SameBlocks-settled false d f = record { holds = λ b. refl; cells = λ g. refl; blocks = λ g. refl }
 
 pub SameBlocks-filled : (d : dir.Frames) (live : Option ℕ) (i : ℕ) (word : Word) (keep : Lanes) (last : Bool) → SameBlocks d.frames (filled_live d live i word keep last).frames
 unfolding filled_live dir.filled
-SameBlocks-filled d None i word keep last = record { holds = λ b. refl; cells = λ g. refl }
+SameBlocks-filled d None i word keep last = record { holds = λ b. refl; cells = λ g. refl; blocks = λ g. refl }
 SameBlocks-filled d (Some f) i word keep last =
     SameBlocks-trans _ _ _ (SameBlocks-set d.frames f (dir.filled (dir.frame_at d.frames f) i word keep) refl (length-set _ i _)) (SameBlocks-settled last (record d { frames = set d.frames f (dir.filled (dir.frame_at d.frames f) i word keep) }) f)
 
@@ -156,10 +157,10 @@ frame_of-some fs b f e =
 -- two live registers bring the words of two frames
 pub frame_apart : (z : Sizes) (d : dir.Frames) (rs : List regs.Register) (st : List Entry) (q : Queue) (ready : List Reply) (s t : ℕ) → IsSound z d rs st q ready → regs.is_live (regs.register_at rs s) ≡ true → regs.is_live (regs.register_at rs t) ≡ true → (regs.register_at rs s).frame ≡ (regs.register_at rs t).frame → s ≡ t
 frame_apart z d rs st q ready s t h a b e =
-    let x = (frame_of-some d.frames _ _ (h.frames s a).holds).1 in
-    let y = (frame_of-some d.frames _ _ (h.frames t b).holds).1 in
+    let x = (frame_of-some d.frames _ _ (h.tied.frames s a).holds).1 in
+    let y = (frame_of-some d.frames _ _ (h.tied.frames t b).holds).1 in
     let m : Some (regs.register_at rs s).block ≡ Some (regs.register_at rs t).block = sym x ∙ ap (λ f. (dir.frame_at d.frames f).block) e ∙ y in
-    h.live_apart s t a b (same_Some _ _ m)
+    h.registers.one_live s t a b (same_Some _ _ m)
 
 live_of-some : (o : Bool) (f g : ℕ) → (if o then None else Some f) ≡ Some g → (o ≡ false) × (f ≡ g)
 live_of-some true f g e = absurd (none-some g e)
@@ -205,7 +206,7 @@ other_word : (z : Sizes) (d : dir.Frames) (rs : List regs.Register) (st : List E
 other_word z d rs st q ready k m h p o n a b =
     elim (cases_order m k) [
       | inl e ↦ n e
-      | inr w ↦ elim w [ inl l ↦ h.distinct m k l p a b | inr l ↦ h.distinct k m l o (sym a) (sym b) ]
+      | inr w ↦ elim w [ inl l ↦ h.stack_sound.distinct m k l p a b | inr l ↦ h.stack_sound.distinct k m l o (sym a) (sym b) ]
     ]
 
 entry_kept : (rs : List regs.Register) (s i s' i' : ℕ) → s < length rs → HasInStack (regs.register_at rs s') i' → (s' ≡ s → i' ≡ i → ⊥) → HasInStack (regs.register_at (set rs s (regs.finished (regs.register_at rs s) i)) s') i'
@@ -251,7 +252,7 @@ finished-since r i h =
     let q = finished-live (list_all (λ g. g.processed) (regs.finished_fields r i)) r (regs.finished_fields r i) h in
     rw q.0 (record { live = q.1; block = refl; frame = refl; count = length-set r.fields i regs.finished_field })
 
-finished-last : (r : regs.Register) (i : ℕ) → regs.is_live (regs.finished r i) ≡ true → list_all (λ f. f.processed) (regs.finished_fields r i) ≡ false
+finished-last : (r : regs.Register) (i : ℕ) → regs.is_live (regs.finished r i) ≡ true → regs.is_done (regs.finished_fields r i) ≡ false
 unfolding regs.finished
 finished-last r i h =
     (finished-live (list_all (λ g. g.processed) (regs.finished_fields r i)) r (regs.finished_fields r i) h).2
@@ -260,7 +261,7 @@ not_last : (b : Bool) (r : regs.Register) (fs : List regs.Field) → b ≡ false
 not_last true r fs e l = absurd (false≢true (sym e))
 not_last false r fs e l = (l, refl)
 
-finished-still : (r : regs.Register) (i : ℕ) → list_all (λ f. f.processed) (regs.finished_fields r i) ≡ false → regs.is_live r ≡ true → (regs.is_live (regs.finished r i) ≡ true) × ((regs.finished r i).frame ≡ r.frame)
+finished-still : (r : regs.Register) (i : ℕ) → regs.is_done (regs.finished_fields r i) ≡ false → regs.is_live r ≡ true → (regs.is_live (regs.finished r i) ≡ true) × ((regs.finished r i).frame ≡ r.frame)
 unfolding regs.finished
 finished-still r i e l = not_last _ r (regs.finished_fields r i) e l
 
@@ -299,7 +300,7 @@ marked_by false r fs i h = h
 marked-finished : (r : regs.Register) (i j : ℕ) → i < length r.fields → (regs.field_of (regs.finished r i) j).in_stack ≡ true → (j ≡ i → ⊥) × ((regs.field_of r j).in_stack ≡ true)
 unfolding regs.finished
 marked-finished r i j l h =
-    let m = marked_by (list_all (λ f. f.processed) (regs.finished_fields r i)) r (regs.finished_fields r i) j h in
+    let m = marked_by (regs.is_done (regs.finished_fields r i)) r (regs.finished_fields r i) j h in
     elim (cases_eq j i) [
       | inl e ↦ absurd (false≢true (sym (ap (λ (f : regs.Field). f.in_stack) (get_or-set_same r.fields i regs.finished_field regs.clear_field l)) ∙ (rw e at m)))
       | inr e ↦ (e, rw (get_or-set_other r.fields i j regs.finished_field regs.clear_field e) at m)
@@ -319,26 +320,6 @@ mark_kept rs st k s i s' i' p l t a b f h =
           Stands-remove st k s' i' p w (λ z. e (sym w.slot ∙ ap (λ (n : ℕ). (entry_at st n).slot) z ∙ a)))
     ]
 
-length_by : (b : Bool) (r : regs.Register) (fs : List regs.Field) (n : ℕ) → (r.valid ≡ true → length fs ≡ n) → (if b then regs.free_register else record r { fields = fs }).valid ≡ true → length (if b then regs.free_register else record r { fields = fs }).fields ≡ n
-length_by true r fs n f h = absurd (false≢true h)
-length_by false r fs n f h = f h
-
-length-finished : (r : regs.Register) (i n : ℕ) → (r.valid ≡ true → length r.fields ≡ n) → (regs.finished r i).valid ≡ true → length (regs.finished r i).fields ≡ n
-unfolding regs.finished
-length-finished r i n f h =
-    length_by (list_all (λ g. g.processed) (regs.finished_fields r i)) r (regs.finished_fields r i) n (λ v. length-set r.fields i regs.finished_field ∙ f v) h
-
-pub length_kept : (words : ℕ) (rs : List regs.Register) (s s' : ℕ) (r : regs.Register) → s < length rs → (r.valid ≡ true → length r.fields ≡ words) → ((t : ℕ) → (regs.register_at rs t).valid ≡ true → length (regs.register_at rs t).fields ≡ words) → (regs.register_at (set rs s r) s').valid ≡ true → length (regs.register_at (set rs s r) s').fields ≡ words
-length_kept words rs s s' r l f g h =
-    elim (cases_eq s' s) [
-      | inl e ↦ (
-          let same : regs.register_at (set rs s r) s' ≡ r = rw e (get_or-set_same rs s r regs.free_register l) in
-          rw same (f (rw same at h)))
-      | inr e ↦ (
-          let same : regs.register_at (set rs s r) s' ≡ regs.register_at rs s' = get_or-set_other rs s s' r regs.free_register e in
-          rw same (g s' (rw same at h)))
-    ]
-
 module _ (z : Sizes) (d : dir.Frames) (rs : List regs.Register) (st : List Entry) (q : Queue) (ready : List Reply) (h : IsSound z d rs st q ready) (k : ℕ) (p : k < length st) (word : Word) (keep : Lanes) where
   abbrev e : Entry
   e = entry_at st k
@@ -347,16 +328,16 @@ module _ (z : Sizes) (d : dir.Frames) (rs : List regs.Register) (st : List Entry
   r = regs.register_at rs (entry_at st k).slot
 
   abbrev last : Bool
-  last = list_all (λ f. f.processed) (regs.finished_fields (regs.register_at rs (entry_at st k).slot) (entry_at st k).i)
+  last = regs.is_done (regs.finished_fields (regs.register_at rs (entry_at st k).slot) (entry_at st k).i)
 
   abbrev pub d_processed : dir.Frames
-  d_processed = filled_live d (live_of (regs.register_at rs (entry_at st k).slot)) (entry_at st k).i word keep (list_all (λ f. f.processed) (regs.finished_fields (regs.register_at rs (entry_at st k).slot) (entry_at st k).i))
+  d_processed = filled_live d (live_of (regs.register_at rs (entry_at st k).slot)) (entry_at st k).i word keep (regs.is_done (regs.finished_fields (regs.register_at rs (entry_at st k).slot) (entry_at st k).i))
 
   abbrev pub rs_processed : List regs.Register
   rs_processed = set rs (entry_at st k).slot (regs.finished (regs.register_at rs (entry_at st k).slot) (entry_at st k).i)
 
   slot_there : (entry_at st k).slot < length rs
-  slot_there = slot_within rs (entry_at st k).slot (entry_at st k).i (h.entries k p)
+  slot_there = slot_within rs (entry_at st k).slot (entry_at st k).i (h.stack_sound.entries k p)
 
   since : (s : ℕ) → regs.is_live (regs.register_at rs_processed s) ≡ true → Since (regs.register_at rs s) (regs.register_at rs_processed s)
   since s = live_before rs (entry_at st k).slot s _ slot_there (finished-since (regs.register_at rs (entry_at st k).slot) (entry_at st k).i)
@@ -368,7 +349,7 @@ module _ (z : Sizes) (d : dir.Frames) (rs : List regs.Register) (st : List Entry
   not_settled : (s : ℕ) → regs.is_live (regs.register_at rs_processed s) ≡ true → last ≡ true → live_of r ≡ Some (regs.register_at rs s).frame → ⊥
   not_settled s l t w =
       let o = live_of-some r.obsolete r.frame _ w in
-      let live : regs.is_live r ≡ true = rw ((h.entries k p).valid, o.0) refl in
+      let live : regs.is_live r ≡ true = rw ((h.stack_sound.entries k p).valid, o.0) refl in
       let x : s ≡ (entry_at st k).slot = frame_apart z d rs st q ready s _ h (since s l).live live (sym o.1) in
       let l' : regs.is_live (regs.finished r (entry_at st k).i) ≡ true = sym (ap regs.is_live (ap (regs.register_at rs_processed) x ∙ own)) ∙ l in
       false≢true (sym (finished-last r (entry_at st k).i l') ∙ t)
@@ -376,12 +357,12 @@ module _ (z : Sizes) (d : dir.Frames) (rs : List regs.Register) (st : List Entry
   frames_kept : (s : ℕ) → regs.is_live (regs.register_at rs_processed s) ≡ true → HasFrame d_processed.frames (regs.register_at rs_processed s)
   frames_kept s l =
       let w = since s l in
-      HasFrame-since d.frames _ _ _ w (SameBlocks-filled d (live_of r) (entry_at st k).i word keep last) (pending-filled d (live_of r) (entry_at st k).i word keep last (regs.register_at rs s).frame (not_settled s l)) (h.frames s w.live)
+      HasFrame-since d.frames _ _ _ w (SameBlocks-filled d (live_of r) (entry_at st k).i word keep last) (pending-filled d (live_of r) (entry_at st k).i word keep last (regs.register_at rs s).frame (not_settled s l)) (h.tied.frames s w.live)
 
   pending_kept : (f : ℕ) → (dir.frame_at d_processed.frames f).pending ≡ true → FilledBy rs_processed f
   pending_kept f t =
       let b = was_pending d (live_of r) (entry_at st k).i word keep last f t in
-      let w = h.pending f b.0 in
+      let w = h.tied.pending f b.0 in
       elim (cases_eq w.slot (entry_at st k).slot) [
         | inl x ↦ here w b.1 x
         | inr x ↦ (
@@ -398,54 +379,61 @@ module _ (z : Sizes) (d : dir.Frames) (rs : List regs.Register) (st : List Entry
           let s = finished-still r (entry_at st k).i few live in
           record { slot = (entry_at st k).slot; live = ap regs.is_live own ∙ s.0; frame = ap (λ (y : regs.Register). y.frame) own ∙ s.1 ∙ frame }
 
-  pub IsSound-processed : (ready' : List Reply) → length ready' ≡ length ready + length (regs.field_of r (entry_at st k).i).waiting → IsSound z d_processed rs_processed (remove st k) q ready'
-  IsSound-processed ready' n =
+  blocks_kept : (f : ℕ) → (dir.frame_at d_processed.frames f).block ≡ (dir.frame_at d.frames f).block
+  blocks_kept f = (SameBlocks-filled d (live_of r) (entry_at st k).i word keep last).blocks f
+
+  pub IsSound-processed : dir.IsWhole z.ways z.block_words d_processed → IsWhole z.block_words z.regs rs_processed → IsSound z d_processed rs_processed (remove st k) q (ready ++ answered word (regs.field_of r (entry_at st k).i).waiting)
+  IsSound-processed whole_directory whole_registers =
       record {
         ranges = h.ranges;
-        slots = length-set rs (entry_at st k).slot _ ∙ h.slots;
-        lengths = λ s t. length_kept z.block_words rs (entry_at st k).slot s _ slot_there (length-finished r (entry_at st k).i z.block_words (h.lengths (entry_at st k).slot)) h.lengths t;
-        live_apart = apart_before rs rs_processed since h.live_apart;
-        entries = λ j l. (
-            let b = Before-at st k j p l in
-            rw b.same (entry_kept rs (entry_at st k).slot (entry_at st k).i _ _ slot_there (h.entries (before k j) b.within) (λ a c. other_word z d rs st q ready k (before k j) h p b.within b.other a c)));
-        distinct = λ i j l m a c. (
-            let t = length-remove st k p in
-            let bi = Before-at st k i p (omega arith) in
-            let bj = Before-at st k j p m in
-            h.distinct (before k i) (before k j) (before-lt k i j l) bj.within (rw (bi.same, bj.same) at a) (rw (bi.same, bj.same) at c));
-        marks = λ s i t. mark_kept rs st k (entry_at st k).slot (entry_at st k).i s i p slot_there (h.entries k p).there refl refl h.marks t;
-        frames = frames_kept;
-        pending = pending_kept;
-        room = (
-            let a = sum_by-set register_waits rs (entry_at st k).slot (regs.finished r (entry_at st k).i) regs.free_register slot_there in
-            let w = waits-finished r (entry_at st k).i (h.entries k p).there in
-            let o = h.room in
-            omega (arith, n, a, w, o));
-        limit = h.limit;
-        within = h.within;
-        addresses = h.addresses;
+        directory = whole_directory;
+        sets = ap length (filled_live-orders d (live_of r) (entry_at st k).i word keep last) ∙ h.sets;
+        in_memory = λ f block t. h.in_memory f block (sym (blocks_kept f) ∙ t);
+        registers = whole_registers;
+        stack_sound =
+            record {
+              entries = λ j l. (
+                  let b = Before-at st k j p l in
+                  rw b.same (entry_kept rs (entry_at st k).slot (entry_at st k).i _ _ slot_there (h.stack_sound.entries (before k j) b.within) (λ a c. other_word z d rs st q ready k (before k j) h p b.within b.other a c)));
+              distinct = λ i j l m a c. (
+                  let t = length-remove st k p in
+                  let bi = Before-at st k i p (omega arith) in
+                  let bj = Before-at st k j p m in
+                  h.stack_sound.distinct (before k i) (before k j) (before-lt k i j l) bj.within (rw (bi.same, bj.same) at a) (rw (bi.same, bj.same) at c));
+              marks = λ s i t. mark_kept rs st k (entry_at st k).slot (entry_at st k).i s i p slot_there (h.stack_sound.entries k p).there refl refl h.stack_sound.marks t;
+            };
+        tied = record { frames = frames_kept; pending = pending_kept };
+        queue_sound = h.queue_sound;
+        owes = owes-finished z ready rs (entry_at st k).slot (entry_at st k).i word slot_there (h.stack_sound.entries k p).there h.owes;
       }
 
 -- ---- what the calls of the step need
 
-CanFill-by : (o : Bool) (d : dir.Frames) (r : regs.Register) (i : ℕ) → r.obsolete ≡ o → r.valid ≡ true → i < length r.fields → (regs.is_live r ≡ true → HasFrame d.frames r) → CanFill d (if o then None else Some r.frame) i
-CanFill-by true d r i e v l h = tt
-CanFill-by false d r i e v l h =
-    let f = h (rw (v, e) refl) in
-    ((frame_of-some d.frames r.block r.frame f.holds).0, omega (arith, f.cells))
+-- a frame that is filled still holds its block
+pub held-filled : (d : dir.Frames) (f i : ℕ) (word : Word) (keep : Lanes) → dir.is_held d f ≡ true → dir.is_held (dir.with_frame d f (dir.filled (dir.frame_at d.frames f) i word keep)) f ≡ true
+unfolding dir.filled
+held-filled d f i word keep h = ap is_some (block_at-set d.frames f f _ refl) ∙ h
 
-pub CanFill-live : (z : Sizes) (d : dir.Frames) (rs : List regs.Register) (st : List Entry) (q : Queue) (ready : List Reply) (k : ℕ) → IsSound z d rs st q ready → k < length st → CanFill d (live_of (regs.register_at rs (entry_at st k).slot)) (entry_at st k).i
+pub held_from : (d : dir.Frames) (f b : ℕ) → (dir.frame_at d.frames f).block ≡ Some b → dir.is_held d f ≡ true
+held_from d f b e = ap is_some e
+
+CanFill-by : (words : ℕ) (o : Bool) (d : dir.Frames) (r : regs.Register) (i : ℕ) → r.obsolete ≡ o → r.valid ≡ true → length r.fields ≡ words → i < length r.fields → (regs.is_live r ≡ true → HasFrame d.frames r) → CanFill words d (if o then None else Some r.frame) i
+CanFill-by words true d r i e v n l h = tt
+CanFill-by words false d r i e v n l h =
+    let f = h (rw (v, e) refl) in
+    (held_from d r.frame r.block (frame_of-some d.frames r.block r.frame f.holds).1, omega (arith, n))
+
+pub CanFill-live : (z : Sizes) (d : dir.Frames) (rs : List regs.Register) (st : List Entry) (q : Queue) (ready : List Reply) (k : ℕ) → IsSound z d rs st q ready → k < length st → CanFill z.block_words d (live_of (regs.register_at rs (entry_at st k).slot)) (entry_at st k).i
 CanFill-live z d rs st q ready k h p =
     let r = regs.register_at rs (entry_at st k).slot in
-    let e = h.entries k p in
-    CanFill-by r.obsolete d r (entry_at st k).i refl e.valid e.there (h.frames (entry_at st k).slot)
+    let e = h.stack_sound.entries k p in
+    CanFill-by z.block_words r.obsolete d r (entry_at st k).i refl e.valid ((h.registers.each (entry_at st k).slot).fields_there e.valid) e.there (h.tied.frames (entry_at st k).slot)
 
 pub room_for : (z : Sizes) (d : dir.Frames) (rs : List regs.Register) (st : List Entry) (q : Queue) (ready : List Reply) (k : ℕ) → IsSound z d rs st q ready → k < length st → length ready + length (regs.field_of (regs.register_at rs (entry_at st k).slot) (entry_at st k).i).waiting ≤ 64
 room_for z d rs st q ready k h p =
     let e = entry_at st k in
-    let within = slot_within rs e.slot e.i (h.entries k p) in
-    let a = sum_by-set register_waits rs e.slot (regs.finished (regs.register_at rs e.slot) e.i) regs.free_register within in
-    let w = waits-finished (regs.register_at rs e.slot) e.i (h.entries k p).there in
-    let r = h.room in
-    let f = h.ranges.few_replies in
-    omega (arith, a, w, r, f)
+    let within = slot_within rs e.slot e.i (h.stack_sound.entries k p) in
+    let a = loads_there (λ t. true) rs e.slot e.i within (h.stack_sound.entries k p).there in
+    let b = count_by-all (regs.field_of (regs.register_at rs e.slot) e.i).waiting in
+    let c = count_by-all ready in
+    omega (arith, h.owes.few, h.ranges.few_replies)

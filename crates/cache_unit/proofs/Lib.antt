@@ -1,4 +1,5 @@
 pub mod Lists
+pub mod Owing
 pub mod Process
 pub mod Keeps
 pub mod Calls
@@ -14,8 +15,15 @@ pub mod FormsEvents
 pub mod FormsPlaces
 pub mod FormsEvicting
 pub mod FormsFetching
+pub mod DirtyWords
+pub mod Begins
+pub mod Dirty
 pub mod FormsChoosing
 pub mod FormsLoading
 pub mod FormsProcessing
 pub mod FormsRequests
 pub mod FormsStoring
+pub mod Same
+pub mod GiveUp
+pub mod Install
+pub mod Stepping

@@ -1,6 +1,6 @@
 -- What holds of the parts of a unit.
-use Rattle.std.specs.Prelude.{ℕ, ◌+◌, ◌-◌, ◌*◌, ◌/◌, ◌%◌, ◌<◌, ◌≤◌, ◌≡◌, Bool, true, false, List, length, Option, Some, slice_index_or}
-use Rattle.std.specs.List.{sum_by, All}
+use Rattle.std.specs.Prelude.{ℕ, ◌+◌, ◌-◌, ◌*◌, ◌/◌, ◌%◌, ◌<◌, ◌≤◌, ◌≡◌, Bool, true, false, ◌==◌, List, length, Option, Some, slice_index_or}
+use Rattle.std.specs.List.{sum_by, count_by, All}
 use Rattle.flat_model.specs.Words.{zero_word}
 use Rattle.input_stack.specs.declared.Entry.{Entry}
 use Rattle.write_queue.specs.declared.Queued.{Queued}
@@ -8,6 +8,7 @@ use Rattle.write_queue.specs.Queue.{Queue}
 use Rattle.cache_unit.specs.declared.Reply.{Reply}
 use Rattle.cache_directory.specs.Frames as dir
 use Rattle.miss_registers.specs.Registers as regs
+use Rattle.miss_registers.specs.Whole.{IsWhole}
 use Rattle.cache_unit.specs.State.{Sizes}
 
 -- each number of a unit is in its range
@@ -59,12 +60,16 @@ pub record FilledBy (rs : List regs.Register) (f : ℕ) : Type 0 where
   pub live : regs.is_live (regs.register_at rs slot) ≡ true
   pub frame : (regs.register_at rs slot).frame ≡ f
 
-abbrev pub register_waits : regs.Register → ℕ
-register_waits r = sum_by (λ f. length f.waiting) r.fields
+-- how many of the loads that wait for a word, and for the words of a register, have such a tag
+abbrev pub loads_of_field : (ℕ → Bool) → regs.Field → ℕ
+loads_of_field p f = count_by (λ w. p w.tag) f.waiting
 
--- how many loads wait
-abbrev pub waits : List regs.Register → ℕ
-waits rs = sum_by register_waits rs
+abbrev pub loads_of : (ℕ → Bool) → regs.Register → ℕ
+loads_of p r = sum_by (loads_of_field p) r.fields
+
+-- how many of the values that stand ready and of the loads that wait have such a tag
+abbrev pub owing : (ℕ → Bool) → List Reply → List regs.Register → ℕ
+owing p ready rs = count_by (λ r. p r.tag) ready + sum_by (loads_of p) rs
 
 -- an entry for this word stands in the stack
 pub record Stands (stack : List Entry) (s i : ℕ) : Type 0 where
@@ -73,22 +78,36 @@ pub record Stands (stack : List Entry) (s i : ℕ) : Type 0 where
   pub slot : (entry_at stack place).slot ≡ s
   pub word : (entry_at stack place).i ≡ i
 
-pub record IsSound (z : Sizes) (d : dir.Frames) (rs : List regs.Register) (stack : List Entry) (queue : Queue) (ready : List Reply) : Type 0 where
-  pub ranges : InRange z
-  -- the registers: each has a word for each of its block's, and a block has at most one live register
-  pub slots : length rs ≡ z.regs
-  pub lengths : (s : ℕ) → (regs.register_at rs s).valid ≡ true → length (regs.register_at rs s).fields ≡ z.block_words
-  pub live_apart : (s t : ℕ) → regs.is_live (regs.register_at rs s) ≡ true → regs.is_live (regs.register_at rs t) ≡ true → (regs.register_at rs s).block ≡ (regs.register_at rs t).block → s ≡ t
-  -- the stack: each entry is for a marked word, no two for one word, and each marked word has one
+-- each entry of the stack is for a marked word, no two are for one word, and each marked word has one
+pub record StackSound (rs : List regs.Register) (stack : List Entry) : Type 0 where
   pub entries : (k : ℕ) → k < length stack → HasInStack (regs.register_at rs (entry_at stack k).slot) (entry_at stack k).i
   pub distinct : (j k : ℕ) → j < k → k < length stack → (entry_at stack j).slot ≡ (entry_at stack k).slot → (entry_at stack j).i ≡ (entry_at stack k).i → ⊥
   pub marks : (s i : ℕ) → (regs.field_of (regs.register_at rs s) i).in_stack ≡ true → Stands stack s i
-  -- a frame is pending exactly where a live register brings its words
-  pub frames : (s : ℕ) → regs.is_live (regs.register_at rs s) ≡ true → HasFrame d.frames (regs.register_at rs s)
-  pub pending : (f : ℕ) → (dir.frame_at d.frames f).pending ≡ true → FilledBy rs f
-  -- the loads that wait and the replies are at most so many
-  pub room : length ready + waits rs ≤ z.replies
-  -- the write queue is within its limit, and its words are in memory
+
+-- a frame is pending exactly where a live register brings its words
+pub record Tied (fs : List dir.Frame) (rs : List regs.Register) : Type 0 where
+  pub frames : (s : ℕ) → regs.is_live (regs.register_at rs s) ≡ true → HasFrame fs (regs.register_at rs s)
+  pub pending : (f : ℕ) → (dir.frame_at fs f).pending ≡ true → FilledBy rs f
+
+-- the write queue is within its limit, and its words are in memory
+pub record QueueSound (z : Sizes) (queue : Queue) : Type 0 where
   pub limit : queue.limit ≡ z.write_queue
   pub within : length queue.entries ≤ z.write_queue
   pub addresses : All (λ e. e.at < z.words) queue.entries
+
+-- so many are owed at most, and no tag twice
+pub record OwesSound (z : Sizes) (ready : List Reply) (rs : List regs.Register) : Type 0 where
+  pub few : owing (λ t. true) ready rs ≤ z.replies
+  pub once : (tag : ℕ) → owing (λ t. t == tag) ready rs ≤ 1
+
+pub record IsSound (z : Sizes) (d : dir.Frames) (rs : List regs.Register) (stack : List Entry) (queue : Queue) (ready : List Reply) : Type 0 where
+  pub ranges : InRange z
+  pub directory : dir.IsWhole z.ways z.block_words d
+  pub sets : length d.orders ≡ z.sets
+  -- the words of each block that a frame holds are in memory
+  pub in_memory : (f block : ℕ) → (dir.frame_at d.frames f).block ≡ Some block → block * z.block_words + z.block_words ≤ z.words
+  pub registers : IsWhole z.block_words z.regs rs
+  pub stack_sound : StackSound rs stack
+  pub tied : Tied d.frames rs
+  pub queue_sound : QueueSound z queue
+  pub owes : OwesSound z ready rs

@@ -1,8 +1,10 @@
 //! The cache's control: requests, arriving words, evictions and replies.
 #![tactic(auto)]
 
+mod begin;
 mod reads;
 mod unit;
+mod victim;
 
 use flat_model::{Lanes, Word};
 pub use unit::CacheUnit;

@@ -1,6 +1,7 @@
 //! The cache unit.
 ghost use Rattle.std.specs.Prelude.{◌≡◌, ◌+◌, ◌≤◌, ◌++◌, length, slice_get};
 ghost use Rattle.memory_banks.specs.Banks.{HasSent};
+ghost use Rattle.cache_directory.specs.Frames as dir;
 ghost use Rattle.cache_unit.specs.Steps as steps;
 ghost use Rattle.cache_unit.specs.Views as views;
 ghost use Rattle.cache_unit.specs.Parts.{filled_live, CanFill};
@@ -186,8 +187,10 @@ fn fill_live<const WAYS: usize, const WORDS: usize>(
     keep: Lanes,
     last: bool,
 )
-    requires { CanFill directory.old live e.now.i }
-    ensures { directory.new ≡ filled_live directory.old live e.now.i e.now.word keep last }
+    requires there { CanFill WORDS directory.old live e.now.i }
+    requires whole { dir.IsWhole WAYS WORDS directory.old }
+    ensures filled { directory.new ≡ filled_live directory.old live e.now.i e.now.word keep last }
+    ensures whole { dir.IsWhole WAYS WORDS directory.new }
 {
     if let Some(frame) = live {
         directory.fill(frame, e.i, e.word, keep);

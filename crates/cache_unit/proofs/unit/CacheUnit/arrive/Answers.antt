@@ -1,4 +1,6 @@
-use Rattle.std.proofs.Common.{arith, rules, ◌≡◌, ◌<◌, ◌≤◌, ◌++◌, [], ◌∷◌, Bool, true, false, not, ℕ, length, sym, ◌∙◌, ap, refl, set, Option}
+use Rattle.std.proofs.Common.{arith, rules, ◌≡◌, ◌<◌, ◌≤◌, ◌++◌, [], ◌∷◌, Bool, true, false, not, ℕ, length, sym, ◌∙◌, ap, refl, set, subst, List, Option}
+use Rattle.miss_registers.specs.Registers as regs
+use Rattle.miss_registers.specs.Whole.{IsWhole}
 use Rattle.flat_model.specs.declared.Answer.{Answer}
 use Rattle.std.proofs.lemmas.Bool.{false≢true}
 use Rattle.input_stack.specs.declared.Entry.{Entry}
@@ -13,28 +15,29 @@ returns-then-not-expects-clause-answer g c =
     let s = c.self.inside in
     let sz : Sizes = sizes_of g.row.WAYS g.row.WORDS g.row.REGS g.row.DEPTH s.shape in
     let t = stray-shown sz s.directory s.registers s.stack s.queue s.ready.items c.args.slot c.args.i c.self.invariant in
-    sym (ap (λ (x : Stepped). x.answer) (arrive-stray sz _ _ c.args.slot c.args.i c.args.word c.self.view_is (sym t ∙ rw (← c.expects.ensures, c.if-not-expects.true) refl)))
+    sym (ap (λ (x : Stepped). x.answer) (arrive-stray sz _ _ c.args.slot c.args.i c.args.word c.self.view_is (sym t ∙ rw (← c.expects.ensures.answer, c.if-not-expects.true) refl)))
 
 pub returns-then-not-expects-clause-unit : goal.returns-then-not-expects-clause-unit
 returns-then-not-expects-clause-unit g c =
     let s = c.self.inside in
     let sz : Sizes = sizes_of g.row.WAYS g.row.WORDS g.row.REGS g.row.DEPTH s.shape in
     let t = stray-shown sz s.directory s.registers s.stack s.queue s.ready.items c.args.slot c.args.i c.self.invariant in
-    let e = ap (λ (x : Stepped). x.cache) (arrive-stray sz _ _ c.args.slot c.args.i c.args.word c.self.view_is (sym t ∙ rw (← c.expects.ensures, c.if-not-expects.true) refl)) in
+    let e = ap (λ (x : Stepped). x.cache) (arrive-stray sz _ _ c.args.slot c.args.i c.args.word c.self.view_is (sym t ∙ rw (← c.expects.ensures.answer, c.if-not-expects.true) refl)) in
     rw e refl
 
 pub invariant_of-self : goal.invariant_of-self
 invariant_of-self g c =
     let s = c.self.inside in
     let e : Entry = record { slot = c.args.slot; i = c.args.i; word = c.args.word } in
-    rw (c.mark_in_stack.ensures, c.in-Ok.ensures.ok) (IsSound-arrived (sizes_of g.row.WAYS g.row.WORDS g.row.REGS g.row.DEPTH s.shape) s.directory s.registers s.stack s.queue s.ready.items e c.self.invariant (Expected-from _ c.args.i (sym c.expects.ensures ∙ c.if-not-expects.false)))
+    let w : IsWhole g.row.WORDS g.row.REGS (set s.registers e.slot (regs.marked (regs.register_at s.registers e.slot) e.i)) = subst (λ (x : List regs.Register). IsWhole g.row.WORDS g.row.REGS x) c.mark_in_stack.ensures.registers c.mark_in_stack.ensures.whole in
+    rw (c.mark_in_stack.ensures.registers, c.in-Ok.ensures.ok) (IsSound-arrived (sizes_of g.row.WAYS g.row.WORDS g.row.REGS g.row.DEPTH s.shape) s.directory s.registers s.stack s.queue s.ready.items e c.self.invariant (Expected-from _ c.args.i (sym c.expects.ensures.answer ∙ c.if-not-expects.false)) w)
 
 pub returns-in-Ok-clause-answer : goal.returns-in-Ok-clause-answer
 returns-in-Ok-clause-answer g c =
     let s = c.self.inside in
     let sz : Sizes = sizes_of g.row.WAYS g.row.WORDS g.row.REGS g.row.DEPTH s.shape in
     let t = stray-shown sz s.directory s.registers s.stack s.queue s.ready.items c.args.slot c.args.i c.self.invariant in
-    let m = arrive-moved sz _ _ c.args.slot c.args.i c.args.word c.self.view_is (sym t ∙ rw (← c.expects.ensures, c.if-not-expects.false) refl) (c.in-Ok.ensures.variant.0 refl) in
+    let m = arrive-moved sz _ _ c.args.slot c.args.i c.args.word c.self.view_is (sym t ∙ rw (← c.expects.ensures.answer, c.if-not-expects.false) refl) (c.in-Ok.ensures.variant.0 refl) in
     sym (ap (λ (x : Stepped). x.answer) m)
 
 pub returns-in-Ok-clause-unit : goal.returns-in-Ok-clause-unit
@@ -42,16 +45,16 @@ returns-in-Ok-clause-unit g c =
     let s = c.self.inside in
     let sz : Sizes = sizes_of g.row.WAYS g.row.WORDS g.row.REGS g.row.DEPTH s.shape in
     let t = stray-shown sz s.directory s.registers s.stack s.queue s.ready.items c.args.slot c.args.i c.self.invariant in
-    let m = arrive-moved sz _ _ c.args.slot c.args.i c.args.word c.self.view_is (sym t ∙ rw (← c.expects.ensures, c.if-not-expects.false) refl) (c.in-Ok.ensures.variant.0 refl) in
+    let m = arrive-moved sz _ _ c.args.slot c.args.i c.args.word c.self.view_is (sym t ∙ rw (← c.expects.ensures.answer, c.if-not-expects.false) refl) (c.in-Ok.ensures.variant.0 refl) in
     let a = arrived-shown s.directory s.registers s.stack s.queue.entries s.ready.items c.args.slot c.args.i c.args.word in
-    rw (c.mark_in_stack.ensures, c.in-Ok.ensures.ok) (view_after sz _ _ _ c.args.slot c.args.i c.args.word c.self.view_is a m)
+    rw (c.mark_in_stack.ensures.registers, c.in-Ok.ensures.ok) (view_after sz _ _ _ c.args.slot c.args.i c.args.word c.self.view_is a m)
 
 pub returns-in-Err-clause-answer : goal.returns-in-Err-clause-answer
 returns-in-Err-clause-answer g c =
     let s = c.self.inside in
     let sz : Sizes = sizes_of g.row.WAYS g.row.WORDS g.row.REGS g.row.DEPTH s.shape in
     let t = stray-shown sz s.directory s.registers s.stack s.queue s.ready.items c.args.slot c.args.i c.self.invariant in
-    let m = arrive-full sz _ _ c.args.slot c.args.i c.args.word c.self.view_is (sym t ∙ rw (← c.expects.ensures, c.if-not-expects.false) refl) (at_least (λ z. false≢true (c.in-Err.ensures.variant.1 z))) in
+    let m = arrive-full sz _ _ c.args.slot c.args.i c.args.word c.self.view_is (sym t ∙ rw (← c.expects.ensures.answer, c.if-not-expects.false) refl) (at_least (λ z. false≢true (c.in-Err.ensures.variant.1 z))) in
     sym (ap (λ (x : Stepped). x.answer) m)
 
 pub returns-in-Err-clause-unit : goal.returns-in-Err-clause-unit
@@ -59,7 +62,7 @@ returns-in-Err-clause-unit g c =
     let s = c.self.inside in
     let sz : Sizes = sizes_of g.row.WAYS g.row.WORDS g.row.REGS g.row.DEPTH s.shape in
     let t = stray-shown sz s.directory s.registers s.stack s.queue s.ready.items c.args.slot c.args.i c.self.invariant in
-    let m = arrive-full sz _ _ c.args.slot c.args.i c.args.word c.self.view_is (sym t ∙ rw (← c.expects.ensures, c.if-not-expects.false) refl) (at_least (λ z. false≢true (c.in-Err.ensures.variant.1 z))) in
+    let m = arrive-full sz _ _ c.args.slot c.args.i c.args.word c.self.view_is (sym t ∙ rw (← c.expects.ensures.answer, c.if-not-expects.false) refl) (at_least (λ z. false≢true (c.in-Err.ensures.variant.1 z))) in
     let u : UnitState = record { sizes = sz; cache = as_cache s.directory s.registers s.stack s.queue.entries s.ready.items } in
     let e : u ≡ c.args.self.now = c.self.view_is in
     rw (c.in-Err.ensures.err) (e ∙ ap (λ (x : Stepped). record c.args.self.now { cache = x.cache }) (sym m))

@@ -1,5 +1,10 @@
-use Rattle.std.proofs.Common.{arith, rules, ◌≡◌, ◌<◌, ℕ, length, get_or, map, take, sym, ◌∙◌, ap, refl, Some, Option, set, slice_get}
+use Rattle.std.proofs.Common.{arith, rules, ◌≡◌, ◌<◌, ℕ, length, get_or, map, take, sym, ◌∙◌, ap, refl, Some, Option, List, subst, lit<, set, slice_get}
 use Rattle.std.specs.List.{remove}
+use Rattle.cache_directory.specs.Frames as dir
+use Rattle.miss_registers.specs.Registers as regs
+use Rattle.miss_registers.specs.Whole.{IsWhole}
+use Rattle.cache_unit.specs.Parts.{filled_live, CanFill}
+use Rattle.cache_unit.proofs.Process.{live_of}
 use Rattle.input_stack.specs.declared.Entry.{Entry}
 use Rattle.cache_unit.specs.Sound.{entry_at, no_entry, IsSound}
 use Rattle.cache_unit.proofs.Calls.{Taken, Taken-from, can_finish, can_fill, can_answer, sound_after, step_after, unit_after}
@@ -17,7 +22,8 @@ pub fill_live-requires : goal.fill_live-requires
 fill_live-requires g c =
     let s = c.self.inside in
     let t = Taken-from s.stack c.args.place c.in-Some.e (sym c.remove.ensures.value ∙ c.in-Some.is) in
-    (omega arith, rw c.finish_word-end.ensures.live (can_fill (sz g.row.WAYS g.row.WORDS g.row.REGS g.row.DEPTH s.shape) s.directory s.registers s.stack s.queue s.ready.items c.args.place c.in-Some.e c.self.invariant t))
+    let there = can_fill (sz g.row.WAYS g.row.WORDS g.row.REGS g.row.DEPTH s.shape) s.directory s.registers s.stack s.queue s.ready.items c.args.place c.in-Some.e c.self.invariant t in
+    (lit< tt, (subst (λ (o : Option ℕ). CanFill g.row.WORDS s.directory o c.in-Some.e.i) (sym c.finish_word-end.ensures.live) there, c.self.invariant.directory))
 
 pub answer_all-requires : goal.answer_all-requires
 answer_all-requires g c =
@@ -28,8 +34,14 @@ answer_all-requires g c =
 pub invariant_of-self-2 : goal.invariant_of-self-2
 invariant_of-self-2 g c =
     let s = c.self.inside in
-    let t = Taken-from s.stack c.args.place c.in-Some.e (sym c.remove.ensures.value ∙ c.in-Some.is) in
-    rw (c.fill_live.ensures, c.finish_word-end.ensures.registers, c.in-Some.ensures.taken, c.finish_word-end.ensures.live, c.finish_word-end.ensures.last) (sound_after (sz g.row.WAYS g.row.WORDS g.row.REGS g.row.DEPTH s.shape) s.directory s.registers s.stack s.queue s.ready.items c.answer_all.new.ready.items c.args.place c.in-Some.e _ c.self.invariant t (c.answer_all.ensures ∙ rw c.finish_word-end.ensures.send refl))
+    let e = c.in-Some.e in
+    let t = Taken-from s.stack c.args.place e (sym c.remove.ensures.value ∙ c.in-Some.is) in
+    let f = c.finish_word-end.ensures in
+    let z = sz g.row.WAYS g.row.WORDS g.row.REGS g.row.DEPTH s.shape in
+    let r = regs.register_at s.registers e.slot in
+    let d : dir.IsWhole g.row.WAYS g.row.WORDS (filled_live s.directory (live_of r) e.i e.word (regs.field_of r e.i).code (regs.is_done (regs.finished_fields r e.i))) = subst (λ (x : dir.Frames). dir.IsWhole g.row.WAYS g.row.WORDS x) (c.fill_live.ensures.filled ∙ rw (f.live, f.keep, f.last) refl) c.fill_live.ensures.whole in
+    let w : IsWhole g.row.WORDS g.row.REGS (set s.registers e.slot (regs.finished r e.i)) = subst (λ (x : List regs.Register). IsWhole g.row.WORDS g.row.REGS x) f.registers f.whole in
+    rw (c.fill_live.ensures.filled, f.registers, c.in-Some.ensures.taken, f.live, f.keep, f.last, c.answer_all.ensures, f.send) (sound_after z s.directory s.registers s.stack s.queue s.ready.items c.args.place e _ c.self.invariant t d w)
 
 pub returns-clause-unit : goal.returns-clause-unit
 returns-clause-unit g c =
@@ -38,4 +50,4 @@ returns-clause-unit g c =
     let l = c.finish_word-end.result.last in
     let z = step_after (sz g.row.WAYS g.row.WORDS g.row.REGS g.row.DEPTH s.shape) s.directory s.registers s.stack s.queue s.ready.items c.args.place e l c.self.invariant (sym c.remove.ensures.value ∙ c.in-Some.is) in
     let f = c.finish_word-end.ensures in
-    rw (c.fill_live.ensures, f.registers, c.in-Some.ensures.taken, c.answer_all.ensures, f.send, f.live, f.keep) (unit_after (sz g.row.WAYS g.row.WORDS g.row.REGS g.row.DEPTH s.shape) _ _ _ c.args.place c.self.view_is z)
+    rw (c.fill_live.ensures.filled, f.registers, c.in-Some.ensures.taken, c.answer_all.ensures, f.send, f.live, f.keep) (unit_after (sz g.row.WAYS g.row.WORDS g.row.REGS g.row.DEPTH s.shape) _ _ _ c.args.place c.self.view_is z)

@@ -1,0 +1,106 @@
+-- How many values are owed, by a test of their tags.
+use Rattle.std.proofs.Common.{◌≡◌, ℕ, suc, zero, ◌+◌, ◌<◌, ◌≤◌, Bool, true, false, cond, ◌==◌, if◌then◌else◌, List, [], ◌∷◌, ◌++◌, map, length, set, get_or, take, drop, refl, ap, sym, ◌∙◌, arith, subst, add-one, length-append}
+use Rattle.std.specs.List.{sum_by, count_by, list_all, remove}
+use Rattle.std.proofs.lemmas.List.Sums.{sum_by-set, sum_by-cons, sum_by-append}
+use Rattle.flat_model.specs.declared.Word.{Word}
+use Rattle.flat_model.specs.declared.Lanes.{Lanes}
+use Rattle.flat_model.specs.Words.{merged}
+use Rattle.miss_registers.specs.Registers as regs
+use Rattle.miss_registers.specs.declared.Owed.{Owed}
+use Rattle.cache_unit.specs.declared.Reply.{Reply}
+use Rattle.cache_unit.specs.State.{Sizes}
+use Rattle.cache_unit.specs.Steps.{answered}
+use Rattle.cache_unit.specs.Sound.{loads_of_field, loads_of, owing, OwesSound}
+
+-- ---- counts
+
+pub count_by-append : {X : Type 0} (p : X → Bool) (xs ys : List X) → count_by p (xs ++ ys) ≡ count_by p xs + count_by p ys
+count_by-append p xs ys = sum_by-append (λ x. cond (p x) 1 0) xs ys
+
+pub count_by-map : {X Y : Type 0} (p : Y → Bool) (f : X → Y) (xs : List X) → count_by p (map f xs) ≡ count_by (λ x. p (f x)) xs
+count_by-map p f [] = refl
+count_by-map p f (x ∷ xs) =
+    let a = sum_by-cons (λ y. cond (p y) 1 0) (f x) (map f xs) in
+    let b = sum_by-cons (λ y. cond (p (f y)) 1 0) x xs in
+    let r = count_by-map p f xs in
+    omega arith
+
+pub count_by-all : {X : Type 0} (xs : List X) → count_by (λ x. true) xs ≡ length xs
+count_by-all [] = refl
+count_by-all {X} (x ∷ xs) =
+    let a = sum_by-cons (λ (y : X). cond true 1 0) x xs in
+    let r = count_by-all xs in
+    omega arith
+
+pub count_by-remove : {X : Type 0} (p : X → Bool) (xs : List X) (k : ℕ) → count_by p (remove xs k) ≤ count_by p xs
+count_by-remove p [] zero = omega arith
+count_by-remove p [] (suc k) = omega arith
+count_by-remove p (x ∷ xs) zero =
+    let a = sum_by-cons (λ y. cond (p y) 1 0) x xs in
+    omega arith
+count_by-remove p (x ∷ xs) (suc k) =
+    let a = sum_by-cons (λ y. cond (p y) 1 0) x xs in
+    let b = sum_by-cons (λ y. cond (p y) 1 0) x (remove xs k) in
+    let r = count_by-remove p xs k in
+    omega arith
+
+-- ---- one register of the list is another
+
+pub owing-set : (p : ℕ → Bool) (ready : List Reply) (rs : List regs.Register) (s : ℕ) (r : regs.Register) → s < length rs → owing p ready (set rs s r) + loads_of p (regs.register_at rs s) ≡ owing p ready rs + loads_of p r
+owing-set p ready rs s r l =
+    let a = sum_by-set (loads_of p) rs s r regs.free_register l in
+    omega arith
+
+pub loads-set : (p : ℕ → Bool) (r : regs.Register) (i : ℕ) (f : regs.Field) → i < length r.fields → loads_of p (regs.with_field r i f) + loads_of_field p (regs.field_of r i) ≡ loads_of p r + loads_of_field p f
+loads-set p r i f l = sum_by-set (loads_of_field p) r.fields i f regs.clear_field l
+
+-- a load waits for a word that is there
+pub loads_there : (p : ℕ → Bool) (rs : List regs.Register) (s i : ℕ) → s < length rs → i < length (regs.register_at rs s).fields → loads_of_field p (regs.field_of (regs.register_at rs s) i) ≤ sum_by (loads_of p) rs
+loads_there p rs s i a b =
+    let r = regs.register_at rs s in
+    let x = sum_by-set (loads_of_field p) r.fields i regs.clear_field regs.clear_field b in
+    let y = sum_by-set (loads_of p) rs s regs.free_register regs.free_register a in
+    omega arith
+
+-- ---- what keeps it within its limits
+
+pub owes_no_more : (z : Sizes) (ready ready' : List Reply) (rs rs' : List regs.Register) → ((p : ℕ → Bool) → owing p ready' rs' ≤ owing p ready rs) → OwesSound z ready rs → OwesSound z ready' rs'
+owes_no_more z ready ready' rs rs' f h = record {
+  few = omega (arith, f (λ t. true), h.few);
+  once = λ tag. omega (arith, f (λ t. t == tag), h.once tag);
+}
+
+pub owes-remove : (z : Sizes) (ready : List Reply) (rs : List regs.Register) (k : ℕ) → OwesSound z ready rs → OwesSound z (remove ready k) rs
+owes-remove z ready rs k h =
+    owes_no_more z ready (remove ready k) rs rs (λ p. omega (arith, count_by-remove (λ (r : Reply). p r.tag) ready k)) h
+
+-- ---- a word's loads are answered
+
+finished_by : (p : ℕ → Bool) (b : Bool) (r : regs.Register) (fs : List regs.Field) (n : ℕ) → sum_by (loads_of_field p) fs + n ≤ loads_of p r → loads_of p (if b then regs.free_register else record r { fields = fs }) + n ≤ loads_of p r
+finished_by p true r fs n h = omega arith
+finished_by p false r fs n h = h
+
+pub loads-finished : (p : ℕ → Bool) (r : regs.Register) (i : ℕ) → i < length r.fields → loads_of p (regs.finished r i) + loads_of_field p (regs.field_of r i) ≤ loads_of p r
+unfolding regs.finished
+loads-finished p r i h =
+    let fs = regs.finished_fields r i in
+    let e = sum_by-set (loads_of_field p) r.fields i regs.finished_field regs.clear_field h in
+    finished_by p (regs.is_done fs) r fs _ (omega (arith, e))
+
+pub owes-finished : (z : Sizes) (ready : List Reply) (rs : List regs.Register) (s i : ℕ) (word : Word) → s < length rs → i < length (regs.register_at rs s).fields → OwesSound z ready rs → OwesSound z (ready ++ answered word (regs.field_of (regs.register_at rs s) i).waiting) (set rs s (regs.finished (regs.register_at rs s) i))
+owes-finished z ready rs s i word a b h =
+    let r = regs.register_at rs s in
+    let ws = (regs.field_of (regs.register_at rs s) i).waiting in
+    owes_no_more z ready (ready ++ answered word ws) rs (set rs s (regs.finished r i)) (λ p.
+    (let x = owing-set p ready rs s (regs.finished r i) a in
+    let y = loads-finished p r i b in
+    let n = count_by-append (λ (q : Reply). p q.tag) ready (answered word ws) in
+    let reply : Owed → Reply = λ (w : Owed). record { tag = w.tag; word = merged word w.held w.lanes } in
+    let m : count_by (λ (q : Reply). p q.tag) (answered word ws) ≡ count_by (λ (w : Owed). p w.tag) ws = count_by-map (λ (q : Reply). p q.tag) reply ws in
+    omega arith)) h
+
+-- ---- a register with the same loads
+
+pub owes-same : (z : Sizes) (ready : List Reply) (rs : List regs.Register) (s : ℕ) (r : regs.Register) → s < length rs → ((p : ℕ → Bool) → loads_of p r ≡ loads_of p (regs.register_at rs s)) → OwesSound z ready rs → OwesSound z ready (set rs s r)
+owes-same z ready rs s r l f h =
+    owes_no_more z ready ready rs (set rs s r) (λ p. (let x = owing-set p ready rs s r l in let y = f p in omega arith)) h

@@ -1,0 +1,193 @@
+-- Registers and frames, of which some parts stay as they are.
+use Rattle.std.proofs.Common.{◌≡◌, ℕ, suc, zero, ◌+◌, ◌<◌, ◌≤◌, ◌==◌, Bool, true, false, ◌&&◌, not, cond, if◌then◌else◌, List, [], ◌∷◌, ◌++◌, map, length, set, get_or, Option, Some, None, is_some, is_none, option_map, refl, ap, ap₂, sym, ◌∙◌, arith, length-set, ◌⊎◌, inl, inr, subst, eqb-true, eq-eqb}
+use Rattle.std.proofs.lemmas.List.{map-set, get_or-set_same, get_or-set_other, get_or_past, length-map}
+use Rattle.std.proofs.lemmas.Bool.{false≢true, cases_lt, cases_eq, and_parts, and_from, false_from_ne_true}
+use Rattle.std.proofs.lemmas.Option.{none-some, same_Some}
+use Rattle.flat_model.specs.declared.Word.{Word}
+use Rattle.flat_model.specs.declared.Lanes.{Lanes}
+use Rattle.flat_model.specs.Places.{place_of, is_number}
+use Rattle.flat_model.proofs.Places.{place_of-map}
+use Rattle.cache_directory.specs.Frames as dir
+use Rattle.miss_registers.specs.Registers as regs
+use Rattle.input_stack.specs.declared.Entry.{Entry}
+use Rattle.write_queue.specs.declared.Queued.{Queued}
+use Rattle.cache_unit.specs.declared.Reply.{Reply}
+use Rattle.cache_unit.specs.State.{Sizes, Frame, Field, Register, Cache, empty_frame, free_register, clear_field, frame_at, frame_of, is_present, register_at, field_at, is_live, live_for, is_pending_block, is_pending, free_slot}
+use Rattle.cache_unit.specs.Shown.{as_frame, as_field, as_register, as_cache}
+use Rattle.cache_unit.specs.Sound.{no_entry, entry_at, HasInStack, Stands, HasFrame, FilledBy, StackSound, Tied}
+use Rattle.cache_unit.proofs.Lists.{get_or-map, place_of-some, place_of-only, place_of-none, place_of-all_none}
+use Rattle.cache_unit.proofs.Keeps.{Since, SameBlocks, number_from, frame_of-some}
+use Rattle.cache_unit.proofs.Process.{frame_of-shown, register_at-shown, frame_at-shown}
+
+-- ---- registers of which the marks stay
+
+pub record SameMarks (r r' : regs.Register) : Type 0 where
+  pub valid : r'.valid ≡ r.valid
+  pub count : length r'.fields ≡ length r.fields
+  pub processed : (i : ℕ) → (regs.field_of r' i).processed ≡ (regs.field_of r i).processed
+  pub in_stack : (i : ℕ) → (regs.field_of r' i).in_stack ≡ (regs.field_of r i).in_stack
+
+pub SameMarks-self : (r : regs.Register) → SameMarks r r
+SameMarks-self r = record { valid = refl; count = refl; processed = λ i. refl; in_stack = λ i. refl }
+
+pub SameMarks-set : (rs : List regs.Register) (s : ℕ) (r : regs.Register) → s < length rs → SameMarks (regs.register_at rs s) r → (t : ℕ) → SameMarks (regs.register_at rs t) (regs.register_at (set rs s r) t)
+SameMarks-set rs s r l h t =
+    elim (cases_eq t s) [
+      | inl e ↦ (
+          let same : regs.register_at (set rs s r) t ≡ r = rw e (get_or-set_same rs s r regs.free_register l) in
+          rw (same, e) h)
+      | inr e ↦ (
+          let same : regs.register_at (set rs s r) t ≡ regs.register_at rs t = get_or-set_other rs s t r regs.free_register e in
+          rw same (SameMarks-self (regs.register_at rs t)))
+    ]
+
+pub StackSound-same : (rs rs' : List regs.Register) (st : List Entry) → ((s : ℕ) → SameMarks (regs.register_at rs s) (regs.register_at rs' s)) → StackSound rs st → StackSound rs' st
+StackSound-same rs rs' st m h = record {
+  entries = λ k p. (
+      let e = h.entries k p in
+      let s = m (entry_at st k).slot in
+      record {
+        valid = s.valid ∙ e.valid;
+        there = rw s.count e.there;
+        waits = s.processed (entry_at st k).i ∙ e.waits;
+        marked = s.in_stack (entry_at st k).i ∙ e.marked;
+      });
+  distinct = h.distinct;
+  marks = λ s i t. h.marks s i (sym ((m s).in_stack i) ∙ t);
+}
+
+-- a register that wasn't valid is another without marks
+pub StackSound-fresh : (rs : List regs.Register) (st : List Entry) (slot : ℕ) (r : regs.Register) → slot < length rs → (regs.register_at rs slot).valid ≡ false → ((i : ℕ) → (regs.field_of r i).in_stack ≡ false) → StackSound rs st → StackSound (set rs slot r) st
+StackSound-fresh rs st slot r l v f h = record {
+  entries = λ k p. (
+      let e = h.entries k p in
+      let other : (entry_at st k).slot ≡ slot → ⊥ = λ q. false≢true (sym v ∙ ap (λ s. (regs.register_at rs s).valid) (sym q) ∙ e.valid) in
+      rw (get_or-set_other rs slot (entry_at st k).slot r regs.free_register other) e);
+  distinct = h.distinct;
+  marks = λ s i t. elim (cases_eq s slot) [
+    | inl q ↦ (
+        let same : regs.register_at (set rs slot r) s ≡ r = rw q (get_or-set_same rs slot r regs.free_register l) in
+        absurd (false≢true (sym (f i) ∙ ap (λ (x : regs.Register). (regs.field_of x i).in_stack) (sym same) ∙ t)))
+    | inr q ↦ h.marks s i (ap (λ (x : regs.Register). (regs.field_of x i).in_stack) (sym (get_or-set_other rs slot s r regs.free_register q)) ∙ t)
+  ];
+}
+
+-- ---- registers of which the block and the frame stay
+
+pub record SameShape (r r' : regs.Register) : Type 0 where
+  pub live : regs.is_live r' ≡ regs.is_live r
+  pub block : r'.block ≡ r.block
+  pub frame : r'.frame ≡ r.frame
+  pub count : length r'.fields ≡ length r.fields
+
+pub SameShape-self : (r : regs.Register) → SameShape r r
+SameShape-self r = record { live = refl; block = refl; frame = refl; count = refl }
+
+pub SameShape-set : (rs : List regs.Register) (s : ℕ) (r : regs.Register) → s < length rs → SameShape (regs.register_at rs s) r → (t : ℕ) → SameShape (regs.register_at rs t) (regs.register_at (set rs s r) t)
+SameShape-set rs s r l h t =
+    elim (cases_eq t s) [
+      | inl e ↦ (
+          let same : regs.register_at (set rs s r) t ≡ r = rw e (get_or-set_same rs s r regs.free_register l) in
+          rw (same, e) h)
+      | inr e ↦ (
+          let same : regs.register_at (set rs s r) t ≡ regs.register_at rs t = get_or-set_other rs s t r regs.free_register e in
+          rw same (SameShape-self (regs.register_at rs t)))
+    ]
+
+pub Tied-same : (fs fs' : List dir.Frame) (rs rs' : List regs.Register) → SameBlocks fs fs' → ((f : ℕ) → (dir.frame_at fs' f).pending ≡ (dir.frame_at fs f).pending) → ((s : ℕ) → SameShape (regs.register_at rs s) (regs.register_at rs' s)) → Tied fs rs → Tied fs' rs'
+Tied-same fs fs' rs rs' b p m h = record {
+  frames = λ s l. (
+      let w = m s in
+      let x = h.frames s (sym w.live ∙ l) in
+      record {
+        holds = ap (dir.frame_of fs') w.block ∙ b.holds (regs.register_at rs s).block ∙ x.holds ∙ ap Some (sym w.frame);
+        cells = ap (λ f. length (dir.frame_at fs' f).cells) w.frame ∙ b.cells (regs.register_at rs s).frame ∙ x.cells ∙ sym w.count;
+        pending = ap (λ f. (dir.frame_at fs' f).pending) w.frame ∙ p (regs.register_at rs s).frame ∙ x.pending;
+      });
+  pending = λ f l. (
+      let w = h.pending f (sym (p f) ∙ l) in
+      record { slot = w.slot; live = (m w.slot).live ∙ w.live; frame = (m w.slot).frame ∙ w.frame });
+}
+
+-- ---- one field of a register is another
+
+pub with_field-marks : (r : regs.Register) (i : ℕ) (f : regs.Field) → f.processed ≡ (regs.field_of r i).processed → f.in_stack ≡ (regs.field_of r i).in_stack → SameMarks r (regs.with_field r i f)
+with_field-marks r i f p s = record {
+  valid = refl;
+  count = length-set r.fields i f;
+  processed = λ j. part_at-set (λ (x : regs.Field). x.processed) r.fields i j f p;
+  in_stack = λ j. part_at-set (λ (x : regs.Field). x.in_stack) r.fields i j f s;
+}
+  where
+    part_at-set : (g : regs.Field → Bool) (xs : List regs.Field) (k j : ℕ) (y : regs.Field) → g y ≡ g (get_or xs k regs.clear_field) → g (get_or (set xs k y) j regs.clear_field) ≡ g (get_or xs j regs.clear_field)
+    part_at-set g [] k j y e = refl
+    part_at-set g (x ∷ xs) zero zero y e = e
+    part_at-set g (x ∷ xs) zero (suc j) y e = refl
+    part_at-set g (x ∷ xs) (suc k) zero y e = refl
+    part_at-set g (x ∷ xs) (suc k) (suc j) y e = part_at-set g xs k j y e
+
+pub with_field-shape : (r : regs.Register) (i : ℕ) (f : regs.Field) → SameShape r (regs.with_field r i f)
+with_field-shape r i f = record { live = refl; block = refl; frame = refl; count = length-set r.fields i f }
+
+-- ---- which frame holds a block
+
+pub number_is : (o : Option ℕ) (n : ℕ) → o ≡ Some n → is_number o n ≡ true
+number_is o n h = ap (λ x. is_number x n) h ∙ eq-eqb n n refl
+
+pub frame_of-is : (fs : List dir.Frame) (b k : ℕ) → ((f g n : ℕ) → (dir.frame_at fs f).block ≡ Some n → (dir.frame_at fs g).block ≡ Some n → f ≡ g) → (dir.frame_at fs k).block ≡ Some b → dir.frame_of fs b ≡ Some k
+unfolding dir.frame_of
+frame_of-is fs b k apart h =
+    place_of-only (λ (f : dir.Frame). is_number f.block b) dir.empty_frame fs k refl (number_is _ b h) (λ j e. apart j k b (number_from _ b e) h)
+
+pub none_in_frames : (fs : List dir.Frame) (b : ℕ) → dir.frame_of fs b ≡ None → (k : ℕ) → (dir.frame_at fs k).block ≡ Some b → ⊥
+unfolding dir.frame_of
+none_in_frames fs b h k e =
+    let f = place_of-none (λ (f : dir.Frame). is_number f.block b) dir.empty_frame fs refl h k in
+    let t = number_is (dir.frame_at fs k).block b e in
+    cc
+
+-- ---- which register is live for a block
+
+pub live_for-shown : (d : dir.Frames) (rs : List regs.Register) (st : List Entry) (q : List Queued) (ready : List Reply) (b : ℕ) → live_for (as_cache d rs st q ready) b ≡ regs.live_for rs b
+unfolding live_for regs.live_for
+live_for-shown d rs st q ready b = place_of-map (λ (r : Register). is_live r && r.block == b) as_register rs
+
+pub live_for-some : (rs : List regs.Register) (b s : ℕ) → regs.live_for rs b ≡ Some s → (s < length rs) × (regs.is_live (regs.register_at rs s) ≡ true) × ((regs.register_at rs s).block ≡ b)
+unfolding regs.live_for
+live_for-some rs b s h =
+    let p = place_of-some (λ (r : regs.Register). regs.is_live r && r.block == b) regs.free_register rs s h in
+    let q = and_parts (regs.is_live (regs.register_at rs s)) ((regs.register_at rs s).block == b) p.1 in
+    (p.0, q.0, eqb-true (regs.register_at rs s).block b q.1)
+
+pub none_live : (rs : List regs.Register) (b : ℕ) → regs.live_for rs b ≡ None → (s : ℕ) → regs.is_live (regs.register_at rs s) ≡ true → (regs.register_at rs s).block ≡ b → ⊥
+unfolding regs.live_for
+none_live rs b h s l e =
+    let f = place_of-none (λ (r : regs.Register). regs.is_live r && r.block == b) regs.free_register rs refl h s in
+    let t = and_from (regs.is_live (regs.register_at rs s)) ((regs.register_at rs s).block == b) l (eq-eqb _ b e) in
+    cc
+
+pub live_for-none : (rs : List regs.Register) (b : ℕ) → ((s : ℕ) → regs.is_live (regs.register_at rs s) ≡ true → (regs.register_at rs s).block ≡ b → ⊥) → regs.live_for rs b ≡ None
+unfolding regs.live_for
+live_for-none rs b h =
+    place_of-all_none (λ (r : regs.Register). regs.is_live r && r.block == b) regs.free_register rs (λ s. false_from_ne_true _ (λ e.
+    let q = and_parts (regs.is_live (regs.register_at rs s)) ((regs.register_at rs s).block == b) e in
+    h s q.0 (eqb-true _ b q.1)))
+
+-- a frame isn't pending where its block has no live register
+pub pending_is : (fs : List dir.Frame) (rs : List regs.Register) (f b : ℕ) → Tied fs rs → (dir.frame_at fs f).block ≡ Some b → ((g : ℕ) → (dir.frame_at fs g).block ≡ Some b → f ≡ g) → (dir.frame_at fs f).pending ≡ is_some (regs.live_for rs b)
+pending_is fs rs f b h e alone = go (regs.live_for rs b) refl (dir.frame_at fs f).pending refl
+  where
+    go : (o : Option ℕ) → regs.live_for rs b ≡ o → (p : Bool) → (dir.frame_at fs f).pending ≡ p → p ≡ is_some o
+    go None q false w = refl
+    go None q true w =
+        let x = h.pending f w in
+        let y = (frame_of-some fs _ _ (h.frames x.slot x.live).holds).1 in
+        let z : Some (regs.register_at rs x.slot).block ≡ Some b = sym y ∙ ap (λ g. (dir.frame_at fs g).block) x.frame ∙ e in
+        absurd (none_live rs b q x.slot x.live (same_Some _ _ z))
+    go (Some s) q true w = refl
+    go (Some s) q false w =
+        let x = live_for-some rs b s q in
+        let y = h.frames s x.1 in
+        let z = (frame_of-some fs _ _ y.holds).1 in
+        let g : f ≡ (regs.register_at rs s).frame = alone (regs.register_at rs s).frame (z ∙ ap Some x.2) in
+        absurd (false≢true (sym w ∙ ap (λ k. (dir.frame_at fs k).pending) g ∙ y.pending))

@@ -1,0 +1,63 @@
+-- What a step says of a unit that is given by its parts.
+use Rattle.std.proofs.Common.{◌≡◌, ℕ, suc, zero, ◌<◌, ◌≤◌, List, [], ◌∷◌, length, get_or, Option, Some, None, refl, ap, sym, ◌∙◌, arith, subst, slice_get}
+use Rattle.std.specs.List.{remove}
+use Rattle.std.proofs.lemmas.Option.{slice_get-get_or}
+use Rattle.flat_model.specs.declared.Answer.{Answer}
+use Rattle.flat_model.specs.declared.Answer.TheVariants.{Value, Nothing}
+use Rattle.cache_directory.specs.Frames as dir
+use Rattle.miss_registers.specs.Registers as regs
+use Rattle.input_stack.specs.declared.Entry.{Entry}
+use Rattle.write_queue.specs.Queue.{Queue}
+use Rattle.cache_unit.specs.declared.Reply.{Reply}
+use Rattle.cache_unit.specs.State.{Sizes, Cache, UnitState}
+use Rattle.cache_unit.specs.Steps.{Stepped, take_step, take_reply}
+use Rattle.cache_unit.specs.Sound.{OwesSound, IsSound}
+
+abbrev pub made : Sizes → Cache → UnitState
+made z c = record { sizes = z; cache = c }
+
+-- what a step answers and leaves, of the unit that the parts show
+pub answer_of : (z : Sizes) (c : Cache) (u : UnitState) (step : Sizes → Cache → Stepped) (a : Answer) → made z c ≡ u → a ≡ (step z c).answer → a ≡ (step u.sizes u.cache).answer
+answer_of z c u step a e p = p ∙ ap (λ (v : UnitState). (step v.sizes v.cache).answer) e
+
+pub cache_of : (z : Sizes) (c x : Cache) (u : UnitState) (step : Sizes → Cache → Stepped) → made z c ≡ u → x ≡ (step z c).cache → made z x ≡ record u { cache = (step u.sizes u.cache).cache }
+cache_of z c x u step e p =
+    subst (λ (v : UnitState). made z x ≡ record v { cache = (step v.sizes v.cache).cache }) e (ap (made z) p)
+
+-- a unit whose shown state is another function of it
+pub cache_by : (z : Sizes) (c x : Cache) (u : UnitState) (f : Sizes → Cache → Cache) → made z c ≡ u → x ≡ f z c → made z x ≡ record u { cache = f u.sizes u.cache }
+cache_by z c x u f e p = subst (λ (v : UnitState). made z x ≡ record v { cache = f v.sizes v.cache }) e (ap (made z) p)
+
+pub value_by : {X : Type 0} (z : Sizes) (c : Cache) (u : UnitState) (f : Sizes → Cache → X) (x : X) → made z c ≡ u → x ≡ f z c → x ≡ f u.sizes u.cache
+value_by z c u f x e p = p ∙ ap (λ (v : UnitState). f v.sizes v.cache) e
+
+-- ---- a reply is taken
+
+pub taken : (c : Cache) (k : ℕ) (r : Reply) → k < length c.ready → r ≡ get_or c.ready k r → take_step c k ≡ record { answer = Value r.tag r.word; cache = record c { ready = remove c.ready k }; sent = [] }
+unfolding take_step
+taken c k r l e =
+    let g : slice_get c.ready k ≡ Some r = slice_get-get_or c.ready k r l ∙ ap Some (sym e) in
+    ap (take_reply c k) g
+
+pub none_taken : (c : Cache) (k : ℕ) → length c.ready ≤ k → take_step c k ≡ record { answer = Nothing; cache = c; sent = [] }
+unfolding take_step
+none_taken c k l = ap (take_reply c k) (past c.ready k l)
+  where
+    past : (xs : List Reply) (n : ℕ) → length xs ≤ n → slice_get xs n ≡ None
+    past [] n h = refl
+    past (x ∷ xs) zero h = absurd (omega arith)
+    past (x ∷ xs) (suc n) h = past xs n (omega arith)
+
+-- other replies
+pub IsSound-ready : (z : Sizes) (d : dir.Frames) (rs : List regs.Register) (st : List Entry) (q : Queue) (ready ready' : List Reply) → OwesSound z ready' rs → IsSound z d rs st q ready → IsSound z d rs st q ready'
+IsSound-ready z d rs st q ready ready' o h = record {
+  ranges = h.ranges;
+  directory = h.directory;
+  sets = h.sets;
+  in_memory = h.in_memory;
+  registers = h.registers;
+  stack_sound = h.stack_sound;
+  tied = h.tied;
+  queue_sound = h.queue_sound;
+  owes = o;
+}
