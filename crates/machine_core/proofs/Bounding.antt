@@ -24,11 +24,10 @@ use Rattle.cache_unit.specs.Causes.{first_cause, ways_of, targets_full, found, i
 use Rattle.cache_unit.specs.Steps.{Stepped, unless, without_code, made_obsolete, obsoleted, released, evicted, evicted_from, fresh_register, installed, missed, reads, fetched, fetches, loaded, noted, written_in, written, load_step, store_step, prefetch_step, evict_step, drain_first, drain_step, arrived, finished, processed, process_entry, process_step, take_reply, take_step}
 use Rattle.machine_core.specs.Law.{IsLawful}
 use Rattle.machine_core.specs.Machine.{Machine, apply, joined_with, serve_from, take_in, arrive_from, without_answer}
-use Rattle.machine_core.specs.Sound.{bit, dues, IsSound, IsBounded}
+use Rattle.machine_core.specs.Sound.{bit, IsSound}
 use Rattle.machine_core.proofs.Processing.{done}
 use Rattle.machine_core.proofs.Freeing.{filled_only}
-use Rattle.machine_core.proofs.Requests.{tags_dues}
-use Rattle.machine_core.proofs.Walking.{event_ok}
+use Rattle.machine_core.proofs.Fetching.{Able}
 
 each-set : {X : Type 0} (P : X → Type 0) (d : X) (xs : List X) (k : ℕ) (y : X) → ((t : ℕ) → P (get_or xs t d)) → P y → (t : ℕ) → P (get_or (set xs k y) t d)
 each-set P d xs k y h own t =
@@ -46,12 +45,12 @@ each-set P d xs k y h own t =
 -- ---- registers that wait, and the length of the write queue
 
 -- a register that waits for a word, where it is valid
-abbrev Waits : Register → Type 0
+abbrev pub Waits : Register → Type 0
 Waits r = r.valid ≡ true → list_all (λ (f : Field). f.processed) r.fields ≡ false
 
-record Little (z : Sizes) (c : Cache) : Type 0 where
-  wait : (s : ℕ) → Waits (get_or c.registers s free_register)
-  queued : length c.queue ≤ z.write_queue
+pub record Little (z : Sizes) (c : Cache) : Type 0 where
+  pub wait : (s : ℕ) → Waits (get_or c.registers s free_register)
+  pub queued : length c.queue ≤ z.write_queue
 
 all-set : (fields : List Field) (i : ℕ) (f : Field) → f.processed ≡ (get_or fields i clear_field).processed → list_all (λ (x : Field). x.processed) (set fields i f) ≡ list_all (λ (x : Field). x.processed) fields
 all-set [] i f e = refl
@@ -155,7 +154,7 @@ little_processed z c place e h =
 
 -- ---- commands
 
-abbrev Fits : Sizes → Bank → Type 0
+abbrev pub Fits : Sizes → Bank → Type 0
 Fits z b = length b.queue ≤ z.bank_queue
 
 all_sent-length : (banks : List Bank) (sent : List (ℕ × Command)) → length (all_sent banks sent) ≡ length banks
@@ -255,7 +254,7 @@ fits_fetch z banks c block n h rooms = go (is_present c block) refl (free_slot c
 -- ---- what follows where there is no cause
 
 -- a miss has no cause
-abbrev MayMiss : Sizes → Machine → ℕ → Type 0
+abbrev pub MayMiss : Sizes → Machine → ℕ → Type 0
 MayMiss z m block = is_present m.cache block ≡ false → first_cause (miss_causes z (room_in z.bank_queue m.banks) m.cache block) ≡ None
 
 may_places : (z : Sizes) (m : Machine) (block : ℕ) → MayMiss z m block → is_present m.cache block ≡ false → lacks_places z m.cache (choose z m.cache block) ≡ false
@@ -279,7 +278,17 @@ may_rooms z m block may e =
     go false false true d q = cc
     go false false false true q = cc
 
-load_may_miss : (z : Sizes) (m : Machine) (tag at : ℕ) → load_cause z (room_in z.bank_queue m.banks) m.cache tag at ≡ None → MayMiss z m (block_of z at)
+-- what a miss needs
+pub may_able : (z : Sizes) (m : Machine) (block : ℕ) → MayMiss z m block → is_present m.cache block ≡ false → Able z m.cache block
+may_able z m block may e =
+    go (length (filter (λ (r : Register). r.valid) m.cache.registers) == z.regs) refl (list_all (is_pending m.cache) (ways_of z block)) refl (lacks_places z m.cache (choose z m.cache block)) (lacks_room z (room_in z.bank_queue m.banks) block) (may e)
+  where
+    go : (a : Bool) → (length (filter (λ (r : Register). r.valid) m.cache.registers) == z.regs) ≡ a → (b : Bool) → list_all (is_pending m.cache) (ways_of z block) ≡ b → (c d : Bool) → cond a (Some NoRegister) (cond b (Some SetPending) (cond c (Some QueueFull) (cond d (Some BankFull) None))) ≡ None → Able z m.cache block
+    go false p false q c d e = (p, q)
+    go true p b q c d e = cc
+    go false p true q c d e = cc
+
+pub load_may_miss : (z : Sizes) (m : Machine) (tag at : ℕ) → load_cause z (room_in z.bank_queue m.banks) m.cache tag at ≡ None → MayMiss z m (block_of z at)
 unfolding load_cause
 load_may_miss z m tag at e absent =
     go (nat_lt at z.words) (is_in_use m.cache tag) (nat_le z.replies (length (tags m.cache))) (is_present m.cache (block_of z at)) absent e
@@ -294,7 +303,7 @@ load_may_miss z m tag at e absent =
     go true true c false p q = cc
     go true false true false p q = cc
 
-store_may_miss : (z : Sizes) (m : Machine) (at : ℕ) (lanes : Lanes) → store_cause z (room_in z.bank_queue m.banks) m.cache at lanes ≡ None → MayMiss z m (block_of z at)
+pub store_may_miss : (z : Sizes) (m : Machine) (at : ℕ) (lanes : Lanes) → store_cause z (room_in z.bank_queue m.banks) m.cache at lanes ≡ None → MayMiss z m (block_of z at)
 unfolding store_cause
 store_may_miss z m at lanes e absent =
     go (nat_lt at z.words) (has_any lanes) (is_present m.cache (block_of z at)) absent e
@@ -305,7 +314,7 @@ store_may_miss z m at lanes e absent =
     go false b false p q = cc
     go true false false p q = cc
 
-prefetch_may_miss : (z : Sizes) (m : Machine) (at : ℕ) → prefetch_cause z (room_in z.bank_queue m.banks) m.cache at ≡ None → MayMiss z m (block_of z at)
+pub prefetch_may_miss : (z : Sizes) (m : Machine) (at : ℕ) → prefetch_cause z (room_in z.bank_queue m.banks) m.cache at ≡ None → MayMiss z m (block_of z at)
 unfolding prefetch_cause
 prefetch_may_miss z m at e absent = go (nat_lt at z.words) (is_present m.cache (block_of z at)) absent e
   where
@@ -328,9 +337,9 @@ evict_places z c block e =
 -- ---- each event
 
 -- what a step leaves
-record Within (z : Sizes) (m : Machine) : Type 0 where
-  little : Little z m.cache
-  fits : (b : ℕ) → Fits z (bank_at m.banks b)
+pub record Within (z : Sizes) (m : Machine) : Type 0 where
+  pub little : Little z m.cache
+  pub fits : (b : ℕ) → Fits z (bank_at m.banks b)
 
 -- a step that is refused changes nothing
 unless_within : (z : Sizes) (m : Machine) (cause : Option Cause) (step : Stepped) → Within z m → (cause ≡ None → Within z (joined_with m.banks step).machine) → Within z (joined_with m.banks (unless cause m.cache step)).machine
@@ -445,7 +454,7 @@ module _ (z : Sizes) (lawful : IsLawful z) (m : Machine) (sound : IsSound z m) (
       go None = h
       go (Some r) = record { little = record { wait = h.little.wait; queued = h.little.queued }; fits = h.fits }
 
-  event_within : (event : Event) → Within z (apply z m event).machine
+  pub event_within : (event : Event) → Within z (apply z m event).machine
   event_within (Load tag at) = load_within tag at
   event_within (Store at word lanes) = store_within at word lanes
   event_within (Prefetch at) = prefetch_within at
@@ -455,15 +464,3 @@ module _ (z : Sizes) (lawful : IsLawful z) (m : Machine) (sound : IsSound z m) (
   event_within (Arrive bank place) = arrive_within bank place
   event_within (Process place) = process_within place
   event_within (Take place) = take_within place
-
--- each event keeps the limits
-pub event_bounded : (z : Sizes) → IsLawful z → (m : Machine) → IsSound z m → IsBounded z m → (event : Event) → IsBounded z (apply z m event).machine
-event_bounded z lawful m sound h event =
-    let w = event_within z lawful m sound (record { little = record { wait = h.unfinished; queued = h.few_queued }; fits = h.few_commands }) event in
-    let few : length (dues (apply z m event).machine) ≤ z.replies = (event_ok z lawful m sound event).few (subst (λ n. n ≤ z.replies) (tags_dues m) h.few_tags) in
-    record {
-      unfinished = w.little.wait;
-      few_tags = subst (λ n. n ≤ z.replies) (sym (tags_dues (apply z m event).machine)) few;
-      few_queued = w.little.queued;
-      few_commands = w.fits;
-    }

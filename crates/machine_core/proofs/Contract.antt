@@ -12,7 +12,7 @@ use Rattle.machine_core.proofs.Opening.{opening_sound, opening_is, settled_ok}
 use Rattle.machine_core.proofs.Requests.{mem_at}
 use Rattle.machine_core.proofs.Walking.{event_ok, walk_sound, walk_runs}
 use Rattle.machine_core.proofs.Weighing.{pump_lowers, pump_rests, pump_at_rest}
-use Rattle.machine_core.proofs.Bounding.{event_bounded}
+use Rattle.machine_core.proofs.Routing.{event_bounded}
 use Rattle.machine_core.proofs.Counting
 use Rattle.machine_core.proofs.Resting
 

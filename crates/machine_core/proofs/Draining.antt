@@ -27,7 +27,7 @@ length-after words [] = refl
 length-after words (Read slot i place ∷ rest) = length-after words rest
 length-after words (Write place word lanes ∷ rest) = length-after (stored words place word lanes) rest ∙ length-set words place _
 
-answers_to-write : (words : List Word) (commands : List Command) (place : ℕ) (word : Word) (lanes : Lanes) → answers_to words (commands ++ Write place word lanes ∷ []) ≡ answers_to words commands
+pub answers_to-write : (words : List Word) (commands : List Command) (place : ℕ) (word : Word) (lanes : Lanes) → answers_to words (commands ++ Write place word lanes ∷ []) ≡ answers_to words commands
 answers_to-write words [] place word lanes = refl
 answers_to-write words (Read slot i p ∷ rest) place word lanes =
     ap (λ l. record { slot = slot; i = i; word = word_at words p } ∷ l) (answers_to-write words rest place word lanes)

@@ -154,7 +154,7 @@ chosen z lawful m h block f e = go (find free ways) refl (find resident order) r
     go (Some x) p b q r = by_free (p ∙ r)
     go None p b q r = by_resident (q ∙ r)
 
-free_register_at : (c : Cache) (slot : ℕ) → free_slot c ≡ Some slot → (slot < length c.registers) × ((register_at c slot).valid ≡ false)
+pub free_register_at : (c : Cache) (slot : ℕ) → free_slot c ≡ Some slot → (slot < length c.registers) × ((register_at c slot).valid ≡ false)
 free_register_at c slot e =
     let p = place_of-some (λ (r : Register). not r.valid) free_register c.registers slot e in
     (p.0, not-true (register_at c slot).valid p.1)
@@ -230,7 +230,7 @@ some_slot z m h e = go (free_slot m.cache) refl
         let full : (length (filter (λ r. r.valid) m.cache.registers) == z.regs) ≡ true = eq-eqb _ z.regs (all_valid m.cache.registers q ∙ h.registers_are) in
         cc
 
-some_frame : (z : Sizes) → IsLawful z → (m : Machine) → IsSound z m → (block : ℕ) → list_all (is_pending m.cache) (ways_of z block) ≡ false → is_none (choose z m.cache block) ≡ false
+pub some_frame : (z : Sizes) → IsLawful z → (m : Machine) → IsSound z m → (block : ℕ) → list_all (is_pending m.cache) (ways_of z block) ≡ false → is_none (choose z m.cache block) ≡ false
 unfolding choose
 some_frame z lawful m h block e = go (frame_at m.cache x.0).block refl x.3
   where

@@ -24,7 +24,9 @@ pub mod Opening
 pub mod Requests
 pub mod Walking
 pub mod Bounding
+pub mod Routing
 pub mod Counting
 pub mod Resting
 pub mod Weighing
+pub mod Keeping
 pub mod Contract

@@ -88,8 +88,8 @@ module _ (z : Sizes) (lawful : IsLawful z) (image : List Word) (fits : length im
   unfolding word_now
   opening_word at = ap (word_now_in z m0 at) (absent (block_of z at))
 
-  nothing_pending : all_pending m0.banks ≡ []
-  nothing_pending = no_pending bank_of (range_with_len 0 z.banks) (λ k. refl)
+  pub opening_idle : all_pending m0.banks ≡ []
+  opening_idle = no_pending bank_of (range_with_len 0 z.banks) (λ k. refl)
 
   pub nothing_due : dues m0 ≡ []
   unfolding dues targets
@@ -101,7 +101,7 @@ module _ (z : Sizes) (lawful : IsLawful z) (image : List Word) (fits : length im
         frames_apart = λ f g b p q. absurd (no_block f b p);
         live_apart = λ s t p q e. absurd (no_live s p);
         live_present = λ s p. absurd (no_live s p);
-        counted = λ s i. ap (λ ps. tally (Rattle.machine_core.specs.Sound.is_for s i) ps + 0) nothing_pending ∙ sym (ap (λ r. wanted z r i) (free_registers s));
+        counted = λ s i. ap (λ ps. tally (Rattle.machine_core.specs.Sound.is_for s i) ps + 0) opening_idle ∙ sym (ap (λ r. wanted z r i) (free_registers s));
         once = λ tag. subst (λ ds. tally (has_tag tag) ds ≤ 1) (sym nothing_due) (omega arith);
         kept = λ at. opening_word at ∙ sym (merged-none (backing z m0 at) zero_word) ∙ ap (λ o. merged (backing z m0 at) (cell_in m0.cache o (place_in z at)).word (cell_in m0.cache o (place_in z at)).dirty) (sym (absent (block_of z at)));
         whole_frames = λ f b p. absurd (no_block f b p);

@@ -97,7 +97,7 @@ unfolding dues
 tags_dues m =
     length-append (map (λ (r : Reply). r.tag) m.cache.ready) _ ∙ ap₂ (λ x y. x + y) (length-map m.cache.ready (λ (r : Reply). r.tag)) (length-map (targets m.cache.registers) (λ (t : Target). t.load.tag) ∙ sym (length-map (targets m.cache.registers) (reply_to m))) ∙ sym (length-append m.cache.ready (map (reply_to m) (targets m.cache.registers)))
 
-flat_in_use : (m : Machine) (tag : ℕ) → not (is_none (flat_due m tag)) ≡ is_in_use m.cache tag
+pub flat_in_use : (m : Machine) (tag : ℕ) → not (is_none (flat_due m tag)) ≡ is_in_use m.cache tag
 flat_in_use m tag = ap (λ o. not (is_none o)) (flat_due-in m tag) ∙ twice (is_some (due_in (dues m) tag)) ∙ sym (in_use_is m tag)
   where
     twice : (b : Bool) → not (not b) ≡ b
@@ -110,7 +110,7 @@ flat_not_due m tag e = not-false (is_none (flat_due m tag)) (flat_in_use m tag �
 -- ---- the causes of a miss
 
 -- a block begins in memory where one of its words is there
-starts_in : (z : Sizes) (at : ℕ) → at < z.words → address z (block_of z at) 0 < z.words
+pub starts_in : (z : Sizes) (at : ℕ) → at < z.words → address z (block_of z at) 0 < z.words
 starts_in z at l = let e = div-add-mod' at z.block_words in omega arith
 
 -- ---- requests

@@ -23,12 +23,12 @@ use Rattle.machine_core.specs.Law.{IsLawful, HasRoom, serves_eviction, ServesReq
 use Rattle.machine_core.specs.Machine.{Machine, apply, joined_with, opening, walked}
 use Rattle.machine_core.specs.Pump.{total, command_weight, bank_weight, weight, pumped, after_event, after_pumps}
 use Rattle.machine_core.specs.Sound.{tally, bit, is_for, is_entry_for, wanted, IsSound, IsBounded}
-use Rattle.machine_core.proofs.Opening.{all_default, opening_sound, nothing_due}
+use Rattle.machine_core.proofs.Opening.{all_default, opening_sound, nothing_due, opening_idle}
 use Rattle.machine_core.proofs.Finding.{live_for-none}
 use Rattle.machine_core.proofs.Requests.{tags_dues}
 use Rattle.machine_core.proofs.Walking.{event_ok}
 use Rattle.machine_core.proofs.Weighing.{all_idle, pump_lowers, pump_rests}
-use Rattle.machine_core.proofs.Bounding.{event_bounded}
+use Rattle.machine_core.proofs.Routing.{pending_part, event_bounded}
 use Rattle.machine_core.proofs.Counting.{weight_bound}
 
 -- ---- how many words of a block lie in one bank
@@ -313,6 +313,7 @@ opening_bounded z lawful image fits =
       unfinished = λ s v. let no : (register_at (opening z image).cache s).valid ≡ false = ap (λ (r : Register). r.valid) (all_default z.regs free_register s) in cc;
       few_tags = let e = ap length (nothing_due z lawful image fits) in subst (λ n. n ≤ z.replies) (sym (tags_dues (opening z image) ∙ e)) (omega arith);
       few_queued = omega arith;
+      at_its_bank = λ b s i l. let part = pending_part (is_for s i) (opening z image).banks b in let none = ap (tally (is_for s i)) (opening_idle z lawful image fits) in absurd (omega arith);
       few_commands = λ b. subst (λ n. n ≤ z.bank_queue) (sym (quiet (λ k. Rattle.memory_banks.specs.Banks.share_of image z.banks k) (range_with_len 0 z.banks) b)) (omega arith);
     }
   where

@@ -60,7 +60,7 @@ AddsAll-find {X} p (x ∷ xs) old new a none one = go (p x) refl (AddsAll-find p
 
 -- ---- one read
 
-answers_to-read : (words : List Word) (queue : List Command) (slot i place : ℕ) → answers_to words (queue ++ Read slot i place ∷ []) ≡ answers_to words queue ++ record { slot = slot; i = i; word = word_at (after words queue) place } ∷ []
+pub answers_to-read : (words : List Word) (queue : List Command) (slot i place : ℕ) → answers_to words (queue ++ Read slot i place ∷ []) ≡ answers_to words queue ++ record { slot = slot; i = i; word = word_at (after words queue) place } ∷ []
 answers_to-read words [] slot i place = refl
 answers_to-read words (Read s j p ∷ rest) slot i place =
     ap (λ l. record { slot = s; i = j; word = word_at words p } ∷ l) (answers_to-read words rest slot i place)
@@ -72,7 +72,7 @@ after-read words (Read s j p ∷ rest) slot i place = after-read words rest slot
 after-read words (Write p w l ∷ rest) slot i place = after-read (stored words p w l) rest slot i place
 
 module _ (z : Sizes) (some_banks : 0 < z.banks) (slot : ℕ) where
-  abbrev one_more : List Bank → ℕ → List Bank
+  abbrev pub one_more : List Bank → ℕ → List Bank
   one_more banks at =
       set banks (at % z.banks) (with_command (bank_at banks (at % z.banks)) (Read slot (at % z.block_words) (at / z.banks)))
 

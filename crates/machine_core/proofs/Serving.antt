@@ -101,7 +101,7 @@ with_banks-sound z m banks same h =
 
 -- ---- the turn
 
-served-pending : (b : Bank) (first : Command) (rest : List Command) → b.queue ≡ first ∷ rest → pending (served b first rest) ≡ pending b
+pub served-pending : (b : Bank) (first : Command) (rest : List Command) → b.queue ≡ first ∷ rest → pending (served b first rest) ≡ pending b
 unfolding served
 served-pending b first rest e = go first ∙ ap (λ q. b.answers ++ answers_to b.words q) (sym e)
   where

@@ -4,7 +4,7 @@ use Rattle.std.specs.List.{find, list_any, list_all}
 use Rattle.flat_model.specs.declared.Word.{Word}
 use Rattle.flat_model.specs.Words.{merged, zero_word}
 use Rattle.memory_banks.specs.declared.BankAnswer.{BankAnswer}
-use Rattle.memory_banks.specs.Banks.{bank_at, all_pending}
+use Rattle.memory_banks.specs.Banks.{bank_at, pending, all_pending}
 use Rattle.input_stack.specs.declared.Entry.{Entry}
 use Rattle.input_stack.specs.Stack.{stack_word}
 use Rattle.write_queue.specs.declared.Queued.{Queued}
@@ -38,6 +38,10 @@ is_entry_for slot i e = (e.slot == slot) && (e.i == i)
 -- 1 where a register waits for its word i from memory, else 0
 abbrev pub wanted : Sizes → Register → ℕ → ℕ
 wanted z r i = bit (r.valid && (nat_lt i z.block_words && not (slice_index_or r.fields i clear_field).processed))
+
+-- the bank of word i of the register in this slot
+abbrev pub own_bank : Sizes → Machine → ℕ → ℕ → ℕ
+own_bank z m slot i = address z (register_at m.cache slot).block i % z.banks
 
 abbrev pub word_in : Option BankAnswer → Word
 word_in None = zero_word
@@ -122,10 +126,12 @@ pub record IsSound (z : Sizes) (m : Machine) : Type 0 where
   pub banks_are : length m.banks ≡ z.banks
   pub banks_hold : (at : ℕ) → at < z.words → at / z.banks < length (bank_at m.banks (at % z.banks)).words
 
--- what is on its way is within the limits
+-- what is on its way is within the limits, and where it belongs
 pub record IsBounded (z : Sizes) (m : Machine) : Type 0 where
   -- a valid register waits for a word
   pub unfinished : (s : ℕ) → (register_at m.cache s).valid ≡ true → list_all (λ f. f.processed) (register_at m.cache s).fields ≡ false
   pub few_tags : length (tags m.cache) ≤ z.replies
   pub few_queued : length m.cache.queue ≤ z.write_queue
   pub few_commands : (b : ℕ) → length (bank_at m.banks b).queue ≤ z.bank_queue
+  -- each read and each answer is at the bank of its word
+  pub at_its_bank : (b s i : ℕ) → 1 ≤ tally (is_for s i) (pending (bank_at m.banks b)) → own_bank z m s i ≡ b

@@ -1,0 +1,86 @@
+-- What every machine of a walk keeps, said of it as it stands.
+use Rattle.std.proofs.Common.{◌≡◌, ◌≢◌, ℕ, zero, suc, ◌+◌, ◌≤◌, Bool, true, false, not, ◌==◌, List, [], ◌∷◌, map, Option, Some, None, is_none, is_some, refl, sym, ap, ap₂, ◌∙◌, subst, arith, flat_map}
+use Rattle.flat_model.specs.declared.Word.{Word}
+use Rattle.flat_model.specs.declared.Cause.TheVariants.{StrayWord}
+use Rattle.flat_model.specs.declared.Event.{Event}
+use Rattle.flat_model.specs.declared.Event.TheVariants.{Arrive}
+use Rattle.flat_model.specs.declared.Answer.{Answer}
+use Rattle.flat_model.specs.declared.Answer.TheVariants.{Refused}
+use Rattle.flat_model.specs.Flat.{flat_step}
+use Rattle.memory_banks.specs.declared.BankAnswer.{BankAnswer}
+use Rattle.memory_banks.specs.Banks.{Bank, bank_at, pending}
+use Rattle.cache_unit.specs.declared.Reply.{Reply}
+use Rattle.cache_unit.specs.State.{Sizes, Target, targets, tags}
+use Rattle.machine_core.specs.Law.{IsLawful, IsKept, WalkIsKept}
+use Rattle.machine_core.specs.Machine.{Machine, apply, opening, walked, flat_due, flat_of}
+use Rattle.machine_core.specs.Sound.{tally, bit, is_for, has_tag, dues, reply_to, own_bank, IsSound, IsBounded}
+use Rattle.machine_core.proofs.Lists.{tally-append}
+use Rattle.machine_core.proofs.Opening.{opening_sound}
+use Rattle.machine_core.proofs.Requests.{flat_in_use}
+use Rattle.machine_core.proofs.Walking.{event_ok}
+use Rattle.machine_core.proofs.Resting.{opening_bounded, held_walked}
+
+tally-map : {X Y : Type 0} (f : X → Y) (p : Y → Bool) (xs : List X) → tally p (map f xs) ≡ tally (λ x. p (f x)) xs
+tally-map f p [] = refl
+tally-map f p (x ∷ xs) = ap (λ n. bit (p (f x)) + n) (tally-map f p xs)
+
+tags_tally : (m : Machine) (tag : ℕ) → tally (λ t. t == tag) (tags m.cache) ≡ tally (has_tag tag) (dues m)
+unfolding dues
+tags_tally m tag =
+    tally-append (λ t. t == tag) (map (λ (r : Reply). r.tag) m.cache.ready) _ ∙ ap₂ (λ x y. x + y) (tally-map (λ (r : Reply). r.tag) (λ t. t == tag) m.cache.ready) (tally-map (λ (t : Target). t.load.tag) (λ t. t == tag) (targets m.cache.registers) ∙ sym (tally-map (reply_to m) (has_tag tag) (targets m.cache.registers))) ∙ sym (tally-append (has_tag tag) m.cache.ready (map (reply_to m) (targets m.cache.registers)))
+
+-- where only one bank has such an answer on its way, it has all of them
+none_at : (p : BankAnswer → Bool) (banks : List Bank) → ((b : ℕ) → tally p (pending (bank_at banks b)) ≡ 0) → tally p (flat_map pending banks) ≡ 0
+none_at p [] h = refl
+none_at p (x ∷ banks) h =
+    let ih = none_at p banks (λ b. h (suc b)) in
+    let own = h 0 in
+    let n = tally-append p (pending x) (flat_map pending banks) in
+    omega arith
+
+all_at_one : (p : BankAnswer → Bool) (banks : List Bank) (k : ℕ) → ((b : ℕ) → b ≢ k → tally p (pending (bank_at banks b)) ≡ 0) → tally p (flat_map pending banks) ≡ tally p (pending (bank_at banks k))
+all_at_one p [] k h = refl
+all_at_one p (x ∷ banks) zero h =
+    let rest = none_at p banks (λ b. h (suc b) (λ e. omega arith)) in
+    let n = tally-append p (pending x) (flat_map pending banks) in
+    omega arith
+all_at_one p (x ∷ banks) (suc k) h =
+    let ih = all_at_one p banks k (λ b d. h (suc b) (λ e. d (omega arith))) in
+    let own = h 0 (λ e. omega arith) in
+    let n = tally-append p (pending x) (flat_map pending banks) in
+    omega arith
+
+pub kept_whole : (z : Sizes) → IsLawful z → (m : Machine) → IsSound z m → IsBounded z m → IsKept z m
+kept_whole z lawful m sound bounded =
+    record {
+      one_live = sound.live_apart;
+      tags_differ = λ tag. subst (λ n. n ≤ 1) (sym (tags_tally m tag)) (sound.once tag);
+      tags_fit = bounded.few_tags;
+      tags_owed = λ tag. some (flat_due m tag) ∙ flat_in_use m tag;
+      on_its_way = λ s i. let e = all_at_one (is_for s i) m.banks (own_bank z m s i) (λ b d. elsewhere b s i d) in let c = sound.counted s i in omega arith;
+      nowhere_else = elsewhere;
+      none_stray = λ b place e. stray b place (apply z m (Arrive b place)).answer e (event_ok z lawful m sound (Arrive b place)).run;
+    }
+  where
+    some : {X : Type 0} (o : Option X) → is_some o ≡ not (is_none o)
+    some None = refl
+    some (Some x) = refl
+
+    elsewhere : (b s i : ℕ) → b ≢ own_bank z m s i → tally (is_for s i) (pending (bank_at m.banks b)) ≡ 0
+    elsewhere b s i d = go (tally (is_for s i) (pending (bank_at m.banks b))) refl
+      where
+        go : (n : ℕ) → tally (is_for s i) (pending (bank_at m.banks b)) ≡ n → n ≡ 0
+        go zero e = refl
+        go (suc n) e = absurd (d (sym (bounded.at_its_bank b s i (omega arith))))
+
+    stray : (b place : ℕ) (answer : Answer) → answer ≡ Refused StrayWord → flat_step (flat_of z m) (Arrive b place) answer ≡ Some (flat_of z (apply z m (Arrive b place)).machine) → ⊥
+    stray b place answer e run =
+        let no : flat_step (flat_of z m) (Arrive b place) answer ≡ None = ap (flat_step (flat_of z m) (Arrive b place)) e in
+        let same : is_some (flat_step (flat_of z m) (Arrive b place) answer) ≡ true = ap is_some run in
+        let never : is_some (flat_step (flat_of z m) (Arrive b place) answer) ≡ false = ap is_some no in
+        cc
+
+pub walk_is_kept : (z : Sizes) (image : List Word) (events : List Event) → WalkIsKept z image events
+walk_is_kept z image events lawful fits =
+    let h = held_walked z lawful (opening z image) (record { sound = opening_sound z lawful image fits; bounded = opening_bounded z lawful image fits }) events in
+    kept_whole z lawful (walked z (opening z image) events) h.sound h.bounded

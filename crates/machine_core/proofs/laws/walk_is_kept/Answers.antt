@@ -1,0 +1,5 @@
+use Rattle.machine_core.proofs.Keeping.{walk_is_kept}
+use Rattle.machine_core.proofs.laws.walk_is_kept.Goals as goal
+
+pub returns : goal.returns
+returns c = walk_is_kept
