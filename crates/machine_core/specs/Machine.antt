@@ -1,5 +1,5 @@
 -- The machine: the cache unit and its banks.
-use Rattle.std.specs.Prelude.{ℕ, ◌*◌, ◌/◌, ◌%◌, Bool, ◌&&◌, List, [], ◌∷◌, map, replicate, Option, Some, None, slice_get, slice_set}
+use Rattle.std.specs.Prelude.{ℕ, ◌*◌, ◌/◌, ◌%◌, Bool, ◌&&◌, List, [], ◌∷◌, map, Option, Some, None, slice_get, slice_set}
 use Rattle.std.specs.Option.{option_map}
 use Rattle.std.specs.List.{list_all, range_with_len, remove}
 use Rattle.flat_model.specs.declared.Word.{Word}
@@ -12,7 +12,7 @@ use Rattle.flat_model.specs.Flat.{Flat, word_at}
 use Rattle.memory_banks.specs.declared.Command.{Command}
 use Rattle.memory_banks.specs.declared.BankAnswer.{BankAnswer}
 use Rattle.memory_banks.specs.Banks.{Bank, bank_at, words_after, all_pending, served, room_in, all_sent, opening_banks}
-use Rattle.cache_unit.specs.State.{Sizes, Cache, empty_frame, free_register, frame_of, block_of, place_in}
+use Rattle.cache_unit.specs.State.{Sizes, Cache, opening_cache, frame_of, block_of, place_in}
 use Rattle.write_queue.specs.Queue.{overlaid}
 use Rattle.cache_unit.specs.Views.{is_empty, is_clean}
 use Rattle.cache_unit.specs.Causes.{arrive_cause}
@@ -76,19 +76,7 @@ apply z m (Take place) = joined_with m.banks (take_step m.cache place)
 -- ---- walks
 
 abbrev pub opening : Sizes → List Word → Machine
-opening z image =
-    record {
-      cache =
-          record {
-            frames = replicate (z.sets * z.ways) empty_frame;
-            orders = replicate z.sets [];
-            registers = replicate z.regs free_register;
-            stack = [];
-            queue = [];
-            ready = [];
-          };
-      banks = opening_banks image z.banks;
-    }
+opening z image = record { cache = opening_cache z; banks = opening_banks image z.banks }
 
 abbrev pub walked : Sizes → Machine → List Event → Machine
 walked z m [] = m
