@@ -1,12 +1,12 @@
 -- What each call leaves is whole. Here `d` is what the fields show, and `v` what the caller sees.
-use Rattle.std.proofs.Common.{◌≡◌, ℕ, ◌+◌, ◌*◌, ◌/◌, ◌%◌, ◌<◌, ◌≤◌, Bool, true, false, List, [], ◌∷◌, ◌++◌, length, get_or, set, Option, Some, None, is_some, is_none, not, refl, ap, ap₂, sym, ◌∙◌, arith, length-set, length-append, get_or-set_same}
+use Rattle.std.proofs.Common.{◌≡◌, ℕ, ◌*◌, ◌/◌, ◌%◌, ◌<◌, ◌≤◌, true, List, [], ◌∷◌, ◌++◌, length, get_or, set, Option, Some, None, is_none, not, refl, ap, ap₂, sym, ◌∙◌, arith, length-append, get_or-set_same}
 use Rattle.std.specs.List.{All, find, range_with_len}
 use Rattle.std.proofs.lemmas.List.{get_or_default}
 use Rattle.flat_model.specs.declared.Word.{Word}
 use Rattle.flat_model.specs.declared.Lanes.{Lanes}
 use Rattle.flat_model.specs.Places.{is_number}
 use Rattle.cache_directory.specs.declared.directory.Choice.{Choice}
-use Rattle.cache_directory.specs.declared.directory.Choice.TheVariants.{Free, Victim, AllPending}
+use Rattle.cache_directory.specs.declared.directory.Choice.TheVariants.{Free}
 use Rattle.cache_directory.specs.Frames.{Frame, Frames, IsWhole, empty_frame, frame_at, is_held, frame_of, order_of, set_of, with_frame, filled, written, settled, fresh_frame, without, installed, released, choice_from, free_way, oldest, chosen, is_all_pending, are_pending}
 use Rattle.cache_directory.proofs.Misses.{MayInstall}
 use Rattle.cache_directory.proofs.Choices.{look_in_set, chosen-all_pending}

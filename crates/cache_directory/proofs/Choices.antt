@@ -1,16 +1,15 @@
 -- What a look and a choice find.
-use Rattle.std.proofs.Common.{◌≡◌, ℕ, suc, zero, ◌+◌, ◌*◌, ◌/◌, ◌%◌, ◌<◌, ◌≤◌, Bool, true, false, not, cond, ◌&&◌, ◌==◌, List, [], ◌∷◌, ◌++◌, length, get_or, Option, Some, None, is_some, is_none, refl, ap, sym, ◌∙◌, arith, inl, inr, ◌⊎◌, eq-eqb}
-use Rattle.std.specs.List.{find, All, range_with_len, list_all}
-use Rattle.std.proofs.lemmas.Bool.{cases_eq, cases_lt, cases_Bool, both_ways, false_from_ne_true, true_from_ne_false, not-true, not-false, eqb-true}
+use Rattle.std.proofs.Common.{◌≡◌, ℕ, ◌+◌, ◌*◌, ◌/◌, ◌<◌, ◌≤◌, Bool, true, false, not, List, length, Option, Some, None, is_some, is_none, refl, ap, sym, ◌∙◌, arith, eq-eqb}
+use Rattle.std.specs.List.{find}
+use Rattle.std.proofs.lemmas.Bool.{both_ways, false_from_ne_true, not-true, not-false, eqb-true}
 use Rattle.std.proofs.lemmas.Nat.{row_fits}
-use Rattle.flat_model.specs.Places.{place_of, is_number}
+use Rattle.flat_model.specs.Places.{is_number}
 use Rattle.flat_model.proofs.Places.{place_of-first, place_of-none}
-use Rattle.cache_directory.specs.declared.directory.Choice.{Choice}
-use Rattle.cache_directory.specs.declared.directory.Choice.TheVariants.{Free, Victim, AllPending}
-use Rattle.cache_directory.specs.Frames.{Frame, Frames, IsWhole, empty_frame, frame_at, is_held, frame_of, order_of, ways_of, set_of, times_in, choice_from, free_way, oldest, chosen, is_all_pending, are_pending}
+use Rattle.cache_directory.specs.declared.directory.Choice.TheVariants.{Free, Victim}
+use Rattle.cache_directory.specs.Frames.{Frame, Frames, IsWhole, empty_frame, frame_at, is_held, frame_of, order_of, ways_of, set_of, choice_from, free_way, oldest, chosen, is_all_pending, are_pending}
 use Rattle.cache_directory.proofs.Finds.{place_of-nowhere, place_of-passes, find-passes, find-all, find-nowhere, range_within, All-range, list_all-passes, range_not_all}
 use Rattle.cache_directory.proofs.Orders.{times-all}
-use Rattle.cache_directory.proofs.Whole.{held_there, in_row, of_row, in_order, held_in_order, order_held, slot_in}
+use Rattle.cache_directory.proofs.Whole.{held_there, in_row, of_row, held_in_order, order_held}
 
 -- a block that is this number
 is_number-true : (o : Option ℕ) (b : ℕ) → is_number o b ≡ true → o ≡ Some b

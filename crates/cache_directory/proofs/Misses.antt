@@ -1,14 +1,12 @@
 -- A miss: the frame that is chosen may be released, and then takes the block.
-use Rattle.std.proofs.Common.{◌≡◌, ℕ, ◌+◌, ◌*◌, ◌/◌, ◌%◌, ◌<◌, ◌≤◌, Bool, true, false, not, cond, ◌&&◌, ◌==◌, List, [], ◌∷◌, ◌++◌, length, get_or, set, Option, Some, None, is_some, refl, ap, ap₂, sym, ◌∙◌, arith, inl, inr, ◌⊎◌, length-set, get_or-set_same, get_or-set_other}
-use Rattle.std.specs.List.{filter}
+use Rattle.std.proofs.Common.{◌≡◌, ℕ, ◌+◌, ◌/◌, ◌%◌, ◌<◌, false, List, [], ◌∷◌, length, set, Some, None, is_some, refl, ap, ap₂, sym, ◌∙◌, arith, inl, inr, ◌⊎◌, length-set, get_or-set_same, get_or-set_other}
 use Rattle.std.proofs.lemmas.Bool.{cases_eq, both_ways, ne_eqb}
 use Rattle.std.proofs.lemmas.List.{set-get_or}
-use Rattle.cache_directory.specs.declared.directory.Choice.{Choice}
-use Rattle.cache_directory.specs.declared.directory.Choice.TheVariants.{Free, Victim, AllPending}
+use Rattle.cache_directory.specs.declared.directory.Choice.TheVariants.{Free, Victim}
 use Rattle.cache_directory.specs.Frames.{Frame, Frames, IsWhole, empty_frame, frame_at, is_held, frame_of, order_of, set_of, times_in, fresh_frame, without, installed, released, chosen}
 use Rattle.cache_directory.proofs.Orders.{times-here}
-use Rattle.cache_directory.proofs.Whole.{held_there, whole-installed}
-use Rattle.cache_directory.proofs.Choices.{found_there, found_nowhere, found_held, found_none, IsFreeWay, IsResidentWay, chosen-free, chosen-victim}
+use Rattle.cache_directory.proofs.Whole.{whole-installed}
+use Rattle.cache_directory.proofs.Choices.{found_nowhere, found_held, found_none, chosen-free, chosen-victim}
 
 -- what `install` asks
 pub record MayInstall (ways : ℕ) (d : Frames) (f block : ℕ) : Type 0 where

@@ -12,6 +12,7 @@ use arrayvec::ArrayVec;
 use flat_model::{Lanes, Word, merge};
 use std::marker::Model;
 
+/// A frame: empty, or with a block and the cells of its words.
 #[derive(Drop)]
 pub struct Way {
     block: Option<u32>,
@@ -30,6 +31,7 @@ impl Model for Way {
 }
 
 impl Way {
+    /// An empty frame.
     pub fn new() -> Self
         ensures { result ≡ empty_frame }
     {
@@ -40,12 +42,14 @@ impl Way {
         }
     }
 
+    /// The block that the frame holds.
     pub fn block(&self) -> Option<u32>
         ensures { result ≡ self.now.block }
     {
         self.block
     }
 
+    /// Whether the frame holds no block.
     pub fn is_free(&self) -> bool
         ensures { result ≡ is_none self.now.block }
     {
@@ -55,6 +59,7 @@ impl Way {
         }
     }
 
+    /// Whether the frame holds this block.
     pub fn holds(&self, block: u32) -> bool
         ensures { result ≡ is_number self.now.block block }
     {
@@ -64,12 +69,14 @@ impl Way {
         }
     }
 
+    /// Whether the frame waits for words of its block.
     pub fn pending(&self) -> bool
         ensures { result ≡ self.now.pending }
     {
         self.pending
     }
 
+    /// The cell of word `i`.
     pub fn cell(&self, i: u32) -> Cell
         requires { i < length self.now.cells }
         ensures { result ≡ cell_at self.now i }
@@ -77,6 +84,7 @@ impl Way {
         cell_in(self.cells.as_slice(), i)
     }
 
+    /// The frame holds the block, with zero words, none of them dirty, and waits for them.
     pub fn install(&mut self, words: u32, block: u32)
         requires { words ≤ 16 }
         ensures { self.new ≡ fresh_frame words block }
@@ -86,6 +94,7 @@ impl Way {
         self.cells = zero_cells(words);
     }
 
+    /// The frame is empty.
     pub fn release(&mut self)
         ensures { self.new ≡ empty_frame }
     {
@@ -94,6 +103,7 @@ impl Way {
         self.cells.clear();
     }
 
+    /// The bytes of `word` outside `keep` go into word `i`.
     pub fn fill(&mut self, i: u32, word: Word, keep: Lanes)
         requires { i < length self.old.cells }
         ensures { self.new ≡ filled self.old i word keep }
@@ -109,6 +119,7 @@ impl Way {
         );
     }
 
+    /// The bytes of `word` in the lanes go into word `i`, and the lanes become dirty.
     pub fn write(&mut self, i: u32, word: Word, lanes: Lanes)
         requires { i < length self.old.cells }
         ensures { self.new ≡ written self.old i word lanes }
@@ -124,6 +135,7 @@ impl Way {
         );
     }
 
+    /// The frame waits no longer.
     pub fn settle(&mut self)
         ensures { self.new ≡ settled self.old }
     {
@@ -171,6 +183,7 @@ impl Model for Order {
 }
 
 impl Order {
+    /// An order with no frame in it.
     pub fn new() -> Self
         ensures { result ≡ [] }
     {
@@ -179,6 +192,7 @@ impl Order {
         }
     }
 
+    /// The frame goes last.
     pub fn push(&mut self, frame: u32)
         requires { length self.old < 8 }
         ensures { self.new ≡ self.old ++ frame ∷ [] }
@@ -186,12 +200,14 @@ impl Order {
         self.frames.push(frame);
     }
 
+    /// The frame goes; the others stay in their order.
     pub fn remove(&mut self, frame: u32)
         ensures { self.new ≡ without self.old frame }
     {
         remove_frame(&mut self.frames, frame);
     }
 
+    /// The frames, the one allocated longest ago first.
     pub fn as_slice(&self) -> &[u32]
         ensures { result.now ≡ self.now }
     {

@@ -1,7 +1,7 @@
-use Rattle.std.proofs.Common.{◌≡◌, ℕ, ◌<◌, ◌+◌, true, false, length, get_or, sym, ◌∙◌, ap, Option, arith}
+use Rattle.std.proofs.Common.{◌+◌, get_or, sym, ◌∙◌, arith}
 use Rattle.std.proofs.lemmas.List.{get_or_default}
 use Rattle.flat_model.specs.Places.{is_number}
-use Rattle.cache_directory.specs.Frames.{Frame, empty_frame}
+use Rattle.cache_directory.specs.Frames.{empty_frame}
 use Rattle.cache_directory.proofs.Finds.{range_first, range_none}
 use Rattle.cache_directory.proofs.directory.holding_way.Goals as goal
 
