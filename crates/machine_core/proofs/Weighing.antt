@@ -1,7 +1,6 @@
 -- The driver lowers the weight.
 use Rattle.std.proofs.Common.{◌≡◌, ℕ, zero, suc, ◌+◌, ◌-◌, ◌*◌, ◌/◌, ◌%◌, ◌<◌, ◌≤◌, Bool, true, false, cond, not, ◌&&◌, nat_lt, nat_le, List, [], ◌∷◌, ◌++◌, length, get_or, set, Option, Some, None, option_map, find, remove, slice_get, refl, sym, ap, ap₂, ◌∙◌, subst, arith, length-append, zero-add, ⊎_elim, lt-ltb, mod-lt, flat_map}
 use Rattle.std.specs.List.{range_with_len, list_all}
-use Rattle.std.specs.Option.{option_or}
 use Rattle.std.proofs.lemmas.Bool.{cases_lt, cases_eq, and_parts, le-ltb, not-true}
 use Rattle.flat_model.specs.declared.Event.{Event}
 use Rattle.flat_model.specs.declared.Event.TheVariants.{Take, Process, Arrive, Serve, Drain}
@@ -18,7 +17,7 @@ use Rattle.cache_unit.specs.State.{Sizes, Field, Cache, clear_field, free_regist
 use Rattle.cache_unit.specs.Causes.{arrive_cause}
 use Rattle.cache_unit.specs.Steps.{answered, filled, finished, processed, process_entry, arrived, drain_first, take_step, process_step, drain_step}
 use Rattle.machine_core.specs.Machine.{Machine, Outcome, apply, serve_from, arrive_from, take_in, without_answer, joined_with}
-use Rattle.machine_core.specs.Pump.{total, command_weight, bank_weight, field_weight, register_weight, weight, lowest, has_items, when, pumped}
+use Rattle.machine_core.specs.Pump.{total, command_weight, bank_weight, field_weight, register_weight, weight, lowest, has_items, when, pumped, first_event}
 use Rattle.machine_core.specs.Law.{IsLawful, HasRoom, WalkIsDriven}
 use Rattle.machine_core.specs.Sound.{IsSound, is_entry_for, wanted, tally, bit, is_for}
 use Rattle.machine_core.proofs.Processing.{done, with_fields, waits, slot_there, field_there}
@@ -179,7 +178,7 @@ module _ (z : Sizes) (lawful : IsLawful z) (roomy : HasRoom z) (m : Machine) (h 
 
   abbrev picked : List Reply → List Entry → Option ℕ → Option ℕ → List Queued → Option Event
   picked ready stack a t queue =
-      option_or (when (has_items ready) (Take 0)) (option_or (when (has_items stack) (Process 0)) (option_or (option_map (λ b. Arrive b 0) a) (option_or (option_map (λ b. Serve b) t) (when (has_items queue) Drain))))
+      first_event (when (has_items ready) (Take 0) ∷ when (has_items stack) (Process 0) ∷ option_map (λ b. Arrive b 0) a ∷ option_map (λ b. Serve b) t ∷ when (has_items queue) Drain ∷ [])
 
   first_answer : (b : ℕ) → arrivals ≡ Some b → (b < length m.banks) × (has_items (bank_at m.banks b).answers ≡ true)
   first_answer b e = let p = find_first (λ k. has_items (bank_at m.banks k).answers) 0 z.banks b e in (let n = h.banks_are in let l = p.0 in omega arith, p.1)

@@ -18,15 +18,19 @@ use Rattle.cache_unit.specs.Steps.{released, evicted, installed, fetched, fetche
 use Rattle.machine_core.specs.Machine.{Machine, opening, walked, told, bank_word, settled}
 use Rattle.machine_core.specs.Pump.{weight, weights}
 
+-- the shape of most examples
 abbrev shape_S : Sizes
 shape_S = record { ways = 1; block_words = 4; regs = 2; depth = 2; words = 32; sets = 2; banks = 2; bank_queue = 4; write_queue = 4; replies = 4 }
 
+-- the smallest machine, over eight words
 abbrev smallest : Sizes
 smallest = record { ways = 1; block_words = 1; regs = 1; depth = 1; words = 8; sets = 1; banks = 1; bank_queue = 1; write_queue = 1; replies = 2 }
 
+-- a word by its bytes
 abbrev word : ℕ → ℕ → ℕ → ℕ → Word
 word a b c d = record { b0 = a; b1 = b; b2 = c; b3 = d }
 
+-- lanes by their bits, lane 0 the lowest
 abbrev lanes : ℕ → Lanes
 lanes n = record { 0 = n }
 
@@ -34,6 +38,7 @@ lanes n = record { 0 = n }
 abbrev image : Sizes → List Word
 image z = map (λ a. word a 0 0 0) (range_with_len 0 z.words)
 
+-- the machine before its first event
 abbrev start : Sizes → Machine
 start z = opening z (image z)
 
@@ -45,6 +50,7 @@ after z steps = walked z (start z) (map (λ s. s.0) steps)
 abbrev Gives : Sizes → List (Event × Answer) → Type 0
 Gives z steps = told z (start z) (map (λ s. s.0) steps) ≡ map (λ s. s.1) steps
 
+-- all words, as they stand in their banks
 abbrev bank_words : Sizes → Machine → List Word
 bank_words z m = map (bank_word z m) (range_with_len 0 z.words)
 

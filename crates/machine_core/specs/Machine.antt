@@ -1,5 +1,5 @@
 -- The machine: the cache unit and its banks.
-use Rattle.std.specs.Prelude.{ℕ, ◌*◌, ◌/◌, ◌%◌, Bool, ◌&&◌, List, [], ◌∷◌, map, Option, Some, None, slice_get, slice_set}
+use Rattle.std.specs.Prelude.{ℕ, ◌/◌, ◌%◌, Bool, ◌&&◌, List, [], ◌∷◌, map, Option, Some, None, slice_get, slice_set}
 use Rattle.std.specs.Option.{option_map}
 use Rattle.std.specs.List.{list_all, range_with_len, remove}
 use Rattle.flat_model.specs.declared.Word.{Word}
@@ -19,6 +19,7 @@ use Rattle.cache_unit.specs.Causes.{arrive_cause}
 use Rattle.cache_unit.specs.Steps.{Stepped, load_step, store_step, prefetch_step, evict_step, drain_step, arrived, process_step, take_step}
 use Rattle.cache_unit.specs.Forms.{form, owed, filled_by}
 
+-- a cache unit, and the banks of its memory
 pub record Machine : Type 0 where
   pub cache : Cache
   pub banks : List Bank
@@ -28,20 +29,24 @@ pub record MachineState : Type 0 where
   pub sizes : Sizes
   pub machine : Machine
 
+-- what an event is answered, and the machine after it
 pub record Outcome : Type 0 where
   pub answer : Answer
   pub machine : Machine
 
 -- ---- one event
 
+-- a step of the unit, whose commands go to the banks
 abbrev pub joined_with : List Bank → Stepped → Outcome
 joined_with banks s = record { answer = s.answer; machine = record { cache = s.cache; banks = all_sent banks s.sent } }
 
+-- bank b serves the first command of its queue
 abbrev pub serve_from : Machine → ℕ → List Command → Outcome
 serve_from m b [] = record { answer = Nothing; machine = m }
 serve_from m b (first ∷ rest) =
     record { answer = Moved; machine = record m { banks = slice_set m.banks b (served (bank_at m.banks b) first rest) } }
 
+-- a bank without the answer at a place
 abbrev pub without_answer : Bank → ℕ → Bank
 without_answer b place = record b { answers = remove b.answers place }
 
@@ -58,10 +63,12 @@ take_in z m b place a None =
           };
     }
 
+-- bank b's answer at a place, where there is one, goes to the unit
 abbrev pub arrive_from : Sizes → Machine → ℕ → ℕ → Option BankAnswer → Outcome
 arrive_from z m b place None = record { answer = Nothing; machine = m }
 arrive_from z m b place (Some a) = take_in z m b place a (arrive_cause z m.cache a.slot a.i)
 
+-- one event
 abbrev pub apply : Sizes → Machine → Event → Outcome
 apply z m (Load tag at) = joined_with m.banks (load_step z (room_in z.bank_queue m.banks) m.cache tag at)
 apply z m (Store at word lanes) = joined_with m.banks (store_step z (room_in z.bank_queue m.banks) m.cache at word lanes)
@@ -75,13 +82,16 @@ apply z m (Take place) = joined_with m.banks (take_step m.cache place)
 
 -- ---- walks
 
+-- the machine before its first event
 abbrev pub opening : Sizes → List Word → Machine
 opening z image = record { cache = opening_cache z; banks = opening_banks image z.banks }
 
+-- the machine after these events
 abbrev pub walked : Sizes → Machine → List Event → Machine
 walked z m [] = m
 walked z m (event ∷ events) = walked z (apply z m event).machine events
 
+-- the answers to these events
 abbrev pub told : Sizes → Machine → List Event → List Answer
 told z m [] = []
 told z m (event ∷ events) = (apply z m event).answer ∷ told z (apply z m event).machine events
@@ -97,12 +107,15 @@ abbrev pub flat_word_in : Sizes → Machine → ℕ → Option ℕ → Word
 flat_word_in z m at None = backing z m at
 flat_word_in z m at (Some f) = filled_by (all_pending m.banks) (form m.cache (block_of z at) (place_in z at))
 
+-- the word of flat memory at an address
 abbrev pub flat_word : Sizes → Machine → ℕ → Word
 flat_word z m at = flat_word_in z m at (frame_of m.cache (block_of z at))
 
+-- the word that a tag is owed, if it is owed one
 abbrev pub flat_due : Machine → ℕ → Option Word
 flat_due m tag = option_map (filled_by (all_pending m.banks)) (owed m.cache tag)
 
+-- the flat memory that a machine stands for
 abbrev pub flat_of : Sizes → Machine → Flat
 flat_of z m = record { mem = map (flat_word z m) (range_with_len 0 z.words); due = flat_due m }
 
@@ -112,5 +125,6 @@ bank_word z m at = word_at (bank_at m.banks (at % z.banks)).words (at / z.banks)
 
 -- ---- settled, and the weight
 
+-- memory has everything, and no register waits
 abbrev pub settled : Machine → Bool
 settled m = is_clean m.cache && list_all (λ b. is_empty b.queue) m.banks

@@ -43,10 +43,12 @@ wanted z r i = bit (r.valid && (nat_lt i z.block_words && not (slice_index_or r.
 abbrev pub own_bank : Sizes → Machine → ℕ → ℕ → ℕ
 own_bank z m slot i = address z (register_at m.cache slot).block i % z.banks
 
+-- the word of an answer that is found: zero, where there is none
 abbrev pub word_in : Option BankAnswer → Word
 word_in None = zero_word
 word_in (Some a) = a.word
 
+-- the stack's word, or else that of the answer on its way
 abbrev pub coming_from : Option Word → List BankAnswer → ℕ → ℕ → Word
 coming_from (Some w) answers slot i = w
 coming_from None answers slot i = word_in (find (is_for slot i) answers)
@@ -63,6 +65,7 @@ shown_word m None i buffer = buffer
 shown_word m (Some slot) i buffer =
     if (field_at m.cache slot i).processed then buffer else merged (coming m slot i) buffer (field_at m.cache slot i).code
 
+-- memory's word, or that of the frame that holds its block
 abbrev pub word_now_in : Sizes → Machine → ℕ → Option ℕ → Word
 word_now_in z m at None = backing z m at
 word_now_in z m at (Some f) = shown_word m (live_for m.cache (block_of z at)) (place_in z at) (cell_in m.cache (Some f) (place_in z at)).word
@@ -81,14 +84,17 @@ reply_to m t = record { tag = t.load.tag; word = merged (coming m t.slot t.i) t.
 unfoldable pub dues : Machine → List Reply
 dues m = m.cache.ready ++ map (reply_to m) (targets m.cache.registers)
 
+-- whether a reply is for this tag
 abbrev pub has_tag : ℕ → Reply → Bool
 has_tag tag r = r.tag == tag
 
 -- ---- orders
 
+-- whether a frame stands in an order
 abbrev pub is_in : List ℕ → ℕ → Bool
 is_in order f = list_any (λ g. g == f) order
 
+-- the block that a frame holds
 abbrev pub block_at : List Frame → ℕ → Option ℕ
 block_at frames f = (slice_index_or frames f empty_frame).block
 
@@ -105,6 +111,7 @@ abbrev pub AllIn : Sizes → List Queued → Type 0
 AllIn z [] = Unit {0}
 AllIn z (q ∷ rest) = (q.at < z.words) × AllIn z rest
 
+-- what keeps the flat memory that a machine stands for
 pub record IsSound (z : Sizes) (m : Machine) : Type 0 where
   -- a block is in one frame, and has one live register, and then it is present
   pub frames_apart : (f g b : ℕ) → (frame_at m.cache f).block ≡ Some b → (frame_at m.cache g).block ≡ Some b → f ≡ g
