@@ -8,7 +8,7 @@ use Rattle.flat_model.specs.declared.Lanes.{Lanes}
 use Rattle.flat_model.specs.declared.Cause.{Cause}
 use Rattle.flat_model.specs.declared.Cause.TheVariants.{BankFull}
 use Rattle.flat_model.specs.declared.Answer.{Answer}
-use Rattle.flat_model.specs.declared.Answer.TheVariants.{Moved, Refused}
+use Rattle.flat_model.specs.declared.Answer.TheVariants.{Moved, Nothing, Refused}
 use Rattle.flat_model.specs.Words.{Lane, byte, has}
 use Rattle.input_stack.specs.declared.Entry.{Entry}
 use Rattle.input_stack.specs.Stack.{stack_word}
@@ -47,7 +47,20 @@ pub drain_forms : (z : Sizes) (room : ℕ → ℕ) (c : Cache) (a : Answer) (d :
 unfolding DrainForms drain_step
 drain_forms z room c a d e = ap (forms z) e ∙ drained z room c c.queue
 
+-- another write queue changes none
+pub drain_queue : (z : Sizes) (c : Cache) (queue : List Queued) (a : Answer) → DrainForms z c a (record c { queue = queue })
+unfolding DrainForms form_at frame_of live_for
+drain_queue z c queue a = refl
+
+pub drain_kept : (z : Sizes) (c : Cache) (a : Answer) → DrainForms z c a c
+unfolding DrainForms
+drain_kept z c a = refl
+
 -- ---- arrive
+
+pub arrive_refused : (z : Sizes) (c : Cache) (slot i : ℕ) (w : Word) (cause : Cause) → ArriveForms z c slot i w (Refused cause) c
+unfolding ArriveForms
+arrive_refused z c slot i w cause = refl
 
 abbrev is_entry : ℕ → ℕ → Entry → Bool
 is_entry s j x = (x.slot == s) && (x.i == j)
@@ -111,6 +124,10 @@ arrive_forms z c slot i w a d ea ed =
     subst (λ x. ArriveForms z c slot i w x d) (sym ea) (subst (λ x. ArriveForms z c slot i w (arrive_step z c slot i w).answer x) (sym ed) (arrive_ok z c slot i w (arrive_cause z c slot i)))
 
 -- ---- take
+
+pub take_nothing : (z : Sizes) (c : Cache) → TakenForms z c Nothing c
+unfolding TakenForms
+take_nothing z c = refl
 
 tag_same : (r : Due) (t : ℕ) → (t == r.tag) ≡ true → has_tag t r ≡ true
 tag_same r t e = eq-eqb r.tag t (sym (eqb-true t r.tag e))

@@ -1,9 +1,10 @@
 -- A block is given up.
 use Rattle.std.proofs.Common.{◌≡◌, ℕ, suc, ◌+◌, ◌<◌, Bool, true, false, cond, not, ◌&&◌, ◌==◌, nat_lt, is_some, List, [], ◌∷◌, ◌++◌, map, length, get_or, set, Option, Some, None, refl, sym, ap, ◌∙◌, subst, ⊎_elim, get_or-set_other, eq-eqb, ne_eqb}
 use Rattle.std.proofs.lemmas.Bool.{cases_eq}
+use Rattle.flat_model.specs.declared.Cause.{Cause}
 use Rattle.flat_model.specs.declared.Cause.TheVariants.{OutOfRange, NotPresent, QueueFull}
 use Rattle.flat_model.specs.declared.Answer.{Answer}
-use Rattle.flat_model.specs.declared.Answer.TheVariants.{Accepted}
+use Rattle.flat_model.specs.declared.Answer.TheVariants.{Accepted, Refused}
 use Rattle.cache_unit.specs.State.{Sizes, Frame, Field, Register, Cache, zero_cell, empty_frame, clear_field, free_register, frame_at, frame_of, register_at, is_live, live_for, cell_in, cell_of, gathered, targets_of, targets_of_field, targets, block_of, place_in, address}
 use Rattle.cache_unit.specs.Causes.{evict_cause, lacks_places}
 use Rattle.cache_unit.specs.Steps.{Stepped, unless, without_code, made_obsolete, obsoleted, released, evicted, evicted_from, evict_step}
@@ -114,3 +115,7 @@ evict_ok z c h block = go (nat_lt (address z block 0) z.words) (frame_of c block
 pub evict_forms : (z : Sizes) (c : Cache) → IsSoundCache z c → (block : ℕ) (a : Answer) (d : Cache) → a ≡ (evict_step z c block).answer → d ≡ (evict_step z c block).cache → EvictForms z c block a d
 evict_forms z c h block a d ea ed =
     subst (λ x. EvictForms z c block x d) (sym ea) (subst (λ x. EvictForms z c block (evict_step z c block).answer x) (sym ed) (evict_ok z c h block))
+
+pub evict_refused : (z : Sizes) (c : Cache) (block : ℕ) (cause : Cause) → EvictForms z c block (Refused cause) c
+unfolding EvictForms
+evict_refused z c block cause = refl

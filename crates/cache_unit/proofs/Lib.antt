@@ -27,3 +27,4 @@ pub mod Same
 pub mod GiveUp
 pub mod Install
 pub mod Stepping
+pub mod FormsSound
