@@ -1,10 +1,11 @@
 -- A block loses its frame.
-use Rattle.std.proofs.Common.{◌≡◌, ℕ, suc, zero, ◌+◌, ◌*◌, ◌/◌, ◌<◌, ◌≤◌, ◌==◌, Bool, true, false, ◌&&◌, not, if◌then◌else◌, List, [], ◌∷◌, ◌++◌, map, length, set, get_or, Option, Some, None, is_some, refl, ap, sym, ◌∙◌, arith, length-set, length-append, ◌⊎◌, inl, inr, subst, add-zero}
+use Rattle.std.proofs.Common.{◌≡◌, ℕ, suc, zero, ◌+◌, ◌-◌, ◌*◌, ◌/◌, ◌<◌, ◌≤◌, nat_lt, ◌==◌, Bool, true, false, ◌&&◌, not, if◌then◌else◌, List, [], ◌∷◌, ◌++◌, map, length, set, get_or, Option, Some, None, is_some, refl, ap, sym, ◌∙◌, arith, length-set, length-append, ◌⊎◌, inl, inr, subst, add-zero}
 use Rattle.std.specs.List.{sum_by, count_by, All}
 use Rattle.std.proofs.lemmas.List.{map-set, get_or-set_same, get_or-set_other, length-map}
 use Rattle.std.proofs.lemmas.List.Elements.{All-append}
 use Rattle.std.proofs.lemmas.List.Sums.{sum_by-cons}
 use Rattle.std.proofs.lemmas.Bool.{false≢true, cases_eq, cases_lt}
+use Rattle.std.proofs.lemmas.Bool.Decides.{nat_tests}
 use Rattle.std.proofs.lemmas.Option.{none-some, same_Some}
 use Rattle.flat_model.specs.declared.Word.{Word}
 use Rattle.flat_model.specs.declared.Lanes.{Lanes}
@@ -17,8 +18,9 @@ use Rattle.write_queue.specs.declared.Queued.{Queued}
 use Rattle.write_queue.specs.Queue.{Queue, queue}
 use Rattle.cache_unit.specs.declared.Reply.{Reply}
 use Rattle.cache_unit.specs.State.{Sizes, Frame, Field, Register, Cache, empty_frame, free_register, frame_at, register_at, live_for, address}
-use Rattle.cache_unit.specs.Causes.{dirty_from, dirty_words, dirty_of_block, order_of}
+use Rattle.cache_unit.specs.Causes.{dirty_from, dirty_words, dirty_of_block, order_of, lacks_places}
 use Rattle.cache_unit.specs.Steps.{without_code, made_obsolete, obsoleted, without, released, evicted}
+use Rattle.cache_unit.specs.Parts.{retired}
 use Rattle.cache_unit.specs.Shown.{as_frame, as_field, as_register, as_cache}
 use Rattle.cache_unit.specs.Sound.{entry_at, HasInStack, HasFrame, FilledBy, StackSound, Tied, QueueSound, OwesSound, loads_of, loads_of_field, IsSound}
 use Rattle.cache_unit.proofs.Lists.{get_or-map}
@@ -29,11 +31,6 @@ use Rattle.cache_unit.proofs.Dirty.{dirty_in_memory}
 use Rattle.cache_unit.proofs.Same.{SameMarks, SameMarks-self, SameMarks-set, StackSound-same, frame_of-is, live_for-shown, live_for-some, none_live}
 
 -- ---- the register of the block
-
--- the registers once the block's live register is obsolete
-abbrev pub registers_after : List regs.Register → Option ℕ → List regs.Register
-registers_after rs None = rs
-registers_after rs (Some s) = set rs s (regs.made_obsolete (regs.register_at rs s))
 
 obsolete-field : (r : regs.Register) (i : ℕ) → regs.field_of (regs.made_obsolete r) i ≡ regs.without_code (regs.field_of r i)
 unfolding regs.made_obsolete
@@ -88,7 +85,7 @@ not_live r = obsolete-dead r.valid r.obsolete
 
 module _ (z : Sizes) (d : dir.Frames) (rs : List regs.Register) (st : List Entry) (q : Queue) (ready : List Reply) (h : IsSound z d rs st q ready) (block f : ℕ) (holds : dir.frame_of d.frames block ≡ Some f) where
   abbrev rs' : List regs.Register
-  rs' = registers_after rs (regs.live_for rs block)
+  rs' = retired rs (regs.live_for rs block)
 
   abbrev fs' : List dir.Frame
   fs' = set d.frames f dir.empty_frame
@@ -100,10 +97,10 @@ module _ (z : Sizes) (d : dir.Frames) (rs : List regs.Register) (st : List Entry
   f_there = (frame_of-some d.frames block f holds).0
 
   -- what lives now lived before, for another block
-  lived : (s : ℕ) → regs.is_live (regs.register_at (registers_after rs (regs.live_for rs block)) s) ≡ true → Since (regs.register_at rs s) (regs.register_at (registers_after rs (regs.live_for rs block)) s) × ((regs.register_at rs s).block ≡ block → ⊥)
+  lived : (s : ℕ) → regs.is_live (regs.register_at (retired rs (regs.live_for rs block)) s) ≡ true → Since (regs.register_at rs s) (regs.register_at (retired rs (regs.live_for rs block)) s) × ((regs.register_at rs s).block ≡ block → ⊥)
   lived s = go (regs.live_for rs block) refl
     where
-      go : (o : Option ℕ) → regs.live_for rs block ≡ o → regs.is_live (regs.register_at (registers_after rs o) s) ≡ true → Since (regs.register_at rs s) (regs.register_at (registers_after rs o) s) × ((regs.register_at rs s).block ≡ block → ⊥)
+      go : (o : Option ℕ) → regs.live_for rs block ≡ o → regs.is_live (regs.register_at (retired rs o) s) ≡ true → Since (regs.register_at rs s) (regs.register_at (retired rs o) s) × ((regs.register_at rs s).block ≡ block → ⊥)
       go None e l = (record { live = l; block = refl; frame = refl; count = refl }, none_live rs block e s l)
       go (Some t) e l =
           let p = live_for-some rs block t e in
@@ -118,10 +115,10 @@ module _ (z : Sizes) (d : dir.Frames) (rs : List regs.Register) (st : List Entry
           ]
 
   -- what lived for another block lives on
-  lives_on : (s : ℕ) → regs.is_live (regs.register_at rs s) ≡ true → ((regs.register_at rs s).block ≡ block → ⊥) → regs.register_at (registers_after rs (regs.live_for rs block)) s ≡ regs.register_at rs s
+  lives_on : (s : ℕ) → regs.is_live (regs.register_at rs s) ≡ true → ((regs.register_at rs s).block ≡ block → ⊥) → regs.register_at (retired rs (regs.live_for rs block)) s ≡ regs.register_at rs s
   lives_on s l n = go (regs.live_for rs block) refl
     where
-      go : (o : Option ℕ) → regs.live_for rs block ≡ o → regs.register_at (registers_after rs o) s ≡ regs.register_at rs s
+      go : (o : Option ℕ) → regs.live_for rs block ≡ o → regs.register_at (retired rs o) s ≡ regs.register_at rs s
       go None e = refl
       go (Some t) e =
           let p = live_for-some rs block t e in
@@ -145,7 +142,7 @@ module _ (z : Sizes) (d : dir.Frames) (rs : List regs.Register) (st : List Entry
         | inr x ↦ sym (ap (λ (y : dir.Frame). y.block) (unmoved g x)) ∙ e
       ]
 
-  tied_after : Tied (set d.frames f dir.empty_frame) (registers_after rs (regs.live_for rs block))
+  tied_after : Tied (set d.frames f dir.empty_frame) (retired rs (regs.live_for rs block))
   tied_after = record {
     frames = λ s l. (
         let w = lived s l in
@@ -167,17 +164,17 @@ module _ (z : Sizes) (d : dir.Frames) (rs : List regs.Register) (st : List Entry
         record { slot = w.slot; live = ap regs.is_live on ∙ w.live; frame = ap (λ (r : regs.Register). r.frame) on ∙ w.frame });
   }
 
-  marks_after : (s : ℕ) → SameMarks (regs.register_at rs s) (regs.register_at (registers_after rs (regs.live_for rs block)) s)
+  marks_after : (s : ℕ) → SameMarks (regs.register_at rs s) (regs.register_at (retired rs (regs.live_for rs block)) s)
   marks_after s = go (regs.live_for rs block) refl
     where
-      go : (o : Option ℕ) → regs.live_for rs block ≡ o → SameMarks (regs.register_at rs s) (regs.register_at (registers_after rs o) s)
+      go : (o : Option ℕ) → regs.live_for rs block ≡ o → SameMarks (regs.register_at rs s) (regs.register_at (retired rs o) s)
       go None e = SameMarks-self (regs.register_at rs s)
       go (Some t) e = SameMarks-set rs t _ (live_for-some rs block t e).0 (SameMarks-obsolete (regs.register_at rs t)) s
 
-  owes_after : OwesSound z ready (registers_after rs (regs.live_for rs block))
+  owes_after : OwesSound z ready (retired rs (regs.live_for rs block))
   owes_after = go (regs.live_for rs block) refl
     where
-      go : (o : Option ℕ) → regs.live_for rs block ≡ o → OwesSound z ready (registers_after rs o)
+      go : (o : Option ℕ) → regs.live_for rs block ≡ o → OwesSound z ready (retired rs o)
       go None e = h.owes
       go (Some t) e = owes-same z ready rs t _ (live_for-some rs block t e).0 (λ p. loads-obsolete p (regs.register_at rs t)) h.owes
 
@@ -189,14 +186,14 @@ module _ (z : Sizes) (d : dir.Frames) (rs : List regs.Register) (st : List Entry
   unfolding dir.released
   blocks_after g b e = still_there g b e
 
-  tied_released : Tied (dir.released z.ways d f).frames (registers_after rs (regs.live_for rs block))
+  tied_released : Tied (dir.released z.ways d f).frames (retired rs (regs.live_for rs block))
   unfolding dir.released
   tied_released = tied_after
 
   abbrev dirty : List Queued
   dirty = dirty_from block (block * z.block_words) (dir.frame_at d.frames f).cells
 
-  pub IsSound-given_up : length q.entries + length (dirty_from block (block * z.block_words) (dir.frame_at d.frames f).cells) ≤ q.limit → dir.IsWhole z.ways z.block_words (dir.released z.ways d f) → IsWhole z.block_words z.regs (registers_after rs (regs.live_for rs block)) → IsSound z (dir.released z.ways d f) (registers_after rs (regs.live_for rs block)) st (queue (q.entries ++ dirty_from block (block * z.block_words) (dir.frame_at d.frames f).cells) q.limit) ready
+  pub IsSound-given_up : length q.entries + length (dirty_from block (block * z.block_words) (dir.frame_at d.frames f).cells) ≤ q.limit → dir.IsWhole z.ways z.block_words (dir.released z.ways d f) → IsWhole z.block_words z.regs (retired rs (regs.live_for rs block)) → IsSound z (dir.released z.ways d f) (retired rs (regs.live_for rs block)) st (queue (q.entries ++ dirty_from block (block * z.block_words) (dir.frame_at d.frames f).cells) q.limit) ready
   IsSound-given_up room wd wr = record {
     ranges = h.ranges;
     directory = wd;
@@ -221,26 +218,59 @@ module _ (z : Sizes) (d : dir.Frames) (rs : List regs.Register) (st : List Entry
 
   -- ---- what the unit shows then
 
-  registers-shown : (es : List Queued) → map as_register (registers_after rs (regs.live_for rs block)) ≡ obsoleted (as_cache d rs st es ready) (live_for (as_cache d rs st es ready) block)
+  registers-shown : (es : List Queued) → map as_register (retired rs (regs.live_for rs block)) ≡ obsoleted (as_cache d rs st es ready) (live_for (as_cache d rs st es ready) block)
   registers-shown es = go (regs.live_for rs block) ∙ ap (obsoleted (as_cache d rs st es ready)) (sym (live_for-shown d rs st es ready block))
     where
-      go : (o : Option ℕ) → map as_register (registers_after rs o) ≡ obsoleted (as_cache d rs st es ready) o
+      go : (o : Option ℕ) → map as_register (retired rs o) ≡ obsoleted (as_cache d rs st es ready) o
       go None = refl
       go (Some t) =
           let g = register_at-shown d rs st es ready t in
           map-set as_register rs t _ ∙ ap (set (map as_register rs) t) (register-obsolete (regs.register_at rs t) ∙ ap made_obsolete (sym g))
 
-  words-shown : dirty_words z (as_cache d rs st q.entries ready) (Some f) ≡ dirty_from block (block * z.block_words) (dir.frame_at d.frames f).cells
+  pub words-shown : dirty_words z (as_cache d rs st q.entries ready) (Some f) ≡ dirty_from block (block * z.block_words) (dir.frame_at d.frames f).cells
   words-shown =
       let g = frame_at-shown d.frames f in
       let e : (frame_at (as_cache d rs st q.entries ready) f).block ≡ Some block = ap (λ (x : Frame). x.block) g ∙ f_holds in
       let a : block * z.block_words + 0 ≡ block * z.block_words = add-zero (block * z.block_words) in
       ap (λ o. dirty_of_block z o (frame_at (as_cache d rs st q.entries ready) f).cells) e ∙ ap (λ n. dirty_from block n (frame_at (as_cache d rs st q.entries ready) f).cells) a ∙ ap (λ (x : Frame). dirty_from block (block * z.block_words) x.cells) g
 
-  pub given_up-shown : as_cache (dir.released z.ways d f) (registers_after rs (regs.live_for rs block)) st (q.entries ++ dirty_from block (block * z.block_words) (dir.frame_at d.frames f).cells) ready ≡ evicted z (as_cache d rs st q.entries ready) block f
+  pub given_up-shown : as_cache (dir.released z.ways d f) (retired rs (regs.live_for rs block)) st (q.entries ++ dirty_from block (block * z.block_words) (dir.frame_at d.frames f).cells) ready ≡ evicted z (as_cache d rs st q.entries ready) block f
   unfolding dir.released evicted released
   given_up-shown =
       let c = as_cache d rs st q.entries ready in
       let orders = set d.orders (f / z.ways) (without (get_or d.orders (f / z.ways) []) f) in
       let made : List Frame → List Register → List Queued → Cache = λ fs xs es. record { frames = fs; orders = orders; registers = xs; stack = st; queue = es; ready = ready } in
-      ap (λ fs. made fs (map as_register (registers_after rs (regs.live_for rs block))) (q.entries ++ dirty_from block (block * z.block_words) (dir.frame_at d.frames f).cells)) (map-set as_frame d.frames f dir.empty_frame) ∙ ap (λ xs. made (set (map as_frame d.frames) f empty_frame) xs (q.entries ++ dirty_from block (block * z.block_words) (dir.frame_at d.frames f).cells)) (registers-shown q.entries) ∙ ap (λ es. made (set (map as_frame d.frames) f empty_frame) (obsoleted c (live_for c block)) (q.entries ++ es)) (sym words-shown)
+      ap (λ fs. made fs (map as_register (retired rs (regs.live_for rs block))) (q.entries ++ dirty_from block (block * z.block_words) (dir.frame_at d.frames f).cells)) (map-set as_frame d.frames f dir.empty_frame) ∙ ap (λ xs. made (set (map as_frame d.frames) f empty_frame) xs (q.entries ++ dirty_from block (block * z.block_words) (dir.frame_at d.frames f).cells)) (registers-shown q.entries) ∙ ap (λ es. made (set (map as_frame d.frames) f empty_frame) (obsoleted c (live_for c block)) (q.entries ++ es)) (sym words-shown)
+
+  -- ---- what the calls need
+
+  few_enough : (a b : ℕ) → nat_lt a b ≡ false → b ≤ a
+  few_enough a b e = grind (arith, nat_tests)
+
+  pub can_give_up : lacks_places z (as_cache d rs st q.entries ready) (Some f) ≡ false → (dir.is_held d f ≡ true) × (block * z.block_words + z.block_words < 4294967296) × (length q.entries + length (dirty_from block (block * z.block_words) (dir.frame_at d.frames f).cells) ≤ q.limit)
+  can_give_up e =
+      let m = h.in_memory f block f_holds in
+      let l = few_enough (z.write_queue - length q.entries) (length (dirty_words z (as_cache d rs st q.entries ready) (Some f))) e in
+      let w = ap (λ (x : List Queued). length x) words-shown in
+      let a = h.queue_sound.limit in
+      let b = h.queue_sound.within in
+      let s = h.ranges.little_memory in
+      (ap is_some f_holds, omega arith, omega arith)
+
+  more : (a b : ℕ) → a < b → nat_lt a b ≡ true
+  more a b l = grind (arith, nat_tests)
+
+  not_more : (a b : ℕ) → b ≤ a → nat_lt a b ≡ false
+  not_more a b l = grind (arith, nat_tests)
+
+  pub lacks-true : (n room : ℕ) → n ≡ length (dirty_from block (block * z.block_words) (dir.frame_at d.frames f).cells) → room ≡ q.limit - length q.entries → room < n → lacks_places z (as_cache d rs st q.entries ready) (Some f) ≡ true
+  lacks-true n room e r l =
+      let w = ap (λ (x : List Queued). length x) words-shown in
+      let a = h.queue_sound.limit in
+      more (z.write_queue - length q.entries) (length (dirty_words z (as_cache d rs st q.entries ready) (Some f))) (omega arith)
+
+  pub lacks-false : (n room : ℕ) → n ≡ length (dirty_from block (block * z.block_words) (dir.frame_at d.frames f).cells) → room ≡ q.limit - length q.entries → n ≤ room → lacks_places z (as_cache d rs st q.entries ready) (Some f) ≡ false
+  lacks-false n room e r l =
+      let w = ap (λ (x : List Queued). length x) words-shown in
+      let a = h.queue_sound.limit in
+      not_more (z.write_queue - length q.entries) (length (dirty_words z (as_cache d rs st q.entries ready) (Some f))) (omega arith)

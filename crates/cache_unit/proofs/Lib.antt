@@ -27,4 +27,7 @@ pub mod Same
 pub mod GiveUp
 pub mod Install
 pub mod Stepping
+pub mod FetchShown
+pub mod FetchSound
+pub mod Evicting
 pub mod FormsSound

@@ -1,12 +1,19 @@
 //! The cache unit.
-ghost use Rattle.std.specs.Prelude.{◌≡◌, ◌+◌, ◌≤◌, ◌++◌, length, slice_get};
+ghost use Rattle.std.specs.Prelude.{◌≡◌, ◌+◌, ◌≤◌, ◌++◌, length, false, Some};
 ghost use Rattle.memory_banks.specs.Banks.{HasSent};
 ghost use Rattle.cache_directory.specs.Frames as dir;
 ghost use Rattle.cache_unit.specs.Steps as steps;
 ghost use Rattle.cache_unit.specs.Views as views;
-ghost use Rattle.cache_unit.specs.Parts.{filled_live, CanFill};
+ghost use Rattle.cache_unit.specs.State.{frame_of};
+ghost use Rattle.cache_unit.specs.Causes.{lacks_places};
+ghost use Rattle.cache_unit.specs.Parts.{filled_live, retired, CanFill};
+ghost use Rattle.miss_registers.specs.Registers as regs;
+ghost use Rattle.miss_registers.specs.Whole.{IsWhole};
+
+mod views;
 
 use crate::Reply;
+use crate::victim::{dirty_words, queue_dirty_words};
 use arrayvec::ArrayVec;
 use cache_directory::Directory;
 use flat_model::{Answer, Cause, Lanes, Shape, Word, merge};
@@ -46,48 +53,6 @@ impl<const WAYS: usize, const WORDS: usize, const REGS: usize, const DEPTH: usiz
     REGS,
     DEPTH,
 > {
-    /// How many words stand in the input stack.
-    pub fn stack_len(&self) -> u32
-        ensures { result ≡ length self.now.cache.stack }
-    {
-        self.stack.len()
-    }
-
-    /// The entry of the input stack at `place`, where there is one.
-    pub fn stack_entry(&self, place: u32) -> Option<Entry>
-        ensures { result ≡ slice_get self.now.cache.stack place }
-    {
-        self.stack.get(place)
-    }
-
-    /// How many words stand in the write queue.
-    pub fn queue_len(&self) -> u32
-        ensures { result ≡ length self.now.cache.queue }
-    {
-        self.queue.len()
-    }
-
-    /// The entry of the write queue at `place`, where there is one.
-    pub fn queue_entry(&self, place: u32) -> Option<Queued>
-        ensures { result ≡ slice_get self.now.cache.queue place }
-    {
-        self.queue.get(place)
-    }
-
-    /// How many values stand ready.
-    pub fn replies_len(&self) -> u32
-        ensures { result ≡ length self.now.cache.ready }
-    {
-        self.ready.len() as u32
-    }
-
-    /// The value that a take at `place` would answer, where there is one.
-    pub fn reply(&self, place: u32) -> Option<Answer>
-        ensures { result ≡ views.reply_view self.now.cache place }
-    {
-        self.ready.get(place as usize).map(value_of)
-    }
-
     /// Sends the front of the write queue to its bank. `Nothing` says that the queue is empty, and
     /// a refusal (10) that the bank has no room; both leave everything unchanged.
     #[tactic(auto, unfolding(crate::specs::Steps::drain_step))]
@@ -117,7 +82,43 @@ impl<const WAYS: usize, const WORDS: usize, const REGS: usize, const DEPTH: usiz
         Answer::Moved
     }
 
-    /// Takes a reply.
+    /// Gives a block up: its words with dirty lanes are queued, its frame is released, and its live
+    /// register becomes obsolete. Refused where there is no such block (1), no frame holds it (11),
+    /// or the write queue has too few free places (9); each leaves everything unchanged.
+    pub fn evict(&mut self, block: u32) -> Answer
+        ensures answer { result ≡ (steps.evict_step self.old.sizes self.old.cache block).answer }
+        ensures unit { self.new
+            ≡ record self.old { cache = (steps.evict_step self.old.sizes self.old.cache block).cache } }
+    {
+        let words = u64::from(self.shape.words);
+        let first = u64::from(block) * WORDS as u64;
+        if first >= words {
+            return Answer::Refused(Cause::OutOfRange);
+        }
+        let Some(frame) = self.directory.look(block) else {
+            return Answer::Refused(Cause::NotPresent);
+        };
+        let dirty = dirty_words(&self.directory, frame);
+        if self.queue.room() < dirty {
+            return Answer::Refused(Cause::QueueFull);
+        }
+        self.give_up(block, frame);
+        Answer::Accepted
+    }
+
+    // The block loses its frame, which has few enough dirty words for the write queue.
+    fn give_up(&mut self, block: u32, frame: u32)
+        requires holds { frame_of self.old.cache block ≡ Some frame }
+        requires room { lacks_places self.old.sizes self.old.cache (Some frame) ≡ false }
+        ensures { self.new ≡ record self.old { cache = steps.evicted self.old.sizes self.old.cache block frame } }
+    {
+        queue_dirty_words(&self.directory, &mut self.queue, frame, block);
+        self.directory.release(frame);
+        retire(&mut self.registers, block);
+    }
+
+    /// Takes the ready reply at `place`: its value. `Nothing` says that there is none, and changes
+    /// nothing.
     #[tactic(auto, unfolding(crate::specs::Steps::take_step))]
     pub fn take(&mut self, place: u32) -> Answer
         ensures answer { result ≡ (steps.take_step self.old.cache place).answer }
@@ -168,13 +169,17 @@ impl<const WAYS: usize, const WORDS: usize, const REGS: usize, const DEPTH: usiz
     }
 }
 
-// What a take of the reply answers.
-fn value_of(reply: &Reply) -> Answer
-    ensures { result ≡ Answer.Value reply.now.tag reply.now.word }
+// The block's live register, where it has one, becomes obsolete.
+fn retire<const WORDS: usize, const REGS: usize>(
+    registers: &mut RegisterFile<WORDS, REGS>,
+    block: u32,
+)
+    requires { IsWhole WORDS REGS registers.old }
+    ensures retired { registers.new ≡ retired registers.old (regs.live_for registers.old block) }
+    ensures whole { IsWhole WORDS REGS registers.new }
 {
-    Answer::Value {
-        tag: reply.tag,
-        word: reply.word,
+    if let Some(slot) = registers.live_for(block) {
+        registers.make_obsolete(slot);
     }
 }
 

@@ -3,6 +3,7 @@ ghost use Rattle.std.specs.Prelude.{◌≡◌, ℕ, ◌+◌, ◌-◌, ◌*◌, �
 ghost use Rattle.cache_directory.specs.Frames.{IsWhole, frame_at, is_held};
 ghost use Rattle.write_queue.specs.Queue.{queue as queue_of};
 ghost use Rattle.cache_unit.specs.Causes.{dirty_from};
+ghost use Rattle.cache_unit.specs.GivenUp.{given_up, owed_words};
 
 use cache_directory::Directory;
 use flat_model::{Lanes, Word, merge};
@@ -50,5 +51,26 @@ pub fn queue_dirty_words<const WAYS: usize, const WORDS: usize>(
                 lanes,
             });
         }
+    }
+}
+
+/// Gives the frame up: where it holds a block, the block's dirty words are queued and the frame is
+/// released.
+pub fn give_up<const WAYS: usize, const WORDS: usize>(
+    directory: &mut Directory<WAYS, WORDS>,
+    queue: &mut WriteQueue,
+    frame: u32,
+)
+    requires whole { IsWhole WAYS WORDS directory.old }
+    requires frame { frame < length directory.old.frames }
+    requires fits { (block : ℕ) → (frame_at directory.old.frames frame).block ≡ Some block → block * WORDS + WORDS < 2 ^ 32 }
+    requires room { length queue.old.entries + length (owed_words WORDS directory.old frame) ≤ queue.old.limit }
+    ensures directory { directory.new ≡ given_up WAYS directory.old frame }
+    ensures queue { queue.new ≡ queue_of (queue.old.entries ++ owed_words WORDS directory.old frame) queue.old.limit }
+    ensures whole { IsWhole WAYS WORDS directory.new }
+{
+    if let Some(block) = directory.block_of(frame) {
+        queue_dirty_words(directory, queue, frame, block);
+        directory.release(frame);
     }
 }

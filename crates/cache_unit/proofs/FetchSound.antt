@@ -1,0 +1,256 @@
+-- A miss keeps what holds of the parts.
+use Rattle.std.proofs.Common.{◌≡◌, ℕ, suc, zero, ◌+◌, ◌*◌, ◌/◌, ◌%◌, ◌<◌, ◌≤◌, ◌⊎◌, inl, inr, ◌&&◌, not, Bool, true, false, cond, List, [], ◌∷◌, ◌++◌, map, length, get_or, set, Option, Some, None, refl, sym, ap, ap₂, ◌∙◌, subst, arith, length-append, length-set, add-zero, eq-eqb, eqb-true}
+use Rattle.std.specs.List.{range_with_len, sum_by, All}
+use Rattle.std.proofs.lemmas.Bool.{cases_eq, false≢true}
+use Rattle.std.proofs.lemmas.List.{get_or-set_same, get_or-set_other}
+use Rattle.std.proofs.lemmas.List.Elements.{All-nil, All-cons, All-append}
+use Rattle.std.proofs.lemmas.List.FromFn.{length-map-range_with_len}
+use Rattle.std.proofs.lemmas.Option.{none-some}
+use Rattle.flat_model.specs.Words.{has_any, merged, zero_word}
+use Rattle.flat_model.specs.Places.{is_number}
+use Rattle.input_stack.specs.declared.Entry.{Entry}
+use Rattle.write_queue.specs.declared.Queued.{Queued}
+use Rattle.write_queue.specs.Queue.{Queue, queue as queue_of}
+use Rattle.cache_directory.specs.declared.Cell.{Cell}
+use Rattle.cache_directory.specs.Frames as dir
+use Rattle.miss_registers.specs.Registers as regs
+use Rattle.miss_registers.specs.Whole.{IsWhole}
+use Rattle.cache_unit.specs.declared.Reply.{Reply}
+use Rattle.cache_unit.specs.State.{Sizes}
+use Rattle.cache_unit.specs.Causes.{dirty_from}
+use Rattle.cache_unit.specs.Sound.{InRange, entry_at, HasInStack, HasFrame, FilledBy, loads_of, loads_of_field, Stands, StackSound, Tied, QueueSound, OwesSound, IsSound}
+use Rattle.cache_unit.specs.Begun.{begun_cell, begun_field, begun_frame, begun_register}
+use Rattle.cache_unit.specs.GivenUp.{owed_by, owed_words, given_up}
+use Rattle.cache_unit.proofs.Lists.{place_of-only, place_of-none}
+use Rattle.cache_unit.proofs.Keeps.{number_from, frame_of-some}
+use Rattle.cache_unit.proofs.Owing.{owes-same}
+use Rattle.cache_unit.proofs.DirtyWords.{queued_cell}
+use Rattle.cache_unit.proofs.FetchShown.{set_twice, given_frames, given_orders, missed_frames, missed_registers}
+
+same_some : (a b : ℕ) → ◌≡◌ {A = Option ℕ} (Some a) (Some b) → a ≡ b
+same_some a b e = cc
+
+-- ---- the queue
+
+dirty_in : (block at : ℕ) (cells : List Cell) (bound : ℕ) → at + length cells ≤ bound → All (λ (e : Queued). e.at < bound) (dirty_from block at cells)
+dirty_in block at [] bound h = All-nil (λ (e : Queued). e.at < bound)
+dirty_in block at (x ∷ cells) bound h = go (has_any x.dirty) (dirty_in block (at + 1) cells bound (omega arith))
+  where
+    go : (b : Bool) → All (λ (e : Queued). e.at < bound) (dirty_from block (at + 1) cells) → All (λ (e : Queued). e.at < bound) (cond b (queued_cell block at x ∷ dirty_from block (at + 1) cells) (dirty_from block (at + 1) cells))
+    go true rest =
+        let here : at < bound = omega arith in
+        All-cons (λ (e : Queued). e.at < bound) (queued_cell block at x) (dirty_from block (at + 1) cells) here rest
+    go false rest = rest
+
+owed_in : (z : Sizes) (d : dir.Frames) (f : ℕ) → dir.IsWhole z.ways z.block_words d → ((g block : ℕ) → (dir.frame_at d.frames g).block ≡ Some block → block * z.block_words + z.block_words ≤ z.words) → All (λ (e : Queued). e.at < z.words) (owed_words z.block_words d f)
+owed_in z d f whole within = go (dir.frame_at d.frames f).block refl
+  where
+    go : (o : Option ℕ) → (dir.frame_at d.frames f).block ≡ o → All (λ (e : Queued). e.at < z.words) (owed_by z.block_words o (dir.frame_at d.frames f).cells)
+    go None e = All-nil (λ (x : Queued). x.at < z.words)
+    go (Some b) e =
+        let n = whole.cells f b e in
+        let m = within f b e in
+        dirty_in b (b * z.block_words) (dir.frame_at d.frames f).cells z.words (omega arith)
+
+-- what a frame gives up is queued
+pub QueueSound-given : (z : Sizes) (d : dir.Frames) (f : ℕ) (q : Queue) → dir.IsWhole z.ways z.block_words d → ((g block : ℕ) → (dir.frame_at d.frames g).block ≡ Some block → block * z.block_words + z.block_words ≤ z.words) → length q.entries + length (owed_words z.block_words d f) ≤ q.limit → QueueSound z q → QueueSound z (queue_of (q.entries ++ owed_words z.block_words d f) q.limit)
+QueueSound-given z d f q whole within room h =
+    let n = length-append q.entries (owed_words z.block_words d f) in
+    let l = h.limit in
+    record {
+      limit = h.limit;
+      within = omega arith;
+      addresses = All-append (λ (e : Queued). e.at < z.words) q.entries (owed_words z.block_words d f) h.addresses (owed_in z d f whole within);
+    }
+
+-- ---- the frames
+
+-- what the frames are after the miss: one is the block's
+pub missed_is : (ways words : ℕ) (d : dir.Frames) (q : List Queued) (f block : ℕ) → (missed_frames ways words d q f block).frames ≡ set d.frames f (begun_frame words q block)
+unfolding dir.installed
+missed_is ways words d q f block =
+    set_twice (given_up ways d f).frames f (dir.fresh_frame words block) (begun_frame words q block) ∙ given_frames ways d f (begun_frame words q block)
+
+missed_orders : (ways words : ℕ) (d : dir.Frames) (q : List Queued) (f block : ℕ) → dir.IsWhole ways words d → length (missed_frames ways words d q f block).orders ≡ length d.orders
+unfolding dir.installed
+missed_orders ways words d q f block whole =
+    length-set (given_up ways d f).orders (f / ways) _ ∙ ap length (given_orders ways words d f whole) ∙ length-set d.orders (f / ways) _
+
+at_new : (fs : List dir.Frame) (f : ℕ) (x : dir.Frame) → f < length fs → dir.frame_at (set fs f x) f ≡ x
+at_new fs f x h = get_or-set_same fs f x dir.empty_frame h
+
+at_other : (fs : List dir.Frame) (f g : ℕ) (x : dir.Frame) → (g ≡ f → ⊥) → dir.frame_at (set fs f x) g ≡ dir.frame_at fs g
+at_other fs f g x n = get_or-set_other fs f g x dir.empty_frame n
+
+-- no frame holds the block
+absent_from : (fs : List dir.Frame) (block g : ℕ) → dir.frame_of fs block ≡ None → (dir.frame_at fs g).block ≡ Some block → ⊥
+unfolding dir.frame_of
+absent_from fs block g none e =
+    let no = place_of-none (λ (x : dir.Frame). is_number x.block block) dir.empty_frame fs refl none g in
+    let yes : is_number (dir.frame_at fs g).block block ≡ true = ap (λ o. is_number o block) e ∙ eq-eqb block block refl in
+    false≢true (sym no ∙ yes)
+
+-- the frame of a block is the only one that holds it
+found_alone : (fs : List dir.Frame) (block f : ℕ) → (dir.frame_at fs f).block ≡ Some block → ((g : ℕ) → (dir.frame_at fs g).block ≡ Some block → g ≡ f) → dir.frame_of fs block ≡ Some f
+unfolding dir.frame_of
+found_alone fs block f e only =
+    place_of-only (λ (x : dir.Frame). is_number x.block block) dir.empty_frame fs f refl (ap (λ o. is_number o block) e ∙ eq-eqb block block refl) (λ g h. only g (number_from (dir.frame_at fs g).block block h))
+
+-- ---- frames and registers
+
+length-begun : (g : ℕ → Cell) (a n : ℕ) → length (map g (range_with_len a n)) ≡ n
+length-begun g a n = length-map-range_with_len g a n
+
+not_in_stack : (q : List Queued) (xs : List ℕ) (i : ℕ) → (get_or (map (begun_field q) xs) i regs.clear_field).in_stack ≡ false
+not_in_stack q [] i = refl
+not_in_stack q (x ∷ xs) zero = refl
+not_in_stack q (x ∷ xs) (suc i) = not_in_stack q xs i
+
+no_loads : (p : ℕ → Bool) (q : List Queued) (xs : List ℕ) → sum_by (loads_of_field p) (map (begun_field q) xs) ≡ 0
+no_loads p q [] = refl
+no_loads p q (x ∷ xs) = let e = no_loads p q xs in omega arith
+
+module _ (z : Sizes) (d : dir.Frames) (rs : List regs.Register) (st : List Entry) (q : Queue) (ready : List Reply) (h : IsSound z d rs st q ready) (block f slot : ℕ) (q' : List Queued) (in_range : f < length d.frames) (idle : (dir.frame_at d.frames f).pending ≡ false) (absent : dir.frame_of d.frames block ≡ None) (there : slot < length rs) (free : (regs.register_at rs slot).valid ≡ false) where
+  fs : List dir.Frame
+  fs = set d.frames f (begun_frame z.block_words q' block)
+
+  rs' : List regs.Register
+  rs' = set rs slot (begun_register z.block_words q' block f)
+
+  here : dir.frame_at (set d.frames f (begun_frame z.block_words q' block)) f ≡ begun_frame z.block_words q' block
+  here = at_new d.frames f (begun_frame z.block_words q' block) in_range
+
+  elsewhere : (g : ℕ) → (g ≡ f → ⊥) → dir.frame_at (set d.frames f (begun_frame z.block_words q' block)) g ≡ dir.frame_at d.frames g
+  elsewhere g n = at_other d.frames f g (begun_frame z.block_words q' block) n
+
+  slot_new : regs.register_at (set rs slot (begun_register z.block_words q' block f)) slot ≡ begun_register z.block_words q' block f
+  slot_new = get_or-set_same rs slot (begun_register z.block_words q' block f) regs.free_register there
+
+  slot_other : (s : ℕ) → (s ≡ slot → ⊥) → regs.register_at (set rs slot (begun_register z.block_words q' block f)) s ≡ regs.register_at rs s
+  slot_other s n = get_or-set_other rs slot s (begun_register z.block_words q' block f) regs.free_register n
+
+  -- a live register isn't the one that was free
+  live_other : (s : ℕ) → regs.is_live (regs.register_at rs s) ≡ true → s ≡ slot → ⊥
+  live_other s live e =
+      let v : (regs.register_at rs s).valid ≡ false = ap (λ k. (regs.register_at rs k).valid) e ∙ free in
+      false≢true (sym (ap (λ (b : Bool). b && not (regs.register_at rs s).obsolete) v) ∙ live)
+
+  pub missed_in_memory : block * z.block_words + z.block_words ≤ z.words → (g b : ℕ) → (dir.frame_at (set d.frames f (begun_frame z.block_words q' block)) g).block ≡ Some b → b * z.block_words + z.block_words ≤ z.words
+  missed_in_memory small g b e = go (cases_eq g f)
+    where
+      go : (g ≡ f) ⊎ (g ≡ f → ⊥) → b * z.block_words + z.block_words ≤ z.words
+      go (inl k) =
+          let same : block ≡ b = same_some block b (sym (ap (λ n. (dir.frame_at (set d.frames f (begun_frame z.block_words q' block)) n).block) k ∙ ap (λ (x : dir.Frame). x.block) here) ∙ e) in
+          subst (λ n. n * z.block_words + z.block_words ≤ z.words) same small
+      go (inr n) = h.in_memory g b (sym (ap (λ (x : dir.Frame). x.block) (elsewhere g n)) ∙ e)
+
+  -- the new block is where it was put
+  new_found : dir.frame_of (set d.frames f (begun_frame z.block_words q' block)) block ≡ Some f
+  new_found = found_alone (set d.frames f (begun_frame z.block_words q' block)) block f (ap (λ (x : dir.Frame). x.block) here) only
+    where
+      only : (g : ℕ) → (dir.frame_at (set d.frames f (begun_frame z.block_words q' block)) g).block ≡ Some block → g ≡ f
+      only g e = go (cases_eq g f)
+        where
+          go : (g ≡ f) ⊎ (g ≡ f → ⊥) → g ≡ f
+          go (inl k) = k
+          go (inr n) = absurd (absent_from d.frames block g absent (sym (ap (λ (x : dir.Frame). x.block) (elsewhere g n)) ∙ e))
+
+  -- the other blocks of registers stay where they were
+  old_found : (b g : ℕ) → dir.frame_of d.frames b ≡ Some g → (g ≡ f → ⊥) → dir.frame_of (set d.frames f (begun_frame z.block_words q' block)) b ≡ Some g
+  old_found b g e n = found_alone (set d.frames f (begun_frame z.block_words q' block)) b g (ap (λ (x : dir.Frame). x.block) (elsewhere g n) ∙ held) only
+    where
+      held : (dir.frame_at d.frames g).block ≡ Some b
+      held = (frame_of-some d.frames b g e).1
+
+      only : (j : ℕ) → (dir.frame_at (set d.frames f (begun_frame z.block_words q' block)) j).block ≡ Some b → j ≡ g
+      only j k = go (cases_eq j f)
+        where
+          go : (j ≡ f) ⊎ (j ≡ f → ⊥) → j ≡ g
+          go (inl m) =
+              let same : block ≡ b = same_some block b (sym (ap (λ n. (dir.frame_at (set d.frames f (begun_frame z.block_words q' block)) n).block) m ∙ ap (λ (x : dir.Frame). x.block) here) ∙ k) in
+              let no : ◌≡◌ {A = Option ℕ} None (Some g) = sym absent ∙ ap (dir.frame_of d.frames) same ∙ e in
+              absurd (none-some g no)
+          go (inr m) = h.directory.alone j g b (sym (ap (λ (x : dir.Frame). x.block) (elsewhere j m)) ∙ k) held
+
+  old_frame : (s : ℕ) → regs.is_live (regs.register_at rs s) ≡ true → (regs.register_at rs s).frame ≡ f → ⊥
+  old_frame s live e =
+      let p : (dir.frame_at d.frames f).pending ≡ true = sym (ap (λ k. (dir.frame_at d.frames k).pending) e) ∙ (h.tied.frames s live).pending in
+      false≢true (sym idle ∙ p)
+
+  pub missed_tied : Tied (set d.frames f (begun_frame z.block_words q' block)) (set rs slot (begun_register z.block_words q' block f))
+  missed_tied = record { frames = λ s live. frames s live (cases_eq s slot); pending = λ g p. pending g p (cases_eq g f) }
+    where
+      new_frame : HasFrame (set d.frames f (begun_frame z.block_words q' block)) (begun_register z.block_words q' block f)
+      new_frame = record {
+        holds = new_found;
+        cells = ap (λ (x : dir.Frame). length x.cells) here ∙ length-map-range_with_len (begun_cell q') (block * z.block_words) z.block_words ∙ sym (length-map-range_with_len (begun_field q') (block * z.block_words) z.block_words);
+        pending = ap (λ (x : dir.Frame). x.pending) here;
+      }
+
+      frames : (s : ℕ) → regs.is_live (regs.register_at (set rs slot (begun_register z.block_words q' block f)) s) ≡ true → (s ≡ slot) ⊎ (s ≡ slot → ⊥) → HasFrame (set d.frames f (begun_frame z.block_words q' block)) (regs.register_at (set rs slot (begun_register z.block_words q' block f)) s)
+      frames s live (inl e) =
+          let P : regs.Register → Type 0 = HasFrame (set d.frames f (begun_frame z.block_words q' block)) in
+          subst P (sym (ap (regs.register_at (set rs slot (begun_register z.block_words q' block f))) e ∙ slot_new)) new_frame
+      frames s live (inr n) =
+          let was : regs.is_live (regs.register_at rs s) ≡ true = ap regs.is_live (sym (slot_other s n)) ∙ live in
+          let old = h.tied.frames s was in
+          let apart = old_frame s was in
+          let r = regs.register_at rs s in
+          let now : HasFrame (set d.frames f (begun_frame z.block_words q' block)) (regs.register_at rs s) = record {
+            holds = old_found r.block r.frame old.holds apart;
+            cells = ap (λ (x : dir.Frame). length x.cells) (elsewhere r.frame apart) ∙ old.cells;
+            pending = ap (λ (x : dir.Frame). x.pending) (elsewhere r.frame apart) ∙ old.pending;
+          } in
+          let P : regs.Register → Type 0 = HasFrame (set d.frames f (begun_frame z.block_words q' block)) in
+          subst P (sym (slot_other s n)) now
+
+      pending : (g : ℕ) → (dir.frame_at (set d.frames f (begun_frame z.block_words q' block)) g).pending ≡ true → (g ≡ f) ⊎ (g ≡ f → ⊥) → FilledBy (set rs slot (begun_register z.block_words q' block f)) g
+      pending g p (inl e) =
+          record { slot = slot; live = ap regs.is_live slot_new; frame = ap (λ (r : regs.Register). r.frame) slot_new ∙ sym e }
+      pending g p (inr n) =
+          let old = h.tied.pending g (sym (ap (λ (x : dir.Frame). x.pending) (elsewhere g n)) ∙ p) in
+          let apart = live_other old.slot old.live in
+          record { slot = old.slot; live = ap regs.is_live (slot_other old.slot apart) ∙ old.live; frame = ap (λ (r : regs.Register). r.frame) (slot_other old.slot apart) ∙ old.frame }
+
+  pub missed_stack : StackSound (set rs slot (begun_register z.block_words q' block f)) st
+  missed_stack = record { entries = entries; distinct = h.stack_sound.distinct; marks = λ s i m. marks s i m (cases_eq s slot) }
+    where
+      entries : (k : ℕ) → k < length st → HasInStack (regs.register_at (set rs slot (begun_register z.block_words q' block f)) (entry_at st k).slot) (entry_at st k).i
+      entries k l =
+          let old = h.stack_sound.entries k l in
+          let apart : (entry_at st k).slot ≡ slot → ⊥ = λ e. false≢true (sym (ap (λ s. (regs.register_at rs s).valid) e ∙ free) ∙ old.valid) in
+          let P : regs.Register → Type 0 = λ r. HasInStack r (entry_at st k).i in
+          subst P (sym (slot_other (entry_at st k).slot apart)) old
+
+      marks : (s i : ℕ) → (regs.field_of (regs.register_at (set rs slot (begun_register z.block_words q' block f)) s) i).in_stack ≡ true → (s ≡ slot) ⊎ (s ≡ slot → ⊥) → Stands st s i
+      marks s i m (inl e) =
+          let now = ap (regs.register_at (set rs slot (begun_register z.block_words q' block f))) e ∙ slot_new in
+          let no = ap (λ (r : regs.Register). (regs.field_of r i).in_stack) now ∙ not_in_stack q' (range_with_len (block * z.block_words) z.block_words) i in
+          absurd (false≢true (sym no ∙ m))
+      marks s i m (inr n) = h.stack_sound.marks s i (sym (ap (λ (r : regs.Register). (regs.field_of r i).in_stack) (slot_other s n)) ∙ m)
+
+  pub missed_owes : OwesSound z ready (set rs slot (begun_register z.block_words q' block f))
+  missed_owes =
+      owes-same z ready rs slot (begun_register z.block_words q' block f) there (λ p. no_loads p q' (range_with_len (block * z.block_words) z.block_words) ∙ sym (ap (λ (r : regs.Register). loads_of p r) ((h.registers.each slot).free free))) h.owes
+
+-- the whole miss
+pub IsSound-missed : (z : Sizes) (d : dir.Frames) (rs : List regs.Register) (st : List Entry) (q : Queue) (ready : List Reply) (block f slot : ℕ) → IsSound z d rs st q ready → f < length d.frames → (dir.frame_at d.frames f).pending ≡ false → dir.frame_of d.frames block ≡ None → slot < length rs → (regs.register_at rs slot).valid ≡ false → block * z.block_words + z.block_words ≤ z.words → length q.entries + length (owed_words z.block_words d f) ≤ q.limit → dir.IsWhole z.ways z.block_words (missed_frames z.ways z.block_words d (q.entries ++ owed_words z.block_words d f) f block) → IsWhole z.block_words z.regs (missed_registers z.block_words rs (q.entries ++ owed_words z.block_words d f) f slot block) → IsSound z (missed_frames z.ways z.block_words d (q.entries ++ owed_words z.block_words d f) f block) (missed_registers z.block_words rs (q.entries ++ owed_words z.block_words d f) f slot block) st (queue_of (q.entries ++ owed_words z.block_words d f) q.limit) ready
+IsSound-missed z d rs st q ready block f slot h in_range idle absent there free small room whole whole' =
+    let q' = q.entries ++ owed_words z.block_words d f in
+    let frames = sym (missed_is z.ways z.block_words d q' f block) in
+    let registers = sym (set_twice rs slot (regs.fresh z.block_words block f) (begun_register z.block_words q' block f)) in
+    let tied = missed_tied z d rs st q ready h block f slot q' in_range idle absent there free in
+    let stack_sound = missed_stack z d rs st q ready h block f slot q' in_range idle absent there free in
+    let owes = missed_owes z d rs st q ready h block f slot q' in_range idle absent there free in
+    let in_memory = missed_in_memory z d rs st q ready h block f slot q' in_range idle absent there free small in
+    record {
+      ranges = h.ranges;
+      directory = whole;
+      sets = missed_orders z.ways z.block_words d q' f block h.directory ∙ h.sets;
+      in_memory = λ g b e. in_memory g b (ap (λ (fs : List dir.Frame). (dir.frame_at fs g).block) frames ∙ e);
+      registers = whole';
+      stack_sound = let P : List regs.Register → Type 0 = λ rs. StackSound rs st in subst P registers stack_sound;
+      tied = let P : List dir.Frame → Type 0 = λ fs. Tied fs (missed_registers z.block_words rs q' f slot block) in subst P frames (let Q : List regs.Register → Type 0 = Tied (set d.frames f (begun_frame z.block_words q' block)) in subst Q registers tied);
+      queue_sound = QueueSound-given z d f q h.directory h.in_memory room h.queue_sound;
+      owes = let P : List regs.Register → Type 0 = OwesSound z ready in subst P registers owes;
+    }

@@ -1,0 +1,133 @@
+use Rattle.std.proofs.Common.{◌≡◌, ◌*◌, ◌<◌, ◌≤◌, ℕ, Option, Some, None, arith, rules, ap, sym, ◌∙◌, subst, lit<, is_some}
+use Rattle.cache_directory.specs.Frames as dir
+use Rattle.cache_unit.specs.State.{UnitState, Cache, frame_of}
+use Rattle.cache_unit.specs.Causes.{lacks_places}
+use Rattle.cache_unit.specs.Steps.{Stepped, evict_step}
+use Rattle.cache_unit.specs.Shown.{sizes_of, as_cache}
+use Rattle.cache_unit.proofs.Keeps.{frame_of-some}
+use Rattle.cache_unit.proofs.Process.{frame_of-shown}
+use Rattle.cache_unit.proofs.Stepping.{made, answer_of, cache_of}
+use Rattle.cache_unit.proofs.GiveUp.{lacks-true, lacks-false}
+use Rattle.cache_unit.proofs.Evicting.{product_fits, evict_outside, evict_absent, evict_full, evict_done, evicted_is}
+use Rattle.cache_unit.proofs.unit.CacheUnit.evict.Goals as goal
+
+pub overflow_mul-first : goal.overflow_mul-first
+overflow_mul-first g c =
+    let few = c.self.invariant.ranges.few_words in
+    let bound : c.from.result < 4294967296 = subst (λ n. n < 4294967296) (sym c.from.ensures) (omega (arith, c.ranges.block.fits)) in
+    omega (arith, product_fits c.from.result g.row.WORDS bound few)
+
+pub dirty_words-dirty-requires : goal.dirty_words-dirty-requires
+dirty_words-dirty-requires g c =
+    let b = (frame_of-some c.self.inside.directory.frames c.args.block c.in-Some.frame (sym c.in-Some.ensures.found)).1 in
+    (lit< tt, (c.self.invariant.directory, ap is_some b))
+
+pub returns-then-first-words-clause-answer : goal.returns-then-first-words-clause-answer
+returns-then-first-words-clause-answer g c =
+    let s = c.self.inside in
+    let z = sizes_of g.row.WAYS g.row.WORDS g.row.REGS g.row.DEPTH s.shape in
+    let now = as_cache s.directory s.registers s.stack s.queue.entries s.ready.items in
+    let ge : s.shape.words ≤ c.args.block * g.row.WORDS = subst (λ n. s.shape.words ≤ n * g.row.WORDS) c.from.ensures (subst (λ n. n ≤ c.from.result * g.row.WORDS) c.from-words.ensures c.if-first-words.true) in
+    let t = evict_outside z now c.args.block ge in
+    answer_of z now _ (λ y k. evict_step y k c.args.block) _ c.self.view_is (sym (ap (λ (x : Stepped). x.answer) t))
+
+pub returns-then-first-words-clause-unit : goal.returns-then-first-words-clause-unit
+returns-then-first-words-clause-unit g c =
+    let s = c.self.inside in
+    let z = sizes_of g.row.WAYS g.row.WORDS g.row.REGS g.row.DEPTH s.shape in
+    let now = as_cache s.directory s.registers s.stack s.queue.entries s.ready.items in
+    let ge : s.shape.words ≤ c.args.block * g.row.WORDS = subst (λ n. s.shape.words ≤ n * g.row.WORDS) c.from.ensures (subst (λ n. n ≤ c.from.result * g.row.WORDS) c.from-words.ensures c.if-first-words.true) in
+    let t = evict_outside z now c.args.block ge in
+    let same : made z now ≡ c.args.self.now = c.self.view_is in
+    let step : made z now ≡ record c.args.self.now { cache = (evict_step c.args.self.now.sizes c.args.self.now.cache c.args.block).cache } = cache_of z now now _ (λ y k. evict_step y k c.args.block) c.self.view_is (sym (ap (λ (x : Stepped). x.cache) t)) in
+    sym same ∙ step
+
+pub returns-in_default-clause-answer : goal.returns-in_default-clause-answer
+returns-in_default-clause-answer g c =
+    let s = c.self.inside in
+    let z = sizes_of g.row.WAYS g.row.WORDS g.row.REGS g.row.DEPTH s.shape in
+    let now = as_cache s.directory s.registers s.stack s.queue.entries s.ready.items in
+    let lt : c.args.block * g.row.WORDS < s.shape.words = subst (λ n. n * g.row.WORDS < s.shape.words) c.from.ensures (subst (λ n. c.from.result * g.row.WORDS < n) c.from-words.ensures c.if-first-words.false) in
+    let none : frame_of now c.args.block ≡ None = frame_of-shown s.directory s.registers s.stack s.queue.entries s.ready.items c.args.block ∙ sym c.look.ensures.found ∙ c.in_default.is in
+    let t = evict_absent z now c.args.block lt none in
+    answer_of z now _ (λ y k. evict_step y k c.args.block) _ c.self.view_is (sym (ap (λ (x : Stepped). x.answer) t))
+
+pub returns-in_default-clause-unit : goal.returns-in_default-clause-unit
+returns-in_default-clause-unit g c =
+    let s = c.self.inside in
+    let z = sizes_of g.row.WAYS g.row.WORDS g.row.REGS g.row.DEPTH s.shape in
+    let now = as_cache s.directory s.registers s.stack s.queue.entries s.ready.items in
+    let lt : c.args.block * g.row.WORDS < s.shape.words = subst (λ n. n * g.row.WORDS < s.shape.words) c.from.ensures (subst (λ n. c.from.result * g.row.WORDS < n) c.from-words.ensures c.if-first-words.false) in
+    let none : frame_of now c.args.block ≡ None = frame_of-shown s.directory s.registers s.stack s.queue.entries s.ready.items c.args.block ∙ sym c.look.ensures.found ∙ c.in_default.is in
+    let t = evict_absent z now c.args.block lt none in
+    let same : made z now ≡ c.args.self.now = c.self.view_is in
+    let step : made z now ≡ record c.args.self.now { cache = (evict_step c.args.self.now.sizes c.args.self.now.cache c.args.block).cache } = cache_of z now now _ (λ y k. evict_step y k c.args.block) c.self.view_is (sym (ap (λ (x : Stepped). x.cache) t)) in
+    sym same ∙ step
+
+pub returns-then-room-dirty-clause-answer : goal.returns-then-room-dirty-clause-answer
+returns-then-room-dirty-clause-answer g c =
+    let s = c.self.inside in
+    let z = sizes_of g.row.WAYS g.row.WORDS g.row.REGS g.row.DEPTH s.shape in
+    let now = as_cache s.directory s.registers s.stack s.queue.entries s.ready.items in
+    let lt : c.args.block * g.row.WORDS < s.shape.words = subst (λ n. n * g.row.WORDS < s.shape.words) c.from.ensures (subst (λ n. c.from.result * g.row.WORDS < n) c.from-words.ensures c.if-first-words.false) in
+    let holds = sym c.in-Some.ensures.found in
+    let shown = frame_of-shown s.directory s.registers s.stack s.queue.entries s.ready.items c.args.block ∙ holds in
+    let count = c.dirty_words-dirty.ensures.count c.args.block (c.args.block * g.row.WORDS) in
+    let l = lacks-true z s.directory s.registers s.stack s.queue s.ready.items c.self.invariant c.args.block c.in-Some.frame holds c.dirty_words-dirty.result c.room.result count c.room.ensures.value c.if-room-dirty.true in
+    let t = evict_full z now c.args.block c.in-Some.frame lt shown l in
+    answer_of z now _ (λ y k. evict_step y k c.args.block) _ c.self.view_is (sym (ap (λ (x : Stepped). x.answer) t))
+
+pub returns-then-room-dirty-clause-unit : goal.returns-then-room-dirty-clause-unit
+returns-then-room-dirty-clause-unit g c =
+    let s = c.self.inside in
+    let z = sizes_of g.row.WAYS g.row.WORDS g.row.REGS g.row.DEPTH s.shape in
+    let now = as_cache s.directory s.registers s.stack s.queue.entries s.ready.items in
+    let lt : c.args.block * g.row.WORDS < s.shape.words = subst (λ n. n * g.row.WORDS < s.shape.words) c.from.ensures (subst (λ n. c.from.result * g.row.WORDS < n) c.from-words.ensures c.if-first-words.false) in
+    let holds = sym c.in-Some.ensures.found in
+    let shown = frame_of-shown s.directory s.registers s.stack s.queue.entries s.ready.items c.args.block ∙ holds in
+    let count = c.dirty_words-dirty.ensures.count c.args.block (c.args.block * g.row.WORDS) in
+    let l = lacks-true z s.directory s.registers s.stack s.queue s.ready.items c.self.invariant c.args.block c.in-Some.frame holds c.dirty_words-dirty.result c.room.result count c.room.ensures.value c.if-room-dirty.true in
+    let t = evict_full z now c.args.block c.in-Some.frame lt shown l in
+    let same : made z now ≡ c.args.self.now = c.self.view_is in
+    let step : made z now ≡ record c.args.self.now { cache = (evict_step c.args.self.now.sizes c.args.self.now.cache c.args.block).cache } = cache_of z now now _ (λ y k. evict_step y k c.args.block) c.self.view_is (sym (ap (λ (x : Stepped). x.cache) t)) in
+    sym same ∙ step
+
+pub give_up-requires : goal.give_up-requires
+give_up-requires g c =
+    let s = c.self.inside in
+    let z = sizes_of g.row.WAYS g.row.WORDS g.row.REGS g.row.DEPTH s.shape in
+    let now = as_cache s.directory s.registers s.stack s.queue.entries s.ready.items in
+    let holds = sym c.in-Some.ensures.found in
+    let shown = frame_of-shown s.directory s.registers s.stack s.queue.entries s.ready.items c.args.block ∙ holds in
+    let count = c.dirty_words-dirty.ensures.count c.args.block (c.args.block * g.row.WORDS) in
+    let l = lacks-false z s.directory s.registers s.stack s.queue s.ready.items c.self.invariant c.args.block c.in-Some.frame holds c.dirty_words-dirty.result c.room.result count c.room.ensures.value c.if-room-dirty.false in
+    let holds' = ap (λ (v : UnitState). frame_of v.cache c.args.block) (sym c.self.view_is) ∙ shown in
+    let room = ap (λ (v : UnitState). lacks_places v.sizes v.cache (Some c.in-Some.frame)) (sym c.self.view_is) ∙ l in
+    (search rules, (holds', room))
+
+pub returns-clause-answer : goal.returns-clause-answer
+returns-clause-answer g c =
+    let s = c.self.inside in
+    let z = sizes_of g.row.WAYS g.row.WORDS g.row.REGS g.row.DEPTH s.shape in
+    let now = as_cache s.directory s.registers s.stack s.queue.entries s.ready.items in
+    let lt : c.args.block * g.row.WORDS < s.shape.words = subst (λ n. n * g.row.WORDS < s.shape.words) c.from.ensures (subst (λ n. c.from.result * g.row.WORDS < n) c.from-words.ensures c.if-first-words.false) in
+    let holds = sym c.in-Some.ensures.found in
+    let shown = frame_of-shown s.directory s.registers s.stack s.queue.entries s.ready.items c.args.block ∙ holds in
+    let count = c.dirty_words-dirty.ensures.count c.args.block (c.args.block * g.row.WORDS) in
+    let l = lacks-false z s.directory s.registers s.stack s.queue s.ready.items c.self.invariant c.args.block c.in-Some.frame holds c.dirty_words-dirty.result c.room.result count c.room.ensures.value c.if-room-dirty.false in
+    let t = evict_done z now c.args.block c.in-Some.frame lt shown l in
+    answer_of z now _ (λ y k. evict_step y k c.args.block) _ c.self.view_is (sym (ap (λ (x : Stepped). x.answer) t))
+
+pub returns-clause-unit : goal.returns-clause-unit
+returns-clause-unit g c =
+    let s = c.self.inside in
+    let z = sizes_of g.row.WAYS g.row.WORDS g.row.REGS g.row.DEPTH s.shape in
+    let now = as_cache s.directory s.registers s.stack s.queue.entries s.ready.items in
+    let lt : c.args.block * g.row.WORDS < s.shape.words = subst (λ n. n * g.row.WORDS < s.shape.words) c.from.ensures (subst (λ n. c.from.result * g.row.WORDS < n) c.from-words.ensures c.if-first-words.false) in
+    let holds = sym c.in-Some.ensures.found in
+    let shown = frame_of-shown s.directory s.registers s.stack s.queue.entries s.ready.items c.args.block ∙ holds in
+    let count = c.dirty_words-dirty.ensures.count c.args.block (c.args.block * g.row.WORDS) in
+    let l = lacks-false z s.directory s.registers s.stack s.queue s.ready.items c.self.invariant c.args.block c.in-Some.frame holds c.dirty_words-dirty.result c.room.result count c.room.ensures.value c.if-room-dirty.false in
+    let t = evict_done z now c.args.block c.in-Some.frame lt shown l in
+    let made_of : Cache → UnitState = λ (x : Cache). record c.args.self.now { cache = x } in
+    c.give_up.ensures ∙ ap made_of (evicted_is z now c.args.self.now c.args.block c.in-Some.frame c.self.view_is (ap (λ (x : Stepped). x.cache) t))

@@ -1,0 +1,54 @@
+use Rattle.std.proofs.Common.{◌≡◌, ℕ, ap, sym, ◌∙◌, arith, lit<, List, subst, Some}
+use Rattle.cache_directory.specs.Frames as dir
+use Rattle.miss_registers.specs.Registers as regs
+use Rattle.miss_registers.specs.Whole.{IsWhole}
+use Rattle.cache_unit.specs.State.{UnitState, frame_of}
+use Rattle.cache_unit.specs.Causes.{lacks_places}
+use Rattle.cache_unit.specs.Steps.{evicted}
+use Rattle.cache_unit.specs.Parts.{retired}
+use Rattle.cache_unit.specs.Shown.{sizes_of, as_cache}
+use Rattle.cache_unit.proofs.Process.{frame_of-shown}
+use Rattle.cache_unit.proofs.Stepping.{cache_by}
+use Rattle.cache_unit.proofs.GiveUp.{can_give_up, IsSound-given_up, given_up-shown}
+use Rattle.cache_unit.proofs.unit.CacheUnit.give_up.Goals as goal
+
+pub queue_dirty_words-requires : goal.queue_dirty_words-requires
+queue_dirty_words-requires g c =
+    let s = c.self.inside in
+    let z = sizes_of g.row.WAYS g.row.WORDS g.row.REGS g.row.DEPTH s.shape in
+    let holds = sym (frame_of-shown s.directory s.registers s.stack s.queue.entries s.ready.items c.args.block) ∙ ap (λ (v : UnitState). frame_of v.cache c.args.block) c.self.view_is ∙ c.requires.holds in
+    let room = ap (λ (v : UnitState). lacks_places v.sizes v.cache (Some c.args.frame)) c.self.view_is ∙ c.requires.room in
+    let r = can_give_up z s.directory s.registers s.stack s.queue s.ready.items c.self.invariant c.args.block c.args.frame holds room in
+    (lit< tt, (c.self.invariant.directory, (r.0, (r.1, r.2))))
+
+pub release-requires : goal.release-requires
+release-requires g c =
+    let s = c.self.inside in
+    let z = sizes_of g.row.WAYS g.row.WORDS g.row.REGS g.row.DEPTH s.shape in
+    let holds = sym (frame_of-shown s.directory s.registers s.stack s.queue.entries s.ready.items c.args.block) ∙ ap (λ (v : UnitState). frame_of v.cache c.args.block) c.self.view_is ∙ c.requires.holds in
+    let room = ap (λ (v : UnitState). lacks_places v.sizes v.cache (Some c.args.frame)) c.self.view_is ∙ c.requires.room in
+    let r = can_give_up z s.directory s.registers s.stack s.queue s.ready.items c.self.invariant c.args.block c.args.frame holds room in
+    (lit< tt, r.0)
+
+pub retire-requires : goal.retire-requires
+retire-requires g c = (lit< tt, c.self.invariant.registers)
+
+pub invariant_of-self : goal.invariant_of-self
+invariant_of-self g c =
+    let s = c.self.inside in
+    let z = sizes_of g.row.WAYS g.row.WORDS g.row.REGS g.row.DEPTH s.shape in
+    let holds = sym (frame_of-shown s.directory s.registers s.stack s.queue.entries s.ready.items c.args.block) ∙ ap (λ (v : UnitState). frame_of v.cache c.args.block) c.self.view_is ∙ c.requires.holds in
+    let room = ap (λ (v : UnitState). lacks_places v.sizes v.cache (Some c.args.frame)) c.self.view_is ∙ c.requires.room in
+    let r = can_give_up z s.directory s.registers s.stack s.queue s.ready.items c.self.invariant c.args.block c.args.frame holds room in
+    let d = subst (λ (x : dir.Frames). dir.IsWhole g.row.WAYS g.row.WORDS x) c.release.ensures.released c.release.ensures.whole in
+    let w = subst (λ (x : List regs.Register). IsWhole g.row.WORDS g.row.REGS x) c.retire.ensures.retired c.retire.ensures.whole in
+    rw (c.release.ensures.released, c.retire.ensures.retired, c.queue_dirty_words.ensures) (IsSound-given_up z s.directory s.registers s.stack s.queue s.ready.items c.self.invariant c.args.block c.args.frame holds r.2 d w)
+
+pub returns : goal.returns
+returns g c =
+    let s = c.self.inside in
+    let z = sizes_of g.row.WAYS g.row.WORDS g.row.REGS g.row.DEPTH s.shape in
+    let now = as_cache s.directory s.registers s.stack s.queue.entries s.ready.items in
+    let holds = sym (frame_of-shown s.directory s.registers s.stack s.queue.entries s.ready.items c.args.block) ∙ ap (λ (v : UnitState). frame_of v.cache c.args.block) c.self.view_is ∙ c.requires.holds in
+    let e = given_up-shown z s.directory s.registers s.stack s.queue s.ready.items c.self.invariant c.args.block c.args.frame holds in
+    rw (c.release.ensures.released, c.retire.ensures.retired, c.queue_dirty_words.ensures) (cache_by z now _ _ (λ y k. evicted y k c.args.block c.args.frame) c.self.view_is e)
