@@ -15,7 +15,7 @@ use Rattle.cache_unit.specs.Causes.{choose, order_of, dirty_from, dirty_of_block
 use Rattle.cache_unit.specs.Steps.{without, released, fresh_frame, fresh_register, installed, missed, fetched}
 use Rattle.cache_unit.specs.Shown.{as_frame, as_field, as_register, as_cache}
 use Rattle.cache_unit.specs.Begun.{begun_cell, begun_field, begun_frame, begun_register}
-use Rattle.cache_unit.specs.GivenUp.{owed_by, owed_words, given_up}
+use Rattle.cache_unit.specs.GivenUp.{owed_by, owed_words, given_up, missed_frames, missed_registers}
 use Rattle.cache_unit.proofs.Lists.{get_or-map}
 
 pub map-set : {X Y : Type 0} (f : X → Y) (xs : List X) (i : ℕ) (x : X) → map f (set xs i x) ≡ set (map f xs) i (f x)
@@ -88,14 +88,6 @@ begun_register-shown z q block frame =
     ap (λ (fs : List Field). let r : Register = record { valid = true; obsolete = false; block = block; fields = fs } in r) (map-map as_field (begun_field q) (range_with_len (block * z.block_words) z.block_words) ∙ ap (λ k. map (λ at. as_field (begun_field q at)) (range_with_len k z.block_words)) (sym (add-zero (block * z.block_words))))
 
 -- ---- the whole miss
-
--- the frames and the registers after it
-abbrev pub missed_frames : ℕ → ℕ → dir.Frames → List Queued → ℕ → ℕ → dir.Frames
-missed_frames ways words d q f block =
-    dir.with_frame (dir.installed ways words (given_up ways d f) f block) f (begun_frame words q block)
-
-abbrev pub missed_registers : ℕ → List regs.Register → List Queued → ℕ → ℕ → ℕ → List regs.Register
-missed_registers words rs q f slot block = set (set rs slot (regs.fresh words block f)) slot (begun_register words q block f)
 
 installed-shown : (z : Sizes) (d : dir.Frames) (rs : List regs.Register) (st : List Entry) (q : List Queued) (ready : List Reply) (block f slot : ℕ) → dir.IsWhole z.ways z.block_words d → f / z.ways ≡ block % z.sets → as_cache (missed_frames z.ways z.block_words d (q ++ owed_words z.block_words d f) f block) (missed_registers z.block_words rs (q ++ owed_words z.block_words d f) f slot block) st (q ++ owed_words z.block_words d f) ready ≡ installed z (released z (as_cache d rs st q ready) f) block f slot
 unfolding installed released dir.installed

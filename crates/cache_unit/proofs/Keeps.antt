@@ -85,7 +85,7 @@ block_at-set (x ∷ xs) zero (suc f) y e = refl
 block_at-set (x ∷ xs) (suc i) zero y e = refl
 block_at-set (x ∷ xs) (suc i) (suc f) y e = block_at-set xs i f y e
 
-SameBlocks-set : (d : List dir.Frame) (f : ℕ) (y : dir.Frame) → y.block ≡ (dir.frame_at d f).block → length y.cells ≡ length (dir.frame_at d f).cells → SameBlocks d (set d f y)
+pub SameBlocks-set : (d : List dir.Frame) (f : ℕ) (y : dir.Frame) → y.block ≡ (dir.frame_at d f).block → length y.cells ≡ length (dir.frame_at d f).cells → SameBlocks d (set d f y)
 unfolding dir.frame_of
 SameBlocks-set d f y e l = record {
   holds = λ b. place_of-set (λ (x : dir.Frame). is_number x.block b) d f y dir.empty_frame (ap (λ (o : Option ℕ). is_number o b) e);
@@ -109,7 +109,7 @@ SameBlocks-filled d (Some f) i word keep last =
 
 -- ---- pending frames
 
-pending-set : (fs : List dir.Frame) (f g : ℕ) (y : dir.Frame) → y.pending ≡ (dir.frame_at fs f).pending → (dir.frame_at (set fs f y) g).pending ≡ (dir.frame_at fs g).pending
+pub pending-set : (fs : List dir.Frame) (f g : ℕ) (y : dir.Frame) → y.pending ≡ (dir.frame_at fs f).pending → (dir.frame_at (set fs f y) g).pending ≡ (dir.frame_at fs g).pending
 pending-set [] f g y e = refl
 pending-set (x ∷ xs) zero zero y e = e
 pending-set (x ∷ xs) zero (suc g) y e = refl

@@ -31,3 +31,9 @@ pub mod FetchShown
 pub mod FetchSound
 pub mod Evicting
 pub mod FormsSound
+pub mod Tags
+pub mod Present
+pub mod Choosing
+pub mod Giving
+pub mod Placing
+pub mod Missing

@@ -1,6 +1,7 @@
 -- Tests and counts over the numbers from one on.
 use Rattle.std.proofs.Common.{◌≡◌, ℕ, suc, zero, ◌+◌, ◌<◌, ◌≤◌, Bool, true, false, cond, ◌||◌, List, [], ◌∷◌, ◌++◌, length, refl, sym, ap, ◌∙◌, arith, add-zero, add-one, length-append}
 use Rattle.std.specs.List.{filter, list_any, range_with_len}
+use Rattle.std.proofs.lemmas.Bool.{false≢true}
 use Rattle.std.proofs.lemmas.List.Elements.{filter-append}
 use Rattle.std.proofs.lemmas.List.Folds.{list_any_at}
 use Rattle.std.proofs.lemmas.List.FromFn.{length-range_with_len, get_or-range_with_len}
@@ -49,3 +50,17 @@ count_within p a (suc k) zero h = absurd (omega arith)
 count_within p a (suc k) (suc n) h =
     let rest = count_within p (a + 1) k n (omega arith) in
     elim (p a) as (λ v. length (cond v (a ∷ filter p (range_with_len (a + 1) k)) (filter p (range_with_len (a + 1) k))) ≤ length (cond v (a ∷ filter p (range_with_len (a + 1) n)) (filter p (range_with_len (a + 1) n)))) [ true ↦ omega arith | false ↦ rest ]
+
+-- where none of the numbers passes, one of them doesn't
+pub fails_each : (p : ℕ → Bool) (n k : ℕ) → k < n → list_any p (range_with_len 0 n) ≡ false → p k ≡ false
+fails_each p n k h e = go (p k) refl
+  where
+    go : (b : Bool) → p k ≡ b → b ≡ false
+    go true q = absurd (false≢true (sym e ∙ any_found p n k h q))
+    go false q = refl
+
+-- a test that fails at every number counts none
+pub count_none : (p : ℕ → Bool) (a n : ℕ) → ((k : ℕ) → p k ≡ false) → length (filter p (range_with_len a n)) ≡ 0
+count_none p a zero h = refl
+count_none p a (suc n) h =
+    ap (λ b. length (cond b (a ∷ filter p (range_with_len (a + 1) n)) (filter p (range_with_len (a + 1) n)))) (h a) ∙ count_none p (a + 1) n h

@@ -1,13 +1,13 @@
 -- Commands on their way to banks.
-use Rattle.std.proofs.Common.{◌≡◌, ◌≢◌, ℕ, suc, zero, ◌+◌, ◌%◌, ◌/◌, ◌<◌, ◌≤◌, ◌==◌, ◌⊎◌, inl, inr, Bool, true, false, cond, List, [], ◌∷◌, ◌++◌, map, length, refl, sym, ap, ◌∙◌, subst, arith, append_assoc, append-nil, length-append, eq-eqb, ne_eqb}
-use Rattle.std.specs.List.{filter, range_with_len}
-use Rattle.std.proofs.lemmas.Bool.{cases_eq}
+use Rattle.std.proofs.Common.{◌≡◌, ◌≢◌, ℕ, suc, zero, ◌+◌, ◌%◌, ◌/◌, ◌<◌, ◌≤◌, ◌==◌, ◌⊎◌, inl, inr, Bool, true, false, cond, List, [], ◌∷◌, ◌++◌, map, length, refl, sym, ap, ◌∙◌, subst, arith, append_assoc, append-nil, length-append, eq-eqb, ne_eqb, ltb-false, mod-lt}
+use Rattle.std.specs.List.{filter, list_any, range_with_len}
+use Rattle.std.proofs.lemmas.Bool.{cases_eq, cases_lt}
 use Rattle.std.proofs.lemmas.List.{map-append}
 use Rattle.memory_banks.specs.declared.Command.{Command}
 use Rattle.memory_banks.specs.declared.Command.TheVariants.{Read}
 use Rattle.memory_banks.specs.Banks.{HasSent, commands_for}
-use Rattle.cache_unit.specs.Reads.{block_reads}
-use Rattle.cache_unit.proofs.Ranges.{range_more, count_more, count_within}
+use Rattle.cache_unit.specs.Reads.{block_reads, is_short}
+use Rattle.cache_unit.proofs.Ranges.{range_more, count_more, count_within, fails_each, count_none}
 
 pub commands_for-append : (b : ℕ) (xs ys : List (ℕ × Command)) → commands_for b (xs ++ ys) ≡ commands_for b xs ++ commands_for b ys
 commands_for-append b [] ys = refl
@@ -74,3 +74,14 @@ pub block_reads_more : (slot first words banks k : ℕ) → block_reads slot fir
 block_reads_more slot first words banks k =
     let f : ℕ → ℕ × Command = λ at. (at % banks, Read slot (at % words) (at / banks)) in
     ap (map f) (range_more first k) ∙ map-append f (range_with_len first k) ((first + k) ∷ [])
+
+-- where no bank is short, each has room for its reads; and a bank that isn't there is sent none
+pub room_for_all : (room : ℕ → ℕ) (slot first words banks : ℕ) → 0 < banks → list_any (is_short room first words banks) (range_with_len 0 banks) ≡ false → (b : ℕ) → length (commands_for b (block_reads slot first words banks words)) ≤ room b
+room_for_all room slot first words banks some e b =
+    subst (λ n. n ≤ room b) (sym (length-commands_for-block_reads b slot first words banks words)) (go (cases_lt b banks))
+  where
+    go : (b < banks) ⊎ (banks ≤ b) → length (filter (λ at. at % banks == b) (range_with_len first words)) ≤ room b
+    go (inl l) = ltb-false _ _ (fails_each (is_short room first words banks) banks b l e)
+    go (inr g) =
+        let none = count_none (λ at. at % banks == b) first words (λ at. (let m : at % banks < banks = mod-lt at some in ne_eqb (at % banks) b (λ q. (let same : at % banks ≡ b = q in omega arith)))) in
+        omega arith

@@ -2,6 +2,7 @@
 ghost use Rattle.std.specs.Prelude.{◌≡◌, ℕ, ◌+◌, ◌*◌, ◌^◌, ◌<◌, ◌≤◌, length, slice_set};
 ghost use Rattle.cache_directory.specs.Frames.{IsWhole, frame_at, fresh_frame, with_frame};
 ghost use Rattle.miss_registers.specs.Registers.{register_at, fresh};
+ghost use Rattle.miss_registers.specs.Whole as file;
 ghost use Rattle.cache_unit.specs.Begun.{begun_frame, begun_register};
 
 use cache_directory::Directory;
@@ -20,6 +21,7 @@ pub fn begin_words<const WAYS: usize, const WORDS: usize, const REGS: usize>(
     block: u32,
 )
     requires whole { IsWhole WAYS WORDS directory.old }
+    requires whole_file { file.IsWhole WORDS REGS registers.old }
     requires fits { block * WORDS + WORDS < 2 ^ 32 }
     requires frame { frame < length directory.old.frames }
     requires fresh { frame_at directory.old.frames frame ≡ fresh_frame WORDS block }
@@ -27,6 +29,7 @@ pub fn begin_words<const WAYS: usize, const WORDS: usize, const REGS: usize>(
     requires allocated { register_at registers.old slot ≡ fresh WORDS block frame }
     ensures directory { directory.new ≡ with_frame directory.old frame (begun_frame WORDS queue.now.entries block) }
     ensures whole { IsWhole WAYS WORDS directory.new }
+    ensures whole_file { file.IsWhole WORDS REGS registers.new }
     ensures registers { registers.new ≡ slice_set registers.old slot (begun_register WORDS queue.now.entries block frame) }
 {
     for i in 0..WORDS as u32 {

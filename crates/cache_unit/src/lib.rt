@@ -2,6 +2,7 @@
 #![tactic(auto)]
 
 mod begin;
+mod fetch;
 mod reads;
 mod unit;
 mod victim;
@@ -25,4 +26,10 @@ pub enum Request {
 pub struct Reply {
     pub tag: u16,
     pub word: Word,
+}
+// The frame and the register that a miss takes.
+#[derive(Clone, Copy)]
+struct Places {
+    frame: u32,
+    slot: u32,
 }

@@ -10,6 +10,8 @@ ghost use Rattle.cache_unit.specs.Parts.{filled_live, retired, CanFill};
 ghost use Rattle.miss_registers.specs.Registers as regs;
 ghost use Rattle.miss_registers.specs.Whole.{IsWhole};
 
+mod miss;
+mod present;
 mod views;
 
 use crate::Reply;

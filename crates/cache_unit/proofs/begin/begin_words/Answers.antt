@@ -11,14 +11,14 @@ use Rattle.cache_unit.proofs.begin.begin_words.Goals as goal
 
 pub loop-i-init : goal.loop-i-init
 loop-i-init g c =
-    (frame_first c.args.directory.now g.row.WORDS c.args.queue.now.entries c.args.block c.args.frame c.requires.fresh, c.requires.whole, register_first c.args.registers.now g.row.WORDS c.args.queue.now.entries c.args.block c.args.frame c.args.slot c.requires.allocated)
+    (frame_first c.args.directory.now g.row.WORDS c.args.queue.now.entries c.args.block c.args.frame c.requires.fresh, c.requires.whole, c.requires.whole_file, register_first c.args.registers.now g.row.WORDS c.args.queue.now.entries c.args.block c.args.frame c.args.slot c.requires.allocated)
 
 pub note_store-requires : goal.note_store-requires
 note_store-requires g c =
     let rs = c.args.registers.now in
     let entries = c.args.queue.now.entries in
-    let now = register_now rs c.loop-i.registers g.row.WORDS entries c.args.block c.args.frame c.args.slot c.loop-i.i c.requires.slot c.loop-i.invariant.2 in
-    let sized = ap length c.loop-i.invariant.2 ∙ length-set rs c.args.slot (register_to g.row.WORDS entries c.args.block c.args.frame c.loop-i.i) in
+    let now = register_now rs c.loop-i.registers g.row.WORDS entries c.args.block c.args.frame c.args.slot c.loop-i.i c.requires.slot c.loop-i.invariant.3 in
+    let sized = ap length c.loop-i.invariant.3 ∙ length-set rs c.args.slot (register_to g.row.WORDS entries c.args.block c.args.frame c.loop-i.i) in
     let sized_fields = ap (λ (r : Register). length r.fields) now ∙ begun-length (begun_field entries) clear_field (c.args.block * g.row.WORDS) c.loop-i.i g.row.WORDS (omega arith) in
     (omega arith, (omega arith, (ap is_live now, (subst (λ n. c.loop-i.i < n) (sym sized_fields) c.loop-i-test.true, ap (λ (r : Register). (field_of r c.loop-i.i).processed) now ∙ field_waits g.row.WORDS entries c.args.block c.args.frame c.loop-i.i c.loop-i-test.true))))
 
@@ -29,7 +29,7 @@ loop-i-preserved g c =
     let entries = c.args.queue.now.entries in
     let filled_now = c.fill.ensures.filled ∙ ap₂ (λ w m. with_frame c.loop-i.directory c.args.frame (filled (frame_at c.loop-i.directory.frames c.args.frame) c.loop-i.i w m)) (ap (λ (f : Forward). f.word) c.newest-newest.ensures) c.none.ensures in
     let noted_now = c.note_store.ensures.registers ∙ ap (λ (f : Forward). set c.loop-i.registers c.args.slot (noted (register_at c.loop-i.registers c.args.slot) c.loop-i.i f.lanes)) c.newest-newest.ensures in
-    (frame_next d c.loop-i.directory c.fill.new.self g.row.WORDS entries c.args.block c.args.frame c.loop-i.i c.requires.frame c.loop-i-test.true c.loop-i.invariant.0 filled_now, c.fill.ensures.whole, register_next rs c.loop-i.registers c.note_store.new.self g.row.WORDS entries c.args.block c.args.frame c.args.slot c.loop-i.i c.requires.slot c.loop-i-test.true c.loop-i.invariant.2 noted_now)
+    (frame_next d c.loop-i.directory c.fill.new.self g.row.WORDS entries c.args.block c.args.frame c.loop-i.i c.requires.frame c.loop-i-test.true c.loop-i.invariant.0 filled_now, c.fill.ensures.whole, c.note_store.ensures.whole, register_next rs c.loop-i.registers c.note_store.new.self g.row.WORDS entries c.args.block c.args.frame c.args.slot c.loop-i.i c.requires.slot c.loop-i-test.true c.loop-i.invariant.3 noted_now)
 
 pub returns-clause-directory : goal.returns-clause-directory
 returns-clause-directory g c =
@@ -37,4 +37,4 @@ returns-clause-directory g c =
 
 pub returns-clause-registers : goal.returns-clause-registers
 returns-clause-registers g c =
-    c.loop-i.invariant.2 ∙ ap (set c.args.registers.now c.args.slot) (register_whole g.row.WORDS c.args.queue.now.entries c.args.block c.args.frame c.loop-i.i (omega arith))
+    c.loop-i.invariant.3 ∙ ap (set c.args.registers.now c.args.slot) (register_whole g.row.WORDS c.args.queue.now.entries c.args.block c.args.frame c.loop-i.i (omega arith))

@@ -1,0 +1,200 @@
+-- What a miss may take, by the parts and by what they show.
+use Rattle.std.proofs.Common.{◌≡◌, ℕ, suc, zero, ◌+◌, ◌-◌, ◌*◌, ◌%◌, ◌/◌, ◌<◌, ◌≤◌, nat_lt, ◌==◌, ◌&&◌, ◌||◌, not, Bool, true, false, cond, List, [], ◌∷◌, map, length, get_or, Option, Some, None, is_none, is_some, refl, sym, ap, ap₂, ◌∙◌, arith, add-zero, eq-eqb, ne_eqb, lt-ltb, le-ltb, ltb-false}
+use Rattle.std.specs.Option.{option_or, option_map}
+use Rattle.std.specs.List.{find, filter, list_all, list_any, range_with_len}
+use Rattle.std.proofs.lemmas.Bool.{false≢true}
+use Rattle.std.proofs.lemmas.Option.{none-some}
+use Rattle.flat_model.specs.declared.Cause.{Cause}
+use Rattle.flat_model.specs.declared.Cause.TheVariants.{NoRegister, SetPending, QueueFull, BankFull}
+use Rattle.flat_model.specs.Places.{place_of}
+use Rattle.flat_model.proofs.Places.{place_of-map}
+use Rattle.input_stack.specs.declared.Entry.{Entry}
+use Rattle.write_queue.specs.declared.Queued.{Queued}
+use Rattle.write_queue.specs.Queue.{Queue}
+use Rattle.memory_banks.specs.declared.Command.{Command}
+use Rattle.memory_banks.specs.Banks.{commands_for}
+use Rattle.cache_directory.specs.declared.directory.Choice.{Choice}
+use Rattle.cache_directory.specs.declared.directory.Choice.TheVariants.{Free, Victim, AllPending}
+use Rattle.cache_directory.specs.Frames as dir
+use Rattle.cache_directory.proofs.Whole.{order_held}
+use Rattle.miss_registers.specs.Registers as regs
+use Rattle.cache_unit.specs.declared.Reply.{Reply}
+use Rattle.cache_unit.specs.State.{Sizes, Frame, Register, Cache, frame_at, live_for, free_slot, is_pending, is_pending_block, address}
+use Rattle.cache_unit.specs.Causes.{first_cause, is_resident_block, ways_of, order_of, choose, dirty_words, addresses, lacks_room, lacks_places, miss_causes}
+use Rattle.cache_unit.specs.Shown.{as_frame, as_register, as_cache}
+use Rattle.cache_unit.specs.Sound.{IsSound}
+use Rattle.cache_unit.specs.Reads.{block_reads, is_short}
+use Rattle.cache_unit.specs.GivenUp.{owed_words}
+use Rattle.cache_unit.specs.Miss.{chosen_frame}
+use Rattle.cache_directory.proofs.Choices.{IsFreeWay, IsResidentWay, chosen-free, chosen-victim, chosen-all_pending}
+use Rattle.cache_unit.proofs.Process.{frame_at-shown}
+use Rattle.cache_unit.proofs.Same.{live_for-shown, pending_is}
+use Rattle.cache_unit.proofs.SentReads.{length-commands_for-block_reads}
+use Rattle.cache_unit.proofs.FetchShown.{owed-shown}
+
+-- ---- tests over lists
+
+find-same : (p q : ℕ → Bool) (xs : List ℕ) → ((k : ℕ) → k < length xs → p (get_or xs k 0) ≡ q (get_or xs k 0)) → find p xs ≡ find q xs
+find-same p q [] h = refl
+find-same p q (x ∷ xs) h =
+    ap₂ (λ b (o : Option ℕ). cond b (Some x) o) (h 0 (omega arith)) (find-same p q xs (λ k l. h (suc k) (omega arith)))
+
+list_all-same : (p q : ℕ → Bool) (xs : List ℕ) → ((x : ℕ) → p x ≡ q x) → list_all p xs ≡ list_all q xs
+list_all-same p q [] h = refl
+list_all-same p q (x ∷ xs) h = ap₂ (λ a b. a && b) (h x) (list_all-same p q xs h)
+
+-- ---- the free register
+
+pub free_slot-shown : (d : dir.Frames) (rs : List regs.Register) (st : List Entry) (q : List Queued) (ready : List Reply) → free_slot (as_cache d rs st q ready) ≡ regs.free_slot rs
+unfolding regs.free_slot
+free_slot-shown d rs st q ready = place_of-map (λ (r : Register). not r.valid) as_register rs
+
+-- all registers are valid exactly where none is free
+record CountsValid (rs : List regs.Register) (o : Option ℕ) : Type 0 where
+  within : length (filter (λ (r : Register). r.valid) (map as_register rs)) ≤ length rs
+  all : o ≡ None → length (filter (λ (r : Register). r.valid) (map as_register rs)) ≡ length rs
+  some : (k : ℕ) → o ≡ Some k → length (filter (λ (r : Register). r.valid) (map as_register rs)) < length rs
+
+counts_valid : (rs : List regs.Register) → CountsValid rs (regs.free_slot rs)
+unfolding regs.free_slot
+counts_valid [] = record { within = omega arith; all = λ e. refl; some = λ k e. absurd (none-some k e) }
+counts_valid (r ∷ rs) =
+    let t = go r.valid (place_of (λ (x : regs.Register). not x.valid) rs) (counts_valid rs) in
+    record { within = t.0; all = t.1; some = t.2 }
+  where
+    go : (v : Bool) (o : Option ℕ) → CountsValid rs o → (length (cond v (as_register r ∷ filter (λ (x : Register). x.valid) (map as_register rs)) (filter (λ (x : Register). x.valid) (map as_register rs))) ≤ suc (length rs)) × (cond (not v) (Some 0) (option_map (λ k. suc k) o) ≡ None → length (cond v (as_register r ∷ filter (λ (x : Register). x.valid) (map as_register rs)) (filter (λ (x : Register). x.valid) (map as_register rs))) ≡ suc (length rs)) × ((k : ℕ) → cond (not v) (Some 0) (option_map (λ k. suc k) o) ≡ Some k → length (cond v (as_register r ∷ filter (λ (x : Register). x.valid) (map as_register rs)) (filter (λ (x : Register). x.valid) (map as_register rs))) < suc (length rs))
+    go false o c = (let w = c.within in omega arith, λ e. absurd (none-some 0 (sym e)), λ k e. (let w = c.within in omega arith))
+    go true None c = (let w = c.within in omega arith, λ e. ap suc (c.all refl), λ k e. absurd (none-some k e))
+    go true (Some j) c = (let w = c.within in omega arith, λ e. absurd (none-some (suc j) (sym e)), λ k e. (let l = c.some j refl in omega arith))
+
+-- a frame that may be taken for a block of the set
+pub record CanTake (ways : ℕ) (d : dir.Frames) (set f : ℕ) : Type 0 where
+  pub there : f < length d.frames
+  pub in_set : f / ways ≡ set
+  pub idle : (dir.frame_at d.frames f).pending ≡ false
+
+pub chosen_can : (ways words : ℕ) (d : dir.Frames) (set f : ℕ) → dir.IsWhole ways words d → set < length d.orders → chosen_frame (dir.chosen ways d set) ≡ Some f → CanTake ways d set f
+chosen_can ways words d set f h s e = go (dir.chosen ways d set) refl e
+  where
+    go : (o : Choice) → dir.chosen ways d set ≡ o → chosen_frame o ≡ Some f → CanTake ways d set f
+    go (Free g) q k =
+        let same : g ≡ f = cc in
+        let way = chosen-free ways words d set f h s (q ∙ ap Free same) in
+        record { there = way.there; in_set = way.in_set; idle = ap (λ (x : dir.Frame). x.pending) (h.empty f way.free) }
+    go (Victim g) q k =
+        let same : g ≡ f = cc in
+        let way = chosen-victim ways words d set f h (q ∙ ap Victim same) in
+        record { there = way.there; in_set = way.in_set; idle = way.settled }
+    go AllPending q k = absurd (none-some f k)
+
+-- all ways of the set are pending exactly where no frame is chosen
+pub chosen_none : (ways words : ℕ) (d : dir.Frames) (set : ℕ) → dir.IsWhole ways words d → is_none (chosen_frame (dir.chosen ways d set)) ≡ dir.are_pending ways d set
+chosen_none ways words d set h = go (dir.chosen ways d set) ∙ chosen-all_pending ways words d set h
+  where
+    go : (o : Choice) → is_none (chosen_frame o) ≡ dir.is_all_pending o
+    go (Free g) = refl
+    go (Victim g) = refl
+    go AllPending = refl
+
+-- ---- which frames are pending
+
+module _ (z : Sizes) (d : dir.Frames) (rs : List regs.Register) (st : List Entry) (q : Queue) (ready : List Reply) (h : IsSound z d rs st q ready) where
+  pub pending-shown : (f : ℕ) → is_pending (as_cache d rs st q.entries ready) f ≡ (dir.frame_at d.frames f).pending
+  pending-shown f =
+      ap (λ (x : Frame). is_pending_block (as_cache d rs st q.entries ready) x.block) (frame_at-shown d.frames f) ∙ go (dir.frame_at d.frames f).block refl
+    where
+      go : (o : Option ℕ) → (dir.frame_at d.frames f).block ≡ o → is_pending_block (as_cache d rs st q.entries ready) o ≡ (dir.frame_at d.frames f).pending
+      go None e = sym (ap (λ (x : dir.Frame). x.pending) (h.directory.empty f e))
+      go (Some b) e =
+          ap is_some (live_for-shown d rs st q.entries ready b) ∙ sym (pending_is d.frames rs f b h.tied e (λ g k. h.directory.alone f g b e k))
+
+  resident-shown : (f : ℕ) → dir.is_held d f ≡ true → is_resident_block (as_cache d rs st q.entries ready) (frame_at (as_cache d rs st q.entries ready) f).block ≡ not (dir.frame_at d.frames f).pending
+  resident-shown f held =
+      ap (λ (x : Frame). is_resident_block (as_cache d rs st q.entries ready) x.block) (frame_at-shown d.frames f) ∙ go (dir.frame_at d.frames f).block refl held
+    where
+      opposite : (o : Option ℕ) → is_none o ≡ not (is_some o)
+      opposite None = refl
+      opposite (Some x) = refl
+
+      go : (o : Option ℕ) → (dir.frame_at d.frames f).block ≡ o → is_some o ≡ true → is_resident_block (as_cache d rs st q.entries ready) o ≡ not (dir.frame_at d.frames f).pending
+      go None e k = absurd (false≢true k)
+      go (Some b) e k =
+          ap is_none (live_for-shown d rs st q.entries ready b) ∙ opposite (regs.live_for rs b) ∙ ap not (sym (pending_is d.frames rs f b h.tied e (λ g k. h.directory.alone f g b e k)))
+
+  pub all_pending-shown : (block : ℕ) → list_all (is_pending (as_cache d rs st q.entries ready)) (ways_of z block) ≡ dir.are_pending z.ways d (block % z.sets)
+  all_pending-shown block =
+      list_all-same (is_pending (as_cache d rs st q.entries ready)) (λ f. (dir.frame_at d.frames f).pending) (ways_of z block) pending-shown
+
+  pub choose-shown : (block : ℕ) → choose z (as_cache d rs st q.entries ready) block ≡ chosen_frame (dir.chosen z.ways d (block % z.sets))
+  unfolding choose dir.chosen dir.free_way dir.oldest
+  choose-shown block =
+      ap₂ option_or free old ∙ go (find (λ f. is_none (dir.frame_at d.frames f).block) (dir.ways_of z.ways (block % z.sets))) (find (λ f. not (dir.frame_at d.frames f).pending) (dir.order_of d (block % z.sets)))
+    where
+      set : ℕ
+      set = block % z.sets
+
+      free : find (λ f. is_none (frame_at (as_cache d rs st q.entries ready) f).block) (ways_of z block) ≡ find (λ f. is_none (dir.frame_at d.frames f).block) (dir.ways_of z.ways (block % z.sets))
+      free = find-same (λ f. is_none (frame_at (as_cache d rs st q.entries ready) f).block) (λ f. is_none (dir.frame_at d.frames f).block) (ways_of z block) (λ k l. ap (λ (x : Frame). is_none x.block) (frame_at-shown d.frames (get_or (ways_of z block) k 0)))
+
+      old : find (λ f. is_resident_block (as_cache d rs st q.entries ready) (frame_at (as_cache d rs st q.entries ready) f).block) (order_of d.orders (block % z.sets)) ≡ find (λ f. not (dir.frame_at d.frames f).pending) (dir.order_of d (block % z.sets))
+      old = find-same (λ f. is_resident_block (as_cache d rs st q.entries ready) (frame_at (as_cache d rs st q.entries ready) f).block) (λ f. not (dir.frame_at d.frames f).pending) (order_of d.orders (block % z.sets)) (λ k l. resident-shown (get_or (order_of d.orders (block % z.sets)) k 0) (order_held z.ways z.block_words d (block % z.sets) h.directory k 0 l).0)
+
+      go : (o p : Option ℕ) → option_or o p ≡ chosen_frame (dir.choice_from o p)
+      go (Some f) p = refl
+      go None (Some f) = refl
+      go None None = refl
+
+-- ---- the causes of a miss
+
+-- the first cause, by the four tests
+abbrev pub by_tests : Bool → Bool → Bool → Bool → Option Cause
+by_tests a b c e = first_cause ((a, NoRegister) ∷ (b, SetPending) ∷ (c, QueueFull) ∷ (e, BankFull) ∷ [])
+
+pub no_register : (a b c e : Bool) → a ≡ true → by_tests a b c e ≡ Some NoRegister
+no_register a b c e h = ap (λ x. by_tests x b c e) h
+
+pub set_pending : (a b c e : Bool) → a ≡ false → b ≡ true → by_tests a b c e ≡ Some SetPending
+set_pending a b c e h k = ap₂ (λ x y. by_tests x y c e) h k
+
+pub queue_full : (a b c e : Bool) → a ≡ false → b ≡ false → c ≡ true → by_tests a b c e ≡ Some QueueFull
+queue_full a b c e h k l = ap₂ (λ x y. by_tests x y c e) h k ∙ ap (λ x. by_tests false false x e) l
+
+pub bank_full : (a b c e : Bool) → a ≡ false → b ≡ false → c ≡ false → e ≡ true → by_tests a b c e ≡ Some BankFull
+bank_full a b c e h k l m = ap₂ (λ x y. by_tests x y c e) h k ∙ ap₂ (λ x y. by_tests false false x y) l m
+
+pub no_cause : (a b c e : Bool) → a ≡ false → b ≡ false → c ≡ false → e ≡ false → by_tests a b c e ≡ None
+no_cause a b c e h k l m = ap₂ (λ x y. by_tests x y c e) h k ∙ ap₂ (λ x y. by_tests false false x y) l m
+
+-- no test holds, where there is no cause
+pub record NoTest (a b c e : Bool) : Type 0 where
+  pub register : a ≡ false
+  pub set : b ≡ false
+  pub queue : c ≡ false
+  pub bank : e ≡ false
+
+pub no_test : (a b c e : Bool) → by_tests a b c e ≡ None → NoTest a b c e
+no_test true b c e h = absurd (none-some NoRegister (sym h))
+no_test false true c e h = absurd (none-some SetPending (sym h))
+no_test false false true e h = absurd (none-some QueueFull (sym h))
+no_test false false false true h = absurd (none-some BankFull (sym h))
+no_test false false false false h = record { register = refl; set = refl; queue = refl; bank = refl }
+
+-- ---- the four tests, by the parts
+
+pub register-test : (d : dir.Frames) (rs : List regs.Register) (st : List Entry) (q : List Queued) (ready : List Reply) (n : ℕ) → length rs ≡ n → (length (filter (λ (r : Register). r.valid) (as_cache d rs st q ready).registers) == n) ≡ is_none (regs.free_slot rs)
+register-test d rs st q ready n e = go (regs.free_slot rs) refl
+  where
+    c : CountsValid rs (regs.free_slot rs)
+    c = counts_valid rs
+
+    go : (o : Option ℕ) → regs.free_slot rs ≡ o → (length (filter (λ (r : Register). r.valid) (map as_register rs)) == n) ≡ is_none o
+    go None k = eq-eqb _ n ((counts_valid rs).all k ∙ e)
+    go (Some j) k = let l = (counts_valid rs).some j k in ne_eqb _ n (λ m. (let x : length (filter (λ (r : Register). r.valid) (map as_register rs)) ≡ n = m in omega arith))
+
+pub queue-test : (z : Sizes) (d : dir.Frames) (rs : List regs.Register) (st : List Entry) (q : Queue) (ready : List Reply) (f : ℕ) → q.limit ≡ z.write_queue → lacks_places z (as_cache d rs st q.entries ready) (Some f) ≡ nat_lt (q.limit - length q.entries) (length (owed_words z.block_words d f))
+queue-test z d rs st q ready f e =
+    ap₂ (λ n (l : List Queued). nat_lt (n - length q.entries) (length l)) (sym e) (owed-shown z d rs st q.entries ready f)
+
+pub bank-test : (z : Sizes) (room : ℕ → ℕ) (block : ℕ) → list_any (is_short room (block * z.block_words) z.block_words z.banks) (range_with_len 0 z.banks) ≡ lacks_room z room block
+bank-test z room block =
+    ap (λ k. list_any (λ b. nat_lt (room b) (length (filter (λ at. at % z.banks == b) (range_with_len k z.block_words)))) (range_with_len 0 z.banks)) (sym (add-zero (block * z.block_words)))

@@ -1,0 +1,24 @@
+use Rattle.std.proofs.Common.{◌≡◌, ◌+◌, ℕ, length, ap, sym, ◌∙◌, arith}
+use Rattle.cache_unit.specs.State.{tags}
+use Rattle.cache_unit.specs.Shown.{sizes_of, as_cache}
+use Rattle.cache_unit.proofs.Stepping.{value_by}
+use Rattle.cache_unit.proofs.Tags.{owing-all, length-tags}
+use Rattle.cache_unit.proofs.unit.CacheUnit.owed.Goals as goal
+
+pub overflow_add-result : goal.overflow_add-result
+overflow_add-result g c =
+    let s = c.self.inside in
+    let a = owing-all g.row.WORDS g.row.REGS s.directory s.registers s.stack s.queue.entries s.ready.items c.self.invariant.registers in
+    let b = length-tags g.row.WORDS g.row.REGS s.directory s.registers s.stack s.queue.entries s.ready.items c.self.invariant.registers in
+    let few = c.self.invariant.owes.few in
+    let most = c.self.invariant.ranges.few_replies in
+    let x = c.awaited.ensures.answer in
+    omega arith
+
+pub returns : goal.returns
+returns g c =
+    let s = c.self.inside in
+    let now = as_cache s.directory s.registers s.stack s.queue.entries s.ready.items in
+    let b = length-tags g.row.WORDS g.row.REGS s.directory s.registers s.stack s.queue.entries s.ready.items c.self.invariant.registers in
+    let x = c.awaited.ensures.answer in
+    value_by (sizes_of g.row.WAYS g.row.WORDS g.row.REGS g.row.DEPTH s.shape) now _ (λ z k. length (tags k)) _ c.self.view_is (omega arith)

@@ -1,0 +1,90 @@
+//! A miss, on the parts of the unit.
+ghost use Rattle.std.specs.Prelude.{◌≡◌, ℕ, ◌+◌, ◌*◌, ◌/◌, ◌^◌, ◌<◌, ◌≤◌, ◌++◌, length, false, None, Some};
+ghost use Rattle.cache_directory.specs.Frames as dir;
+ghost use Rattle.miss_registers.specs.Registers as regs;
+ghost use Rattle.miss_registers.specs.Whole as whole;
+ghost use Rattle.write_queue.specs.Queue.{queue as queue_of};
+ghost use Rattle.memory_banks.specs.Banks.{HasSent, commands_for};
+ghost use Rattle.cache_unit.specs.Reads.{block_reads};
+ghost use Rattle.cache_unit.specs.Miss.{chosen_frame};
+ghost use Rattle.cache_unit.specs.GivenUp.{owed_words, missed_frames, missed_registers};
+
+use crate::Places;
+use crate::begin::begin_words;
+use crate::reads::send_reads;
+use crate::victim::{dirty_words, give_up};
+use cache_directory::{Choice, Directory};
+use memory_banks::Lines;
+use miss_registers::RegisterFile;
+use write_queue::WriteQueue;
+
+/// The frame that the absent block takes: a free one of its set, else the resident one that was
+/// allocated longest ago; `None` where all are pending.
+pub fn choose_frame<const WAYS: usize, const WORDS: usize>(
+    directory: &Directory<WAYS, WORDS>,
+    block: u32,
+) -> Option<u32>
+    ensures { result ≡ chosen_frame (dir.chosen WAYS directory.now (dir.set_of directory.now block)) }
+{
+    match directory.choose(block) {
+        Choice::Free(frame) => Some(frame),
+        Choice::Victim(frame) => Some(frame),
+        Choice::AllPending => None,
+    }
+}
+
+/// How many words the frame owes to memory.
+pub fn words_owed<const WAYS: usize, const WORDS: usize>(
+    directory: &Directory<WAYS, WORDS>,
+    frame: u32,
+) -> u32
+    requires whole { dir.IsWhole WAYS WORDS directory.now }
+    requires frame { frame < length directory.now.frames }
+    ensures { result ≡ length (owed_words WORDS directory.now frame) }
+{
+    match directory.block_of(frame) {
+        Some(_) => dirty_words(directory, frame),
+        None => 0,
+    }
+}
+
+/// Brings an absent block in: the frame is given up and holds the block, with the newest queued
+/// bytes of its words; the register waits for them; and the reads go to the banks.
+pub fn bring_in<L: Lines, const WAYS: usize, const WORDS: usize, const REGS: usize>(
+    directory: &mut Directory<WAYS, WORDS>,
+    registers: &mut RegisterFile<WORDS, REGS>,
+    queue: &mut WriteQueue,
+    lines: &mut L,
+    banks: u32,
+    block: u32,
+    places: Places,
+)
+    requires whole { dir.IsWhole WAYS WORDS directory.old }
+    requires whole_file { whole.IsWhole WORDS REGS registers.old }
+    requires absent { dir.frame_of directory.old.frames block ≡ None }
+    requires frame { places.frame < length directory.old.frames }
+    requires of_set { places.frame / WAYS ≡ dir.set_of directory.old block }
+    requires slot { places.slot < length registers.old }
+    requires free { (regs.register_at registers.old places.slot).valid ≡ false }
+    requires no_live { regs.live_for registers.old block ≡ None }
+    requires fits { block * WORDS + WORDS < 2 ^ 32 }
+    requires held_fits { (b : ℕ) → (dir.frame_at directory.old.frames places.frame).block ≡ Some b → b * WORDS + WORDS < 2 ^ 32 }
+    requires room { length queue.old.entries + length (owed_words WORDS directory.old places.frame) ≤ queue.old.limit }
+    requires some_banks { 0 < banks }
+    requires bank_room { (b : ℕ) → length (commands_for b (block_reads places.slot (block * WORDS) WORDS banks WORDS)) ≤ L.room_of lines.old b }
+    ensures directory { directory.new
+        ≡ missed_frames WAYS WORDS directory.old (queue.old.entries ++ owed_words WORDS directory.old places.frame) places.frame block }
+    ensures registers { registers.new
+        ≡ missed_registers WORDS registers.old (queue.old.entries ++ owed_words WORDS directory.old places.frame) places.frame places.slot block }
+    ensures queue { queue.new ≡ queue_of (queue.old.entries ++ owed_words WORDS directory.old places.frame) queue.old.limit }
+    ensures lines { HasSent L.sent_to L.room_of L.same lines.old lines.new (block_reads places.slot (block * WORDS) WORDS banks WORDS) }
+    ensures whole { dir.IsWhole WAYS WORDS directory.new }
+    ensures whole_file { whole.IsWhole WORDS REGS registers.new }
+{
+    let Places { frame, slot } = places;
+    give_up(directory, queue, frame);
+    directory.install(frame, block);
+    registers.allocate(slot, block, frame);
+    begin_words(directory, registers, queue, frame, slot, block);
+    send_reads(lines, slot, block * WORDS as u32, WORDS as u32, banks);
+}

@@ -1,0 +1,61 @@
+//! A request for a block that no frame holds.
+ghost use Rattle.std.specs.Prelude.{◌≡◌, ℕ, ◌+◌, ◌*◌, ◌≤◌, Bool, false, IfOk, IfErr, Some, None};
+ghost use Rattle.memory_banks.specs.Banks.{HasSent};
+ghost use Rattle.cache_unit.specs.State.{is_present};
+ghost use Rattle.cache_unit.specs.Causes.{first_cause, miss_causes};
+ghost use Rattle.cache_unit.specs.Steps.{fetched, fetches};
+ghost use Rattle.cache_unit.specs.Miss.{MayTake};
+
+use crate::fetch::{bring_in, choose_frame, words_owed};
+use crate::reads::lacks_room;
+use crate::{CacheUnit, Places};
+use flat_model::Cause;
+use memory_banks::Lines;
+
+impl<const WAYS: usize, const WORDS: usize, const REGS: usize, const DEPTH: usize> CacheUnit<
+    WAYS,
+    WORDS,
+    REGS,
+    DEPTH,
+> {
+    // The frame and the register that a miss on the block takes, or the first cause against it.
+    pub(super) fn find_places<L: Lines>(&self, lines: &L, block: u32) -> Result<Places, Cause>
+        requires { block * WORDS + WORDS ≤ self.now.sizes.words }
+        ensures refused { IfErr result (λ cause. first_cause (miss_causes self.now.sizes (L.room_of lines.now) self.now.cache block) ≡ Some cause) }
+        ensures found { IfOk result (λ places. MayTake self.now.sizes (L.room_of lines.now) self.now.cache block places) }
+    {
+        let Some(slot) = self.registers.free_slot() else {
+            return Err(Cause::NoRegister);
+        };
+        let Some(frame) = choose_frame(&self.directory, block) else {
+            return Err(Cause::SetPending);
+        };
+        if self.queue.room() < words_owed(&self.directory, frame) {
+            return Err(Cause::QueueFull);
+        }
+        let first = block * WORDS as u32;
+        if lacks_room(lines, first, WORDS as u32, self.shape.banks) {
+            return Err(Cause::BankFull);
+        }
+        Ok(Places { frame, slot })
+    }
+
+    // Brings an absent block in, where no cause stands against it.
+    pub(super) fn fetch<L: Lines>(&mut self, lines: &mut L, block: u32, places: Places)
+        requires absent { is_present self.old.cache block ≡ false }
+        requires in_memory { block * WORDS + WORDS ≤ self.old.sizes.words }
+        requires may_take { MayTake self.old.sizes (L.room_of lines.old) self.old.cache block places }
+        ensures unit { self.new ≡ record self.old { cache = fetched self.old.sizes self.old.cache block } }
+        ensures lines { HasSent L.sent_to L.room_of L.same lines.old lines.new (fetches self.old.sizes self.old.cache block) }
+    {
+        bring_in(
+            &mut self.directory,
+            &mut self.registers,
+            &mut self.queue,
+            lines,
+            self.shape.banks,
+            block,
+            places,
+        );
+    }
+}

@@ -1,0 +1,165 @@
+//! Loads and stores of a block that a frame holds.
+ghost use Rattle.std.specs.Prelude.{◌≡◌, ◌+◌, ◌<◌, ◌==◌, length, true, false};
+ghost use Rattle.std.specs.List.{list_any};
+ghost use Rattle.cache_directory.specs.Frames as dir;
+ghost use Rattle.miss_registers.specs.Registers as regs;
+ghost use Rattle.miss_registers.specs.Whole.{IsWhole};
+ghost use Rattle.cache_unit.specs.State.{cell_of, tags};
+ghost use Rattle.cache_unit.specs.Causes.{found, is_in_use, targets_full};
+ghost use Rattle.cache_unit.specs.Steps.{loaded, written};
+ghost use Rattle.cache_unit.specs.Parts.{finding_of, written_for, noted_for};
+
+use crate::{CacheUnit, Reply};
+use cache_directory::Directory;
+use flat_model::{Lanes, Word, merge};
+use miss_registers::RegisterFile;
+
+/// Where a load finds its word.
+#[derive(Clone, Copy)]
+pub enum Finding {
+    /// The word is at hand.
+    Here(Word),
+    /// It is on its way to the register in `slot`, for which `waiting` loads wait: `held` are the
+    /// bytes that stand in the lanes of `code` already.
+    Coming {
+        slot: u32,
+        held: Word,
+        code: Lanes,
+        waiting: u32,
+    },
+}
+
+impl<const WAYS: usize, const WORDS: usize, const REGS: usize, const DEPTH: usize> CacheUnit<
+    WAYS,
+    WORDS,
+    REGS,
+    DEPTH,
+> {
+    /// How many loads are awaited or stand ready.
+    pub fn owed(&self) -> u32
+        ensures { result ≡ length (tags self.now.cache) }
+    {
+        self.registers.awaited() + self.ready.len() as u32
+    }
+
+    // Whether a load with this tag waits or stands ready.
+    pub(super) fn is_in_use(&self, tag: u16) -> bool
+        ensures { result ≡ is_in_use self.now.cache tag }
+    {
+        has_tag(self.ready.as_slice(), tag) || self.registers.tag_waits(tag)
+    }
+
+    // The buffer's word, or the zero word where no frame holds the block.
+    fn buffered(&self, block: u32, i: u32) -> Word
+        requires { i < self.now.sizes.block_words }
+        ensures { result ≡ (cell_of self.now.cache block i).word }
+    {
+        match self.directory.look(block) {
+            Some(frame) => self.directory.word(frame, i),
+            None => Word::default(),
+        }
+    }
+
+    // Where a load of the block's word finds it.
+    pub(super) fn find_word(&self, block: u32, i: u32) -> Finding
+        requires { i < self.now.sizes.block_words }
+        ensures { result ≡ finding_of self.now.cache block i (found self.now.cache block i) }
+    {
+        let buffer = self.buffered(block, i);
+        let Some(slot) = self.registers.live_for(block) else {
+            return Finding::Here(buffer);
+        };
+        let Some(field) = self.registers.field(slot, i) else {
+            return Finding::Here(buffer);
+        };
+        if field.processed || field.code.has_all() {
+            return Finding::Here(buffer);
+        }
+        match self.stack.find(slot, i) {
+            Some(word) => Finding::Here(merge(word, buffer, field.code)),
+            None => Finding::Coming {
+                slot,
+                held: merge(Word::default(), buffer, field.code),
+                code: field.code,
+                waiting: field.targets,
+            },
+        }
+    }
+
+    // A load that may be accepted, of a block that is present: its value is ready, or it waits.
+    pub(super) fn load_present(&mut self, tag: u16, block: u32, i: u32)
+        requires word { i < self.old.sizes.block_words }
+        requires new_tag { is_in_use self.old.cache tag ≡ false }
+        requires replies { length (tags self.old.cache) < self.old.sizes.replies }
+        requires targets { targets_full self.old.cache i (found self.old.cache block i) ≡ false }
+        ensures { self.new
+            ≡ record self.old { cache = loaded self.old.cache tag i (cell_of self.old.cache block i).word (found self.old.cache block i) } }
+    {
+        match self.find_word(block, i) {
+            Finding::Here(word) => self.ready.push(Reply { tag, word }),
+            Finding::Coming {
+                slot,
+                held,
+                code,
+                ..
+            } => self.registers.await_word(slot, i, tag, held, code),
+        }
+    }
+
+    // A store into a block that is present.
+    pub(super) fn store_present(&mut self, block: u32, i: u32, word: Word, lanes: Lanes)
+        requires { i < self.old.sizes.block_words }
+        ensures { self.new ≡ record self.old { cache = written self.old.cache block i word lanes } }
+    {
+        write_buffer(&mut self.directory, block, i, word, lanes);
+        note_code(&mut self.registers, block, i, lanes);
+    }
+}
+
+// Whether a reply with this tag stands ready.
+fn has_tag(ready: &[Reply], tag: u16) -> bool
+    ensures { result ≡ list_any (λ r. r.tag == tag) ready.now }
+{
+    ready.iter().any(|r| r.tag == tag)
+}
+
+// The bytes go into the buffer, where a frame holds the block.
+fn write_buffer<const WAYS: usize, const WORDS: usize>(
+    directory: &mut Directory<WAYS, WORDS>,
+    block: u32,
+    i: u32,
+    word: Word,
+    lanes: Lanes,
+)
+    requires whole { dir.IsWhole WAYS WORDS directory.old }
+    requires there { i < WORDS }
+    ensures written { directory.new ≡ written_for directory.old (dir.frame_of directory.old.frames block) i word lanes }
+    ensures whole { dir.IsWhole WAYS WORDS directory.new }
+{
+    if let Some(frame) = directory.look(block) {
+        directory.write(frame, i, word, lanes);
+    }
+}
+
+// The lanes join the word's code, where it is still on its way to a live register.
+fn note_code<const WORDS: usize, const REGS: usize>(
+    registers: &mut RegisterFile<WORDS, REGS>,
+    block: u32,
+    i: u32,
+    lanes: Lanes,
+)
+    requires whole { IsWhole WORDS REGS registers.old }
+    requires there { i < WORDS }
+    ensures noted { registers.new ≡ noted_for registers.old (regs.live_for registers.old block) i lanes }
+    ensures whole { IsWhole WORDS REGS registers.new }
+{
+    let Some(slot) = registers.live_for(block) else {
+        return;
+    };
+    let Some(field) = registers.field(slot, i) else {
+        return;
+    };
+    if !field.processed {
+        registers.note_store(slot, i, lanes);
+    }
+}
