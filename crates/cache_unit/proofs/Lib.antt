@@ -25,7 +25,6 @@ pub mod FormsRequests
 pub mod FormsStoring
 pub mod Same
 pub mod GiveUp
-pub mod Install
 pub mod Stepping
 pub mod FetchShown
 pub mod FetchSound

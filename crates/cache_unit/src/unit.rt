@@ -4,6 +4,7 @@ ghost use Rattle.memory_banks.specs.Banks.{HasSent};
 ghost use Rattle.cache_directory.specs.Frames as dir;
 ghost use Rattle.cache_unit.specs.Steps as steps;
 ghost use Rattle.cache_unit.specs.Views as views;
+ghost use Rattle.cache_unit.specs.FormLaws as laws;
 ghost use Rattle.cache_unit.specs.State.{frame_of};
 ghost use Rattle.cache_unit.specs.Causes.{lacks_places};
 ghost use Rattle.cache_unit.specs.Parts.{filled_live, retired, CanFill};
@@ -62,6 +63,7 @@ impl<const WAYS: usize, const WORDS: usize, const REGS: usize, const DEPTH: usiz
         ensures answer { result ≡ (steps.drain_step self.old.sizes (L.room_of lines.old) self.old.cache).answer }
         ensures unit { self.new
             ≡ record self.old { cache = (steps.drain_step self.old.sizes (L.room_of lines.old) self.old.cache).cache } }
+        ensures forms { laws.DrainForms self.old.sizes self.old.cache result self.new.cache }
         ensures lines { HasSent L.sent_to L.room_of L.same lines.old lines.new (steps.drain_step self.old.sizes (L.room_of lines.old) self.old.cache).sent }
     {
         let Some(front) = self.queue.front() else {
@@ -91,6 +93,7 @@ impl<const WAYS: usize, const WORDS: usize, const REGS: usize, const DEPTH: usiz
         ensures answer { result ≡ (steps.evict_step self.old.sizes self.old.cache block).answer }
         ensures unit { self.new
             ≡ record self.old { cache = (steps.evict_step self.old.sizes self.old.cache block).cache } }
+        ensures forms { laws.EvictForms self.old.sizes self.old.cache block result self.new.cache }
     {
         let words = u64::from(self.shape.words);
         let first = u64::from(block) * WORDS as u64;
@@ -125,6 +128,7 @@ impl<const WAYS: usize, const WORDS: usize, const REGS: usize, const DEPTH: usiz
     pub fn take(&mut self, place: u32) -> Answer
         ensures answer { result ≡ (steps.take_step self.old.cache place).answer }
         ensures unit { self.new ≡ record self.old { cache = (steps.take_step self.old.cache place).cache } }
+        ensures forms { laws.TakenForms self.old.sizes self.old.cache result self.new.cache }
     {
         if (place as usize) < self.ready.len() {
             let reply = self.ready.remove(place as usize);
@@ -142,6 +146,7 @@ impl<const WAYS: usize, const WORDS: usize, const REGS: usize, const DEPTH: usiz
         ensures answer { result ≡ (steps.arrive_step self.old.sizes self.old.cache slot i word).answer }
         ensures unit { self.new
             ≡ record self.old { cache = (steps.arrive_step self.old.sizes self.old.cache slot i word).cache } }
+        ensures forms { laws.ArriveForms self.old.sizes self.old.cache slot i word result self.new.cache }
     {
         if !self.registers.expects(slot, i) {
             return Answer::Refused(Cause::StrayWord);
@@ -160,6 +165,7 @@ impl<const WAYS: usize, const WORDS: usize, const REGS: usize, const DEPTH: usiz
     pub fn process(&mut self, place: u32) -> Answer
         ensures answer { result ≡ (steps.process_step self.old.cache place).answer }
         ensures unit { self.new ≡ record self.old { cache = (steps.process_step self.old.cache place).cache } }
+        ensures forms { laws.ProcessForms self.old.sizes self.old.cache result self.new.cache }
     {
         let Some(e) = self.stack.remove(place) else {
             return Answer::Nothing;

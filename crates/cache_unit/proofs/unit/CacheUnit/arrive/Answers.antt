@@ -8,6 +8,7 @@ use Rattle.cache_unit.specs.State.{Sizes, Cache, UnitState}
 use Rattle.cache_unit.specs.Steps.{Stepped, arrive_step}
 use Rattle.cache_unit.specs.Shown.{sizes_of, as_cache}
 use Rattle.cache_unit.proofs.Arrive.{Expected-from, stray-shown, arrive-stray, arrive-full, arrive-moved, arrived-shown, IsSound-arrived, view_after, at_least}
+use Rattle.cache_unit.proofs.FormsEvents.{arrive_forms}
 use Rattle.cache_unit.proofs.unit.CacheUnit.arrive.Goals as goal
 
 pub returns-then-not-expects-clause-answer : goal.returns-then-not-expects-clause-answer
@@ -66,3 +67,15 @@ returns-in-Err-clause-unit g c =
     let u : UnitState = record { sizes = sz; cache = as_cache s.directory s.registers s.stack s.queue.entries s.ready.items } in
     let e : u ≡ c.args.self.now = c.self.view_is in
     rw (c.in-Err.ensures.err) (e ∙ ap (λ (x : Stepped). record c.args.self.now { cache = x.cache }) (sym m))
+
+pub returns-then-not-expects-clause-forms : goal.returns-then-not-expects-clause-forms
+returns-then-not-expects-clause-forms g c =
+    arrive_forms c.args.self.now.sizes c.args.self.now.cache c.args.slot c.args.i c.args.word _ _ (returns-then-not-expects-clause-answer g c) (ap (λ (u : UnitState). u.cache) (returns-then-not-expects-clause-unit g c))
+
+pub returns-in-Ok-clause-forms : goal.returns-in-Ok-clause-forms
+returns-in-Ok-clause-forms g c =
+    arrive_forms c.args.self.now.sizes c.args.self.now.cache c.args.slot c.args.i c.args.word _ _ (returns-in-Ok-clause-answer g c) (ap (λ (u : UnitState). u.cache) (returns-in-Ok-clause-unit g c))
+
+pub returns-in-Err-clause-forms : goal.returns-in-Err-clause-forms
+returns-in-Err-clause-forms g c =
+    arrive_forms c.args.self.now.sizes c.args.self.now.cache c.args.slot c.args.i c.args.word _ _ (returns-in-Err-clause-answer g c) (ap (λ (u : UnitState). u.cache) (returns-in-Err-clause-unit g c))

@@ -9,6 +9,8 @@ use Rattle.cache_unit.proofs.Process.{frame_of-shown}
 use Rattle.cache_unit.proofs.Stepping.{made, answer_of, cache_of}
 use Rattle.cache_unit.proofs.GiveUp.{lacks-true, lacks-false}
 use Rattle.cache_unit.proofs.Evicting.{product_fits, evict_outside, evict_absent, evict_full, evict_done, evicted_is}
+use Rattle.cache_unit.proofs.FormsEvicting.{evict_forms, evict_refused}
+use Rattle.cache_unit.proofs.FormsSound.{sound_shown}
 use Rattle.cache_unit.proofs.unit.CacheUnit.evict.Goals as goal
 
 pub overflow_mul-first : goal.overflow_mul-first
@@ -131,3 +133,18 @@ returns-clause-unit g c =
     let t = evict_done z now c.args.block c.in-Some.frame lt shown l in
     let made_of : Cache → UnitState = λ (x : Cache). record c.args.self.now { cache = x } in
     c.give_up.ensures ∙ ap made_of (evicted_is z now c.args.self.now c.args.block c.in-Some.frame c.self.view_is (ap (λ (x : Stepped). x.cache) t))
+
+pub returns-then-first-words-clause-forms : goal.returns-then-first-words-clause-forms
+returns-then-first-words-clause-forms g c = evict_refused c.args.self.now.sizes c.args.self.now.cache c.args.block _
+
+pub returns-in_default-clause-forms : goal.returns-in_default-clause-forms
+returns-in_default-clause-forms g c = evict_refused c.args.self.now.sizes c.args.self.now.cache c.args.block _
+
+pub returns-then-room-dirty-clause-forms : goal.returns-then-room-dirty-clause-forms
+returns-then-room-dirty-clause-forms g c = evict_refused c.args.self.now.sizes c.args.self.now.cache c.args.block _
+
+pub returns-clause-forms : goal.returns-clause-forms
+returns-clause-forms g c =
+    let s = c.self.inside in
+    let h = sound_shown (sizes_of g.row.WAYS g.row.WORDS g.row.REGS g.row.DEPTH s.shape) s.directory s.registers s.stack s.queue s.ready.items c.self.invariant c.args.self.now c.self.view_is in
+    evict_forms c.args.self.now.sizes c.args.self.now.cache h c.args.block _ _ (returns-clause-answer g c) (ap (λ (u : UnitState). u.cache) (returns-clause-unit g c))

@@ -9,6 +9,10 @@ use Rattle.input_stack.specs.declared.Entry.{Entry}
 use Rattle.cache_unit.specs.Sound.{entry_at, no_entry, IsSound}
 use Rattle.cache_unit.proofs.Calls.{Taken, Taken-from, can_finish, can_fill, can_answer, sound_after, step_after, unit_after}
 use Rattle.cache_unit.specs.Shown.{sizes_of as sz}
+use Rattle.cache_unit.specs.Steps.{process_step}
+use Rattle.cache_unit.specs.State.{UnitState}
+use Rattle.cache_unit.proofs.FormsProcessing.{process_forms}
+use Rattle.cache_unit.proofs.FormsSound.{sound_shown}
 use Rattle.cache_unit.proofs.unit.CacheUnit.process.Goals as goal
 
 pub finish_word-end-requires : goal.finish_word-end-requires
@@ -51,3 +55,19 @@ returns-clause-unit g c =
     let z = step_after (sz g.row.WAYS g.row.WORDS g.row.REGS g.row.DEPTH s.shape) s.directory s.registers s.stack s.queue s.ready.items c.args.place e l c.self.invariant (sym c.remove.ensures.value ∙ c.in-Some.is) in
     let f = c.finish_word-end.ensures in
     rw (c.fill_live.ensures.filled, f.registers, c.in-Some.ensures.taken, c.answer_all.ensures, f.send, f.live, f.keep) (unit_after (sz g.row.WAYS g.row.WORDS g.row.REGS g.row.DEPTH s.shape) _ _ _ c.args.place c.self.view_is z)
+
+pub returns-clause-forms : goal.returns-clause-forms
+returns-clause-forms g c =
+    let s = c.self.inside in
+    let h = sound_shown (sz g.row.WAYS g.row.WORDS g.row.REGS g.row.DEPTH s.shape) s.directory s.registers s.stack s.queue s.ready.items c.self.invariant c.args.self.now c.self.view_is in
+    process_forms c.args.self.now.sizes c.args.self.now.cache h c.args.place _ _ (ap (λ (u : UnitState). u.cache) (returns-clause-unit g c))
+
+pub returns-in_default-clause-unit : goal.returns-in_default-clause-unit
+unfolding process_step
+returns-in_default-clause-unit g c = search rules
+
+pub returns-in_default-clause-forms : goal.returns-in_default-clause-forms
+returns-in_default-clause-forms g c =
+    let s = c.self.inside in
+    let h = sound_shown (sz g.row.WAYS g.row.WORDS g.row.REGS g.row.DEPTH s.shape) s.directory s.registers s.stack s.queue s.ready.items c.self.invariant c.args.self.now c.self.view_is in
+    process_forms c.args.self.now.sizes c.args.self.now.cache h c.args.place _ _ (ap (λ (u : UnitState). u.cache) (returns-in_default-clause-unit g c))

@@ -5,6 +5,9 @@ use Rattle.cache_unit.specs.Shown.{sizes_of, as_cache}
 use Rattle.cache_unit.specs.Steps.{Stepped, take_step}
 use Rattle.cache_unit.proofs.Owing.{owes-remove}
 use Rattle.cache_unit.proofs.Stepping.{answer_of, cache_of, taken, none_taken, IsSound-ready}
+use Rattle.cache_unit.specs.State.{UnitState}
+use Rattle.cache_unit.proofs.FormsEvents.{take_forms, take_nothing}
+use Rattle.cache_unit.proofs.FormsSound.{sound_shown}
 use Rattle.cache_unit.proofs.unit.CacheUnit.take.Goals as goal
 
 pub returns-then-place-len-clause-answer : goal.returns-then-place-len-clause-answer
@@ -35,3 +38,12 @@ invariant_of-self g c =
     let z = sizes_of g.row.WAYS g.row.WORDS g.row.REGS g.row.DEPTH s.shape in
     let o = owes-remove z s.ready.items s.registers c.args.place c.self.invariant.owes in
     rw c.remove-reply.ensures.items (IsSound-ready z s.directory s.registers s.stack s.queue s.ready.items (remove s.ready.items c.args.place) o c.self.invariant)
+
+pub returns-then-place-len-clause-forms : goal.returns-then-place-len-clause-forms
+returns-then-place-len-clause-forms g c =
+    let s = c.self.inside in
+    let h = sound_shown (sizes_of g.row.WAYS g.row.WORDS g.row.REGS g.row.DEPTH s.shape) s.directory s.registers s.stack s.queue s.ready.items c.self.invariant c.args.self.now c.self.view_is in
+    take_forms c.args.self.now.sizes c.args.self.now.cache h c.args.place _ _ (returns-then-place-len-clause-answer g c) (ap (λ (u : UnitState). u.cache) (returns-then-place-len-clause-unit g c))
+
+pub returns-else-place-len-clause-forms : goal.returns-else-place-len-clause-forms
+returns-else-place-len-clause-forms g c = take_nothing c.args.self.now.sizes c.args.self.now.cache
