@@ -26,7 +26,12 @@ use miss_registers::{OwedList, RegisterFile};
 use std::marker::Model;
 use write_queue::{Queued, WriteQueue};
 
-/// The cache's control.
+/// A cache of `WAYS` (1 to 8) frames of `WORDS` (1 to 16) words in each set, with `REGS` (1 to 16)
+/// registers for missing blocks and a stack of `DEPTH` (1 to 16) words that came from memory.
+///
+/// Words and blocks are numbered from 0: block `b` has the words from `b * WORDS` on. The unit
+/// sends its reads and writes to banks over [`Lines`], and is given the words that come back by
+/// [`CacheUnit::arrive`].
 #[derive(Drop)]
 pub struct CacheUnit<const WAYS: usize, const WORDS: usize, const REGS: usize, const DEPTH: usize> {
     shape: Shape,
@@ -141,7 +146,9 @@ impl<const WAYS: usize, const WORDS: usize, const REGS: usize, const DEPTH: usiz
         }
     }
 
-    /// Puts a word that came from memory into the stack.
+    /// Puts the word `i` for the register in `slot`, which came from memory, last into the stack.
+    /// Refused where no register waits for it (13) or the stack is full (12); both leave everything
+    /// unchanged.
     pub fn arrive(&mut self, slot: u32, i: u32, word: Word) -> Answer
         ensures answer { result ≡ (steps.arrive_step self.old.sizes self.old.cache slot i word).answer }
         ensures unit { self.new
@@ -160,7 +167,9 @@ impl<const WAYS: usize, const WORDS: usize, const REGS: usize, const DEPTH: usiz
         }
     }
 
-    /// Takes a word out of the stack, and answers the loads that wait for it.
+    /// Takes the word at `place` out of the stack. The loads that wait for it are answered in their
+    /// order, and where its register is live, the buffer's lanes outside the word's code take its
+    /// bytes. `Nothing` says that there is no such place, and changes nothing.
     #[tactic(auto, unfolding(crate::specs::Steps::process_step))]
     pub fn process(&mut self, place: u32) -> Answer
         ensures answer { result ≡ (steps.process_step self.old.cache place).answer }

@@ -1,9 +1,10 @@
 //! Loads and stores of a block that a frame holds.
-ghost use Rattle.std.specs.Prelude.{◌≡◌, ◌+◌, ◌<◌, ◌==◌, length, true, false};
+ghost use Rattle.std.specs.Prelude.{◌≡◌, ◌+◌, ◌<◌, ◌≤◌, ◌==◌, length, true, false};
 ghost use Rattle.std.specs.List.{list_any};
 ghost use Rattle.cache_directory.specs.Frames as dir;
 ghost use Rattle.miss_registers.specs.Registers as regs;
 ghost use Rattle.miss_registers.specs.Whole.{IsWhole};
+ghost use Rattle.cache_unit.specs.SoundCache.{IsSoundCache};
 ghost use Rattle.cache_unit.specs.State.{cell_of, tags};
 ghost use Rattle.cache_unit.specs.Causes.{found, is_in_use, targets_full};
 ghost use Rattle.cache_unit.specs.Steps.{loaded, written};
@@ -35,9 +36,13 @@ impl<const WAYS: usize, const WORDS: usize, const REGS: usize, const DEPTH: usiz
     REGS,
     DEPTH,
 > {
-    /// How many loads are awaited or stand ready.
+    /// How many loads are awaited or stand ready: at most the shape's replies. Of every unit it is
+    /// so, besides, that no tag is owed two values, that a block lies in one frame at most and has
+    /// one live register at most, and that each word in the stack is one that its register awaits.
     pub fn owed(&self) -> u32
-        ensures { result ≡ length (tags self.now.cache) }
+        ensures value { result ≡ length (tags self.now.cache) }
+        ensures few { result ≤ self.now.sizes.replies }
+        ensures sound { IsSoundCache self.now.sizes self.now.cache }
     {
         self.registers.awaited() + self.ready.len() as u32
     }

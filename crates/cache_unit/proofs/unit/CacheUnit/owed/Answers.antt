@@ -1,8 +1,9 @@
-use Rattle.std.proofs.Common.{◌≡◌, ◌+◌, ℕ, length, ap, sym, ◌∙◌, arith}
-use Rattle.cache_unit.specs.State.{tags}
+use Rattle.std.proofs.Common.{◌≡◌, ◌+◌, ◌≤◌, ℕ, length, ap, sym, subst, ◌∙◌, arith}
+use Rattle.cache_unit.specs.State.{UnitState, tags}
 use Rattle.cache_unit.specs.Shown.{sizes_of, as_cache}
 use Rattle.cache_unit.proofs.Stepping.{value_by}
 use Rattle.cache_unit.proofs.Tags.{owing-all, length-tags}
+use Rattle.cache_unit.proofs.FormsSound.{sound_shown}
 use Rattle.cache_unit.proofs.unit.CacheUnit.owed.Goals as goal
 
 pub overflow_add-result : goal.overflow_add-result
@@ -15,10 +16,24 @@ overflow_add-result g c =
     let x = c.awaited.ensures.answer in
     omega arith
 
-pub returns : goal.returns
-returns g c =
+pub returns-clause-value : goal.returns-clause-value
+returns-clause-value g c =
     let s = c.self.inside in
     let now = as_cache s.directory s.registers s.stack s.queue.entries s.ready.items in
     let b = length-tags g.row.WORDS g.row.REGS s.directory s.registers s.stack s.queue.entries s.ready.items c.self.invariant.registers in
     let x = c.awaited.ensures.answer in
     value_by (sizes_of g.row.WAYS g.row.WORDS g.row.REGS g.row.DEPTH s.shape) now _ (λ z k. length (tags k)) _ c.self.view_is (omega arith)
+
+pub returns-clause-few : goal.returns-clause-few
+returns-clause-few g c =
+    let s = c.self.inside in
+    let a = owing-all g.row.WORDS g.row.REGS s.directory s.registers s.stack s.queue.entries s.ready.items c.self.invariant.registers in
+    let b = length-tags g.row.WORDS g.row.REGS s.directory s.registers s.stack s.queue.entries s.ready.items c.self.invariant.registers in
+    let few = c.self.invariant.owes.few in
+    let x = c.awaited.ensures.answer in
+    subst (λ (v : UnitState). c.awaited.result + c.len.result ≤ v.sizes.replies) c.self.view_is (omega arith)
+
+pub returns-clause-sound : goal.returns-clause-sound
+returns-clause-sound g c =
+    let s = c.self.inside in
+    sound_shown (sizes_of g.row.WAYS g.row.WORDS g.row.REGS g.row.DEPTH s.shape) s.directory s.registers s.stack s.queue s.ready.items c.self.invariant c.args.self.now c.self.view_is
