@@ -197,6 +197,7 @@ fetched-by z c h block able = go (frame_of c block) refl
     there : (k : ℕ) → frame_of c block ≡ Some k → FetchedBy z c block c
     there k e =
         record {
+          waits = λ a s l j. (let n : is_some (frame_of c block) ≡ true = ap is_some e in cc);
           words = λ at. sym (ap (λ o. cond (is_some o) (form_at z c) (missed_words z c block (choose z c block) (free_slot c)) at) e);
           same_targets = refl;
           same_ready = refl;

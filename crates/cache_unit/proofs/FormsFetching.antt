@@ -1,5 +1,5 @@
 -- A missing block gets a frame and a register, and its words are asked for.
-use Rattle.std.proofs.Common.{◌≡◌, ℕ, zero, suc, ◌+◌, ◌<◌, true, false, cond, not, ◌==◌, List, [], ◌++◌, map, length, get_or, set, Option, Some, None, refl, sym, ap, ◌∙◌, arith, ◌⊎◌, inl, inr, ⊎_elim, mod-lt, div-add-mod', get_or-set_same, get_or-set_other, add-zero, eq-eqb, ne_eqb}
+use Rattle.std.proofs.Common.{◌≡◌, ℕ, zero, suc, ◌+◌, ◌<◌, true, false, cond, not, ◌==◌, List, [], ◌∷◌, ◌++◌, map, length, get_or, set, Option, Some, None, refl, sym, ap, ◌∙◌, arith, ◌⊎◌, inl, inr, ⊎_elim, mod-lt, div-add-mod', get_or-set_same, get_or-set_other, add-zero, eq-eqb, ne_eqb}
 use Rattle.std.specs.List.{range_with_len}
 use Rattle.std.proofs.lemmas.Bool.{cases_eq, and_parts}
 use Rattle.flat_model.specs.declared.Word.{Word}
@@ -7,8 +7,8 @@ use Rattle.flat_model.specs.Words.{zero_word, no_lanes}
 use Rattle.write_queue.specs.declared.Queued.{Queued}
 use Rattle.write_queue.specs.Queue.{overlaid, queued_lanes}
 use Rattle.input_stack.specs.Stack.{stack_word}
-use Rattle.cache_unit.specs.State.{Sizes, Frame, Field, Register, Cache, zero_cell, empty_frame, clear_field, free_register, frame_at, frame_of, register_at, field_at, is_live, live_for, cell_in, gathered, targets_of, targets_of_field, targets, block_of, place_in, address}
-use Rattle.cache_unit.specs.Causes.{dirty_words}
+use Rattle.cache_unit.specs.State.{Sizes, Frame, Field, Register, Cache, zero_cell, empty_frame, clear_field, free_register, frame_at, frame_of, is_present, register_at, field_at, is_live, live_for, cell_in, gathered, targets_of, targets_of_field, targets, block_of, place_in, address}
+use Rattle.cache_unit.specs.Causes.{dirty_words, addresses}
 use Rattle.cache_unit.specs.Steps.{fresh_frame, fresh_register}
 use Rattle.cache_unit.specs.Forms.{Form, Asked, bytes_of, missing_form, over_form, form_in}
 use Rattle.cache_unit.specs.FormLaws.{form_at, words_without, asked_form, missed_words, fetched_words}
@@ -45,6 +45,13 @@ pub record FetchedBy (z : Sizes) (c : Cache) (block : ℕ) (d : Cache) : Type 0 
   pub present : frame_of d block ≡ Some frame
   pub cells : length (frame_at d frame).cells ≡ z.block_words
   pub fields : (s : ℕ) → live_for d block ≡ Some s → length (register_at d s).fields ≡ z.block_words
+  -- no load waits yet for a word of a block that was absent
+  pub waits : is_present c block ≡ false → (s : ℕ) → live_for d block ≡ Some s → (j : ℕ) → (field_at d s j).waiting ≡ []
+
+none_wait : (queue : List Queued) (xs : List ℕ) (j : ℕ) → (get_or (map (λ at. let x : Field = record { processed = false; code = queued_lanes queue at; waiting = [] } in x) xs) j clear_field).waiting ≡ []
+none_wait queue [] j = refl
+none_wait queue (x ∷ xs) zero = refl
+none_wait queue (x ∷ xs) (suc j) = none_wait queue xs j
 
 module _ (z : Sizes) (c : Cache) (h : IsSoundCache z c) (block f slot : ℕ) (absent : frame_of c block ≡ None) (f_there : f < length c.frames) (slot_there : slot < length c.registers) (invalid : (register_at c slot).valid ≡ false) (orders : List (List ℕ)) where
   abbrev queue_then : List Queued
@@ -166,6 +173,7 @@ module _ (z : Sizes) (c : Cache) (h : IsSoundCache z c) (block f slot : ℕ) (ab
         same_stack = refl;
         frame = f;
         present = found_now;
+        waits = λ a s l j. let q : s ≡ slot = let e : Some s ≡ Some slot = sym l ∙ live_now in cc in ap (λ x. (field_at with_block x j).waiting) q ∙ ap (λ (r : Register). (get_or r.fields j clear_field).waiting) own_register ∙ none_wait queue_then (addresses z block) j;
         cells = ap (λ (x : Frame). length x.cells) own_frame ∙ range_length _ (address z block 0) z.block_words;
         fields = λ s l. let q : s ≡ slot = let e : Some s ≡ Some slot = sym l ∙ live_now in cc in ap (λ x. length (register_at with_block x).fields) q ∙ ap (λ (r : Register). length r.fields) own_register ∙ range_length _ (address z block 0) z.block_words;
       }

@@ -37,7 +37,7 @@ able-from z room c block e =
     (p.0, q.0)
 
 -- a missing block meets the causes of a miss
-missing : (z : Sizes) (room : ℕ → ℕ) (c : Cache) (block : ℕ) (here : List (Bool × Cause)) → first_cause (cond (is_present c block) here (miss_causes z room c block)) ≡ None → is_present c block ≡ false → Able z c block
+pub missing : (z : Sizes) (room : ℕ → ℕ) (c : Cache) (block : ℕ) (here : List (Bool × Cause)) → first_cause (cond (is_present c block) here (miss_causes z room c block)) ≡ None → is_present c block ≡ false → Able z c block
 missing z room c block here e q =
     able-from z room c block (subst (λ b. first_cause (cond b here (miss_causes z room c block)) ≡ None) q e)
 

@@ -36,3 +36,4 @@ pub mod Choosing
 pub mod Giving
 pub mod Placing
 pub mod Missing
+pub mod Requesting

@@ -13,6 +13,7 @@ ghost use Rattle.miss_registers.specs.Whole.{IsWhole};
 
 mod miss;
 mod present;
+mod request;
 mod views;
 
 use crate::Reply;

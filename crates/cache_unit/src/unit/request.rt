@@ -1,0 +1,184 @@
+//! Requests of the processor.
+ghost use Rattle.std.specs.Prelude.{◌≡◌, ℕ, ◌+◌, ◌*◌, ◌≤◌, ◌<◌, nat_lt, nat_le, not, length, IfErr, OnErr, OnOk, None, Some, false};
+ghost use Rattle.memory_banks.specs.Banks.{HasSent};
+ghost use Rattle.cache_unit.specs.State.{is_present, block_of, place_in, tags};
+ghost use Rattle.cache_unit.specs.Causes.{found, targets_full};
+ghost use Rattle.cache_unit.specs.Requests.{absence_cause, is_full_for};
+ghost use Rattle.cache_unit.specs.Steps.{fetched, fetches, load_step, store_step, prefetch_step, request_step};
+
+use crate::unit::present::Finding;
+use crate::{CacheUnit, Request};
+use flat_model::{Answer, Cause, Lanes, Word};
+use memory_banks::Lines;
+
+impl<const WAYS: usize, const WORDS: usize, const REGS: usize, const DEPTH: usize> CacheUnit<
+    WAYS,
+    WORDS,
+    REGS,
+    DEPTH,
+> {
+    /// Serves a request of the processor. A block that no frame holds is brought in first, which
+    /// takes a frame and a register and sends a read for each of its words to the lines; then a
+    /// load is answered or waits for its word, and a store's bytes go into the buffer.
+    ///
+    /// Refused, with the unit and the lines unchanged, for the first of these that holds: the word
+    /// is out of range (1); for a store, no lane is set (2); for a load, the tag is awaited or
+    /// stands ready (3), as many loads are owed as may be (4), or, where the block is present, four
+    /// loads wait for the word (5); where the block is absent, no register is free (7), every way
+    /// of its set is pending (8), the write queue has too few free places for the victim's dirty
+    /// words (9), or a bank has too little room for its reads (10).
+    pub fn request<L: Lines>(&mut self, request: Request, lines: &mut L) -> Answer
+        ensures answer { result ≡ (request_step self.old.sizes (L.room_of lines.old) self.old.cache request).answer }
+        ensures unit { self.new
+            ≡ record self.old { cache = (request_step self.old.sizes (L.room_of lines.old) self.old.cache request).cache } }
+        ensures lines { HasSent L.sent_to L.room_of L.same lines.old lines.new
+            (request_step self.old.sizes (L.room_of lines.old) self.old.cache request).sent }
+    {
+        match request {
+            Request::Load { tag, at } => self.load(tag, at, lines),
+            Request::Store { at, word, lanes } => self.store(at, word, lanes, lines),
+            Request::Prefetch { at } => self.prefetch(at, lines),
+        }
+    }
+
+    fn load<L: Lines>(&mut self, tag: u16, at: u32, lines: &mut L) -> Answer
+        ensures answer { result ≡ (load_step self.old.sizes (L.room_of lines.old) self.old.cache tag at).answer }
+        ensures unit { self.new
+            ≡ record self.old { cache = (load_step self.old.sizes (L.room_of lines.old) self.old.cache tag at).cache } }
+        ensures lines { HasSent L.sent_to L.room_of L.same lines.old lines.new
+            (load_step self.old.sizes (L.room_of lines.old) self.old.cache tag at).sent }
+    {
+        if self.is_outside(at) {
+            return Answer::Refused(Cause::OutOfRange);
+        }
+        if self.is_in_use(tag) {
+            return Answer::Refused(Cause::TagInUse);
+        }
+        if self.owes_all() {
+            return Answer::Refused(Cause::RepliesFull);
+        }
+        let block = self.block_of(at);
+        let i = self.place_in(at);
+        if self.is_full_for(block, i) {
+            return Answer::Refused(Cause::TargetsFull);
+        }
+        match self.make_present(lines, block) {
+            Ok(()) => {
+                self.load_present(tag, block, i);
+                Answer::Accepted
+            }
+            Err(cause) => Answer::Refused(cause),
+        }
+    }
+
+    fn store<L: Lines>(&mut self, at: u32, word: Word, lanes: Lanes, lines: &mut L) -> Answer
+        ensures answer { result ≡ (store_step self.old.sizes (L.room_of lines.old) self.old.cache at word lanes).answer }
+        ensures unit { self.new
+            ≡ record self.old { cache = (store_step self.old.sizes (L.room_of lines.old) self.old.cache at word lanes).cache } }
+        ensures lines { HasSent L.sent_to L.room_of L.same lines.old lines.new
+            (store_step self.old.sizes (L.room_of lines.old) self.old.cache at word lanes).sent }
+    {
+        if self.is_outside(at) {
+            return Answer::Refused(Cause::OutOfRange);
+        }
+        if !lanes.has_any() {
+            return Answer::Refused(Cause::NoLanes);
+        }
+        let block = self.block_of(at);
+        let i = self.place_in(at);
+        match self.make_present(lines, block) {
+            Ok(()) => {
+                self.store_present(block, i, word, lanes);
+                Answer::Accepted
+            }
+            Err(cause) => Answer::Refused(cause),
+        }
+    }
+
+    fn prefetch<L: Lines>(&mut self, at: u32, lines: &mut L) -> Answer
+        ensures answer { result ≡ (prefetch_step self.old.sizes (L.room_of lines.old) self.old.cache at).answer }
+        ensures unit { self.new
+            ≡ record self.old { cache = (prefetch_step self.old.sizes (L.room_of lines.old) self.old.cache at).cache } }
+        ensures lines { HasSent L.sent_to L.room_of L.same lines.old lines.new
+            (prefetch_step self.old.sizes (L.room_of lines.old) self.old.cache at).sent }
+    {
+        if self.is_outside(at) {
+            return Answer::Refused(Cause::OutOfRange);
+        }
+        let block = self.block_of(at);
+        match self.make_present(lines, block) {
+            Ok(()) => Answer::Accepted,
+            Err(cause) => Answer::Refused(cause),
+        }
+    }
+
+    // Whether memory has no such word.
+    fn is_outside(&self, at: u32) -> bool
+        ensures { result ≡ not (nat_lt at self.now.sizes.words) }
+    {
+        at >= self.shape.words
+    }
+
+    // Whether as many loads are awaited and ready as may be.
+    fn owes_all(&self) -> bool
+        ensures { result ≡ nat_le self.now.sizes.replies (length (tags self.now.cache)) }
+    {
+        self.owed() >= self.shape.replies
+    }
+
+    // The block of a word, which lies in memory whole where the word does.
+    fn block_of(&self, at: u32) -> u32
+        ensures value { result ≡ block_of self.now.sizes at }
+        ensures within { at < self.now.sizes.words → result * self.now.sizes.block_words + self.now.sizes.block_words ≤ self.now.sizes.words }
+    {
+        let _shape = &self.shape;
+        at / WORDS as u32
+    }
+
+    // The place of a word in its block.
+    fn place_in(&self, at: u32) -> u32
+        ensures value { result ≡ place_in self.now.sizes at }
+        ensures small { result < self.now.sizes.block_words }
+    {
+        let _shape = &self.shape;
+        at % WORDS as u32
+    }
+
+    // Whether a frame holds the block and four loads wait for its word.
+    fn is_full_for(&self, block: u32, i: u32) -> bool
+        requires { i < self.now.sizes.block_words }
+        ensures { result ≡ is_full_for self.now.cache block i }
+    {
+        if self.directory.look(block).is_none() {
+            return false;
+        }
+        match self.find_word(block, i) {
+            Finding::Here(_) => false,
+            Finding::Coming { waiting, .. } => waiting >= 4,
+        }
+    }
+
+    // Brings the block in where no frame holds it, or answers the first cause against that and
+    // changes nothing. No load waits yet for a word of a block that was brought in.
+    fn make_present<L: Lines>(&mut self, lines: &mut L, block: u32) -> Result<(), Cause>
+        requires { block * self.old.sizes.block_words + self.old.sizes.block_words ≤ self.old.sizes.words }
+        ensures cause { IfErr result (λ cause. absence_cause self.old.sizes (L.room_of lines.old) self.old.cache block ≡ Some cause) }
+        ensures unit_kept { OnErr result (self.new ≡ self.old) }
+        ensures lines_kept { OnErr result (lines.new ≡ lines.old) }
+        ensures no_cause { OnOk result (absence_cause self.old.sizes (L.room_of lines.old) self.old.cache block ≡ None) }
+        ensures unit { OnOk result (self.new ≡ record self.old { cache = fetched self.old.sizes self.old.cache block }) }
+        ensures lines { OnOk result (HasSent L.sent_to L.room_of L.same lines.old lines.new (fetches self.old.sizes self.old.cache block)) }
+        ensures tags_kept { OnOk result (tags self.new.cache ≡ tags self.old.cache) }
+        ensures targets { OnOk result ((i : ℕ) → is_full_for self.old.cache block i ≡ false → targets_full self.new.cache i (found self.new.cache block i) ≡ false) }
+    {
+        if self.directory.look(block).is_some() {
+            return Ok(());
+        }
+        let places = match self.find_places(lines, block) {
+            Ok(places) => places,
+            Err(cause) => return Err(cause),
+        };
+        self.fetch(lines, block, places);
+        Ok(())
+    }
+}
