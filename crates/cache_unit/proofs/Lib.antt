@@ -36,4 +36,7 @@ pub mod Choosing
 pub mod Giving
 pub mod Placing
 pub mod Missing
+pub mod Numbers
+pub mod Made
+pub mod Views
 pub mod Requesting

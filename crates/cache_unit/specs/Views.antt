@@ -4,6 +4,8 @@ use Rattle.std.specs.Option.{unwrap_or, option_map}
 use Rattle.std.specs.List.{list_all}
 use Rattle.flat_model.specs.declared.Answer.{Answer}
 use Rattle.flat_model.specs.declared.Answer.TheVariants.{Value}
+use Rattle.flat_model.specs.declared.Word.{Word}
+use Rattle.flat_model.specs.declared.Lanes.{Lanes}
 use Rattle.flat_model.specs.Words.{has_any}
 use Rattle.cache_directory.specs.declared.Cell.{Cell}
 use Rattle.miss_registers.specs.declared.Owed.{Owed}
@@ -57,9 +59,19 @@ target_view c slot i place = slice_get (field_at c slot i).waiting place
 abbrev pub reply_view : Cache → ℕ → Option Answer
 reply_view c place = option_map (λ r. Value r.tag r.word) (slice_get c.ready place)
 
+-- the block that a frame holds, where there are such a frame and block
+abbrev pub frame_view : Cache → ℕ → Option ℕ
+frame_view c f = (frame_at c f).block
+
 -- the buffer's word and its dirty lanes, where a frame holds a block
 abbrev pub cell_view : Cache → ℕ → ℕ → Option Cell
 cell_view c f i = slice_get (frame_at c f).cells i
+
+abbrev pub word_view : Cache → ℕ → ℕ → Option Word
+word_view c f i = option_map (λ cell. cell.word) (cell_view c f i)
+
+abbrev pub dirty_view : Cache → ℕ → ℕ → Option Lanes
+dirty_view c f i = option_map (λ cell. cell.dirty) (cell_view c f i)
 
 abbrev pub is_empty : {X : Type 0} → List X → Bool
 is_empty [] = true

@@ -3,11 +3,13 @@
 
 mod begin;
 mod fetch;
+mod limits;
 mod reads;
 mod unit;
 mod victim;
 
 use flat_model::{Lanes, Word};
+pub use limits::bad_field;
 pub use unit::CacheUnit;
 
 /// What the processor asks of the cache.

@@ -11,6 +11,7 @@ ghost use Rattle.cache_unit.specs.Parts.{filled_live, retired, CanFill};
 ghost use Rattle.miss_registers.specs.Registers as regs;
 ghost use Rattle.miss_registers.specs.Whole.{IsWhole};
 
+mod make;
 mod miss;
 mod present;
 mod request;

@@ -1,11 +1,18 @@
 //! What the unit shows.
-ghost use Rattle.std.specs.Prelude.{◌≡◌, length, slice_get};
+ghost use Rattle.std.specs.Prelude.{◌≡◌, ◌<◌, length, slice_get, is_some, not};
+ghost use Rattle.std.specs.List.{list_all};
+ghost use Rattle.flat_model.specs.Words.{has_any};
+ghost use Rattle.cache_directory.specs.Frames as dir;
+ghost use Rattle.miss_registers.specs.Registers as regs;
+ghost use Rattle.miss_registers.specs.Whole.{IsWhole};
 ghost use Rattle.cache_unit.specs.Views as views;
 
+use crate::victim::dirty_words;
 use crate::{CacheUnit, Reply};
+use cache_directory::Directory;
 use flat_model::{Answer, Lanes, Word};
 use input_stack::Entry;
-use miss_registers::{FieldView, Owed, RegisterView};
+use miss_registers::{FieldView, Owed, RegisterFile, RegisterView};
 use write_queue::Queued;
 
 impl<const WAYS: usize, const WORDS: usize, const REGS: usize, const DEPTH: usize> CacheUnit<
@@ -55,6 +62,144 @@ impl<const WAYS: usize, const WORDS: usize, const REGS: usize, const DEPTH: usiz
     {
         self.ready.get(place as usize).map(value_of)
     }
+
+    /// What the register in `slot` shows of itself; `None` where there is no such register.
+    pub fn register(&self, slot: u32) -> Option<RegisterView>
+        ensures { result ≡ views.register_view self.now.cache slot }
+    {
+        self.registers.register(slot)
+    }
+
+    /// What the register in `slot` shows of word `i` of its block; `None` where there is no such
+    /// register or blocks have no such word.
+    pub fn field(&self, slot: u32, i: u32) -> Option<FieldView>
+        ensures { result ≡ views.field_view self.now.sizes self.now.cache slot i }
+    {
+        self.registers.field(slot, i)
+    }
+
+    /// The load at `place` among those that wait for word `i` of the register in `slot`, in the
+    /// order in which they were accepted; `None` where there is none.
+    pub fn target(&self, slot: u32, i: u32, place: u32) -> Option<Owed>
+        ensures { result ≡ views.target_view self.now.cache slot i place }
+    {
+        self.registers.target(slot, i, place)
+    }
+
+    // How many frames there are.
+    fn frames(&self) -> u32
+        ensures { result ≡ length self.now.cache.frames }
+    {
+        self.shape.sets * WAYS as u32
+    }
+
+    /// The block that the frame holds; `None` where it is free or there is no such frame.
+    pub fn frame_block(&self, frame: u32) -> Option<u32>
+        ensures { result ≡ views.frame_view self.now.cache frame }
+    {
+        if frame < self.frames() {
+            self.directory.block_of(frame)
+        } else {
+            None
+        }
+    }
+
+    // Whether the frame holds a block that has a word `i`.
+    fn has_word(&self, frame: u32, i: u32) -> bool
+        ensures { result ≡ is_some (views.cell_view self.now.cache frame i) }
+    {
+        frame < self.frames() && self.directory.block_of(frame).is_some() && (i as usize) < WORDS
+    }
+
+    /// The buffer's word `i` of the block that the frame holds; `None` where it holds none or
+    /// blocks have no such word.
+    pub fn buffer_word(&self, frame: u32, i: u32) -> Option<Word>
+        ensures { result ≡ views.word_view self.now.cache frame i }
+    {
+        if self.has_word(frame, i) {
+            Some(self.directory.word(frame, i))
+        } else {
+            None
+        }
+    }
+
+    /// The lanes of that word that memory doesn't have yet; `None` where there is no such word.
+    pub fn dirty(&self, frame: u32, i: u32) -> Option<Lanes>
+        ensures { result ≡ views.dirty_view self.now.cache frame i }
+    {
+        if self.has_word(frame, i) {
+            Some(self.directory.dirty(frame, i))
+        } else {
+            None
+        }
+    }
+
+    /// Whether no register is valid, no lane is dirty and the write queue is empty.
+    pub fn clean(&self) -> bool
+        ensures { result ≡ views.is_clean self.now.cache }
+    {
+        are_free(&self.registers)
+            && are_clean(&self.directory, self.frames())
+            && self.queue.len() == 0
+    }
+}
+
+// Whether the register in `slot` is valid.
+fn is_valid<const WORDS: usize, const REGS: usize>(
+    registers: &RegisterFile<WORDS, REGS>,
+    slot: u32,
+) -> bool
+    ensures { result ≡ (regs.register_at registers.now slot).valid }
+{
+    match registers.register(slot) {
+        Some(shown) => shown.valid,
+        None => false,
+    }
+}
+
+// Whether no register is valid.
+fn are_free<const WORDS: usize, const REGS: usize>(registers: &RegisterFile<WORDS, REGS>) -> bool
+    requires { IsWhole WORDS REGS registers.now }
+    ensures { result ≡ list_all (λ r. not r.valid) registers.now }
+{
+    for slot in 0..REGS as u32 {
+        if is_valid(registers, slot) {
+            return false;
+        }
+    }
+    true
+}
+
+// Whether the frame has no dirty lane.
+fn is_clean<const WAYS: usize, const WORDS: usize>(
+    directory: &Directory<WAYS, WORDS>,
+    frame: u32,
+) -> bool
+    requires whole { dir.IsWhole WAYS WORDS directory.now }
+    requires frame { frame < length directory.now.frames }
+    ensures { result ≡ list_all (λ cell. not (has_any cell.dirty)) (dir.frame_at directory.now.frames frame).cells }
+{
+    match directory.block_of(frame) {
+        Some(_) => dirty_words(directory, frame) == 0,
+        None => true,
+    }
+}
+
+// Whether no frame has a dirty lane.
+fn are_clean<const WAYS: usize, const WORDS: usize>(
+    directory: &Directory<WAYS, WORDS>,
+    frames: u32,
+) -> bool
+    requires whole { dir.IsWhole WAYS WORDS directory.now }
+    requires frames { frames ≡ length directory.now.frames }
+    ensures { result ≡ list_all (λ f. list_all (λ cell. not (has_any cell.dirty)) f.cells) directory.now.frames }
+{
+    for frame in 0..frames {
+        if !is_clean(directory, frame) {
+            return false;
+        }
+    }
+    true
 }
 
 // What a take of the reply answers.

@@ -1,0 +1,30 @@
+-- The ranges of a machine's numbers, in the order of the checks.
+use Rattle.std.specs.Prelude.{ℕ, ◌+◌, ◌-◌, ◌/◌, ◌%◌, Bool, ◌&&◌, not, if◌then◌else◌, ◌==◌, nat_le, Option, Some, None}
+use Rattle.flat_model.specs.declared.ShapeField.{ShapeField}
+use Rattle.flat_model.specs.declared.ShapeField.TheVariants.{BlockWords, Ways, Regs, Depth, Words, Sets, Banks, BankQueue, WriteQueue, Replies}
+use Rattle.cache_unit.specs.State.{Sizes}
+
+abbrev pub is_between : ℕ → ℕ → ℕ → Bool
+is_between n low high = nat_le low n && nat_le n high
+
+-- the words of a block that one bank has, where they are spread as evenly as may be: the quotient, rounded up
+abbrev pub words_per_bank : Sizes → ℕ
+words_per_bank z = (z.block_words + z.banks - 1) / z.banks
+
+-- the first number of a part's shape that is out of its range
+abbrev pub bad_number : Sizes → Option ShapeField
+bad_number z =
+    if not (is_between z.words 1 1048576 && (z.words % z.block_words == 0)) then Some Words
+    else (if not (is_between z.sets 1 1024) then Some Sets
+    else (if not (is_between z.banks 1 16) then Some Banks
+    else (if not (is_between z.bank_queue (words_per_bank z) 64) then Some BankQueue
+    else (if not (is_between z.write_queue z.block_words 256) then Some WriteQueue
+    else (if not (is_between z.replies 1 64) then Some Replies else None)))))
+
+-- the first number of a unit that is out of its range
+abbrev pub bad_field : Sizes → Option ShapeField
+bad_field z =
+    if not (is_between z.block_words 1 16) then Some BlockWords
+    else (if not (is_between z.ways 1 8) then Some Ways
+    else (if not (is_between z.regs 1 16) then Some Regs
+    else (if not (is_between z.depth 1 16) then Some Depth else bad_number z)))
