@@ -3,6 +3,8 @@ ghost use Rattle.std.specs.Prelude.{◌≡◌, ℕ, ◌+◌, ◌*◌, ◌≤◌,
 ghost use Rattle.memory_banks.specs.Banks.{HasSent};
 ghost use Rattle.cache_unit.specs.State.{is_present, block_of, place_in, tags};
 ghost use Rattle.cache_unit.specs.Causes.{found, targets_full};
+ghost use Rattle.cache_unit.specs.SoundCache.{IsSoundCache};
+ghost use Rattle.cache_unit.specs.FormLaws.{RequestForms};
 ghost use Rattle.cache_unit.specs.Requests.{absence_cause, is_full_for};
 ghost use Rattle.cache_unit.specs.Steps.{fetched, fetches, load_step, store_step, prefetch_step, request_step};
 
@@ -33,6 +35,7 @@ impl<const WAYS: usize, const WORDS: usize, const REGS: usize, const DEPTH: usiz
             ≡ record self.old { cache = (request_step self.old.sizes (L.room_of lines.old) self.old.cache request).cache } }
         ensures lines { HasSent L.sent_to L.room_of L.same lines.old lines.new
             (request_step self.old.sizes (L.room_of lines.old) self.old.cache request).sent }
+        ensures forms { RequestForms self.old.sizes self.old.cache request result self.new.cache }
     {
         match request {
             Request::Load { tag, at } => self.load(tag, at, lines),
@@ -47,6 +50,7 @@ impl<const WAYS: usize, const WORDS: usize, const REGS: usize, const DEPTH: usiz
             ≡ record self.old { cache = (load_step self.old.sizes (L.room_of lines.old) self.old.cache tag at).cache } }
         ensures lines { HasSent L.sent_to L.room_of L.same lines.old lines.new
             (load_step self.old.sizes (L.room_of lines.old) self.old.cache tag at).sent }
+        ensures sound { IsSoundCache self.old.sizes self.old.cache }
     {
         if self.is_outside(at) {
             return Answer::Refused(Cause::OutOfRange);
@@ -77,6 +81,7 @@ impl<const WAYS: usize, const WORDS: usize, const REGS: usize, const DEPTH: usiz
             ≡ record self.old { cache = (store_step self.old.sizes (L.room_of lines.old) self.old.cache at word lanes).cache } }
         ensures lines { HasSent L.sent_to L.room_of L.same lines.old lines.new
             (store_step self.old.sizes (L.room_of lines.old) self.old.cache at word lanes).sent }
+        ensures sound { IsSoundCache self.old.sizes self.old.cache }
     {
         if self.is_outside(at) {
             return Answer::Refused(Cause::OutOfRange);
@@ -101,6 +106,7 @@ impl<const WAYS: usize, const WORDS: usize, const REGS: usize, const DEPTH: usiz
             ≡ record self.old { cache = (prefetch_step self.old.sizes (L.room_of lines.old) self.old.cache at).cache } }
         ensures lines { HasSent L.sent_to L.room_of L.same lines.old lines.new
             (prefetch_step self.old.sizes (L.room_of lines.old) self.old.cache at).sent }
+        ensures sound { IsSoundCache self.old.sizes self.old.cache }
     {
         if self.is_outside(at) {
             return Answer::Refused(Cause::OutOfRange);
@@ -114,7 +120,8 @@ impl<const WAYS: usize, const WORDS: usize, const REGS: usize, const DEPTH: usiz
 
     // Whether memory has no such word.
     fn is_outside(&self, at: u32) -> bool
-        ensures { result ≡ not (nat_lt at self.now.sizes.words) }
+        ensures outside { result ≡ not (nat_lt at self.now.sizes.words) }
+        ensures sound { IsSoundCache self.now.sizes self.now.cache }
     {
         at >= self.shape.words
     }

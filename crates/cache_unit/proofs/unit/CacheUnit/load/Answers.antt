@@ -13,21 +13,21 @@ pub returns-then-is_outside-clause-answer : goal.returns-then-is_outside-clause-
 returns-then-is_outside-clause-answer g c =
     let u = c.args.self.now in
     let room = g.L.Lines.room_of c.args.lines.now in
-    let t = load_outside u.sizes room u.cache c.args.at c.args.tag (sym c.is_outside.ensures ∙ c.if-is_outside.true) in
+    let t = load_outside u.sizes room u.cache c.args.at c.args.tag (sym c.is_outside.ensures.outside ∙ c.if-is_outside.true) in
     sym (ap (λ (x : Stepped). x.answer) t)
 
 pub returns-then-is_outside-clause-unit : goal.returns-then-is_outside-clause-unit
 returns-then-is_outside-clause-unit g c =
     let u = c.args.self.now in
     let room = g.L.Lines.room_of c.args.lines.now in
-    let t = load_outside u.sizes room u.cache c.args.at c.args.tag (sym c.is_outside.ensures ∙ c.if-is_outside.true) in
+    let t = load_outside u.sizes room u.cache c.args.at c.args.tag (sym c.is_outside.ensures.outside ∙ c.if-is_outside.true) in
     kept_by u _ _ t refl
 
 pub returns-then-is_outside-clause-lines : goal.returns-then-is_outside-clause-lines
 returns-then-is_outside-clause-lines g c =
     let u = c.args.self.now in
     let room = g.L.Lines.room_of c.args.lines.now in
-    let t = load_outside u.sizes room u.cache c.args.at c.args.tag (sym c.is_outside.ensures ∙ c.if-is_outside.true) in
+    let t = load_outside u.sizes room u.cache c.args.at c.args.tag (sym c.is_outside.ensures.outside ∙ c.if-is_outside.true) in
     let none = HasSent-none g.L.Lines.sent_to g.L.Lines.room_of g.L.Lines.same c.args.lines.now (g.met.L.Lines.same_self c.args.lines.now) in
     sent_by g.L.Lines.sent_to g.L.Lines.room_of g.L.Lines.same c.args.lines.now c.args.lines.now _ _ t none
 
@@ -35,21 +35,21 @@ pub returns-then-is_in_use-clause-answer : goal.returns-then-is_in_use-clause-an
 returns-then-is_in_use-clause-answer g c =
     let u = c.args.self.now in
     let room = g.L.Lines.room_of c.args.lines.now in
-    let t = load_in_use u.sizes room u.cache c.args.at c.args.tag (sym c.is_outside.ensures ∙ c.if-is_outside.false) (sym c.is_in_use.ensures ∙ c.if-is_in_use.true) in
+    let t = load_in_use u.sizes room u.cache c.args.at c.args.tag (sym c.is_outside.ensures.outside ∙ c.if-is_outside.false) (sym c.is_in_use.ensures ∙ c.if-is_in_use.true) in
     sym (ap (λ (x : Stepped). x.answer) t)
 
 pub returns-then-is_in_use-clause-unit : goal.returns-then-is_in_use-clause-unit
 returns-then-is_in_use-clause-unit g c =
     let u = c.args.self.now in
     let room = g.L.Lines.room_of c.args.lines.now in
-    let t = load_in_use u.sizes room u.cache c.args.at c.args.tag (sym c.is_outside.ensures ∙ c.if-is_outside.false) (sym c.is_in_use.ensures ∙ c.if-is_in_use.true) in
+    let t = load_in_use u.sizes room u.cache c.args.at c.args.tag (sym c.is_outside.ensures.outside ∙ c.if-is_outside.false) (sym c.is_in_use.ensures ∙ c.if-is_in_use.true) in
     kept_by u _ _ t refl
 
 pub returns-then-is_in_use-clause-lines : goal.returns-then-is_in_use-clause-lines
 returns-then-is_in_use-clause-lines g c =
     let u = c.args.self.now in
     let room = g.L.Lines.room_of c.args.lines.now in
-    let t = load_in_use u.sizes room u.cache c.args.at c.args.tag (sym c.is_outside.ensures ∙ c.if-is_outside.false) (sym c.is_in_use.ensures ∙ c.if-is_in_use.true) in
+    let t = load_in_use u.sizes room u.cache c.args.at c.args.tag (sym c.is_outside.ensures.outside ∙ c.if-is_outside.false) (sym c.is_in_use.ensures ∙ c.if-is_in_use.true) in
     let none = HasSent-none g.L.Lines.sent_to g.L.Lines.room_of g.L.Lines.same c.args.lines.now (g.met.L.Lines.same_self c.args.lines.now) in
     sent_by g.L.Lines.sent_to g.L.Lines.room_of g.L.Lines.same c.args.lines.now c.args.lines.now _ _ t none
 
@@ -57,21 +57,21 @@ pub returns-then-owes_all-clause-answer : goal.returns-then-owes_all-clause-answ
 returns-then-owes_all-clause-answer g c =
     let u = c.args.self.now in
     let room = g.L.Lines.room_of c.args.lines.now in
-    let t = load_owes_all u.sizes room u.cache c.args.at c.args.tag (sym c.is_outside.ensures ∙ c.if-is_outside.false) (sym c.is_in_use.ensures ∙ c.if-is_in_use.false) (sym c.owes_all.ensures ∙ c.if-owes_all.true) in
+    let t = load_owes_all u.sizes room u.cache c.args.at c.args.tag (sym c.is_outside.ensures.outside ∙ c.if-is_outside.false) (sym c.is_in_use.ensures ∙ c.if-is_in_use.false) (sym c.owes_all.ensures ∙ c.if-owes_all.true) in
     sym (ap (λ (x : Stepped). x.answer) t)
 
 pub returns-then-owes_all-clause-unit : goal.returns-then-owes_all-clause-unit
 returns-then-owes_all-clause-unit g c =
     let u = c.args.self.now in
     let room = g.L.Lines.room_of c.args.lines.now in
-    let t = load_owes_all u.sizes room u.cache c.args.at c.args.tag (sym c.is_outside.ensures ∙ c.if-is_outside.false) (sym c.is_in_use.ensures ∙ c.if-is_in_use.false) (sym c.owes_all.ensures ∙ c.if-owes_all.true) in
+    let t = load_owes_all u.sizes room u.cache c.args.at c.args.tag (sym c.is_outside.ensures.outside ∙ c.if-is_outside.false) (sym c.is_in_use.ensures ∙ c.if-is_in_use.false) (sym c.owes_all.ensures ∙ c.if-owes_all.true) in
     kept_by u _ _ t refl
 
 pub returns-then-owes_all-clause-lines : goal.returns-then-owes_all-clause-lines
 returns-then-owes_all-clause-lines g c =
     let u = c.args.self.now in
     let room = g.L.Lines.room_of c.args.lines.now in
-    let t = load_owes_all u.sizes room u.cache c.args.at c.args.tag (sym c.is_outside.ensures ∙ c.if-is_outside.false) (sym c.is_in_use.ensures ∙ c.if-is_in_use.false) (sym c.owes_all.ensures ∙ c.if-owes_all.true) in
+    let t = load_owes_all u.sizes room u.cache c.args.at c.args.tag (sym c.is_outside.ensures.outside ∙ c.if-is_outside.false) (sym c.is_in_use.ensures ∙ c.if-is_in_use.false) (sym c.owes_all.ensures ∙ c.if-owes_all.true) in
     let none = HasSent-none g.L.Lines.sent_to g.L.Lines.room_of g.L.Lines.same c.args.lines.now (g.met.L.Lines.same_self c.args.lines.now) in
     sent_by g.L.Lines.sent_to g.L.Lines.room_of g.L.Lines.same c.args.lines.now c.args.lines.now _ _ t none
 
@@ -81,7 +81,7 @@ returns-then-is_full_for-clause-answer g c =
     let room = g.L.Lines.room_of c.args.lines.now in
     let at_block = subst (λ b. c.is_full_for.result ≡ is_full_for u.cache b c.place_in-i.result) c.block_of-block.ensures.value c.is_full_for.ensures in
     let at_word = subst (λ i. c.is_full_for.result ≡ is_full_for u.cache (block_of u.sizes c.args.at) i) c.place_in-i.ensures.value at_block in
-    let t = load_targets_full u.sizes room u.cache c.args.at c.args.tag (sym c.is_outside.ensures ∙ c.if-is_outside.false) (sym c.is_in_use.ensures ∙ c.if-is_in_use.false) (sym c.owes_all.ensures ∙ c.if-owes_all.false) (sym at_word ∙ c.if-is_full_for.true) in
+    let t = load_targets_full u.sizes room u.cache c.args.at c.args.tag (sym c.is_outside.ensures.outside ∙ c.if-is_outside.false) (sym c.is_in_use.ensures ∙ c.if-is_in_use.false) (sym c.owes_all.ensures ∙ c.if-owes_all.false) (sym at_word ∙ c.if-is_full_for.true) in
     sym (ap (λ (x : Stepped). x.answer) t)
 
 pub returns-then-is_full_for-clause-unit : goal.returns-then-is_full_for-clause-unit
@@ -90,7 +90,7 @@ returns-then-is_full_for-clause-unit g c =
     let room = g.L.Lines.room_of c.args.lines.now in
     let at_block = subst (λ b. c.is_full_for.result ≡ is_full_for u.cache b c.place_in-i.result) c.block_of-block.ensures.value c.is_full_for.ensures in
     let at_word = subst (λ i. c.is_full_for.result ≡ is_full_for u.cache (block_of u.sizes c.args.at) i) c.place_in-i.ensures.value at_block in
-    let t = load_targets_full u.sizes room u.cache c.args.at c.args.tag (sym c.is_outside.ensures ∙ c.if-is_outside.false) (sym c.is_in_use.ensures ∙ c.if-is_in_use.false) (sym c.owes_all.ensures ∙ c.if-owes_all.false) (sym at_word ∙ c.if-is_full_for.true) in
+    let t = load_targets_full u.sizes room u.cache c.args.at c.args.tag (sym c.is_outside.ensures.outside ∙ c.if-is_outside.false) (sym c.is_in_use.ensures ∙ c.if-is_in_use.false) (sym c.owes_all.ensures ∙ c.if-owes_all.false) (sym at_word ∙ c.if-is_full_for.true) in
     kept_by u _ _ t refl
 
 pub returns-then-is_full_for-clause-lines : goal.returns-then-is_full_for-clause-lines
@@ -99,7 +99,7 @@ returns-then-is_full_for-clause-lines g c =
     let room = g.L.Lines.room_of c.args.lines.now in
     let at_block = subst (λ b. c.is_full_for.result ≡ is_full_for u.cache b c.place_in-i.result) c.block_of-block.ensures.value c.is_full_for.ensures in
     let at_word = subst (λ i. c.is_full_for.result ≡ is_full_for u.cache (block_of u.sizes c.args.at) i) c.place_in-i.ensures.value at_block in
-    let t = load_targets_full u.sizes room u.cache c.args.at c.args.tag (sym c.is_outside.ensures ∙ c.if-is_outside.false) (sym c.is_in_use.ensures ∙ c.if-is_in_use.false) (sym c.owes_all.ensures ∙ c.if-owes_all.false) (sym at_word ∙ c.if-is_full_for.true) in
+    let t = load_targets_full u.sizes room u.cache c.args.at c.args.tag (sym c.is_outside.ensures.outside ∙ c.if-is_outside.false) (sym c.is_in_use.ensures ∙ c.if-is_in_use.false) (sym c.owes_all.ensures ∙ c.if-owes_all.false) (sym at_word ∙ c.if-is_full_for.true) in
     let none = HasSent-none g.L.Lines.sent_to g.L.Lines.room_of g.L.Lines.same c.args.lines.now (g.met.L.Lines.same_self c.args.lines.now) in
     sent_by g.L.Lines.sent_to g.L.Lines.room_of g.L.Lines.same c.args.lines.now c.args.lines.now _ _ t none
 
@@ -110,7 +110,7 @@ returns-in-Err-clause-answer g c =
     let at_block = subst (λ b. c.is_full_for.result ≡ is_full_for u.cache b c.place_in-i.result) c.block_of-block.ensures.value c.is_full_for.ensures in
     let at_word = subst (λ i. c.is_full_for.result ≡ is_full_for u.cache (block_of u.sizes c.args.at) i) c.place_in-i.ensures.value at_block in
     let cause = subst (λ b. absence_cause u.sizes room u.cache b ≡ Some c.in-Err.cause) c.block_of-block.ensures.value c.in-Err.ensures.cause in
-    let t = load_absent u.sizes room u.cache c.args.at c.args.tag c.in-Err.cause (sym c.is_outside.ensures ∙ c.if-is_outside.false) (sym c.is_in_use.ensures ∙ c.if-is_in_use.false) (sym c.owes_all.ensures ∙ c.if-owes_all.false) (sym at_word ∙ c.if-is_full_for.false) cause in
+    let t = load_absent u.sizes room u.cache c.args.at c.args.tag c.in-Err.cause (sym c.is_outside.ensures.outside ∙ c.if-is_outside.false) (sym c.is_in_use.ensures ∙ c.if-is_in_use.false) (sym c.owes_all.ensures ∙ c.if-owes_all.false) (sym at_word ∙ c.if-is_full_for.false) cause in
     sym (ap (λ (x : Stepped). x.answer) t)
 
 pub returns-in-Err-clause-unit : goal.returns-in-Err-clause-unit
@@ -120,7 +120,7 @@ returns-in-Err-clause-unit g c =
     let at_block = subst (λ b. c.is_full_for.result ≡ is_full_for u.cache b c.place_in-i.result) c.block_of-block.ensures.value c.is_full_for.ensures in
     let at_word = subst (λ i. c.is_full_for.result ≡ is_full_for u.cache (block_of u.sizes c.args.at) i) c.place_in-i.ensures.value at_block in
     let cause = subst (λ b. absence_cause u.sizes room u.cache b ≡ Some c.in-Err.cause) c.block_of-block.ensures.value c.in-Err.ensures.cause in
-    let t = load_absent u.sizes room u.cache c.args.at c.args.tag c.in-Err.cause (sym c.is_outside.ensures ∙ c.if-is_outside.false) (sym c.is_in_use.ensures ∙ c.if-is_in_use.false) (sym c.owes_all.ensures ∙ c.if-owes_all.false) (sym at_word ∙ c.if-is_full_for.false) cause in
+    let t = load_absent u.sizes room u.cache c.args.at c.args.tag c.in-Err.cause (sym c.is_outside.ensures.outside ∙ c.if-is_outside.false) (sym c.is_in_use.ensures ∙ c.if-is_in_use.false) (sym c.owes_all.ensures ∙ c.if-owes_all.false) (sym at_word ∙ c.if-is_full_for.false) cause in
     c.in-Err.ensures.unit_kept ∙ kept_by u _ _ t refl
 
 pub returns-in-Err-clause-lines : goal.returns-in-Err-clause-lines
@@ -130,7 +130,7 @@ returns-in-Err-clause-lines g c =
     let at_block = subst (λ b. c.is_full_for.result ≡ is_full_for u.cache b c.place_in-i.result) c.block_of-block.ensures.value c.is_full_for.ensures in
     let at_word = subst (λ i. c.is_full_for.result ≡ is_full_for u.cache (block_of u.sizes c.args.at) i) c.place_in-i.ensures.value at_block in
     let cause = subst (λ b. absence_cause u.sizes room u.cache b ≡ Some c.in-Err.cause) c.block_of-block.ensures.value c.in-Err.ensures.cause in
-    let t = load_absent u.sizes room u.cache c.args.at c.args.tag c.in-Err.cause (sym c.is_outside.ensures ∙ c.if-is_outside.false) (sym c.is_in_use.ensures ∙ c.if-is_in_use.false) (sym c.owes_all.ensures ∙ c.if-owes_all.false) (sym at_word ∙ c.if-is_full_for.false) cause in
+    let t = load_absent u.sizes room u.cache c.args.at c.args.tag c.in-Err.cause (sym c.is_outside.ensures.outside ∙ c.if-is_outside.false) (sym c.is_in_use.ensures ∙ c.if-is_in_use.false) (sym c.owes_all.ensures ∙ c.if-owes_all.false) (sym at_word ∙ c.if-is_full_for.false) cause in
     let none = HasSent-none g.L.Lines.sent_to g.L.Lines.room_of g.L.Lines.same c.args.lines.now (g.met.L.Lines.same_self c.args.lines.now) in
     let there = subst (λ l. HasSent g.L.Lines.sent_to g.L.Lines.room_of g.L.Lines.same c.args.lines.now l []) (sym c.in-Err.ensures.lines_kept) none in
     sent_by g.L.Lines.sent_to g.L.Lines.room_of g.L.Lines.same c.args.lines.now c.make_present.new.lines _ _ t there
@@ -153,7 +153,7 @@ returns-in-Ok-clause-answer g c =
     let at_block = subst (λ b. c.is_full_for.result ≡ is_full_for u.cache b c.place_in-i.result) c.block_of-block.ensures.value c.is_full_for.ensures in
     let at_word = subst (λ i. c.is_full_for.result ≡ is_full_for u.cache (block_of u.sizes c.args.at) i) c.place_in-i.ensures.value at_block in
     let none = subst (λ b. absence_cause u.sizes room u.cache b ≡ None) c.block_of-block.ensures.value c.in-Ok.ensures.no_cause in
-    let t = load_done u.sizes room u.cache c.args.at c.args.tag (sym c.is_outside.ensures ∙ c.if-is_outside.false) (sym c.is_in_use.ensures ∙ c.if-is_in_use.false) (sym c.owes_all.ensures ∙ c.if-owes_all.false) (sym at_word ∙ c.if-is_full_for.false) none in
+    let t = load_done u.sizes room u.cache c.args.at c.args.tag (sym c.is_outside.ensures.outside ∙ c.if-is_outside.false) (sym c.is_in_use.ensures ∙ c.if-is_in_use.false) (sym c.owes_all.ensures ∙ c.if-owes_all.false) (sym at_word ∙ c.if-is_full_for.false) none in
     sym (ap (λ (x : Stepped). x.answer) t)
 
 pub returns-in-Ok-clause-unit : goal.returns-in-Ok-clause-unit
@@ -163,7 +163,7 @@ returns-in-Ok-clause-unit g c =
     let at_block = subst (λ b. c.is_full_for.result ≡ is_full_for u.cache b c.place_in-i.result) c.block_of-block.ensures.value c.is_full_for.ensures in
     let at_word = subst (λ i. c.is_full_for.result ≡ is_full_for u.cache (block_of u.sizes c.args.at) i) c.place_in-i.ensures.value at_block in
     let none = subst (λ b. absence_cause u.sizes room u.cache b ≡ None) c.block_of-block.ensures.value c.in-Ok.ensures.no_cause in
-    let t = load_done u.sizes room u.cache c.args.at c.args.tag (sym c.is_outside.ensures ∙ c.if-is_outside.false) (sym c.is_in_use.ensures ∙ c.if-is_in_use.false) (sym c.owes_all.ensures ∙ c.if-owes_all.false) (sym at_word ∙ c.if-is_full_for.false) none in
+    let t = load_done u.sizes room u.cache c.args.at c.args.tag (sym c.is_outside.ensures.outside ∙ c.if-is_outside.false) (sym c.is_in_use.ensures ∙ c.if-is_in_use.false) (sym c.owes_all.ensures ∙ c.if-owes_all.false) (sym at_word ∙ c.if-is_full_for.false) none in
     let v = c.make_present.new.self in
     let unit = subst (λ b. v ≡ record u { cache = fetched u.sizes u.cache b }) c.block_of-block.ensures.value c.in-Ok.ensures.unit in
     let made_of : Cache → ℕ → ℕ → Cache = λ d b i. loaded d c.args.tag i (cell_of d b i).word (found d b i) in
@@ -179,6 +179,6 @@ returns-in-Ok-clause-lines g c =
     let at_block = subst (λ b. c.is_full_for.result ≡ is_full_for u.cache b c.place_in-i.result) c.block_of-block.ensures.value c.is_full_for.ensures in
     let at_word = subst (λ i. c.is_full_for.result ≡ is_full_for u.cache (block_of u.sizes c.args.at) i) c.place_in-i.ensures.value at_block in
     let none = subst (λ b. absence_cause u.sizes room u.cache b ≡ None) c.block_of-block.ensures.value c.in-Ok.ensures.no_cause in
-    let t = load_done u.sizes room u.cache c.args.at c.args.tag (sym c.is_outside.ensures ∙ c.if-is_outside.false) (sym c.is_in_use.ensures ∙ c.if-is_in_use.false) (sym c.owes_all.ensures ∙ c.if-owes_all.false) (sym at_word ∙ c.if-is_full_for.false) none in
+    let t = load_done u.sizes room u.cache c.args.at c.args.tag (sym c.is_outside.ensures.outside ∙ c.if-is_outside.false) (sym c.is_in_use.ensures ∙ c.if-is_in_use.false) (sym c.owes_all.ensures ∙ c.if-owes_all.false) (sym at_word ∙ c.if-is_full_for.false) none in
     let sent = subst (λ b. HasSent g.L.Lines.sent_to g.L.Lines.room_of g.L.Lines.same c.args.lines.now c.make_present.new.lines (fetches u.sizes u.cache b)) c.block_of-block.ensures.value c.in-Ok.ensures.lines in
     sent_by g.L.Lines.sent_to g.L.Lines.room_of g.L.Lines.same c.args.lines.now c.make_present.new.lines _ _ t sent

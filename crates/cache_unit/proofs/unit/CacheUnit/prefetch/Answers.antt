@@ -10,21 +10,21 @@ pub returns-then-is_outside-clause-answer : goal.returns-then-is_outside-clause-
 returns-then-is_outside-clause-answer g c =
     let u = c.args.self.now in
     let room = g.L.Lines.room_of c.args.lines.now in
-    let t = prefetch_outside u.sizes room u.cache c.args.at (sym c.is_outside.ensures ∙ c.if-is_outside.true) in
+    let t = prefetch_outside u.sizes room u.cache c.args.at (sym c.is_outside.ensures.outside ∙ c.if-is_outside.true) in
     sym (ap (λ (x : Stepped). x.answer) t)
 
 pub returns-then-is_outside-clause-unit : goal.returns-then-is_outside-clause-unit
 returns-then-is_outside-clause-unit g c =
     let u = c.args.self.now in
     let room = g.L.Lines.room_of c.args.lines.now in
-    let t = prefetch_outside u.sizes room u.cache c.args.at (sym c.is_outside.ensures ∙ c.if-is_outside.true) in
+    let t = prefetch_outside u.sizes room u.cache c.args.at (sym c.is_outside.ensures.outside ∙ c.if-is_outside.true) in
     kept_by u _ _ t refl
 
 pub returns-then-is_outside-clause-lines : goal.returns-then-is_outside-clause-lines
 returns-then-is_outside-clause-lines g c =
     let u = c.args.self.now in
     let room = g.L.Lines.room_of c.args.lines.now in
-    let t = prefetch_outside u.sizes room u.cache c.args.at (sym c.is_outside.ensures ∙ c.if-is_outside.true) in
+    let t = prefetch_outside u.sizes room u.cache c.args.at (sym c.is_outside.ensures.outside ∙ c.if-is_outside.true) in
     let none = HasSent-none g.L.Lines.sent_to g.L.Lines.room_of g.L.Lines.same c.args.lines.now (g.met.L.Lines.same_self c.args.lines.now) in
     sent_by g.L.Lines.sent_to g.L.Lines.room_of g.L.Lines.same c.args.lines.now c.args.lines.now _ _ t none
 
@@ -33,7 +33,7 @@ returns-in-Err-clause-answer g c =
     let u = c.args.self.now in
     let room = g.L.Lines.room_of c.args.lines.now in
     let cause = subst (λ b. absence_cause u.sizes room u.cache b ≡ Some c.in-Err.cause) c.block_of-block.ensures.value c.in-Err.ensures.cause in
-    let t = prefetch_absent u.sizes room u.cache c.args.at c.in-Err.cause (sym c.is_outside.ensures ∙ c.if-is_outside.false) cause in
+    let t = prefetch_absent u.sizes room u.cache c.args.at c.in-Err.cause (sym c.is_outside.ensures.outside ∙ c.if-is_outside.false) cause in
     sym (ap (λ (x : Stepped). x.answer) t)
 
 pub returns-in-Err-clause-unit : goal.returns-in-Err-clause-unit
@@ -41,7 +41,7 @@ returns-in-Err-clause-unit g c =
     let u = c.args.self.now in
     let room = g.L.Lines.room_of c.args.lines.now in
     let cause = subst (λ b. absence_cause u.sizes room u.cache b ≡ Some c.in-Err.cause) c.block_of-block.ensures.value c.in-Err.ensures.cause in
-    let t = prefetch_absent u.sizes room u.cache c.args.at c.in-Err.cause (sym c.is_outside.ensures ∙ c.if-is_outside.false) cause in
+    let t = prefetch_absent u.sizes room u.cache c.args.at c.in-Err.cause (sym c.is_outside.ensures.outside ∙ c.if-is_outside.false) cause in
     c.in-Err.ensures.unit_kept ∙ kept_by u _ _ t refl
 
 pub returns-in-Err-clause-lines : goal.returns-in-Err-clause-lines
@@ -49,7 +49,7 @@ returns-in-Err-clause-lines g c =
     let u = c.args.self.now in
     let room = g.L.Lines.room_of c.args.lines.now in
     let cause = subst (λ b. absence_cause u.sizes room u.cache b ≡ Some c.in-Err.cause) c.block_of-block.ensures.value c.in-Err.ensures.cause in
-    let t = prefetch_absent u.sizes room u.cache c.args.at c.in-Err.cause (sym c.is_outside.ensures ∙ c.if-is_outside.false) cause in
+    let t = prefetch_absent u.sizes room u.cache c.args.at c.in-Err.cause (sym c.is_outside.ensures.outside ∙ c.if-is_outside.false) cause in
     let none = HasSent-none g.L.Lines.sent_to g.L.Lines.room_of g.L.Lines.same c.args.lines.now (g.met.L.Lines.same_self c.args.lines.now) in
     let there = subst (λ l. HasSent g.L.Lines.sent_to g.L.Lines.room_of g.L.Lines.same c.args.lines.now l []) (sym c.in-Err.ensures.lines_kept) none in
     sent_by g.L.Lines.sent_to g.L.Lines.room_of g.L.Lines.same c.args.lines.now c.make_present.new.lines _ _ t there
@@ -59,7 +59,7 @@ returns-in-Ok-clause-answer g c =
     let u = c.args.self.now in
     let room = g.L.Lines.room_of c.args.lines.now in
     let none = subst (λ b. absence_cause u.sizes room u.cache b ≡ None) c.block_of-block.ensures.value c.in-Ok.ensures.no_cause in
-    let t = prefetch_done u.sizes room u.cache c.args.at (sym c.is_outside.ensures ∙ c.if-is_outside.false) none in
+    let t = prefetch_done u.sizes room u.cache c.args.at (sym c.is_outside.ensures.outside ∙ c.if-is_outside.false) none in
     sym (ap (λ (x : Stepped). x.answer) t)
 
 pub returns-in-Ok-clause-unit : goal.returns-in-Ok-clause-unit
@@ -67,7 +67,7 @@ returns-in-Ok-clause-unit g c =
     let u = c.args.self.now in
     let room = g.L.Lines.room_of c.args.lines.now in
     let none = subst (λ b. absence_cause u.sizes room u.cache b ≡ None) c.block_of-block.ensures.value c.in-Ok.ensures.no_cause in
-    let t = prefetch_done u.sizes room u.cache c.args.at (sym c.is_outside.ensures ∙ c.if-is_outside.false) none in
+    let t = prefetch_done u.sizes room u.cache c.args.at (sym c.is_outside.ensures.outside ∙ c.if-is_outside.false) none in
     let unit = subst (λ b. c.make_present.new.self ≡ record u { cache = fetched u.sizes u.cache b }) c.block_of-block.ensures.value c.in-Ok.ensures.unit in
     made_by u c.make_present.new.self _ _ t unit
 
@@ -76,6 +76,6 @@ returns-in-Ok-clause-lines g c =
     let u = c.args.self.now in
     let room = g.L.Lines.room_of c.args.lines.now in
     let none = subst (λ b. absence_cause u.sizes room u.cache b ≡ None) c.block_of-block.ensures.value c.in-Ok.ensures.no_cause in
-    let t = prefetch_done u.sizes room u.cache c.args.at (sym c.is_outside.ensures ∙ c.if-is_outside.false) none in
+    let t = prefetch_done u.sizes room u.cache c.args.at (sym c.is_outside.ensures.outside ∙ c.if-is_outside.false) none in
     let sent = subst (λ b. HasSent g.L.Lines.sent_to g.L.Lines.room_of g.L.Lines.same c.args.lines.now c.make_present.new.lines (fetches u.sizes u.cache b)) c.block_of-block.ensures.value c.in-Ok.ensures.lines in
     sent_by g.L.Lines.sent_to g.L.Lines.room_of g.L.Lines.same c.args.lines.now c.make_present.new.lines _ _ t sent

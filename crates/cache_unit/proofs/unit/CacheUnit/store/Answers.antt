@@ -12,21 +12,21 @@ pub returns-then-is_outside-clause-answer : goal.returns-then-is_outside-clause-
 returns-then-is_outside-clause-answer g c =
     let u = c.args.self.now in
     let room = g.L.Lines.room_of c.args.lines.now in
-    let t = store_outside u.sizes room u.cache c.args.at c.args.word c.args.lanes (sym c.is_outside.ensures ∙ c.if-is_outside.true) in
+    let t = store_outside u.sizes room u.cache c.args.at c.args.word c.args.lanes (sym c.is_outside.ensures.outside ∙ c.if-is_outside.true) in
     sym (ap (λ (x : Stepped). x.answer) t)
 
 pub returns-then-is_outside-clause-unit : goal.returns-then-is_outside-clause-unit
 returns-then-is_outside-clause-unit g c =
     let u = c.args.self.now in
     let room = g.L.Lines.room_of c.args.lines.now in
-    let t = store_outside u.sizes room u.cache c.args.at c.args.word c.args.lanes (sym c.is_outside.ensures ∙ c.if-is_outside.true) in
+    let t = store_outside u.sizes room u.cache c.args.at c.args.word c.args.lanes (sym c.is_outside.ensures.outside ∙ c.if-is_outside.true) in
     kept_by u _ _ t refl
 
 pub returns-then-is_outside-clause-lines : goal.returns-then-is_outside-clause-lines
 returns-then-is_outside-clause-lines g c =
     let u = c.args.self.now in
     let room = g.L.Lines.room_of c.args.lines.now in
-    let t = store_outside u.sizes room u.cache c.args.at c.args.word c.args.lanes (sym c.is_outside.ensures ∙ c.if-is_outside.true) in
+    let t = store_outside u.sizes room u.cache c.args.at c.args.word c.args.lanes (sym c.is_outside.ensures.outside ∙ c.if-is_outside.true) in
     let none = HasSent-none g.L.Lines.sent_to g.L.Lines.room_of g.L.Lines.same c.args.lines.now (g.met.L.Lines.same_self c.args.lines.now) in
     sent_by g.L.Lines.sent_to g.L.Lines.room_of g.L.Lines.same c.args.lines.now c.args.lines.now _ _ t none
 
@@ -34,21 +34,21 @@ pub returns-then-not-has_any-clause-answer : goal.returns-then-not-has_any-claus
 returns-then-not-has_any-clause-answer g c =
     let u = c.args.self.now in
     let room = g.L.Lines.room_of c.args.lines.now in
-    let t = store_no_lanes u.sizes room u.cache c.args.at c.args.word c.args.lanes (sym c.is_outside.ensures ∙ c.if-is_outside.false) (not_set (has_any c.args.lanes) c.has_any.result c.has_any.ensures c.if-not-has_any.true) in
+    let t = store_no_lanes u.sizes room u.cache c.args.at c.args.word c.args.lanes (sym c.is_outside.ensures.outside ∙ c.if-is_outside.false) (not_set (has_any c.args.lanes) c.has_any.result c.has_any.ensures c.if-not-has_any.true) in
     sym (ap (λ (x : Stepped). x.answer) t)
 
 pub returns-then-not-has_any-clause-unit : goal.returns-then-not-has_any-clause-unit
 returns-then-not-has_any-clause-unit g c =
     let u = c.args.self.now in
     let room = g.L.Lines.room_of c.args.lines.now in
-    let t = store_no_lanes u.sizes room u.cache c.args.at c.args.word c.args.lanes (sym c.is_outside.ensures ∙ c.if-is_outside.false) (not_set (has_any c.args.lanes) c.has_any.result c.has_any.ensures c.if-not-has_any.true) in
+    let t = store_no_lanes u.sizes room u.cache c.args.at c.args.word c.args.lanes (sym c.is_outside.ensures.outside ∙ c.if-is_outside.false) (not_set (has_any c.args.lanes) c.has_any.result c.has_any.ensures c.if-not-has_any.true) in
     kept_by u _ _ t refl
 
 pub returns-then-not-has_any-clause-lines : goal.returns-then-not-has_any-clause-lines
 returns-then-not-has_any-clause-lines g c =
     let u = c.args.self.now in
     let room = g.L.Lines.room_of c.args.lines.now in
-    let t = store_no_lanes u.sizes room u.cache c.args.at c.args.word c.args.lanes (sym c.is_outside.ensures ∙ c.if-is_outside.false) (not_set (has_any c.args.lanes) c.has_any.result c.has_any.ensures c.if-not-has_any.true) in
+    let t = store_no_lanes u.sizes room u.cache c.args.at c.args.word c.args.lanes (sym c.is_outside.ensures.outside ∙ c.if-is_outside.false) (not_set (has_any c.args.lanes) c.has_any.result c.has_any.ensures c.if-not-has_any.true) in
     let none = HasSent-none g.L.Lines.sent_to g.L.Lines.room_of g.L.Lines.same c.args.lines.now (g.met.L.Lines.same_self c.args.lines.now) in
     sent_by g.L.Lines.sent_to g.L.Lines.room_of g.L.Lines.same c.args.lines.now c.args.lines.now _ _ t none
 
@@ -57,7 +57,7 @@ returns-in-Err-clause-answer g c =
     let u = c.args.self.now in
     let room = g.L.Lines.room_of c.args.lines.now in
     let cause = subst (λ b. absence_cause u.sizes room u.cache b ≡ Some c.in-Err.cause) c.block_of-block.ensures.value c.in-Err.ensures.cause in
-    let t = store_absent u.sizes room u.cache c.args.at c.args.word c.args.lanes c.in-Err.cause (sym c.is_outside.ensures ∙ c.if-is_outside.false) (is_set (has_any c.args.lanes) c.has_any.result c.has_any.ensures c.if-not-has_any.false) cause in
+    let t = store_absent u.sizes room u.cache c.args.at c.args.word c.args.lanes c.in-Err.cause (sym c.is_outside.ensures.outside ∙ c.if-is_outside.false) (is_set (has_any c.args.lanes) c.has_any.result c.has_any.ensures c.if-not-has_any.false) cause in
     sym (ap (λ (x : Stepped). x.answer) t)
 
 pub returns-in-Err-clause-unit : goal.returns-in-Err-clause-unit
@@ -65,7 +65,7 @@ returns-in-Err-clause-unit g c =
     let u = c.args.self.now in
     let room = g.L.Lines.room_of c.args.lines.now in
     let cause = subst (λ b. absence_cause u.sizes room u.cache b ≡ Some c.in-Err.cause) c.block_of-block.ensures.value c.in-Err.ensures.cause in
-    let t = store_absent u.sizes room u.cache c.args.at c.args.word c.args.lanes c.in-Err.cause (sym c.is_outside.ensures ∙ c.if-is_outside.false) (is_set (has_any c.args.lanes) c.has_any.result c.has_any.ensures c.if-not-has_any.false) cause in
+    let t = store_absent u.sizes room u.cache c.args.at c.args.word c.args.lanes c.in-Err.cause (sym c.is_outside.ensures.outside ∙ c.if-is_outside.false) (is_set (has_any c.args.lanes) c.has_any.result c.has_any.ensures c.if-not-has_any.false) cause in
     c.in-Err.ensures.unit_kept ∙ kept_by u _ _ t refl
 
 pub returns-in-Err-clause-lines : goal.returns-in-Err-clause-lines
@@ -73,7 +73,7 @@ returns-in-Err-clause-lines g c =
     let u = c.args.self.now in
     let room = g.L.Lines.room_of c.args.lines.now in
     let cause = subst (λ b. absence_cause u.sizes room u.cache b ≡ Some c.in-Err.cause) c.block_of-block.ensures.value c.in-Err.ensures.cause in
-    let t = store_absent u.sizes room u.cache c.args.at c.args.word c.args.lanes c.in-Err.cause (sym c.is_outside.ensures ∙ c.if-is_outside.false) (is_set (has_any c.args.lanes) c.has_any.result c.has_any.ensures c.if-not-has_any.false) cause in
+    let t = store_absent u.sizes room u.cache c.args.at c.args.word c.args.lanes c.in-Err.cause (sym c.is_outside.ensures.outside ∙ c.if-is_outside.false) (is_set (has_any c.args.lanes) c.has_any.result c.has_any.ensures c.if-not-has_any.false) cause in
     let none = HasSent-none g.L.Lines.sent_to g.L.Lines.room_of g.L.Lines.same c.args.lines.now (g.met.L.Lines.same_self c.args.lines.now) in
     let there = subst (λ l. HasSent g.L.Lines.sent_to g.L.Lines.room_of g.L.Lines.same c.args.lines.now l []) (sym c.in-Err.ensures.lines_kept) none in
     sent_by g.L.Lines.sent_to g.L.Lines.room_of g.L.Lines.same c.args.lines.now c.make_present.new.lines _ _ t there
@@ -83,7 +83,7 @@ returns-in-Ok-clause-answer g c =
     let u = c.args.self.now in
     let room = g.L.Lines.room_of c.args.lines.now in
     let none = subst (λ b. absence_cause u.sizes room u.cache b ≡ None) c.block_of-block.ensures.value c.in-Ok.ensures.no_cause in
-    let t = store_done u.sizes room u.cache c.args.at c.args.word c.args.lanes (sym c.is_outside.ensures ∙ c.if-is_outside.false) (is_set (has_any c.args.lanes) c.has_any.result c.has_any.ensures c.if-not-has_any.false) none in
+    let t = store_done u.sizes room u.cache c.args.at c.args.word c.args.lanes (sym c.is_outside.ensures.outside ∙ c.if-is_outside.false) (is_set (has_any c.args.lanes) c.has_any.result c.has_any.ensures c.if-not-has_any.false) none in
     sym (ap (λ (x : Stepped). x.answer) t)
 
 pub returns-in-Ok-clause-unit : goal.returns-in-Ok-clause-unit
@@ -91,7 +91,7 @@ returns-in-Ok-clause-unit g c =
     let u = c.args.self.now in
     let room = g.L.Lines.room_of c.args.lines.now in
     let none = subst (λ b. absence_cause u.sizes room u.cache b ≡ None) c.block_of-block.ensures.value c.in-Ok.ensures.no_cause in
-    let t = store_done u.sizes room u.cache c.args.at c.args.word c.args.lanes (sym c.is_outside.ensures ∙ c.if-is_outside.false) (is_set (has_any c.args.lanes) c.has_any.result c.has_any.ensures c.if-not-has_any.false) none in
+    let t = store_done u.sizes room u.cache c.args.at c.args.word c.args.lanes (sym c.is_outside.ensures.outside ∙ c.if-is_outside.false) (is_set (has_any c.args.lanes) c.has_any.result c.has_any.ensures c.if-not-has_any.false) none in
     let v = c.make_present.new.self in
     let unit = subst (λ b. v ≡ record u { cache = fetched u.sizes u.cache b }) c.block_of-block.ensures.value c.in-Ok.ensures.unit in
     let stored = subst (λ b. c.store_present.new.self ≡ record v { cache = written v.cache b c.place_in-i.result c.args.word c.args.lanes }) c.block_of-block.ensures.value c.store_present.ensures in
@@ -104,6 +104,6 @@ returns-in-Ok-clause-lines g c =
     let u = c.args.self.now in
     let room = g.L.Lines.room_of c.args.lines.now in
     let none = subst (λ b. absence_cause u.sizes room u.cache b ≡ None) c.block_of-block.ensures.value c.in-Ok.ensures.no_cause in
-    let t = store_done u.sizes room u.cache c.args.at c.args.word c.args.lanes (sym c.is_outside.ensures ∙ c.if-is_outside.false) (is_set (has_any c.args.lanes) c.has_any.result c.has_any.ensures c.if-not-has_any.false) none in
+    let t = store_done u.sizes room u.cache c.args.at c.args.word c.args.lanes (sym c.is_outside.ensures.outside ∙ c.if-is_outside.false) (is_set (has_any c.args.lanes) c.has_any.result c.has_any.ensures c.if-not-has_any.false) none in
     let sent = subst (λ b. HasSent g.L.Lines.sent_to g.L.Lines.room_of g.L.Lines.same c.args.lines.now c.make_present.new.lines (fetches u.sizes u.cache b)) c.block_of-block.ensures.value c.in-Ok.ensures.lines in
     sent_by g.L.Lines.sent_to g.L.Lines.room_of g.L.Lines.same c.args.lines.now c.make_present.new.lines _ _ t sent
