@@ -1,9 +1,8 @@
 -- A word comes into the stack.
-use Rattle.std.proofs.Common.{◌≡◌, ℕ, suc, zero, nat_lt, nat_le, ◌+◌, ◌<◌, ◌≤◌, ◌==◌, Bool, true, false, ◌&&◌, ◌||◌, not, if◌then◌else◌, List, [], ◌∷◌, ◌++◌, map, length, set, get_or, Option, Some, None, is_some, refl, ap, sym, ◌∙◌, arith, length-set, length-append, ◌-◌, ◌⊎◌, inl, inr, subst}
-use Rattle.std.specs.List.{find, sum_by}
+use Rattle.std.proofs.Common.{◌≡◌, ℕ, suc, zero, nat_lt, nat_le, ◌<◌, ◌≤◌, ◌==◌, Bool, true, false, ◌&&◌, ◌||◌, not, if◌then◌else◌, List, [], ◌∷◌, ◌++◌, map, length, set, Option, Some, None, is_some, refl, ap, sym, ◌∙◌, arith, length-set, length-append, ◌-◌, ◌⊎◌, inl, inr, subst}
+use Rattle.std.specs.List.{find}
 use Rattle.std.specs.Option.{option_map}
-use Rattle.std.proofs.lemmas.List.{map-set, get_or-set_same, get_or-set_other, get_or_past, get_or_append_left, get_or-append_right}
-use Rattle.std.proofs.lemmas.List.Sums.{sum_by-set}
+use Rattle.std.proofs.lemmas.List.{get_or-set_same, get_or-set_other, get_or_past, get_or_append_left, get_or-append_right}
 use Rattle.std.proofs.Math.Seq.{map-set_same}
 use Rattle.std.proofs.lemmas.Bool.{false≢true, cases_lt, cases_eq}
 use Rattle.std.proofs.lemmas.Bool.Decides.{nat_tests}
@@ -17,7 +16,7 @@ use Rattle.cache_unit.specs.declared.Reply.{Reply}
 use Rattle.write_queue.specs.declared.Queued.{Queued}
 use Rattle.input_stack.specs.Stack.{stack_word}
 use Rattle.write_queue.specs.Queue.{Queue}
-use Rattle.cache_unit.specs.State.{Sizes, UnitState, Field, Register, Cache, register_at, field_at}
+use Rattle.cache_unit.specs.State.{Sizes, UnitState, Field, Register, Cache}
 use Rattle.cache_unit.specs.Causes.{is_stray, arrive_cause}
 use Rattle.flat_model.specs.declared.Cause.TheVariants.{StrayWord, StackFull}
 use Rattle.flat_model.specs.declared.Answer.TheVariants.{Refused}
@@ -26,9 +25,9 @@ use Rattle.cache_unit.specs.Shown.{as_frame, as_field, as_register, as_cache}
 use Rattle.cache_unit.specs.Sound.{no_entry, entry_at, HasInStack, Stands, HasFrame, FilledBy, IsSound, loads_of}
 use Rattle.miss_registers.specs.Whole.{IsWhole}
 use Rattle.cache_unit.proofs.Owing.{loads-set, owes-same}
-use Rattle.cache_unit.proofs.Process.{register_at-shown, field_at-shown}
+use Rattle.cache_unit.proofs.Process.{register_at-shown}
 use Rattle.cache_unit.proofs.Lists.{get_or-map}
-use Rattle.cache_unit.proofs.Keeps.{slot_within, Since, live_before}
+use Rattle.cache_unit.proofs.Keeps.{Since, live_before}
 
 -- ---- the marks are those of the stack
 

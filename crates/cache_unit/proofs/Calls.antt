@@ -1,9 +1,9 @@
 -- What the calls of the steps need and leave, as the code names the entry.
-use Rattle.std.proofs.Common.{◌≡◌, ℕ, ◌+◌, ◌<◌, ◌≤◌, Bool, true, false, not, if◌then◌else◌, List, [], ◌∷◌, ◌++◌, map, length, set, get_or, take, Option, Some, None, refl, ap, sym, ◌∙◌, arith, subst, add-one, slice_get, length-append}
-use Rattle.std.specs.List.{remove, list_all}
+use Rattle.std.proofs.Common.{◌≡◌, ℕ, ◌+◌, ◌<◌, ◌≤◌, Bool, true, List, [], ◌∷◌, ◌++◌, length, set, get_or, take, Option, Some, refl, ap, sym, ◌∙◌, subst, slice_get}
+use Rattle.std.specs.List.{remove}
 use Rattle.write_queue.specs.Queue.{Queue}
-use Rattle.std.proofs.lemmas.List.{map-append, take_more, length-map}
-use Rattle.std.proofs.lemmas.Option.{slice_get_within, get_or_from_slice_get, slice_get-get_or}
+use Rattle.std.proofs.lemmas.List.{map-append, take_more}
+use Rattle.std.proofs.lemmas.Option.{slice_get_within, get_or_from_slice_get}
 use Rattle.flat_model.specs.Words.{merged}
 use Rattle.flat_model.specs.declared.Word.{Word}
 use Rattle.flat_model.specs.declared.Lanes.{Lanes}
@@ -12,12 +12,11 @@ use Rattle.miss_registers.specs.Registers as regs
 use Rattle.input_stack.specs.declared.Entry.{Entry}
 use Rattle.miss_registers.specs.declared.Owed.{Owed}
 use Rattle.cache_unit.specs.declared.Reply.{Reply}
-use Rattle.write_queue.specs.declared.Queued.{Queued}
 use Rattle.cache_unit.specs.State.{Cache, Sizes, UnitState}
-use Rattle.cache_unit.specs.Steps.{answered, processed, process_step, process_entry}
+use Rattle.cache_unit.specs.Steps.{answered, process_step, process_entry}
 use Rattle.cache_unit.specs.Shown.{as_cache}
 use Rattle.cache_unit.specs.Parts.{filled_live, CanFill}
-use Rattle.cache_unit.specs.Sound.{no_entry, entry_at, HasInStack, IsSound}
+use Rattle.cache_unit.specs.Sound.{no_entry, entry_at, IsSound}
 use Rattle.miss_registers.specs.Whole.{IsWhole}
 use Rattle.cache_unit.proofs.Process.{live_of, processed-shown}
 use Rattle.cache_unit.proofs.Keeps.{slot_within, IsSound-processed, CanFill-live, room_for}

@@ -1,5 +1,5 @@
 -- What a miss may take, by the parts and by what they show.
-use Rattle.std.proofs.Common.{◌≡◌, ℕ, suc, zero, ◌+◌, ◌-◌, ◌*◌, ◌%◌, ◌/◌, ◌<◌, ◌≤◌, nat_lt, ◌==◌, ◌&&◌, ◌||◌, not, Bool, true, false, cond, List, [], ◌∷◌, map, length, get_or, Option, Some, None, is_none, is_some, refl, sym, ap, ap₂, ◌∙◌, arith, add-zero, eq-eqb, ne_eqb, lt-ltb, le-ltb, ltb-false}
+use Rattle.std.proofs.Common.{◌≡◌, ℕ, suc, ◌-◌, ◌*◌, ◌%◌, ◌/◌, ◌<◌, ◌≤◌, nat_lt, ◌==◌, ◌&&◌, not, Bool, true, false, cond, List, [], ◌∷◌, map, length, get_or, Option, Some, None, is_none, is_some, refl, sym, ap, ap₂, ◌∙◌, arith, add-zero, eq-eqb, ne_eqb}
 use Rattle.std.specs.Option.{option_or, option_map}
 use Rattle.std.specs.List.{find, filter, list_all, list_any, range_with_len}
 use Rattle.std.proofs.lemmas.Bool.{false≢true}
@@ -11,25 +11,22 @@ use Rattle.flat_model.proofs.Places.{place_of-map}
 use Rattle.input_stack.specs.declared.Entry.{Entry}
 use Rattle.write_queue.specs.declared.Queued.{Queued}
 use Rattle.write_queue.specs.Queue.{Queue}
-use Rattle.memory_banks.specs.declared.Command.{Command}
-use Rattle.memory_banks.specs.Banks.{commands_for}
 use Rattle.cache_directory.specs.declared.directory.Choice.{Choice}
 use Rattle.cache_directory.specs.declared.directory.Choice.TheVariants.{Free, Victim, AllPending}
 use Rattle.cache_directory.specs.Frames as dir
 use Rattle.cache_directory.proofs.Whole.{order_held}
 use Rattle.miss_registers.specs.Registers as regs
 use Rattle.cache_unit.specs.declared.Reply.{Reply}
-use Rattle.cache_unit.specs.State.{Sizes, Frame, Register, Cache, frame_at, live_for, free_slot, is_pending, is_pending_block, address}
-use Rattle.cache_unit.specs.Causes.{first_cause, is_resident_block, ways_of, order_of, choose, dirty_words, addresses, lacks_room, lacks_places, miss_causes}
-use Rattle.cache_unit.specs.Shown.{as_frame, as_register, as_cache}
+use Rattle.cache_unit.specs.State.{Sizes, Frame, Register, frame_at, free_slot, is_pending, is_pending_block}
+use Rattle.cache_unit.specs.Causes.{first_cause, is_resident_block, ways_of, order_of, choose, lacks_room, lacks_places}
+use Rattle.cache_unit.specs.Shown.{as_register, as_cache}
 use Rattle.cache_unit.specs.Sound.{IsSound}
-use Rattle.cache_unit.specs.Reads.{block_reads, is_short}
+use Rattle.cache_unit.specs.Reads.{is_short}
 use Rattle.cache_unit.specs.GivenUp.{owed_words}
 use Rattle.cache_unit.specs.Miss.{chosen_frame}
-use Rattle.cache_directory.proofs.Choices.{IsFreeWay, IsResidentWay, chosen-free, chosen-victim, chosen-all_pending}
+use Rattle.cache_directory.proofs.Choices.{chosen-free, chosen-victim, chosen-all_pending}
 use Rattle.cache_unit.proofs.Process.{frame_at-shown}
 use Rattle.cache_unit.proofs.Same.{live_for-shown, pending_is}
-use Rattle.cache_unit.proofs.SentReads.{length-commands_for-block_reads}
 use Rattle.cache_unit.proofs.FetchShown.{owed-shown}
 
 -- ---- tests over lists

@@ -1,5 +1,5 @@
 -- The words with dirty lanes, one cell at a time.
-use Rattle.std.proofs.Common.{◌≡◌, ℕ, suc, zero, ◌+◌, ◌<◌, ◌≤◌, Bool, true, false, cond, List, [], ◌∷◌, ◌++◌, length, take, get_or, refl, sym, ap, ◌∙◌, arith, add-zero, append-nil, append_assoc, length-append, Option, Some, None, is_some}
+use Rattle.std.proofs.Common.{◌≡◌, ℕ, suc, zero, ◌+◌, ◌<◌, ◌≤◌, Bool, true, false, cond, List, [], ◌∷◌, ◌++◌, length, take, get_or, refl, sym, ap, ◌∙◌, arith, add-zero, append_assoc, Option, Some, None, is_some}
 use Rattle.std.proofs.lemmas.List.{take_more}
 use Rattle.flat_model.specs.Words.{has_any, zero_word, merged}
 use Rattle.flat_model.specs.declared.Word.{Word}

@@ -1,13 +1,13 @@
 -- What an eviction answers and leaves.
-use Rattle.std.proofs.Common.{◌≡◌, ℕ, ◌+◌, ◌*◌, ◌<◌, ◌≤◌, ◌^◌, nat_lt, Bool, true, false, Option, Some, None, [], refl, ap, sym, ◌∙◌, arith, subst}
+use Rattle.std.proofs.Common.{◌≡◌, ℕ, ◌+◌, ◌*◌, ◌<◌, ◌≤◌, nat_lt, true, false, Some, None, [], refl, sym, arith, subst}
 use Rattle.std.proofs.lemmas.Bool.Decides.{nat_tests}
 use Rattle.std.proofs.Math.Nat.{mul-le-mul_left}
 use Rattle.flat_model.specs.declared.Cause.{Cause}
 use Rattle.flat_model.specs.declared.Cause.TheVariants.{OutOfRange, NotPresent, QueueFull}
 use Rattle.flat_model.specs.declared.Answer.TheVariants.{Accepted, Refused}
-use Rattle.cache_unit.specs.State.{Sizes, UnitState, Cache, frame_of, is_present, address}
+use Rattle.cache_unit.specs.State.{Sizes, UnitState, Cache, frame_of}
 use Rattle.cache_unit.specs.Causes.{evict_cause, lacks_places}
-use Rattle.cache_unit.specs.Steps.{Stepped, evict_step, evicted, evicted_from}
+use Rattle.cache_unit.specs.Steps.{Stepped, evict_step, evicted}
 
 -- a refusal leaves everything unchanged
 abbrev pub refused : Cause → Cache → Stepped

@@ -1,17 +1,14 @@
 -- What the parts show once a miss has brought its block in.
-use Rattle.std.proofs.Common.{◌≡◌, ℕ, suc, zero, ◌+◌, ◌*◌, ◌/◌, ◌%◌, ◌<◌, ◌≤◌, ◌==◌, not, ◌&&◌, if◌then◌else◌, Bool, true, false, cond, List, [], ◌∷◌, ◌++◌, map, length, get_or, set, Option, Some, None, is_none, is_some, refl, sym, ap, ap₂, ◌∙◌, arith, add-zero, eq-eqb, ne_eqb}
-use Rattle.std.specs.List.{filter, range_with_len}
+use Rattle.std.proofs.Common.{◌≡◌, ℕ, suc, zero, ◌+◌, ◌*◌, ◌/◌, ◌%◌, ◌==◌, not, ◌&&◌, if◌then◌else◌, Bool, true, false, cond, List, [], ◌∷◌, ◌++◌, map, set, Option, Some, None, refl, sym, ap, ap₂, ◌∙◌, arith, add-zero}
+use Rattle.std.specs.List.{range_with_len}
 use Rattle.std.proofs.lemmas.List.{set-get_or}
-use Rattle.flat_model.specs.Words.{zero_word, no_lanes}
 use Rattle.input_stack.specs.declared.Entry.{Entry}
 use Rattle.write_queue.specs.declared.Queued.{Queued}
-use Rattle.write_queue.specs.Queue.{overlaid, queued_lanes}
-use Rattle.cache_directory.specs.declared.Cell.{Cell}
 use Rattle.cache_directory.specs.Frames as dir
 use Rattle.miss_registers.specs.Registers as regs
 use Rattle.cache_unit.specs.declared.Reply.{Reply}
-use Rattle.cache_unit.specs.State.{Sizes, Frame, Field, Register, Cache, empty_frame, frame_at, is_present, free_slot, address}
-use Rattle.cache_unit.specs.Causes.{choose, order_of, dirty_from, dirty_of_block, dirty_words, addresses}
+use Rattle.cache_unit.specs.State.{Sizes, Frame, Field, Register, empty_frame, is_present, free_slot}
+use Rattle.cache_unit.specs.Causes.{choose, order_of, dirty_from, dirty_of_block, dirty_words}
 use Rattle.cache_unit.specs.Steps.{without, released, fresh_frame, fresh_register, installed, missed, fetched}
 use Rattle.cache_unit.specs.Shown.{as_frame, as_field, as_register, as_cache}
 use Rattle.cache_unit.specs.Begun.{begun_cell, begun_field, begun_frame, begun_register}

@@ -1,12 +1,12 @@
 -- A miss keeps what holds of the parts.
-use Rattle.std.proofs.Common.{◌≡◌, ℕ, suc, zero, ◌+◌, ◌*◌, ◌/◌, ◌%◌, ◌<◌, ◌≤◌, ◌⊎◌, inl, inr, ◌&&◌, not, Bool, true, false, cond, List, [], ◌∷◌, ◌++◌, map, length, get_or, set, Option, Some, None, refl, sym, ap, ap₂, ◌∙◌, subst, arith, length-append, length-set, add-zero, eq-eqb, eqb-true}
+use Rattle.std.proofs.Common.{◌≡◌, ℕ, suc, zero, ◌+◌, ◌*◌, ◌/◌, ◌<◌, ◌≤◌, ◌⊎◌, inl, inr, ◌&&◌, not, Bool, true, false, cond, List, [], ◌∷◌, ◌++◌, map, length, get_or, set, Option, Some, None, refl, sym, ap, ◌∙◌, subst, arith, length-append, length-set, eq-eqb}
 use Rattle.std.specs.List.{range_with_len, sum_by, All}
 use Rattle.std.proofs.lemmas.Bool.{cases_eq, false≢true}
 use Rattle.std.proofs.lemmas.List.{get_or-set_same, get_or-set_other}
 use Rattle.std.proofs.lemmas.List.Elements.{All-nil, All-cons, All-append}
 use Rattle.std.proofs.lemmas.List.FromFn.{length-map-range_with_len}
 use Rattle.std.proofs.lemmas.Option.{none-some}
-use Rattle.flat_model.specs.Words.{has_any, merged, zero_word}
+use Rattle.flat_model.specs.Words.{has_any}
 use Rattle.flat_model.specs.Places.{is_number}
 use Rattle.input_stack.specs.declared.Entry.{Entry}
 use Rattle.write_queue.specs.declared.Queued.{Queued}
@@ -18,7 +18,7 @@ use Rattle.miss_registers.specs.Whole.{IsWhole}
 use Rattle.cache_unit.specs.declared.Reply.{Reply}
 use Rattle.cache_unit.specs.State.{Sizes}
 use Rattle.cache_unit.specs.Causes.{dirty_from}
-use Rattle.cache_unit.specs.Sound.{InRange, entry_at, HasInStack, HasFrame, FilledBy, loads_of, loads_of_field, Stands, StackSound, Tied, QueueSound, OwesSound, IsSound}
+use Rattle.cache_unit.specs.Sound.{entry_at, HasInStack, HasFrame, FilledBy, loads_of, loads_of_field, Stands, StackSound, Tied, QueueSound, OwesSound, IsSound}
 use Rattle.cache_unit.specs.Begun.{begun_cell, begun_field, begun_frame, begun_register}
 use Rattle.cache_unit.specs.GivenUp.{owed_by, owed_words, given_up, missed_frames, missed_registers}
 use Rattle.cache_unit.proofs.Lists.{place_of-only, place_of-none}

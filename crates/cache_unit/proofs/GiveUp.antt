@@ -1,28 +1,25 @@
 -- A block loses its frame.
-use Rattle.std.proofs.Common.{◌≡◌, ℕ, suc, zero, ◌+◌, ◌-◌, ◌*◌, ◌/◌, ◌<◌, ◌≤◌, nat_lt, ◌==◌, Bool, true, false, ◌&&◌, not, if◌then◌else◌, List, [], ◌∷◌, ◌++◌, map, length, set, get_or, Option, Some, None, is_some, refl, ap, sym, ◌∙◌, arith, length-set, length-append, ◌⊎◌, inl, inr, subst, add-zero}
-use Rattle.std.specs.List.{sum_by, count_by, All}
+use Rattle.std.proofs.Common.{◌≡◌, ℕ, ◌+◌, ◌-◌, ◌*◌, ◌/◌, ◌<◌, ◌≤◌, nat_lt, Bool, true, false, ◌&&◌, not, List, [], ◌∷◌, ◌++◌, map, length, set, get_or, Option, Some, None, is_some, refl, ap, sym, ◌∙◌, arith, length-set, length-append, inl, inr, add-zero}
+use Rattle.std.specs.List.{sum_by}
 use Rattle.std.proofs.lemmas.List.{map-set, get_or-set_same, get_or-set_other, length-map}
 use Rattle.std.proofs.lemmas.List.Elements.{All-append}
 use Rattle.std.proofs.lemmas.List.Sums.{sum_by-cons}
-use Rattle.std.proofs.lemmas.Bool.{false≢true, cases_eq, cases_lt}
+use Rattle.std.proofs.lemmas.Bool.{false≢true, cases_eq}
 use Rattle.std.proofs.lemmas.Bool.Decides.{nat_tests}
 use Rattle.std.proofs.lemmas.Option.{none-some, same_Some}
-use Rattle.flat_model.specs.declared.Word.{Word}
-use Rattle.flat_model.specs.declared.Lanes.{Lanes}
 use Rattle.cache_directory.specs.Frames as dir
-use Rattle.cache_directory.specs.declared.Cell.{Cell}
 use Rattle.miss_registers.specs.Registers as regs
 use Rattle.miss_registers.specs.Whole.{IsWhole}
 use Rattle.input_stack.specs.declared.Entry.{Entry}
 use Rattle.write_queue.specs.declared.Queued.{Queued}
 use Rattle.write_queue.specs.Queue.{Queue, queue}
 use Rattle.cache_unit.specs.declared.Reply.{Reply}
-use Rattle.cache_unit.specs.State.{Sizes, Frame, Field, Register, Cache, empty_frame, free_register, frame_at, register_at, live_for, address}
-use Rattle.cache_unit.specs.Causes.{dirty_from, dirty_words, dirty_of_block, order_of, lacks_places}
+use Rattle.cache_unit.specs.State.{Sizes, Frame, Field, Register, Cache, empty_frame, frame_at, live_for}
+use Rattle.cache_unit.specs.Causes.{dirty_from, dirty_words, dirty_of_block, lacks_places}
 use Rattle.cache_unit.specs.Steps.{without_code, made_obsolete, obsoleted, without, released, evicted}
 use Rattle.cache_unit.specs.Parts.{retired}
 use Rattle.cache_unit.specs.Shown.{as_frame, as_field, as_register, as_cache}
-use Rattle.cache_unit.specs.Sound.{entry_at, HasInStack, HasFrame, FilledBy, StackSound, Tied, QueueSound, OwesSound, loads_of, loads_of_field, IsSound}
+use Rattle.cache_unit.specs.Sound.{Tied, OwesSound, loads_of, loads_of_field, IsSound}
 use Rattle.cache_unit.proofs.Lists.{get_or-map}
 use Rattle.cache_unit.proofs.Keeps.{Since, pending_elsewhere, frame_of-some}
 use Rattle.cache_unit.proofs.Process.{register_at-shown, frame_at-shown}

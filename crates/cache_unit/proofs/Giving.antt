@@ -1,10 +1,8 @@
 -- A frame that was given up may take a block.
-use Rattle.std.proofs.Common.{◌≡◌, ℕ, ◌+◌, ◌/◌, ◌%◌, ◌<◌, Bool, true, false, cond, List, length, set, get_or, Option, Some, None, is_some, refl, sym, ap, ◌∙◌, subst, length-set}
+use Rattle.std.proofs.Common.{◌≡◌, ℕ, ◌/◌, ◌%◌, ◌<◌, Bool, true, false, cond, length, Option, Some, None, is_some, refl, sym, ap, ◌∙◌, subst, length-set}
 use Rattle.std.proofs.lemmas.Bool.{false≢true}
-use Rattle.std.proofs.lemmas.List.{get_or-set_same}
 use Rattle.cache_directory.specs.Frames as dir
 use Rattle.cache_directory.proofs.Misses.{MayInstall, released-here, released-frames, released-sets, released-absent}
-use Rattle.miss_registers.specs.Registers as regs
 use Rattle.cache_unit.specs.GivenUp.{given_up}
 
 pub given_may_install : (ways words : ℕ) (d : dir.Frames) (f block : ℕ) → dir.IsWhole ways words d → dir.frame_of d.frames block ≡ None → f < length d.frames → f / ways ≡ dir.set_of d block → MayInstall ways (given_up ways d f) f block

@@ -1,9 +1,8 @@
 -- What holds of the parts still holds once a word has left the stack.
-use Rattle.std.proofs.Common.{◌≡◌, ℕ, suc, zero, ◌+◌, ◌<◌, ◌≤◌, Bool, true, false, ◌&&◌, not, if◌then◌else◌, List, [], ◌∷◌, ◌++◌, map, length, set, get_or, Option, Some, None, is_some, refl, ap, sym, ◌∙◌, arith, length-set, length-append, eqb-true, ◌-◌, ◌⊎◌, inl, inr, subst}
-use Rattle.std.specs.List.{list_all, remove, sum_by}
+use Rattle.std.proofs.Common.{◌≡◌, ℕ, suc, zero, ◌+◌, ◌<◌, ◌≤◌, Bool, true, false, ◌&&◌, not, if◌then◌else◌, List, [], ◌∷◌, ◌++◌, length, set, get_or, Option, Some, None, is_some, refl, ap, sym, ◌∙◌, arith, length-set, eqb-true, ◌-◌, ◌⊎◌, inl, inr, subst}
+use Rattle.std.specs.List.{list_all, remove}
 use Rattle.std.proofs.lemmas.List.{get_or-set_same, get_or-set_other, get_or_past}
 use Rattle.std.proofs.lemmas.List.Edits.{length-remove, get_or-remove_below, get_or-remove_above}
-use Rattle.std.proofs.lemmas.List.Sums.{sum_by-set}
 use Rattle.std.proofs.lemmas.Bool.{false≢true, cases_lt, cases_eq, cases_order}
 use Rattle.flat_model.specs.declared.Word.{Word}
 use Rattle.flat_model.specs.declared.Lanes.{Lanes}
@@ -11,9 +10,7 @@ use Rattle.flat_model.specs.Places.{place_of}
 use Rattle.cache_directory.specs.Frames as dir
 use Rattle.miss_registers.specs.Registers as regs
 use Rattle.input_stack.specs.declared.Entry.{Entry}
-use Rattle.miss_registers.specs.declared.Owed.{Owed}
 use Rattle.cache_unit.specs.declared.Reply.{Reply}
-use Rattle.std.specs.Option.{option_map}
 use Rattle.std.proofs.lemmas.Option.{none-some, same_Some}
 use Rattle.cache_unit.specs.Parts.{filled_live, settled_if, CanFill}
 use Rattle.write_queue.specs.Queue.{Queue}

@@ -1,9 +1,8 @@
 -- How many values are owed, by a test of their tags.
-use Rattle.std.proofs.Common.{◌≡◌, ℕ, suc, zero, ◌+◌, ◌<◌, ◌≤◌, Bool, true, false, cond, ◌==◌, if◌then◌else◌, List, [], ◌∷◌, ◌++◌, map, length, set, get_or, take, drop, refl, ap, sym, ◌∙◌, arith, subst, add-one, length-append}
-use Rattle.std.specs.List.{sum_by, count_by, list_all, remove}
+use Rattle.std.proofs.Common.{◌≡◌, ℕ, suc, zero, ◌+◌, ◌<◌, ◌≤◌, Bool, true, false, cond, ◌==◌, if◌then◌else◌, List, [], ◌∷◌, ◌++◌, map, length, set, refl, arith}
+use Rattle.std.specs.List.{sum_by, count_by, remove}
 use Rattle.std.proofs.lemmas.List.Sums.{sum_by-set, sum_by-cons, sum_by-append}
 use Rattle.flat_model.specs.declared.Word.{Word}
-use Rattle.flat_model.specs.declared.Lanes.{Lanes}
 use Rattle.flat_model.specs.Words.{merged}
 use Rattle.miss_registers.specs.Registers as regs
 use Rattle.miss_registers.specs.declared.Owed.{Owed}

@@ -1,5 +1,5 @@
 -- What a miss may take, and why it may not.
-use Rattle.std.proofs.Common.{◌≡◌, ℕ, ◌+◌, ◌-◌, ◌*◌, ◌/◌, ◌%◌, ◌<◌, ◌≤◌, nat_lt, ◌==◌, Bool, true, false, List, [], ◌∷◌, length, Option, Some, None, is_none, refl, sym, ap, ap₂, ◌∙◌, subst, arith, lt-ltb, le-ltb, ltb-false}
+use Rattle.std.proofs.Common.{◌≡◌, ℕ, ◌+◌, ◌-◌, ◌*◌, ◌/◌, ◌%◌, ◌<◌, ◌≤◌, nat_lt, ◌==◌, Bool, true, false, List, length, Option, Some, None, is_none, sym, ap, ◌∙◌, subst, arith, lt-ltb, le-ltb, ltb-false}
 use Rattle.std.specs.List.{filter, list_all, list_any, range_with_len}
 use Rattle.flat_model.specs.declared.Cause.TheVariants.{NoRegister, SetPending, QueueFull, BankFull}
 use Rattle.input_stack.specs.declared.Entry.{Entry}
@@ -9,14 +9,14 @@ use Rattle.miss_registers.specs.Registers as regs
 use Rattle.miss_registers.proofs.Places.{free_slot-found}
 use Rattle.cache_unit.specs.declared.Reply.{Reply}
 use Rattle.cache_unit.specs.declared.Places.{Places}
-use Rattle.cache_unit.specs.State.{Sizes, Register, Cache, is_pending, free_slot}
-use Rattle.cache_unit.specs.Causes.{first_cause, ways_of, choose, lacks_room, lacks_places, miss_causes}
+use Rattle.cache_unit.specs.State.{Sizes, Register, is_pending}
+use Rattle.cache_unit.specs.Causes.{first_cause, ways_of, choose, lacks_places, miss_causes}
 use Rattle.cache_unit.specs.Shown.{as_cache}
 use Rattle.cache_unit.specs.Sound.{IsSound}
 use Rattle.cache_unit.specs.Reads.{is_short}
 use Rattle.cache_unit.specs.GivenUp.{owed_words}
 use Rattle.cache_unit.specs.Miss.{MayTake, chosen_frame}
-use Rattle.cache_unit.proofs.Choosing.{free_slot-shown, CanTake, chosen_can, chosen_none, all_pending-shown, choose-shown, by_tests, no_register, set_pending, queue_full, bank_full, no_cause, NoTest, no_test, register-test, queue-test, bank-test}
+use Rattle.cache_unit.proofs.Choosing.{free_slot-shown, chosen_can, chosen_none, all_pending-shown, choose-shown, no_register, set_pending, queue_full, bank_full, no_cause, no_test, register-test, queue-test, bank-test}
 
 module _ (z : Sizes) (d : dir.Frames) (rs : List regs.Register) (st : List Entry) (q : Queue) (ready : List Reply) (h : IsSound z d rs st q ready) (room : ℕ → ℕ) (block : ℕ) where
   -- the four tests of a miss

@@ -1,9 +1,9 @@
 -- Loads and stores of a block that a frame holds.
-use Rattle.std.proofs.Common.{◌≡◌, ℕ, suc, zero, ◌+◌, ◌<◌, ◌≤◌, ◌==◌, nat_lt, nat_le, Bool, true, false, cond, ◌&&◌, ◌||◌, not, if◌then◌else◌, List, [], ◌∷◌, ◌++◌, map, length, set, get_or, Option, Some, None, is_some, refl, ap, ap₂, sym, ◌∙◌, arith, subst, length-set}
-use Rattle.std.proofs.lemmas.List.{map-set, get_or-set_same, get_or-set_other}
-use Rattle.std.proofs.lemmas.Bool.{false≢true, cases_lt}
+use Rattle.std.proofs.Common.{◌≡◌, ℕ, ◌<◌, nat_lt, nat_le, Bool, true, false, ◌&&◌, ◌||◌, not, if◌then◌else◌, List, [], ◌∷◌, ◌++◌, map, length, set, get_or, Option, Some, None, is_some, refl, ap, ap₂, sym, ◌∙◌, arith, subst, length-set}
+use Rattle.std.proofs.lemmas.List.{map-set}
+use Rattle.std.proofs.lemmas.Bool.{false≢true}
 use Rattle.std.proofs.lemmas.Bool.Decides.{nat_tests}
-use Rattle.std.proofs.lemmas.Option.{none-some, same_Some}
+use Rattle.std.proofs.lemmas.Option.{same_Some}
 use Rattle.flat_model.specs.declared.Word.{Word}
 use Rattle.flat_model.specs.declared.Lanes.{Lanes}
 use Rattle.flat_model.specs.Words.{zero_word, merged, joined, has_all}
@@ -21,15 +21,14 @@ use Rattle.write_queue.specs.Queue.{Queue}
 use Rattle.cache_unit.specs.declared.Reply.{Reply}
 use Rattle.cache_unit.specs.declared.unit.present.Finding.{Finding}
 use Rattle.cache_unit.specs.declared.unit.present.Finding.TheVariants as finding
-use Rattle.cache_unit.specs.State.{Sizes, Frame, Field, Register, Cache, zero_cell, empty_frame, free_register, clear_field, frame_at, frame_of, register_at, field_at, live_for, cell_in, cell_of, with_cell, with_field}
+use Rattle.cache_unit.specs.State.{Sizes, Frame, Field, Register, Cache, zero_cell, register_at, field_at, live_for, cell_in, cell_of, with_cell, with_field}
 use Rattle.cache_unit.specs.Causes.{Found, Here, Coming, found, found_in, found_missing, targets_full}
 use Rattle.cache_unit.proofs.Arrive.{in_stack-shown}
 use Rattle.cache_unit.specs.Steps.{awaited, noted, written_in, written}
 use Rattle.cache_unit.specs.Parts.{finding_of, written_for, noted_for}
 use Rattle.cache_unit.specs.Shown.{as_frame, as_field, as_register, as_cache}
-use Rattle.cache_unit.specs.Sound.{StackSound, Tied, OwesSound, loads_of, IsSound}
-use Rattle.cache_unit.proofs.Lists.{get_or-map}
-use Rattle.cache_unit.proofs.Keeps.{SameBlocks, SameBlocks-set, pending-set, block_at-set, frame_of-some}
+use Rattle.cache_unit.specs.Sound.{OwesSound, loads_of, IsSound}
+use Rattle.cache_unit.proofs.Keeps.{SameBlocks, SameBlocks-set, pending-set}
 use Rattle.cache_unit.proofs.Process.{frame_of-shown, frame_at-shown, register_at-shown, field_at-shown}
 use Rattle.cache_unit.proofs.Owing.{loads-set, owes-same}
 use Rattle.cache_unit.proofs.Same.{SameMarks, SameMarks-self, SameMarks-set, StackSound-same, SameShape, SameShape-self, SameShape-set, Tied-same, with_field-marks, with_field-shape, live_for-shown, live_for-some}

@@ -1,12 +1,12 @@
 -- A word leaves the stack.
-use Rattle.std.proofs.Common.{◌≡◌, ℕ, suc, zero, ◌+◌, ◌<◌, ◌≤◌, Bool, true, false, ◌&&◌, not, if◌then◌else◌, List, [], ◌∷◌, ◌++◌, map, length, set, get_or, Option, Some, None, refl, ap, sym, ◌∙◌, arith, length-set}
+use Rattle.std.proofs.Common.{◌≡◌, ℕ, Bool, true, false, if◌then◌else◌, List, ◌++◌, map, set, get_or, Option, Some, None, refl, ap, sym, ◌∙◌}
 use Rattle.std.specs.List.{list_all, remove}
-use Rattle.std.proofs.lemmas.List.{map-set, get_or-set_same, get_or-set_other}
+use Rattle.std.proofs.lemmas.List.{map-set}
 use Rattle.std.proofs.Math.Seq.{map-set_same}
 use Rattle.flat_model.specs.declared.Word.{Word}
 use Rattle.flat_model.specs.declared.Lanes.{Lanes}
 use Rattle.flat_model.specs.Words.{merged}
-use Rattle.flat_model.specs.Places.{place_of, is_number}
+use Rattle.flat_model.specs.Places.{is_number}
 use Rattle.flat_model.proofs.Places.{place_of-map}
 use Rattle.cache_directory.specs.Frames as dir
 use Rattle.miss_registers.specs.Registers as regs
@@ -14,12 +14,12 @@ use Rattle.input_stack.specs.declared.Entry.{Entry}
 use Rattle.miss_registers.specs.declared.Owed.{Owed}
 use Rattle.cache_unit.specs.declared.Reply.{Reply}
 use Rattle.write_queue.specs.declared.Queued.{Queued}
-use Rattle.cache_unit.specs.State.{Frame, Field, Register, Cache, empty_frame, zero_cell, free_register, clear_field, register_at, field_at, frame_at, frame_of, is_live, with_cell}
+use Rattle.cache_unit.specs.State.{Frame, Field, Register, Cache, empty_frame, zero_cell, free_register, clear_field, register_at, field_at, frame_of, is_live, with_cell}
 use Rattle.cache_unit.specs.Steps.{finished, filled, filled_in, processed, answered}
 use Rattle.cache_unit.specs.Parts.{filled_live, settled_if}
 use Rattle.cache_unit.specs.Shown.{as_frame, as_field, as_register, as_cache}
-use Rattle.cache_unit.specs.Sound.{HasInStack, HasFrame, IsSound}
-use Rattle.cache_unit.proofs.Lists.{get_or-map, list_all-map, list_all-at}
+use Rattle.cache_unit.specs.Sound.{HasFrame}
+use Rattle.cache_unit.proofs.Lists.{get_or-map, list_all-map}
 
 -- ---- registers
 

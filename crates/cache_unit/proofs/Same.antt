@@ -1,23 +1,20 @@
 -- Registers and frames, of which some parts stay as they are.
-use Rattle.std.proofs.Common.{◌≡◌, ℕ, suc, zero, ◌+◌, ◌<◌, ◌≤◌, ◌==◌, Bool, true, false, ◌&&◌, not, cond, if◌then◌else◌, List, [], ◌∷◌, ◌++◌, map, length, set, get_or, Option, Some, None, is_some, is_none, option_map, refl, ap, ap₂, sym, ◌∙◌, arith, length-set, ◌⊎◌, inl, inr, subst, eqb-true, eq-eqb}
-use Rattle.std.proofs.lemmas.List.{map-set, get_or-set_same, get_or-set_other, get_or_past, length-map}
-use Rattle.std.proofs.lemmas.Bool.{false≢true, cases_lt, cases_eq, and_parts, and_from, false_from_ne_true}
-use Rattle.std.proofs.lemmas.Option.{none-some, same_Some}
-use Rattle.flat_model.specs.declared.Word.{Word}
-use Rattle.flat_model.specs.declared.Lanes.{Lanes}
-use Rattle.flat_model.specs.Places.{place_of, is_number}
+use Rattle.std.proofs.Common.{◌≡◌, ℕ, suc, zero, ◌<◌, ◌==◌, Bool, true, false, ◌&&◌, List, [], ◌∷◌, length, set, get_or, Option, Some, None, is_some, refl, ap, sym, ◌∙◌, length-set, inl, inr, eqb-true, eq-eqb}
+use Rattle.std.proofs.lemmas.List.{get_or-set_same, get_or-set_other}
+use Rattle.std.proofs.lemmas.Bool.{false≢true, cases_eq, and_parts, and_from, false_from_ne_true}
+use Rattle.std.proofs.lemmas.Option.{same_Some}
+use Rattle.flat_model.specs.Places.{is_number}
 use Rattle.flat_model.proofs.Places.{place_of-map}
 use Rattle.cache_directory.specs.Frames as dir
 use Rattle.miss_registers.specs.Registers as regs
 use Rattle.input_stack.specs.declared.Entry.{Entry}
 use Rattle.write_queue.specs.declared.Queued.{Queued}
 use Rattle.cache_unit.specs.declared.Reply.{Reply}
-use Rattle.cache_unit.specs.State.{Sizes, Frame, Field, Register, Cache, empty_frame, free_register, clear_field, frame_at, frame_of, is_present, register_at, field_at, is_live, live_for, is_pending_block, is_pending, free_slot}
-use Rattle.cache_unit.specs.Shown.{as_frame, as_field, as_register, as_cache}
-use Rattle.cache_unit.specs.Sound.{no_entry, entry_at, HasInStack, Stands, HasFrame, FilledBy, StackSound, Tied}
-use Rattle.cache_unit.proofs.Lists.{get_or-map, place_of-some, place_of-only, place_of-none, place_of-all_none}
-use Rattle.cache_unit.proofs.Keeps.{Since, SameBlocks, number_from, frame_of-some}
-use Rattle.cache_unit.proofs.Process.{frame_of-shown, register_at-shown, frame_at-shown}
+use Rattle.cache_unit.specs.State.{Register, is_live, live_for}
+use Rattle.cache_unit.specs.Shown.{as_register, as_cache}
+use Rattle.cache_unit.specs.Sound.{entry_at, StackSound, Tied}
+use Rattle.cache_unit.proofs.Lists.{place_of-some, place_of-only, place_of-none, place_of-all_none}
+use Rattle.cache_unit.proofs.Keeps.{SameBlocks, number_from, frame_of-some}
 
 -- ---- registers of which the marks stay
 

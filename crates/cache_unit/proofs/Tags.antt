@@ -1,5 +1,5 @@
 -- The tags of the values that stand ready, and of the loads that wait.
-use Rattle.std.proofs.Common.{◌≡◌, ℕ, suc, zero, ◌+◌, ◌<◌, ◌≤◌, Bool, true, false, cond, ◌||◌, ◌==◌, if◌then◌else◌, List, [], ◌∷◌, ◌++◌, map, length, get_or, set, refl, ap, ap₂, sym, ◌∙◌, arith, subst, length-append, eqb-true}
+use Rattle.std.proofs.Common.{◌≡◌, ℕ, suc, ◌+◌, ◌<◌, ◌≤◌, Bool, true, false, cond, ◌||◌, ◌==◌, if◌then◌else◌, List, [], ◌∷◌, ◌++◌, map, length, get_or, set, refl, ap, ap₂, sym, ◌∙◌, arith, length-append, eqb-true}
 use Rattle.std.specs.List.{sum_by, count_by, list_any, flat_map}
 use Rattle.std.proofs.lemmas.Bool.{false≢true}
 use Rattle.std.proofs.lemmas.List.{map-append, length-map}
@@ -12,7 +12,7 @@ use Rattle.cache_directory.specs.Frames as dir
 use Rattle.input_stack.specs.declared.Entry.{Entry}
 use Rattle.write_queue.specs.declared.Queued.{Queued}
 use Rattle.cache_unit.specs.declared.Reply.{Reply}
-use Rattle.cache_unit.specs.State.{Sizes, Field, Register, Target, gathered, targets_of_field, targets_of, targets, tags}
+use Rattle.cache_unit.specs.State.{Sizes, Target, gathered, targets_of_field, targets_of, targets, tags}
 use Rattle.cache_unit.specs.Causes.{is_in_use}
 use Rattle.cache_unit.specs.Shown.{as_field, as_register, as_cache}
 use Rattle.cache_unit.specs.Sound.{loads_of_field, loads_of, owing, OwesSound}

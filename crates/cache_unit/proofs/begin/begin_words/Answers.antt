@@ -1,12 +1,10 @@
-use Rattle.std.proofs.Common.{◌≡◌, ℕ, ◌+◌, ◌*◌, ◌<◌, ◌≤◌, length, true, set, refl, sym, ap, ap₂, ◌∙◌, subst, arith, length-set}
-use Rattle.flat_model.specs.declared.Word.{Word}
-use Rattle.flat_model.specs.declared.Lanes.{Lanes}
+use Rattle.std.proofs.Common.{◌*◌, ◌<◌, length, set, sym, ap, ap₂, ◌∙◌, subst, arith, length-set}
 use Rattle.write_queue.specs.declared.Forward.{Forward}
 use Rattle.cache_directory.specs.Frames.{Frame, frame_at, with_frame, filled}
 use Rattle.miss_registers.specs.Registers.{Register, register_at, field_of, is_live, noted}
 use Rattle.miss_registers.specs.Registers.{clear_field}
 use Rattle.cache_unit.specs.Begun.{begun_field}
-use Rattle.cache_unit.proofs.Begins.{begun-length, frame_to, register_to, frame_first, register_first, frame_next, register_next, register_now, field_waits, frame_whole, register_whole}
+use Rattle.cache_unit.proofs.Begins.{begun-length, register_to, frame_first, register_first, frame_next, register_next, register_now, field_waits, frame_whole, register_whole}
 use Rattle.cache_unit.proofs.begin.begin_words.Goals as goal
 
 pub loop-i-init : goal.loop-i-init

@@ -1,4 +1,4 @@
-use Rattle.std.proofs.Common.{◌≡◌, ℕ, set}
+use Rattle.std.proofs.Common.{◌≡◌, set}
 use Rattle.cache_directory.specs.Frames.{IsWhole, with_frame}
 use Rattle.miss_registers.specs.Whole as file
 use Rattle.cache_unit.proofs.Begins.{frame_to, register_to}

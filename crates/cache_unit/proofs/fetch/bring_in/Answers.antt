@@ -1,9 +1,8 @@
-use Rattle.std.proofs.Common.{◌≡◌, ℕ, ◌+◌, ◌*◌, ◌/◌, ◌%◌, ◌<◌, List, length, set, sym, ap, ◌∙◌, subst, arith, length-set}
+use Rattle.std.proofs.Common.{◌<◌, List, length, sym, ap, ◌∙◌, subst, arith, length-set}
 use Rattle.std.proofs.lemmas.List.{get_or-set_same}
 use Rattle.cache_directory.specs.Frames as dir
 use Rattle.cache_directory.proofs.Misses.{MayInstall, installed-here}
 use Rattle.miss_registers.specs.Registers as regs
-use Rattle.cache_unit.specs.GivenUp.{given_up}
 use Rattle.cache_unit.proofs.Giving.{given_may_install, installed_frames}
 use Rattle.cache_unit.proofs.fetch.bring_in.Goals as goal
 

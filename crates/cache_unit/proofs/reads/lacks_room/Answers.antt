@@ -1,4 +1,4 @@
-use Rattle.std.proofs.Common.{◌≡◌, ℕ, ◌+◌, ◌<◌, ◌≤◌, length, nat_lt, true, false, sym, ap, ap₂, ◌∙◌, arith, lt-ltb, le-ltb, below_more}
+use Rattle.std.proofs.Common.{nat_lt, sym, ap₂, ◌∙◌, arith, lt-ltb, le-ltb, below_more}
 use Rattle.cache_unit.specs.Reads.{is_short}
 use Rattle.cache_unit.proofs.Ranges.{any_found, none_found}
 use Rattle.cache_unit.proofs.reads.lacks_room.Goals as goal

@@ -1,4 +1,4 @@
-use Rattle.std.proofs.Common.{◌≡◌, ℕ, ◌+◌, ◌<◌, ◌≤◌, ◌%◌, sym, ap, ◌∙◌, subst, arith}
+use Rattle.std.proofs.Common.{sym, subst}
 use Rattle.memory_banks.specs.Banks.{HasSent}
 use Rattle.cache_unit.specs.Reads.{block_reads}
 use Rattle.cache_unit.proofs.SentReads.{HasSent-none, HasSent-more, room_for_next, block_reads_more}

@@ -1,4 +1,4 @@
-use Rattle.std.proofs.Common.{◌≡◌, ℕ, ◌+◌, ◌%◌, ◌==◌, true, false, sym, ap, ◌∙◌, arith, eq-eqb, ne_eqb}
+use Rattle.std.proofs.Common.{ℕ, ◌%◌, ◌==◌, true, false, arith, eq-eqb, ne_eqb}
 use Rattle.cache_unit.proofs.Ranges.{count_more}
 use Rattle.cache_unit.proofs.reads.words_in_bank.Goals as goal
 use Rattle.cache_unit.proofs.reads.words_in_bank.Goals.{then-first-k, else-first-k}

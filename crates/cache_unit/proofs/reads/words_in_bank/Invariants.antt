@@ -1,4 +1,4 @@
-use Rattle.std.proofs.Common.{◌≡◌, ℕ, ◌%◌, ◌≤◌, ◌==◌, length}
+use Rattle.std.proofs.Common.{◌≡◌, ◌%◌, ◌≤◌, ◌==◌, length}
 use Rattle.std.specs.List.{filter, range_with_len}
 use Rattle.cache_unit.proofs.reads.words_in_bank.Given as goal
 

@@ -1,10 +1,9 @@
-use Rattle.std.proofs.Common.{arith, ◌≡◌, length, get_or, map, take, ◌++◌, sym, ◌∙◌, ap, refl, List}
+use Rattle.std.proofs.Common.{arith, sym, ◌∙◌, ap, refl}
 use Rattle.std.proofs.lemmas.List.{append_assoc}
 use Rattle.std.proofs.lemmas.Option.{slice_get-get_or}
 use Rattle.arrayvec.specs.ArrayVec.{ArrayVec}
 use Rattle.flat_model.specs.Words.{zero_word, no_lanes}
 use Rattle.cache_unit.specs.declared.Reply.{Reply}
-use Rattle.cache_unit.specs.Steps.{answered}
 use Rattle.cache_unit.proofs.Calls.{answered_more}
 use Rattle.cache_unit.proofs.unit.answer_all.Goals.{in-Some, in_default}
 use Rattle.cache_unit.proofs.unit.answer_all.Goals as goal

@@ -1,4 +1,4 @@
-use Rattle.std.proofs.Common.{◌≡◌, ◌<◌, ℕ, Option, Some, true, ap, sym, ◌∙◌, arith, subst, lit<}
+use Rattle.std.proofs.Common.{ℕ, Option, ap, ◌∙◌, subst, lit<}
 use Rattle.cache_directory.specs.Frames as dir
 use Rattle.cache_unit.specs.Parts.{CanFill}
 use Rattle.cache_unit.proofs.Keeps.{held-filled}

@@ -1,4 +1,4 @@
-use Rattle.std.proofs.Common.{◌≡◌, sym, lit<}
+use Rattle.std.proofs.Common.{sym, lit<}
 use Rattle.cache_unit.proofs.Same.{live_for-some}
 use Rattle.cache_unit.proofs.unit.retire.Goals as goal
 

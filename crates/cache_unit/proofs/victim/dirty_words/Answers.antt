@@ -1,4 +1,4 @@
-use Rattle.std.proofs.Common.{◌≡◌, ℕ, ◌+◌, ◌<◌, ◌≤◌, ◌++◌, true, false, [], ◌∷◌, length, take, get_or, sym, ap, ◌∙◌, arith, length-append, append-nil}
+use Rattle.std.proofs.Common.{◌+◌, ◌<◌, true, false, [], ◌∷◌, length, take, get_or, sym, ap, ◌∙◌, arith, length-append, append-nil}
 use Rattle.flat_model.specs.Words.{has_any}
 use Rattle.cache_directory.specs.Frames.{frame_at, zero_cell}
 use Rattle.cache_unit.specs.Causes.{dirty_from}

@@ -1,4 +1,4 @@
-use Rattle.std.proofs.Common.{◌≡◌, ℕ, ◌≤◌, length, take}
+use Rattle.std.proofs.Common.{◌≡◌, ◌≤◌, length, take}
 use Rattle.cache_directory.specs.Frames.{frame_at}
 use Rattle.cache_unit.specs.Causes.{dirty_from}
 use Rattle.cache_unit.proofs.victim.dirty_words.Given as goal

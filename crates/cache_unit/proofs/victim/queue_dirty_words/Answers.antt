@@ -1,11 +1,11 @@
-use Rattle.std.proofs.Common.{◌≡◌, ℕ, ◌+◌, ◌*◌, ◌<◌, ◌≤◌, ◌++◌, true, false, [], ◌∷◌, List, length, take, get_or, sym, ap, ap₂, ◌∙◌, arith, length-append, append-nil, append_assoc}
+use Rattle.std.proofs.Common.{◌≡◌, ◌+◌, ◌*◌, ◌<◌, ◌++◌, true, false, [], ◌∷◌, List, length, take, get_or, sym, ap, ◌∙◌, arith, length-append, append-nil}
 use Rattle.flat_model.specs.Words.{has_any, merged, zero_word}
 use Rattle.cache_directory.specs.Frames.{frame_at, zero_cell}
 use Rattle.flat_model.specs.declared.Word.{Word}
 use Rattle.write_queue.specs.declared.Queued.{Queued}
 use Rattle.write_queue.specs.Queue.{Queue, queue as queue_of}
 use Rattle.cache_unit.specs.Causes.{dirty_from}
-use Rattle.cache_unit.proofs.DirtyWords.{queue_one_more, queued_cell, held-cells, dirty_more, dirty_within, dirty-length, take_all}
+use Rattle.cache_unit.proofs.DirtyWords.{queue_one_more, queued_cell, held-cells, dirty_more, dirty_within, take_all}
 use Rattle.cache_unit.proofs.victim.queue_dirty_words.Goals as goal
 use Rattle.cache_unit.proofs.victim.queue_dirty_words.Goals.{then-has_any, else-has_any}
 

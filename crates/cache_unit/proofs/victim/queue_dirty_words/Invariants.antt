@@ -1,4 +1,4 @@
-use Rattle.std.proofs.Common.{◌≡◌, ℕ, ◌+◌, ◌*◌, ◌≤◌, ◌++◌, length, take}
+use Rattle.std.proofs.Common.{◌≡◌, ◌*◌, ◌++◌, take}
 use Rattle.cache_directory.specs.Frames.{frame_at}
 use Rattle.write_queue.specs.Queue.{queue as queue_of}
 use Rattle.cache_unit.specs.Causes.{dirty_from}

@@ -1,11 +1,10 @@
-use Rattle.std.proofs.Common.{arith, rules, ◌≡◌, ◌<◌, ◌≤◌, ◌++◌, [], ◌∷◌, Bool, true, false, not, ℕ, length, sym, ◌∙◌, ap, refl, set, subst, List, Option}
+use Rattle.std.proofs.Common.{◌≡◌, sym, ◌∙◌, ap, refl, set, subst, List}
 use Rattle.miss_registers.specs.Registers as regs
 use Rattle.miss_registers.specs.Whole.{IsWhole}
-use Rattle.flat_model.specs.declared.Answer.{Answer}
 use Rattle.std.proofs.lemmas.Bool.{false≢true}
 use Rattle.input_stack.specs.declared.Entry.{Entry}
-use Rattle.cache_unit.specs.State.{Sizes, Cache, UnitState}
-use Rattle.cache_unit.specs.Steps.{Stepped, arrive_step}
+use Rattle.cache_unit.specs.State.{Sizes, UnitState}
+use Rattle.cache_unit.specs.Steps.{Stepped}
 use Rattle.cache_unit.specs.Shown.{sizes_of, as_cache}
 use Rattle.cache_unit.proofs.Arrive.{Expected-from, stray-shown, arrive-stray, arrive-full, arrive-moved, arrived-shown, IsSound-arrived, view_after, at_least}
 use Rattle.cache_unit.proofs.FormsEvents.{arrive_forms}

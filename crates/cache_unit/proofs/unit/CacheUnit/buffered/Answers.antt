@@ -1,5 +1,4 @@
-use Rattle.std.proofs.Common.{◌≡◌, ℕ, ap, sym, ◌∙◌, arith, lit<, is_some, subst, ◌<◌}
-use Rattle.flat_model.specs.declared.Word.{Word}
+use Rattle.std.proofs.Common.{ap, sym, ◌∙◌, lit<, is_some, subst, ◌<◌}
 use Rattle.cache_directory.specs.declared.Cell.{Cell}
 use Rattle.cache_unit.specs.State.{UnitState, cell_of}
 use Rattle.cache_unit.specs.Shown.{sizes_of, as_cache}

@@ -1,5 +1,4 @@
-use Rattle.std.proofs.Common.{◌≡◌, ◌*◌, ◌<◌, ◌≤◌, ℕ, Option, Some, None, arith, rules, ap, sym, ◌∙◌, subst, lit<, is_some}
-use Rattle.cache_directory.specs.Frames as dir
+use Rattle.std.proofs.Common.{◌≡◌, ◌*◌, ◌<◌, ◌≤◌, Some, None, arith, rules, ap, sym, ◌∙◌, subst, lit<, is_some}
 use Rattle.cache_unit.specs.State.{UnitState, Cache, frame_of}
 use Rattle.cache_unit.specs.Causes.{lacks_places}
 use Rattle.cache_unit.specs.Steps.{Stepped, evict_step}

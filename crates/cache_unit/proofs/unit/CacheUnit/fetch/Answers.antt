@@ -1,18 +1,14 @@
-use Rattle.std.proofs.Common.{◌≡◌, ◌+◌, ◌*◌, ◌^◌, ◌%◌, ◌<◌, ◌≤◌, ◌++◌, ℕ, List, length, Option, Some, None, Bool, false, true, arith, ap, ap₂, sym, ◌∙◌, subst, lit<, is_some, is_none}
+use Rattle.std.proofs.Common.{◌≡◌, ◌+◌, ◌*◌, ◌%◌, ◌<◌, ◌≤◌, ℕ, List, Some, arith, ap, sym, ◌∙◌, subst, lit<}
 use Rattle.memory_banks.specs.Banks.{HasSent}
 use Rattle.memory_banks.specs.declared.Command.{Command}
 use Rattle.cache_directory.specs.Frames as dir
 use Rattle.miss_registers.specs.Registers as regs
 use Rattle.miss_registers.specs.Whole.{IsWhole}
-use Rattle.write_queue.specs.Queue.{Queue, queue as queue_of}
-use Rattle.cache_unit.specs.State.{UnitState, Cache, is_present}
+use Rattle.cache_unit.specs.State.{UnitState, is_present}
 use Rattle.cache_unit.specs.Steps.{fetched, fetches}
 use Rattle.cache_unit.specs.Shown.{sizes_of, as_cache}
-use Rattle.cache_unit.specs.Sound.{IsSound}
-use Rattle.cache_unit.specs.GivenUp.{owed_words, missed_frames, missed_registers}
 use Rattle.cache_unit.specs.Miss.{MayTake}
-use Rattle.cache_unit.specs.Reads.{block_reads}
-use Rattle.cache_unit.proofs.Stepping.{made, cache_by, value_by}
+use Rattle.cache_unit.proofs.Stepping.{cache_by, value_by}
 use Rattle.cache_unit.proofs.SentReads.{room_for_all}
 use Rattle.cache_unit.proofs.FetchShown.{fetched-shown}
 use Rattle.cache_unit.proofs.FetchSound.{IsSound-missed}

@@ -1,10 +1,10 @@
-use Rattle.std.proofs.Common.{◌≡◌, ◌-◌, ◌<◌, ◌≤◌, ℕ, length, Option, Some, None, false, true, arith, ap, sym, ◌∙◌, subst, lit<, mod-lt}
+use Rattle.std.proofs.Common.{Some, arith, sym, ◌∙◌, subst, lit<, mod-lt}
 use Rattle.flat_model.specs.declared.Cause.TheVariants.{NoRegister, SetPending, QueueFull, BankFull}
 use Rattle.cache_unit.specs.State.{UnitState}
 use Rattle.cache_unit.specs.Causes.{first_cause, miss_causes}
 use Rattle.cache_unit.specs.Shown.{sizes_of, as_cache}
 use Rattle.cache_unit.specs.Miss.{MayTake}
-use Rattle.cache_unit.proofs.Stepping.{made, value_by}
+use Rattle.cache_unit.proofs.Stepping.{value_by}
 use Rattle.cache_unit.proofs.Choosing.{chosen_can}
 use Rattle.cache_unit.proofs.Placing.{find_no_register, find_set_pending, find_queue_full, find_bank_full, find_places}
 use Rattle.cache_unit.proofs.unit.CacheUnit.find_places.Goals as goal

@@ -1,11 +1,9 @@
-use Rattle.std.proofs.Common.{◌≡◌, ◌<◌, ◌||◌, ℕ, Bool, true, false, Option, Some, None, refl, ap, sym, ◌∙◌, subst}
+use Rattle.std.proofs.Common.{◌≡◌, ◌<◌, ◌||◌, Bool, true, false, refl, ap, sym, ◌∙◌, subst}
 use Rattle.flat_model.specs.declared.Word.{Word}
-use Rattle.flat_model.specs.declared.Lanes.{Lanes}
 use Rattle.flat_model.specs.Words.{zero_word, merged, has_all}
-use Rattle.miss_registers.specs.declared.FieldView.{FieldView}
 use Rattle.cache_unit.specs.declared.unit.present.Finding.{Finding}
 use Rattle.cache_unit.specs.declared.unit.present.Finding.TheVariants as finding
-use Rattle.cache_unit.specs.State.{UnitState, Cache, cell_of}
+use Rattle.cache_unit.specs.State.{UnitState, cell_of}
 use Rattle.cache_unit.specs.Causes.{found}
 use Rattle.cache_unit.specs.Parts.{finding_of}
 use Rattle.cache_unit.specs.Shown.{sizes_of, as_cache}

@@ -1,11 +1,10 @@
-use Rattle.std.proofs.Common.{◌≡◌, ℕ, ap, sym, ◌∙◌, arith, lit<, List, subst, Some}
+use Rattle.std.proofs.Common.{ap, sym, ◌∙◌, lit<, List, subst, Some}
 use Rattle.cache_directory.specs.Frames as dir
 use Rattle.miss_registers.specs.Registers as regs
 use Rattle.miss_registers.specs.Whole.{IsWhole}
 use Rattle.cache_unit.specs.State.{UnitState, frame_of}
 use Rattle.cache_unit.specs.Causes.{lacks_places}
 use Rattle.cache_unit.specs.Steps.{evicted}
-use Rattle.cache_unit.specs.Parts.{retired}
 use Rattle.cache_unit.specs.Shown.{sizes_of, as_cache}
 use Rattle.cache_unit.proofs.Process.{frame_of-shown}
 use Rattle.cache_unit.proofs.Stepping.{cache_by}

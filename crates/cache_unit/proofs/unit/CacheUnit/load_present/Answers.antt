@@ -1,15 +1,14 @@
-use Rattle.std.proofs.Common.{◌≡◌, ◌<◌, ◌++◌, [], ◌∷◌, ℕ, Bool, true, false, List, length, set, Option, Some, None, ap, sym, ◌∙◌, arith, lit<, subst}
+use Rattle.std.proofs.Common.{◌≡◌, ◌<◌, ◌++◌, [], ◌∷◌, false, List, length, set, ap, sym, ◌∙◌, lit<, subst}
 use Rattle.flat_model.specs.declared.Word.{Word}
 use Rattle.flat_model.specs.declared.Lanes.{Lanes}
 use Rattle.miss_registers.specs.Registers as regs
 use Rattle.miss_registers.specs.Whole.{IsWhole}
 use Rattle.miss_registers.specs.declared.Owed.{Owed}
 use Rattle.cache_unit.specs.declared.Reply.{Reply}
-use Rattle.cache_unit.specs.declared.unit.present.Finding.{Finding}
 use Rattle.cache_unit.specs.declared.unit.present.Finding.TheVariants as finding
-use Rattle.cache_unit.specs.State.{UnitState, Cache, tags, cell_of, field_at}
+use Rattle.cache_unit.specs.State.{UnitState, Cache, tags, cell_of}
 use Rattle.cache_unit.specs.Causes.{found, is_in_use, targets_full}
-use Rattle.cache_unit.specs.Steps.{loaded, awaited}
+use Rattle.cache_unit.specs.Steps.{loaded}
 use Rattle.cache_unit.specs.Parts.{finding_of}
 use Rattle.cache_unit.specs.Shown.{sizes_of, as_cache}
 use Rattle.cache_unit.proofs.Stepping.{cache_by, IsSound-ready}

@@ -1,4 +1,4 @@
-use Rattle.std.proofs.Common.{◌≡◌, ◌+◌, ◌≤◌, ℕ, length, ap, sym, subst, ◌∙◌, arith}
+use Rattle.std.proofs.Common.{◌+◌, ◌≤◌, length, subst, arith}
 use Rattle.cache_unit.specs.State.{UnitState, tags}
 use Rattle.cache_unit.specs.Shown.{sizes_of, as_cache}
 use Rattle.cache_unit.proofs.Stepping.{value_by}

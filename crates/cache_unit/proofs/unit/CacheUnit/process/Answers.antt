@@ -1,13 +1,10 @@
-use Rattle.std.proofs.Common.{arith, rules, ◌≡◌, ◌<◌, ℕ, length, get_or, map, take, sym, ◌∙◌, ap, refl, Some, Option, List, subst, lit<, set, slice_get}
-use Rattle.std.specs.List.{remove}
+use Rattle.std.proofs.Common.{arith, rules, ℕ, sym, ◌∙◌, ap, refl, Option, List, subst, lit<, set}
 use Rattle.cache_directory.specs.Frames as dir
 use Rattle.miss_registers.specs.Registers as regs
 use Rattle.miss_registers.specs.Whole.{IsWhole}
 use Rattle.cache_unit.specs.Parts.{filled_live, CanFill}
 use Rattle.cache_unit.proofs.Process.{live_of}
-use Rattle.input_stack.specs.declared.Entry.{Entry}
-use Rattle.cache_unit.specs.Sound.{entry_at, no_entry, IsSound}
-use Rattle.cache_unit.proofs.Calls.{Taken, Taken-from, can_finish, can_fill, can_answer, sound_after, step_after, unit_after}
+use Rattle.cache_unit.proofs.Calls.{Taken-from, can_finish, can_fill, can_answer, sound_after, step_after, unit_after}
 use Rattle.cache_unit.specs.Shown.{sizes_of as sz}
 use Rattle.cache_unit.specs.Steps.{process_step}
 use Rattle.cache_unit.specs.State.{UnitState}

@@ -1,4 +1,4 @@
-use Rattle.std.proofs.Common.{◌≡◌, ap, sym, subst}
+use Rattle.std.proofs.Common.{ap, sym, subst}
 use Rattle.cache_unit.specs.declared.Request.{Request}
 use Rattle.cache_unit.specs.FormLaws.{RequestForms}
 use Rattle.cache_unit.specs.declared.Request.TheVariants.{Load, Store, Prefetch}

@@ -1,4 +1,4 @@
-use Rattle.std.proofs.Common.{◌≡◌, ℕ, List, ap, sym, ◌∙◌, arith, lit<, subst, ◌<◌}
+use Rattle.std.proofs.Common.{List, sym, subst, ◌<◌}
 use Rattle.cache_directory.specs.Frames as dir
 use Rattle.miss_registers.specs.Registers as regs
 use Rattle.miss_registers.specs.Whole.{IsWhole}

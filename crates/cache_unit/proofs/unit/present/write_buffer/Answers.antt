@@ -1,4 +1,4 @@
-use Rattle.std.proofs.Common.{◌≡◌, ap, sym, ◌∙◌, arith, lit<, is_some}
+use Rattle.std.proofs.Common.{ap, sym, lit<, is_some}
 use Rattle.cache_unit.proofs.Keeps.{frame_of-some}
 use Rattle.cache_unit.proofs.unit.present.write_buffer.Goals as goal
 
