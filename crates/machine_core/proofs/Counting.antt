@@ -84,7 +84,7 @@ wanted_in z m sound s i l =
     (let n = sound.registers_are in omega arith, ltb-true i z.block_words q.0)
 
 -- at most one for each word of each register
-on_their_way : (z : Sizes) (m : Machine) → IsSound z m → length (all_pending m.banks) + length m.cache.stack ≤ z.regs * z.block_words
+pub on_their_way : (z : Sizes) (m : Machine) → IsSound z m → length (all_pending m.banks) + length m.cache.stack ≤ z.regs * z.block_words
 on_their_way z m sound =
     let pend = length-summed (λ (x : BankAnswer). x.slot) (λ (x : BankAnswer). x.i) z.regs z.block_words (all_pending m.banks) (λ x l. wanted_in z m sound x.slot x.i (let c = sound.counted x.slot x.i in omega arith)) in
     let stack = length-summed (λ (x : Entry). x.slot) (λ (x : Entry). x.i) z.regs z.block_words m.cache.stack (λ x l. wanted_in z m sound x.slot x.i (let c = sound.counted x.slot x.i in omega arith)) in

@@ -3,3 +3,4 @@ pub mod Pump
 pub mod Sound
 pub mod Law
 pub mod Examples
+pub mod Whole

@@ -1,0 +1,13 @@
+use Rattle.std.proofs.Common.{◌+◌, ap, arith}
+use Rattle.cache_unit.specs.State.{register_at, clear_field}
+use Rattle.machine_core.specs.Pump.{field_weight}
+use Rattle.machine_core.proofs.Totals.{total_more}
+use Rattle.machine_core.proofs.weigh.weight_of_fields.Goals as goal
+
+pub loop-i-preserved : goal.loop-i-preserved
+loop-i-preserved g c =
+    let own = ap (λ n. c.loop-i.weight + n) c.weight_of_field-weight.ensures.value in
+    record {
+      counted = total_more field_weight (register_at c.args.unit.now.cache c.args.slot).fields c.loop-i.i clear_field c.loop-i.weight (c.loop-i.weight + c.weight_of_field-weight.result) (omega arith) c.loop-i.invariant.counted own;
+      small = omega arith;
+    }

@@ -1,0 +1,13 @@
+use Rattle.std.proofs.Common.{◌+◌, ap, arith}
+use Rattle.cache_unit.specs.State.{free_register}
+use Rattle.machine_core.specs.Pump.{register_weight}
+use Rattle.machine_core.proofs.Totals.{total_more}
+use Rattle.machine_core.proofs.weigh.weight_of_registers.Goals as goal
+
+pub loop-slot-preserved : goal.loop-slot-preserved
+loop-slot-preserved g c =
+    let own = ap (λ n. c.loop-slot.weight + n) c.weight_of_register-weight.ensures.value in
+    record {
+      counted = total_more register_weight c.args.unit.now.cache.registers c.loop-slot.slot free_register c.loop-slot.weight (c.loop-slot.weight + c.weight_of_register-weight.result) (omega arith) c.loop-slot.invariant.counted own;
+      small = omega arith;
+    }

@@ -1,0 +1,180 @@
+//! The machine: a cache unit and the banks of its memory.
+ghost use Rattle.std.specs.Prelude.{◌≡◌, ◌≢◌, ℕ, ◌+◌, ◌*◌, ◌<◌, ◌≤◌, ◌↔◌, [], length, IfOk, IfErr, IfSome, OnOk, OnErr, IsTrue, IsNone, None, Some};
+ghost use Rattle.std.specs.Option.{option_map};
+ghost use Rattle.flat_model.specs.Flat.{flat_step, flat_run, word_at};
+ghost use Rattle.flat_model.specs.declared.Cause.TheVariants.{StrayWord};
+ghost use Rattle.memory_banks.specs.Memory.{fault_of};
+ghost use Rattle.cache_unit.specs.Shown.{sizes_of};
+ghost use Rattle.cache_unit.specs.Views as views;
+ghost use Rattle.machine_core.specs.Machine as machine;
+ghost use Rattle.machine_core.specs.Pump as driver;
+ghost use Rattle.machine_core.specs.Law.{most_weight, IsKept, IsServed};
+ghost use Rattle.machine_core.specs.Whole.{bad_field, bank_word_view, with_answer, Serves};
+
+use crate::drive::{all_served, next_event};
+use crate::step::{step, walk};
+use crate::weigh::{weight_of_banks, weight_of_registers};
+use cache_unit::CacheUnit;
+use flat_model::{Answer, Event, MakeFault, Shape, ShapeField, Word};
+use memory_banks::Banks;
+use miss_registers::{FieldView, Owed, RegisterView};
+use std::alloc::{AllocError, Global};
+use std::marker::Model;
+
+/// A cache unit over the banks of its memory: `WAYS` ways a set, `WORDS` words a block, `REGS`
+/// registers and `DEPTH` places in the input stack.
+#[derive(Drop)]
+pub struct Machine<const WAYS: usize, const WORDS: usize, const REGS: usize, const DEPTH: usize> {
+    shape: Shape,
+    unit: CacheUnit<WAYS, WORDS, REGS, DEPTH>,
+    banks: Banks,
+}
+
+impl<const WAYS: usize, const WORDS: usize, const REGS: usize, const DEPTH: usize> Model
+    for Machine<WAYS, WORDS, REGS, DEPTH> {
+    ghost use Rattle.machine_core.specs.Machine.{MachineState};
+
+    ghost Value = { MachineState };
+
+    ghost use Rattle.machine_core.specs.Whole.{state_of, IsWhole};
+
+    ghost view = { λ a. state_of a.unit a.banks };
+
+    ghost invariant = { λ a. IsWhole WAYS WORDS REGS DEPTH a.shape a.unit a.banks };
+}
+
+impl<const WAYS: usize, const WORDS: usize, const REGS: usize, const DEPTH: usize> Machine<
+    WAYS,
+    WORDS,
+    REGS,
+    DEPTH,
+> {
+    /// A machine in which nothing has happened, over the words of the image. `BadShape` names the
+    /// first number that is out of its range, the image's length last, before any memory is asked
+    /// for; `OutOfMemory` says that there was too little memory.
+    pub fn new(alloc: Global, shape: Shape, image: &[Word]) -> Result<Self, MakeFault>
+        ensures ok { IfOk result (λ m. m ≡ record { sizes = sizes_of WAYS WORDS REGS DEPTH shape; machine = machine.opening (sizes_of WAYS WORDS REGS DEPTH shape) image.now }) }
+        ensures in_range { OnOk result (bad_field (sizes_of WAYS WORDS REGS DEPTH shape) (length image.now) ≡ None) }
+        ensures fault { IfErr result (λ e. e ≡ fault_of (bad_field (sizes_of WAYS WORDS REGS DEPTH shape) (length image.now))) }
+        ensures flat { IfOk result (λ m. machine.flat_of m.sizes m.machine ≡ record { mem = image.now; due = λ tag. None }) }
+    {
+        if let Some(field) = bad_field::<WAYS, WORDS, REGS, DEPTH>(&shape, image.len()) {
+            return Err(MakeFault::BadShape(field));
+        }
+        let unit = CacheUnit::new(alloc, &shape)?;
+        let banks = Banks::new(alloc, image, &shape)?;
+        Ok(Machine { shape, unit, banks })
+    }
+
+    /// Makes one event. A refusal names its cause and leaves everything unchanged; a stray word (13)
+    /// never comes. The answer is one of flat memory.
+    pub fn apply(&mut self, event: Event) -> Answer
+        ensures answer { result ≡ (machine.apply self.old.sizes self.old.machine event).answer }
+        ensures machine { self.new ≡ record self.old { machine = (machine.apply self.old.sizes self.old.machine event).machine } }
+        ensures flat { flat_step (machine.flat_of self.old.sizes self.old.machine) event result ≡ Some (machine.flat_of self.new.sizes self.new.machine) }
+        ensures never_stray { result ≢ Answer.Refused StrayWord }
+        ensures at_rest { driver.weight self.old.machine ≡ 0 → Serves self.old.sizes event result }
+        ensures kept { IsKept self.new.sizes self.new.machine }
+    {
+        step(&mut self.unit, &mut self.banks, event)
+    }
+
+    /// Makes all events, one after another. Their answers come back, one for each, and are a run of
+    /// flat memory. All memory is taken before the first event: want of it leaves the machine
+    /// unchanged.
+    pub fn run(&mut self, alloc: Global, events: &[Event]) -> Result<Vec<Answer>, AllocError>
+        ensures answers { IfOk result (λ answers. answers.items ≡ machine.told self.old.sizes self.old.machine events.now) }
+        ensures machine { OnOk result (self.new ≡ record self.old { machine = machine.walked self.old.sizes self.old.machine events.now }) }
+        ensures unchanged { OnErr result (self.new ≡ self.old) }
+        ensures flat { IfOk result (λ answers. flat_run (machine.flat_of self.old.sizes self.old.machine) events.now answers.items ≡ Some (machine.flat_of self.new.sizes self.new.machine)) }
+    {
+        let mut answers = Vec::with_capacity(alloc, events.len())?;
+        walk(&mut self.unit, &mut self.banks, events, &mut answers);
+        Ok(answers)
+    }
+
+    /// The number of words and loads on their way, each weighed by the pumps that it still takes.
+    /// After as many pumps every request that points into memory is accepted.
+    pub fn weight(&self) -> u64
+        ensures value { result ≡ driver.weight self.now.machine }
+        ensures within { result ≤ most_weight self.now.sizes }
+        ensures served { IsServed self.now.sizes self.now.machine }
+    {
+        let unit = 2 * u64::from(self.unit.stack_len())
+            + u64::from(self.unit.replies_len())
+            + 2 * u64::from(self.unit.queue_len());
+        weight_of_banks(&self.banks, self.shape.banks) + unit + weight_of_registers(&self.unit)
+    }
+
+    /// Makes the driver's event, the first of these that is possible: the first ready reply is
+    /// taken; the first word of the input stack is processed; the lowest bank with an answer has its
+    /// first one arrive; the lowest bank with a command serves it; the write queue's front is
+    /// drained. The event and its answer are returned, and the weight is lower than before. `None`
+    /// says that the weight is 0, and changes nothing.
+    pub fn pump(&mut self) -> Option<(Event, Answer)>
+        ensures event { result ≡ option_map (with_answer self.old.sizes self.old.machine) (driver.pumped self.old.sizes self.old.machine) }
+        ensures machine { self.new ≡ record self.old { machine = driver.after_event self.old.sizes self.old.machine (driver.pumped self.old.sizes self.old.machine) } }
+        ensures rests { IsNone result ↔ (driver.weight self.old.machine ≡ 0) }
+        ensures lowers { IfSome result (λ p. driver.weight self.new.machine < driver.weight self.old.machine) }
+        ensures flat { IfSome result (λ p. flat_step (machine.flat_of self.old.sizes self.old.machine) p.0 p.1 ≡ Some (machine.flat_of self.new.sizes self.new.machine)) }
+    {
+        let event = next_event(&self.unit, &self.banks, self.shape.banks)?;
+        Some((event, self.apply(event)))
+    }
+
+    /// Whether no register is valid, no word is dirty, and the write queue and the queues of the
+    /// banks are empty. The banks then hold the words of flat memory; replies may still stand ready.
+    pub fn settled(&self) -> bool
+        ensures value { result ≡ machine.settled self.now.machine }
+        ensures banks { IsTrue result → (at : ℕ) → at < self.now.sizes.words → machine.bank_word self.now.sizes self.now.machine at ≡ word_at (machine.flat_of self.now.sizes self.now.machine).mem at }
+    {
+        self.unit.clean() && all_served(&self.banks, self.shape.banks)
+    }
+
+    /// The word of memory at `at`, as it now stands in its bank; `None` exactly out of memory.
+    pub fn bank_word(&self, at: u32) -> Option<Word>
+        ensures { result ≡ bank_word_view self.now.sizes self.now.machine at }
+    {
+        self.banks.word(at)
+    }
+
+    /// What a register shows; `None` where there is no such register.
+    pub fn register(&self, slot: u32) -> Option<RegisterView>
+        ensures { result ≡ views.register_view self.now.machine.cache slot }
+    {
+        self.unit.register(slot)
+    }
+
+    /// What a register shows of the word `i` of its block; `None` where there is no such register or
+    /// no such word.
+    pub fn field(&self, slot: u32, i: u32) -> Option<FieldView>
+        ensures { result ≡ views.field_view self.now.sizes self.now.machine.cache slot i }
+    {
+        self.unit.field(slot, i)
+    }
+
+    /// The load at `place` among those that wait for word `i` of a register's block, in the order in
+    /// which they were accepted; `None` where there is none.
+    pub fn target(&self, slot: u32, i: u32, place: u32) -> Option<Owed>
+        ensures { result ≡ views.target_view self.now.machine.cache slot i place }
+    {
+        self.unit.target(slot, i, place)
+    }
+}
+
+// The first number that is out of its range, the image's length last.
+fn bad_field<const WAYS: usize, const WORDS: usize, const REGS: usize, const DEPTH: usize>(
+    shape: &Shape,
+    image: usize,
+) -> Option<ShapeField>
+    ensures { result ≡ bad_field (sizes_of WAYS WORDS REGS DEPTH shape.now) image }
+{
+    if let Some(field) = cache_unit::bad_field::<WAYS, WORDS, REGS, DEPTH>(shape) {
+        return Some(field);
+    }
+    if image == shape.words as usize {
+        None
+    } else {
+        Some(ShapeField::Image)
+    }
+}

@@ -1,0 +1,119 @@
+//! One event, on a unit and its banks.
+ghost use Rattle.std.specs.Prelude.{◌≡◌, ℕ, ◌≤◌, [], length, slice_get, vec_capacity, take};
+ghost use Rattle.memory_banks.specs.Banks.{bank_at, room_in, all_sent};
+ghost use Rattle.memory_banks.specs.Memory.{with_banks};
+ghost use Rattle.cache_unit.specs.Steps as steps;
+ghost use Rattle.machine_core.specs.Machine as machine;
+ghost use Rattle.machine_core.specs.Whole.{machine_of};
+
+use cache_unit::{CacheUnit, Request};
+use flat_model::{Answer, Event};
+use memory_banks::Banks;
+
+/// Makes one event: its answer, and what it leaves of the unit and the banks.
+pub(crate) fn step<const WAYS: usize, const WORDS: usize, const REGS: usize, const DEPTH: usize>(
+    unit: &mut CacheUnit<WAYS, WORDS, REGS, DEPTH>,
+    banks: &mut Banks,
+    event: Event,
+) -> Answer
+    requires limit { banks.old.limit ≡ unit.old.sizes.bank_queue }
+    requires few { (b : ℕ) → length (bank_at banks.old.banks b).answers ≤ 256 }
+    ensures answer { result ≡ (machine.apply unit.old.sizes (machine_of unit.old banks.old) event).answer }
+    ensures unit { unit.new ≡ record unit.old { cache = (machine.apply unit.old.sizes (machine_of unit.old banks.old) event).machine.cache } }
+    ensures banks { banks.new ≡ with_banks banks.old (machine.apply unit.old.sizes (machine_of unit.old banks.old) event).machine.banks }
+{
+    match event {
+        Event::Load { tag, at } => ask(unit, banks, Request::Load { tag, at }),
+        Event::Store { at, word, lanes } => ask(unit, banks, Request::Store { at, word, lanes }),
+        Event::Prefetch { at } => ask(unit, banks, Request::Prefetch { at }),
+        Event::Evict { block } => unit.evict(block),
+        Event::Drain => drain(unit, banks),
+        Event::Serve { bank } => serve(banks, bank),
+        Event::Arrive { bank, place } => bring(unit, banks, bank, place),
+        Event::Process { place } => unit.process(place),
+        Event::Take { place } => unit.take(place),
+    }
+}
+
+/// Makes the events, one after another, and puts their answers into the list.
+pub(crate) fn walk<const WAYS: usize, const WORDS: usize, const REGS: usize, const DEPTH: usize>(
+    unit: &mut CacheUnit<WAYS, WORDS, REGS, DEPTH>,
+    banks: &mut Banks,
+    events: &[Event],
+    answers: &mut Vec<Answer>,
+)
+    requires limit { banks.old.limit ≡ unit.old.sizes.bank_queue }
+    requires few { (n b : ℕ) → length (bank_at (machine.walked unit.old.sizes (machine_of unit.old banks.old) (take n events.now)).banks b).answers ≤ 256 }
+    requires empty { answers.old.items ≡ [] }
+    requires room { length events.now ≤ vec_capacity answers.old }
+    ensures answers { answers.new.items ≡ machine.told unit.old.sizes (machine_of unit.old banks.old) events.now }
+    ensures unit { unit.new ≡ record unit.old { cache = (machine.walked unit.old.sizes (machine_of unit.old banks.old) events.now).cache } }
+    ensures banks { banks.new ≡ with_banks banks.old (machine.walked unit.old.sizes (machine_of unit.old banks.old) events.now).banks }
+{
+    for event in events {
+        let answer = step(unit, banks, *event);
+        answers.push_reserved(answer);
+    }
+}
+
+// A request goes to the unit, and what it sends to the banks.
+fn ask<const WAYS: usize, const WORDS: usize, const REGS: usize, const DEPTH: usize>(
+    unit: &mut CacheUnit<WAYS, WORDS, REGS, DEPTH>,
+    banks: &mut Banks,
+    request: Request,
+) -> Answer
+    requires { banks.old.limit ≡ unit.old.sizes.bank_queue }
+    ensures answer { result ≡ (steps.request_step unit.old.sizes (room_in unit.old.sizes.bank_queue banks.old.banks) unit.old.cache request).answer }
+    ensures unit { unit.new ≡ record unit.old { cache = (steps.request_step unit.old.sizes (room_in unit.old.sizes.bank_queue banks.old.banks) unit.old.cache request).cache } }
+    ensures banks { banks.new ≡ with_banks banks.old (all_sent banks.old.banks (steps.request_step unit.old.sizes (room_in unit.old.sizes.bank_queue banks.old.banks) unit.old.cache request).sent) }
+{
+    unit.request(request, banks)
+}
+
+// The front of the write queue goes to its bank.
+fn drain<const WAYS: usize, const WORDS: usize, const REGS: usize, const DEPTH: usize>(
+    unit: &mut CacheUnit<WAYS, WORDS, REGS, DEPTH>,
+    banks: &mut Banks,
+) -> Answer
+    requires { banks.old.limit ≡ unit.old.sizes.bank_queue }
+    ensures answer { result ≡ (steps.drain_step unit.old.sizes (room_in unit.old.sizes.bank_queue banks.old.banks) unit.old.cache).answer }
+    ensures unit { unit.new ≡ record unit.old { cache = (steps.drain_step unit.old.sizes (room_in unit.old.sizes.bank_queue banks.old.banks) unit.old.cache).cache } }
+    ensures banks { banks.new ≡ with_banks banks.old (all_sent banks.old.banks (steps.drain_step unit.old.sizes (room_in unit.old.sizes.bank_queue banks.old.banks) unit.old.cache).sent) }
+{
+    unit.drain(banks)
+}
+
+// The bank serves its first command.
+fn serve(banks: &mut Banks, bank: u32) -> Answer
+    requires { length (bank_at banks.old.banks bank).answers ≤ 256 }
+    ensures answer { (m : machine.Machine) → m.banks ≡ banks.old.banks → result ≡ (machine.serve_from m bank (bank_at banks.old.banks bank).queue).answer }
+    ensures cache { (m : machine.Machine) → m.banks ≡ banks.old.banks → m.cache ≡ (machine.serve_from m bank (bank_at banks.old.banks bank).queue).machine.cache }
+    ensures banks { (m : machine.Machine) → m.banks ≡ banks.old.banks → banks.new ≡ with_banks banks.old (machine.serve_from m bank (bank_at banks.old.banks bank).queue).machine.banks }
+{
+    if banks.serve(bank) {
+        Answer::Moved
+    } else {
+        Answer::Nothing
+    }
+}
+
+// The bank's answer at a place goes to the unit, and stays where the unit refuses it.
+fn bring<const WAYS: usize, const WORDS: usize, const REGS: usize, const DEPTH: usize>(
+    unit: &mut CacheUnit<WAYS, WORDS, REGS, DEPTH>,
+    banks: &mut Banks,
+    bank: u32,
+    place: u32,
+) -> Answer
+    ensures answer { result ≡ (machine.arrive_from unit.old.sizes (machine_of unit.old banks.old) bank place (slice_get (bank_at banks.old.banks bank).answers place)).answer }
+    ensures unit { unit.new ≡ record unit.old { cache = (machine.arrive_from unit.old.sizes (machine_of unit.old banks.old) bank place (slice_get (bank_at banks.old.banks bank).answers place)).machine.cache } }
+    ensures banks { banks.new ≡ with_banks banks.old (machine.arrive_from unit.old.sizes (machine_of unit.old banks.old) bank place (slice_get (bank_at banks.old.banks bank).answers place)).machine.banks }
+{
+    let Some(answer) = banks.answer_at(bank, place) else {
+        return Answer::Nothing;
+    };
+    let told = unit.arrive(answer.slot, answer.i, answer.word);
+    if let Answer::Moved = told {
+        banks.take_answer(bank, place);
+    }
+    told
+}
