@@ -1,0 +1,131 @@
+-- Where an arrow stands, and what is read back of an answer.
+use Rattle.std.proofs.Common.{◌≡◌, ◌≢◌, ℕ, suc, ◌+◌, ◌<◌, ◌≤◌, Bool, true, false, List, [], ◌∷◌, length, take, drop, drop-cons, add-one, get_or, decimal, ◌++◌, Option, Some, None, Ok, refl, sym, ◌∙◌, ap, subst, arith}
+use Rattle.std.specs.Prelude.{cond, nat_eq, codes, ◌==◌, ◌&&◌}
+use Rattle.std.specs.Option.{option_map}
+use Rattle.std.specs.List.{starts_with, AllByRecursion}
+use Rattle.std.proofs.Math.Seq.{take-append_seam, drop-append-add}
+use Rattle.std.proofs.lemmas.Bool.Decides.{nat_tests}
+use Rattle.flat_model.specs.declared.Event.TheVariants.{Load, Store, Prefetch, Evict, Drain, Serve, Arrive, Process, Take}
+use Rattle.machine_core.specs.Machine.{MachineState}
+use Rattle.trace_text.specs.Fields.{lanes_text, word_text}
+use Rattle.trace_text.specs.Lines.{line_of}
+use Rattle.trace_text.specs.Texts.{answered, reply_text}
+use Rattle.trace_text.specs.Serving.{answer_to}
+use Rattle.trace_text.specs.Pairs.{arrow_in, answered_pair, pair_with, pair_from, pair_cut, pair_of}
+use Rattle.trace_text.specs.Written.{line_text, IsFit, IsFitReply}
+use Rattle.trace_text.specs.declared.lines.Line.{Line}
+use Rattle.trace_text.specs.declared.lines.Line.TheVariants as line
+use Rattle.trace_text.proofs.Written.{High, number_high, word_high, mask_high, line_is}
+use Rattle.trace_text.proofs.AnswerTexts.{answer_back}
+
+arrow_behind : (bytes : List ℕ) (b : ℕ) (bs : List ℕ) → bytes ≡ b ∷ bs → starts_with nat_eq bytes (codes " -> ") ≡ false → arrow_in bytes ≡ option_map (λ k. suc k) (arrow_in bs)
+arrow_behind bytes b bs whole e =
+    let test : starts_with nat_eq (b ∷ bs) (codes " -> ") ≡ false = subst (λ l. starts_with nat_eq l (codes " -> ") ≡ false) whole e in
+    ap arrow_in whole ∙ ap (λ t. cond t (Some 0) (option_map (λ k. suc k) (arrow_in bs))) test
+
+shifted : (o : Option ℕ) (at : ℕ) → option_map (λ k. at + k) (option_map (λ k. suc k) o) ≡ option_map (λ k. (at + 1) + k) o
+shifted None at = refl
+shifted (Some k) at = ap Some (omega arith)
+
+-- no arrow begins here, so the first one stands further on
+pub arrow_on : (text : List ℕ) (at : ℕ) → at < length text → starts_with nat_eq (drop at text) (codes " -> ") ≡ false
+    → arrow_in text ≡ option_map (λ k. at + k) (arrow_in (drop at text))
+    → arrow_in text ≡ option_map (λ k. (at + 1) + k) (arrow_in (drop (at + 1) text))
+arrow_on text at lt none so_far =
+    let here : drop at text ≡ get_or text at 0 ∷ drop (at + 1) text = rw (add-one, drop-cons text at 0) refl in
+    so_far ∙ ap (option_map (λ k. at + k)) (arrow_behind (drop at text) (get_or text at 0) (drop (at + 1) text) here none) ∙ shifted (arrow_in (drop (at + 1) text)) at
+
+-- ---- the arrow behind a line
+
+-- bytes with no hyphen among them
+abbrev pub NoDash : List ℕ → Type 0
+NoDash = AllByRecursion (λ b. b ≢ 45)
+
+high_dashless : (xs : List ℕ) → High xs → NoDash xs
+high_dashless [] h = tt
+high_dashless (x ∷ xs) h = (λ is. omega (arith, h.0, is), high_dashless xs h.1)
+
+dashless_then : (xs ys : List ℕ) → NoDash xs → NoDash ys → NoDash (xs ++ ys)
+dashless_then [] ys p q = q
+dashless_then (x ∷ xs) ys p q = (p.0, dashless_then xs ys p.1 q)
+
+abbrev no_dash : List ℕ → Bool
+no_dash [] = true
+no_dash (b ∷ bs) = cond (b == 45) false (no_dash bs)
+
+dash_test : (b x : Bool) → cond b false x ≡ true → (b ≡ false) × (x ≡ true)
+dash_test true x e = cc
+dash_test false x e = (refl, e)
+
+no_dash_in : (xs : List ℕ) → no_dash xs ≡ true → NoDash xs
+no_dash_in [] e = tt
+no_dash_in (b ∷ bs) e =
+    let t = dash_test (b == 45) (no_dash bs) e in
+    (λ is. let same : (b == 45) ≡ true = grind (arith, nat_tests) in cc, no_dash_in bs t.1)
+
+number_dashless : (n : ℕ) → n ≤ 4294967295 → NoDash (decimal n)
+number_dashless n le = high_dashless (decimal n) (number_high n le)
+
+dashless_line : (l : Line) → IsFit l → NoDash (line_text l)
+dashless_line (line.Event (Load tag at)) fit =
+    dashless_then (codes "load ") (decimal tag ++ 32 ∷ decimal at) (no_dash_in (codes "load ") refl)
+    (dashless_then (decimal tag) (32 ∷ decimal at) (number_dashless tag (omega (arith, fit.0))) (λ is. omega (arith, is), number_dashless at fit.1))
+dashless_line (line.Event (Store at word lanes)) fit =
+    dashless_then (codes "store ") (decimal at ++ (32 ∷ (lanes_text lanes ++ (32 ∷ word_text word)))) (no_dash_in (codes "store ") refl)
+    (dashless_then (decimal at) (32 ∷ (lanes_text lanes ++ (32 ∷ word_text word))) (number_dashless at fit.0)
+    (λ is. omega (arith, is), dashless_then (lanes_text lanes) (32 ∷ word_text word) (high_dashless (lanes_text lanes) (mask_high lanes)) (λ is. omega (arith, is), high_dashless (word_text word) (word_high word))))
+dashless_line (line.Event (Prefetch at)) fit = dashless_then (codes "prefetch ") (decimal at) (no_dash_in (codes "prefetch ") refl) (number_dashless at fit)
+dashless_line (line.Event (Evict block)) fit = dashless_then (codes "evict ") (decimal block) (no_dash_in (codes "evict ") refl) (number_dashless block fit)
+dashless_line (line.Event Drain) fit = no_dash_in (codes "drain") refl
+dashless_line (line.Event (Serve bank)) fit = dashless_then (codes "serve ") (decimal bank) (no_dash_in (codes "serve ") refl) (number_dashless bank fit)
+dashless_line (line.Event (Arrive bank place)) fit =
+    dashless_then (codes "arrive ") (decimal bank ++ 32 ∷ decimal place) (no_dash_in (codes "arrive ") refl)
+    (dashless_then (decimal bank) (32 ∷ decimal place) (number_dashless bank fit.0) (λ is. omega (arith, is), number_dashless place fit.1))
+dashless_line (line.Event (Process place)) fit = dashless_then (codes "process ") (decimal place) (no_dash_in (codes "process ") refl) (number_dashless place fit)
+dashless_line (line.Event (Take place)) fit = dashless_then (codes "take ") (decimal place) (no_dash_in (codes "take ") refl) (number_dashless place fit)
+dashless_line (line.Register slot) fit = dashless_then (codes "reg ") (decimal slot) (no_dash_in (codes "reg ") refl) (number_dashless slot fit)
+dashless_line (line.Bank at) fit = dashless_then (codes "bank ") (decimal at) (no_dash_in (codes "bank ") refl) (number_dashless at fit)
+dashless_line line.Settled fit = no_dash_in (codes "settled") refl
+
+and_none : (a b c : Bool) → b ≡ false → (a && (b && c)) ≡ false
+and_none true b c e = ap (λ t. t && c) e
+and_none false b c e = refl
+
+-- an arrow's second byte is a hyphen
+second_is : (x y : ℕ) (rest : List ℕ) → y ≢ 45 → starts_with nat_eq (x ∷ y ∷ rest) (codes " -> ") ≡ false
+second_is x y rest ne =
+    let test : nat_eq 45 y ≡ false = grind (arith, nat_tests) in
+    and_none (nat_eq 32 x) (nat_eq 45 y) _ test
+
+arrow_behind_line : (text reply : List ℕ) → NoDash text → arrow_in (text ++ (codes " -> " ++ reply)) ≡ Some (length text)
+arrow_behind_line [] reply none = refl
+arrow_behind_line (x ∷ []) reply none =
+    let test : starts_with nat_eq (x ∷ (codes " -> " ++ reply)) (codes " -> ") ≡ false = second_is x 32 (45 ∷ 62 ∷ 32 ∷ reply) (λ is. omega (arith, is)) in
+    arrow_behind (x ∷ (codes " -> " ++ reply)) x (codes " -> " ++ reply) refl test ∙ ap (option_map (λ k. suc k)) (arrow_behind_line [] reply none.1)
+arrow_behind_line (x ∷ y ∷ text) reply none =
+    let behind = (y ∷ text) ++ (codes " -> " ++ reply) in
+    let test : starts_with nat_eq (x ∷ behind) (codes " -> ") ≡ false = second_is x y (text ++ (codes " -> " ++ reply)) none.1.0 in
+    arrow_behind (x ∷ behind) x behind refl test ∙ ap (option_map (λ k. suc k)) (arrow_behind_line (y ∷ text) reply none.1)
+
+answered_back : (m : MachineState) (l : Line) → IsFitReply (answer_to m l) → pair_with l (reply_text m l) ≡ Ok (record { line = l; answer = answer_to m l })
+unfolding reply_text
+answered_back m (line.Event event) fit = ap (answered_pair (line.Event event)) (answer_back (answered m event) fit)
+answered_back m (line.Register slot) fit = refl
+answered_back m (line.Bank at) fit = refl
+answered_back m line.Settled fit = refl
+
+-- what is served for a line is read as the line and its answer
+pub pair_back : (m : MachineState) (text : List ℕ) (l : Line) → line_of text ≡ Ok l → IsFitReply (answer_to m l)
+    → pair_of (text ++ (codes " -> " ++ reply_text m l)) ≡ Ok (record { line = l; answer = answer_to m l })
+unfolding pair_of
+pair_back m text l said fit =
+    let reply = reply_text m l in
+    let served = text ++ (codes " -> " ++ reply) in
+    let read = line_is text l said in
+    let dashless : NoDash text = subst NoDash (sym read.1) (dashless_line l read.0) in
+    let front : line_of (take (length text) served) ≡ Ok l = ap line_of (take-append_seam text (codes " -> " ++ reply)) ∙ said in
+    let back : drop (length text + 4) served ≡ reply = drop-append-add text (codes " -> " ++ reply) 4 in
+    ap (pair_cut served) (arrow_behind_line text reply dashless)
+    ∙ ap (λ o. pair_from o (drop (length text + 4) served)) front
+    ∙ ap (pair_with l) back
+    ∙ answered_back m l fit

@@ -1,0 +1,201 @@
+-- How a whole run goes on and ends.
+use Rattle.std.proofs.Common.{◌≡◌, ℕ, ◌+◌, ◌-◌, ◌<◌, ◌≤◌, ◌⊎◌, List, [], ◌∷◌, ◌++◌, length, take, drop, length-take, length-drop, get_or-take, refl, sym, ◌∙◌, ap, subst, arith, Err, inl, inr}
+use Rattle.std.proofs.Math.Seq.{take-append-add}
+use Rattle.std.proofs.lemmas.List.{take-append-le}
+use Rattle.machine_core.specs.Machine.{MachineState}
+use Rattle.trace_text.specs.declared.lines.Line.{Line}
+use Rattle.trace_text.specs.declared.lines.LineFault.TheVariants.{Unknown, Field, TooLong, NotEnded}
+use Rattle.trace_text.specs.declared.serve.Counts.{Counts}
+use Rattle.trace_text.specs.declared.serve.TraceFault.{TraceFault}
+use Rattle.trace_text.specs.declared.serve.TraceFault.TheVariants as fault
+use Rattle.trace_text.specs.Serving.{HasNoEnd, Moves, Served, joined, no_counts, IsWithin}
+use Rattle.trace_text.specs.Faults.{Fails, Through, Ended, Ends, Going, AfterFlush, IsInside, Filled, LastRead}
+use Rattle.trace_text.proofs.Serving.{moved_none, moved_more, served_none, served_then, served_more, served_still}
+
+pub filled_by : {R : Type 0} {gave : R → List ℕ → R → Type 0} {r r' : R} (old buf post : List ℕ) (filled given : ℕ)
+    → gave r (take given buf) r' → filled < length old → given ≤ length buf → length buf ≡ length old - filled
+    → Filled gave r r' old (take filled old ++ (buf ++ post)) filled given
+filled_by old buf post filled given gives lt le len =
+    let front : length (take filled old) ≡ filled = omega (arith, length-take filled old) in
+    record {
+      bytes = take given buf;
+      gives = gives;
+      count = omega (arith, length-take given buf);
+      within = omega arith;
+      front = ap (λ n. take (n + given) (take filled old ++ (buf ++ post))) (sym front)
+          ∙ take-append-add (take filled old) (buf ++ post) given
+          ∙ ap (λ l. take filled old ++ l) (take-append-le given buf post le);
+    }
+
+pub going_start : {R W : Type 0} {gave : R → List ℕ → R → Type 0} {took : W → List ℕ → W → Type 0} (r : R) (w : W) (m : MachineState)
+    → Going gave took r w m [] r w m no_counts
+going_start r w m = record {
+  bytes = [];
+  read = moved_none r;
+  through = record {
+    served = served_none w m no_counts [];
+    within = record { lines = omega arith; accepted = omega arith; moved = omega arith; values = omega arith; nothing = omega arith; refused = omega arith };
+  };
+  short = omega arith;
+  unfinished = λ k lt e. omega arith;
+  room = λ some. omega arith;
+}
+
+pub going_still : {R W : Type 0} {gave : R → List ℕ → R → Type 0} {took : W → List ℕ → W → Type 0} {r r' : R} {w w' w'' : W} {m n : MachineState} {c : Counts} {pending : List ℕ}
+    → Going gave took r w m pending r' w' n c → took w' [] w'' → Going gave took r w m pending r' w'' n c
+going_still p q = record {
+  bytes = p.bytes;
+  read = p.read;
+  short = p.short;
+  unfinished = p.unfinished;
+  room = p.room;
+  through = record { served = served_still p.through.served q; within = p.through.within };
+}
+
+-- the next piece came, and its whole lines were served
+pub through_on : {W : Type 0} {took : W → List ℕ → W → Type 0} {w w' w'' : W} {k m n : MachineState} {a b c : Counts} {left : ℕ} {bytes pending : List ℕ} (more whole rest : List ℕ)
+    → Through took w k a bytes pending w' m b → whole ≡ pending ++ more
+    → Ended took w' m b whole left w'' n c → rest ≡ drop (length whole - left) whole
+    → Through took w k a (bytes ++ more) rest w'' n c
+through_on {took = took} {w' = w'} {w'' = w''} {m = m} {n = n} {b = b} {c = c} {pending = pending} more whole rest p e ended at_end =
+    let behind : Served took w' m b whole rest w'' n c = subst (λ l. Served took w' m b whole l w'' n c) (sym at_end) ended.through.served in
+    let mine : Served took w' m b (pending ++ more) rest w'' n c = subst (λ l. Served took w' m b l rest w'' n c) e behind in
+    record {
+      served = served_then (served_more more p.served) mine;
+      within = ended.through.within;
+    }
+
+pub going_on : {R W : Type 0} {gave : R → List ℕ → R → Type 0} {took : W → List ℕ → W → Type 0} {r r' r'' : R} {w w' w'' : W} {k m n : MachineState} {b c : Counts} {left : ℕ} {pending : List ℕ} (more whole rest : List ℕ)
+    → Going gave took r w k pending r' w' m b → gave r' more r'' → whole ≡ pending ++ more
+    → Ended took w' m b whole left w'' n c → rest ≡ drop (length whole - left) whole
+    → length rest ≤ 64 → (0 < length rest → c.lines < 16777216)
+    → Going gave took r w k rest r'' w'' n c
+going_on more whole rest p gives e ended at_end len room = record {
+  bytes = p.bytes ++ more;
+  read = moved_more p.read gives;
+  through = through_on more whole rest p.through e ended at_end;
+  short = len;
+  unfinished = subst HasNoEnd (sym at_end) ended.unfinished;
+  room = room;
+}
+
+progress : (lines : List (List ℕ × Line)) (bytes rest : List ℕ) → bytes ≡ joined lines ++ rest → (0 < length lines) ⊎ (length bytes ≡ length rest)
+progress [] bytes rest e = inr (ap length e)
+progress (s ∷ ss) bytes rest e = inl (omega arith)
+
+-- more lines have been served, or no whole line was there
+pub ended_progress : {W : Type 0} {took : W → List ℕ → W → Type 0} {w w' : W} {m n : MachineState} {b c : Counts} {left : ℕ} {bytes : List ℕ}
+    → Ended took w m b bytes left w' n c → (b.lines < c.lines) ⊎ (left ≡ length bytes)
+ended_progress {left = left} {bytes = bytes} p =
+    elim (progress p.through.served.lines bytes _ p.through.served.split) [
+      | inl h ↦ inl (omega (arith, p.through.served.number, h))
+      | inr h ↦ inr (omega (arith, h, p.enough, length-drop (length bytes - left) bytes))
+    ]
+
+-- a fault in the lines of a piece is a fault of the whole run
+pub fails_then : {W : Type 0} {took : W → List ℕ → W → Type 0} (refused : W → W → Type 0) {w w' : W} (w'' : W) {k m : MachineState} (n : MachineState) {a b : Counts} {bytes pending : List ℕ} (more : List ℕ) (e : TraceFault)
+    → Through took w k a bytes pending w' m b → Fails took refused w' m b (pending ++ more) w'' n e
+    → Fails took refused w k a (bytes ++ more) w'' n e
+fails_then refused w'' n more (fault.Line number f) p q = (q.0, q.1, served_then (served_more more p.served) q.2, q.3, q.4, q.5)
+fails_then refused w'' n more fault.Write p q = (q.0, q.1, q.2, q.3, served_then (served_more more p.served) q.4, q.5)
+fails_then refused w'' n more fault.TooManyLines p q = (q.0, q.1, served_then (served_more more p.served) q.2, q.3, q.4)
+fails_then refused w'' n more fault.Read p q = absurd q
+fails_then refused w'' n more fault.OutOfMemory p q = absurd q
+
+-- what had come before the last read had no fault
+pub last_read : {R W : Type 0} {gave : R → List ℕ → R → Type 0} {took : W → List ℕ → W → Type 0} {r r' r'' : R} {w w' : W} {k m : MachineState} {c : Counts} {pending : List ℕ} (piece : List ℕ)
+    → (p : Going gave took r w k pending r' w' m c) → gave r' piece r'' → LastRead gave r (p.bytes ++ piece) r''
+last_read {r' = r'} {pending = pending} piece p gives = record {
+  before = p.bytes;
+  last = r';
+  piece = piece;
+  sound = record { lines = p.through.served.lines; each = p.through.served.each; pending = pending; split = p.through.served.split; short = p.short; unfinished = p.unfinished };
+  read = p.read;
+  gives = gives;
+  whole = refl;
+}
+
+all_read : {R : Type 0} {gave : R → List ℕ → R → Type 0} {r r' : R} {bytes : List ℕ} → LastRead gave r bytes r' → Moves gave r bytes r'
+all_read {gave = gave} {r = r} {r' = r'} p = subst (λ l. Moves gave r l r') (sym p.whole) (moved_more p.read p.gives)
+
+pub ends_inside : {R W : Type 0} {gave : R → List ℕ → R → Type 0} (failed : R → R → Type 0) (took : W → List ℕ → W → Type 0) (refused : W → W → Type 0) {r r' : R} (w w' : W) (m m' : MachineState) {bytes : List ℕ} (e : TraceFault)
+    → IsInside e → LastRead gave r bytes r' → Fails took refused w m no_counts bytes w' m' e
+    → Ends gave failed took refused r r' w w' m m' (Err e)
+ends_inside failed took refused w w' m m' {bytes = bytes} (fault.Line n Unknown) is p q = (bytes, p, q)
+ends_inside failed took refused w w' m m' {bytes = bytes} (fault.Line n Field) is p q = (bytes, p, q)
+ends_inside failed took refused w w' m m' {bytes = bytes} (fault.Line n TooLong) is p q = (bytes, p, q)
+ends_inside failed took refused w w' m m' (fault.Line n NotEnded) is p q = absurd is
+ends_inside failed took refused w w' m m' {bytes = bytes} fault.Write is p q = (bytes, all_read p, q)
+ends_inside failed took refused w w' m m' {bytes = bytes} fault.TooManyLines is p q = (bytes, p, q)
+ends_inside failed took refused w w' m m' fault.Read is p q = absurd is
+ends_inside failed took refused w w' m m' fault.OutOfMemory is p q = absurd is
+
+-- a flush before a fault is answered
+after_flush : {W : Type 0} (took : W → List ℕ → W → Type 0) (refused : W → W → Type 0) (w w' w'' : W) (m m' : MachineState) (bytes : List ℕ) (e e' : TraceFault)
+    → IsInside e → Fails took refused w m no_counts bytes w' m' e → AfterFlush took refused w' w'' e e'
+    → IsInside e' × Fails took refused w m no_counts bytes w'' m' e'
+after_flush took refused w w' w'' m m' bytes (fault.Line n f) e' is p (inl q) =
+    let P : TraceFault → Type 0 = λ x. IsInside x × Fails took refused w m no_counts bytes w'' m' x in
+    subst P (sym q.0) (is, (p.0, p.1, served_still p.2 q.1, p.3, p.4, p.5))
+after_flush took refused w w' w'' m m' bytes (fault.Line n f) e' is p (inr q) =
+    let P : TraceFault → Type 0 = λ x. IsInside x × Fails took refused w m no_counts bytes w'' m' x in
+    subst P (sym q.0) (tt, (p.0, p.1, w', m', p.2, inr (q.1, refl)))
+after_flush took refused w w' w'' m m' bytes fault.TooManyLines e' is p (inl q) =
+    let P : TraceFault → Type 0 = λ x. IsInside x × Fails took refused w m no_counts bytes w'' m' x in
+    subst P (sym q.0) (is, (p.0, p.1, served_still p.2 q.1, p.3, p.4))
+after_flush took refused w w' w'' m m' bytes fault.TooManyLines e' is p (inr q) =
+    let P : TraceFault → Type 0 = λ x. IsInside x × Fails took refused w m no_counts bytes w'' m' x in
+    subst P (sym q.0) (tt, (p.0, p.1, w', m', p.2, inr (q.1, refl)))
+after_flush took refused w w' w'' m m' bytes fault.Write e' is p q =
+    let P : TraceFault → Type 0 = λ x. IsInside x × Fails took refused w m no_counts bytes w'' m' x in
+    subst P (sym q.0) (is, subst (λ v. Fails took refused w m no_counts bytes v m' fault.Write) (sym q.1) p)
+after_flush took refused w w' w'' m m' bytes fault.Read e' is p q = absurd is
+after_flush took refused w w' w'' m m' bytes fault.OutOfMemory e' is p q = absurd is
+
+-- a fault, behind a flush
+pub ends_fault : {R W : Type 0} {gave : R → List ℕ → R → Type 0} (failed : R → R → Type 0) (took : W → List ℕ → W → Type 0) (refused : W → W → Type 0) {r r' : R} (w w' w'' : W) (m m' : MachineState) {bytes : List ℕ} (e e' : TraceFault)
+    → IsInside e → LastRead gave r bytes r' → Fails took refused w m no_counts bytes w' m' e → AfterFlush took refused w' w'' e e'
+    → Ends gave failed took refused r r' w w'' m m' (Err e')
+ends_fault failed took refused w w' w'' m m' {bytes = bytes} e e' is p q flush =
+    let both = after_flush took refused w w' w'' m m' bytes e e' is q flush in
+    ends_inside failed took refused w w'' m m' e' both.0 p both.1
+
+pub fails_many : {W : Type 0} {took : W → List ℕ → W → Type 0} (refused : W → W → Type 0) {w w' : W} {m n : MachineState} {a c : Counts} {bytes rest : List ℕ}
+    → Through took w m a bytes rest w' n c → c.lines ≡ 16777216 → 0 < length rest
+    → Fails took refused w m a bytes w' n fault.TooManyLines
+fails_many refused {c = c} {rest = rest} p many some = (c, rest, p.served, many, some)
+
+pub fails_pending : {W : Type 0} {took : W → List ℕ → W → Type 0} (refused : W → W → Type 0) {w w' : W} {m n : MachineState} {a c : Counts} {bytes rest : List ℕ}
+    → Through took w m a bytes rest w' n c → HasNoEnd rest → 64 < length rest → c.lines < 16777216
+    → Fails took refused w m a bytes w' n (fault.Line (c.lines + 1) TooLong)
+fails_pending refused {c = c} {rest = rest} p none long room = (
+  c,
+  rest,
+  p.served,
+  refl,
+  room,
+  (
+    long,
+    λ k lt e.
+        let below : k < 65 = omega (arith, lt, length-take 65 rest) in
+        none k (omega arith) (sym (get_or-take 65 rest k 0 below) ∙ e),
+  ),
+)
+
+pub none_of : (xs : List ℕ) → length xs ≡ 0 → [] ≡ xs
+none_of [] e = refl
+none_of (x ∷ xs) e = absurd (omega arith)
+
+-- the reader told its end, behind a whole line
+pub ends_done : {R W : Type 0} {gave : R → List ℕ → R → Type 0} {took : W → List ℕ → W → Type 0} {r r' r'' : R} {w w' : W} {m n : MachineState} {c : Counts} {pending bs : List ℕ}
+    → Going gave took r w m pending r' w' n c → gave r' bs r'' → length bs ≡ 0 → length pending ≡ 0
+    → (bytes : List ℕ) × (last : R) × Moves gave r bytes last × gave last [] r'' × Served took w m no_counts bytes [] w' n c × IsWithin c
+ends_done {gave = gave} {took = took} {r' = r'} {r'' = r''} {w = w} {w' = w'} {m = m} {n = n} {c = c} {pending = pending} {bs = bs} p gives none empty =
+    (p.bytes, r', p.read, subst (λ l. gave r' l r'') (sym (none_of bs none)) gives, subst (λ l. Served took w m no_counts p.bytes l w' n c) (sym (none_of pending empty)) p.through.served, p.through.within)
+
+-- the reader told its end, within a line
+pub ends_cut : {R W : Type 0} {gave : R → List ℕ → R → Type 0} {took : W → List ℕ → W → Type 0} (refused : W → W → Type 0) {r r' r'' : R} {w w' : W} {m n : MachineState} {c : Counts} {pending bs : List ℕ}
+    → Going gave took r w m pending r' w' n c → gave r' bs r'' → length bs ≡ 0 → 0 < length pending
+    → (bytes : List ℕ) × (last : R) × Moves gave r bytes last × gave last [] r'' × Fails took refused w m no_counts bytes w' n (fault.Line (c.lines + 1) NotEnded)
+ends_cut {gave = gave} refused {r' = r'} {r'' = r''} {c = c} {pending = pending} {bs = bs} p gives none some =
+    (p.bytes, r', p.read, subst (λ l. gave r' l r'') (sym (none_of bs none)) gives, (c, pending, p.through.served, refl, p.room some, (some, p.short, p.unfinished)))

@@ -1,0 +1,14 @@
+pub mod Ranges
+pub mod Numbers
+pub mod Words
+pub mod Serving
+pub mod Faults
+pub mod Ends
+pub mod Unique
+pub mod KnownBytes
+pub mod Arrows
+pub mod Readings
+pub mod Held
+pub mod Cuts
+pub mod Written
+pub mod AnswerTexts

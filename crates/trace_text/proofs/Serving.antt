@@ -1,0 +1,147 @@
+-- Steps of a run.
+use Rattle.std.proofs.Common.{◌≡◌, ℕ, take, drop, take-append-drop, Option, Some, None, List, [], ◌∷◌, ◌++◌, refl, sym, ◌∙◌, ap, append_assoc, append-nil, length-append, subst, arith}
+use Rattle.std.specs.Option.{option_to_list, option_and_then}
+use Rattle.std.specs.List.{FoldsTo, concat, AllByRecursion}
+use Rattle.flat_model.specs.declared.Event.{Event}
+use Rattle.flat_model.specs.declared.Answer.{Answer}
+use Rattle.flat_model.specs.Flat.{Flat, flat_step, flat_run}
+use Rattle.machine_core.specs.Machine.{MachineState}
+use Rattle.trace_text.specs.Texts.{flat, after_line}
+use Rattle.trace_text.specs.declared.lines.Line.{Line}
+use Rattle.trace_text.specs.declared.serve.Counts.{Counts}
+use Rattle.trace_text.specs.Serving.{IsLine, joined, told, told_all, after_all, events_of, answers_of, event_in, answer_to, counted, counted_line, Moves, Served, Partly}
+use Rattle.trace_text.specs.Faults.{LineServed}
+
+folds_then : {S A : Type 0} (step : S → A → S → Type 0) (xs ys : List A) (r s t : S) → FoldsTo step r xs s → FoldsTo step s ys t → FoldsTo step r (xs ++ ys) t
+folds_then step [] ys r s t p q = subst (λ x. FoldsTo step x ys t) (sym p) q
+folds_then step (x ∷ xs) ys r s t p q = (p.0, p.1, folds_then step xs ys p.0 s t p.2 q)
+
+concat_then : (xs ys : List (List ℕ)) → concat (xs ++ ys) ≡ concat xs ++ concat ys
+concat_then [] ys = refl
+concat_then (x ∷ xs) ys = ap (λ l. x ++ l) (concat_then xs ys) ∙ sym (append_assoc x (concat xs) (concat ys))
+
+pub moved_none : {S : Type 0} {step : S → List ℕ → S → Type 0} (s : S) → Moves step s [] s
+moved_none s = record { pieces = []; steps = refl; whole = refl }
+
+pub moved_then : {S : Type 0} {step : S → List ℕ → S → Type 0} {r s t : S} {xs ys : List ℕ} → Moves step r xs s → Moves step s ys t → Moves step r (xs ++ ys) t
+moved_then {step = step} {r = r} {s = s} {t = t} {xs = xs} {ys = ys} p q = record {
+  pieces = p.pieces ++ q.pieces;
+  steps = folds_then step p.pieces q.pieces r s t p.steps q.steps;
+  whole = concat_then p.pieces q.pieces ∙ ap (λ l. l ++ concat q.pieces) p.whole ∙ ap (λ l. xs ++ l) q.whole;
+}
+
+pub moved_one : {S : Type 0} {step : S → List ℕ → S → Type 0} {s t : S} {xs : List ℕ} → step s xs t → Moves step s xs t
+moved_one {t = t} {xs = xs} p = record { pieces = xs ∷ []; steps = (t, p, refl); whole = append-nil xs }
+
+pub moved_more : {S : Type 0} {step : S → List ℕ → S → Type 0} {r s t : S} {xs ys : List ℕ} → Moves step r xs s → step s ys t → Moves step r (xs ++ ys) t
+moved_more p q = moved_then p (moved_one q)
+
+pub moved_still : {S : Type 0} {step : S → List ℕ → S → Type 0} {r s t : S} {xs : List ℕ} → Moves step r xs s → step s [] t → Moves step r xs t
+moved_still {step = step} {r = r} {t = t} {xs = xs} p q = subst (λ l. Moves step r l t) (append-nil xs) (moved_more p q)
+
+joined_then : (xs ys : List (List ℕ × Line)) → joined (xs ++ ys) ≡ joined xs ++ joined ys
+joined_then [] ys = refl
+joined_then (x ∷ xs) ys = ap (λ l. x.0 ++ (10 ∷ l)) (joined_then xs ys) ∙ sym (append_assoc x.0 (10 ∷ joined xs) (joined ys))
+
+after_then : (m : MachineState) (xs ys : List (List ℕ × Line)) → after_all m (xs ++ ys) ≡ after_all (after_all m xs) ys
+after_then m [] ys = refl
+after_then m (x ∷ xs) ys = after_then (after_line m x.1) xs ys
+
+told_then : (m : MachineState) (xs ys : List (List ℕ × Line)) → told_all m (xs ++ ys) ≡ told_all m xs ++ told_all (after_all m xs) ys
+told_then m [] ys = refl
+told_then m (x ∷ xs) ys = ap (λ l. told m x ++ l) (told_then (after_line m x.1) xs ys) ∙ sym (append_assoc (told m x) (told_all (after_line m x.1) xs) _)
+
+counted_then : (m : MachineState) (c : Counts) (xs ys : List (List ℕ × Line)) → counted m c (xs ++ ys) ≡ counted (after_all m xs) (counted m c xs) ys
+counted_then m c [] ys = refl
+counted_then m c (x ∷ xs) ys = counted_then (after_line m x.1) (counted_line m c x.1) xs ys
+
+events_then : (xs ys : List (List ℕ × Line)) → events_of (xs ++ ys) ≡ events_of xs ++ events_of ys
+events_then [] ys = refl
+events_then (x ∷ xs) ys = ap (λ l. option_to_list (event_in x.1) ++ l) (events_then xs ys) ∙ sym (append_assoc (option_to_list (event_in x.1)) (events_of xs) (events_of ys))
+
+answers_then : (m : MachineState) (xs ys : List (List ℕ × Line)) → answers_of m (xs ++ ys) ≡ answers_of m xs ++ answers_of (after_all m xs) ys
+answers_then m [] ys = refl
+answers_then m (x ∷ xs) ys =
+    ap (λ l. option_to_list (answer_to m x.1) ++ l) (answers_then (after_line m x.1) xs ys)
+    ∙ sym (append_assoc (option_to_list (answer_to m x.1)) (answers_of (after_line m x.1) xs) _)
+
+and_then_more : (o : Option Flat) (f g : Flat → Option Flat) (t u : Flat) → ((v : Flat) → f v ≡ Some t → g v ≡ Some u) → option_and_then f o ≡ Some t → option_and_then g o ≡ Some u
+and_then_more None f g t u more p = cc
+and_then_more (Some v) f g t u more p = more v p
+
+-- a run, and a run from where it ended
+runs_then : (xs ys : List Event) (xa ya : List Answer) (s t u : Flat)
+    → flat_run s xs xa ≡ Some t → flat_run t ys ya ≡ Some u → flat_run s (xs ++ ys) (xa ++ ya) ≡ Some u
+runs_then [] ys [] ya s t u p q = let here : s ≡ t = cc in subst (λ x. flat_run x ys ya ≡ Some u) (sym here) q
+runs_then [] ys (a ∷ xa) ya s t u p q = cc
+runs_then (x ∷ xs) ys [] ya s t u p q = cc
+runs_then (x ∷ xs) ys (a ∷ xa) ya s t u p q =
+    and_then_more (flat_step s x a) (λ v. flat_run v xs xa) (λ v. flat_run v (xs ++ ys) (xa ++ ya)) t u (λ v here. runs_then xs ys xa ya v t u here q) p
+
+pub all_then : {X : Type 0} (P : X → Type 0) (xs ys : List X) → AllByRecursion P xs → AllByRecursion P ys → AllByRecursion P (xs ++ ys)
+all_then P [] ys p q = q
+all_then P (x ∷ xs) ys p q = (p.0, all_then P xs ys p.1 q)
+
+pub served_none : {W : Type 0} {took : W → List ℕ → W → Type 0} (w : W) (m : MachineState) (c : Counts) (bytes : List ℕ) → Served took w m c bytes bytes w m c
+served_none w m c bytes = record { lines = []; each = tt; split = refl; number = omega arith; counts = refl; written = moved_none w; state = refl; runs = refl }
+
+pub served_then : {W : Type 0} {took : W → List ℕ → W → Type 0} {u v w : W} {k m n : MachineState} {a b c : Counts} {xs ys zs : List ℕ}
+    → Served took u k a xs ys v m b → Served took v m b ys zs w n c → Served took u k a xs zs w n c
+served_then {took = took} {u = u} {v = v} {w = w} {k = k} {m = m} {n = n} {a = a} {b = b} {c = c} {zs = zs} p q = record {
+  lines = p.lines ++ q.lines;
+  each = all_then IsLine p.lines q.lines p.each q.each;
+  split = p.split ∙ ap (λ l. joined p.lines ++ l) q.split ∙ sym (append_assoc (joined p.lines) (joined q.lines) zs) ∙ ap (λ l. l ++ zs) (sym (joined_then p.lines q.lines));
+  number = omega (arith, p.number, q.number, length-append p.lines q.lines);
+  counts = q.counts ∙ ap (λ s. counted s b q.lines) p.state ∙ ap (λ x. counted (after_all k p.lines) x q.lines) p.counts ∙ sym (counted_then k a p.lines q.lines);
+  written = subst (λ l. Moves took u l w) (ap (λ s. told_all k p.lines ++ told_all s q.lines) p.state ∙ sym (told_then k p.lines q.lines)) (moved_then p.written q.written);
+  state = q.state ∙ ap (λ s. after_all s q.lines) p.state ∙ sym (after_then k p.lines q.lines);
+  runs =
+      let both = runs_then (events_of p.lines) (events_of q.lines) (answers_of k p.lines) (answers_of m q.lines) (flat k) (flat m) (flat n) p.runs q.runs in
+      let answers : answers_of k p.lines ++ answers_of m q.lines ≡ answers_of k (p.lines ++ q.lines) =
+      ap (λ s. answers_of k p.lines ++ answers_of s q.lines) p.state ∙ sym (answers_then k p.lines q.lines) in
+      subst (λ l. flat_run (flat k) l (answers_of k (p.lines ++ q.lines)) ≡ Some (flat n)) (sym (events_then p.lines q.lines)) (subst (λ l. flat_run (flat k) (events_of p.lines ++ events_of q.lines) l ≡ Some (flat n)) answers both);
+}
+
+-- more bytes came
+pub served_more : {W : Type 0} {took : W → List ℕ → W → Type 0} {u v : W} {m n : MachineState} {a b : Counts} {xs ys : List ℕ} (more : List ℕ)
+    → Served took u m a xs ys v n b → Served took u m a (xs ++ more) (ys ++ more) v n b
+served_more {ys = ys} more p = record {
+  lines = p.lines;
+  each = p.each;
+  number = p.number;
+  counts = p.counts;
+  written = p.written;
+  state = p.state;
+  runs = p.runs;
+  split = ap (λ l. l ++ more) p.split ∙ append_assoc (joined p.lines) ys more;
+}
+
+-- a flush
+pub served_still : {W : Type 0} {took : W → List ℕ → W → Type 0} {u v w : W} {m n : MachineState} {a b : Counts} {xs ys : List ℕ}
+    → Served took u m a xs ys v n b → took v [] w → Served took u m a xs ys w n b
+served_still p q = record { lines = p.lines; each = p.each; split = p.split; number = p.number; counts = p.counts; written = moved_still p.written q; state = p.state; runs = p.runs }
+
+-- one line
+pub served_one : {W : Type 0} {took : W → List ℕ → W → Type 0} {u v : W} {m n : MachineState} {a b : Counts} (text rest : List ℕ)
+    → (p : LineServed took u m a text v n b) → IsLine (text, p.line) → Served took u m a (text ++ (10 ∷ rest)) rest v n b
+served_one {took = took} {u = u} {v = v} {m = m} {n = n} text rest p good = record {
+  lines = (text, p.line) ∷ [];
+  each = (good, tt);
+  split = sym (append_assoc text (10 ∷ []) rest);
+  number = omega (arith, p.number);
+  counts = p.counts;
+  written = subst (λ l. Moves took u l v) (sym (append-nil (told m (text, p.line)))) p.written;
+  state = p.state;
+  runs = subst (λ l. flat_run (flat m) l (option_to_list (answer_to m p.line) ++ []) ≡ Some (flat n)) (sym (append-nil (option_to_list (event_in p.line)))) (subst (λ l. flat_run (flat m) (option_to_list (event_in p.line)) l ≡ Some (flat n)) (sym (append-nil (option_to_list (answer_to m p.line)))) p.runs);
+}
+
+pub partly_none : {S : Type 0} {step : S → List ℕ → S → Type 0} (s : S) (bytes : List ℕ) → Partly step s bytes bytes s
+partly_none s bytes = record { front = []; whole = refl; moved = moved_none s }
+
+pub partly_more : {S : Type 0} {step : S → List ℕ → S → Type 0} {r s t : S} {bytes rest : List ℕ} (n : ℕ) (rest' : List ℕ)
+    → Partly step r bytes rest s → step s (take n rest) t → rest' ≡ drop n rest → Partly step r bytes rest' t
+partly_more {rest = rest} n rest' p q e = record {
+  front = p.front ++ take n rest;
+  whole = p.whole ∙ ap (λ l. p.front ++ l) (sym (take-append-drop n rest)) ∙ sym (append_assoc p.front (take n rest) (drop n rest)) ∙ ap (λ l. (p.front ++ take n rest) ++ l) (sym e);
+  moved = moved_more p.moved q;
+}

@@ -1,0 +1,11 @@
+pub mod Fields
+pub mod Lines
+pub mod Texts
+pub mod Pairs
+pub mod Serving
+pub mod Faults
+pub mod Known
+pub mod Reading
+pub mod Requests
+pub mod Checks
+pub mod Written

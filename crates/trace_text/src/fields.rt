@@ -1,0 +1,87 @@
+//! The fields of a line are read.
+ghost use Rattle.std.specs.Prelude.{◌≡◌, ◌≤◌, IfSome};
+ghost use Rattle.trace_text.specs.Fields.{begins_badly as starts_badly, number_of, nibble_of, bit_of, lanes_of, byte_from, word_of};
+
+use flat_model::{Lanes, Word};
+
+// The number whose decimal digits these are, at most `most`.
+pub fn number(text: &[u8], most: u32) -> Option<u32>
+    ensures value { result ≡ number_of most text.now }
+    ensures bound { IfSome result (λ n. n ≤ most) }
+{
+    if begins_badly(text) {
+        return None;
+    }
+    let mut value = 0u64;
+    for byte in text {
+        if !byte.is_ascii_digit() {
+            return None;
+        }
+        value = value * 10 + u64::from(*byte - b'0');
+        if value > u64::from(most) {
+            return None;
+        }
+    }
+    Some(value as u32)
+}
+
+fn begins_badly(text: &[u8]) -> bool
+    ensures { result ≡ starts_badly text.now }
+{
+    match text {
+        [] => true,
+        [_] => false,
+        [first, ..] => *first == b'0',
+    }
+}
+
+fn nibble(byte: u8) -> Option<u8>
+    ensures { result ≡ nibble_of byte }
+{
+    match byte {
+        b'0'..=b'9' => Some(byte - b'0'),
+        b'a'..=b'f' => Some(byte - b'a' + 10),
+        _ => None,
+    }
+}
+
+fn bit(byte: u8) -> Option<u8>
+    ensures { result ≡ bit_of byte }
+{
+    match byte {
+        b'0' => Some(0),
+        b'1' => Some(1),
+        _ => None,
+    }
+}
+
+// The lanes of a mask of four digits, lane 0 first.
+pub fn lanes(text: &[u8]) -> Option<Lanes>
+    ensures { result ≡ lanes_of text.now }
+{
+    match text {
+        [a, b, c, d] => Some(Lanes(bit(*a)? + 2 * bit(*b)? + 4 * bit(*c)? + 8 * bit(*d)?)),
+        _ => None,
+    }
+}
+
+fn byte(high: u8, low: u8) -> Option<u8>
+    ensures { result ≡ byte_from (nibble_of high) (nibble_of low) }
+{
+    Some(nibble(high)? * 16 + nibble(low)?)
+}
+
+// The word of eight digits, byte 0 first.
+pub fn word(text: &[u8]) -> Option<Word>
+    ensures { result ≡ word_of text.now }
+{
+    match text {
+        [a, b, c, d, e, f, g, h] => Some(Word {
+            b0: byte(*a, *b)?,
+            b1: byte(*c, *d)?,
+            b2: byte(*e, *f)?,
+            b3: byte(*g, *h)?,
+        }),
+        _ => None,
+    }
+}

@@ -1,0 +1,62 @@
+//! What holds of traces alone. These functions do nothing: their contracts are laws.
+ghost use Rattle.std.specs.Prelude.{◌≡◌, ◌≢◌, ℕ, ◌^◌, ◌<◌, ◌≤◌, List, ◌∷◌, ◌++◌, Some, Ok, decimal, codes};
+ghost use Rattle.std.specs.List.{AllByRecursion};
+ghost use Rattle.flat_model.specs.declared.Word.{Word};
+ghost use Rattle.flat_model.specs.declared.Lanes.{Lanes};
+ghost use Rattle.trace_text.specs.declared.lines.Line.{Line};
+ghost use Rattle.trace_text.specs.declared.lines.LineFault.{LineFault};
+ghost use Rattle.trace_text.specs.declared.lines.LineFault.TheVariants.{NotEnded};
+ghost use Rattle.machine_core.specs.Machine.{MachineState};
+ghost use Rattle.trace_text.specs.Fields.{number_of, word_of, word_text, lanes_of, lanes_text};
+ghost use Rattle.trace_text.specs.Lines.{line_of};
+ghost use Rattle.trace_text.specs.Written.{line_text, IsFit, IsFitAnswer, IsFitReply};
+ghost use Rattle.trace_text.specs.Texts.{answer_text, reply_text};
+ghost use Rattle.trace_text.specs.Pairs.{answer_of, pair_of};
+ghost use Rattle.flat_model.specs.declared.Answer.{Answer};
+ghost use Rattle.trace_text.specs.Serving.{IsLine, IsStuck, joined, answer_to};
+ghost use Rattle.trace_text.specs.Faults.{BeginsWith};
+
+/// A field is the number whose decimal digits it is, and no other field is a number.
+pub fn numbers()
+    ensures read { (most n : ℕ) (text : List ℕ) → most < 2 ^ 32 → number_of most text ≡ Some n → (text ≡ decimal n) }
+    ensures bound { (most n : ℕ) (text : List ℕ) → most < 2 ^ 32 → number_of most text ≡ Some n → (n ≤ most) }
+    ensures written { (most n : ℕ) → most < 2 ^ 32 → n ≤ most → number_of most (decimal n) ≡ Some n }
+{}
+
+/// What is written for a word or a mask is read as it.
+pub fn words_and_masks()
+    ensures words { (w : Word) → w.b0 < 256 → w.b1 < 256 → w.b2 < 256 → w.b3 < 256 → word_of (word_text w) ≡ Some w }
+    ensures masks { (m : Lanes) → m.0 < 16 → lanes_of (lanes_text m) ≡ Some m }
+{}
+
+/// A text is lines and a rest that begins no line in one way only: so it doesn't matter in which
+/// pieces it came, nor how far it was read beyond the rest's begin.
+pub fn one_reading()
+    ensures { (xs ys : List (List ℕ × Line)) (a b more after : List ℕ) → AllByRecursion IsLine xs → AllByRecursion IsLine ys
+        → IsStuck a → IsStuck b → joined xs ++ (a ++ more) ≡ joined ys ++ (b ++ after)
+        → (xs ≡ ys) × (a ++ more ≡ b ++ after) }
+{}
+
+/// A line's fault stands whatever follows: so the same lines go before it, however far the trace
+/// was read.
+pub fn faults_stand()
+    ensures { (rest : List ℕ) (f : LineFault) → f ≢ NotEnded → BeginsWith rest f → IsStuck rest }
+{}
+
+/// A line is the text that it has, and no other text.
+pub fn lines()
+    ensures read { (text : List ℕ) (l : Line) → line_of text ≡ Ok l → IsFit l × (text ≡ line_text l) }
+    ensures written { (l : Line) → IsFit l → line_of (line_text l) ≡ Ok l }
+{}
+
+/// An answer is the text that it has, and no other text.
+pub fn answers()
+    ensures read { (text : List ℕ) (a : Answer) → answer_of text ≡ Some a → IsFitAnswer a × (text ≡ answer_text a) }
+    ensures written { (a : Answer) → IsFitAnswer a → answer_of (answer_text a) ≡ Some a }
+{}
+
+/// What is served for a line is read as the line and its answer.
+pub fn pairs()
+    ensures { (m : MachineState) (text : List ℕ) (l : Line) → line_of text ≡ Ok l → IsFitReply (answer_to m l)
+        → pair_of (text ++ (codes " -> " ++ reply_text m l)) ≡ Ok (record { line = l; answer = answer_to m l }) }
+{}

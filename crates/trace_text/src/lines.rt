@@ -1,0 +1,221 @@
+//! The lines of a trace.
+ghost use Rattle.std.specs.Prelude.{◌≡◌, ◌<◌, length, ◌==◌, position, IfSome, IfErr};
+ghost use Rattle.std.specs.Option.{option_map};
+ghost use Rattle.trace_text.specs.Lines.{IsSaid, line_of, ended_line_of, cut_of, command_named, one_number, bare as bare_line, load_of, store_of, arrive_of, line_from as line_made};
+
+use crate::fields::{lanes, number, word};
+use flat_model::Event;
+use thiserror::Error;
+
+/// What a line of a trace asks for.
+#[derive(Clone, Copy, Debug, PartialEq, Eq)]
+pub enum Line {
+    /// An event for the machine.
+    Event(Event),
+    /// Shows the register of this number.
+    Register(u32),
+    /// Shows the word at this address, as it stands in its bank.
+    Bank(u32),
+    /// Shows whether the machine is settled.
+    Settled,
+}
+
+/// Why a line can't be read. Of the faults that a line has, the one that comes first in the order
+/// TooLong, NotEnded, Unknown, Field is named.
+#[derive(Clone, Copy, Debug, PartialEq, Eq, Error)]
+pub enum LineFault {
+    /// The first word is no command.
+    #[error("unknown command")]
+    Unknown,
+    /// A field is missing, too many, malformed or too large, or a space is out of place.
+    #[error("bad field")]
+    Field,
+    /// More bytes than a line may have stand before the LF.
+    #[error("line too long")]
+    TooLong,
+    /// The last byte isn't LF.
+    #[error("line not ended")]
+    NotEnded,
+}
+
+// The first word of a line.
+#[derive(Clone, Copy, Debug, PartialEq, Eq)]
+enum Command {
+    Load,
+    Store,
+    Prefetch,
+    Evict,
+    Drain,
+    Serve,
+    Arrive,
+    Process,
+    Take,
+    Register,
+    Bank,
+    Settled,
+}
+
+fn space(text: &[u8]) -> Option<usize>
+    ensures value { result ≡ position (λ b. b == 32) text.now }
+    ensures bound { IfSome result (λ at. at < length text.now) }
+{
+    text.iter().position(|byte| *byte == b' ')
+}
+
+// The bytes up to the first space, and those behind it.
+pub fn cut(text: &[u8]) -> (&[u8], Option<&[u8]>)
+    ensures front { result.0.now ≡ (cut_of text.now).0 }
+    ensures rest { option_map (λ rest. rest.now) result.1 ≡ (cut_of text.now).1 }
+{
+    match space(text) {
+        Some(at) => (&text[..at], Some(&text[at + 1..])),
+        None => (text, None),
+    }
+}
+
+#[tactic(auto, unfolding(crate::specs::Lines::command_named))]
+fn named_command(name: &[u8]) -> Option<Command>
+    ensures { result ≡ command_named name.now }
+{
+    if name == b"load".as_slice() {
+        Some(Command::Load)
+    } else if name == b"store".as_slice() {
+        Some(Command::Store)
+    } else if name == b"prefetch".as_slice() {
+        Some(Command::Prefetch)
+    } else if name == b"evict".as_slice() {
+        Some(Command::Evict)
+    } else if name == b"drain".as_slice() {
+        Some(Command::Drain)
+    } else if name == b"serve".as_slice() {
+        Some(Command::Serve)
+    } else if name == b"arrive".as_slice() {
+        Some(Command::Arrive)
+    } else if name == b"process".as_slice() {
+        Some(Command::Process)
+    } else if name == b"take".as_slice() {
+        Some(Command::Take)
+    } else if name == b"reg".as_slice() {
+        Some(Command::Register)
+    } else if name == b"bank".as_slice() {
+        Some(Command::Bank)
+    } else if name == b"settled".as_slice() {
+        Some(Command::Settled)
+    } else {
+        None
+    }
+}
+
+// The one number that stands behind the command.
+pub fn one(fields: Option<&[u8]>) -> Option<u32>
+    ensures { result ≡ one_number (option_map (λ rest. rest.now) fields.entry) }
+{
+    number(fields?, u32::MAX)
+}
+
+fn bare(line: Line, fields: Option<&[u8]>) -> Option<Line>
+    ensures { result ≡ bare_line line (option_map (λ rest. rest.now) fields.entry) }
+{
+    match fields {
+        None => Some(line),
+        Some(_) => None,
+    }
+}
+
+fn load(fields: Option<&[u8]>) -> Option<Line>
+    ensures { result ≡ load_of (option_map (λ rest. rest.now) fields.entry) }
+{
+    let (tag, rest) = cut(fields?);
+    let tag = number(tag, 65_535);
+    let at = number(rest?, u32::MAX);
+    Some(Line::Event(Event::Load {
+        tag: tag? as u16,
+        at: at?,
+    }))
+}
+
+fn store(fields: Option<&[u8]>) -> Option<Line>
+    ensures { result ≡ store_of (option_map (λ rest. rest.now) fields.entry) }
+{
+    let (at, rest) = cut(fields?);
+    let (mask, rest) = cut(rest?);
+    let at = number(at, u32::MAX);
+    let mask = lanes(mask);
+    let word = word(rest?);
+    Some(Line::Event(Event::Store {
+        at: at?,
+        word: word?,
+        lanes: mask?,
+    }))
+}
+
+fn arrive(fields: Option<&[u8]>) -> Option<Line>
+    ensures { result ≡ arrive_of (option_map (λ rest. rest.now) fields.entry) }
+{
+    let (bank, rest) = cut(fields?);
+    let bank = number(bank, u32::MAX);
+    let place = number(rest?, u32::MAX);
+    Some(Line::Event(Event::Arrive {
+        bank: bank?,
+        place: place?,
+    }))
+}
+
+#[tactic(auto, unfolding(crate::specs::Lines::line_from))]
+fn line_from(command: Command, fields: Option<&[u8]>) -> Option<Line>
+    ensures { result ≡ line_made command (option_map (λ rest. rest.now) fields.entry) }
+{
+    match command {
+        Command::Load => load(fields),
+        Command::Store => store(fields),
+        Command::Prefetch => Some(Line::Event(Event::Prefetch { at: one(fields)? })),
+        Command::Evict => Some(Line::Event(Event::Evict {
+            block: one(fields)?,
+        })),
+        Command::Drain => bare(Line::Event(Event::Drain), fields),
+        Command::Serve => Some(Line::Event(Event::Serve { bank: one(fields)? })),
+        Command::Arrive => arrive(fields),
+        Command::Process => Some(Line::Event(Event::Process {
+            place: one(fields)?,
+        })),
+        Command::Take => Some(Line::Event(Event::Take {
+            place: one(fields)?,
+        })),
+        Command::Register => Some(Line::Register(one(fields)?)),
+        Command::Bank => Some(Line::Bank(one(fields)?)),
+        Command::Settled => bare(Line::Settled, fields),
+    }
+}
+
+// What a line says, without its LF.
+#[tactic(auto, unfolding(crate::specs::Lines::line_of))]
+pub fn line_said(text: &[u8]) -> Result<Line, LineFault>
+    ensures said { result ≡ line_of text.now }
+    ensures fault { IfErr result IsSaid }
+{
+    let (name, fields) = cut(text);
+    match named_command(name) {
+        None => Err(LineFault::Unknown),
+        Some(command) => line_from(command, fields).ok_or(LineFault::Field),
+    }
+}
+
+/// What a line says. The bytes are those of one line with its LF: at most 64 bytes stand before it.
+pub fn read_line(bytes: &[u8]) -> Result<Line, LineFault>
+    ensures { result ≡ ended_line_of bytes.now }
+{
+    match bytes.split_last() {
+        Some((b'\n', text)) => {
+            if text.len() > 64 {
+                return Err(LineFault::TooLong);
+            }
+            line_said(text)
+        }
+        _ => {
+            if bytes.len() > 64 {
+                return Err(LineFault::TooLong);
+            }
+            Err(LineFault::NotEnded)
+        }
+    }
+}

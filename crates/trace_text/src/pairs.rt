@@ -1,0 +1,162 @@
+//! Lines as a served trace has them: a command and its answer.
+ghost use Rattle.std.specs.Prelude.{◌≡◌, ◌+◌, ◌≤◌, length, IfSome, IfErr};
+ghost use Rattle.std.specs.Option.{option_map};
+ghost use Rattle.trace_text.specs.Lines.{IsSaid};
+ghost use Rattle.trace_text.specs.Pairs.{cause_of, bare_answer as bare_of, value_of, refusal_of, answer_from as answer_made, answer_of, arrow_in, pair_with as pair_made, pair_of, ended_pair_of};
+
+use crate::fields::{number, word};
+use crate::lines::{Line, LineFault, cut, line_said, one};
+use flat_model::{Answer, Cause};
+
+/// A line and what was answered to it.
+#[derive(Clone, Copy, Debug, PartialEq, Eq)]
+pub struct Pair {
+    /// The line.
+    pub line: Line,
+    /// The answer to an event; `None` for a line that only shows something.
+    pub answer: Option<Answer>,
+}
+
+// The cause of this number.
+#[tactic(auto, unfolding(crate::specs::Pairs::cause_of))]
+fn cause(number: u32) -> Option<Cause>
+    ensures { result ≡ cause_of number }
+{
+    match number {
+        1 => Some(Cause::OutOfRange),
+        2 => Some(Cause::NoLanes),
+        3 => Some(Cause::TagInUse),
+        4 => Some(Cause::RepliesFull),
+        5 => Some(Cause::TargetsFull),
+        6 => Some(Cause::BlockQueued),
+        7 => Some(Cause::NoRegister),
+        8 => Some(Cause::SetPending),
+        9 => Some(Cause::QueueFull),
+        10 => Some(Cause::BankFull),
+        11 => Some(Cause::NotPresent),
+        12 => Some(Cause::StackFull),
+        13 => Some(Cause::StrayWord),
+        _ => None,
+    }
+}
+
+fn bare_answer(answer: Answer, fields: Option<&[u8]>) -> Option<Answer>
+    ensures { result ≡ bare_of answer (option_map (λ rest. rest.now) fields.entry) }
+{
+    match fields {
+        None => Some(answer),
+        Some(_) => None,
+    }
+}
+
+fn value(fields: Option<&[u8]>) -> Option<Answer>
+    ensures { result ≡ value_of (option_map (λ rest. rest.now) fields.entry) }
+{
+    let (tag, rest) = cut(fields?);
+    let tag = number(tag, 65_535);
+    let word = word(rest?);
+    Some(Answer::Value {
+        tag: tag? as u16,
+        word: word?,
+    })
+}
+
+fn refused(fields: Option<&[u8]>) -> Option<Answer>
+    ensures { result ≡ refusal_of (option_map (λ rest. rest.now) fields.entry) }
+{
+    Some(Answer::Refused(cause(one(fields)?)?))
+}
+
+#[tactic(auto, unfolding(crate::specs::Pairs::answer_from))]
+fn answer_from(kind: &[u8], fields: Option<&[u8]>) -> Option<Answer>
+    ensures { result ≡ answer_made kind.now (option_map (λ rest. rest.now) fields.entry) }
+{
+    if kind == b"accepted".as_slice() {
+        bare_answer(Answer::Accepted, fields)
+    } else if kind == b"moved".as_slice() {
+        bare_answer(Answer::Moved, fields)
+    } else if kind == b"value".as_slice() {
+        value(fields)
+    } else if kind == b"nothing".as_slice() {
+        bare_answer(Answer::Nothing, fields)
+    } else if kind == b"refused".as_slice() {
+        refused(fields)
+    } else {
+        None
+    }
+}
+
+// The answer whose text this is.
+#[tactic(auto, unfolding(crate::specs::Pairs::answer_of))]
+fn answer_said(text: &[u8]) -> Option<Answer>
+    ensures { result ≡ answer_of text.now }
+{
+    let (kind, fields) = cut(text);
+    answer_from(kind, fields)
+}
+
+// The place at which ` -> ` first stands.
+fn arrow(text: &[u8]) -> Option<usize>
+    ensures value { result ≡ arrow_in text.now }
+    ensures bound { IfSome result (λ at. at + 4 ≤ length text.now) }
+{
+    for at in 0..text.len() {
+        if text[at..].starts_with(b" -> ".as_slice()) {
+            return Some(at);
+        }
+    }
+    None
+}
+
+fn pair_with(line: Line, answer: &[u8]) -> Result<Pair, LineFault>
+    ensures pair { result ≡ pair_made line answer.now }
+    ensures fault { IfErr result IsSaid }
+{
+    match line {
+        Line::Event(_) => {
+            let answer = answer_said(answer).ok_or(LineFault::Field)?;
+            Ok(Pair {
+                line,
+                answer: Some(answer),
+            })
+        }
+        _ => Ok(Pair { line, answer: None }),
+    }
+}
+
+// What a line with its answer says, without its LF.
+#[tactic(auto, unfolding(crate::specs::Pairs::pair_of))]
+pub fn pair_said(text: &[u8]) -> Result<Pair, LineFault>
+    ensures pair { result ≡ pair_of text.now }
+    ensures fault { IfErr result IsSaid }
+{
+    let Some(at) = arrow(text) else {
+        return Err(LineFault::Field);
+    };
+    let line = line_said(&text[..at])?;
+    pair_with(line, &text[at + 4..])
+}
+
+/// What a line of a served trace says. The bytes are those of one line with its LF: at most 768
+/// bytes stand before it.
+///
+/// A line that has no ` -> ` is a bad field; behind the first one stands the exact text of an
+/// answer. Where the line only shows something, what stands there is passed over.
+pub fn read_pair(bytes: &[u8]) -> Result<Pair, LineFault>
+    ensures { result ≡ ended_pair_of bytes.now }
+{
+    match bytes.split_last() {
+        Some((b'\n', text)) => {
+            if text.len() > 768 {
+                return Err(LineFault::TooLong);
+            }
+            pair_said(text)
+        }
+        _ => {
+            if bytes.len() > 768 {
+                return Err(LineFault::TooLong);
+            }
+            Err(LineFault::NotEnded)
+        }
+    }
+}

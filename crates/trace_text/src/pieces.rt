@@ -1,0 +1,50 @@
+//! A text comes in pieces: its lines are found, and the rest is kept for the next piece.
+ghost use Rattle.std.specs.Prelude.{◌≡◌, ◌≢◌, ℕ, ◌+◌, ◌-◌, ◌<◌, ◌≤◌, length, take, drop, OnErr, IfOk, IfSome, IfNone, slice_index};
+ghost use Rattle.trace_text.specs.Serving.{HasNoEnd};
+ghost use Rattle.trace_text.specs.Faults.{Filled};
+
+use crate::streams::Source;
+
+// How many lines a trace has at most.
+pub const MAX_LINES: u64 = 16_777_216;
+
+// A write or a flush was refused, or a read failed.
+#[derive(Clone, Copy)]
+pub struct Failed;
+
+// The place of the first LF.
+pub fn end_of_line(bytes: &[u8]) -> Option<usize>
+    ensures some { IfSome result (λ at. (at < length bytes.now) × (slice_index bytes.now at ≡ 10)
+        × ((k : ℕ) → k < at → slice_index bytes.now k ≢ 10)) }
+    ensures none { IfNone result (HasNoEnd bytes.now) }
+{
+    for (i, byte) in bytes.iter().enumerate() {
+        if *byte == b'\n' {
+            return Some(i);
+        }
+    }
+    None
+}
+
+// Moves what stands from `from` to `to` to the front.
+pub fn keep_end(bytes: &mut [u8], from: usize, to: usize)
+    requires from { from ≤ to }
+    requires to { to ≤ length bytes.old }
+    ensures { take (to - from) bytes.new ≡ drop from (take to bytes.old) }
+{
+    for i in 0..to - from {
+        bytes[i] = bytes[from + i];
+    }
+}
+
+// One read, behind the bytes that stand at the buffer's front.
+pub fn fill<R: Source>(reader: &mut R, buffer: &mut [u8], filled: usize) -> Result<usize, Failed>
+    requires { filled < length buffer.old }
+    ensures ok { IfOk result (Filled R.gave reader.old reader.new buffer.old buffer.new filled) }
+    ensures err { OnErr result (R.failed reader.old reader.new) }
+{
+    match reader.read_some(&mut buffer[filled..]) {
+        Ok(given) => Ok(given),
+        Err(_) => Err(Failed),
+    }
+}

@@ -1,0 +1,83 @@
+//! The requests of a trace.
+ghost use Rattle.std.specs.Prelude.{◌≡◌, ℕ, ◌≤◌, ◌++◌, List, length, OnOk, IfOk, IfErr};
+ghost use Rattle.std.specs.Option.{option_to_list};
+ghost use Rattle.std.specs.List.{AllByRecursion};
+ghost use Rattle.trace_text.specs.Lines.{line_of};
+ghost use Rattle.trace_text.specs.Reading.{fault_of, ReadWhole, ReadStops};
+ghost use Rattle.trace_text.specs.Requests.{IsRequest, request_in, requests_of};
+
+use crate::lines::{Line, line_said};
+use crate::reading::{Collector, Uncollected, read_lines};
+use crate::serve::TraceFault;
+use crate::streams::Source;
+use flat_model::Event;
+use std::alloc::Global;
+
+// The requests of the lines so far.
+#[derive(Drop)]
+pub struct Requests {
+    pub events: Vec<Event>,
+}
+
+// The event of a line, where it is a request.
+fn request(line: Line) -> Option<Event>
+    ensures { result ≡ request_in line }
+{
+    match line {
+        Line::Event(
+            event @ (Event::Load { .. }
+            | Event::Store { .. }
+            | Event::Prefetch { .. }
+            | Event::Evict { .. }),
+        ) => Some(event),
+        _ => None,
+    }
+}
+
+fn keep(events: &mut Vec<Event>, event: Option<Event>) -> Result<(), Uncollected>
+    ensures ok { OnOk result (events.new.items ≡ events.old.items ++ option_to_list event) }
+    ensures err { IfErr result (λ miss. miss ≡ Uncollected.Memory) }
+{
+    let Some(event) = event else {
+        return Ok(());
+    };
+    match events.push(event) {
+        Ok(()) => Ok(()),
+        Err(_) => Err(Uncollected::Memory),
+    }
+}
+
+impl Collector for Requests {
+    ghost fault_in = { λ text. fault_of (line_of text) };
+
+    ghost holds = { λ c texts. c.events.items ≡ requests_of texts };
+
+    fn collect(&mut self, _number: u64, text: &[u8]) -> Result<(), Uncollected> {
+        let line = match line_said(text) {
+            Ok(line) => line,
+            Err(fault) => return Err(Uncollected::Fault(fault)),
+        };
+        keep(&mut self.events, request(line))
+    }
+}
+
+/// The loads, stores, prefetches and evictions of a trace, in order: at most 16,777,216 events.
+/// The other lines are passed over, and a faulty one is refused.
+///
+/// A fault gives no events. The lines are judged in order, and an error of the reader stands behind
+/// every line that ended or was too long before it; [`TraceFault::OutOfMemory`] may come in place of
+/// any answer, and [`TraceFault::Write`] never comes.
+pub fn read_requests<R: Source>(alloc: Global, reader: &mut R) -> Result<Vec<Event>, TraceFault>
+    ensures read { IfOk result (λ events. (texts : List (List ℕ)) × ReadWhole R.gave (λ text. fault_of (line_of text)) 64 reader.old reader.new texts × (events.items ≡ requests_of texts)) }
+    ensures requests { IfOk result (λ events. AllByRecursion IsRequest events.items) }
+    ensures few { IfOk result (λ events. length events.items ≤ 16777216) }
+    ensures fault { IfErr result (ReadStops R.gave R.failed (λ text. fault_of (line_of text)) 64 reader.old reader.new) }
+{
+    let mut requests = Requests {
+        events: Vec::new(alloc),
+    };
+    match read_lines(alloc, reader, &mut requests, 64) {
+        Ok(()) => Ok(requests.events),
+        Err(fault) => Err(fault),
+    }
+}
