@@ -27,6 +27,23 @@ pub struct ToolShape {
     pub regs: u32,
 }
 
+impl Default for ToolShape {
+    fn default() -> ToolShape {
+        ToolShape {
+            shape: Shape {
+                words: 64,
+                sets: 4,
+                banks: 4,
+                bank_queue: 8,
+                write_queue: 8,
+                replies: 8,
+            },
+            ways: 2,
+            regs: 4,
+        }
+    }
+}
+
 /// Why a shape file is refused.
 #[derive(Clone, Copy, PartialEq, Eq, Debug, Error)]
 pub enum ShapeFault {
@@ -202,7 +219,7 @@ fn kept(field: ShapeField, good: bool, number: u32) -> Result<u32, ShapeFault>
 }
 
 // Whether there may be so many registers.
-fn is_register_count(number: u32) -> bool
+pub(crate) fn is_register_count(number: u32) -> bool
     ensures { result ≡ is_register_count number }
 {
     number == 1 || number == 2 || number == 4 || number == 8

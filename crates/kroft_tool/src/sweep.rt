@@ -1,0 +1,268 @@
+//! Sweeps: one row for each shape, each by a thread of its own.
+
+ghost use Rattle.std.specs.Prelude.{◌≡◌, ◌∷◌, [], ℕ, ◌+◌, ◌≤◌, ◌<◌, length, map, Some, None, Result, Ok, IfOk, IfErr, OnOk, OnErr, slice_index_or, true};
+ghost use Rattle.std.specs.List.{list_all};
+ghost use Rattle.kroft_tool.specs.declared.row.Row.{Row};
+ghost use Rattle.kroft_tool.specs.declared.shape_file.ToolShape.{ToolShape};
+ghost use Rattle.kroft_tool.specs.declared.sweep.Stop.{Stop};
+ghost use Rattle.cache_unit.specs.Limits.{is_between};
+ghost use Rattle.kroft_tool.specs.Sweep.{FaultSays, IsStop, CountsAll, is_request, bad_field, bad_from, row_of};
+
+use crate::row::{Row, row_from};
+use crate::shape_file::{BLOCK_WORDS, ToolShape, is_register_count};
+use flat_model::{Event, MakeFault, ShapeField, Word};
+use machine_core::Machine;
+use std::alloc::{AllocError, Global};
+use std::thread;
+use std::thread::Threads;
+use thiserror::Error;
+
+/// Why a sweep gave no rows.
+#[derive(Clone, Copy, PartialEq, Eq, Debug, Error)]
+pub enum SweepFault {
+    /// The first shape, counted from 0, that has a field out of its range, and the first such
+    /// field. It is found before any thread begins.
+    #[error("shape {place}: {field:?} is out of range")]
+    BadShape { place: usize, field: ShapeField },
+    /// The thread of a shape used up its turns before its gate let it begin.
+    #[error("turn limit")]
+    TurnLimit,
+    /// There was too little memory.
+    #[error("out of memory")]
+    OutOfMemory,
+}
+
+impl From<AllocError> for SweepFault {
+    ghost use Rattle.std.specs.Prelude.{◌≡◌};
+    ghost use Rattle.kroft_tool.specs.declared.sweep.SweepFault.TheVariants.{OutOfMemory};
+
+    ghost from_gives = { λ e f. f ≡ OutOfMemory };
+
+    fn from(_fault: AllocError) -> SweepFault {
+        SweepFault::OutOfMemory
+    }
+}
+
+/// Says when the rows of a sweep may begin, and is told when they have ended.
+pub trait SweepGate: Sync {
+    /// Whether the thread of the shape at this place may begin its row. It asks once in each turn.
+    fn may(&self, place: usize) -> bool;
+
+    /// The row at this place has ended.
+    fn ended(&self, place: usize);
+}
+
+/// A gate that lets every row begin.
+#[derive(Drop)]
+pub struct OpenGate;
+
+impl SweepGate for OpenGate {
+    fn may(&self, _place: usize) -> bool {
+        true
+    }
+
+    fn ended(&self, _place: usize) {}
+}
+
+// Whether a number lies between the first and the last, these among them.
+fn is_between(number: u32, first: u32, last: u32) -> bool
+    ensures { result ≡ is_between number first last }
+{
+    first <= number && number <= last
+}
+
+// The first field of a shape that is out of its range.
+fn bad_field(tool: &ToolShape) -> Option<ShapeField>
+    ensures { result ≡ bad_field tool.now }
+{
+    let shape = tool.shape;
+    if !is_between(tool.ways, 1, 2) {
+        Some(ShapeField::Ways)
+    } else if !is_register_count(tool.regs) {
+        Some(ShapeField::Regs)
+    } else if !(is_between(shape.words, 1, 1_048_576) && shape.words % BLOCK_WORDS == 0) {
+        Some(ShapeField::Words)
+    } else if !is_between(shape.sets, 1, 1024) {
+        Some(ShapeField::Sets)
+    } else if !is_between(shape.banks, 1, 16) {
+        Some(ShapeField::Banks)
+    } else if !is_between(
+        shape.bank_queue,
+        (BLOCK_WORDS + shape.banks - 1) / shape.banks,
+        64,
+    ) {
+        Some(ShapeField::BankQueue)
+    } else if !is_between(shape.write_queue, BLOCK_WORDS, 256) {
+        Some(ShapeField::WriteQueue)
+    } else if !is_between(shape.replies, 1, 64) {
+        Some(ShapeField::Replies)
+    } else {
+        None
+    }
+}
+
+// The first shape with a bad field, and that field.
+fn first_bad(shapes: &[ToolShape]) -> Option<(usize, ShapeField)>
+    ensures first { result ≡ bad_from 0 shapes.now }
+    ensures good { result ≡ None → (i : ℕ) (d : ToolShape) → i < length shapes.now → bad_field (slice_index_or shapes.now i d) ≡ None }
+{
+    for (place, shape) in shapes.iter().enumerate() {
+        if let Some(field) = bad_field(shape) {
+            return Some((place, field));
+        }
+    }
+    None
+}
+
+// The row of a shape whose fields are in range.
+fn row_of(alloc: Global, tool: &ToolShape, events: &[Event]) -> Result<Row, AllocError>
+    requires events { length events.now ≤ 16777216 }
+    requires shape { bad_field tool.now ≡ None }
+    ensures { IfOk result (λ row. row ≡ row_of events.now tool.now) }
+{
+    match (tool.ways, tool.regs) {
+        (1, 1) => row_on::<1, 1>(alloc, tool, events),
+        (1, 2) => row_on::<1, 2>(alloc, tool, events),
+        (1, 4) => row_on::<1, 4>(alloc, tool, events),
+        (1, 8) => row_on::<1, 8>(alloc, tool, events),
+        (2, 1) => row_on::<2, 1>(alloc, tool, events),
+        (2, 2) => row_on::<2, 2>(alloc, tool, events),
+        (2, 4) => row_on::<2, 4>(alloc, tool, events),
+        (2, 8) => row_on::<2, 8>(alloc, tool, events),
+        _ => unreachable!(),
+    }
+}
+
+// The row of a shape with so many ways and registers.
+fn row_on<const WAYS: usize, const REGS: usize>(
+    alloc: Global,
+    tool: &ToolShape,
+    events: &[Event],
+) -> Result<Row, AllocError>
+    requires events { length events.now ≤ 16777216 }
+    requires shape { bad_field tool.now ≡ None }
+    requires ways { tool.now.ways ≡ WAYS }
+    requires regs { tool.now.regs ≡ REGS }
+    ensures { IfOk result (λ row. row ≡ row_of events.now tool.now) }
+{
+    let image = vec![in alloc; Word::default(); tool.shape.words as usize]?;
+    match Machine::<WAYS, 4, REGS, 4>::new(alloc, tool.shape, image.as_slice()) {
+        Ok(mut machine) => Ok(row_from(&mut machine, tool.regs, events)),
+        Err(MakeFault::OutOfMemory) => Err(AllocError),
+        Err(MakeFault::BadShape(_)) => unreachable!(),
+    }
+}
+
+// Why a thread gave no row.
+#[derive(Clone, Copy, PartialEq, Eq, Debug)]
+enum Stop {
+    TurnLimit,
+    OutOfMemory,
+}
+
+// The row of a shape, once its gate lets it begin.
+fn row_in_turn<G: SweepGate>(
+    alloc: Global,
+    place: usize,
+    shape: &ToolShape,
+    events: &[Event],
+    turns: u64,
+    gate: &G,
+) -> Result<Row, Stop>
+    requires events { length events.now ≤ 16777216 }
+    requires shape { bad_field shape.now ≡ None }
+    ensures { IfOk result (λ row. row ≡ row_of events.now shape.now) }
+{
+    for _turn in 0..turns {
+        if gate.may(place) {
+            let row = row_of(alloc, shape, events);
+            gate.ended(place);
+            return match row {
+                Ok(row) => Ok(row),
+                Err(_) => Err(Stop::OutOfMemory),
+            };
+        }
+    }
+    Err(Stop::TurnLimit)
+}
+
+/// The row of one shape: a new machine of it, over zeros, serves the requests one after another,
+/// and is pumped until there is nothing left to do. A bad field is found first, and is at place 0.
+#[tactic(auto, using(crate::proofs::Lawful::counts_all))]
+pub fn sweep_row(alloc: Global, shape: &ToolShape, events: &[Event]) -> Result<Row, SweepFault>
+    requires { length events.now ≤ 16777216 }
+    ensures row { IfOk result (λ row. (bad_field shape.now ≡ None) × (row ≡ row_of events.now shape.now)) }
+    ensures counts { IfOk result (λ row. list_all is_request events.now ≡ true → CountsAll events.now shape.now row) }
+    ensures fault { IfErr result (FaultSays (shape.now ∷ [])) }
+{
+    if let Some(field) = bad_field(shape) {
+        return Err(SweepFault::BadShape { place: 0, field });
+    }
+    Ok(row_of(alloc, shape, events)?)
+}
+
+// The rows of the threads. Want of memory goes before a turn limit.
+fn all_rows(alloc: Global, answers: &[Result<Row, Stop>]) -> Result<Vec<Row>, SweepFault>
+    ensures rows { IfOk result (λ rows. map Ok rows.items ≡ answers.now) }
+    ensures fault { IfErr result IsStop }
+{
+    if answers.contains(&Err(Stop::OutOfMemory)) {
+        return Err(SweepFault::OutOfMemory);
+    }
+    let mut rows = Vec::new(alloc);
+    for answer in answers {
+        let Ok(row) = answer else {
+            return Err(SweepFault::TurnLimit);
+        };
+        if rows.push(*row).is_err() {
+            return Err(SweepFault::OutOfMemory);
+        }
+    }
+    Ok(rows)
+}
+
+// What the threads of these shapes answer, one for each.
+fn all_answers<R: Threads + Sync, G: SweepGate>(
+    rt: &R,
+    alloc: Global,
+    events: &[Event],
+    shapes: &[ToolShape],
+    turns: u64,
+    gate: &G,
+) -> Result<Vec<Result<Row, Stop>>, AllocError>
+    requires events { length events.now ≤ 16777216 }
+    requires shapes { (i : ℕ) (t : ToolShape) → i < length shapes.now → bad_field (slice_index_or shapes.now i t) ≡ None }
+    ensures len { IfOk result (λ v. length v.items ≡ length shapes.now) }
+    ensures each { IfOk result (λ v. (i : ℕ) (d : Result Row Stop) (t : ToolShape) → i < length shapes.now → IfOk (slice_index_or v.items i d) (λ row. row ≡ row_of events.now (slice_index_or shapes.now i t))) }
+{
+    thread::map_indices(
+        rt,
+        alloc,
+        shapes.len(),
+        &|place: usize| -> Result<Row, Stop>
+            requires { (place < length shapes.now) × (length events.now ≤ 16777216) × ((i : ℕ) (t : ToolShape) → i < length shapes.now → bad_field (slice_index_or shapes.now i t) ≡ None) }
+            ensures { (t : ToolShape) → IfOk result (λ row. row ≡ row_of events.entry.now (slice_index_or shapes.entry.now place t)) }
+        { row_in_turn(alloc, place, &shapes[place], events, turns, gate) },
+    )
+}
+
+/// The rows of these shapes, in their order, each by a thread of its own. Bad fields are found
+/// before any thread begins; want of memory goes before a turn limit.
+pub fn sweep<R: Threads + Sync, G: SweepGate>(
+    rt: &R,
+    alloc: Global,
+    events: &[Event],
+    shapes: &[ToolShape],
+    turns: u64,
+    gate: &G,
+) -> Result<Vec<Row>, SweepFault>
+    requires { length events.now ≤ 16777216 }
+    ensures rows { IfOk result (λ rows. rows.items ≡ map (row_of events.now) shapes.now) }
+    ensures fault { IfErr result (FaultSays shapes.now) }
+{
+    if let Some((place, field)) = first_bad(shapes) {
+        return Err(SweepFault::BadShape { place, field });
+    }
+    let answers = all_answers(rt, alloc, events, shapes, turns, gate)?;
+    all_rows(alloc, answers.as_slice())
+}

@@ -1,0 +1,185 @@
+//! The examples of the parts: flat memory, the makers, and the cache unit over its banks.
+
+use super::fixture::{image, small_machine, small_shape};
+use cache_directory::{Choice, Directory};
+use cache_unit::{CacheUnit, Request};
+use flat_model::{
+    Answer, Cause, Event, FlatMemory, Lanes, MakeFault, ReplayFault, Shape, ShapeField, Word,
+};
+use input_stack::InputStack;
+use machine_core::Machine;
+use memory_banks::Banks;
+use miss_registers::RegisterFile;
+use std::alloc::Global;
+use std::test::Fail;
+use write_queue::WriteQueue;
+
+type Unit = CacheUnit<1, 4, 2, 2>;
+
+fn word(b0: u8, b1: u8, b2: u8, b3: u8) -> Word {
+    Word { b0, b1, b2, b3 }
+}
+
+#[test]
+fn replay(rt: HostRuntime) -> Result<(), Fail> {
+    let alloc = rt.alloc();
+    let image = [word(0, 0, 0, 0), word(1, 0, 0, 0)];
+    let first_load = [Event::Load { tag: 1, at: 1 }, Event::Take { place: 0 }];
+    let first_value = [
+        Answer::Accepted,
+        Answer::Value {
+            tag: 1,
+            word: word(1, 0, 0, 0),
+        },
+    ];
+    let mut memory = FlatMemory::new(alloc, &image)?;
+    assert_eq!(rt; memory.replay(alloc, &first_load, &first_value), Ok(()));
+
+    let mut memory = FlatMemory::new(alloc, &image)?;
+    let unowed = memory.replay(alloc, &first_load[1..], &first_value[1..]);
+    assert_eq!(rt; unowed, Err(ReplayFault::Mismatch { place: 0 }));
+    let uneven = memory.replay(alloc, &[Event::Load { tag: 1, at: 0 }], &[]);
+    assert_eq!(rt; uneven, Err(ReplayFault::Lengths));
+    let outside = [Event::Load { tag: 1, at: 2 }];
+    let accepted = memory.replay(alloc, &outside, &[Answer::Accepted]);
+    assert_eq!(rt; accepted, Err(ReplayFault::Mismatch { place: 0 }));
+    let refused = memory.replay(alloc, &outside, &[Answer::Refused(Cause::OutOfRange)]);
+    assert_eq!(rt; refused, Ok(()));
+
+    let stored_later = [
+        Event::Load { tag: 1, at: 0 },
+        Event::Store {
+            at: 0,
+            word: word(255, 0, 0, 0),
+            lanes: Lanes::LANE_0,
+        },
+        Event::Take { place: 0 },
+    ];
+    let later_value = [
+        Answer::Accepted,
+        Answer::Accepted,
+        Answer::Value {
+            tag: 1,
+            word: word(255, 0, 0, 0),
+        },
+    ];
+    let late = memory.replay(alloc, &stored_later, &later_value);
+    assert_eq!(rt; late, Err(ReplayFault::Mismatch { place: 2 }));
+    assert_eq!(rt; memory.word(0), Some(word(0, 0, 0, 0)));
+    assert_eq!(rt; memory.due_word(1), None);
+    Ok(())
+}
+
+#[test]
+fn makers(rt: HostRuntime) -> Result<(), Fail> {
+    let alloc = rt.alloc();
+    let directory: Directory<1, 4> = Directory::new(alloc, 2)?;
+    assert_eq!(rt; directory.look(1), None);
+    assert_eq!(rt; directory.choose(1), Choice::Free(1));
+    let registers: RegisterFile<4, 2> = RegisterFile::new(alloc)?;
+    assert_eq!(rt; registers.free_slot(), Some(0));
+    let stack: InputStack<2> = InputStack::new()?;
+    assert_eq!(rt; stack.len(), 0);
+    let queue = WriteQueue::new(alloc, 4)?;
+    assert_eq!(rt; queue.room(), 4);
+    let image = image(alloc, 32)?;
+    let banks = Banks::new(alloc, &image, &small_shape())?;
+    assert_eq!(rt; banks.word(5), Some(word(5, 0, 0, 0)));
+    assert!(rt; banks.idle());
+    let unit: Unit = CacheUnit::new(alloc, &small_shape())?;
+    assert!(rt; unit.clean());
+    Ok(())
+}
+
+/// The field that a machine of that shape is refused for.
+fn refusal<const REGS: usize>(alloc: Global, shape: Shape, image: &[Word]) -> Option<ShapeField> {
+    let made: Result<Machine<1, 4, REGS, 2>, MakeFault> = Machine::new(alloc, shape, image);
+    match made {
+        Err(MakeFault::BadShape(field)) => Some(field),
+        _ => None,
+    }
+}
+
+#[test]
+fn makers_refuse_a_bad_shape(rt: HostRuntime) -> Result<(), Fail> {
+    let alloc = rt.alloc();
+    let image = image(alloc, 32)?;
+    let mut short_banks = small_shape();
+    short_banks.bank_queue = 1;
+    assert_eq!(rt;
+        refusal::<2>(alloc, short_banks, &image),
+        Some(ShapeField::BankQueue)
+    );
+    let mut broken_block = small_shape();
+    broken_block.words = 30;
+    assert_eq!(rt;
+        refusal::<2>(alloc, broken_block, &image),
+        Some(ShapeField::Words)
+    );
+    assert_eq!(rt;
+        refusal::<2>(alloc, small_shape(), &image[..31]),
+        Some(ShapeField::Image)
+    );
+    assert_eq!(rt;
+        refusal::<0>(alloc, broken_block, &image),
+        Some(ShapeField::Regs)
+    );
+    Ok(())
+}
+
+/// A unit of the small shape, and its banks.
+fn unit_and_banks(alloc: Global) -> Result<(Unit, Banks), MakeFault> {
+    let image = image(alloc, 32)?;
+    let unit = CacheUnit::new(alloc, &small_shape())?;
+    let banks = Banks::new(alloc, &image, &small_shape())?;
+    Ok((unit, banks))
+}
+
+#[test]
+fn unit_uses_the_arrived_word(rt: HostRuntime) -> Result<(), Fail> {
+    let (mut unit, mut banks) = unit_and_banks(rt.alloc())?;
+    let store = Request::Store {
+        at: 5,
+        word: word(0xaa, 0, 0, 0),
+        lanes: Lanes::LANE_0,
+    };
+    assert_eq!(rt; unit.request(store, &mut banks), Answer::Accepted);
+    let load = Request::Load { tag: 1, at: 5 };
+    assert_eq!(rt; unit.request(load, &mut banks), Answer::Accepted);
+    let arrived = word(0xde, 0xad, 0xbe, 0xef);
+    let stray = Answer::Refused(Cause::StrayWord);
+    assert_eq!(rt; unit.arrive(0, 1, arrived), Answer::Moved);
+    assert_eq!(rt; unit.arrive(0, 1, arrived), stray);
+    assert_eq!(rt; unit.process(0), Answer::Moved);
+    assert_eq!(rt; unit.arrive(0, 1, arrived), stray);
+    let value = Answer::Value {
+        tag: 1,
+        word: word(0xaa, 0xad, 0xbe, 0xef),
+    };
+    assert_eq!(rt; unit.take(0), value);
+    Ok(())
+}
+
+#[test]
+fn register_views(rt: HostRuntime) -> Result<(), Fail> {
+    let (mut unit, mut banks) = unit_and_banks(rt.alloc())?;
+    let load = Request::Load { tag: 1, at: 5 };
+    assert_eq!(rt; unit.request(load, &mut banks), Answer::Accepted);
+    let register = unit.register(0).ok_or("a register")?;
+    assert!(rt; register.valid && !register.obsolete);
+    assert_eq!(rt;
+        (register.block, register.frame, register.processed),
+        (1, 1, 0)
+    );
+    let field = unit.field(0, 1).ok_or("a word's field")?;
+    assert!(rt; field.send);
+    assert_eq!(rt; (field.tag, field.targets), (1, 1));
+    assert!(rt; unit.register(2).is_none());
+    let five = word(5, 0, 0, 0);
+    let stray = Answer::Refused(Cause::StrayWord);
+    assert_eq!(rt; unit.arrive(0, 1, five), Answer::Moved);
+    assert_eq!(rt; unit.arrive(0, 1, five), stray);
+    assert_eq!(rt; unit.arrive(1, 0, five), stray);
+    assert_eq!(rt; unit.arrive(0, 4, five), stray);
+    Ok(())
+}
