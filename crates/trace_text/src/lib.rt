@@ -3,7 +3,8 @@
 //! A trace is lines of bytes, each ended by LF: a command and its fields with one space between
 //! them, as `load 1 5`. [`read_line`] reads one. A served trace has each line with its answer, as
 //! `load 1 5 -> accepted`: [`read_pair`] reads one of these, and [`check_text`] judges a whole one
-//! against flat memory. [`read_requests`] keeps the requests of a trace.
+//! against flat memory. [`serve_text`] makes one of a trace: it applies each line to a machine and
+//! writes it with its answer. [`read_requests`] keeps the requests of a trace.
 //!
 //! A trace has at most 16,777,216 lines, and a line at most 64 bytes before its LF, or 768 with its
 //! answer. A text may come in any pieces: what is read and answered doesn't depend on them.
@@ -25,6 +26,7 @@ mod streams;
 mod text;
 
 pub use check::{CheckEnd, check_text};
+pub use known::serve_known;
 pub use lines::{Line, LineFault, read_line};
 pub use pairs::{Pair, read_pair};
 pub use requests::read_requests;
