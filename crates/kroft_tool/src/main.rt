@@ -1,15 +1,54 @@
 //! Reads a trace of a cache with several misses at a time, and writes what the machine answers.
 #![tactic(auto)]
 
+mod command_line;
 mod driven;
 mod row;
 mod shape_file;
 mod sweep;
 #[cfg(test)]
 mod tests;
+mod tool;
 
 pub use row::Row;
 pub use shape_file::{BLOCK_WORDS, ShapeFault, ToolShape, read_shape};
+use std::io::{BufWriter, Input, Print};
+use std::process::ExitCode;
+use std::rt::{Env, Files};
+use std::thread::Threads;
+use std::{env, io};
 pub use sweep::{OpenGate, SweepFault, SweepGate, sweep, sweep_row};
+pub use tool::tool;
 
-fn main(rt: HostRuntime) {}
+fn main(rt: HostRuntime) -> ExitCode {
+    let status = match start(&rt, &rt.stderr()) {
+        Ok(status) => status,
+        Err(error) if error.kind() == io::ErrorKind::InvalidData => {
+            let _told = eprintln!(rt; "error: a word of the command line is not UTF-8");
+            2
+        }
+        Err(_) => {
+            let _told = eprintln!(rt; "out of memory");
+            5
+        }
+    };
+    ExitCode::from(status)
+}
+
+// Runs the program over the process's own words and streams, with its output in pieces. It fails
+// where the words can't be read, or there is no memory for them.
+fn start<R: AllocGlobal + Env + Files + Input + Print + Threads + Sync, E: Print>(
+    rt: &R,
+    errors: &E,
+) -> io::Result<u8> {
+    let alloc = rt.alloc();
+    let words: Vec<String> = env::args(rt)?.collect(alloc)?;
+    let mut texts = Vec::new(alloc);
+    for word in words.iter().skip(1) {
+        texts.push(word.as_str())?;
+    }
+    let mut input = rt.reader();
+    let mut output = BufWriter::new(alloc, io::writer(rt))?;
+    let mut errors = io::writer(errors);
+    Ok(tool(rt, &texts, &mut input, &mut output, &mut errors))
+}

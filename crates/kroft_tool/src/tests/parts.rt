@@ -103,6 +103,7 @@ fn refusal<const REGS: usize>(alloc: Global, shape: Shape, image: &[Word]) -> Op
 #[test]
 fn makers_refuse_a_bad_shape(rt: HostRuntime) -> Result<(), Fail> {
     let alloc = rt.alloc();
+    let short_image = image(alloc, 31)?;
     let image = image(alloc, 32)?;
     let mut short_banks = small_shape();
     short_banks.bank_queue = 1;
@@ -117,7 +118,7 @@ fn makers_refuse_a_bad_shape(rt: HostRuntime) -> Result<(), Fail> {
         Some(ShapeField::Words)
     );
     assert_eq!(rt;
-        refusal::<2>(alloc, small_shape(), &image[..31]),
+        refusal::<2>(alloc, small_shape(), &short_image),
         Some(ShapeField::Image)
     );
     assert_eq!(rt;

@@ -1,0 +1,671 @@
+//! The examples of the machine, as the lines that it is told and answers.
+
+use super::fixture::{image, small_machine, small_shape};
+use super::play::{ARRIVED, GOT, plays};
+use flat_model::{Answer, Cause, Event, Lanes, Shape, Word};
+use machine_core::Machine;
+use std::alloc::{AllocError, Global};
+use std::test::Fail;
+use trace_text::register_text;
+
+fn word(b0: u8, b1: u8, b2: u8, b3: u8) -> Word {
+    Word { b0, b1, b2, b3 }
+}
+
+/// A machine of the small shape with another number of ways and registers.
+fn machine_of<const WAYS: usize, const REGS: usize>(
+    alloc: Global,
+    shape: Shape,
+) -> Result<Machine<WAYS, 4, REGS, 2>, Fail> {
+    let image = image(alloc, 32)?;
+    Ok(Machine::new(alloc, shape, &image)?)
+}
+
+#[test]
+fn empty_list(rt: HostRuntime) -> Result<(), Fail> {
+    let mut machine = small_machine(rt.alloc())?;
+    let answers = machine.run(rt.alloc(), &[])?;
+    assert!(rt; answers.is_empty());
+    assert!(rt; machine.settled());
+    for at in 0..32u8 {
+        assert_eq!(rt; machine.bank_word(at as u32), Some(word(at, 0, 0, 0)));
+    }
+    assert_eq!(rt; machine.bank_word(32), None);
+    Ok(())
+}
+
+const ONE_LOAD: &str = "load 1 5 -> accepted
+serve 1 -> moved
+arrive 1 0 -> moved
+process 0 -> moved
+take 0 -> value 1 05000000
+";
+
+#[test]
+fn one_load(rt: HostRuntime) -> Result<(), Fail> {
+    let mut machine = small_machine(rt.alloc())?;
+    plays(&rt, rt.alloc(), &mut machine, &[ONE_LOAD])?;
+    let events = [
+        Event::Load { tag: 1, at: 5 },
+        Event::Serve { bank: 1 },
+        Event::Arrive { bank: 1, place: 0 },
+        Event::Process { place: 0 },
+        Event::Take { place: 0 },
+    ];
+    let value = Answer::Value {
+        tag: 1,
+        word: word(5, 0, 0, 0),
+    };
+    let wanted = [
+        Answer::Accepted,
+        Answer::Moved,
+        Answer::Moved,
+        Answer::Moved,
+        value,
+    ];
+    // By one call as well, which either finds its memory or leaves the machine as it was.
+    let mut machine = small_machine(rt.alloc())?;
+    let first: Result<Vec<Answer>, AllocError> = machine.run(rt.alloc(), &events);
+    let answers = match first {
+        Ok(answers) => answers,
+        Err(_) => machine.run(rt.alloc(), &events)?,
+    };
+    assert_eq!(rt; answers.as_slice(), &wanted[..]);
+    Ok(())
+}
+
+#[test]
+fn loads_answered_as_words_arrive(rt: HostRuntime) -> Result<(), Fail> {
+    let mut machine = small_machine(rt.alloc())?;
+    let asked = "load 1 4 -> accepted
+load 2 5 -> accepted
+";
+    let taken = "take 0 -> value 2 05000000
+serve 0 -> moved
+arrive 0 0 -> moved
+process 0 -> moved
+take 0 -> value 1 04000000
+";
+    plays(&rt, rt.alloc(), &mut machine, &[asked, GOT, taken])
+}
+
+#[test]
+fn store_behind_a_waiting_load(rt: HostRuntime) -> Result<(), Fail> {
+    let mut machine = small_machine(rt.alloc())?;
+    let asked = "load 1 5 -> accepted
+store 5 1000 ff000000 -> accepted
+";
+    let taken = "take 0 -> value 1 05000000
+load 2 5 -> accepted
+take 0 -> value 2 ff000000
+";
+    plays(&rt, rt.alloc(), &mut machine, &[asked, GOT, taken])
+}
+
+const PARTIAL_STORE: &str = "store 5 0100 00aa0000 -> accepted
+load 1 5 -> accepted
+";
+
+#[test]
+fn load_over_a_partial_store(rt: HostRuntime) -> Result<(), Fail> {
+    let mut machine = small_machine(rt.alloc())?;
+    plays(&rt, rt.alloc(), &mut machine, &[PARTIAL_STORE])?;
+    let text = register_text(&machine, 0);
+    assert_eq!(rt;
+        std::str::from_utf8(text.as_bytes())?,
+        "V- 0000001 0001 00 [--- 0000 00000 0000 00000000] [1-- 0100 00001 0100 00aa0000] [--- 0000 00000 0000 00000000] [--- 0000 00000 0000 00000000]"
+    );
+    plays(
+        &rt,
+        rt.alloc(),
+        &mut machine,
+        &[GOT, "take 0 -> value 1 05aa0000\n"],
+    )
+}
+
+#[test]
+fn load_of_a_full_store(rt: HostRuntime) -> Result<(), Fail> {
+    let mut machine = small_machine(rt.alloc())?;
+    let lines = "store 5 1111 deadbeef -> accepted
+load 1 5 -> accepted
+take 0 -> value 1 deadbeef
+";
+    plays(&rt, rt.alloc(), &mut machine, &[lines])
+}
+
+#[test]
+fn two_loads_of_one_word(rt: HostRuntime) -> Result<(), Fail> {
+    let mut machine = small_machine(rt.alloc())?;
+    let both_wait = "load 1 5 -> accepted
+load 2 5 -> accepted
+";
+    plays(&rt, rt.alloc(), &mut machine, &[both_wait])?;
+    let mut machine = small_machine(rt.alloc())?;
+    let one_waits = "load 1 5 -> accepted
+serve 1 -> moved
+arrive 1 0 -> moved
+load 2 5 -> accepted
+take 0 -> value 2 05000000
+process 0 -> moved
+take 0 -> value 1 05000000
+";
+    plays(&rt, rt.alloc(), &mut machine, &[one_waits])
+}
+
+#[test]
+fn no_register_no_way(rt: HostRuntime) -> Result<(), Fail> {
+    let two_misses = "load 1 0 -> accepted
+load 2 4 -> accepted
+";
+    let mut machine = small_machine(rt.alloc())?;
+    plays(
+        &rt,
+        rt.alloc(),
+        &mut machine,
+        &[two_misses, "load 3 8 -> refused 7\n"],
+    )?;
+    let mut machine = machine_of::<1, 4>(rt.alloc(), small_shape())?;
+    plays(
+        &rt,
+        rt.alloc(),
+        &mut machine,
+        &[two_misses, "load 3 8 -> refused 8\n"],
+    )
+}
+
+#[test]
+fn hit_under_a_miss(rt: HostRuntime) -> Result<(), Fail> {
+    let mut machine = small_machine(rt.alloc())?;
+    let lines = "load 2 4 -> accepted
+load 3 1 -> accepted
+take 0 -> value 3 01000000
+";
+    plays(
+        &rt,
+        rt.alloc(),
+        &mut machine,
+        &["prefetch 0 -> accepted\n", ARRIVED, lines],
+    )
+}
+
+const EVICTED_WHILE_MISSING: &str = "load 1 5 -> accepted
+store 5 1111 ffffffff -> accepted
+evict 1 -> accepted
+drain -> moved
+load 2 5 -> refused 10
+serve 1 -> moved
+load 2 5 -> accepted
+";
+
+#[test]
+fn evicted_while_missing(rt: HostRuntime) -> Result<(), Fail> {
+    let mut machine = small_machine(rt.alloc())?;
+    let rest = "arrive 1 0 -> moved
+process 0 -> moved
+take 0 -> value 1 05000000
+serve 1 -> moved
+serve 1 -> moved
+serve 1 -> moved
+arrive 1 1 -> moved
+process 0 -> moved
+take 0 -> value 2 ffffffff
+";
+    plays(
+        &rt,
+        rt.alloc(),
+        &mut machine,
+        &[EVICTED_WHILE_MISSING, rest],
+    )
+}
+
+#[test]
+fn obsolete_register_leaves_the_buffer(rt: HostRuntime) -> Result<(), Fail> {
+    let mut machine = small_machine(rt.alloc())?;
+    let rest = "serve 1 -> moved
+serve 1 -> moved
+serve 1 -> moved
+arrive 1 2 -> moved
+process 0 -> moved
+arrive 1 0 -> moved
+process 0 -> moved
+take 0 -> value 2 ffffffff
+take 0 -> value 1 05000000
+load 3 5 -> accepted
+take 0 -> value 3 ffffffff
+";
+    plays(
+        &rt,
+        rt.alloc(),
+        &mut machine,
+        &[EVICTED_WHILE_MISSING, rest],
+    )
+}
+
+#[test]
+fn tag_in_use_until_taken(rt: HostRuntime) -> Result<(), Fail> {
+    let mut machine = small_machine(rt.alloc())?;
+    let lines = "load 1 5 -> accepted
+serve 1 -> moved
+arrive 1 0 -> moved
+process 0 -> moved
+load 1 6 -> refused 3
+take 0 -> value 1 05000000
+load 1 6 -> accepted
+";
+    plays(&rt, rt.alloc(), &mut machine, &[lines])
+}
+
+#[test]
+fn replies_full(rt: HostRuntime) -> Result<(), Fail> {
+    let mut machine = small_machine(rt.alloc())?;
+    let lines = "load 1 0 -> accepted
+load 2 1 -> accepted
+load 3 2 -> accepted
+load 4 3 -> accepted
+load 5 0 -> refused 4
+take 3 -> value 4 03000000
+load 5 0 -> accepted
+";
+    plays(
+        &rt,
+        rt.alloc(),
+        &mut machine,
+        &["prefetch 0 -> accepted\n", ARRIVED, lines],
+    )
+}
+
+#[test]
+fn refused_miss_keeps_its_victim(rt: HostRuntime) -> Result<(), Fail> {
+    let mut machine = small_machine(rt.alloc())?;
+    let stored = "store 0 1000 aa000000 -> accepted
+prefetch 4 -> accepted
+";
+    let rest = "store 4 1111 01020304 -> accepted
+evict 1 -> accepted
+drain -> moved
+prefetch 4 -> accepted
+load 1 8 -> refused 10
+load 2 0 -> accepted
+take 0 -> value 2 aa000000
+serve 0 -> moved
+load 1 8 -> accepted
+evict 0 -> refused 11
+load 3 0 -> refused 7
+";
+    plays(
+        &rt,
+        rt.alloc(),
+        &mut machine,
+        &["prefetch 0 -> accepted\n", ARRIVED, stored, ARRIVED, rest],
+    )
+}
+
+#[test]
+fn write_queue_full(rt: HostRuntime) -> Result<(), Fail> {
+    let mut machine = small_machine(rt.alloc())?;
+    let stored = "store 0 1000 01000000 -> accepted
+store 1 1000 02000000 -> accepted
+store 2 1000 03000000 -> accepted
+store 3 1000 04000000 -> accepted
+prefetch 4 -> accepted
+";
+    let rest = "store 4 0001 00000009 -> accepted
+evict 0 -> accepted
+evict 1 -> refused 9
+load 1 12 -> refused 9
+drain -> moved
+evict 1 -> accepted
+";
+    plays(
+        &rt,
+        rt.alloc(),
+        &mut machine,
+        &["prefetch 0 -> accepted\n", ARRIVED, stored, ARRIVED, rest],
+    )
+}
+
+#[test]
+fn drain_waits_for_room(rt: HostRuntime) -> Result<(), Fail> {
+    let mut machine = small_machine(rt.alloc())?;
+    let rest = "store 0 1111 0a0b0c0d -> accepted
+evict 0 -> accepted
+prefetch 4 -> accepted
+prefetch 8 -> accepted
+drain -> refused 10
+serve 0 -> moved
+drain -> moved
+";
+    plays(
+        &rt,
+        rt.alloc(),
+        &mut machine,
+        &["prefetch 0 -> accepted\n", ARRIVED, rest],
+    )
+}
+
+#[test]
+fn stack_full(rt: HostRuntime) -> Result<(), Fail> {
+    let mut machine = small_machine(rt.alloc())?;
+    let lines = "prefetch 0 -> accepted
+serve 0 -> moved
+serve 0 -> moved
+serve 1 -> moved
+arrive 0 0 -> moved
+arrive 0 0 -> moved
+arrive 1 0 -> refused 12
+process 0 -> moved
+arrive 1 0 -> moved
+";
+    plays(&rt, rt.alloc(), &mut machine, &[lines])
+}
+
+#[test]
+fn nothing_to_do(rt: HostRuntime) -> Result<(), Fail> {
+    let mut machine = small_machine(rt.alloc())?;
+    let lines = "drain -> nothing
+serve 0 -> nothing
+serve 2 -> nothing
+arrive 0 0 -> nothing
+process 0 -> nothing
+take 0 -> nothing
+";
+    plays(&rt, rt.alloc(), &mut machine, &[lines])
+}
+
+#[test]
+fn out_of_range_and_no_lanes(rt: HostRuntime) -> Result<(), Fail> {
+    let mut machine = small_machine(rt.alloc())?;
+    let lines = "load 1 31 -> accepted
+load 1 32 -> refused 1
+load 1 30 -> refused 3
+store 0 0000 00000000 -> refused 2
+store 32 0000 00000000 -> refused 1
+evict 8 -> refused 1
+evict 6 -> refused 11
+evict 7 -> accepted
+";
+    plays(&rt, rt.alloc(), &mut machine, &[lines])
+}
+
+#[test]
+fn settled_after_write_back(rt: HostRuntime) -> Result<(), Fail> {
+    let mut machine = small_machine(rt.alloc())?;
+    let lines = "store 5 1111 11223344 -> accepted
+evict 1 -> accepted
+drain -> moved
+settled -> no
+serve 1 -> moved
+settled -> yes
+bank 5 -> 11223344
+bank 32 -> none
+";
+    plays(
+        &rt,
+        rt.alloc(),
+        &mut machine,
+        &["prefetch 4 -> accepted\n", ARRIVED, lines],
+    )?;
+    for at in (0..32u8).filter(|at| *at != 5) {
+        assert_eq!(rt; machine.bank_word(at as u32), Some(word(at, 0, 0, 0)));
+    }
+    Ok(())
+}
+
+#[test]
+fn oldest_way_is_given_up(rt: HostRuntime) -> Result<(), Fail> {
+    let mut machine = machine_of::<2, 2>(rt.alloc(), small_shape())?;
+    let lines = "load 1 0 -> accepted
+take 0 -> value 1 00000000
+prefetch 16 -> accepted
+evict 0 -> refused 11
+load 2 9 -> accepted
+take 0 -> value 2 09000000
+";
+    let pieces = [
+        "prefetch 0 -> accepted\n",
+        ARRIVED,
+        "prefetch 8 -> accepted\n",
+        ARRIVED,
+        lines,
+    ];
+    plays(&rt, rt.alloc(), &mut machine, &pieces)
+}
+
+#[test]
+fn thirteen_pumps(rt: HostRuntime) -> Result<(), Fail> {
+    let mut machine = small_machine(rt.alloc())?;
+    plays(&rt, rt.alloc(), &mut machine, &["load 1 5 -> accepted\n"])?;
+    assert_eq!(rt; machine.weight(), 16);
+    let weights = [15u64, 14, 12, 11, 10, 8, 7, 6, 5, 4, 3, 2, 0];
+    for (count, weight) in weights.iter().enumerate() {
+        let (event, answer) = machine.pump().ok_or("a pump")?;
+        assert_eq!(rt; machine.weight(), *weight);
+        if count == 9 {
+            assert_eq!(rt; event, Event::Take { place: 0 });
+            assert_eq!(rt;
+                answer,
+                Answer::Value {
+                    tag: 1,
+                    word: word(5, 0, 0, 0)
+                }
+            );
+        }
+    }
+    assert!(rt; machine.pump().is_none());
+    Ok(())
+}
+
+#[test]
+fn smallest_machine(rt: HostRuntime) -> Result<(), Fail> {
+    let shape = Shape {
+        words: 8,
+        sets: 1,
+        banks: 1,
+        bank_queue: 1,
+        write_queue: 1,
+        replies: 2,
+    };
+    let image = image(rt.alloc(), 8)?;
+    let mut machine: Machine<1, 1, 1, 1> = Machine::new(rt.alloc(), shape, &image)?;
+    let lines = "load 1 4 -> accepted
+load 2 5 -> refused 7
+load 1 5 -> refused 3
+serve 0 -> moved
+arrive 0 0 -> moved
+process 0 -> moved
+load 2 4 -> accepted
+load 3 4 -> refused 4
+take 1 -> value 2 04000000
+take 0 -> value 1 04000000
+load 1 8 -> refused 1
+";
+    plays(&rt, rt.alloc(), &mut machine, &[lines])?;
+    let events = [
+        Event::Load { tag: 1, at: 4 },
+        Event::Load { tag: 2, at: 5 },
+        Event::Load { tag: 1, at: 5 },
+        Event::Serve { bank: 0 },
+        Event::Arrive { bank: 0, place: 0 },
+        Event::Process { place: 0 },
+        Event::Load { tag: 2, at: 4 },
+        Event::Load { tag: 3, at: 4 },
+        Event::Take { place: 1 },
+        Event::Take { place: 0 },
+        Event::Load { tag: 1, at: 8 },
+    ];
+    let four = word(4, 0, 0, 0);
+    let wanted = [
+        Answer::Accepted,
+        Answer::Refused(Cause::NoRegister),
+        Answer::Refused(Cause::TagInUse),
+        Answer::Moved,
+        Answer::Moved,
+        Answer::Moved,
+        Answer::Accepted,
+        Answer::Refused(Cause::RepliesFull),
+        Answer::Value { tag: 2, word: four },
+        Answer::Value { tag: 1, word: four },
+        Answer::Refused(Cause::OutOfRange),
+    ];
+    let mut machine: Machine<1, 1, 1, 1> = Machine::new(rt.alloc(), shape, &image)?;
+    let answers = machine.run(rt.alloc(), &events)?;
+    assert_eq!(rt; answers.as_slice(), &wanted[..]);
+    Ok(())
+}
+
+#[test]
+fn interleaved_block(rt: HostRuntime) -> Result<(), Fail> {
+    let mut machine = machine_of::<1, 1>(rt.alloc(), small_shape())?;
+    let lines = "load 1 5 -> accepted
+load 2 0 -> refused 7
+serve 1 -> moved
+serve 1 -> moved
+arrive 1 1 -> moved
+process 0 -> moved
+take 0 -> nothing
+arrive 1 0 -> moved
+process 0 -> moved
+take 0 -> value 1 05000000
+load 2 7 -> accepted
+take 0 -> value 2 07000000
+serve 0 -> moved
+serve 0 -> moved
+arrive 0 0 -> moved
+process 0 -> moved
+arrive 0 0 -> moved
+process 0 -> moved
+load 3 13 -> accepted
+load 4 7 -> refused 7
+";
+    plays(&rt, rt.alloc(), &mut machine, &[lines])
+}
+
+#[test]
+fn dirty_victim(rt: HostRuntime) -> Result<(), Fail> {
+    let mut machine = small_machine(rt.alloc())?;
+    let lines = "store 0 1000 aa000000 -> accepted
+load 1 8 -> accepted
+";
+    plays(
+        &rt,
+        rt.alloc(),
+        &mut machine,
+        &["prefetch 0 -> accepted\n", ARRIVED, lines],
+    )
+}
+
+const FOUR_LOADS: &str = "load 1 5 -> accepted
+load 2 5 -> accepted
+store 5 1000 ff000000 -> accepted
+load 3 5 -> accepted
+load 4 5 -> accepted
+";
+
+#[test]
+fn four_loads_of_one_word(rt: HostRuntime) -> Result<(), Fail> {
+    let mut shape = small_shape();
+    shape.replies = 8;
+    let mut machine = machine_of::<1, 2>(rt.alloc(), shape)?;
+    plays(
+        &rt,
+        rt.alloc(),
+        &mut machine,
+        &[FOUR_LOADS, "load 5 5 -> refused 5\n"],
+    )?;
+    assert_eq!(rt; machine.weight(), 19);
+    let got = "serve 1 -> moved
+arrive 1 0 -> moved
+load 5 5 -> accepted
+";
+    plays(&rt, rt.alloc(), &mut machine, &[got])?;
+    assert_eq!(rt; machine.weight(), 18);
+    plays(&rt, rt.alloc(), &mut machine, &["process 0 -> moved\n"])?;
+    assert_eq!(rt; machine.weight(), 17);
+    let taken = "take 0 -> value 5 ff000000
+take 0 -> value 1 05000000
+take 0 -> value 2 05000000
+take 0 -> value 3 ff000000
+take 0 -> value 4 ff000000
+";
+    plays(&rt, rt.alloc(), &mut machine, &[taken])?;
+    let mut machine = small_machine(rt.alloc())?;
+    plays(
+        &rt,
+        rt.alloc(),
+        &mut machine,
+        &[FOUR_LOADS, "load 5 5 -> refused 4\n"],
+    )
+}
+
+#[test]
+fn two_targets_shown(rt: HostRuntime) -> Result<(), Fail> {
+    let mut machine = small_machine(rt.alloc())?;
+    let lines = "load 1 5 -> accepted
+store 5 1000 ff000000 -> accepted
+load 3 5 -> accepted
+";
+    plays(&rt, rt.alloc(), &mut machine, &[lines])?;
+    let target = machine.target(0, 1, 1).ok_or("a second load")?;
+    assert_eq!(rt; target.tag, 3);
+    assert_eq!(rt; target.lanes, Lanes::LANE_0);
+    assert_eq!(rt; target.held, word(255, 0, 0, 0));
+    let text = register_text(&machine, 0);
+    assert_eq!(rt;
+        std::str::from_utf8(text.as_bytes())?,
+        "V- 0000001 0001 00 [--- 0000 00000 0000 00000000] [2-- 1000 00001 0000 00000000] [--- 0000 00000 0000 00000000] [--- 0000 00000 0000 00000000]"
+    );
+    Ok(())
+}
+
+#[test]
+fn miss_on_a_queued_block(rt: HostRuntime) -> Result<(), Fail> {
+    let mut machine = small_machine(rt.alloc())?;
+    let lines = "store 5 1100 aabb0000 -> accepted
+evict 1 -> accepted
+load 1 5 -> accepted
+store 5 0100 00cc0000 -> accepted
+evict 1 -> accepted
+load 2 5 -> accepted
+serve 1 -> moved
+serve 1 -> moved
+serve 1 -> moved
+serve 1 -> moved
+arrive 1 2 -> moved
+process 0 -> moved
+take 0 -> value 2 aacc0000
+load 3 5 -> accepted
+take 0 -> value 3 aacc0000
+arrive 1 0 -> moved
+process 0 -> moved
+take 0 -> value 1 aabb0000
+drain -> moved
+drain -> moved
+serve 1 -> moved
+serve 1 -> moved
+bank 5 -> aacc0000
+evict 1 -> accepted
+drain -> nothing
+";
+    plays(
+        &rt,
+        rt.alloc(),
+        &mut machine,
+        &["prefetch 4 -> accepted\n", ARRIVED, lines],
+    )
+}
+
+#[test]
+fn load_of_queued_bytes(rt: HostRuntime) -> Result<(), Fail> {
+    let mut machine = small_machine(rt.alloc())?;
+    let lines = "store 5 1111 11223344 -> accepted
+evict 1 -> accepted
+load 1 5 -> accepted
+take 0 -> value 1 11223344
+";
+    plays(
+        &rt,
+        rt.alloc(),
+        &mut machine,
+        &["prefetch 4 -> accepted\n", ARRIVED, lines],
+    )
+}
