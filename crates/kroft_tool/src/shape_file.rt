@@ -28,6 +28,13 @@ pub struct ToolShape {
 }
 
 impl Default for ToolShape {
+    ghost use Rattle.std.specs.Prelude.{◌≡◌, Ok};
+    ghost use Rattle.toml.specs.Data.{no_members};
+    ghost use Rattle.kroft_tool.specs.ShapeFile.{table_says};
+
+    // What a shape file says that names no key.
+    ghost is_default = { λ tool. Ok tool ≡ table_says no_members };
+
     fn default() -> ToolShape {
         ToolShape {
             shape: Shape {

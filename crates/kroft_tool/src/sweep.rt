@@ -1,11 +1,11 @@
 //! Sweeps: one row for each shape, each by a thread of its own.
 
-ghost use Rattle.std.specs.Prelude.{◌≡◌, ◌∷◌, [], ℕ, ◌+◌, ◌≤◌, ◌<◌, length, map, Some, None, Result, Ok, IfOk, IfErr, OnOk, OnErr, slice_index_or, true};
+ghost use Rattle.std.specs.Prelude.{◌≡◌, ◌≢◌, ◌∷◌, [], ℕ, ◌+◌, ◌≤◌, ◌<◌, length, map, Some, None, Result, Ok, Err, IfOk, IfErr, OnOk, OnErr, slice_index_or, true};
 ghost use Rattle.std.specs.List.{list_all};
 ghost use Rattle.kroft_tool.specs.declared.row.Row.{Row};
 ghost use Rattle.kroft_tool.specs.declared.shape_file.ToolShape.{ToolShape};
 ghost use Rattle.kroft_tool.specs.declared.sweep.Stop.{Stop};
-ghost use Rattle.cache_unit.specs.Limits.{is_between};
+ghost use Rattle.kroft_tool.specs.declared.sweep.SweepFault.TheVariants.{TurnLimit};
 ghost use Rattle.kroft_tool.specs.Sweep.{FaultSays, IsStop, CountsAll, is_request, bad_field, bad_from, row_of};
 
 use crate::row::{Row, row_from};
@@ -64,40 +64,17 @@ impl SweepGate for OpenGate {
     fn ended(&self, _place: usize) {}
 }
 
-// Whether a number lies between the first and the last, these among them.
-fn is_between(number: u32, first: u32, last: u32) -> bool
-    ensures { result ≡ is_between number first last }
-{
-    first <= number && number <= last
-}
-
 // The first field of a shape that is out of its range.
 fn bad_field(tool: &ToolShape) -> Option<ShapeField>
     ensures { result ≡ bad_field tool.now }
 {
-    let shape = tool.shape;
-    if !is_between(tool.ways, 1, 2) {
+    if tool.ways < 1 || tool.ways > 2 {
         Some(ShapeField::Ways)
     } else if !is_register_count(tool.regs) {
         Some(ShapeField::Regs)
-    } else if !(is_between(shape.words, 1, 1_048_576) && shape.words % BLOCK_WORDS == 0) {
-        Some(ShapeField::Words)
-    } else if !is_between(shape.sets, 1, 1024) {
-        Some(ShapeField::Sets)
-    } else if !is_between(shape.banks, 1, 16) {
-        Some(ShapeField::Banks)
-    } else if !is_between(
-        shape.bank_queue,
-        (BLOCK_WORDS + shape.banks - 1) / shape.banks,
-        64,
-    ) {
-        Some(ShapeField::BankQueue)
-    } else if !is_between(shape.write_queue, BLOCK_WORDS, 256) {
-        Some(ShapeField::WriteQueue)
-    } else if !is_between(shape.replies, 1, 64) {
-        Some(ShapeField::Replies)
     } else {
-        None
+        // The ranges of the rest depend on the words of a block alone.
+        cache_unit::bad_field::<1, 4, 1, 4>(&tool.shape)
     }
 }
 
@@ -187,13 +164,20 @@ fn row_in_turn<G: SweepGate>(
 }
 
 /// The row of one shape: a new machine of it, over zeros, serves the requests one after another,
-/// and is pumped until there is nothing left to do. A bad field is found first, and is at place 0.
+/// and is pumped until there is nothing left to do. A request that is refused for want of room is
+/// asked again after each pump, until it is accepted or denied.
+///
+/// There may be at most 16,777,216 events; they are meant to be loads, stores, prefetches and
+/// evictions. `BadShape` names the first field that is out of its range, at place 0, before any
+/// memory is asked for; `OutOfMemory` says that there was too little memory for the machine.
+/// `TurnLimit` never comes: no thread waits here.
 #[tactic(auto, using(crate::proofs::Lawful::counts_all))]
 pub fn sweep_row(alloc: Global, shape: &ToolShape, events: &[Event]) -> Result<Row, SweepFault>
     requires { length events.now ≤ 16777216 }
     ensures row { IfOk result (λ row. (bad_field shape.now ≡ None) × (row ≡ row_of events.now shape.now)) }
     ensures counts { IfOk result (λ row. list_all is_request events.now ≡ true → CountsAll events.now shape.now row) }
     ensures fault { IfErr result (FaultSays (shape.now ∷ [])) }
+    ensures no_turns { result ≢ Err TurnLimit }
 {
     if let Some(field) = bad_field(shape) {
         return Err(SweepFault::BadShape { place: 0, field });
@@ -246,8 +230,16 @@ fn all_answers<R: Threads + Sync, G: SweepGate>(
     )
 }
 
-/// The rows of these shapes, in their order, each by a thread of its own. Bad fields are found
-/// before any thread begins; want of memory goes before a turn limit.
+/// The rows of these shapes, in their order, each by a thread of its own, so all at once.
+///
+/// The thread of the shape at a place has `turns` turns. In each it asks the gate whether it may
+/// begin; once it may, it makes its row as `sweep_row` does, and tells the gate that it has ended.
+/// There may be at most 16,777,216 events, as for `sweep_row`.
+///
+/// `BadShape` names the first shape with a field out of its range, and the first such field, before
+/// any thread begins. `OutOfMemory` says that there was too little memory, and goes before
+/// `TurnLimit`, which says that a thread used up its turns before its gate let it begin. A fault
+/// gives no row, and all threads have ended then.
 pub fn sweep<R: Threads + Sync, G: SweepGate>(
     rt: &R,
     alloc: Global,
@@ -258,6 +250,7 @@ pub fn sweep<R: Threads + Sync, G: SweepGate>(
 ) -> Result<Vec<Row>, SweepFault>
     requires { length events.now ≤ 16777216 }
     ensures rows { IfOk result (λ rows. rows.items ≡ map (row_of events.now) shapes.now) }
+    ensures good { OnOk result (bad_from 0 shapes.now ≡ None) }
     ensures fault { IfErr result (FaultSays shapes.now) }
 {
     if let Some((place, field)) = first_bad(shapes) {
