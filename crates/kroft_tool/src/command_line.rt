@@ -108,12 +108,7 @@ fn program<'a>(alloc: Global) -> Result<Command<'a>, AllocError> {
         .subcommand_required(true)
         .disable_help_subcommand(true)
         .arg(shape_argument(alloc))?
-        .subcommand(subcommand(
-            alloc,
-            "run",
-            "Serve a trace on a new machine",
-            RUN_NOTES,
-        )?)?
+        .subcommand(subcommand(alloc, "run", "Serve a trace on a new machine", RUN_NOTES)?)?
         .subcommand(subcommand(
             alloc,
             "check",

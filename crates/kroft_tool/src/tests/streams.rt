@@ -14,7 +14,7 @@ use trace_text::{
 };
 
 /// A machine of the program's default shape.
-fn default_machine(alloc: Global) -> Result<Machine<2, 4, 4, 4>, Fail> {
+pub fn default_machine(alloc: Global) -> Result<Machine<2, 4, 4, 4>, Fail> {
     let shape = Shape {
         words: 64,
         sets: 4,

@@ -52,19 +52,38 @@ impl SweepGate for BothThere {
     fn ended(&self, _place: usize) {}
 }
 
-const REQUESTS: [Event; 3] = [
+pub const REQUESTS: [Event; 3] = [
     Event::Load { tag: 1, at: 0 },
     Event::Load { tag: 2, at: 4 },
     Event::Load { tag: 3, at: 8 },
 ];
 
 /// The default shape with so many registers.
-fn with_registers(regs: u32) -> ToolShape {
+pub fn with_registers(regs: u32) -> ToolShape {
     let default = ToolShape::default();
     ToolShape {
         shape: default.shape,
         ways: default.ways,
         regs,
+    }
+}
+
+/// The row of the three loads: each takes 13 pumps in all. With one register the second and the third
+/// wait until the register before them is free, with two the third does.
+pub fn row_of_three_loads(regs: u32) -> Row {
+    let (stalled, waited) = match regs {
+        1 => (2, 26),
+        2 => (1, 23),
+        _ => (0, 0),
+    };
+    Row {
+        regs,
+        accepted: 3,
+        denied: 0,
+        stalled,
+        waited,
+        pumps: 39,
+        values: 3,
     }
 }
 
@@ -82,6 +101,10 @@ fn sweep_on_threads(rt: HostRuntime) -> Result<(), Fail> {
     let alloc = rt.alloc();
     let shapes = [with_registers(1), with_registers(2)];
     let wanted = rows_in_turn(alloc, &shapes)?;
+    assert_eq!(rt;
+        wanted.as_slice(),
+        &[row_of_three_loads(1), row_of_three_loads(2)][..]
+    );
     let gate = SecondFirst {
         second_ended: AtomicBool::new(false),
     };

@@ -1,0 +1,99 @@
+//! The order in which a trace is read, and its answers are written and flushed.
+
+use super::streams::default_machine;
+use std::alloc::Global;
+use std::cell::RefCell;
+use std::io;
+use std::io::{Read, Write};
+use std::test::Fail;
+use trace_text::serve_text;
+
+/// What a reader gave, behind `<`, what a writer took, behind `>`, and a `!` for each flush.
+type Log = RefCell<Vec<u8>>;
+
+/// Notes a piece; where the log can't be had, the stream fails.
+fn note(log: &Log, mark: u8, bytes: &[u8]) -> io::Result<()> {
+    let Ok(mut log) = log.try_borrow_mut() else {
+        return Err(io::Error::from(io::ErrorKind::Other));
+    };
+    log.push(mark)?;
+    log.extend_from_slice(bytes)?;
+    Ok(())
+}
+
+/// Gives one piece in each read.
+#[derive(Drop)]
+struct NotedReader<'a> {
+    pieces: &'a [&'a str],
+    log: &'a Log,
+}
+
+impl Read for NotedReader<'_> {
+    fn read(&mut self, buf: &mut [u8]) -> io::Result<usize> {
+        let Some((piece, rest)) = self.pieces.split_first() else {
+            note(self.log, b'<', b"")?;
+            return Ok(0);
+        };
+        let bytes = piece.as_bytes();
+        let n = bytes.len().min(buf.len());
+        buf[..n].copy_from_slice(&bytes[..n]);
+        note(self.log, b'<', &bytes[..n])?;
+        self.pieces = rest;
+        Ok(n)
+    }
+}
+
+/// Takes at most 16 bytes in each write.
+#[derive(Drop)]
+struct NotedWriter<'a> {
+    log: &'a Log,
+}
+
+impl Write for NotedWriter<'_> {
+    fn write(&mut self, buf: &[u8]) -> io::Result<usize> {
+        let n = buf.len().min(16);
+        note(self.log, b'>', &buf[..n])?;
+        Ok(n)
+    }
+
+    fn flush(&mut self) -> io::Result<()> {
+        note(self.log, b'!', b"")
+    }
+}
+
+/// The log of serving these pieces on a new machine.
+fn log_of(alloc: Global, pieces: &[&str]) -> Result<Vec<u8>, Fail> {
+    let log = RefCell::new(Vec::new(alloc));
+    let mut machine = default_machine(alloc)?;
+    let mut reader = NotedReader { pieces, log: &log };
+    let mut writer = NotedWriter { log: &log };
+    let _ended = serve_text(alloc, &mut reader, &mut writer, &mut machine);
+    Ok(log.into_inner())
+}
+
+#[test]
+fn each_answer_is_written_before_the_next_read(rt: HostRuntime) -> Result<(), Fail> {
+    let pieces = ["load 1 4\n", "serve 0\narr", "ive 0 0\n"];
+    let log = log_of(rt.alloc(), &pieces)?;
+    let wanted = "!<load 1 4
+>load 1 4 -> acce>pted
+!<serve 0
+arr>serve 0 -> moved>
+!<ive 0 0
+>arrive 0 0 -> mo>ved
+!<";
+    assert_eq!(rt; std::str::from_utf8(log.as_slice())?, wanted);
+    Ok(())
+}
+
+#[test]
+fn answers_are_flushed_before_a_fault(rt: HostRuntime) -> Result<(), Fail> {
+    let log = log_of(rt.alloc(), &["drain\njump\ndrain\n"])?;
+    let wanted = "!<drain
+jump
+drain
+>drain -> nothing>
+!";
+    assert_eq!(rt; std::str::from_utf8(log.as_slice())?, wanted);
+    Ok(())
+}
