@@ -25,20 +25,20 @@ fn note(log: &Log, mark: u8, bytes: &[u8]) -> io::Result<()> {
 #[derive(Drop)]
 struct NotedReader<'a> {
     pieces: &'a [&'a str],
+    given: usize,
     log: &'a Log,
 }
 
 impl Read for NotedReader<'_> {
     fn read(&mut self, buf: &mut [u8]) -> io::Result<usize> {
-        let Some((piece, rest)) = self.pieces.split_first() else {
-            note(self.log, b'<', b"")?;
-            return Ok(0);
+        let bytes = match self.pieces.get(self.given) {
+            Some(piece) => piece.as_bytes(),
+            None => b"",
         };
-        let bytes = piece.as_bytes();
         let n = bytes.len().min(buf.len());
         buf[..n].copy_from_slice(&bytes[..n]);
         note(self.log, b'<', &bytes[..n])?;
-        self.pieces = rest;
+        self.given = self.given.saturating_add(1);
         Ok(n)
     }
 }
@@ -65,7 +65,11 @@ impl Write for NotedWriter<'_> {
 fn log_of(alloc: Global, pieces: &[&str]) -> Result<Vec<u8>, Fail> {
     let log = RefCell::new(Vec::new(alloc));
     let mut machine = default_machine(alloc)?;
-    let mut reader = NotedReader { pieces, log: &log };
+    let mut reader = NotedReader {
+        pieces,
+        given: 0,
+        log: &log,
+    };
     let mut writer = NotedWriter { log: &log };
     let _ended = serve_text(alloc, &mut reader, &mut writer, &mut machine);
     Ok(log.into_inner())
