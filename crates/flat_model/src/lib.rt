@@ -31,9 +31,9 @@ pub struct Word {
 
 /// A set of the four lanes of a word: bit `k` stands for the lane of byte `k`.
 ///
-/// Only these four bits have a meaning. `from_bits_retain` keeps any others that it is given:
-/// they name no lane, a merge passes them over and [`Lanes::has_any`] doesn't count them, but two
-/// sets that differ in them are not `==`.
+/// Only these four bits have a meaning. The public field and `from_bits_retain` keep any others
+/// that they are given: they name no lane, a merge passes them over and [`Lanes::has_any`] doesn't
+/// count them, but two sets that differ in them are not `==`.
 #[derive(Clone, Copy, PartialEq, Eq, Debug, Default)]
 pub struct Lanes(pub u8);
 
@@ -159,7 +159,8 @@ pub enum Cause {
     NotPresent = 11,
     /// The input stack is full.
     StackFull = 12,
-    /// No register waits for the word.
+    /// No register waits for the word: the register is free or isn't there, its block has no such
+    /// word, or the word is processed or stands in the input stack already.
     StrayWord = 13,
 }
 

@@ -18,7 +18,7 @@ use std::marker::Model;
 pub struct Owed {
     /// The load's tag.
     pub tag: u16,
-    /// The bytes that it has already, in the lanes.
+    /// The bytes that it has already: only those in the lanes count.
     pub held: Word,
     /// The lanes that the arriving word mustn't give it.
     pub lanes: Lanes,
@@ -55,7 +55,7 @@ pub struct FieldView {
     pub tag: u16,
     /// The lanes whose bytes that load has already.
     pub held_lanes: Lanes,
-    /// The bytes in these lanes, and zero bytes elsewhere.
+    /// The bytes that it has already: only those in the held lanes count.
     pub held: Word,
     /// How many loads wait.
     pub targets: u32,

@@ -14,7 +14,7 @@ use flat_model::{Lanes, MakeFault, ShapeField, Word, merge};
 use std::alloc::Global;
 use std::marker::Model;
 
-/// A word that a given-up block owes to memory: the bytes of `word` in `lanes` are the newest for
+/// A word that a given-up block owes to memory: the bytes of `word` in `lanes` are to be written to
 /// the word at `at`, which lies in `block`.
 #[derive(Clone, Copy, PartialEq, Eq, Debug, Default)]
 pub struct Queued {
