@@ -39,9 +39,13 @@ pub struct Lanes(pub u8);
 
 bitflag_items! {
     impl Lanes: u8 {
+        /// The lane of byte 0.
         const LANE_0 = 1;
+        /// The lane of byte 1.
         const LANE_1 = 2;
+        /// The lane of byte 2.
         const LANE_2 = 4;
+        /// The lane of byte 3.
         const LANE_3 = 8;
     }
 }
@@ -230,24 +234,41 @@ pub struct Shape {
 }
 
 /// A number of a part or a machine that can be out of its range, in the order of the checks.
+///
+/// A part checks those of its own numbers, and a part without blocks takes a block as one word.
 #[derive(Clone, Copy, PartialEq, Eq, Debug)]
 pub enum ShapeField {
+    /// Words of a block: 1 to 16.
     BlockWords,
+    /// Ways of a set: 1 to 8.
     Ways,
+    /// Registers: 1 to 16.
     Regs,
+    /// Places of the input stack: 1 to 16.
     Depth,
+    /// Words of memory: 1 to 1,048,576, and a multiple of the words of a block.
     Words,
+    /// Sets of the cache: 1 to 1024.
     Sets,
+    /// Banks of memory: 1 to 16.
     Banks,
+    /// Commands that wait at a bank at most: from the words of a block divided by the banks,
+    /// rounded up, to 64.
     BankQueue,
+    /// Words that wait in the write queue at most: from the words of a block to 256.
     WriteQueue,
+    /// Loads that are awaited and ready together at most: 1 to 64.
     Replies,
+    /// Ports of a machine that runs on threads: 1 to 16. No part here names it.
     Ports,
+    /// Entries of a journal: 1 to 1,048,576. No part here names it.
     Journal,
+    /// Words of the image that memory begins with: as many as memory has.
     Image,
 }
 
-/// Why a part can't be made. A bad field is named first, before any memory is asked for.
+/// Why a part can't be made. A bad field is named first, before any memory is asked for, and
+/// after each of these nothing is made.
 #[derive(Clone, Copy, PartialEq, Eq, Debug, Error)]
 pub enum MakeFault {
     /// The first field, in the order of the checks, that is out of its range.

@@ -46,7 +46,9 @@ pub struct FlatMemory {
 
 #[tactic(auto, unfolding(crate::specs::Memory::shown))]
 impl FlatMemory {
-    /// Memory with these words, in which no tag is owed a word.
+    /// Memory with these words, in which no tag is owed a word. The image has fewer than 2^32
+    /// words, so that each has an address. `AllocError` says that there was too little memory:
+    /// nothing is made.
     pub fn new(alloc: Global, image: &[Word]) -> Result<FlatMemory, AllocError>
         ensures { IfOk result (λ m. shown m ≡ opening image.now) }
     {
