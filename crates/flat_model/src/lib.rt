@@ -10,8 +10,9 @@ ghost use Rattle.flat_model.specs.Flat.{number};
 ghost use Rattle.flat_model.specs.Words.{no_lanes, merged, joined, has_any, has_all};
 
 mod memory;
+mod operators;
 
-use bitflags::{Flag, Flags, bitflag_items};
+use bitflags::{Flag, Flags};
 pub use memory::{FlatMemory, ReplayFault};
 use std::alloc::AllocError;
 use thiserror::Error;
@@ -37,17 +38,38 @@ pub struct Word {
 #[derive(Clone, Copy, PartialEq, Eq, Debug, Default)]
 pub struct Lanes(pub u8);
 
-bitflag_items! {
-    impl Lanes: u8 {
-        /// The lane of byte 0.
-        const LANE_0 = 1;
-        /// The lane of byte 1.
-        const LANE_1 = 2;
-        /// The lane of byte 2.
-        const LANE_2 = 4;
-        /// The lane of byte 3.
-        const LANE_3 = 8;
-    }
+impl Lanes {
+    /// The lane of byte 0.
+    pub const LANE_0: Lanes = Lanes(1);
+
+    /// The lane of byte 1.
+    pub const LANE_1: Lanes = Lanes(2);
+
+    /// The lane of byte 2.
+    pub const LANE_2: Lanes = Lanes(4);
+
+    /// The lane of byte 3.
+    pub const LANE_3: Lanes = Lanes(8);
+
+    /// The four lanes with their names, lane 0 first.
+    pub const FLAGS: &'static [Flag<Lanes>] = &[
+        Flag {
+            name: "LANE_0",
+            value: Lanes::LANE_0,
+        },
+        Flag {
+            name: "LANE_1",
+            value: Lanes::LANE_1,
+        },
+        Flag {
+            name: "LANE_2",
+            value: Lanes::LANE_2,
+        },
+        Flag {
+            name: "LANE_3",
+            value: Lanes::LANE_3,
+        },
+    ];
 }
 
 impl Flags for Lanes {
