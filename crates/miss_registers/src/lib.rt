@@ -2,7 +2,6 @@
 #![tactic(auto)]
 
 ghost use Rattle.std.specs.Prelude.{◌≡◌, ◌<◌, ◌≤◌, ◌++◌, [], ◌∷◌, length, slice_get};
-ghost use Rattle.miss_registers.specs.Marks.{clear_mark};
 ghost use Rattle.miss_registers.specs.Views.{load_at_front};
 
 mod file;
@@ -61,25 +60,13 @@ pub struct FieldView {
     pub targets: u32,
 }
 
-// What is kept of a word, beside the loads that wait for it.
+// What is kept of a word, beside the loads that wait for it. All is clear of a word that has still
+// to come.
 #[derive(Clone, Copy, Default)]
 struct Mark {
     in_stack: bool,
     processed: bool,
     code: Lanes,
-}
-
-impl Mark {
-    // The mark of a word that has still to come.
-    fn clear() -> Self
-        ensures { result ≡ clear_mark }
-    {
-        Mark {
-            in_stack: false,
-            processed: false,
-            code: Lanes::none(),
-        }
-    }
 }
 
 // A load that waits for word `i`.
@@ -126,16 +113,7 @@ impl OwedList {
     {
         match self.get(0) {
             Some(owed) => owed,
-            None => Owed {
-                tag: 0,
-                held: Word {
-                    b0: 0,
-                    b1: 0,
-                    b2: 0,
-                    b3: 0,
-                },
-                lanes: Lanes::none(),
-            },
+            None => Owed::default(),
         }
     }
 

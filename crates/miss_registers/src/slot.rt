@@ -274,7 +274,7 @@ fn clear_marks(words: u32) -> ArrayVec<Mark, 16>
 {
     let mut marks = ArrayVec::new();
     for k in 0..words {
-        marks.push(Mark::clear());
+        marks.push(Mark::default());
     }
     marks
 }
@@ -323,7 +323,7 @@ fn mark_of(marks: &[Mark], i: u32) -> Mark
     if (i as usize) < marks.len() {
         marks[i as usize]
     } else {
-        Mark::clear()
+        Mark::default()
     }
 }
 
