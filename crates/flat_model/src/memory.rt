@@ -1,9 +1,9 @@
 //! Flat memory as a value, and the replay of a run of events and answers over it.
 
-ghost use Rattle.std.specs.Prelude.{◌≡◌, ◌≢◌, Ok, Err, ◌+◌, ℕ, Bool, true, length, None, Some, Option, nat_eq, nat_lt, is_none, not, slice_get, IfOk, IfErr, OnOk, OnErr, ◌<◌, ◌≤◌, ◌-◌};
+ghost use Rattle.std.specs.Prelude.{◌≡◌, ◌≢◌, Err, ◌+◌, true, length, None, Some, nat_lt, slice_get, IfOk, IfErr, OnOk, OnErr, ◌<◌, ◌≤◌};
 ghost use Rattle.std.specs.HashMap.{spare};
-ghost use Rattle.flat_model.specs.Flat.{Flat, opening, word_at, stored, with_due, first_fault, may_answer, flat_after, flat_run, is_between, load_refusals, store_refusals, prefetch_refusals, is_owed, number};
-ghost use Rattle.flat_model.specs.declared.memory.ReplayFault.TheVariants.{Lengths, Mismatch};
+ghost use Rattle.flat_model.specs.Flat.{Flat, opening, word_at, stored, with_due, may_answer, flat_after, flat_run, is_between, load_refusals, store_refusals, prefetch_refusals, is_owed};
+ghost use Rattle.flat_model.specs.declared.memory.ReplayFault.TheVariants.{Lengths};
 ghost use Rattle.flat_model.specs.Memory.{shown, FaultIs, MovesOnly};
 
 use crate::{Answer, Cause, Event, Lanes, Word, merge};

@@ -1,9 +1,9 @@
 //! One bank of memory.
-ghost use Rattle.std.specs.Prelude.{◌≡◌, ℕ, ◌+◌, ◌-◌, ◌*◌, ◌/◌, ◌<◌, ◌≤◌, ◌↔◌, ◌++◌, [], ◌∷◌, length, slice_get, slice_index_or, IfOk, IsTrue, map};
-ghost use Rattle.std.specs.List.{count_by, range_with_len};
+ghost use Rattle.std.specs.Prelude.{◌≡◌, ◌<◌, ◌≤◌, ◌↔◌, [], length, slice_get, IfOk, IsTrue};
+ghost use Rattle.std.specs.List.{count_by};
 ghost use Rattle.flat_model.specs.Flat.{word_at, stored};
 ghost use Rattle.memory_banks.specs.Banks.{with_command, share_of};
-ghost use Rattle.memory_banks.specs.Memory.{serve_bank, without_answer, is_read, is_idle, share_length};
+ghost use Rattle.memory_banks.specs.Memory.{serve_bank, without_answer, is_read, is_idle};
 
 use crate::{BankAnswer, Command};
 use circular_buffer::HeapCircularBuffer;
@@ -26,7 +26,7 @@ pub struct MemoryBank {
 }
 
 impl Model for MemoryBank {
-    ghost use Rattle.std.specs.Prelude.{◌≡◌, ◌<◌, ◌≤◌, ◌^◌, length, vec_len, vec_capacity};
+    ghost use Rattle.std.specs.Prelude.{◌≡◌, ◌≤◌, length, vec_capacity};
     ghost use Rattle.memory_banks.specs.Banks.{Bank};
 
     ghost Value = { Bank };

@@ -1,5 +1,5 @@
 //! The banks of a machine.
-ghost use Rattle.std.specs.Prelude.{◌≡◌, ℕ, ◌+◌, ◌-◌, ◌<◌, ◌≤◌, ◌↔◌, length, slice_get, slice_set, IfOk, IfErr, OnOk, IsTrue, None};
+ghost use Rattle.std.specs.Prelude.{◌≡◌, ℕ, ◌<◌, ◌≤◌, ◌↔◌, length, slice_get, slice_set, IfOk, IfErr, OnOk, IsTrue, None};
 ghost use Rattle.std.specs.List.{count_by, list_all};
 ghost use Rattle.memory_banks.specs.Banks.{bank_at, words_after, pending, opening_banks, room_in};
 ghost use Rattle.memory_banks.specs.Memory.{with_banks, IsMemory, word_in, is_read, is_idle, serve_in, without_answer, SameButQueues, bad_field, fault_of};

@@ -1,5 +1,5 @@
 //! One register.
-ghost use Rattle.std.specs.Prelude.{◌≡◌, ◌<◌, ◌≤◌, ◌&&◌, ◌==◌, length, slice_set, slice_get, true, false, not, if◌then◌else◌, map, replicate, count_by};
+ghost use Rattle.std.specs.Prelude.{◌≡◌, ◌<◌, ◌≤◌, ◌&&◌, ◌==◌, length, slice_set, slice_get, not, if◌then◌else◌, map, replicate, count_by};
 ghost use Rattle.std.specs.List.{list_all, list_any, filter};
 ghost use Rattle.miss_registers.specs.Registers as spec;
 ghost use Rattle.miss_registers.specs.Views as shows;
