@@ -83,7 +83,8 @@ impl FlatMemory {
         events: &[Event],
         answers: &[Answer],
     ) -> Result<(), ReplayFault>
-        ensures ok { OnOk result (flat_run (shown self.old) events.now answers.now ≡ Some (shown self.new)) }
+        ensures ok { OnOk result
+            (flat_run (shown self.old) events.now answers.now ≡ Some (shown self.new)) }
         ensures lengths { length events.now ≢ length answers.now → result ≡ Err Lengths }
         ensures fault { IfErr result (FaultIs (shown self.old) events.now answers.now) }
         ensures unchanged { OnErr result (shown self.new ≡ shown self.old) }
@@ -101,7 +102,8 @@ impl FlatMemory {
     fn follow(&mut self, events: &[Event], answers: &[Answer]) -> Result<(), ReplayFault>
         requires lengths { length events.now ≡ length answers.now }
         requires room { length events.now ≤ spare self.old.due }
-        ensures ok { OnOk result (flat_run (shown self.old) events.now answers.now ≡ Some (shown self.new)) }
+        ensures ok { OnOk result
+            (flat_run (shown self.old) events.now answers.now ≡ Some (shown self.new)) }
         ensures fault { IfErr result (FaultIs (shown self.old) events.now answers.now) }
     {
         for place in 0..events.len() {
@@ -214,7 +216,8 @@ impl FlatMemory {
         requires inside { at < length (shown self.old).mem }
         requires room { 0 < spare self.old.due }
         ensures mem { (shown self.new).mem ≡ (shown self.old).mem }
-        ensures due { (shown self.new).due ≡ with_due (shown self.old).due tag (Some (word_at (shown self.old).mem at)) }
+        ensures due { (shown self.new).due
+            ≡ with_due (shown self.old).due tag (Some (word_at (shown self.old).mem at)) }
         ensures room { spare self.old.due ≤ spare self.new.due + 1 }
     {
         let word = self.words[at as usize];
@@ -233,7 +236,8 @@ impl FlatMemory {
 
     // The tag is owed nothing.
     fn pay(&mut self, tag: u16)
-        ensures shown { shown self.new ≡ record { mem = (shown self.old).mem; due = with_due (shown self.old).due tag None } }
+        ensures shown { shown self.new
+            ≡ record { mem = (shown self.old).mem; due = with_due (shown self.old).due tag None } }
         ensures room { spare self.old.due ≤ spare self.new.due }
     {
         self.due.remove(&tag);

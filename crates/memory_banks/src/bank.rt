@@ -31,9 +31,13 @@ impl Model for MemoryBank {
 
     ghost Value = { Bank };
 
-    ghost view = { λ a. record { words = a.words.items; queue = a.queue.items; answers = a.answers.items } };
+    ghost view = { λ a.
+        record { words = a.words.items; queue = a.queue.items; answers = a.answers.items } };
 
-    ghost invariant = { λ a. (a.queue.capacity ≡ 64) × (length a.queue.items ≤ 64) × (vec_capacity a.answers ≡ 257) × (length a.answers.items ≤ 257) };
+    ghost invariant = { λ a. (a.queue.capacity ≡ 64)
+        × (length a.queue.items ≤ 64)
+        × (vec_capacity a.answers ≡ 257)
+        × (length a.answers.items ≤ 257) };
 }
 
 #[tactic(auto, unfolding(crate::specs::Banks::served, crate::specs::Banks::with_command))]
@@ -48,7 +52,8 @@ impl MemoryBank {
         requires here { bank < banks }
         requires few { banks ≤ 16 }
         requires fits { length image.now ≤ 1048576 }
-        ensures { IfOk result (λ b. b ≡ record { words = share_of image.now banks bank; queue = []; answers = [] }) }
+        ensures { IfOk result (λ b. b
+            ≡ record { words = share_of image.now banks bank; queue = []; answers = [] }) }
     {
         let words = share(alloc, image, banks, bank)?;
         let queue = HeapCircularBuffer::with_capacity(alloc, MOST_QUEUED as usize)?;

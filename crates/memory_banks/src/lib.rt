@@ -70,7 +70,9 @@ pub trait Lines {
         ensures same { same self.old self.new }
         ensures sent { sent_to self.new bank ≡ sent_to self.old bank ++ command ∷ [] }
         ensures room { room_of self.new bank + 1 ≡ room_of self.old bank }
-        ensures others { (b : ℕ) → b ≢ bank → (sent_to self.new b ≡ sent_to self.old b) × (room_of self.new b ≡ room_of self.old b) };
+        ensures others { (b : ℕ) → b ≢ bank →
+            (sent_to self.new b ≡ sent_to self.old b)
+            × (room_of self.new b ≡ room_of self.old b) };
 
     /// No send at all leaves all else as it was.
     ghost same_self: { (a : Self) → same a a };

@@ -25,7 +25,9 @@ impl Model for Banks {
 
     ghost view = { λ a. record { words = a.words; limit = a.limit; banks = a.banks.items } };
 
-    ghost invariant = { λ a. let m : Memory = record { words = a.words; limit = a.limit; banks = a.banks.items } in IsMemory m };
+    ghost invariant = { λ a.
+        let m : Memory = record { words = a.words; limit = a.limit; banks = a.banks.items } in
+        IsMemory m };
 }
 
 impl Banks {
@@ -34,7 +36,11 @@ impl Banks {
     /// `Image`, whose length is the words of memory. `OutOfMemory` says that there was too little
     /// memory. After either nothing is made.
     pub fn new(alloc: Global, image: &[Word], shape: &Shape) -> Result<Self, MakeFault>
-        ensures ok { IfOk result (λ m. m ≡ record { words = shape.now.words; limit = shape.now.bank_queue; banks = opening_banks image.now shape.now.banks }) }
+        ensures ok { IfOk result (λ m. m ≡ record {
+          words = shape.now.words;
+          limit = shape.now.bank_queue;
+          banks = opening_banks image.now shape.now.banks;
+        }) }
         ensures in_range { OnOk result (bad_field (length image.now) shape.now ≡ None) }
         ensures fault { IfErr result (λ e. e ≡ fault_of (bad_field (length image.now) shape.now)) }
     {
@@ -56,9 +62,12 @@ impl Banks {
     pub fn serve(&mut self, bank: u32) -> bool
         requires { length (bank_at self.old.banks bank).answers ≤ 256 }
         ensures moved { IsTrue result ↔ (0 < length (bank_at self.old.banks bank).queue) }
-        ensures banks { self.new ≡ with_banks self.old (serve_in self.old.banks bank (bank_at self.old.banks bank).queue) }
-        ensures words_stay { (b : ℕ) → words_after (bank_at self.new.banks b) ≡ words_after (bank_at self.old.banks b) }
-        ensures pending_stay { (b : ℕ) → pending (bank_at self.new.banks b) ≡ pending (bank_at self.old.banks b) }
+        ensures banks { self.new ≡ with_banks self.old
+            (serve_in self.old.banks bank (bank_at self.old.banks bank).queue) }
+        ensures words_stay { (b : ℕ) →
+            words_after (bank_at self.new.banks b) ≡ words_after (bank_at self.old.banks b) }
+        ensures pending_stay { (b : ℕ) →
+            pending (bank_at self.new.banks b) ≡ pending (bank_at self.old.banks b) }
     {
         if (bank as usize) < self.banks.len() {
             let bank = &mut self.banks[bank as usize];
@@ -72,7 +81,8 @@ impl Banks {
     /// stands there or the bank isn't there, and changes nothing.
     pub fn take_answer(&mut self, bank: u32, place: u32) -> Option<BankAnswer>
         ensures value { result ≡ slice_get (bank_at self.old.banks bank).answers place }
-        ensures banks { self.new ≡ with_banks self.old (slice_set self.old.banks bank (without_answer (bank_at self.old.banks bank) place)) }
+        ensures banks { self.new ≡ with_banks self.old
+            (slice_set self.old.banks bank (without_answer (bank_at self.old.banks bank) place)) }
     {
         if (bank as usize) < self.banks.len() {
             let bank = &mut self.banks[bank as usize];

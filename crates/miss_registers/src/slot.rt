@@ -287,7 +287,8 @@ fn expected_in(marks: &[Mark], i: u32) -> bool
 
 fn put_in_stack(marks: &mut ArrayVec<Mark, 16>, i: u32)
     requires { i < length marks.old.items }
-    ensures { marks.new.items ≡ slice_set marks.old.items i (in_stack_mark (mark_at marks.old.items i)) }
+    ensures { marks.new.items
+        ≡ slice_set marks.old.items i (in_stack_mark (mark_at marks.old.items i)) }
 {
     let mark = &mut marks.as_mut_slice()[i as usize];
     mark.in_stack = true;
@@ -295,7 +296,8 @@ fn put_in_stack(marks: &mut ArrayVec<Mark, 16>, i: u32)
 
 fn join_code(marks: &mut ArrayVec<Mark, 16>, i: u32, lanes: Lanes)
     requires { i < length marks.old.items }
-    ensures { marks.new.items ≡ slice_set marks.old.items i (noted_mark (mark_at marks.old.items i) lanes) }
+    ensures { marks.new.items
+        ≡ slice_set marks.old.items i (noted_mark (mark_at marks.old.items i) lanes) }
 {
     let mark = &mut marks.as_mut_slice()[i as usize];
     mark.code = mark.code.joined(lanes);

@@ -59,7 +59,8 @@ impl WriteQueue {
     pub fn new(alloc: Global, cap: u32) -> Result<Self, MakeFault>
         ensures ok { IfOk result (λ q. q ≡ queue [] cap) }
         ensures in_range { OnOk result (IsTrue (is_limit cap)) }
-        ensures fault { IfErr result (λ e. e ≡ (if is_limit cap then MakeFault.OutOfMemory else MakeFault.BadShape ShapeField.WriteQueue)) }
+        ensures fault { IfErr result (λ e. e ≡ (if is_limit cap then MakeFault.OutOfMemory
+            else MakeFault.BadShape ShapeField.WriteQueue)) }
     {
         if cap < 1 || cap > 256 {
             return Err(MakeFault::BadShape(ShapeField::WriteQueue));
