@@ -1,9 +1,7 @@
 //! One frame, and the order of allocation of a set.
 #![tactic(auto, unfolding(crate::specs::Frames::filled, crate::specs::Frames::written, crate::specs::Frames::settled, crate::specs::Frames::fresh_frame))]
 
-ghost use Rattle.std.specs.Prelude.{ℕ, ◌≡◌, ◌<◌, ◌≤◌, is_none, ◌++◌, [], ◌∷◌, length, slice_set, slice_index_or, replicate, IsTrue, true, false, None, Some, not, ◌==◌};
-ghost use Rattle.std.specs.List.{filter, find};
-ghost use Rattle.flat_model.specs.Words as spec;
+ghost use Rattle.std.specs.Prelude.{ℕ, ◌≡◌, ◌<◌, ◌≤◌, is_none, ◌++◌, [], ◌∷◌, length, slice_set, slice_index_or, replicate};
 ghost use Rattle.flat_model.specs.Places.{is_number};
 ghost use Rattle.cache_directory.specs.Frames.{empty_frame, cell_at, filled, written, settled, fresh_frame, zero_cell, without};
 

@@ -10,8 +10,9 @@ ghost use Rattle.flat_model.specs.Flat.{number};
 ghost use Rattle.flat_model.specs.Words.{no_lanes, merged, joined, has_any, has_all};
 
 mod memory;
+mod operators;
 
-use bitflags::{Flag, Flags, bitflag_items};
+use bitflags::{Flag, Flags};
 pub use memory::{FlatMemory, ReplayFault};
 use std::alloc::AllocError;
 use thiserror::Error;
@@ -31,19 +32,44 @@ pub struct Word {
 
 /// A set of the four lanes of a word: bit `k` stands for the lane of byte `k`.
 ///
-/// Only these four bits have a meaning. `from_bits_retain` keeps any others that it is given:
-/// they name no lane, a merge passes them over and [`Lanes::has_any`] doesn't count them, but two
-/// sets that differ in them are not `==`.
+/// Only these four bits have a meaning. The public field and `from_bits_retain` keep any others
+/// that they are given: they name no lane, a merge passes them over and [`Lanes::has_any`] doesn't
+/// count them, but two sets that differ in them are not `==`.
 #[derive(Clone, Copy, PartialEq, Eq, Debug, Default)]
 pub struct Lanes(pub u8);
 
-bitflag_items! {
-    impl Lanes: u8 {
-        const LANE_0 = 1;
-        const LANE_1 = 2;
-        const LANE_2 = 4;
-        const LANE_3 = 8;
-    }
+impl Lanes {
+    /// The lane of byte 0.
+    pub const LANE_0: Lanes = Lanes(1);
+
+    /// The lane of byte 1.
+    pub const LANE_1: Lanes = Lanes(2);
+
+    /// The lane of byte 2.
+    pub const LANE_2: Lanes = Lanes(4);
+
+    /// The lane of byte 3.
+    pub const LANE_3: Lanes = Lanes(8);
+
+    /// The four lanes with their names, lane 0 first.
+    pub const FLAGS: &'static [Flag<Lanes>] = &[
+        Flag {
+            name: "LANE_0",
+            value: Lanes::LANE_0,
+        },
+        Flag {
+            name: "LANE_1",
+            value: Lanes::LANE_1,
+        },
+        Flag {
+            name: "LANE_2",
+            value: Lanes::LANE_2,
+        },
+        Flag {
+            name: "LANE_3",
+            value: Lanes::LANE_3,
+        },
+    ];
 }
 
 impl Flags for Lanes {
@@ -159,7 +185,8 @@ pub enum Cause {
     NotPresent = 11,
     /// The input stack is full.
     StackFull = 12,
-    /// No register waits for the word.
+    /// No register waits for the word: the register is free or isn't there, its block has no such
+    /// word, or the word is processed or stands in the input stack already.
     StrayWord = 13,
 }
 
@@ -229,24 +256,41 @@ pub struct Shape {
 }
 
 /// A number of a part or a machine that can be out of its range, in the order of the checks.
+///
+/// A part checks those of its own numbers, and a part without blocks takes a block as one word.
 #[derive(Clone, Copy, PartialEq, Eq, Debug)]
 pub enum ShapeField {
+    /// Words of a block: 1 to 16.
     BlockWords,
+    /// Ways of a set: 1 to 8.
     Ways,
+    /// Registers: 1 to 16.
     Regs,
+    /// Places of the input stack: 1 to 16.
     Depth,
+    /// Words of memory: 1 to 1,048,576, and a multiple of the words of a block.
     Words,
+    /// Sets of the cache: 1 to 1024.
     Sets,
+    /// Banks of memory: 1 to 16.
     Banks,
+    /// Commands that wait at a bank at most: from the words of a block divided by the banks,
+    /// rounded up, to 64.
     BankQueue,
+    /// Words that wait in the write queue at most: from the words of a block to 256.
     WriteQueue,
+    /// Loads that are awaited and ready together at most: 1 to 64.
     Replies,
+    /// Ports of a machine that runs on threads: 1 to 16. No part here names it.
     Ports,
+    /// Entries of a journal: 1 to 1,048,576. No part here names it.
     Journal,
+    /// Words of the image that memory begins with: as many as memory has.
     Image,
 }
 
-/// Why a part can't be made. A bad field is named first, before any memory is asked for.
+/// Why a part can't be made. A bad field is named first, before any memory is asked for, and
+/// after each of these nothing is made.
 #[derive(Clone, Copy, PartialEq, Eq, Debug, Error)]
 pub enum MakeFault {
     /// The first field, in the order of the checks, that is out of its range.

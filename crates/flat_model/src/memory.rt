@@ -1,9 +1,9 @@
 //! Flat memory as a value, and the replay of a run of events and answers over it.
 
-ghost use Rattle.std.specs.Prelude.{◌≡◌, ◌≢◌, Ok, Err, ◌+◌, ℕ, Bool, true, length, None, Some, Option, nat_eq, nat_lt, is_none, not, slice_get, IfOk, IfErr, OnOk, OnErr, ◌<◌, ◌≤◌, ◌-◌};
+ghost use Rattle.std.specs.Prelude.{◌≡◌, ◌≢◌, Err, ◌+◌, true, length, None, Some, nat_lt, slice_get, IfOk, IfErr, OnOk, OnErr, ◌<◌, ◌≤◌};
 ghost use Rattle.std.specs.HashMap.{spare};
-ghost use Rattle.flat_model.specs.Flat.{Flat, opening, word_at, stored, with_due, first_fault, may_answer, flat_after, flat_run, is_between, load_refusals, store_refusals, prefetch_refusals, is_owed, number};
-ghost use Rattle.flat_model.specs.declared.memory.ReplayFault.TheVariants.{Lengths, Mismatch};
+ghost use Rattle.flat_model.specs.Flat.{Flat, opening, word_at, stored, with_due, may_answer, flat_after, flat_run, is_between, load_refusals, store_refusals, prefetch_refusals, is_owed};
+ghost use Rattle.flat_model.specs.declared.memory.ReplayFault.TheVariants.{Lengths};
 ghost use Rattle.flat_model.specs.Memory.{shown, FaultIs, MovesOnly};
 
 use crate::{Answer, Cause, Event, Lanes, Word, merge};
@@ -46,7 +46,9 @@ pub struct FlatMemory {
 
 #[tactic(auto, unfolding(crate::specs::Memory::shown))]
 impl FlatMemory {
-    /// Memory with these words, in which no tag is owed a word.
+    /// Memory with these words, in which no tag is owed a word. The image has fewer than 2^32
+    /// words, so that each has an address. `AllocError` says that there was too little memory:
+    /// nothing is made.
     pub fn new(alloc: Global, image: &[Word]) -> Result<FlatMemory, AllocError>
         ensures { IfOk result (λ m. shown m ≡ opening image.now) }
     {
@@ -81,7 +83,8 @@ impl FlatMemory {
         events: &[Event],
         answers: &[Answer],
     ) -> Result<(), ReplayFault>
-        ensures ok { OnOk result (flat_run (shown self.old) events.now answers.now ≡ Some (shown self.new)) }
+        ensures ok { OnOk result
+            (flat_run (shown self.old) events.now answers.now ≡ Some (shown self.new)) }
         ensures lengths { length events.now ≢ length answers.now → result ≡ Err Lengths }
         ensures fault { IfErr result (FaultIs (shown self.old) events.now answers.now) }
         ensures unchanged { OnErr result (shown self.new ≡ shown self.old) }
@@ -99,7 +102,8 @@ impl FlatMemory {
     fn follow(&mut self, events: &[Event], answers: &[Answer]) -> Result<(), ReplayFault>
         requires lengths { length events.now ≡ length answers.now }
         requires room { length events.now ≤ spare self.old.due }
-        ensures ok { OnOk result (flat_run (shown self.old) events.now answers.now ≡ Some (shown self.new)) }
+        ensures ok { OnOk result
+            (flat_run (shown self.old) events.now answers.now ≡ Some (shown self.new)) }
         ensures fault { IfErr result (FaultIs (shown self.old) events.now answers.now) }
     {
         for place in 0..events.len() {
@@ -212,7 +216,8 @@ impl FlatMemory {
         requires inside { at < length (shown self.old).mem }
         requires room { 0 < spare self.old.due }
         ensures mem { (shown self.new).mem ≡ (shown self.old).mem }
-        ensures due { (shown self.new).due ≡ with_due (shown self.old).due tag (Some (word_at (shown self.old).mem at)) }
+        ensures due { (shown self.new).due
+            ≡ with_due (shown self.old).due tag (Some (word_at (shown self.old).mem at)) }
         ensures room { spare self.old.due ≤ spare self.new.due + 1 }
     {
         let word = self.words[at as usize];
@@ -231,7 +236,8 @@ impl FlatMemory {
 
     // The tag is owed nothing.
     fn pay(&mut self, tag: u16)
-        ensures shown { shown self.new ≡ record { mem = (shown self.old).mem; due = with_due (shown self.old).due tag None } }
+        ensures shown { shown self.new
+            ≡ record { mem = (shown self.old).mem; due = with_due (shown self.old).due tag None } }
         ensures room { spare self.old.due ≤ spare self.new.due }
     {
         self.due.remove(&tag);

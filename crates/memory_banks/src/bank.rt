@@ -1,9 +1,9 @@
 //! One bank of memory.
-ghost use Rattle.std.specs.Prelude.{◌≡◌, ℕ, ◌+◌, ◌-◌, ◌*◌, ◌/◌, ◌<◌, ◌≤◌, ◌↔◌, ◌++◌, [], ◌∷◌, length, slice_get, slice_index_or, IfOk, IsTrue, map};
-ghost use Rattle.std.specs.List.{count_by, range_with_len};
+ghost use Rattle.std.specs.Prelude.{◌≡◌, ◌<◌, ◌≤◌, ◌↔◌, [], length, slice_get, IfOk, IsTrue};
+ghost use Rattle.std.specs.List.{count_by};
 ghost use Rattle.flat_model.specs.Flat.{word_at, stored};
 ghost use Rattle.memory_banks.specs.Banks.{with_command, share_of};
-ghost use Rattle.memory_banks.specs.Memory.{serve_bank, without_answer, is_read, is_idle, share_length};
+ghost use Rattle.memory_banks.specs.Memory.{serve_bank, without_answer, is_read, is_idle};
 
 use crate::{BankAnswer, Command};
 use circular_buffer::HeapCircularBuffer;
@@ -26,14 +26,18 @@ pub struct MemoryBank {
 }
 
 impl Model for MemoryBank {
-    ghost use Rattle.std.specs.Prelude.{◌≡◌, ◌<◌, ◌≤◌, ◌^◌, length, vec_len, vec_capacity};
+    ghost use Rattle.std.specs.Prelude.{◌≡◌, ◌≤◌, length, vec_capacity};
     ghost use Rattle.memory_banks.specs.Banks.{Bank};
 
     ghost Value = { Bank };
 
-    ghost view = { λ a. record { words = a.words.items; queue = a.queue.items; answers = a.answers.items } };
+    ghost view = { λ a.
+        record { words = a.words.items; queue = a.queue.items; answers = a.answers.items } };
 
-    ghost invariant = { λ a. (a.queue.capacity ≡ 64) × (length a.queue.items ≤ 64) × (vec_capacity a.answers ≡ 257) × (length a.answers.items ≤ 257) };
+    ghost invariant = { λ a. (a.queue.capacity ≡ 64)
+        × (length a.queue.items ≤ 64)
+        × (vec_capacity a.answers ≡ 257)
+        × (length a.answers.items ≤ 257) };
 }
 
 #[tactic(auto, unfolding(crate::specs::Banks::served, crate::specs::Banks::with_command))]
@@ -48,7 +52,8 @@ impl MemoryBank {
         requires here { bank < banks }
         requires few { banks ≤ 16 }
         requires fits { length image.now ≤ 1048576 }
-        ensures { IfOk result (λ b. b ≡ record { words = share_of image.now banks bank; queue = []; answers = [] }) }
+        ensures { IfOk result (λ b. b
+            ≡ record { words = share_of image.now banks bank; queue = []; answers = [] }) }
     {
         let words = share(alloc, image, banks, bank)?;
         let queue = HeapCircularBuffer::with_capacity(alloc, MOST_QUEUED as usize)?;

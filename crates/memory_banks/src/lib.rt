@@ -20,14 +20,20 @@ pub use memory::Banks;
 pub enum Command {
     /// The register in `slot` asks for its word `i`, which lies at `place` of the bank.
     Read {
+        /// The number of the register that asks.
         slot: u32,
+        /// The number of the word in the register's block.
         i: u32,
+        /// Where the word lies in the bank, counted from 0.
         place: u32,
     },
     /// The bytes of `word` in `lanes` are written at `place` of the bank.
     Write {
+        /// Where the word lies in the bank, counted from 0.
         place: u32,
+        /// The bytes to be written: only those in the lanes count.
         word: Word,
+        /// The lanes to be written.
         lanes: Lanes,
     },
 }
@@ -35,8 +41,11 @@ pub enum Command {
 /// What a bank answers to a read: the word `i` of the register in `slot`.
 #[derive(Clone, Copy, PartialEq, Eq, Debug)]
 pub struct BankAnswer {
+    /// The number of the register that asked.
     pub slot: u32,
+    /// The number of the word in the register's block.
     pub i: u32,
+    /// The word as the bank had it when it served the read.
     pub word: Word,
 }
 
@@ -55,15 +64,19 @@ pub trait Lines {
     fn room(&self, bank: u32) -> u32
         ensures { result ≡ room_of self.now bank };
 
-    /// One command goes last to a bank that has room for it.
+    /// One command goes last to a bank that has room for it, and no other bank changes.
     fn send(&mut self, bank: u32, command: Command)
         requires { 0 < room_of self.old bank }
         ensures same { same self.old self.new }
         ensures sent { sent_to self.new bank ≡ sent_to self.old bank ++ command ∷ [] }
         ensures room { room_of self.new bank + 1 ≡ room_of self.old bank }
-        ensures others { (b : ℕ) → b ≢ bank → (sent_to self.new b ≡ sent_to self.old b) × (room_of self.new b ≡ room_of self.old b) };
+        ensures others { (b : ℕ) → b ≢ bank →
+            (sent_to self.new b ≡ sent_to self.old b)
+            × (room_of self.new b ≡ room_of self.old b) };
 
+    /// No send at all leaves all else as it was.
     ghost same_self: { (a : Self) → same a a };
 
+    /// So do sends after sends.
     ghost same_steps: { (a b c : Self) → same a b → same b c → same a c };
 }

@@ -1,5 +1,5 @@
 //! The banks of a machine.
-ghost use Rattle.std.specs.Prelude.{◌≡◌, ℕ, ◌+◌, ◌-◌, ◌<◌, ◌≤◌, ◌↔◌, length, slice_get, slice_set, IfOk, IfErr, OnOk, IsTrue, None};
+ghost use Rattle.std.specs.Prelude.{◌≡◌, ℕ, ◌<◌, ◌≤◌, ◌↔◌, length, slice_get, slice_set, IfOk, IfErr, OnOk, IsTrue, None};
 ghost use Rattle.std.specs.List.{count_by, list_all};
 ghost use Rattle.memory_banks.specs.Banks.{bank_at, words_after, pending, opening_banks, room_in};
 ghost use Rattle.memory_banks.specs.Memory.{with_banks, IsMemory, word_in, is_read, is_idle, serve_in, without_answer, SameButQueues, bad_field, fault_of};
@@ -25,16 +25,22 @@ impl Model for Banks {
 
     ghost view = { λ a. record { words = a.words; limit = a.limit; banks = a.banks.items } };
 
-    ghost invariant = { λ a. let m : Memory = record { words = a.words; limit = a.limit; banks = a.banks.items } in IsMemory m };
+    ghost invariant = { λ a.
+        let m : Memory = record { words = a.words; limit = a.limit; banks = a.banks.items } in
+        IsMemory m };
 }
 
 impl Banks {
     /// Banks that hold the image, interleaved, with nothing queued. `BadShape` names the first bad
     /// number of the shape: `Words` (1 to 1,048,576), `Banks` (1 to 16), `BankQueue` (1 to 64) or
     /// `Image`, whose length is the words of memory. `OutOfMemory` says that there was too little
-    /// memory.
+    /// memory. After either nothing is made.
     pub fn new(alloc: Global, image: &[Word], shape: &Shape) -> Result<Self, MakeFault>
-        ensures ok { IfOk result (λ m. m ≡ record { words = shape.now.words; limit = shape.now.bank_queue; banks = opening_banks image.now shape.now.banks }) }
+        ensures ok { IfOk result (λ m. m ≡ record {
+          words = shape.now.words;
+          limit = shape.now.bank_queue;
+          banks = opening_banks image.now shape.now.banks;
+        }) }
         ensures in_range { OnOk result (bad_field (length image.now) shape.now ≡ None) }
         ensures fault { IfErr result (λ e. e ≡ fault_of (bad_field (length image.now) shape.now)) }
     {
@@ -49,16 +55,19 @@ impl Banks {
         })
     }
 
-    /// Serves the first command of the bank: a read adds its answer last to the bank's answers, a
-    /// write changes the word at its place. A read of a place that the bank doesn't have answers
-    /// the zero word, and a write there changes nothing. `false` says that the queue is empty or
-    /// the bank isn't there, and changes nothing.
+    /// Serves the first command of the bank, in which at most 256 answers stand: a read adds its
+    /// answer last to them, a write changes the word at its place. A read of a place that the bank
+    /// doesn't have answers the zero word, and a write there changes no word. `false` says that the
+    /// queue is empty or the bank isn't there, and changes nothing.
     pub fn serve(&mut self, bank: u32) -> bool
         requires { length (bank_at self.old.banks bank).answers ≤ 256 }
         ensures moved { IsTrue result ↔ (0 < length (bank_at self.old.banks bank).queue) }
-        ensures banks { self.new ≡ with_banks self.old (serve_in self.old.banks bank (bank_at self.old.banks bank).queue) }
-        ensures words_stay { (b : ℕ) → words_after (bank_at self.new.banks b) ≡ words_after (bank_at self.old.banks b) }
-        ensures pending_stay { (b : ℕ) → pending (bank_at self.new.banks b) ≡ pending (bank_at self.old.banks b) }
+        ensures banks { self.new ≡ with_banks self.old
+            (serve_in self.old.banks bank (bank_at self.old.banks bank).queue) }
+        ensures words_stay { (b : ℕ) →
+            words_after (bank_at self.new.banks b) ≡ words_after (bank_at self.old.banks b) }
+        ensures pending_stay { (b : ℕ) →
+            pending (bank_at self.new.banks b) ≡ pending (bank_at self.old.banks b) }
     {
         if (bank as usize) < self.banks.len() {
             let bank = &mut self.banks[bank as usize];
@@ -69,10 +78,11 @@ impl Banks {
     }
 
     /// Takes the answer at `place` out of the bank; later ones move up. `None` says that none
-    /// stands there, and changes nothing.
+    /// stands there or the bank isn't there, and changes nothing.
     pub fn take_answer(&mut self, bank: u32, place: u32) -> Option<BankAnswer>
         ensures value { result ≡ slice_get (bank_at self.old.banks bank).answers place }
-        ensures banks { self.new ≡ with_banks self.old (slice_set self.old.banks bank (without_answer (bank_at self.old.banks bank) place)) }
+        ensures banks { self.new ≡ with_banks self.old
+            (slice_set self.old.banks bank (without_answer (bank_at self.old.banks bank) place)) }
     {
         if (bank as usize) < self.banks.len() {
             let bank = &mut self.banks[bank as usize];
@@ -93,7 +103,7 @@ impl Banks {
         }
     }
 
-    /// How many of the commands that wait at the bank are reads.
+    /// How many of the commands that wait at the bank are reads: 0 for a bank that isn't there.
     pub fn reads(&self, bank: u32) -> u32
         ensures { result ≡ count_by is_read (bank_at self.now.banks bank).queue }
     {
@@ -113,14 +123,16 @@ impl Banks {
         }
     }
 
-    /// The answer that stands at `place` in the bank, which stays there; `None` where none stands.
+    /// The answer that stands at `place` in the bank, which stays there; `None` where none stands
+    /// there or the bank isn't there.
     pub fn answer_at(&self, bank: u32, place: u32) -> Option<BankAnswer>
         ensures { result ≡ slice_get (bank_at self.now.banks bank).answers place }
     {
         self.banks.get(bank as usize)?.answer_at(place)
     }
 
-    /// The word of memory at `at`, as it now stands in its bank; `None` exactly out of memory.
+    /// The word of memory at `at`, as it now stands in its bank; `None` exactly where memory has no
+    /// such word.
     pub fn word(&self, at: u32) -> Option<Word>
         ensures { result ≡ word_in self.now at }
     {

@@ -2,7 +2,6 @@
 #![tactic(auto)]
 
 ghost use Rattle.std.specs.Prelude.{◌≡◌, ◌<◌, ◌≤◌, ◌++◌, [], ◌∷◌, length, slice_get};
-ghost use Rattle.miss_registers.specs.Marks.{clear_mark};
 ghost use Rattle.miss_registers.specs.Views.{load_at_front};
 
 mod file;
@@ -18,7 +17,7 @@ use std::marker::Model;
 pub struct Owed {
     /// The load's tag.
     pub tag: u16,
-    /// The bytes that it has already, in the lanes.
+    /// The bytes that it has already: only those in the lanes count.
     pub held: Word,
     /// The lanes that the arriving word mustn't give it.
     pub lanes: Lanes,
@@ -55,31 +54,19 @@ pub struct FieldView {
     pub tag: u16,
     /// The lanes whose bytes that load has already.
     pub held_lanes: Lanes,
-    /// The bytes in these lanes, and zero bytes elsewhere.
+    /// The bytes that it has already: only those in the held lanes count.
     pub held: Word,
     /// How many loads wait.
     pub targets: u32,
 }
 
-// What is kept of a word, beside the loads that wait for it.
+// What is kept of a word, beside the loads that wait for it. All is clear of a word that has still
+// to come.
 #[derive(Clone, Copy, Default)]
 struct Mark {
     in_stack: bool,
     processed: bool,
     code: Lanes,
-}
-
-impl Mark {
-    // The mark of a word that has still to come.
-    fn clear() -> Self
-        ensures { result ≡ clear_mark }
-    {
-        Mark {
-            in_stack: false,
-            processed: false,
-            code: Lanes::none(),
-        }
-    }
 }
 
 // A load that waits for word `i`.
@@ -126,16 +113,7 @@ impl OwedList {
     {
         match self.get(0) {
             Some(owed) => owed,
-            None => Owed {
-                tag: 0,
-                held: Word {
-                    b0: 0,
-                    b1: 0,
-                    b2: 0,
-                    b3: 0,
-                },
-                lanes: Lanes::none(),
-            },
+            None => Owed::default(),
         }
     }
 

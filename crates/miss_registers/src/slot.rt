@@ -1,5 +1,5 @@
 //! One register.
-ghost use Rattle.std.specs.Prelude.{◌≡◌, ◌<◌, ◌≤◌, ◌&&◌, ◌==◌, length, slice_set, slice_get, true, false, not, if◌then◌else◌, map, replicate, count_by};
+ghost use Rattle.std.specs.Prelude.{◌≡◌, ◌<◌, ◌≤◌, ◌&&◌, ◌==◌, length, slice_set, slice_get, not, if◌then◌else◌, map, replicate, count_by};
 ghost use Rattle.std.specs.List.{list_all, list_any, filter};
 ghost use Rattle.miss_registers.specs.Registers as spec;
 ghost use Rattle.miss_registers.specs.Views as shows;
@@ -274,7 +274,7 @@ fn clear_marks(words: u32) -> ArrayVec<Mark, 16>
 {
     let mut marks = ArrayVec::new();
     for k in 0..words {
-        marks.push(Mark::clear());
+        marks.push(Mark::default());
     }
     marks
 }
@@ -287,7 +287,8 @@ fn expected_in(marks: &[Mark], i: u32) -> bool
 
 fn put_in_stack(marks: &mut ArrayVec<Mark, 16>, i: u32)
     requires { i < length marks.old.items }
-    ensures { marks.new.items ≡ slice_set marks.old.items i (in_stack_mark (mark_at marks.old.items i)) }
+    ensures { marks.new.items
+        ≡ slice_set marks.old.items i (in_stack_mark (mark_at marks.old.items i)) }
 {
     let mark = &mut marks.as_mut_slice()[i as usize];
     mark.in_stack = true;
@@ -295,7 +296,8 @@ fn put_in_stack(marks: &mut ArrayVec<Mark, 16>, i: u32)
 
 fn join_code(marks: &mut ArrayVec<Mark, 16>, i: u32, lanes: Lanes)
     requires { i < length marks.old.items }
-    ensures { marks.new.items ≡ slice_set marks.old.items i (noted_mark (mark_at marks.old.items i) lanes) }
+    ensures { marks.new.items
+        ≡ slice_set marks.old.items i (noted_mark (mark_at marks.old.items i) lanes) }
 {
     let mark = &mut marks.as_mut_slice()[i as usize];
     mark.code = mark.code.joined(lanes);
@@ -323,7 +325,7 @@ fn mark_of(marks: &[Mark], i: u32) -> Mark
     if (i as usize) < marks.len() {
         marks[i as usize]
     } else {
-        Mark::clear()
+        Mark::default()
     }
 }
 

@@ -14,20 +14,26 @@ use flat_model::{Lanes, MakeFault, ShapeField, Word, merge};
 use std::alloc::Global;
 use std::marker::Model;
 
-/// A word that a given-up block owes to memory: the bytes of `word` in `lanes` are the newest for
+/// A word that a given-up block owes to memory: the bytes of `word` in `lanes` are to be written to
 /// the word at `at`, which lies in `block`.
 #[derive(Clone, Copy, PartialEq, Eq, Debug, Default)]
 pub struct Queued {
+    /// The number of the block that was given up.
     pub block: u32,
+    /// The address of the word in memory.
     pub at: u32,
+    /// The bytes to be written: only those in the lanes count.
     pub word: Word,
+    /// The lanes to be written.
     pub lanes: Lanes,
 }
 
 /// The newest queued bytes of a word: these bytes in these lanes, and zero bytes elsewhere.
 #[derive(Clone, Copy, PartialEq, Eq, Debug, Default)]
 pub struct Forward {
+    /// The bytes that memory is to have in the lanes.
     pub word: Word,
+    /// The lanes that one of the queue's entries for the word has.
     pub lanes: Lanes,
 }
 
@@ -49,11 +55,12 @@ impl Model for WriteQueue {
 
 impl WriteQueue {
     /// An empty queue for at most `cap` words. `BadShape(WriteQueue)` says that `cap` is 0 or over
-    /// 256, and `OutOfMemory` that there was too little memory.
+    /// 256, and `OutOfMemory` that there was too little memory. After either nothing is made.
     pub fn new(alloc: Global, cap: u32) -> Result<Self, MakeFault>
         ensures ok { IfOk result (λ q. q ≡ queue [] cap) }
         ensures in_range { OnOk result (IsTrue (is_limit cap)) }
-        ensures fault { IfErr result (λ e. e ≡ (if is_limit cap then MakeFault.OutOfMemory else MakeFault.BadShape ShapeField.WriteQueue)) }
+        ensures fault { IfErr result (λ e. e ≡ (if is_limit cap then MakeFault.OutOfMemory
+            else MakeFault.BadShape ShapeField.WriteQueue)) }
     {
         if cap < 1 || cap > 256 {
             return Err(MakeFault::BadShape(ShapeField::WriteQueue));

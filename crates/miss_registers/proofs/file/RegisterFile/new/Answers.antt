@@ -3,9 +3,7 @@ use Rattle.miss_registers.proofs.Whole.{new-whole}
 use Rattle.miss_registers.proofs.file.RegisterFile.new.Goals as goal
 
 pub invariant_of-result : goal.invariant_of-result
-invariant_of-result g c =
-    let k : c.loop-k.k ≡ g.row.REGS = omega arith in
-    rw (c.loop-k.invariant, k) (new-whole g.row.WORDS g.row.REGS (omega arith) (omega arith) (omega arith) (omega arith))
+invariant_of-result g c = rw c.in_ok-slots.ensures (new-whole g.row.WORDS g.row.REGS (omega arith) (omega arith) (omega arith) (omega arith))
 
 pub returns-clause-whole : goal.returns-clause-whole
 returns-clause-whole g c = invariant_of-result g c
