@@ -57,6 +57,7 @@ impl<const WAYS: usize, const WORDS: usize, const REGS: usize, const DEPTH: usiz
         ensures in_range { OnOk result (bad_field (sizes_of WAYS WORDS REGS DEPTH shape) (length image.now) ≡ None) }
         ensures fault { IfErr result (λ e. e ≡ fault_of (bad_field (sizes_of WAYS WORDS REGS DEPTH shape) (length image.now))) }
         ensures flat { IfOk result (λ m. machine.flat_of m.sizes m.machine ≡ record { mem = image.now; due = λ tag. None }) }
+        ensures kept { IfOk result (λ m. IsKept m.sizes m.machine) }
     {
         if let Some(field) = bad_field::<WAYS, WORDS, REGS, DEPTH>(&shape, image.len()) {
             return Err(MakeFault::BadShape(field));
@@ -87,9 +88,11 @@ impl<const WAYS: usize, const WORDS: usize, const REGS: usize, const DEPTH: usiz
         ensures machine { OnOk result (self.new ≡ record self.old { machine = machine.walked self.old.sizes self.old.machine events.now }) }
         ensures unchanged { OnErr result (self.new ≡ self.old) }
         ensures flat { IfOk result (λ answers. flat_run (machine.flat_of self.old.sizes self.old.machine) events.now answers.items ≡ Some (machine.flat_of self.new.sizes self.new.machine)) }
+        ensures kept { IsKept self.new.sizes self.new.machine }
     {
+        let Machine { unit, banks, .. } = self;
         let mut answers = Vec::with_capacity(alloc, events.len())?;
-        walk(&mut self.unit, &mut self.banks, events, &mut answers);
+        walk(unit, banks, events, &mut answers);
         Ok(answers)
     }
 
@@ -117,6 +120,7 @@ impl<const WAYS: usize, const WORDS: usize, const REGS: usize, const DEPTH: usiz
         ensures rests { IsNone result ↔ (driver.weight self.old.machine ≡ 0) }
         ensures lowers { IfSome result (λ p. driver.weight self.new.machine < driver.weight self.old.machine) }
         ensures flat { IfSome result (λ p. flat_step (machine.flat_of self.old.sizes self.old.machine) p.0 p.1 ≡ Some (machine.flat_of self.new.sizes self.new.machine)) }
+        ensures kept { IsKept self.new.sizes self.new.machine }
     {
         let event = next_event(&self.unit, &self.banks, self.shape.banks)?;
         Some((event, self.apply(event)))
