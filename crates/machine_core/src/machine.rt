@@ -21,8 +21,8 @@ use miss_registers::{FieldView, Owed, RegisterView};
 use std::alloc::{AllocError, Global};
 use std::marker::Model;
 
-/// A cache unit over the banks of its memory: `WAYS` ways a set, `WORDS` words a block, `REGS`
-/// registers and `DEPTH` places in the input stack.
+/// A cache unit over the banks of its memory: `WAYS` (1 to 8) ways a set, `WORDS` (1 to 16) words a
+/// block, `REGS` (1 to 16) registers and `DEPTH` (1 to 16) places in the input stack.
 #[derive(Drop)]
 pub struct Machine<const WAYS: usize, const WORDS: usize, const REGS: usize, const DEPTH: usize> {
     shape: Shape,
@@ -96,8 +96,13 @@ impl<const WAYS: usize, const WORDS: usize, const REGS: usize, const DEPTH: usiz
         Ok(answers)
     }
 
-    /// The number of words and loads on their way, each weighed by the pumps that it still takes.
-    /// After as many pumps every request that points into memory is accepted.
+    /// What is on its way, each word and load weighed by the pumps that it may still take at most:
+    /// from 0 to `4 * REGS * WORDS + replies + 2 * write_queue + banks * bank_queue`, with the numbers
+    /// of the shape.
+    ///
+    /// After as many pumps the weight is 0. Then each load, each prefetch and each store with a lane
+    /// that points into memory is accepted, and an eviction is accepted or refused because there is
+    /// no such block (1) or no frame holds it (11).
     pub fn weight(&self) -> u64
         ensures value { result ≡ driver.weight self.now.machine }
         ensures within { result ≤ most_weight self.now.sizes }
