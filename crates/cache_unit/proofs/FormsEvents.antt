@@ -21,7 +21,8 @@ use Rattle.cache_unit.specs.Steps.{Stepped, unless, moved, drain_first, drain_st
 use Rattle.cache_unit.specs.Forms.{Byte, Asked, Form, bytes_of, missing_form, coming_form, over_form, form_in, form, target_form, owed, fill}
 use Rattle.cache_unit.specs.FormLaws.{form_where, form_at, forms, but_at, filled_form, DrainForms, ArriveForms, TakenForms}
 use Rattle.cache_unit.specs.SoundCache.{IsSoundCache}
-use Rattle.cache_unit.proofs.FormsLists.{tally, bit, Adds, Adds-tally, Adds-find_other, Adds-find_same, find_none, Adds-right, Adds-map, Adds-remove}
+use Rattle.cache_unit.specs.Counts.{tally, bit}
+use Rattle.cache_unit.proofs.FormsLists.{Adds, Adds-tally, Adds-find_other, Adds-find_same, find_none, Adds-right, Adds-map, Adds-remove}
 use Rattle.cache_unit.proofs.FormsSame.{Due, due_ready, due_to, dues, has_tag, due_in, owed-due, dues-tally, forms-from}
 
 -- ---- drain

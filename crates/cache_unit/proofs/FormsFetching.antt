@@ -19,12 +19,12 @@ use Rattle.cache_unit.proofs.FormsPlaces.{frame-stays, frame-comes, frame-goes, 
 use Rattle.cache_unit.proofs.FormsSame.{form_at-same, form_at-live, form_at-absent}
 use Rattle.cache_unit.proofs.FormsEvicting.{cell-other}
 
-range_at : {X : Type 0} (g : ℕ → X) (d : X) (a n j : ℕ) → j < n → get_or (map g (range_with_len a n)) j d ≡ g (a + j)
+pub range_at : {X : Type 0} (g : ℕ → X) (d : X) (a n j : ℕ) → j < n → get_or (map g (range_with_len a n)) j d ≡ g (a + j)
 range_at g d a zero j l = absurd (omega arith)
 range_at g d a (suc n) zero l = ap g (sym (add-zero a))
 range_at g d a (suc n) (suc j) l = let e : a + 1 + j ≡ a + suc j = omega arith in range_at g d (a + 1) n j (omega arith) ∙ ap g e
 
-range_length : {X : Type 0} (g : ℕ → X) (a n : ℕ) → length (map g (range_with_len a n)) ≡ n
+pub range_length : {X : Type 0} (g : ℕ → X) (a n : ℕ) → length (map g (range_with_len a n)) ≡ n
 range_length g a zero = refl
 range_length g a (suc n) = ap suc (range_length g (a + 1) n)
 
