@@ -11,16 +11,18 @@ use Rattle.input_stack.specs.Stack.{stack_word}
 use Rattle.write_queue.specs.Queue.{overlaid}
 use Rattle.cache_unit.specs.Causes.{dirty_from}
 use Rattle.cache_unit.specs.Steps.{without_code, made_obsolete, obsoleted}
+use Rattle.cache_unit.specs.Counts.{tally, bit}
+use Rattle.cache_unit.proofs.FormsLists.{gathered_part, read_set}
+use Rattle.cache_unit.proofs.FormsEvicting.{codeless_targets}
+use Rattle.cache_unit.proofs.FormsParts.{in_range}
+use Rattle.cache_unit.proofs.FormsFinding.{frame_of-some, frame_of-is, frame_of-none, none_in_frames, live_for-some, live_for-is, live_for-none, none_live}
 use Rattle.machine_core.specs.Law.{IsLawful}
 use Rattle.machine_core.specs.Machine.{Machine, backing}
-use Rattle.machine_core.specs.Sound.{tally, bit, coming, word_now_in, word_now, has_tag, dues, InOrder, IsSound}
-use Rattle.machine_core.proofs.Lists.{gathered_part}
+use Rattle.machine_core.specs.Sound.{coming, word_now_in, word_now, has_tag, dues, InOrder, IsSound}
 use Rattle.flat_model.proofs.Lanewise.{merged-none}
-use Rattle.machine_core.proofs.Parts.{in_range}
-use Rattle.machine_core.proofs.Finding.{frame_of-some, frame_of-is, frame_of-none, none_in_frames, live_for-some, live_for-is, live_for-none, none_live}
 use Rattle.machine_core.proofs.Coming.{due_in}
 use Rattle.machine_core.proofs.Sound.{Same, word_now-same}
-use Rattle.machine_core.proofs.Serving.{read_set, dues-same}
+use Rattle.machine_core.proofs.Serving.{dues-same}
 use Rattle.machine_core.proofs.Dirty.{overlaid-append, overlaid_below, overlaid_at, overlaid_past, address_is, block_in, outside, AllIn-append, AllIn-dirty}
 
 -- ---- the registers without the live one of a block
@@ -43,10 +45,6 @@ codeless_processed (f ∷ fields) (suc j) = codeless_processed fields j
 codeless_length : (fields : List Field) → length (map without_code fields) ≡ length fields
 codeless_length [] = refl
 codeless_length (f ∷ fields) = ap suc (codeless_length fields)
-
-codeless_targets : (slot n : ℕ) (fields : List Field) → gathered (targets_of_field slot) n (map without_code fields) ≡ gathered (targets_of_field slot) n fields
-codeless_targets slot n [] = refl
-codeless_targets slot n (f ∷ fields) = ap (λ l. targets_of_field slot n f ++ l) (codeless_targets slot (suc n) fields)
 
 pub retired : (z : Sizes) (m : Machine) (block : ℕ) → IsSound z m → (o : Option ℕ) → live_for m.cache block ≡ o → Retired m.cache block (obsoleted m.cache o)
 unfolding targets

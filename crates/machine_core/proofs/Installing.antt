@@ -15,28 +15,22 @@ use Rattle.input_stack.specs.Stack.{stack_word}
 use Rattle.write_queue.specs.Queue.{overlaid, queued_lanes}
 use Rattle.cache_unit.specs.Causes.{addresses}
 use Rattle.cache_unit.specs.Steps.{fresh_frame, fresh_register}
+use Rattle.cache_unit.specs.Counts.{tally, bit}
+use Rattle.cache_unit.proofs.FormsLists.{find_none, gathered_part}
+use Rattle.cache_unit.proofs.FormsFetching.{range_at, range_length}
+use Rattle.cache_unit.proofs.FormsParts.{targets_map}
+use Rattle.cache_unit.proofs.FormsFinding.{frame_of-some, frame_of-is, frame_of-none, none_in_frames, live_for-some, live_for-is, live_for-none, none_live}
 use Rattle.machine_core.specs.Law.{IsLawful}
 use Rattle.machine_core.specs.Machine.{Machine, backing}
-use Rattle.machine_core.specs.Sound.{tally, bit, is_for, coming, coming_from, word_in, shown_word, word_now_in, word_now, has_tag, dues, reply_to, InOrder, IsSound, is_entry_for, wanted}
-use Rattle.machine_core.proofs.Lists.{find_none, gathered_part}
+use Rattle.machine_core.specs.Sound.{is_for, coming, coming_from, word_in, shown_word, word_now_in, word_now, has_tag, dues, reply_to, InOrder, IsSound, is_entry_for, wanted}
 use Rattle.flat_model.proofs.Lanewise.{merged-none}
 use Rattle.machine_core.proofs.Overlaid.{overlaid-split}
-use Rattle.machine_core.proofs.Parts.{targets_map}
-use Rattle.machine_core.proofs.Finding.{frame_of-some, frame_of-is, frame_of-none, none_in_frames, live_for-some, live_for-is, live_for-none, none_live, word_now-live}
+use Rattle.machine_core.proofs.Finding.{word_now-live}
 use Rattle.machine_core.proofs.Coming.{due_in}
 use Rattle.machine_core.proofs.Sound.{Same, word_now-same}
 use Rattle.machine_core.proofs.Arriving.{bit-le}
 use Rattle.machine_core.proofs.Dirty.{address_is}
 use Rattle.machine_core.proofs.Sending.{base_in, answer_at, commands, AddsAll-tally, AddsAll-find_other, AddsAll-find, sent_words, sent_lengths, sent_number, sent_adds, reads_other, reads_tally, reads_find}
-
-pub range_at : {X : Type 0} (g : ℕ → X) (d : X) (a n j : ℕ) → j < n → get_or (map g (range_with_len a n)) j d ≡ g (a + j)
-range_at g d a zero j l = absurd (omega arith)
-range_at g d a (suc n) zero l = ap g (sym (add-zero a))
-range_at g d a (suc n) (suc j) l = let e : a + 1 + j ≡ a + suc j = omega arith in range_at g d (a + 1) n j (omega arith) ∙ ap g e
-
-pub range_length : {X : Type 0} (g : ℕ → X) (a n : ℕ) → length (map g (range_with_len a n)) ≡ n
-range_length g a zero = refl
-range_length g a (suc n) = ap suc (range_length g (a + 1) n)
 
 no_loads : (z : Sizes) (queue : List Queued) (slot n a k : ℕ) → gathered (targets_of_field slot) n (map (λ (at : ℕ). let f : Field = record { processed = false; code = queued_lanes queue at; waiting = [] } in f) (range_with_len a k)) ≡ []
 no_loads z queue slot n a zero = refl

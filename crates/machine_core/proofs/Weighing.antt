@@ -16,12 +16,15 @@ use Rattle.miss_registers.specs.declared.Owed.{Owed}
 use Rattle.cache_unit.specs.State.{Sizes, Field, Cache, clear_field, free_register, register_at, field_at}
 use Rattle.cache_unit.specs.Causes.{arrive_cause}
 use Rattle.cache_unit.specs.Steps.{answered, filled, finished, processed, process_entry, arrived, drain_first, take_step, process_step, drain_step}
+use Rattle.cache_unit.specs.Counts.{tally, bit}
+use Rattle.cache_unit.proofs.FormsProcessing.{all_processed, done}
+use Rattle.cache_unit.proofs.FormsFields.{with_fields}
 use Rattle.machine_core.specs.Machine.{Machine, Outcome, apply, serve_from, arrive_from, take_in, without_answer, joined_with}
 use Rattle.machine_core.specs.Pump.{total, command_weight, bank_weight, field_weight, register_weight, weight, lowest, has_items, when, pumped, first_event}
 use Rattle.machine_core.specs.Law.{IsLawful, HasRoom, WalkIsDriven}
-use Rattle.machine_core.specs.Sound.{IsSound, is_entry_for, wanted, tally, bit, is_for}
-use Rattle.machine_core.proofs.Processing.{done, with_fields, waits, slot_there, field_there}
-use Rattle.machine_core.proofs.Freeing.{filled_only, all_processed}
+use Rattle.machine_core.specs.Sound.{IsSound, is_entry_for, wanted, is_for}
+use Rattle.machine_core.proofs.Processing.{waits, slot_there, field_there}
+use Rattle.machine_core.proofs.Freeing.{filled_only}
 use Rattle.machine_core.proofs.Arriving.{not_stray}
 use Rattle.machine_core.proofs.Opening.{opening_sound}
 use Rattle.machine_core.proofs.Walking.{walk_sound}
