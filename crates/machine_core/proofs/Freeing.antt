@@ -16,13 +16,12 @@ use Rattle.cache_unit.specs.Counts.{tally, bit}
 use Rattle.cache_unit.proofs.FormsLists.{gathered_part, read_set}
 use Rattle.cache_unit.proofs.FormsProcessing.{all_processed, no_targets, done}
 use Rattle.cache_unit.proofs.FormsFields.{with_fields}
-use Rattle.cache_unit.proofs.FormsParts.{in_range}
+use Rattle.cache_unit.proofs.FormsParts.{in_range, nested_same, nested_other}
 use Rattle.cache_unit.proofs.FormsStoring.{with_cells}
 use Rattle.cache_unit.proofs.FormsFinding.{frame_of-some, live_for-some, live_for-is, live_for-none, none_live}
 use Rattle.machine_core.specs.Law.{IsLawful}
 use Rattle.machine_core.specs.Machine.{Machine, joined_with}
 use Rattle.machine_core.specs.Sound.{coming, shown_word, word_now_in, word_now, has_tag, dues, IsSound, wanted}
-use Rattle.machine_core.proofs.Parts.{nested_same, nested_other}
 use Rattle.machine_core.proofs.Coming.{due_in}
 use Rattle.machine_core.proofs.Sound.{Same, Kept, KeptBy, flat_of-same}
 use Rattle.machine_core.proofs.Serving.{dues-same}

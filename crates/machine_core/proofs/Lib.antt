@@ -8,13 +8,11 @@ pub mod Owing
 pub mod Taking
 pub mod Arriving
 pub mod Draining
-pub mod Parts
 pub mod Finding
 pub mod Processing
 pub mod Freeing
 pub mod Dirty
 pub mod Evicting
-pub mod Fields
 pub mod Loading
 pub mod Storing
 pub mod Sending

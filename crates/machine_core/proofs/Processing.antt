@@ -13,14 +13,13 @@ use Rattle.input_stack.specs.Stack.{stack_word}
 use Rattle.cache_unit.specs.Steps.{answered}
 use Rattle.cache_unit.specs.Counts.{tally, bit}
 use Rattle.cache_unit.proofs.FormsLists.{Adds, Adds-tally, Adds-find_other, Adds-find_same, Adds-remove, read_set}
-use Rattle.cache_unit.proofs.FormsParts.{in_range, find_swapped, tally_swapped, targets_map, WordPart, word_part}
+use Rattle.cache_unit.proofs.FormsParts.{in_range, find_swapped, tally_swapped, targets_map, WordPart, word_part, nested_set, nested_same, nested_other}
 use Rattle.cache_unit.proofs.FormsFields.{with_fields, with_field_in}
 use Rattle.cache_unit.proofs.FormsProcessing.{done}
 use Rattle.cache_unit.proofs.FormsFinding.{frame_of-some, frame_of-is, frame_of-like, live_for-some, live_for-is, live_for-like}
 use Rattle.machine_core.specs.Machine.{Machine, backing}
 use Rattle.machine_core.specs.Sound.{is_for, coming, coming_from, word_now, has_tag, dues, reply_to, IsSound, is_entry_for, wanted}
 use Rattle.flat_model.proofs.Lanewise.{merged_held}
-use Rattle.machine_core.proofs.Parts.{nested_set, nested_same, nested_other}
 use Rattle.machine_core.proofs.Finding.{word_now-live}
 use Rattle.machine_core.proofs.Coming.{due_in}
 use Rattle.machine_core.proofs.Orders.{InOrder-same}

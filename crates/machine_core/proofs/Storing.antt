@@ -10,20 +10,18 @@ use Rattle.input_stack.specs.Stack.{stack_word}
 use Rattle.cache_unit.specs.Steps.{noted, written_in, written}
 use Rattle.cache_unit.specs.Counts.{tally, bit}
 use Rattle.cache_unit.proofs.FormsLists.{read_set}
-use Rattle.cache_unit.proofs.FormsFields.{with_fields, with_field_in}
+use Rattle.cache_unit.proofs.FormsFields.{with_fields, with_field_in, same_at, field_elsewhere, field_here, field_part}
 use Rattle.cache_unit.proofs.FormsStoring.{noted_in, with_cells}
-use Rattle.cache_unit.proofs.FormsParts.{in_range, word_part}
+use Rattle.cache_unit.proofs.FormsParts.{in_range, word_part, nested_same, nested_other}
 use Rattle.cache_unit.proofs.FormsFinding.{frame_of-some, frame_of-like, live_for-some, live_for-like}
 use Rattle.machine_core.specs.Law.{IsLawful}
 use Rattle.machine_core.specs.Machine.{Machine, backing}
 use Rattle.machine_core.specs.Sound.{coming, shown_word, word_now, has_tag, dues, IsSound}
 use Rattle.flat_model.proofs.Lanewise.{merged_over}
-use Rattle.machine_core.proofs.Parts.{nested_same, nested_other}
 use Rattle.machine_core.proofs.Finding.{word_now-live, word_now-resident}
 use Rattle.machine_core.proofs.Orders.{InOrder-same}
 use Rattle.machine_core.proofs.Sound.{word_now-same}
 use Rattle.machine_core.proofs.Serving.{dues-same}
-use Rattle.machine_core.proofs.Fields.{same_at, field_elsewhere, field_here, field_part}
 use Rattle.machine_core.proofs.Dirty.{address_is}
 
 -- registers in which the code of a word that is still missing has more lanes
