@@ -28,11 +28,11 @@ pub range_length : {X : Type 0} (g : ℕ → X) (a n : ℕ) → length (map g (r
 range_length g a zero = refl
 range_length g a (suc n) = ap suc (range_length g (a + 1) n)
 
-no_loads : (queue : List Queued) (slot n a k : ℕ) → gathered (targets_of_field slot) n (map (λ (at : ℕ). let f : Field = record { processed = false; code = queued_lanes queue at; waiting = [] } in f) (range_with_len a k)) ≡ []
+pub no_loads : (queue : List Queued) (slot n a k : ℕ) → gathered (targets_of_field slot) n (map (λ (at : ℕ). let f : Field = record { processed = false; code = queued_lanes queue at; waiting = [] } in f) (range_with_len a k)) ≡ []
 no_loads queue slot n a zero = refl
 no_loads queue slot n a (suc k) = no_loads queue slot (suc n) (a + 1) k
 
-address_is : (z : Sizes) (at : ℕ) → address z (block_of z at) 0 + place_in z at ≡ at
+pub address_is : (z : Sizes) (at : ℕ) → address z (block_of z at) 0 + place_in z at ≡ at
 address_is z at = let e = div-add-mod' at z.block_words in omega arith
 
 -- the unit in which a block is present

@@ -20,10 +20,7 @@ use Rattle.cache_unit.specs.Parts.{finding_of}
 use Rattle.cache_unit.specs.SoundCache.{IsSoundCache}
 use Rattle.cache_unit.proofs.FormsChoosing.{fetched-by}
 use Rattle.cache_unit.proofs.FormsRequests.{missing}
-
--- a refused request leaves everything
-abbrev pub refused : Cause → Cache → Stepped
-refused cause c = record { answer = Refused cause; cache = c; sent = [] }
+use Rattle.cache_unit.proofs.Evicting.{refused}
 
 -- ---- the block
 

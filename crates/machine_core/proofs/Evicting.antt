@@ -16,6 +16,7 @@ use Rattle.cache_unit.proofs.FormsLists.{gathered_part, read_set}
 use Rattle.cache_unit.proofs.FormsEvicting.{codeless_targets}
 use Rattle.cache_unit.proofs.FormsParts.{in_range}
 use Rattle.cache_unit.proofs.FormsFinding.{frame_of-some, frame_of-is, frame_of-none, none_in_frames, live_for-some, live_for-is, live_for-none, none_live}
+use Rattle.cache_unit.proofs.FormsFetching.{address_is}
 use Rattle.machine_core.specs.Law.{IsLawful}
 use Rattle.machine_core.specs.Machine.{Machine, backing}
 use Rattle.machine_core.specs.Sound.{coming, word_now_in, word_now, has_tag, dues, InOrder, IsSound}
@@ -23,7 +24,7 @@ use Rattle.flat_model.proofs.Lanewise.{merged-none}
 use Rattle.machine_core.proofs.Coming.{due_in}
 use Rattle.machine_core.proofs.Sound.{Same, word_now-same}
 use Rattle.machine_core.proofs.Serving.{dues-same}
-use Rattle.machine_core.proofs.Dirty.{overlaid-append, overlaid_below, overlaid_at, overlaid_past, address_is, block_in, outside, AllIn-append, AllIn-dirty}
+use Rattle.machine_core.proofs.Dirty.{overlaid-append, overlaid_below, overlaid_at, overlaid_past, block_in, outside, AllIn-append, AllIn-dirty}
 
 -- ---- the registers without the live one of a block
 
@@ -195,7 +196,7 @@ module _ (z : Sizes) (lawful : IsLawful z) (m : Machine) (h : IsSound z m) (bloc
   backing_in at e =
       let cells = (frame_at m.cache f).cells in
       let w = word_at (words_after (bank_at m.banks (at % z.banks))) (at / z.banks) in
-      let here : at ≡ address z block 0 + place_in z at = address_is z at ∙ ap (λ b. address z b 0 + place_in z at) e in
+      let here : at ≡ address z block 0 + place_in z at = sym (address_is z at) ∙ ap (λ b. address z b 0 + place_in z at) e in
       let cell : old_cell at ≡ get_or cells (place_in z at) zero_cell = ap (λ b. cell_in m.cache (frame_of m.cache b) (place_in z at)) e ∙ ap (λ o. cell_in m.cache o (place_in z at)) found in
       overlaid-append w m.cache.queue (dirty_from block (address z block 0) cells) at ∙ overlaid_at (overlaid w m.cache.queue at) block (address z block 0) cells (place_in z at) at here ∙ ap (λ (c : Cell). merged (backing z m at) c.word c.dirty) (sym cell)
 

@@ -17,7 +17,7 @@ use Rattle.cache_unit.specs.Causes.{addresses}
 use Rattle.cache_unit.specs.Steps.{fresh_frame, fresh_register}
 use Rattle.cache_unit.specs.Counts.{tally, bit}
 use Rattle.cache_unit.proofs.FormsLists.{find_none, gathered_part}
-use Rattle.cache_unit.proofs.FormsFetching.{range_at, range_length}
+use Rattle.cache_unit.proofs.FormsFetching.{range_at, range_length, no_loads, address_is}
 use Rattle.cache_unit.proofs.FormsParts.{targets_map}
 use Rattle.cache_unit.proofs.FormsFinding.{frame_of-some, frame_of-is, frame_of-none, none_in_frames, live_for-some, live_for-is, live_for-none, none_live}
 use Rattle.machine_core.specs.Law.{IsLawful}
@@ -29,12 +29,7 @@ use Rattle.machine_core.proofs.Finding.{word_now-live}
 use Rattle.machine_core.proofs.Coming.{due_in}
 use Rattle.machine_core.proofs.Sound.{Same, word_now-same}
 use Rattle.machine_core.proofs.Arriving.{bit-le}
-use Rattle.machine_core.proofs.Dirty.{address_is}
 use Rattle.machine_core.proofs.Sending.{base_in, answer_at, commands, AddsAll-tally, AddsAll-find_other, AddsAll-find, sent_words, sent_lengths, sent_number, sent_adds, reads_other, reads_tally, reads_find}
-
-no_loads : (z : Sizes) (queue : List Queued) (slot n a k : ℕ) → gathered (targets_of_field slot) n (map (λ (at : ℕ). let f : Field = record { processed = false; code = queued_lanes queue at; waiting = [] } in f) (range_with_len a k)) ≡ []
-no_loads z queue slot n a zero = refl
-no_loads z queue slot n a (suc k) = no_loads z queue slot (suc n) (a + 1) k
 
 module _ (z : Sizes) (lawful : IsLawful z) (m : Machine) (h : IsSound z m) (block f slot : ℕ) (absent : frame_of m.cache block ≡ None) (free : (frame_at m.cache f).block ≡ None) (f_there : f < length m.cache.frames) (invalid : (register_at m.cache slot).valid ≡ false) (slot_there : slot < length m.cache.registers) (in_memory : address z block 0 < z.words) (orders : List (List ℕ)) (ordered : InOrder z (set m.cache.frames f (fresh_frame z m.cache.queue block)) orders) where
   abbrev pub with_block : Machine
@@ -207,7 +202,7 @@ module _ (z : Sizes) (lawful : IsLawful z) (m : Machine) (h : IsSound z m) (bloc
   word_own at e =
       let j = place_in z at in
       let l : place_in z at < z.block_words = mod-lt at lawful.some_words in
-      let a : address z block 0 + place_in z at ≡ at = sym (address_is z at ∙ ap (λ b. address z b 0 + place_in z at) e) in
+      let a : address z block 0 + place_in z at ≡ at = ap (λ b. address z b 0 + place_in z at) (sym e) ∙ address_is z at in
       let a' : block * z.block_words + place_in z at ≡ at = let k = a in omega arith in
       let q = m.cache.queue in
       let cell = own_cell (place_in z at) l in
@@ -257,7 +252,7 @@ module _ (z : Sizes) (lawful : IsLawful z) (m : Machine) (h : IsSound z m) (bloc
   same_targets =
       let p = gathered_part targets_of free_register 0 m.cache.registers slot slot_there in
       let r = register_at m.cache slot in
-      p.then (fresh_register z m.cache.queue block) ∙ ap (λ l. p.front ++ (l ++ p.back)) (no_loads z m.cache.queue (0 + slot) 0 (address z block 0) z.block_words ∙ sym (ap (λ v. cond v (gathered (targets_of_field (0 + slot)) 0 r.fields) []) invalid)) ∙ sym p.now
+      p.then (fresh_register z m.cache.queue block) ∙ ap (λ l. p.front ++ (l ++ p.back)) (no_loads m.cache.queue (0 + slot) 0 (address z block 0) z.block_words ∙ sym (ap (λ v. cond v (gathered (targets_of_field (0 + slot)) 0 r.fields) []) invalid)) ∙ sym p.now
 
   same_replies : map (reply_to with_block) (targets m.cache.registers) ≡ map (reply_to m) (targets m.cache.registers)
   same_replies =

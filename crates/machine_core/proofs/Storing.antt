@@ -14,6 +14,7 @@ use Rattle.cache_unit.proofs.FormsFields.{with_fields, with_field_in, same_at, f
 use Rattle.cache_unit.proofs.FormsStoring.{noted_in, with_cells}
 use Rattle.cache_unit.proofs.FormsParts.{in_range, word_part, nested_same, nested_other}
 use Rattle.cache_unit.proofs.FormsFinding.{frame_of-some, frame_of-like, live_for-some, live_for-like}
+use Rattle.cache_unit.proofs.FormsFetching.{address_is}
 use Rattle.machine_core.specs.Law.{IsLawful}
 use Rattle.machine_core.specs.Machine.{Machine, backing}
 use Rattle.machine_core.specs.Sound.{coming, shown_word, word_now, has_tag, dues, IsSound}
@@ -22,7 +23,6 @@ use Rattle.machine_core.proofs.Finding.{word_now-live, word_now-resident}
 use Rattle.machine_core.proofs.Orders.{InOrder-same}
 use Rattle.machine_core.proofs.Sound.{word_now-same}
 use Rattle.machine_core.proofs.Serving.{dues-same}
-use Rattle.machine_core.proofs.Dirty.{address_is}
 
 -- registers in which the code of a word that is still missing has more lanes
 pub record NotedBy (c : Cache) (live : Option ℕ) (i : ℕ) (lanes : Lanes) (registers : List Register) : Type 0 where
@@ -154,7 +154,7 @@ module _ (z : Sizes) (lawful : IsLawful z) (m : Machine) (h : IsSound z m) (at :
 
     -- at another address something differs
     apart : (a : ℕ) → (a ≡ at → ⊥) → block_of z a ≡ block_of z at → place_in z a ≡ place_in z at → ⊥
-    apart a n b i = n (address_is z a ∙ ap₂ (λ x y. (x * z.block_words + 0) + y) b i ∙ sym (address_is z at))
+    apart a n b i = n (sym (address_is z a) ∙ ap₂ (λ x y. (x * z.block_words + 0) + y) b i ∙ address_is z at)
 
     cell_other : (a : ℕ) → (a ≡ at → ⊥) → cell_of stored_machine.cache (block_of z a) (place_in z a) ≡ cell_of m.cache (block_of z a) (place_in z a)
     cell_other a n =
