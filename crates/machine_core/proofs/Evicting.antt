@@ -5,7 +5,7 @@ use Rattle.flat_model.specs.declared.Word.{Word}
 use Rattle.flat_model.specs.Words.{merged, zero_word}
 use Rattle.flat_model.specs.Flat.{word_at}
 use Rattle.memory_banks.specs.Banks.{bank_at, words_after}
-use Rattle.cache_unit.specs.State.{Sizes, Frame, Field, Register, Cache, zero_cell, empty_frame, clear_field, free_register, frame_at, frame_of, register_at, field_at, is_live, live_for, cell_in, cell_of, gathered, targets_of, targets_of_field, targets, block_of, place_in, address}
+use Rattle.cache_unit.specs.State.{Sizes, Frame, Field, Register, Cache, zero_cell, empty_frame, clear_field, free_register, frame_at, frame_of, register_at, field_at, is_live, live_for, cell_in, cell_of, targets_of, targets, block_of, place_in, address}
 use Rattle.cache_directory.specs.declared.Cell.{Cell}
 use Rattle.input_stack.specs.Stack.{stack_word}
 use Rattle.write_queue.specs.Queue.{overlaid}

@@ -1,19 +1,16 @@
 -- A miss: the frame that it takes, the block that goes, and the one that comes.
-use Rattle.std.proofs.Common.{◌≡◌, ℕ, zero, suc, ◌+◌, ◌*◌, ◌/◌, ◌%◌, ◌<◌, ◌≤◌, Bool, true, false, cond, not, ◌==◌, List, [], ◌∷◌, ◌++◌, length, get_or, set, Option, Some, None, option_map, find, is_some, is_none, refl, sym, ap, ◌∙◌, subst, arith, length-set, ◌⊎◌, inl, inr, mod-lt, append-nil, get_or-set_same, get_or-set_other, mul-le-mul_right, eq-eqb}
+use Rattle.std.proofs.Common.{◌≡◌, ℕ, suc, ◌+◌, ◌*◌, ◌/◌, ◌%◌, ◌<◌, ◌≤◌, Bool, true, false, cond, ◌==◌, List, [], ◌∷◌, ◌++◌, length, get_or, set, Option, Some, None, find, is_some, is_none, refl, sym, ap, ◌∙◌, subst, arith, length-set, ◌⊎◌, inl, inr, mod-lt, append-nil, get_or-set_same, get_or-set_other, mul-le-mul_right, eq-eqb}
 use Rattle.std.specs.List.{range_with_len, list_all, filter}
 use native.Mathlib.Nat.{div-eq_of_lt-le}
 use Rattle.std.specs.Option.{option_or}
-use Rattle.std.proofs.lemmas.Bool.{not-true}
 use Rattle.flat_model.specs.Words.{merged}
-use Rattle.cache_unit.specs.State.{Sizes, Frame, Register, Cache, zero_cell, empty_frame, free_register, frame_at, frame_of, is_present, register_at, live_for, is_pending, is_pending_block, free_slot, cell_in, cell_of, block_of, place_in, address}
+use Rattle.cache_unit.specs.State.{Sizes, Frame, Cache, zero_cell, empty_frame, frame_at, frame_of, is_present, register_at, live_for, is_pending, is_pending_block, free_slot, cell_in, cell_of, block_of, place_in, address}
 use Rattle.cache_directory.specs.declared.Cell.{Cell}
-use Rattle.flat_model.specs.Places.{place_of}
 use Rattle.input_stack.specs.Stack.{stack_word}
 use Rattle.cache_unit.specs.Causes.{choose, ways_of, order_of, is_resident_block, dirty_from, dirty_of_block, dirty_words}
 use Rattle.cache_unit.specs.Steps.{without, fresh_frame, released, installed, missed, reads, fetched, fetches}
 use Rattle.cache_unit.specs.Counts.{tally}
 use Rattle.cache_unit.proofs.FormsLists.{passes_from_find, read_set}
-use Rattle.cache_unit.proofs.Lists.{place_of-some}
 use Rattle.cache_unit.proofs.FormsChoosing.{find_range, none_from, free_register_at, Able, all_valid, found_in, one_fails}
 use Rattle.cache_unit.proofs.FormsParts.{in_range}
 use Rattle.cache_unit.proofs.FormsFinding.{frame_of-some, frame_of-like, none_in_frames}

@@ -1,10 +1,6 @@
 -- Which frame holds a block, and which register is live for it.
-use Rattle.std.proofs.Common.{◌≡◌, ℕ, ◌<◌, true, ◌&&◌, ◌==◌, length, Option, Some, None, refl, sym, ap, ap₂, ◌∙◌, eqb-true, eq-eqb}
-use Rattle.std.proofs.lemmas.Bool.{and_parts, and_from, false_from_ne_true}
-use Rattle.cache_unit.specs.State.{Sizes, Frame, Register, Cache, empty_frame, free_register, frame_at, frame_of, register_at, is_live, live_for, cell_in, block_of, place_in}
-use Rattle.cache_unit.proofs.Lists.{place_of-some, place_of-only, place_of-none, place_of-all_none}
-use Rattle.cache_unit.proofs.FormsParts.{place_of-like}
-use Rattle.flat_model.specs.Places.{is_number}
+use Rattle.std.proofs.Common.{◌≡◌, ℕ, Some, None, ap, ◌∙◌}
+use Rattle.cache_unit.specs.State.{Sizes, frame_of, live_for, cell_in, block_of, place_in}
 use Rattle.machine_core.specs.Machine.{Machine}
 use Rattle.machine_core.specs.Sound.{shown_word, word_now_in, word_now}
 

@@ -1,7 +1,7 @@
 -- A register whose words are all processed becomes free, and so a stack word's turn is whole.
-use Rattle.std.proofs.Common.{◌≡◌, ℕ, zero, suc, ◌+◌, ◌<◌, ◌≤◌, Bool, true, false, cond, not, ◌&&◌, nat_lt, List, [], ◌∷◌, ◌++◌, map, length, get_or, set, Option, Some, None, remove, slice_get, refl, sym, ap, ap₂, ◌∙◌, subst, arith, length-set, ⊎_elim, get_or-set_same, get_or-set_other, mod-lt}
+use Rattle.std.proofs.Common.{◌≡◌, ℕ, ◌+◌, ◌<◌, ◌≤◌, Bool, true, false, cond, not, ◌&&◌, nat_lt, List, [], ◌++◌, length, get_or, set, Option, Some, None, remove, slice_get, refl, sym, ap, ◌∙◌, subst, arith, length-set, ⊎_elim, get_or-set_same, get_or-set_other, mod-lt}
 use Rattle.std.specs.List.{list_all}
-use Rattle.std.proofs.lemmas.Bool.{cases_eq, and_parts, ltb-true}
+use Rattle.std.proofs.lemmas.Bool.{cases_eq, ltb-true}
 use Rattle.std.proofs.lemmas.List.{set-set}
 use Rattle.flat_model.specs.declared.Word.{Word}
 use Rattle.flat_model.specs.declared.Event.TheVariants.{Process}

@@ -11,7 +11,7 @@ use Rattle.memory_banks.specs.declared.BankAnswer.{BankAnswer}
 use Rattle.memory_banks.specs.Banks.{Bank, bank_at, pending}
 use Rattle.cache_unit.specs.declared.Reply.{Reply}
 use Rattle.cache_unit.specs.State.{Sizes, Target, targets, tags}
-use Rattle.cache_unit.specs.Counts.{tally, bit}
+use Rattle.cache_unit.specs.Counts.{tally}
 use Rattle.cache_unit.proofs.FormsLists.{tally-append, tally-map}
 use Rattle.machine_core.specs.Law.{IsLawful, IsKept, WalkIsKept}
 use Rattle.machine_core.specs.Machine.{Machine, apply, opening, walked, flat_due, flat_of}

@@ -1,4 +1,3 @@
-pub mod Lists
 pub mod Overlaid
 pub mod Coming
 pub mod Orders

@@ -1,6 +1,5 @@
 -- The orders of allocation: which frames they hold, and what a miss finds in them.
-use Rattle.std.proofs.Common.{◌≡◌, ℕ, zero, suc, ◌+◌, ◌/◌, ◌<◌, ◌≤◌, Bool, true, false, cond, not, ◌&&◌, ◌||◌, ◌==◌, List, [], ◌∷◌, ◌++◌, length, set, Some, None, find, is_some, refl, sym, ap, ap₂, ◌∙◌, arith, length-set, ◌⊎◌, inl, inr, ⊎_elim, eq-eqb, eqb-true, ne_eqb, get_or-set_same, get_or-set_other}
-use Rattle.std.specs.List.{list_all, range_with_len}
+use Rattle.std.proofs.Common.{◌≡◌, ℕ, ◌/◌, ◌<◌, ◌≤◌, Bool, true, false, cond, not, ◌||◌, ◌==◌, List, [], ◌∷◌, ◌++◌, length, set, Some, None, find, refl, sym, ap, ap₂, ◌∙◌, arith, length-set, ◌⊎◌, inl, inr, ⊎_elim, eq-eqb, eqb-true, ne_eqb, get_or-set_same, get_or-set_other}
 use Rattle.std.proofs.lemmas.Bool.{cases_eq, cases_lt, or_cases, or_left, or_right}
 use Rattle.std.proofs.lemmas.List.{get_or_past, set_past}
 use Rattle.cache_unit.specs.State.{Sizes, Frame, empty_frame}

@@ -2,7 +2,7 @@
 use Rattle.std.proofs.Common.{◌≡◌, ℕ, ◌+◌, ◌<◌, ◌≤◌, Bool, true, false, cond, not, ◌&&◌, ◌==◌, nat_lt, List, [], ◌∷◌, ◌++◌, map, length, get_or, set, Option, Some, None, option_map, find, remove, slice_get, refl, sym, ap, ap₂, ◌∙◌, subst, arith, length-set, ◌⊎◌, inl, inr, ⊎_elim, eqb-true, eq-eqb, length-append}
 use Rattle.std.proofs.lemmas.Bool.{cases_eq, cases_Bool, and_parts, not-true, ltb-true, false_from_ne_true}
 use Rattle.std.proofs.lemmas.List.{map-append}
-use Rattle.flat_model.specs.Words.{merged, no_lanes}
+use Rattle.flat_model.specs.Words.{merged}
 use Rattle.memory_banks.specs.Banks.{all_pending}
 use Rattle.cache_unit.specs.declared.Reply.{Reply}
 use Rattle.input_stack.specs.declared.Entry.{Entry}
@@ -13,7 +13,7 @@ use Rattle.input_stack.specs.Stack.{stack_word}
 use Rattle.cache_unit.specs.Steps.{answered}
 use Rattle.cache_unit.specs.Counts.{tally, bit}
 use Rattle.cache_unit.proofs.FormsLists.{Adds, Adds-tally, Adds-find_other, Adds-find_same, Adds-remove, read_set}
-use Rattle.cache_unit.proofs.FormsParts.{in_range, find_swapped, tally_swapped, targets_map, WordPart, word_part, nested_set, nested_same, nested_other}
+use Rattle.cache_unit.proofs.FormsParts.{in_range, find_swapped, tally_swapped, targets_map, WordPart, word_part, nested_same, nested_other}
 use Rattle.cache_unit.proofs.FormsFields.{with_fields, with_field_in}
 use Rattle.cache_unit.proofs.FormsProcessing.{done}
 use Rattle.cache_unit.proofs.FormsFinding.{frame_of-some, frame_of-is, frame_of-like, live_for-some, live_for-is, live_for-like}

@@ -16,7 +16,7 @@ use Rattle.cache_unit.specs.State.{Sizes, Cache, frame_of, is_present, frame_at,
 use Rattle.cache_unit.specs.Causes.{first_cause, ways_of, choose, found, targets_full, is_in_use, miss_causes, lacks_places, lacks_room, dirty_words, dirty_of_block, dirty_from, order_of, load_cause, store_cause, prefetch_cause, evict_cause}
 use Rattle.cache_unit.specs.Steps.{load_step, store_step, prefetch_step, evict_step, Stepped, unless, fetched, fetches, loaded, written, released, evicted, evicted_from, obsoleted, without}
 use Rattle.cache_unit.specs.Counts.{tally}
-use Rattle.cache_unit.proofs.FormsLists.{none_from_find}
+use Rattle.cache_unit.proofs.FormsLists.{none_from_find, Adds-length}
 use Rattle.cache_unit.proofs.FormsChoosing.{Able}
 use Rattle.cache_unit.proofs.FormsFetching.{range_at, range_length}
 use Rattle.cache_unit.proofs.Arrive.{is_some-map}
@@ -26,7 +26,6 @@ use Rattle.machine_core.specs.Law.{IsLawful}
 use Rattle.machine_core.specs.Machine.{Machine, joined_with, flat_word, flat_due, flat_of}
 use Rattle.memory_banks.specs.Banks.{room_in}
 use Rattle.machine_core.specs.Sound.{has_tag, dues, reply_to, IsSound}
-use Rattle.machine_core.proofs.Lists.{Adds-length}
 use Rattle.machine_core.proofs.Coming.{flat_word-now, flat_due-in, due_in}
 use Rattle.machine_core.proofs.Sound.{Same, Kept, KeptBy, flat_of-same}
 use Rattle.machine_core.proofs.Owing.{due_in-added}
