@@ -75,7 +75,7 @@ found_at [] s i k h a b = absurd (omega arith)
 found_at (e ∷ st) s i zero h a b = rw (find_cons (is_for s i e) e (find (is_for s i) st), same_test e s i a b) refl
 found_at (e ∷ st) s i (suc k) h a b = rw (find_cons (is_for s i e) e (find (is_for s i) st), found_at st s i k (omega arith) a b) (or_true (is_for s i e))
 
-is_some-map : {X Y : Type 0} (f : X → Y) (o : Option X) → is_some (option_map f o) ≡ is_some o
+pub is_some-map : {X Y : Type 0} (f : X → Y) (o : Option X) → is_some (option_map f o) ≡ is_some o
 is_some-map f None = refl
 is_some-map f (Some x) = refl
 

@@ -10,6 +10,7 @@ use Rattle.miss_registers.specs.Registers.{Field, Register, free_register, clear
 use Rattle.write_queue.specs.declared.Queued.{Queued}
 use Rattle.write_queue.specs.Queue.{overlaid, queued_lanes}
 use Rattle.cache_unit.specs.Begun.{begun_cell, begun_field, begun_frame, begun_register}
+use Rattle.cache_unit.proofs.Lists.{set_twice}
 
 -- of n values, the first i those of g from a on, and d behind them
 abbrev pub begun_to : {X : Type 0} → (ℕ → X) → X → (a i n : ℕ) → List X
@@ -49,11 +50,6 @@ frame_to words entries block i =
 abbrev pub register_to : ℕ → List Queued → ℕ → ℕ → ℕ → Register
 register_to words entries block frame i =
     record { valid = true; obsolete = false; block = block; frame = frame; fields = begun_to (begun_field entries) clear_field (block * words) i words }
-
-set_twice : {X : Type 0} (xs : List X) (i : ℕ) (a b : X) → set (set xs i a) i b ≡ set xs i b
-set_twice [] i a b = refl
-set_twice (x ∷ xs) zero a b = refl
-set_twice (x ∷ xs) (suc i) a b = ap (λ l. x ∷ l) (set_twice xs i a b)
 
 -- the frame's next word is filled
 pub frame_next : (d d' d'' : Frames) (words : ℕ) (entries : List Queued) (block frame i : ℕ) → frame < length d.frames → i < words → d' ≡ with_frame d frame (frame_to words entries block i) → d'' ≡ with_frame d' frame (filled (frame_at d'.frames frame) i (overlaid zero_word entries (block * words + i)) no_lanes) → d'' ≡ with_frame d frame (frame_to words entries block (i + 1))

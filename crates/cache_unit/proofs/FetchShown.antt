@@ -13,7 +13,7 @@ use Rattle.cache_unit.specs.Steps.{without, released, fresh_frame, fresh_registe
 use Rattle.cache_unit.specs.Shown.{as_frame, as_field, as_register, as_cache}
 use Rattle.cache_unit.specs.Begun.{begun_cell, begun_field, begun_frame, begun_register}
 use Rattle.cache_unit.specs.GivenUp.{owed_by, owed_words, given_up, missed_frames, missed_registers}
-use Rattle.cache_unit.proofs.Lists.{get_or-map}
+use Rattle.cache_unit.proofs.Lists.{get_or-map, set_twice}
 
 pub map-set : {X Y : Type 0} (f : X → Y) (xs : List X) (i : ℕ) (x : X) → map f (set xs i x) ≡ set (map f xs) i (f x)
 map-set f [] i x = refl
@@ -23,11 +23,6 @@ map-set f (y ∷ xs) (suc i) x = ap (λ l. f y ∷ l) (map-set f xs i x)
 pub map-map : {X Y Z : Type 0} (f : Y → Z) (g : X → Y) (xs : List X) → map f (map g xs) ≡ map (λ x. f (g x)) xs
 map-map f g [] = refl
 map-map f g (x ∷ xs) = ap (λ l. f (g x) ∷ l) (map-map f g xs)
-
-pub set_twice : {X : Type 0} (xs : List X) (i : ℕ) (a b : X) → set (set xs i a) i b ≡ set xs i b
-set_twice [] i a b = refl
-set_twice (x ∷ xs) zero a b = refl
-set_twice (x ∷ xs) (suc i) a b = ap (λ l. x ∷ l) (set_twice xs i a b)
 
 pub without_absent : (order : List ℕ) (f : ℕ) → dir.times_in order f ≡ 0 → without order f ≡ order
 without_absent [] f e = refl

@@ -21,11 +21,12 @@ use Rattle.cache_unit.specs.Causes.{dirty_from}
 use Rattle.cache_unit.specs.Sound.{entry_at, HasInStack, HasFrame, FilledBy, loads_of, loads_of_field, Stands, StackSound, Tied, QueueSound, OwesSound, IsSound}
 use Rattle.cache_unit.specs.Begun.{begun_cell, begun_field, begun_frame, begun_register}
 use Rattle.cache_unit.specs.GivenUp.{owed_by, owed_words, given_up, missed_frames, missed_registers}
-use Rattle.cache_unit.proofs.Lists.{place_of-only, place_of-none}
-use Rattle.cache_unit.proofs.Keeps.{number_from, frame_of-some}
+use Rattle.cache_unit.proofs.Lists.{place_of-only, place_of-none, set_twice}
+use Rattle.cache_unit.proofs.Keeps.{frame_of-some}
 use Rattle.cache_unit.proofs.Owing.{owes-same}
 use Rattle.cache_unit.proofs.DirtyWords.{queued_cell}
-use Rattle.cache_unit.proofs.FetchShown.{set_twice, given_frames, given_orders}
+use Rattle.cache_unit.proofs.FetchShown.{given_frames, given_orders}
+use Rattle.cache_unit.proofs.FormsFinding.{number_from}
 
 same_some : (a b : ℕ) → ◌≡◌ {A = Option ℕ} (Some a) (Some b) → a ≡ b
 same_some a b e = cc

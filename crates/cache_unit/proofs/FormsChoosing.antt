@@ -12,10 +12,11 @@ use Rattle.cache_unit.specs.Causes.{choose, ways_of, order_of, is_resident_block
 use Rattle.cache_unit.specs.Steps.{fresh_frame, fresh_register, released, installed, missed, fetched}
 use Rattle.cache_unit.specs.FormLaws.{form_at, missed_words, fetched_words}
 use Rattle.cache_unit.specs.SoundCache.{IsSoundCache}
-use Rattle.cache_unit.proofs.FormsLists.{passes_from_find, place_of-some}
+use Rattle.cache_unit.proofs.FormsLists.{passes_from_find}
 use Rattle.cache_unit.proofs.FormsParts.{in_range}
 use Rattle.cache_unit.proofs.FormsFinding.{frame_of-some, live_for-some}
 use Rattle.cache_unit.proofs.FormsFetching.{FetchedBy, installed-by}
+use Rattle.cache_unit.proofs.Lists.{place_of-some}
 
 -- ---- searches
 
@@ -23,7 +24,7 @@ abbrev is_in : List ℕ → ℕ → Bool
 is_in order f = list_any (λ g. g == f) order
 
 -- a member that passes is enough for a search
-found_in : (p : ℕ → Bool) (order : List ℕ) (f : ℕ) → is_in order f ≡ true → p f ≡ true → is_some (find p order) ≡ true
+pub found_in : (p : ℕ → Bool) (order : List ℕ) (f : ℕ) → is_in order f ≡ true → p f ≡ true → is_some (find p order) ≡ true
 found_in p [] f e h = cc
 found_in p (x ∷ order) f e h = go (p x) refl (found_in p order f)
   where
@@ -33,7 +34,7 @@ found_in p (x ∷ order) f e h = go (p x) refl (found_in p order f)
         ⊎_elim (λ k. let same : x ≡ f = eqb-true x f k in let no : p f ≡ false = ap p (sym same) ∙ q in cc) (λ k. rest k h) (or_cases (x == f) (is_in order f) e)
 
 -- where not all pass, one does not
-one_fails : (p : ℕ → Bool) (a n : ℕ) → list_all p (range_with_len a n) ≡ false → (k : ℕ) × (a ≤ k) × (k < a + n) × (p k ≡ false) × (is_in (range_with_len a n) k ≡ true)
+pub one_fails : (p : ℕ → Bool) (a n : ℕ) → list_all p (range_with_len a n) ≡ false → (k : ℕ) × (a ≤ k) × (k < a + n) × (p k ≡ false) × (is_in (range_with_len a n) k ≡ true)
 one_fails p a zero e = cc
 one_fails p a (suc n) e = go (p a) refl e (one_fails p (a + 1) n)
   where
@@ -43,7 +44,7 @@ one_fails p a (suc n) e = go (p a) refl e (one_fails p (a + 1) n)
         (k.0, let l = k.1 in omega arith, let l = k.2 in omega arith, k.3, or_right (a == k.0) (is_in (range_with_len (a + 1) n) k.0) k.4)
     go false q r rest = (a, omega arith, omega arith, q, or_left (a == a) (is_in (range_with_len (a + 1) n) a) (eq-eqb a a refl))
 
-find_range : (p : ℕ → Bool) (a n x : ℕ) → find p (range_with_len a n) ≡ Some x → (a ≤ x) × (x < a + n)
+pub find_range : (p : ℕ → Bool) (a n x : ℕ) → find p (range_with_len a n) ≡ Some x → (a ≤ x) × (x < a + n)
 find_range p a zero x e = cc
 find_range p a (suc n) x e = go (p a) (find_range p (a + 1) n x) e
   where
@@ -53,7 +54,7 @@ find_range p a (suc n) x e = go (p a) (find_range p (a + 1) n x) e
 
 -- ---- the frame that is chosen
 
-none_from : {X : Type 0} (o : Option X) → is_none o ≡ true → o ≡ None
+pub none_from : {X : Type 0} (o : Option X) → is_none o ≡ true → o ≡ None
 none_from None e = refl
 none_from (Some x) e = cc
 
@@ -94,7 +95,7 @@ chosen z c h block f e = go (find free ways) refl (find resident order) refl e
     go (Some x) p b q r = by_free (p ∙ r)
     go None p b q r = by_resident (q ∙ r)
 
-free_register_at : (c : Cache) (slot : ℕ) → free_slot c ≡ Some slot → (slot < length c.registers) × ((register_at c slot).valid ≡ false)
+pub free_register_at : (c : Cache) (slot : ℕ) → free_slot c ≡ Some slot → (slot < length c.registers) × ((register_at c slot).valid ≡ false)
 free_register_at c slot e =
     let p = place_of-some (λ (r : Register). not r.valid) free_register c.registers slot e in
     (p.0, not-true (register_at c slot).valid p.1)
@@ -105,7 +106,7 @@ free_register_at c slot e =
 abbrev pub Able : Sizes → Cache → ℕ → Type 0
 Able z c block = ((length (filter (λ r. r.valid) c.registers) == z.regs) ≡ false) × (list_all (is_pending c) (ways_of z block) ≡ false)
 
-all_valid : (registers : List Register) → place_of (λ (r : Register). not r.valid) registers ≡ None → length (filter (λ (r : Register). r.valid) registers) ≡ length registers
+pub all_valid : (registers : List Register) → place_of (λ (r : Register). not r.valid) registers ≡ None → length (filter (λ (r : Register). r.valid) registers) ≡ length registers
 all_valid [] e = refl
 all_valid (r ∷ registers) e = go r.valid (place_of (λ (x : Register). not x.valid) registers) e (all_valid registers)
   where

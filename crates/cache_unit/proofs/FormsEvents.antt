@@ -21,8 +21,10 @@ use Rattle.cache_unit.specs.Steps.{Stepped, unless, moved, drain_first, drain_st
 use Rattle.cache_unit.specs.Forms.{Byte, Asked, Form, bytes_of, missing_form, coming_form, over_form, form_in, form, target_form, owed, fill}
 use Rattle.cache_unit.specs.FormLaws.{form_where, form_at, forms, but_at, filled_form, DrainForms, ArriveForms, TakenForms}
 use Rattle.cache_unit.specs.SoundCache.{IsSoundCache}
-use Rattle.cache_unit.proofs.FormsLists.{tally, bit, Adds, Adds-tally, Adds-find_other, Adds-find_same, find_none, Adds-right, Adds-map, Adds-remove}
+use Rattle.cache_unit.specs.Counts.{tally, bit}
+use Rattle.cache_unit.proofs.FormsLists.{Adds, Adds-tally, Adds-find_other, Adds-find_same, find_none, Adds-right, Adds-map, Adds-remove}
 use Rattle.cache_unit.proofs.FormsSame.{Due, due_ready, due_to, dues, has_tag, due_in, owed-due, dues-tally, forms-from}
+use Rattle.cache_unit.proofs.FormsPlaces.{is_entry}
 
 -- ---- drain
 
@@ -61,9 +63,6 @@ drain_kept z c a = refl
 pub arrive_refused : (z : Sizes) (c : Cache) (slot i : ℕ) (w : Word) (cause : Cause) → ArriveForms z c slot i w (Refused cause) c
 unfolding ArriveForms
 arrive_refused z c slot i w cause = refl
-
-abbrev is_entry : ℕ → ℕ → Entry → Bool
-is_entry s j x = (x.slot == s) && (x.i == j)
 
 -- a word that arrives fills what comes
 coming_filled : (c : Cache) (slot i : ℕ) (w : Word) (s j : ℕ) (l : Lane) → coming_form (arrived c slot i w) s j l ≡ fill slot i w (coming_form c s j l)

@@ -17,7 +17,7 @@ use Rattle.cache_unit.proofs.FormsFinding.{frame_of-some, live_for-some}
 use Rattle.cache_unit.proofs.FormsPlaces.{frame-stays, frame-goes, holds-not, live-stays, serves-not}
 use Rattle.cache_unit.proofs.FormsSame.{form_at-same, form_at-absent, owed-same, forms-from}
 
-codeless_targets : (slot n : ℕ) (fields : List Field) → gathered (targets_of_field slot) n (map without_code fields) ≡ gathered (targets_of_field slot) n fields
+pub codeless_targets : (slot n : ℕ) (fields : List Field) → gathered (targets_of_field slot) n (map without_code fields) ≡ gathered (targets_of_field slot) n fields
 codeless_targets slot n [] = refl
 codeless_targets slot n (f ∷ fields) = ap (λ l. targets_of_field slot n f ++ l) (codeless_targets slot (suc n) fields)
 

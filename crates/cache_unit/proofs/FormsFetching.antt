@@ -19,20 +19,20 @@ use Rattle.cache_unit.proofs.FormsPlaces.{frame-stays, frame-comes, frame-goes, 
 use Rattle.cache_unit.proofs.FormsSame.{form_at-same, form_at-live, form_at-absent}
 use Rattle.cache_unit.proofs.FormsEvicting.{cell-other}
 
-range_at : {X : Type 0} (g : ℕ → X) (d : X) (a n j : ℕ) → j < n → get_or (map g (range_with_len a n)) j d ≡ g (a + j)
+pub range_at : {X : Type 0} (g : ℕ → X) (d : X) (a n j : ℕ) → j < n → get_or (map g (range_with_len a n)) j d ≡ g (a + j)
 range_at g d a zero j l = absurd (omega arith)
 range_at g d a (suc n) zero l = ap g (sym (add-zero a))
 range_at g d a (suc n) (suc j) l = let e : a + 1 + j ≡ a + suc j = omega arith in range_at g d (a + 1) n j (omega arith) ∙ ap g e
 
-range_length : {X : Type 0} (g : ℕ → X) (a n : ℕ) → length (map g (range_with_len a n)) ≡ n
+pub range_length : {X : Type 0} (g : ℕ → X) (a n : ℕ) → length (map g (range_with_len a n)) ≡ n
 range_length g a zero = refl
 range_length g a (suc n) = ap suc (range_length g (a + 1) n)
 
-no_loads : (queue : List Queued) (slot n a k : ℕ) → gathered (targets_of_field slot) n (map (λ (at : ℕ). let f : Field = record { processed = false; code = queued_lanes queue at; waiting = [] } in f) (range_with_len a k)) ≡ []
+pub no_loads : (queue : List Queued) (slot n a k : ℕ) → gathered (targets_of_field slot) n (map (λ (at : ℕ). let f : Field = record { processed = false; code = queued_lanes queue at; waiting = [] } in f) (range_with_len a k)) ≡ []
 no_loads queue slot n a zero = refl
 no_loads queue slot n a (suc k) = no_loads queue slot (suc n) (a + 1) k
 
-address_is : (z : Sizes) (at : ℕ) → address z (block_of z at) 0 + place_in z at ≡ at
+pub address_is : (z : Sizes) (at : ℕ) → address z (block_of z at) 0 + place_in z at ≡ at
 address_is z at = let e = div-add-mod' at z.block_words in omega arith
 
 -- the unit in which a block is present

@@ -3,8 +3,8 @@ use Rattle.std.proofs.Common.{◌≡◌, ℕ, ◌<◌, true, ◌&&◌, ◌==◌,
 use Rattle.std.proofs.lemmas.Bool.{and_parts, and_from, false_from_ne_true}
 use Rattle.flat_model.specs.Places.{is_number}
 use Rattle.cache_unit.specs.State.{Frame, Register, Cache, empty_frame, free_register, frame_at, frame_of, register_at, is_live, live_for}
-use Rattle.cache_unit.proofs.FormsLists.{place_of-some, place_of-only, place_of-none, place_of-all_none}
 use Rattle.cache_unit.proofs.FormsParts.{place_of-like}
+use Rattle.cache_unit.proofs.Lists.{place_of-some, place_of-only, place_of-none, place_of-all_none}
 
 pub number_from : (o : Option ℕ) (n : ℕ) → is_number o n ≡ true → o ≡ Some n
 number_from None n h = cc

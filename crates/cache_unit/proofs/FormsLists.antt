@@ -1,19 +1,12 @@
 -- Lists: counts of what passes a test, one element more, parts of a gathered list.
-use Rattle.std.proofs.Common.{◌≡◌, ℕ, zero, suc, ◌+◌, ◌<◌, ◌≤◌, Bool, true, false, cond, List, [], ◌∷◌, ◌++◌, map, length, get_or, set, take, drop, Option, Some, None, option_map, find, remove, filter, refl, sym, ap, ap₂, ◌∙◌, subst, arith, slice_get, flat_map, append_assoc, append-nil, add-zero, zero-add}
+use Rattle.std.proofs.Common.{◌≡◌, ℕ, zero, suc, ◌+◌, ◌<◌, ◌≤◌, Bool, true, false, cond, List, [], ◌∷◌, ◌++◌, map, length, get_or, set, take, drop, Option, Some, None, option_map, find, remove, filter, refl, sym, ap, ap₂, ◌∙◌, arith, slice_get, flat_map, append_assoc, append-nil, add-zero, zero-add, length-append}
 use Rattle.std.specs.Option.{option_or}
 use Rattle.std.proofs.lemmas.List.Folds.{find-append}
 use Rattle.flat_model.specs.Places.{place_of}
 use Rattle.cache_unit.specs.State.{gathered}
+use Rattle.cache_unit.specs.Counts.{bit, tally}
 
 -- ---- counts
-
-abbrev pub bit : Bool → ℕ
-bit true = 1
-bit false = 0
-
-abbrev pub tally : {X : Type 0} → (X → Bool) → List X → ℕ
-tally p [] = 0
-tally p (x ∷ xs) = bit (p x) + tally p xs
 
 pub tally-append : {X : Type 0} (p : X → Bool) (xs ys : List X) → tally p (xs ++ ys) ≡ tally p xs + tally p ys
 tally-append p [] ys = sym (zero-add (tally p ys))
@@ -68,6 +61,12 @@ Adds-tally p x xs ys a =
     let k = ap (tally p) a.with ∙ tally-append p a.front (x ∷ a.back) in
     omega arith
 
+pub Adds-length : {X : Type 0} (x : X) (xs ys : List X) → Adds x xs ys → length ys ≡ suc (length xs)
+Adds-length x xs ys a =
+    let e = ap length a.without ∙ length-append a.front a.back in
+    let k = ap length a.with ∙ length-append a.front (x ∷ a.back) in
+    omega arith
+
 pub Adds-find_other : {X : Type 0} (p : X → Bool) (x : X) (xs ys : List X) → Adds x xs ys → p x ≡ false → find p ys ≡ find p xs
 Adds-find_other p x xs ys a h =
     ap (find p) a.with ∙ find-append p a.front (x ∷ a.back) ∙ ap (λ b. option_or (find p a.front) (cond b (Some x) (find p a.back))) h ∙ sym (find-append p a.front a.back) ∙ sym (ap (find p) a.without)
@@ -103,7 +102,7 @@ Adds-right zs x xs ys a =
       with = ap (λ l. l ++ zs) a.with ∙ append_assoc a.front (x ∷ a.back) zs;
     }
 
-map-append' : {X Y : Type 0} (f : X → Y) (xs ys : List X) → map f (xs ++ ys) ≡ map f xs ++ map f ys
+pub map-append' : {X Y : Type 0} (f : X → Y) (xs ys : List X) → map f (xs ++ ys) ≡ map f xs ++ map f ys
 map-append' f [] ys = refl
 map-append' f (x ∷ xs) ys = ap (λ l. f x ∷ l) (map-append' f xs ys)
 
@@ -126,42 +125,6 @@ Adds-remove x xs k h = record { front = take k xs; back = drop (suc k) xs; witho
     split (y ∷ l) (suc n) e = ap (λ v. y ∷ v) (split l n e)
 
 -- ---- the first place
-
-pub place_of-none : {X : Type 0} (p : X → Bool) (d : X) (xs : List X) → p d ≡ false → place_of p xs ≡ None → (k : ℕ) → p (get_or xs k d) ≡ false
-place_of-none p d [] hd h k = hd
-place_of-none p d (x ∷ xs) hd h zero = elim (p x) as (λ b. cond b (Some 0) (option_map (λ k. suc k) (place_of p xs)) ≡ None → b ≡ false) [ true ↦ λ e. cc | false ↦ λ e. refl ] h
-place_of-none p d (x ∷ xs) hd h (suc k) = place_of-none p d xs hd (go (p x) (place_of p xs) h) k
-  where
-    go : (b : Bool) (o : Option ℕ) → cond b (Some 0) (option_map (λ k. suc k) o) ≡ None → o ≡ None
-    go true o e = cc
-    go false None e = refl
-    go false (Some j) e = cc
-
-pub place_of-some : {X : Type 0} (p : X → Bool) (d : X) (xs : List X) (k : ℕ) → place_of p xs ≡ Some k → (k < length xs) × (p (get_or xs k d) ≡ true)
-place_of-some p d [] k h = cc
-place_of-some p d (x ∷ xs) k h = go (λ j. place_of-some p d xs j) (p x) refl (place_of p xs) refl h
-  where
-    go : ((j : ℕ) → place_of p xs ≡ Some j → (j < length xs) × (p (get_or xs j d) ≡ true)) → (b : Bool) → p x ≡ b → (o : Option ℕ) → place_of p xs ≡ o → cond b (Some 0) (option_map (λ j. suc j) o) ≡ Some k → (k < suc (length xs)) × (p (get_or (x ∷ xs) k d) ≡ true)
-    go rest true e o q r = let z : 0 ≡ k = cc in (omega arith, subst (λ j. p (get_or (x ∷ xs) j d) ≡ true) z e)
-    go rest false e None q r = cc
-    go rest false e (Some j) q r =
-        let z : suc j ≡ k = cc in
-        let ih = rest j q in
-        (omega arith, subst (λ n. p (get_or (x ∷ xs) n d) ≡ true) z ih.1)
-
-pub place_of-only : {X : Type 0} (p : X → Bool) (d : X) (xs : List X) (k : ℕ) → p d ≡ false → p (get_or xs k d) ≡ true → ((j : ℕ) → p (get_or xs j d) ≡ true → j ≡ k) → place_of p xs ≡ Some k
-place_of-only p d xs k hd h only = go (place_of p xs) refl
-  where
-    go : (o : Option ℕ) → place_of p xs ≡ o → place_of p xs ≡ Some k
-    go None e = let f = place_of-none p d xs hd e k in cc
-    go (Some j) e = let s = place_of-some p d xs j e in e ∙ ap Some (only j s.1)
-
-pub place_of-all_none : {X : Type 0} (p : X → Bool) (d : X) (xs : List X) → ((j : ℕ) → p (get_or xs j d) ≡ false) → place_of p xs ≡ None
-place_of-all_none p d xs h = go (place_of p xs) refl
-  where
-    go : (o : Option ℕ) → place_of p xs ≡ o → place_of p xs ≡ None
-    go None e = e
-    go (Some j) e = let s = place_of-some p d xs j e in let f = h j in cc
 
 -- two lists of which the tests say the same at each place
 pub place_of-same : {X Y : Type 0} (p : X → Bool) (q : Y → Bool) (xs : List X) (ys : List Y) → map p xs ≡ map q ys → place_of p xs ≡ place_of q ys

@@ -12,7 +12,8 @@ use Rattle.cache_unit.specs.Causes.{Found, Here, found_missing, found_in, found}
 use Rattle.cache_unit.specs.Steps.{replied, awaited, loaded}
 use Rattle.cache_unit.specs.Forms.{LaneForm, Byte, Form, bytes_of, missing_form, coming_form, over_form, form_in, owed}
 use Rattle.cache_unit.specs.FormLaws.{form_at, but_at}
-use Rattle.cache_unit.proofs.FormsLists.{tally, Adds, Adds-push, Adds-left, Adds-right, Adds-map, Adds-same}
+use Rattle.cache_unit.specs.Counts.{tally}
+use Rattle.cache_unit.proofs.FormsLists.{Adds, Adds-push, Adds-left, Adds-right, Adds-map, Adds-same}
 use Rattle.cache_unit.proofs.FormsParts.{word_part}
 use Rattle.cache_unit.proofs.FormsFields.{with_fields, with_field_in, field_part}
 use Rattle.cache_unit.proofs.FormsPlaces.{live-stays}

@@ -5,8 +5,9 @@ use Rattle.std.proofs.lemmas.Bool.{cases_lt, cases_eq}
 use Rattle.std.proofs.lemmas.List.{get_or_past, map-append, set_past}
 use Rattle.std.proofs.lemmas.List.Folds.{find-append}
 use Rattle.cache_unit.specs.State.{Register, Field, Target, gathered, targets_of_field, targets_of, targets, free_register, clear_field}
+use Rattle.cache_unit.specs.Counts.{tally}
 use Rattle.flat_model.specs.Places.{place_of}
-use Rattle.cache_unit.proofs.FormsLists.{tally, tally-append, option_or_comm, gathered_part}
+use Rattle.cache_unit.proofs.FormsLists.{tally-append, option_or_comm, gathered_part}
 
 -- the first place goes by the tests at each place
 pub place_of-like : {X : Type 0} (p : X → Bool) (d : X) (xs ys : List X) → length xs ≡ length ys → ((k : ℕ) → p (get_or xs k d) ≡ p (get_or ys k d)) → place_of p xs ≡ place_of p ys
@@ -73,7 +74,7 @@ tally_swapped p r a b c =
 
 -- ---- targets
 
-gathered_map : {X Y Z : Type 0} (h : ℕ → X → List Y) (f g : Y → Z) (d : X) (n : ℕ) (xs : List X) → ((k : ℕ) → k < length xs → map f (h (n + k) (get_or xs k d)) ≡ map g (h (n + k) (get_or xs k d))) → map f (gathered h n xs) ≡ map g (gathered h n xs)
+pub gathered_map : {X Y Z : Type 0} (h : ℕ → X → List Y) (f g : Y → Z) (d : X) (n : ℕ) (xs : List X) → ((k : ℕ) → k < length xs → map f (h (n + k) (get_or xs k d)) ≡ map g (h (n + k) (get_or xs k d))) → map f (gathered h n xs) ≡ map g (gathered h n xs)
 gathered_map h f g d n [] same = refl
 gathered_map h f g d n (x ∷ xs) same =
     let first : map f (h n x) ≡ map g (h n x) = subst (λ k. map f (h k x) ≡ map g (h k x)) (add-zero n) (same 0 (omega arith)) in

@@ -5,9 +5,10 @@ use Rattle.flat_model.specs.Places.{place_of, is_number}
 use Rattle.input_stack.specs.declared.Entry.{Entry}
 use Rattle.input_stack.specs.Stack.{stack_word}
 use Rattle.cache_unit.specs.State.{Frame, Register, Cache, empty_frame, free_register, frame_at, frame_of, register_at, is_live, live_for}
-use Rattle.cache_unit.proofs.FormsLists.{place_of-only, place_of-all_none, read_set}
+use Rattle.cache_unit.proofs.FormsLists.{read_set}
 use Rattle.cache_unit.proofs.FormsParts.{place_of-like}
 use Rattle.cache_unit.proofs.FormsFinding.{number_from, number_is}
+use Rattle.cache_unit.proofs.Lists.{place_of-only, place_of-all_none}
 
 -- the new element passes as the old one did
 pub place_of-set : {X : Type 0} (p : X → Bool) (d : X) (xs : List X) (k : ℕ) (new : X) → p new ≡ p (get_or xs k d) → place_of p (set xs k new) ≡ place_of p xs

@@ -15,26 +15,24 @@ use Rattle.cache_unit.specs.Steps.{answered, filled, filled_in, finished, proces
 use Rattle.cache_unit.specs.Forms.{bytes_of, missing_form, coming_form, over_form, owed}
 use Rattle.cache_unit.specs.FormLaws.{form_at, forms, ProcessForms}
 use Rattle.cache_unit.specs.SoundCache.{HasWord, IsSoundCache}
-use Rattle.cache_unit.proofs.FormsLists.{tally, Adds, Adds-find_other, Adds-remove, find-only, gathered_part}
+use Rattle.cache_unit.specs.Counts.{tally}
+use Rattle.cache_unit.proofs.FormsLists.{Adds, Adds-find_other, Adds-remove, find-only, gathered_part}
 use Rattle.cache_unit.proofs.FormsParts.{in_range, nested_same, nested_other, find_swapped, targets_map, WordPart, word_part}
 use Rattle.cache_unit.proofs.FormsFinding.{frame_of-some, frame_of-is, live_for-some, live_for-is}
 use Rattle.cache_unit.proofs.FormsFields.{with_fields, with_field_in, field_elsewhere, field_here}
 use Rattle.cache_unit.proofs.FormsPlaces.{frame-stays, live-stays, live-goes, serves, is_entry}
 use Rattle.cache_unit.proofs.FormsSame.{form_at-same, form_at-live, form_at-resident, form_at-absent, Due, due_ready, due_to, dues, has_tag, due_in, owed-due, dues-tally, forms-from}
-use Rattle.cache_unit.proofs.FormsStoring.{bytes-merged}
+use Rattle.cache_unit.proofs.FormsStoring.{bytes-merged, with_cells}
 
-abbrev done : Field
+abbrev pub done : Field
 done = record { processed = true; code = no_lanes; waiting = [] }
 
-abbrev with_cells : Frame → List Cell → Frame
-with_cells f cells = record f { cells = cells }
-
-all_processed : (fields : List Field) → list_all (λ f. f.processed) fields ≡ true → (j : ℕ) → j < length fields → (get_or fields j clear_field).processed ≡ true
+pub all_processed : (fields : List Field) → list_all (λ f. f.processed) fields ≡ true → (j : ℕ) → j < length fields → (get_or fields j clear_field).processed ≡ true
 all_processed [] h j l = absurd (omega arith)
 all_processed (f ∷ fields) h zero l = (and_parts f.processed (list_all (λ f. f.processed) fields) h).0
 all_processed (f ∷ fields) h (suc j) l = all_processed fields (and_parts f.processed (list_all (λ f. f.processed) fields) h).1 j (omega arith)
 
-no_targets : (slot n : ℕ) (fields : List Field) → list_all (λ f. f.processed) fields ≡ true → gathered (targets_of_field slot) n fields ≡ []
+pub no_targets : (slot n : ℕ) (fields : List Field) → list_all (λ f. f.processed) fields ≡ true → gathered (targets_of_field slot) n fields ≡ []
 no_targets slot n [] h = refl
 no_targets slot n (f ∷ fields) h =
     let p = and_parts f.processed (list_all (λ f. f.processed) fields) h in

@@ -17,7 +17,7 @@ use Rattle.cache_unit.specs.Steps.{unless, fetched, loaded, written, load_step, 
 use Rattle.cache_unit.specs.Forms.{over_form, owed}
 use Rattle.cache_unit.specs.FormLaws.{LoadForms, StoreForms, PrefetchForms, RequestForms}
 use Rattle.cache_unit.specs.SoundCache.{IsSoundCache}
-use Rattle.cache_unit.proofs.FormsLists.{tally}
+use Rattle.cache_unit.specs.Counts.{tally}
 use Rattle.cache_unit.proofs.FormsSame.{dues, has_tag, dues-tally, owed-same, forms-from}
 use Rattle.cache_unit.proofs.FormsFetching.{FetchedBy}
 use Rattle.cache_unit.proofs.FormsChoosing.{Able, fetched-by}

@@ -9,7 +9,8 @@ use Rattle.cache_unit.specs.declared.Reply.{Reply}
 use Rattle.cache_unit.specs.State.{Sizes, Target, Cache, field_at, frame_of, live_for, cell_in, cell_of, targets, tags, block_of, place_in}
 use Rattle.cache_unit.specs.Forms.{Form, bytes_of, missing_form, coming_form, over_form, form_in, target_form, owed}
 use Rattle.cache_unit.specs.FormLaws.{form_where, form_at, forms}
-use Rattle.cache_unit.proofs.FormsLists.{tally, tally-append, tally-map, tally-filter, find-map}
+use Rattle.cache_unit.specs.Counts.{tally}
+use Rattle.cache_unit.proofs.FormsLists.{tally-append, tally-map, tally-filter, find-map}
 
 -- ---- words
 

@@ -15,10 +15,11 @@ use Rattle.cache_unit.specs.State.{Sizes, UnitState, Frame, Field, Register, Tar
 use Rattle.cache_unit.specs.Shown.{as_frame, as_field, as_register, as_cache}
 use Rattle.cache_unit.specs.Sound.{IsSound, loads_of_field, loads_of, owing}
 use Rattle.cache_unit.specs.SoundCache.{HasWord, IsSoundCache}
+use Rattle.cache_unit.specs.Counts.{bit, tally}
 use Rattle.cache_unit.proofs.Process.{frame_at-shown, register_at-shown, field_at-shown}
 use Rattle.cache_unit.proofs.Keeps.{frame_of-some}
 use Rattle.cache_unit.proofs.Calls.{Taken-from}
-use Rattle.cache_unit.proofs.FormsLists.{bit, tally, tally-append, tally-map, tally-filter}
+use Rattle.cache_unit.proofs.FormsLists.{tally-append, tally-map, tally-filter}
 
 -- ---- tags
 

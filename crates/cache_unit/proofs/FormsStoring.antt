@@ -75,12 +75,12 @@ pub record NotedBy (c : Cache) (live : Option ℕ) (i : ℕ) (lanes : Lanes) (re
   pub other_codes : (t j : ℕ) → (live ≡ Some t → j ≡ i → ⊥) → (get_or (get_or registers t free_register).fields j clear_field).code ≡ (field_at c t j).code
   pub own_code : (t : ℕ) → live ≡ Some t → (field_at c t i).processed ≡ false → (get_or (get_or registers t free_register).fields i clear_field).code ≡ joined (field_at c t i).code lanes
 
-abbrev noted_in : Cache → Option ℕ → ℕ → Lanes → List Register
+abbrev pub noted_in : Cache → Option ℕ → ℕ → Lanes → List Register
 noted_in c None i lanes = c.registers
 noted_in c (Some s) i lanes =
     cond (field_at c s i).processed c.registers (with_field_in c.registers s i (record (field_at c s i) { code = joined (field_at c s i).code lanes }))
 
-abbrev with_cells : Frame → List Cell → Frame
+abbrev pub with_cells : Frame → List Cell → Frame
 with_cells f cells = record f { cells = cells }
 
 module _ (z : Sizes) (some : 0 < z.block_words) (c : Cache) (at : ℕ) (hit : Hit z c (block_of z at)) (w : Word) (lanes : Lanes) where

@@ -1,5 +1,5 @@
 -- What holds of the parts still holds once a word has left the stack.
-use Rattle.std.proofs.Common.{◌≡◌, ℕ, suc, zero, ◌+◌, ◌<◌, ◌≤◌, Bool, true, false, ◌&&◌, not, if◌then◌else◌, List, [], ◌∷◌, ◌++◌, length, set, get_or, Option, Some, None, is_some, refl, ap, sym, ◌∙◌, arith, length-set, eqb-true, ◌-◌, ◌⊎◌, inl, inr, subst}
+use Rattle.std.proofs.Common.{◌≡◌, ℕ, suc, zero, ◌+◌, ◌<◌, ◌≤◌, Bool, true, false, ◌&&◌, not, if◌then◌else◌, List, [], ◌∷◌, ◌++◌, length, set, get_or, Option, Some, None, is_some, refl, ap, sym, ◌∙◌, arith, length-set, ◌-◌, ◌⊎◌, inl, inr, subst}
 use Rattle.std.specs.List.{list_all, remove}
 use Rattle.std.proofs.lemmas.List.{get_or-set_same, get_or-set_other, get_or_past}
 use Rattle.std.proofs.lemmas.List.Edits.{length-remove, get_or-remove_below, get_or-remove_above}
@@ -22,6 +22,7 @@ use Rattle.miss_registers.specs.Whole.{IsWhole}
 use Rattle.cache_unit.proofs.Owing.{count_by-all, loads_there, owes-finished}
 use Rattle.cache_unit.proofs.Lists.{list_all-at, place_of-some}
 use Rattle.cache_unit.proofs.Process.{live_of, filled_live-orders}
+use Rattle.cache_unit.proofs.FormsFinding.{number_from}
 
 -- ---- one register
 
@@ -139,10 +140,6 @@ was_pending d (Some f) i word keep false g h = (sym (pending-set d.frames f g _ 
 was_pending d (Some f) i word keep true g h =
     let p = pending_elsewhere _ f g _ refl h in
     (sym (pending-set d.frames f g _ refl) ∙ p.1, λ l e. p.0 (sym (same_Some f g e)))
-
-pub number_from : (o : Option ℕ) (n : ℕ) → is_number o n ≡ true → o ≡ Some n
-number_from None n h = cc
-number_from (Some k) n h = ap Some (eqb-true k n h)
 
 -- a frame holds the block for which it is found
 pub frame_of-some : (fs : List dir.Frame) (b f : ℕ) → dir.frame_of fs b ≡ Some f → (f < length fs) × ((dir.frame_at fs f).block ≡ Some b)

@@ -1,5 +1,5 @@
 -- Lists of parts, as the unit shows them.
-use Rattle.std.proofs.Common.{◌≡◌, ℕ, suc, zero, ◌<◌, Bool, true, false, ◌&&◌, List, [], ◌∷◌, map, length, get_or, Option, Some, None, cond, subst, refl, ap, ◌∙◌, arith}
+use Rattle.std.proofs.Common.{◌≡◌, ℕ, suc, zero, ◌<◌, Bool, true, false, ◌&&◌, List, [], ◌∷◌, map, length, get_or, set, Option, Some, None, cond, subst, refl, ap, ◌∙◌, arith}
 use Rattle.std.specs.List.{list_all}
 use Rattle.std.specs.Option.{option_map}
 use Rattle.flat_model.specs.Places.{place_of}
@@ -26,6 +26,13 @@ pub list_all-at : {X : Type 0} (p : X → Bool) (xs : List X) (i : ℕ) (d : X) 
 list_all-at p [] i d e h = absurd (omega arith)
 list_all-at p (x ∷ xs) zero d e h = and_left (p x) (list_all p xs) e
 list_all-at p (x ∷ xs) (suc i) d e h = list_all-at p xs i d (and_right (p x) (list_all p xs) e) (omega arith)
+
+-- ---- an element set twice
+
+pub set_twice : {X : Type 0} (xs : List X) (i : ℕ) (a b : X) → set (set xs i a) i b ≡ set xs i b
+set_twice [] i a b = refl
+set_twice (x ∷ xs) zero a b = refl
+set_twice (x ∷ xs) (suc i) a b = ap (λ l. x ∷ l) (set_twice xs i a b)
 
 -- ---- the first place
 

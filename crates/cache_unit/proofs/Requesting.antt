@@ -5,7 +5,7 @@ use Rattle.flat_model.specs.declared.Word.{Word}
 use Rattle.flat_model.specs.declared.Lanes.{Lanes}
 use Rattle.flat_model.specs.declared.Cause.{Cause}
 use Rattle.flat_model.specs.declared.Cause.TheVariants.{OutOfRange, NoLanes, TagInUse, RepliesFull, TargetsFull}
-use Rattle.flat_model.specs.declared.Answer.TheVariants.{Accepted, Refused}
+use Rattle.flat_model.specs.declared.Answer.TheVariants.{Accepted}
 use Rattle.flat_model.specs.Words.{has_any, has_all}
 use Rattle.input_stack.specs.Stack.{stack_word}
 use Rattle.memory_banks.specs.declared.Command.{Command}
@@ -20,10 +20,7 @@ use Rattle.cache_unit.specs.Parts.{finding_of}
 use Rattle.cache_unit.specs.SoundCache.{IsSoundCache}
 use Rattle.cache_unit.proofs.FormsChoosing.{fetched-by}
 use Rattle.cache_unit.proofs.FormsRequests.{missing}
-
--- a refused request leaves everything
-abbrev pub refused : Cause → Cache → Stepped
-refused cause c = record { answer = Refused cause; cache = c; sent = [] }
+use Rattle.cache_unit.proofs.Evicting.{refused}
 
 -- ---- the block
 

@@ -14,7 +14,8 @@ use Rattle.cache_unit.specs.State.{Register, is_live, live_for}
 use Rattle.cache_unit.specs.Shown.{as_register, as_cache}
 use Rattle.cache_unit.specs.Sound.{entry_at, StackSound, Tied}
 use Rattle.cache_unit.proofs.Lists.{place_of-some, place_of-only, place_of-none, place_of-all_none}
-use Rattle.cache_unit.proofs.Keeps.{SameBlocks, number_from, frame_of-some}
+use Rattle.cache_unit.proofs.Keeps.{SameBlocks, frame_of-some}
+use Rattle.cache_unit.proofs.FormsFinding.{number_from, number_is}
 
 -- ---- registers of which the marks stay
 
@@ -127,9 +128,6 @@ pub with_field-shape : (r : regs.Register) (i : ℕ) (f : regs.Field) → SameSh
 with_field-shape r i f = record { live = refl; block = refl; frame = refl; count = length-set r.fields i f }
 
 -- ---- which frame holds a block
-
-pub number_is : (o : Option ℕ) (n : ℕ) → o ≡ Some n → is_number o n ≡ true
-number_is o n h = ap (λ x. is_number x n) h ∙ eq-eqb n n refl
 
 pub frame_of-is : (fs : List dir.Frame) (b k : ℕ) → ((f g n : ℕ) → (dir.frame_at fs f).block ≡ Some n → (dir.frame_at fs g).block ≡ Some n → f ≡ g) → (dir.frame_at fs k).block ≡ Some b → dir.frame_of fs b ≡ Some k
 unfolding dir.frame_of

@@ -12,7 +12,7 @@ ghost use Rattle.cache_unit.specs.GivenUp.{owed_words, missed_frames, missed_reg
 use crate::Places;
 use crate::begin::begin_words;
 use crate::reads::send_reads;
-use crate::victim::{dirty_words, give_up};
+use crate::victim::{dirty_words, vacate};
 use cache_directory::{Choice, Directory};
 use memory_banks::Lines;
 use miss_registers::RegisterFile;
@@ -48,7 +48,7 @@ pub fn words_owed<const WAYS: usize, const WORDS: usize>(
     }
 }
 
-/// Brings an absent block in: the frame is given up and holds the block, with the newest queued
+/// Brings an absent block in: the frame is vacated and holds the block, with the newest queued
 /// bytes of its words; the register waits for them; and the reads go to the banks.
 pub fn bring_in<L: Lines, const WAYS: usize, const WORDS: usize, const REGS: usize>(
     directory: &mut Directory<WAYS, WORDS>,
@@ -82,7 +82,7 @@ pub fn bring_in<L: Lines, const WAYS: usize, const WORDS: usize, const REGS: usi
     ensures whole_file { whole.IsWhole WORDS REGS registers.new }
 {
     let Places { frame, slot } = places;
-    give_up(directory, queue, frame);
+    vacate(directory, queue, frame);
     directory.install(frame, block);
     registers.allocate(slot, block, frame);
     begin_words(directory, registers, queue, frame, slot, block);

@@ -26,9 +26,12 @@ pub enum Request {
 /// A value that stands ready for the processor.
 #[derive(Clone, Copy, PartialEq, Eq, Debug, Default)]
 pub struct Reply {
+    /// The tag of the load that it answers.
     pub tag: u16,
+    /// The word that the load gets.
     pub word: Word,
 }
+
 // The frame and the register that a miss takes.
 #[derive(Clone, Copy)]
 struct Places {

@@ -31,9 +31,10 @@ use write_queue::{Queued, WriteQueue};
 /// A cache of `WAYS` (1 to 8) frames of `WORDS` (1 to 16) words in each set, with `REGS` (1 to 16)
 /// registers for missing blocks and a stack of `DEPTH` (1 to 16) words that came from memory.
 ///
-/// Words and blocks are numbered from 0: block `b` has the words from `b * WORDS` on. The unit
-/// sends its reads and writes to banks over [`Lines`], and is given the words that come back by
-/// [`CacheUnit::arrive`].
+/// Words, blocks, sets and frames are numbered from 0: block `b` has the words from `b * WORDS` on,
+/// and set `s` the frames from `s * WAYS` on. The unit sends its reads and writes to banks over
+/// [`Lines`], and is given the words that come back by [`CacheUnit::arrive`]. All memory is taken
+/// by [`CacheUnit::new`]; no other call asks for any.
 #[derive(Drop)]
 pub struct CacheUnit<const WAYS: usize, const WORDS: usize, const REGS: usize, const DEPTH: usize> {
     shape: Shape,

@@ -54,9 +54,9 @@ pub fn queue_dirty_words<const WAYS: usize, const WORDS: usize>(
     }
 }
 
-/// Gives the frame up: where it holds a block, the block's dirty words are queued and the frame is
+/// Vacates the frame: where it holds a block, the block's dirty words are queued and the frame is
 /// released.
-pub fn give_up<const WAYS: usize, const WORDS: usize>(
+pub fn vacate<const WAYS: usize, const WORDS: usize>(
     directory: &mut Directory<WAYS, WORDS>,
     queue: &mut WriteQueue,
     frame: u32,

@@ -15,12 +15,13 @@ use Rattle.input_stack.specs.Stack.{stack_word}
 use Rattle.write_queue.specs.Queue.{overlaid}
 use Rattle.cache_unit.specs.Causes.{is_stray, first_cause, arrive_cause}
 use Rattle.cache_unit.specs.Steps.{arrived}
+use Rattle.cache_unit.specs.Counts.{tally, bit}
+use Rattle.cache_unit.proofs.FormsLists.{Adds, Adds-tally, Adds-find_other, Adds-find_same, Adds-push, Adds-left, Adds-right, Adds-same, Adds-remove, find_none, flat_map_part, read_set}
 use Rattle.machine_core.specs.Machine.{Machine, backing, take_in, arrive_from, without_answer}
-use Rattle.machine_core.specs.Sound.{tally, bit, is_for, coming, coming_from, word_in, word_now, has_tag, dues, IsSound, is_entry_for}
-use Rattle.machine_core.proofs.Lists.{Adds, Adds-tally, Adds-find_other, Adds-find_same, Adds-push, Adds-left, Adds-right, Adds-same, Adds-remove, find_none, flat_map_part}
+use Rattle.machine_core.specs.Sound.{is_for, coming, coming_from, word_in, word_now, has_tag, dues, IsSound, is_entry_for}
 use Rattle.machine_core.proofs.Coming.{due_in}
 use Rattle.machine_core.proofs.Sound.{Kept, KeptBy, flat_of-same, word_now-same}
-use Rattle.machine_core.proofs.Serving.{read_set, dues-same}
+use Rattle.machine_core.proofs.Serving.{dues-same}
 
 pub bit-le : (b : Bool) → bit b ≤ 1
 bit-le true = omega arith

@@ -22,12 +22,13 @@ use Rattle.cache_unit.specs.declared.Reply.{Reply}
 use Rattle.cache_unit.specs.State.{Sizes, Field, Register, Cache, clear_field, free_register, frame_of, is_present, register_at, field_at, live_for, free_slot, with_cell, with_field, block_of, place_in, address, tags, is_pending}
 use Rattle.cache_unit.specs.Causes.{first_cause, ways_of, targets_full, found, is_in_use, choose, dirty_words, addresses, lacks_places, lacks_room, miss_causes, Found, Here, Coming, load_cause, store_cause, prefetch_cause, evict_cause, arrive_cause}
 use Rattle.cache_unit.specs.Steps.{Stepped, unless, without_code, made_obsolete, obsoleted, released, evicted, evicted_from, fresh_register, installed, missed, reads, fetched, fetches, loaded, noted, written_in, written, load_step, store_step, prefetch_step, evict_step, drain_first, drain_step, arrived, finished, processed, process_entry, process_step, take_reply, take_step}
+use Rattle.cache_unit.specs.Counts.{bit}
+use Rattle.cache_unit.proofs.FormsChoosing.{Able}
+use Rattle.cache_unit.proofs.FormsProcessing.{done}
 use Rattle.machine_core.specs.Law.{IsLawful}
 use Rattle.machine_core.specs.Machine.{Machine, apply, joined_with, serve_from, take_in, arrive_from, without_answer}
-use Rattle.machine_core.specs.Sound.{bit, IsSound}
-use Rattle.machine_core.proofs.Processing.{done}
+use Rattle.machine_core.specs.Sound.{IsSound}
 use Rattle.machine_core.proofs.Freeing.{filled_only}
-use Rattle.machine_core.proofs.Fetching.{Able}
 
 each-set : {X : Type 0} (P : X → Type 0) (d : X) (xs : List X) (k : ℕ) (y : X) → ((t : ℕ) → P (get_or xs t d)) → P y → (t : ℕ) → P (get_or (set xs k y) t d)
 each-set P d xs k y h own t =

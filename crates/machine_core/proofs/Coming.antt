@@ -12,6 +12,7 @@ use Rattle.cache_unit.specs.declared.Reply.{Reply}
 use Rattle.cache_unit.specs.State.{Sizes, Target, Cache, field_at, frame_of, live_for, cell_in, cell_of, targets, block_of, place_in}
 use Rattle.input_stack.specs.Stack.{stack_word}
 use Rattle.cache_unit.specs.Forms.{Byte, Asked, missing_form, coming_form, over_form, bytes_of, form_in, target_form, value, filled_by}
+use Rattle.cache_unit.proofs.FormsLists.{find-map}
 use Rattle.machine_core.specs.Machine.{Machine, flat_word, flat_word_in, flat_due}
 use Rattle.flat_model.proofs.Lanewise.{byte_word_of, same_word_from, byte-merged}
 use Rattle.machine_core.specs.Sound.{is_for, word_in, coming_from, coming, shown_word, word_now_in, word_now, reply_to, dues, has_tag}
@@ -68,11 +69,6 @@ flat_word-now z m at = go (frame_of m.cache (block_of z at)) refl
 
 unfoldable pub due_in : List Reply → ℕ → Option Word
 due_in replies tag = option_map (λ r. r.word) (find (has_tag tag) replies)
-
-find-map : {X Y : Type 0} (f : X → Y) (p : Y → Bool) (xs : List X) → find p (map f xs) ≡ option_map f (find (λ x. p (f x)) xs)
-find-map f p [] = refl
-find-map f p (x ∷ xs) =
-    elim (p (f x)) as (λ b. cond b (Some (f x)) (find p (map f xs)) ≡ option_map f (cond b (Some x) (find (λ y. p (f y)) xs))) [ true ↦ refl | false ↦ find-map f p xs ]
 
 pub flat_due-in : (m : Machine) (tag : ℕ) → flat_due m tag ≡ due_in (dues m) tag
 unfolding due_in dues coming

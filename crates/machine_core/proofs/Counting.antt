@@ -13,11 +13,12 @@ use Rattle.input_stack.specs.declared.Entry.{Entry}
 use Rattle.miss_registers.specs.declared.Owed.{Owed}
 use Rattle.cache_unit.specs.declared.Reply.{Reply}
 use Rattle.cache_unit.specs.State.{Sizes, Field, Register, Target, free_register, register_at, field_at, gathered, targets_of, targets_of_field, targets, tags}
+use Rattle.cache_unit.specs.Counts.{tally, bit}
+use Rattle.cache_unit.proofs.FormsParts.{in_range}
 use Rattle.machine_core.specs.Law.{most_weight}
 use Rattle.machine_core.specs.Machine.{Machine}
 use Rattle.machine_core.specs.Pump.{total, command_weight, bank_weight, field_weight, register_weight, weight}
-use Rattle.machine_core.specs.Sound.{tally, bit, is_for, is_entry_for, wanted, IsSound, IsBounded}
-use Rattle.machine_core.proofs.Parts.{in_range}
+use Rattle.machine_core.specs.Sound.{is_for, is_entry_for, wanted, IsSound, IsBounded}
 use Rattle.machine_core.proofs.Arriving.{bit-pos, bit-le}
 
 -- ---- sums over the numbers below one

@@ -50,9 +50,6 @@ overlaid_past w block n cells at l =
 
 -- ---- addresses
 
-pub address_is : (z : Sizes) (at : ℕ) → at ≡ address z (block_of z at) 0 + place_in z at
-address_is z at = let e = div-add-mod' at z.block_words in omega arith
-
 -- a block that begins in memory lies in it
 pub block_in : (z : Sizes) → IsLawful z → (b : ℕ) → address z b 0 < z.words → address z b 0 + z.block_words ≤ z.words
 block_in z lawful b l =

@@ -14,13 +14,14 @@ use Rattle.cache_unit.specs.State.{Sizes, frame_of, live_for, block_of, place_in
 use Rattle.input_stack.specs.Stack.{stack_word}
 use Rattle.write_queue.specs.Queue.{overlaid}
 use Rattle.cache_unit.specs.Steps.{drain_first, drain_step}
+use Rattle.cache_unit.specs.Counts.{tally}
+use Rattle.cache_unit.proofs.FormsLists.{flat_map_part, read_set}
 use Rattle.machine_core.specs.Law.{IsLawful}
 use Rattle.machine_core.specs.Machine.{Machine, backing, joined_with}
-use Rattle.machine_core.specs.Sound.{tally, is_for, coming, coming_from, word_now, has_tag, dues, IsSound, AllIn, is_entry_for}
-use Rattle.machine_core.proofs.Lists.{flat_map_part}
+use Rattle.machine_core.specs.Sound.{is_for, coming, coming_from, word_now, has_tag, dues, IsSound, AllIn, is_entry_for}
 use Rattle.machine_core.proofs.Coming.{due_in}
 use Rattle.machine_core.proofs.Sound.{Kept, KeptBy, flat_of-same, word_now-same}
-use Rattle.machine_core.proofs.Serving.{read_set, dues-same}
+use Rattle.machine_core.proofs.Serving.{dues-same}
 
 pub length-after : (words : List Word) (commands : List Command) → length (after words commands) ≡ length words
 length-after words [] = refl

@@ -5,23 +5,26 @@ use Rattle.flat_model.specs.declared.Word.{Word}
 use Rattle.flat_model.specs.Words.{merged, zero_word}
 use Rattle.flat_model.specs.Flat.{word_at}
 use Rattle.memory_banks.specs.Banks.{bank_at, words_after}
-use Rattle.cache_unit.specs.State.{Sizes, Frame, Field, Register, Cache, zero_cell, empty_frame, clear_field, free_register, frame_at, frame_of, register_at, field_at, is_live, live_for, cell_in, cell_of, gathered, targets_of, targets_of_field, targets, block_of, place_in, address}
+use Rattle.cache_unit.specs.State.{Sizes, Frame, Field, Register, Cache, zero_cell, empty_frame, clear_field, free_register, frame_at, frame_of, register_at, field_at, is_live, live_for, cell_in, cell_of, targets_of, targets, block_of, place_in, address}
 use Rattle.cache_directory.specs.declared.Cell.{Cell}
 use Rattle.input_stack.specs.Stack.{stack_word}
 use Rattle.write_queue.specs.Queue.{overlaid}
 use Rattle.cache_unit.specs.Causes.{dirty_from}
 use Rattle.cache_unit.specs.Steps.{without_code, made_obsolete, obsoleted}
+use Rattle.cache_unit.specs.Counts.{tally, bit}
+use Rattle.cache_unit.proofs.FormsLists.{gathered_part, read_set}
+use Rattle.cache_unit.proofs.FormsEvicting.{codeless_targets}
+use Rattle.cache_unit.proofs.FormsParts.{in_range}
+use Rattle.cache_unit.proofs.FormsFinding.{frame_of-some, frame_of-is, frame_of-none, none_in_frames, live_for-some, live_for-is, live_for-none, none_live}
+use Rattle.cache_unit.proofs.FormsFetching.{address_is}
 use Rattle.machine_core.specs.Law.{IsLawful}
 use Rattle.machine_core.specs.Machine.{Machine, backing}
-use Rattle.machine_core.specs.Sound.{tally, bit, coming, word_now_in, word_now, has_tag, dues, InOrder, IsSound}
-use Rattle.machine_core.proofs.Lists.{gathered_part}
+use Rattle.machine_core.specs.Sound.{coming, word_now_in, word_now, has_tag, dues, InOrder, IsSound}
 use Rattle.flat_model.proofs.Lanewise.{merged-none}
-use Rattle.machine_core.proofs.Parts.{in_range}
-use Rattle.machine_core.proofs.Finding.{frame_of-some, frame_of-is, frame_of-none, none_in_frames, live_for-some, live_for-is, live_for-none, none_live}
 use Rattle.machine_core.proofs.Coming.{due_in}
 use Rattle.machine_core.proofs.Sound.{Same, word_now-same}
-use Rattle.machine_core.proofs.Serving.{read_set, dues-same}
-use Rattle.machine_core.proofs.Dirty.{overlaid-append, overlaid_below, overlaid_at, overlaid_past, address_is, block_in, outside, AllIn-append, AllIn-dirty}
+use Rattle.machine_core.proofs.Serving.{dues-same}
+use Rattle.machine_core.proofs.Dirty.{overlaid-append, overlaid_below, overlaid_at, overlaid_past, block_in, outside, AllIn-append, AllIn-dirty}
 
 -- ---- the registers without the live one of a block
 
@@ -43,10 +46,6 @@ codeless_processed (f ∷ fields) (suc j) = codeless_processed fields j
 codeless_length : (fields : List Field) → length (map without_code fields) ≡ length fields
 codeless_length [] = refl
 codeless_length (f ∷ fields) = ap suc (codeless_length fields)
-
-codeless_targets : (slot n : ℕ) (fields : List Field) → gathered (targets_of_field slot) n (map without_code fields) ≡ gathered (targets_of_field slot) n fields
-codeless_targets slot n [] = refl
-codeless_targets slot n (f ∷ fields) = ap (λ l. targets_of_field slot n f ++ l) (codeless_targets slot (suc n) fields)
 
 pub retired : (z : Sizes) (m : Machine) (block : ℕ) → IsSound z m → (o : Option ℕ) → live_for m.cache block ≡ o → Retired m.cache block (obsoleted m.cache o)
 unfolding targets
@@ -197,7 +196,7 @@ module _ (z : Sizes) (lawful : IsLawful z) (m : Machine) (h : IsSound z m) (bloc
   backing_in at e =
       let cells = (frame_at m.cache f).cells in
       let w = word_at (words_after (bank_at m.banks (at % z.banks))) (at / z.banks) in
-      let here : at ≡ address z block 0 + place_in z at = address_is z at ∙ ap (λ b. address z b 0 + place_in z at) e in
+      let here : at ≡ address z block 0 + place_in z at = sym (address_is z at) ∙ ap (λ b. address z b 0 + place_in z at) e in
       let cell : old_cell at ≡ get_or cells (place_in z at) zero_cell = ap (λ b. cell_in m.cache (frame_of m.cache b) (place_in z at)) e ∙ ap (λ o. cell_in m.cache o (place_in z at)) found in
       overlaid-append w m.cache.queue (dirty_from block (address z block 0) cells) at ∙ overlaid_at (overlaid w m.cache.queue at) block (address z block 0) cells (place_in z at) at here ∙ ap (λ (c : Cell). merged (backing z m at) c.word c.dirty) (sym cell)
 

@@ -1,27 +1,27 @@
 -- A miss: the frame that it takes, the block that goes, and the one that comes.
-use Rattle.std.proofs.Common.{◌≡◌, ℕ, zero, suc, ◌+◌, ◌*◌, ◌/◌, ◌%◌, ◌<◌, ◌≤◌, Bool, true, false, cond, not, ◌==◌, List, [], ◌∷◌, ◌++◌, length, get_or, set, Option, Some, None, option_map, find, is_some, is_none, refl, sym, ap, ◌∙◌, subst, arith, length-set, ◌⊎◌, inl, inr, mod-lt, append-nil, get_or-set_same, get_or-set_other, mul-le-mul_right, eq-eqb}
+use Rattle.std.proofs.Common.{◌≡◌, ℕ, suc, ◌+◌, ◌*◌, ◌/◌, ◌%◌, ◌<◌, ◌≤◌, Bool, true, false, cond, ◌==◌, List, [], ◌∷◌, ◌++◌, length, get_or, set, Option, Some, None, find, is_some, is_none, refl, sym, ap, ◌∙◌, subst, arith, length-set, ◌⊎◌, inl, inr, mod-lt, append-nil, get_or-set_same, get_or-set_other, mul-le-mul_right, eq-eqb}
 use Rattle.std.specs.List.{range_with_len, list_all, filter}
 use native.Mathlib.Nat.{div-eq_of_lt-le}
 use Rattle.std.specs.Option.{option_or}
-use Rattle.std.proofs.lemmas.Bool.{not-true}
 use Rattle.flat_model.specs.Words.{merged}
-use Rattle.cache_unit.specs.State.{Sizes, Frame, Register, Cache, zero_cell, empty_frame, free_register, frame_at, frame_of, is_present, register_at, live_for, is_pending, is_pending_block, free_slot, cell_in, cell_of, block_of, place_in, address}
+use Rattle.cache_unit.specs.State.{Sizes, Frame, Cache, zero_cell, empty_frame, frame_at, frame_of, is_present, register_at, live_for, is_pending, is_pending_block, free_slot, cell_in, cell_of, block_of, place_in, address}
 use Rattle.cache_directory.specs.declared.Cell.{Cell}
-use Rattle.flat_model.specs.Places.{place_of}
 use Rattle.input_stack.specs.Stack.{stack_word}
 use Rattle.cache_unit.specs.Causes.{choose, ways_of, order_of, is_resident_block, dirty_from, dirty_of_block, dirty_words}
 use Rattle.cache_unit.specs.Steps.{without, fresh_frame, released, installed, missed, reads, fetched, fetches}
+use Rattle.cache_unit.specs.Counts.{tally}
+use Rattle.cache_unit.proofs.FormsLists.{passes_from_find, read_set}
+use Rattle.cache_unit.proofs.FormsChoosing.{find_range, none_from, free_register_at, Able, all_valid, found_in, one_fails}
+use Rattle.cache_unit.proofs.FormsParts.{in_range}
+use Rattle.cache_unit.proofs.FormsFinding.{frame_of-some, frame_of-like, none_in_frames}
 use Rattle.machine_core.specs.Law.{IsLawful}
 use Rattle.machine_core.specs.Machine.{Machine, backing}
 use Rattle.memory_banks.specs.Banks.{all_sent}
-use Rattle.machine_core.specs.Sound.{tally, coming, word_now, has_tag, dues, InOrder, is_in, IsSound}
-use Rattle.machine_core.proofs.Lists.{passes_from_find, place_of-some}
-use Rattle.machine_core.proofs.Parts.{in_range}
-use Rattle.machine_core.proofs.Finding.{frame_of-some, frame_of-like, none_in_frames}
+use Rattle.machine_core.specs.Sound.{coming, word_now, has_tag, dues, InOrder, is_in, IsSound}
 use Rattle.machine_core.proofs.Coming.{due_in}
-use Rattle.machine_core.proofs.Orders.{InOrder-released, InOrder-installed, found_in, member, one_fails}
+use Rattle.machine_core.proofs.Orders.{InOrder-released, InOrder-installed, member}
 use Rattle.machine_core.proofs.Sound.{Same, word_now-same}
-use Rattle.machine_core.proofs.Serving.{read_set, dues-same}
+use Rattle.machine_core.proofs.Serving.{dues-same}
 use Rattle.machine_core.proofs.Evicting.{retired, given_up, given_up_sound, given_up_same, other_found, empty_now}
 use Rattle.machine_core.proofs.Installing.{with_block_sound, with_block_same, with_block_present}
 
@@ -97,18 +97,6 @@ module _ (z : Sizes) (m : Machine) (h : IsSound z m) (f : ℕ) (free : (frame_at
 
 -- ---- the frame that is chosen
 
-find_range : (p : ℕ → Bool) (a n x : ℕ) → find p (range_with_len a n) ≡ Some x → (a ≤ x) × (x < a + n)
-find_range p a zero x e = cc
-find_range p a (suc n) x e = go (p a) (find_range p (a + 1) n x) e
-  where
-    go : (b : Bool) → (find p (range_with_len (a + 1) n) ≡ Some x → (a + 1 ≤ x) × (x < a + 1 + n)) → cond b (Some a) (find p (range_with_len (a + 1) n)) ≡ Some x → (a ≤ x) × (x < a + suc n)
-    go true rest q = let same : a ≡ x = cc in (omega arith, omega arith)
-    go false rest q = let r = rest q in (let r0 = r.0 in omega arith, let r1 = r.1 in omega arith)
-
-none_from : {X : Type 0} (o : Option X) → is_none o ≡ true → o ≡ None
-none_from None e = refl
-none_from (Some x) e = cc
-
 resident_from : (c : Cache) (o : Option ℕ) → is_resident_block c o ≡ true → (b : ℕ) × (o ≡ Some b) × (live_for c b ≡ None)
 resident_from c None e = cc
 resident_from c (Some b) e = (b, refl, none_from (live_for c b) e)
@@ -153,11 +141,6 @@ chosen z lawful m h block f e = go (find free ways) refl (find resident order) r
     go : (a : Option ℕ) → find free ways ≡ a → (b : Option ℕ) → find resident order ≡ b → option_or a b ≡ Some f → (f < length m.cache.frames) × MayGo m.cache f × (f / z.ways ≡ block % z.sets)
     go (Some x) p b q r = by_free (p ∙ r)
     go None p b q r = by_resident (q ∙ r)
-
-pub free_register_at : (c : Cache) (slot : ℕ) → free_slot c ≡ Some slot → (slot < length c.registers) × ((register_at c slot).valid ≡ false)
-free_register_at c slot e =
-    let p = place_of-some (λ (r : Register). not r.valid) free_register c.registers slot e in
-    (p.0, not-true (register_at c slot).valid p.1)
 
 -- ---- the miss
 
@@ -207,19 +190,6 @@ miss_ok z lawful m h block f slot absent f_there (inr victim) own slot_there inv
     subst (λ q. FetchedBy z m block (record { cache = installed z (record m.cache { frames = set m.cache.frames f empty_frame; orders = orders; queue = q }) block f slot; banks = all_sent m.banks (reads z block (Some slot)) })) (sym e) filled
 
 -- ---- what the causes leave
-
--- what is known once no register's and no frame's cause holds
-abbrev pub Able : Sizes → Cache → ℕ → Type 0
-Able z c block = ((length (filter (λ r. r.valid) c.registers) == z.regs) ≡ false) × (list_all (is_pending c) (ways_of z block) ≡ false)
-
-all_valid : (registers : List Register) → place_of (λ (r : Register). not r.valid) registers ≡ None → length (filter (λ (r : Register). r.valid) registers) ≡ length registers
-all_valid [] e = refl
-all_valid (r ∷ registers) e = go r.valid (place_of (λ (x : Register). not x.valid) registers) e (all_valid registers)
-  where
-    go : (b : Bool) (o : Option ℕ) → cond (not b) (Some 0) (option_map (λ k. suc k) o) ≡ None → (o ≡ None → length (filter (λ (x : Register). x.valid) registers) ≡ length registers) → length (cond b (r ∷ filter (λ (x : Register). x.valid) registers) (filter (λ (x : Register). x.valid) registers)) ≡ suc (length registers)
-    go true None q rest = ap suc (rest refl)
-    go true (Some k) q rest = cc
-    go false o q rest = cc
 
 some_slot : (z : Sizes) (m : Machine) → IsSound z m → (length (filter (λ r. r.valid) m.cache.registers) == z.regs) ≡ false → is_none (free_slot m.cache) ≡ false
 some_slot z m h e = go (free_slot m.cache) refl

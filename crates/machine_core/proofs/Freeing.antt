@@ -1,7 +1,7 @@
 -- A register whose words are all processed becomes free, and so a stack word's turn is whole.
-use Rattle.std.proofs.Common.{◌≡◌, ℕ, zero, suc, ◌+◌, ◌<◌, ◌≤◌, Bool, true, false, cond, not, ◌&&◌, nat_lt, List, [], ◌∷◌, ◌++◌, map, length, get_or, set, Option, Some, None, remove, slice_get, refl, sym, ap, ap₂, ◌∙◌, subst, arith, length-set, ⊎_elim, get_or-set_same, get_or-set_other, mod-lt}
+use Rattle.std.proofs.Common.{◌≡◌, ℕ, ◌+◌, ◌<◌, ◌≤◌, Bool, true, false, cond, not, ◌&&◌, nat_lt, List, [], ◌++◌, length, get_or, set, Option, Some, None, remove, slice_get, refl, sym, ap, ◌∙◌, subst, arith, length-set, ⊎_elim, get_or-set_same, get_or-set_other, mod-lt}
 use Rattle.std.specs.List.{list_all}
-use Rattle.std.proofs.lemmas.Bool.{cases_eq, and_parts, ltb-true}
+use Rattle.std.proofs.lemmas.Bool.{cases_eq, ltb-true}
 use Rattle.std.proofs.lemmas.List.{set-set}
 use Rattle.flat_model.specs.declared.Word.{Word}
 use Rattle.flat_model.specs.declared.Event.TheVariants.{Process}
@@ -12,27 +12,20 @@ use Rattle.cache_unit.specs.State.{Sizes, Frame, Field, Register, Cache, zero_ce
 use Rattle.cache_directory.specs.declared.Cell.{Cell}
 use Rattle.input_stack.specs.Stack.{stack_word}
 use Rattle.cache_unit.specs.Steps.{answered, filled, filled_in, finished, processed, process_entry, process_step}
+use Rattle.cache_unit.specs.Counts.{tally, bit}
+use Rattle.cache_unit.proofs.FormsLists.{gathered_part, read_set}
+use Rattle.cache_unit.proofs.FormsProcessing.{all_processed, no_targets, done}
+use Rattle.cache_unit.proofs.FormsFields.{with_fields}
+use Rattle.cache_unit.proofs.FormsParts.{in_range, nested_same, nested_other}
+use Rattle.cache_unit.proofs.FormsStoring.{with_cells}
+use Rattle.cache_unit.proofs.FormsFinding.{frame_of-some, live_for-some, live_for-is, live_for-none, none_live}
 use Rattle.machine_core.specs.Law.{IsLawful}
 use Rattle.machine_core.specs.Machine.{Machine, joined_with}
-use Rattle.machine_core.specs.Sound.{tally, bit, coming, shown_word, word_now_in, word_now, has_tag, dues, IsSound, wanted}
-use Rattle.machine_core.proofs.Lists.{gathered_part}
-use Rattle.machine_core.proofs.Parts.{in_range, nested_same, nested_other}
-use Rattle.machine_core.proofs.Finding.{frame_of-some, live_for-some, live_for-is, live_for-none, none_live}
+use Rattle.machine_core.specs.Sound.{coming, shown_word, word_now_in, word_now, has_tag, dues, IsSound, wanted}
 use Rattle.machine_core.proofs.Coming.{due_in}
 use Rattle.machine_core.proofs.Sound.{Same, Kept, KeptBy, flat_of-same}
-use Rattle.machine_core.proofs.Serving.{read_set, dues-same}
-use Rattle.machine_core.proofs.Processing.{Filling, done, with_fields, partly, partly_sound, partly_same, slot_there, waits}
-
-pub all_processed : (fields : List Field) → list_all (λ f. f.processed) fields ≡ true → (j : ℕ) → j < length fields → (get_or fields j clear_field).processed ≡ true
-all_processed [] h j l = absurd (omega arith)
-all_processed (f ∷ fields) h zero l = (and_parts f.processed (list_all (λ f. f.processed) fields) h).0
-all_processed (f ∷ fields) h (suc j) l = all_processed fields (and_parts f.processed (list_all (λ f. f.processed) fields) h).1 j (omega arith)
-
-no_targets : (slot n : ℕ) (fields : List Field) → list_all (λ f. f.processed) fields ≡ true → gathered (targets_of_field slot) n fields ≡ []
-no_targets slot n [] h = refl
-no_targets slot n (f ∷ fields) h =
-    let p = and_parts f.processed (list_all (λ f. f.processed) fields) h in
-    ap₂ ◌++◌ (ap (λ b. cond b [] (map (λ w. record { slot = slot; i = n; load = w }) f.waiting)) p.0) (no_targets slot (suc n) fields p.1)
+use Rattle.machine_core.proofs.Serving.{dues-same}
+use Rattle.machine_core.proofs.Processing.{Filling, partly, partly_sound, partly_same, slot_there, waits}
 
 module _ (z : Sizes) (lawful : IsLawful z) (m : Machine) (s : ℕ) (h : IsSound z m) (v : (register_at m.cache s).valid ≡ true) (all : list_all (λ f. f.processed) (register_at m.cache s).fields ≡ true) where
   abbrev freed : Machine
@@ -172,9 +165,6 @@ filled_only c s i w = go (is_live (register_at c s)) (frame_of c (register_at c 
     go true None = refl
     go true (Some f) = refl
     go false o = refl
-
-abbrev with_cells : Frame → List Cell → Frame
-with_cells f cells = record f { cells = cells }
 
 filling_of : (z : Sizes) (m : Machine) (place : ℕ) (e : Entry) → IsSound z m → slice_get m.cache.stack place ≡ Some e → Filling m.cache e (filled m.cache e.slot e.i e.word).frames
 unfolding with_cell

@@ -1,6 +1,5 @@
 -- A missing block gets a frame and a register, and its words are asked for.
 use Rattle.std.proofs.Common.{◌≡◌, ◌≢◌, ℕ, zero, suc, ◌+◌, ◌*◌, ◌/◌, ◌%◌, ◌<◌, ◌≤◌, Bool, true, false, cond, not, ◌&&◌, ◌||◌, ◌==◌, nat_lt, nat_le, List, [], ◌∷◌, ◌++◌, map, length, get_or, set, Option, Some, None, option_map, find, refl, sym, ap, ap₂, ◌∙◌, subst, arith, length-set, ◌⊎◌, inl, inr, ⊎_elim, mod-lt, get_or-set_same, get_or-set_other, lt-ltb, add-zero}
-use Rattle.std.specs.List.{range_with_len}
 use Rattle.std.proofs.lemmas.Bool.{cases_eq, and_parts}
 use Rattle.flat_model.specs.declared.Word.{Word}
 use Rattle.flat_model.specs.Words.{merged, zero_word, no_lanes}
@@ -8,39 +7,27 @@ use Rattle.flat_model.specs.Flat.{word_at}
 use Rattle.memory_banks.specs.declared.BankAnswer.{BankAnswer}
 use Rattle.memory_banks.specs.Banks.{all_pending, all_sent}
 use Rattle.input_stack.specs.declared.Entry.{Entry}
-use Rattle.write_queue.specs.declared.Queued.{Queued}
 use Rattle.cache_unit.specs.State.{Sizes, Frame, Field, Register, Target, zero_cell, empty_frame, clear_field, free_register, frame_at, frame_of, register_at, field_at, is_live, live_for, cell_in, cell_of, gathered, targets_of, targets_of_field, targets, block_of, place_in, address}
 use Rattle.cache_directory.specs.declared.Cell.{Cell}
 use Rattle.input_stack.specs.Stack.{stack_word}
 use Rattle.write_queue.specs.Queue.{overlaid, queued_lanes}
 use Rattle.cache_unit.specs.Causes.{addresses}
 use Rattle.cache_unit.specs.Steps.{fresh_frame, fresh_register}
+use Rattle.cache_unit.specs.Counts.{tally, bit}
+use Rattle.cache_unit.proofs.FormsLists.{find_none, gathered_part}
+use Rattle.cache_unit.proofs.FormsFetching.{range_at, range_length, no_loads, address_is}
+use Rattle.cache_unit.proofs.FormsParts.{targets_map}
+use Rattle.cache_unit.proofs.FormsFinding.{frame_of-some, frame_of-is, frame_of-none, none_in_frames, live_for-some, live_for-is, live_for-none, none_live}
 use Rattle.machine_core.specs.Law.{IsLawful}
 use Rattle.machine_core.specs.Machine.{Machine, backing}
-use Rattle.machine_core.specs.Sound.{tally, bit, is_for, coming, coming_from, word_in, shown_word, word_now_in, word_now, has_tag, dues, reply_to, InOrder, IsSound, is_entry_for, wanted}
-use Rattle.machine_core.proofs.Lists.{find_none, gathered_part}
+use Rattle.machine_core.specs.Sound.{is_for, coming, coming_from, word_in, shown_word, word_now_in, word_now, has_tag, dues, reply_to, InOrder, IsSound, is_entry_for, wanted}
 use Rattle.flat_model.proofs.Lanewise.{merged-none}
 use Rattle.machine_core.proofs.Overlaid.{overlaid-split}
-use Rattle.machine_core.proofs.Parts.{targets_map}
-use Rattle.machine_core.proofs.Finding.{frame_of-some, frame_of-is, frame_of-none, none_in_frames, live_for-some, live_for-is, live_for-none, none_live, word_now-live}
+use Rattle.machine_core.proofs.Finding.{word_now-live}
 use Rattle.machine_core.proofs.Coming.{due_in}
 use Rattle.machine_core.proofs.Sound.{Same, word_now-same}
 use Rattle.machine_core.proofs.Arriving.{bit-le}
-use Rattle.machine_core.proofs.Dirty.{address_is}
 use Rattle.machine_core.proofs.Sending.{base_in, answer_at, commands, AddsAll-tally, AddsAll-find_other, AddsAll-find, sent_words, sent_lengths, sent_number, sent_adds, reads_other, reads_tally, reads_find}
-
-pub range_at : {X : Type 0} (g : ℕ → X) (d : X) (a n j : ℕ) → j < n → get_or (map g (range_with_len a n)) j d ≡ g (a + j)
-range_at g d a zero j l = absurd (omega arith)
-range_at g d a (suc n) zero l = ap g (sym (add-zero a))
-range_at g d a (suc n) (suc j) l = let e : a + 1 + j ≡ a + suc j = omega arith in range_at g d (a + 1) n j (omega arith) ∙ ap g e
-
-pub range_length : {X : Type 0} (g : ℕ → X) (a n : ℕ) → length (map g (range_with_len a n)) ≡ n
-range_length g a zero = refl
-range_length g a (suc n) = ap suc (range_length g (a + 1) n)
-
-no_loads : (z : Sizes) (queue : List Queued) (slot n a k : ℕ) → gathered (targets_of_field slot) n (map (λ (at : ℕ). let f : Field = record { processed = false; code = queued_lanes queue at; waiting = [] } in f) (range_with_len a k)) ≡ []
-no_loads z queue slot n a zero = refl
-no_loads z queue slot n a (suc k) = no_loads z queue slot (suc n) (a + 1) k
 
 module _ (z : Sizes) (lawful : IsLawful z) (m : Machine) (h : IsSound z m) (block f slot : ℕ) (absent : frame_of m.cache block ≡ None) (free : (frame_at m.cache f).block ≡ None) (f_there : f < length m.cache.frames) (invalid : (register_at m.cache slot).valid ≡ false) (slot_there : slot < length m.cache.registers) (in_memory : address z block 0 < z.words) (orders : List (List ℕ)) (ordered : InOrder z (set m.cache.frames f (fresh_frame z m.cache.queue block)) orders) where
   abbrev pub with_block : Machine
@@ -213,7 +200,7 @@ module _ (z : Sizes) (lawful : IsLawful z) (m : Machine) (h : IsSound z m) (bloc
   word_own at e =
       let j = place_in z at in
       let l : place_in z at < z.block_words = mod-lt at lawful.some_words in
-      let a : address z block 0 + place_in z at ≡ at = sym (address_is z at ∙ ap (λ b. address z b 0 + place_in z at) e) in
+      let a : address z block 0 + place_in z at ≡ at = ap (λ b. address z b 0 + place_in z at) (sym e) ∙ address_is z at in
       let a' : block * z.block_words + place_in z at ≡ at = let k = a in omega arith in
       let q = m.cache.queue in
       let cell = own_cell (place_in z at) l in
@@ -263,7 +250,7 @@ module _ (z : Sizes) (lawful : IsLawful z) (m : Machine) (h : IsSound z m) (bloc
   same_targets =
       let p = gathered_part targets_of free_register 0 m.cache.registers slot slot_there in
       let r = register_at m.cache slot in
-      p.then (fresh_register z m.cache.queue block) ∙ ap (λ l. p.front ++ (l ++ p.back)) (no_loads z m.cache.queue (0 + slot) 0 (address z block 0) z.block_words ∙ sym (ap (λ v. cond v (gathered (targets_of_field (0 + slot)) 0 r.fields) []) invalid)) ∙ sym p.now
+      p.then (fresh_register z m.cache.queue block) ∙ ap (λ l. p.front ++ (l ++ p.back)) (no_loads m.cache.queue (0 + slot) 0 (address z block 0) z.block_words ∙ sym (ap (λ v. cond v (gathered (targets_of_field (0 + slot)) 0 r.fields) []) invalid)) ∙ sym p.now
 
   same_replies : map (reply_to with_block) (targets m.cache.registers) ≡ map (reply_to m) (targets m.cache.registers)
   same_replies =

@@ -11,18 +11,15 @@ use Rattle.memory_banks.specs.declared.BankAnswer.{BankAnswer}
 use Rattle.memory_banks.specs.Banks.{Bank, bank_at, pending}
 use Rattle.cache_unit.specs.declared.Reply.{Reply}
 use Rattle.cache_unit.specs.State.{Sizes, Target, targets, tags}
+use Rattle.cache_unit.specs.Counts.{tally}
+use Rattle.cache_unit.proofs.FormsLists.{tally-append, tally-map}
 use Rattle.machine_core.specs.Law.{IsLawful, IsKept, WalkIsKept}
 use Rattle.machine_core.specs.Machine.{Machine, apply, opening, walked, flat_due, flat_of}
-use Rattle.machine_core.specs.Sound.{tally, bit, is_for, has_tag, dues, reply_to, own_bank, IsSound, IsBounded}
-use Rattle.machine_core.proofs.Lists.{tally-append}
+use Rattle.machine_core.specs.Sound.{is_for, has_tag, dues, reply_to, own_bank, IsSound, IsBounded}
 use Rattle.machine_core.proofs.Opening.{opening_sound}
 use Rattle.machine_core.proofs.Requests.{flat_in_use}
 use Rattle.machine_core.proofs.Walking.{event_ok}
 use Rattle.machine_core.proofs.Resting.{opening_bounded, held_walked}
-
-tally-map : {X Y : Type 0} (f : X → Y) (p : Y → Bool) (xs : List X) → tally p (map f xs) ≡ tally (λ x. p (f x)) xs
-tally-map f p [] = refl
-tally-map f p (x ∷ xs) = ap (λ n. bit (p (f x)) + n) (tally-map f p xs)
 
 tags_tally : (m : Machine) (tag : ℕ) → tally (λ t. t == tag) (tags m.cache) ≡ tally (has_tag tag) (dues m)
 unfolding dues

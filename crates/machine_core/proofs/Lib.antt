@@ -1,4 +1,3 @@
-pub mod Lists
 pub mod Overlaid
 pub mod Coming
 pub mod Orders
@@ -8,13 +7,11 @@ pub mod Owing
 pub mod Taking
 pub mod Arriving
 pub mod Draining
-pub mod Parts
 pub mod Finding
 pub mod Processing
 pub mod Freeing
 pub mod Dirty
 pub mod Evicting
-pub mod Fields
 pub mod Loading
 pub mod Storing
 pub mod Sending
@@ -29,7 +26,6 @@ pub mod Counting
 pub mod Resting
 pub mod Weighing
 pub mod Keeping
-pub mod Contract
 pub mod Stepping
 pub mod Totals
 pub mod Whole

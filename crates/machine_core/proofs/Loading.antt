@@ -10,16 +10,17 @@ use Rattle.cache_unit.specs.State.{Sizes, Field, Register, Target, free_register
 use Rattle.input_stack.specs.Stack.{stack_word}
 use Rattle.cache_unit.specs.Causes.{Found, Here, found, found_in, found_missing}
 use Rattle.cache_unit.specs.Steps.{replied, awaited, loaded}
+use Rattle.cache_unit.specs.Counts.{tally, bit}
+use Rattle.cache_unit.proofs.FormsLists.{Adds, Adds-tally, Adds-push, Adds-left, Adds-right, Adds-same, Adds-map}
+use Rattle.cache_unit.proofs.FormsFields.{live_with_field, with_fields, with_field_in, same_at, field_part}
+use Rattle.cache_unit.proofs.FormsParts.{in_range, word_part}
+use Rattle.cache_unit.proofs.FormsFinding.{live_for-some}
 use Rattle.machine_core.specs.Law.{IsLawful}
 use Rattle.machine_core.specs.Machine.{Machine}
-use Rattle.machine_core.specs.Sound.{tally, bit, coming, coming_from, shown_word, word_now, has_tag, dues, reply_to, IsSound}
-use Rattle.machine_core.proofs.Lists.{Adds, Adds-tally, Adds-push, Adds-left, Adds-right, Adds-same, Adds-map}
+use Rattle.machine_core.specs.Sound.{coming, coming_from, shown_word, word_now, has_tag, dues, reply_to, IsSound}
 use Rattle.flat_model.proofs.Lanewise.{merged_held, merged-all}
-use Rattle.machine_core.proofs.Parts.{in_range, word_part}
-use Rattle.machine_core.proofs.Finding.{live_for-some, word_now-live, word_now-resident}
+use Rattle.machine_core.proofs.Finding.{word_now-live, word_now-resident}
 use Rattle.machine_core.proofs.Sound.{word_now-same}
-use Rattle.machine_core.proofs.Processing.{with_fields, with_field_in}
-use Rattle.machine_core.proofs.Fields.{same_at, field_part, live_with_field}
 use Rattle.machine_core.proofs.Owing.{with_ready, with_ready-words, with_ready-dues, with_ready-sound}
 
 -- the machine is sound, its words stand, and it owes one word more

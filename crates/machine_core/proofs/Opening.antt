@@ -13,11 +13,12 @@ use Rattle.write_queue.specs.Queue.{overlaid}
 use Rattle.machine_core.specs.Law.{IsLawful}
 use Rattle.machine_core.specs.Machine.{Machine, backing, opening, settled, bank_word, flat_due, flat_of}
 use Rattle.cache_unit.specs.Views.{is_empty, is_clean}
-use Rattle.machine_core.specs.Sound.{tally, word_now, word_now_in, has_tag, dues, IsSound, wanted}
+use Rattle.cache_unit.specs.Counts.{tally}
+use Rattle.cache_unit.proofs.FormsFetching.{range_at, range_length}
+use Rattle.cache_unit.proofs.FormsFinding.{frame_of-none}
+use Rattle.machine_core.specs.Sound.{word_now, word_now_in, has_tag, dues, IsSound, wanted}
 use Rattle.flat_model.proofs.Lanewise.{merged-none, merged_no_lane, has-none}
-use Rattle.machine_core.proofs.Finding.{frame_of-none}
 use Rattle.machine_core.proofs.Coming.{flat_word-now, flat_due-in, due_in}
-use Rattle.machine_core.proofs.Installing.{range_at, range_length}
 use Rattle.machine_core.proofs.Requests.{mem_length, mem_at}
 
 pub all_default : {X : Type 0} (n : ℕ) (d : X) (k : ℕ) → get_or (replicate n d) k d ≡ d

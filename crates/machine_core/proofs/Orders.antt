@@ -1,6 +1,5 @@
 -- The orders of allocation: which frames they hold, and what a miss finds in them.
-use Rattle.std.proofs.Common.{◌≡◌, ℕ, zero, suc, ◌+◌, ◌/◌, ◌<◌, ◌≤◌, Bool, true, false, cond, not, ◌&&◌, ◌||◌, ◌==◌, List, [], ◌∷◌, ◌++◌, length, set, Some, None, find, is_some, refl, sym, ap, ap₂, ◌∙◌, arith, length-set, ◌⊎◌, inl, inr, ⊎_elim, eq-eqb, eqb-true, ne_eqb, get_or-set_same, get_or-set_other}
-use Rattle.std.specs.List.{list_all, range_with_len}
+use Rattle.std.proofs.Common.{◌≡◌, ℕ, ◌/◌, ◌<◌, ◌≤◌, Bool, true, false, cond, not, ◌||◌, ◌==◌, List, [], ◌∷◌, ◌++◌, length, set, Some, None, find, refl, sym, ap, ap₂, ◌∙◌, arith, length-set, ◌⊎◌, inl, inr, ⊎_elim, eq-eqb, eqb-true, ne_eqb, get_or-set_same, get_or-set_other}
 use Rattle.std.proofs.lemmas.Bool.{cases_eq, cases_lt, or_cases, or_left, or_right}
 use Rattle.std.proofs.lemmas.List.{get_or_past, set_past}
 use Rattle.cache_unit.specs.State.{Sizes, Frame, empty_frame}
@@ -111,16 +110,6 @@ InOrder-installed z frames orders f s new own l h =
 
 -- ---- what is found
 
--- a member that passes is enough for a search
-pub found_in : (p : ℕ → Bool) (order : List ℕ) (f : ℕ) → is_in order f ≡ true → p f ≡ true → is_some (find p order) ≡ true
-found_in p [] f e h = cc
-found_in p (x ∷ order) f e h = go (p x) refl (found_in p order f)
-  where
-    go : (b : Bool) → p x ≡ b → (is_in order f ≡ true → p f ≡ true → is_some (find p order) ≡ true) → is_some (cond b (Some x) (find p order)) ≡ true
-    go true q rest = refl
-    go false q rest =
-        ⊎_elim (λ k. let same : x ≡ f = eqb-true x f k in let no : p f ≡ false = ap p (sym same) ∙ q in cc) (λ k. rest k h) (or_cases (x == f) (is_in order f) e)
-
 -- what is found is a member
 pub member : (p : ℕ → Bool) (order : List ℕ) (f : ℕ) → find p order ≡ Some f → is_in order f ≡ true
 member p [] f e = cc
@@ -129,14 +118,3 @@ member p (x ∷ order) f e = go (p x) e (member p order f)
     go : (b : Bool) → cond b (Some x) (find p order) ≡ Some f → (find p order ≡ Some f → is_in order f ≡ true) → is_in (x ∷ order) f ≡ true
     go true q rest = let same : x ≡ f = cc in or_left (x == f) (is_in order f) (eq-eqb x f same)
     go false q rest = or_right (x == f) (is_in order f) (rest q)
-
--- where not all pass, one does not
-pub one_fails : (p : ℕ → Bool) (a n : ℕ) → list_all p (range_with_len a n) ≡ false → (k : ℕ) × (a ≤ k) × (k < a + n) × (p k ≡ false) × (is_in (range_with_len a n) k ≡ true)
-one_fails p a zero e = cc
-one_fails p a (suc n) e = go (p a) refl e (one_fails p (a + 1) n)
-  where
-    go : (b : Bool) → p a ≡ b → (b && list_all p (range_with_len (a + 1) n)) ≡ false → (list_all p (range_with_len (a + 1) n) ≡ false → (k : ℕ) × (a + 1 ≤ k) × (k < a + 1 + n) × (p k ≡ false) × (is_in (range_with_len (a + 1) n) k ≡ true)) → (k : ℕ) × (a ≤ k) × (k < a + suc n) × (p k ≡ false) × (is_in (range_with_len a (suc n)) k ≡ true)
-    go true q r rest =
-        let k = rest r in
-        (k.0, let l = k.1 in omega arith, let l = k.2 in omega arith, k.3, or_right (a == k.0) (is_in (range_with_len (a + 1) n) k.0) k.4)
-    go false q r rest = (a, omega arith, omega arith, q, or_left (a == a) (is_in (range_with_len (a + 1) n) a) (eq-eqb a a refl))

@@ -4,10 +4,11 @@ use Rattle.std.proofs.lemmas.Bool.{eqb-false}
 use Rattle.flat_model.specs.Flat.{with_due}
 use Rattle.cache_unit.specs.declared.Reply.{Reply}
 use Rattle.cache_unit.specs.State.{Sizes, frame_of, live_for, targets}
+use Rattle.cache_unit.specs.Counts.{tally, bit}
+use Rattle.cache_unit.proofs.FormsLists.{Adds, Adds-tally, Adds-find_other, Adds-find_same, find_none}
 use Rattle.input_stack.specs.Stack.{stack_word}
 use Rattle.machine_core.specs.Machine.{Machine}
-use Rattle.machine_core.specs.Sound.{tally, bit, coming, word_now, has_tag, dues, reply_to, IsSound}
-use Rattle.machine_core.proofs.Lists.{Adds, Adds-tally, Adds-find_other, Adds-find_same, find_none}
+use Rattle.machine_core.specs.Sound.{coming, word_now, has_tag, dues, reply_to, IsSound}
 use Rattle.machine_core.proofs.Coming.{due_in}
 
 -- ---- a test of tags, both ways round

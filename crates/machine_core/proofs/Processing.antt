@@ -2,7 +2,7 @@
 use Rattle.std.proofs.Common.{◌≡◌, ℕ, ◌+◌, ◌<◌, ◌≤◌, Bool, true, false, cond, not, ◌&&◌, ◌==◌, nat_lt, List, [], ◌∷◌, ◌++◌, map, length, get_or, set, Option, Some, None, option_map, find, remove, slice_get, refl, sym, ap, ap₂, ◌∙◌, subst, arith, length-set, ◌⊎◌, inl, inr, ⊎_elim, eqb-true, eq-eqb, length-append}
 use Rattle.std.proofs.lemmas.Bool.{cases_eq, cases_Bool, and_parts, not-true, ltb-true, false_from_ne_true}
 use Rattle.std.proofs.lemmas.List.{map-append}
-use Rattle.flat_model.specs.Words.{merged, no_lanes}
+use Rattle.flat_model.specs.Words.{merged}
 use Rattle.memory_banks.specs.Banks.{all_pending}
 use Rattle.cache_unit.specs.declared.Reply.{Reply}
 use Rattle.input_stack.specs.declared.Entry.{Entry}
@@ -11,28 +11,20 @@ use Rattle.cache_unit.specs.State.{Sizes, Frame, Field, Register, Cache, zero_ce
 use Rattle.cache_directory.specs.declared.Cell.{Cell}
 use Rattle.input_stack.specs.Stack.{stack_word}
 use Rattle.cache_unit.specs.Steps.{answered}
+use Rattle.cache_unit.specs.Counts.{tally, bit}
+use Rattle.cache_unit.proofs.FormsLists.{Adds, Adds-tally, Adds-find_other, Adds-find_same, Adds-remove, read_set}
+use Rattle.cache_unit.proofs.FormsParts.{in_range, find_swapped, tally_swapped, targets_map, WordPart, word_part, nested_same, nested_other}
+use Rattle.cache_unit.proofs.FormsFields.{with_fields, with_field_in}
+use Rattle.cache_unit.proofs.FormsProcessing.{done}
+use Rattle.cache_unit.proofs.FormsFinding.{frame_of-some, frame_of-is, frame_of-like, live_for-some, live_for-is, live_for-like}
 use Rattle.machine_core.specs.Machine.{Machine, backing}
-use Rattle.machine_core.specs.Sound.{tally, bit, is_for, coming, coming_from, word_now, has_tag, dues, reply_to, IsSound, is_entry_for, wanted}
-use Rattle.machine_core.proofs.Lists.{Adds, Adds-tally, Adds-find_other, Adds-find_same, Adds-remove}
+use Rattle.machine_core.specs.Sound.{is_for, coming, coming_from, word_now, has_tag, dues, reply_to, IsSound, is_entry_for, wanted}
 use Rattle.flat_model.proofs.Lanewise.{merged_held}
-use Rattle.machine_core.proofs.Parts.{in_range, nested_set, nested_same, nested_other, find_swapped, tally_swapped, targets_map, WordPart, word_part}
-use Rattle.machine_core.proofs.Finding.{frame_of-some, frame_of-is, frame_of-like, live_for-some, live_for-is, live_for-like, word_now-live}
+use Rattle.machine_core.proofs.Finding.{word_now-live}
 use Rattle.machine_core.proofs.Coming.{due_in}
 use Rattle.machine_core.proofs.Orders.{InOrder-same}
 use Rattle.machine_core.proofs.Sound.{Same, word_now-same}
-use Rattle.machine_core.proofs.Serving.{read_set}
 use Rattle.machine_core.proofs.Arriving.{bit-le, bit-pos}
-
-abbrev pub done : Field
-done = record { processed = true; code = no_lanes; waiting = [] }
-
-abbrev pub with_fields : Register → List Field → Register
-with_fields r fields = record r { fields = fields }
-
--- registers with another field for word i of the one in slot s
-abbrev pub with_field_in : List Register → ℕ → ℕ → Field → List Register
-with_field_in registers s i f =
-    nested_set (λ (r : Register). r.fields) with_fields (λ r fs. refl) free_register clear_field registers s i f
 
 -- how the buffer is filled by a word
 pub record Filling (c : Cache) (e : Entry) (frames : List Frame) : Type 0 where

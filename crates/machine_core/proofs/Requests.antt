@@ -15,21 +15,25 @@ use Rattle.cache_unit.specs.declared.Reply.{Reply}
 use Rattle.cache_unit.specs.State.{Sizes, Cache, frame_of, is_present, frame_at, live_for, free_slot, cell_of, cell_in, tags, targets, block_of, place_in, address, is_pending, Target}
 use Rattle.cache_unit.specs.Causes.{first_cause, ways_of, choose, found, targets_full, is_in_use, miss_causes, lacks_places, lacks_room, dirty_words, dirty_of_block, dirty_from, order_of, load_cause, store_cause, prefetch_cause, evict_cause}
 use Rattle.cache_unit.specs.Steps.{load_step, store_step, prefetch_step, evict_step, Stepped, unless, fetched, fetches, loaded, written, released, evicted, evicted_from, obsoleted, without}
+use Rattle.cache_unit.specs.Counts.{tally}
+use Rattle.cache_unit.proofs.FormsLists.{none_from_find, Adds-length}
+use Rattle.cache_unit.proofs.FormsChoosing.{Able}
+use Rattle.cache_unit.proofs.FormsFetching.{range_at, range_length}
+use Rattle.cache_unit.proofs.Arrive.{is_some-map}
+use Rattle.cache_unit.proofs.FormsFinding.{frame_of-some}
+use Rattle.cache_unit.proofs.Tags.{any-map}
 use Rattle.machine_core.specs.Law.{IsLawful}
 use Rattle.machine_core.specs.Machine.{Machine, joined_with, flat_word, flat_due, flat_of}
 use Rattle.memory_banks.specs.Banks.{room_in}
-use Rattle.machine_core.specs.Sound.{tally, has_tag, dues, reply_to, IsSound}
-use Rattle.machine_core.proofs.Lists.{none_from_find, Adds-length}
-use Rattle.machine_core.proofs.Finding.{frame_of-some}
+use Rattle.machine_core.specs.Sound.{has_tag, dues, reply_to, IsSound}
 use Rattle.machine_core.proofs.Coming.{flat_word-now, flat_due-in, due_in}
 use Rattle.machine_core.proofs.Sound.{Same, Kept, KeptBy, flat_of-same}
 use Rattle.machine_core.proofs.Owing.{due_in-added}
 use Rattle.machine_core.proofs.Evicting.{retired, given_up_sound, given_up_same}
 use Rattle.machine_core.proofs.Loading.{load_hit}
 use Rattle.machine_core.proofs.Storing.{store_hit}
-use Rattle.machine_core.proofs.Installing.{range_at, range_length}
 use Rattle.machine_core.proofs.Orders.{InOrder-released}
-use Rattle.machine_core.proofs.Fetching.{Able, fetched_machine, FetchedBy, fetch_ok}
+use Rattle.machine_core.proofs.Fetching.{fetched_machine, FetchedBy, fetch_ok}
 use Rattle.std.proofs.lemmas.List.{length-map}
 
 -- ---- memory as a list
@@ -66,22 +70,14 @@ any-append : {X : Type 0} (p : X → Bool) (xs ys : List X) → list_any p (xs +
 any-append p [] ys = refl
 any-append p (x ∷ xs) ys = elim (p x) as (λ b. (b || list_any p (xs ++ ys)) ≡ ((b || list_any p xs) || list_any p ys)) [ true ↦ refl | false ↦ any-append p xs ys ]
 
-any-map : {X Y : Type 0} (f : X → Y) (p : Y → Bool) (xs : List X) → list_any p (map f xs) ≡ list_any (λ x. p (f x)) xs
-any-map f p [] = refl
-any-map f p (x ∷ xs) = ap (λ b. p (f x) || b) (any-map f p xs)
-
 any-find : {X : Type 0} (p : X → Bool) (xs : List X) → list_any p xs ≡ is_some (find p xs)
 any-find p [] = refl
 any-find p (x ∷ xs) = elim (p x) as (λ b. (b || list_any p xs) ≡ is_some (cond b (Some x) (find p xs))) [ true ↦ refl | false ↦ any-find p xs ]
 
-some-map : {X Y : Type 0} (f : X → Y) (o : Option X) → is_some (option_map f o) ≡ is_some o
-some-map f None = refl
-some-map f (Some x) = refl
-
 in_use_is : (m : Machine) (tag : ℕ) → is_in_use m.cache tag ≡ is_some (due_in (dues m) tag)
 unfolding due_in dues
 in_use_is m tag =
-    any-append (λ t. t == tag) (map (λ r. r.tag) m.cache.ready) _ ∙ ap₂ (λ x y. x || y) (any-map (λ (r : Reply). r.tag) (λ t. t == tag) m.cache.ready) (any-map (λ t. t.load.tag) (λ t. t == tag) (targets m.cache.registers) ∙ sym (any-map (reply_to m) (has_tag tag) (targets m.cache.registers))) ∙ sym (any-append (has_tag tag) m.cache.ready (map (reply_to m) (targets m.cache.registers))) ∙ any-find (has_tag tag) (m.cache.ready ++ map (reply_to m) (targets m.cache.registers)) ∙ sym (some-map (λ (r : Reply). r.word) (find (has_tag tag) (m.cache.ready ++ map (reply_to m) (targets m.cache.registers))))
+    any-append (λ t. t == tag) (map (λ r. r.tag) m.cache.ready) _ ∙ ap₂ (λ x y. x || y) (any-map (λ t. t == tag) (λ (r : Reply). r.tag) m.cache.ready) (any-map (λ t. t == tag) (λ t. t.load.tag) (targets m.cache.registers) ∙ sym (any-map (has_tag tag) (reply_to m) (targets m.cache.registers))) ∙ sym (any-append (has_tag tag) m.cache.ready (map (reply_to m) (targets m.cache.registers))) ∙ any-find (has_tag tag) (m.cache.ready ++ map (reply_to m) (targets m.cache.registers)) ∙ sym (is_some-map (λ (r : Reply). r.word) (find (has_tag tag) (m.cache.ready ++ map (reply_to m) (targets m.cache.registers))))
 
 not_due : (replies : List Reply) (tag : ℕ) → is_some (due_in replies tag) ≡ false → tally (has_tag tag) replies ≡ 0
 unfolding due_in

@@ -19,12 +19,13 @@ use Rattle.cache_unit.specs.declared.Reply.{Reply}
 use Rattle.cache_unit.specs.State.{Sizes, Field, Register, Target, Cache, clear_field, free_register, frame_at, frame_of, is_present, register_at, field_at, is_live, live_for, is_pending_block, is_pending, cell_of, gathered, targets_of, targets, tags, block_of, place_in, address}
 use Rattle.cache_unit.specs.Causes.{first_cause, ways_of, choose, dirty_from, dirty_of_block, dirty_words, addresses, lacks_places, lacks_room, miss_causes, found, found_in, targets_full, is_in_use, load_cause, store_cause, prefetch_cause, evict_cause}
 use Rattle.cache_unit.specs.Steps.{Stepped, unless, load_step, store_step, prefetch_step, evict_step}
+use Rattle.cache_unit.specs.Counts.{tally, bit}
+use Rattle.cache_unit.proofs.FormsFinding.{live_for-none}
 use Rattle.machine_core.specs.Law.{IsLawful, HasRoom, serves_eviction, ServesRequests, IsServed, RequestsAreServed}
 use Rattle.machine_core.specs.Machine.{Machine, apply, joined_with, opening, walked}
 use Rattle.machine_core.specs.Pump.{total, command_weight, bank_weight, weight, pumped, after_event, after_pumps}
-use Rattle.machine_core.specs.Sound.{tally, bit, is_for, is_entry_for, wanted, IsSound, IsBounded}
+use Rattle.machine_core.specs.Sound.{is_for, is_entry_for, wanted, IsSound, IsBounded}
 use Rattle.machine_core.proofs.Opening.{all_default, opening_sound, nothing_due, opening_idle}
-use Rattle.machine_core.proofs.Finding.{live_for-none}
 use Rattle.machine_core.proofs.Requests.{tags_dues}
 use Rattle.machine_core.proofs.Walking.{event_ok}
 use Rattle.machine_core.proofs.Weighing.{all_idle, pump_lowers, pump_rests}

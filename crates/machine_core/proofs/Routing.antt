@@ -22,16 +22,18 @@ use Rattle.cache_unit.specs.declared.Reply.{Reply}
 use Rattle.cache_unit.specs.State.{Sizes, Field, Register, Cache, free_register, frame_of, is_present, register_at, field_at, live_for, free_slot, with_cell, with_field, block_of, address}
 use Rattle.cache_unit.specs.Causes.{choose, Found, Here, Coming, load_cause, store_cause, prefetch_cause, evict_cause, arrive_cause}
 use Rattle.cache_unit.specs.Steps.{Stepped, unless, made_obsolete, obsoleted, released, evicted, evicted_from, fresh_register, installed, missed, reads, fetched, fetches, loaded, noted, written_in, written, load_step, store_step, prefetch_step, evict_step, drain_first, drain_step, arrived, processed, process_entry, process_step, take_reply, take_step}
+use Rattle.cache_unit.specs.Counts.{tally, bit}
+use Rattle.cache_unit.proofs.FormsLists.{Adds-tally, Adds-remove, tally-append, flat_map_part, read_set}
+use Rattle.cache_unit.proofs.FormsChoosing.{Able, free_register_at}
+use Rattle.cache_unit.proofs.FormsProcessing.{done}
 use Rattle.machine_core.specs.Law.{IsLawful}
 use Rattle.machine_core.specs.Machine.{Machine, apply, joined_with, serve_from, take_in, arrive_from, without_answer}
-use Rattle.machine_core.specs.Sound.{tally, bit, is_for, dues, IsSound, IsBounded}
-use Rattle.machine_core.proofs.Lists.{Adds-tally, Adds-remove, tally-append, flat_map_part}
-use Rattle.machine_core.proofs.Serving.{read_set, served-pending}
+use Rattle.machine_core.specs.Sound.{is_for, dues, IsSound, IsBounded}
+use Rattle.machine_core.proofs.Serving.{served-pending}
 use Rattle.machine_core.proofs.Arriving.{bit-pos}
 use Rattle.machine_core.proofs.Draining.{answers_to-write}
 use Rattle.machine_core.proofs.Sending.{commands, one_more, answers_to-read}
-use Rattle.machine_core.proofs.Processing.{done}
-use Rattle.machine_core.proofs.Fetching.{Able, fetched_machine, free_register_at, some_frame}
+use Rattle.machine_core.proofs.Fetching.{fetched_machine, some_frame}
 use Rattle.machine_core.proofs.Requests.{tags_dues}
 use Rattle.machine_core.proofs.Walking.{event_ok}
 use Rattle.machine_core.proofs.Bounding.{may_able, load_may_miss, store_may_miss, prefetch_may_miss, event_within}

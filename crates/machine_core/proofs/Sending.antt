@@ -10,9 +10,9 @@ use Rattle.memory_banks.specs.declared.Command.TheVariants.{Read, Write}
 use Rattle.memory_banks.specs.declared.BankAnswer.{BankAnswer}
 use Rattle.memory_banks.specs.Banks.{Bank, bank_at, no_bank, pending, all_pending, words_after, answers_to, after, with_command, all_sent}
 use Rattle.cache_unit.specs.State.{Sizes}
-use Rattle.machine_core.specs.Sound.{tally, bit, is_for}
-use Rattle.machine_core.proofs.Lists.{Adds, Adds-tally, Adds-find_other, Adds-find_same, Adds-push, Adds-left, Adds-right, Adds-same, find_none, flat_map_part}
-use Rattle.machine_core.proofs.Serving.{read_set, map_same}
+use Rattle.cache_unit.specs.Counts.{tally, bit}
+use Rattle.cache_unit.proofs.FormsLists.{Adds, Adds-tally, Adds-find_other, Adds-find_same, Adds-push, Adds-left, Adds-right, Adds-same, find_none, flat_map_part, read_set, map-same}
+use Rattle.machine_core.specs.Sound.{is_for}
 
 -- the word of memory at an address, once the queue of its bank is served
 abbrev pub base_in : Sizes → List Bank → ℕ → Word
@@ -116,7 +116,7 @@ module _ (z : Sizes) (some_banks : 0 < z.banks) (slot : ℕ) where
   sent_adds (at ∷ ats) banks n =
       let banks1 = one_more banks at in
       let rest = sent_adds ats banks1 (length-set banks (at % z.banks) _ ∙ n) in
-      let same : map (answer_at z banks1 slot) ats ≡ map (answer_at z banks slot) ats = map_same (answer_at z banks1 slot) (answer_at z banks slot) ats (λ a. ap (λ ws. record { slot = slot; i = a % z.block_words; word = word_at ws (a / z.banks) }) (one_words banks at (a % z.banks))) in
+      let same : map (answer_at z banks1 slot) ats ≡ map (answer_at z banks slot) ats = map-same (answer_at z banks1 slot) (answer_at z banks slot) ats (λ a. ap (λ ws. record { slot = slot; i = a % z.block_words; word = word_at ws (a / z.banks) }) (one_words banks at (a % z.banks))) in
       (all_pending banks1, one_adds banks at n, subst (λ l. AddsAll l (all_pending banks1) (all_pending (all_sent banks1 (commands z slot ats)))) same rest)
 
 -- ---- which answers these are

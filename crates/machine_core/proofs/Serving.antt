@@ -1,5 +1,5 @@
 -- A bank's turn.
-use Rattle.std.proofs.Common.{◌≡◌, ℕ, zero, suc, ◌+◌, ◌/◌, ◌%◌, ◌<◌, ◌≤◌, List, [], ◌∷◌, ◌++◌, map, length, get_or, set, Some, refl, sym, ap, ap₂, ◌∙◌, subst, append_assoc, append-nil, length-set, ⊎_elim}
+use Rattle.std.proofs.Common.{◌≡◌, ℕ, ◌+◌, ◌/◌, ◌%◌, ◌<◌, ◌≤◌, List, [], ◌∷◌, ◌++◌, map, length, set, Some, refl, sym, ap, ap₂, ◌∙◌, subst, append_assoc, append-nil, length-set, ⊎_elim}
 use Rattle.std.proofs.lemmas.Bool.{cases_lt}
 use Rattle.std.proofs.lemmas.List.{get_or_past}
 use Rattle.flat_model.specs.Words.{merged}
@@ -9,11 +9,12 @@ use Rattle.memory_banks.specs.declared.Command.{Command}
 use Rattle.memory_banks.specs.declared.Command.TheVariants.{Read, Write}
 use Rattle.memory_banks.specs.Banks.{Bank, bank_at, no_bank, pending, all_pending, words_after, answers_to, after, served}
 use Rattle.cache_unit.specs.State.{Sizes, targets, block_of, place_in, cell_of}
+use Rattle.cache_unit.specs.Counts.{tally}
+use Rattle.cache_unit.proofs.FormsLists.{flat_map_part, read_set, map-same}
 use Rattle.input_stack.specs.Stack.{stack_word}
 use Rattle.write_queue.specs.Queue.{overlaid}
 use Rattle.machine_core.specs.Machine.{Machine, backing, serve_from}
-use Rattle.machine_core.specs.Sound.{tally, is_for, coming, coming_from, word_now, has_tag, dues, reply_to, IsSound, is_entry_for}
-use Rattle.machine_core.proofs.Lists.{flat_map_part}
+use Rattle.machine_core.specs.Sound.{is_for, coming, coming_from, word_now, has_tag, dues, reply_to, IsSound, is_entry_for}
 use Rattle.machine_core.proofs.Coming.{due_in}
 use Rattle.machine_core.proofs.Sound.{Same, Kept, KeptBy, flat_of-same, word_now-same}
 
@@ -23,14 +24,6 @@ pub record SameBanks (banks banks' : List Bank) : Type 0 where
   pub same_words : (b : ℕ) → words_after (bank_at banks' b) ≡ words_after (bank_at banks b)
   pub same_number : length banks' ≡ length banks
   pub same_lengths : (b : ℕ) → length (bank_at banks' b).words ≡ length (bank_at banks b).words
-
--- a list with one element changed, read at any place
-pub read_set : {X Y : Type 0} (f : X → Y) (d : X) (xs : List X) (k : ℕ) (y : X) → f y ≡ f (get_or xs k d) → (j : ℕ) → f (get_or (set xs k y) j d) ≡ f (get_or xs j d)
-read_set f d [] k y e j = refl
-read_set f d (x ∷ xs) zero y e zero = e
-read_set f d (x ∷ xs) zero y e (suc j) = refl
-read_set f d (x ∷ xs) (suc k) y e zero = refl
-read_set f d (x ∷ xs) (suc k) y e (suc j) = read_set f d xs k y e j
 
 pub same_banks_set : (banks : List Bank) (b : ℕ) (bank : Bank) → b < length banks → pending bank ≡ pending (bank_at banks b) → words_after bank ≡ words_after (bank_at banks b) → length bank.words ≡ length (bank_at banks b).words → SameBanks banks (set banks b bank)
 same_banks_set banks b bank h ep ew el =
@@ -46,14 +39,10 @@ same_banks_set banks b bank h ep ew el =
 unfoldable pub with_banks : Machine → List Bank → Machine
 with_banks m banks = record { cache = m.cache; banks = banks }
 
-pub map_same : {X Y : Type 0} (f g : X → Y) (xs : List X) → ((x : X) → f x ≡ g x) → map f xs ≡ map g xs
-map_same f g [] h = refl
-map_same f g (x ∷ xs) h = ap₂ (λ y ys. y ∷ ys) (h x) (map_same f g xs h)
-
 pub dues-same : (m m' : Machine) → m'.cache.ready ≡ m.cache.ready → targets m'.cache.registers ≡ targets m.cache.registers → ((s i : ℕ) → coming m' s i ≡ coming m s i) → dues m' ≡ dues m
 unfolding dues
 dues-same m m' er et ec =
-    ap₂ (λ xs ys. xs ++ map (reply_to m') ys) er et ∙ ap (λ ys. m.cache.ready ++ ys) (map_same (reply_to m') (reply_to m) (targets m.cache.registers) (λ t. ap (λ w. record { tag = t.load.tag; word = merged w t.load.held t.load.lanes }) (ec t.slot t.i)))
+    ap₂ (λ xs ys. xs ++ map (reply_to m') ys) er et ∙ ap (λ ys. m.cache.ready ++ ys) (map-same (reply_to m') (reply_to m) (targets m.cache.registers) (λ t. ap (λ w. record { tag = t.load.tag; word = merged w t.load.held t.load.lanes }) (ec t.slot t.i)))
 
 with_banks-coming : (m : Machine) (banks : List Bank) → all_pending banks ≡ all_pending m.banks → (s i : ℕ) → coming (with_banks m banks) s i ≡ coming m s i
 unfolding coming with_banks

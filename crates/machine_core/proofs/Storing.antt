@@ -8,18 +8,21 @@ use Rattle.cache_unit.specs.State.{Sizes, Frame, Field, Register, Cache, zero_ce
 use Rattle.cache_directory.specs.declared.Cell.{Cell}
 use Rattle.input_stack.specs.Stack.{stack_word}
 use Rattle.cache_unit.specs.Steps.{noted, written_in, written}
+use Rattle.cache_unit.specs.Counts.{tally, bit}
+use Rattle.cache_unit.proofs.FormsLists.{read_set}
+use Rattle.cache_unit.proofs.FormsFields.{with_fields, with_field_in, same_at, field_elsewhere, field_here, field_part}
+use Rattle.cache_unit.proofs.FormsStoring.{noted_in, with_cells}
+use Rattle.cache_unit.proofs.FormsParts.{in_range, word_part, nested_same, nested_other}
+use Rattle.cache_unit.proofs.FormsFinding.{frame_of-some, frame_of-like, live_for-some, live_for-like}
+use Rattle.cache_unit.proofs.FormsFetching.{address_is}
 use Rattle.machine_core.specs.Law.{IsLawful}
 use Rattle.machine_core.specs.Machine.{Machine, backing}
-use Rattle.machine_core.specs.Sound.{tally, bit, coming, shown_word, word_now, has_tag, dues, IsSound}
+use Rattle.machine_core.specs.Sound.{coming, shown_word, word_now, has_tag, dues, IsSound}
 use Rattle.flat_model.proofs.Lanewise.{merged_over}
-use Rattle.machine_core.proofs.Parts.{in_range, nested_same, nested_other, word_part}
-use Rattle.machine_core.proofs.Finding.{frame_of-some, frame_of-like, live_for-some, live_for-like, word_now-live, word_now-resident}
+use Rattle.machine_core.proofs.Finding.{word_now-live, word_now-resident}
 use Rattle.machine_core.proofs.Orders.{InOrder-same}
 use Rattle.machine_core.proofs.Sound.{word_now-same}
-use Rattle.machine_core.proofs.Serving.{read_set, dues-same}
-use Rattle.machine_core.proofs.Processing.{with_fields, with_field_in}
-use Rattle.machine_core.proofs.Fields.{same_at, field_elsewhere, field_here, field_part}
-use Rattle.machine_core.proofs.Dirty.{address_is}
+use Rattle.machine_core.proofs.Serving.{dues-same}
 
 -- registers in which the code of a word that is still missing has more lanes
 pub record NotedBy (c : Cache) (live : Option ℕ) (i : ℕ) (lanes : Lanes) (registers : List Register) : Type 0 where
@@ -32,14 +35,6 @@ pub record NotedBy (c : Cache) (live : Option ℕ) (i : ℕ) (lanes : Lanes) (re
   pub same_targets : targets registers ≡ targets c.registers
   pub other_codes : (t j : ℕ) → (live ≡ Some t → j ≡ i → ⊥) → (get_or (get_or registers t free_register).fields j clear_field).code ≡ (field_at c t j).code
   pub own_code : (t : ℕ) → live ≡ Some t → (field_at c t i).processed ≡ false → (get_or (get_or registers t free_register).fields i clear_field).code ≡ joined (field_at c t i).code lanes
-
-abbrev noted_in : Cache → Option ℕ → ℕ → Lanes → List Register
-noted_in c None i lanes = c.registers
-noted_in c (Some s) i lanes =
-    cond (field_at c s i).processed c.registers (with_field_in c.registers s i (record (field_at c s i) { code = joined (field_at c s i).code lanes }))
-
-abbrev with_cells : Frame → List Cell → Frame
-with_cells f cells = record f { cells = cells }
 
 module _ (z : Sizes) (lawful : IsLawful z) (m : Machine) (h : IsSound z m) (at : ℕ) (w : Word) (lanes : Lanes) (k : ℕ) (frame : frame_of m.cache (block_of z at) ≡ Some k) where
   noting : (o : Option ℕ) → live_for m.cache (block_of z at) ≡ o → NotedBy m.cache o (place_in z at) lanes (noted_in m.cache o (place_in z at) lanes)
@@ -159,7 +154,7 @@ module _ (z : Sizes) (lawful : IsLawful z) (m : Machine) (h : IsSound z m) (at :
 
     -- at another address something differs
     apart : (a : ℕ) → (a ≡ at → ⊥) → block_of z a ≡ block_of z at → place_in z a ≡ place_in z at → ⊥
-    apart a n b i = n (address_is z a ∙ ap₂ (λ x y. (x * z.block_words + 0) + y) b i ∙ sym (address_is z at))
+    apart a n b i = n (sym (address_is z a) ∙ ap₂ (λ x y. (x * z.block_words + 0) + y) b i ∙ address_is z at)
 
     cell_other : (a : ℕ) → (a ≡ at → ⊥) → cell_of stored_machine.cache (block_of z a) (place_in z a) ≡ cell_of m.cache (block_of z a) (place_in z a)
     cell_other a n =

@@ -8,9 +8,10 @@ use Rattle.flat_model.specs.Flat.{with_due, same_word, is_owed, flat_after}
 use Rattle.cache_unit.specs.declared.Reply.{Reply}
 use Rattle.cache_unit.specs.State.{Sizes, targets}
 use Rattle.cache_unit.specs.Steps.{take_reply, take_step}
+use Rattle.cache_unit.specs.Counts.{tally}
+use Rattle.cache_unit.proofs.FormsLists.{Adds, Adds-tally, Adds-right, Adds-remove, Adds-length}
 use Rattle.machine_core.specs.Machine.{Machine, joined_with, flat_word, flat_due, flat_of}
-use Rattle.machine_core.specs.Sound.{tally, has_tag, dues, reply_to, IsSound}
-use Rattle.machine_core.proofs.Lists.{Adds, Adds-tally, Adds-right, Adds-remove, Adds-length}
+use Rattle.machine_core.specs.Sound.{has_tag, dues, reply_to, IsSound}
 use Rattle.machine_core.proofs.Coming.{flat_word-now, flat_due-in}
 use Rattle.machine_core.proofs.Sound.{KeptBy, Kept}
 use Rattle.machine_core.proofs.Owing.{due_in-removed, due_in-at, with_ready, with_ready-words, with_ready-dues, with_ready-sound}

@@ -1,5 +1,5 @@
 -- The driver lowers the weight.
-use Rattle.std.proofs.Common.{◌≡◌, ℕ, zero, suc, ◌+◌, ◌-◌, ◌*◌, ◌/◌, ◌%◌, ◌<◌, ◌≤◌, Bool, true, false, cond, not, ◌&&◌, nat_lt, nat_le, List, [], ◌∷◌, ◌++◌, length, get_or, set, Option, Some, None, option_map, find, remove, slice_get, refl, sym, ap, ap₂, ◌∙◌, subst, arith, length-append, zero-add, ⊎_elim, lt-ltb, mod-lt, flat_map}
+use Rattle.std.proofs.Common.{◌≡◌, ℕ, zero, suc, ◌+◌, ◌-◌, ◌*◌, ◌/◌, ◌%◌, ◌<◌, ◌≤◌, Bool, true, false, cond, not, ◌&&◌, nat_lt, nat_le, List, [], ◌∷◌, ◌++◌, length, get_or, set, Option, Some, None, option_map, find, remove, slice_get, refl, sym, ap, ap₂, ◌∙◌, subst, arith, length-append, ⊎_elim, lt-ltb, mod-lt, flat_map}
 use Rattle.std.specs.List.{range_with_len, list_all}
 use Rattle.std.proofs.lemmas.Bool.{cases_lt, cases_eq, and_parts, le-ltb, not-true}
 use Rattle.flat_model.specs.declared.Event.{Event}
@@ -16,15 +16,19 @@ use Rattle.miss_registers.specs.declared.Owed.{Owed}
 use Rattle.cache_unit.specs.State.{Sizes, Field, Cache, clear_field, free_register, register_at, field_at}
 use Rattle.cache_unit.specs.Causes.{arrive_cause}
 use Rattle.cache_unit.specs.Steps.{answered, filled, finished, processed, process_entry, arrived, drain_first, take_step, process_step, drain_step}
+use Rattle.cache_unit.specs.Counts.{tally, bit}
+use Rattle.cache_unit.proofs.FormsProcessing.{all_processed, done}
+use Rattle.cache_unit.proofs.FormsFields.{with_fields}
 use Rattle.machine_core.specs.Machine.{Machine, Outcome, apply, serve_from, arrive_from, take_in, without_answer, joined_with}
 use Rattle.machine_core.specs.Pump.{total, command_weight, bank_weight, field_weight, register_weight, weight, lowest, has_items, when, pumped, first_event}
 use Rattle.machine_core.specs.Law.{IsLawful, HasRoom, WalkIsDriven}
-use Rattle.machine_core.specs.Sound.{IsSound, is_entry_for, wanted, tally, bit, is_for}
-use Rattle.machine_core.proofs.Processing.{done, with_fields, waits, slot_there, field_there}
-use Rattle.machine_core.proofs.Freeing.{filled_only, all_processed}
+use Rattle.machine_core.specs.Sound.{IsSound, is_entry_for, wanted, is_for}
+use Rattle.machine_core.proofs.Processing.{waits, slot_there, field_there}
+use Rattle.machine_core.proofs.Freeing.{filled_only}
 use Rattle.machine_core.proofs.Arriving.{not_stray}
 use Rattle.machine_core.proofs.Opening.{opening_sound}
 use Rattle.machine_core.proofs.Walking.{walk_sound}
+use Rattle.machine_core.proofs.Totals.{total-append}
 
 -- ---- sums
 
@@ -32,10 +36,6 @@ total_set : {X : Type 0} (f : X → ℕ) (d : X) (xs : List X) (k : ℕ) (y : X)
 total_set f d [] k y l = absurd (omega arith)
 total_set f d (x ∷ xs) zero y l = omega arith
 total_set f d (x ∷ xs) (suc k) y l = let ih = total_set f d xs k y (omega arith) in omega arith
-
-total_append : {X : Type 0} (f : X → ℕ) (xs ys : List X) → total f (xs ++ ys) ≡ total f xs + total f ys
-total_append f [] ys = sym (zero-add (total f ys))
-total_append f (x ∷ xs) ys = let ih = total_append f xs ys in omega arith
 
 total_none : {X : Type 0} (f : X → ℕ) (d : X) (xs : List X) → ((k : ℕ) → k < length xs → f (get_or xs k d) ≡ 0) → total f xs ≡ 0
 total_none f d [] h = refl
@@ -161,7 +161,7 @@ module _ (z : Sizes) (lawful : IsLawful z) (roomy : HasRoom z) (m : Machine) (h 
       let free : nat_lt 0 (room_in z.bank_queue m.banks b) ≡ true = ap (λ x. nat_lt 0 (cond x (z.bank_queue - length bank.queue) 0)) (lt-ltb b (length m.banks) l) ∙ ap (λ xs. nat_lt 0 (z.bank_queue - length xs)) none ∙ lt-ltb 0 (z.bank_queue - 0) (let k = some_queue z lawful roomy in omega arith) in
       let write = Write (q.at / z.banks) q.word q.lanes in
       let by_bank = total_set bank_weight no_bank m.banks b (with_command bank write) l in
-      let more = total_append command_weight bank.queue (write ∷ []) in
+      let more = total-append command_weight bank.queue (write ∷ []) in
       let queue = ap length e in
       subst (λ qs. weight (joined_with m.banks (drain_first z (room_in z.bank_queue m.banks) m.cache qs)).machine < weight m) (sym e) (subst (λ x. weight (joined_with m.banks (cond x (record { answer = Rattle.flat_model.specs.declared.Answer.TheVariants.Moved; cache = record m.cache { queue = rest }; sent = (b, write) ∷ [] }) (record { answer = Rattle.flat_model.specs.declared.Answer.TheVariants.Refused Rattle.flat_model.specs.declared.Cause.TheVariants.BankFull; cache = m.cache; sent = [] }))).machine < weight m) (sym free) (omega arith))
 

@@ -10,20 +10,9 @@ use Rattle.input_stack.specs.Stack.{stack_word}
 use Rattle.write_queue.specs.declared.Queued.{Queued}
 use Rattle.cache_unit.specs.declared.Reply.{Reply}
 use Rattle.cache_unit.specs.State.{Sizes, Frame, Register, Target, empty_frame, clear_field, frame_at, frame_of, register_at, field_at, is_live, live_for, cell_in, cell_of, targets, tags, block_of, place_in, address}
+use Rattle.cache_unit.specs.Counts.{bit, tally}
 use Rattle.cache_unit.specs.Causes.{order_of}
 use Rattle.machine_core.specs.Machine.{Machine, backing}
-
--- ---- counts
-
--- 1 where a test passes, else 0
-abbrev pub bit : Bool → ℕ
-bit true = 1
-bit false = 0
-
--- how many elements pass a test
-abbrev pub tally : {X : Type 0} → (X → Bool) → List X → ℕ
-tally p [] = 0
-tally p (x ∷ xs) = bit (p x) + tally p xs
 
 -- ---- words on their way
 

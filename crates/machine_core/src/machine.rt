@@ -21,8 +21,8 @@ use miss_registers::{FieldView, Owed, RegisterView};
 use std::alloc::{AllocError, Global};
 use std::marker::Model;
 
-/// A cache unit over the banks of its memory: `WAYS` ways a set, `WORDS` words a block, `REGS`
-/// registers and `DEPTH` places in the input stack.
+/// A cache unit over the banks of its memory: `WAYS` (1 to 8) ways a set, `WORDS` (1 to 16) words a
+/// block, `REGS` (1 to 16) registers and `DEPTH` (1 to 16) places in the input stack.
 #[derive(Drop)]
 pub struct Machine<const WAYS: usize, const WORDS: usize, const REGS: usize, const DEPTH: usize> {
     shape: Shape,
@@ -57,6 +57,7 @@ impl<const WAYS: usize, const WORDS: usize, const REGS: usize, const DEPTH: usiz
         ensures in_range { OnOk result (bad_field (sizes_of WAYS WORDS REGS DEPTH shape) (length image.now) ≡ None) }
         ensures fault { IfErr result (λ e. e ≡ fault_of (bad_field (sizes_of WAYS WORDS REGS DEPTH shape) (length image.now))) }
         ensures flat { IfOk result (λ m. machine.flat_of m.sizes m.machine ≡ record { mem = image.now; due = λ tag. None }) }
+        ensures kept { IfOk result (λ m. IsKept m.sizes m.machine) }
     {
         if let Some(field) = bad_field::<WAYS, WORDS, REGS, DEPTH>(&shape, image.len()) {
             return Err(MakeFault::BadShape(field));
@@ -87,14 +88,21 @@ impl<const WAYS: usize, const WORDS: usize, const REGS: usize, const DEPTH: usiz
         ensures machine { OnOk result (self.new ≡ record self.old { machine = machine.walked self.old.sizes self.old.machine events.now }) }
         ensures unchanged { OnErr result (self.new ≡ self.old) }
         ensures flat { IfOk result (λ answers. flat_run (machine.flat_of self.old.sizes self.old.machine) events.now answers.items ≡ Some (machine.flat_of self.new.sizes self.new.machine)) }
+        ensures kept { IsKept self.new.sizes self.new.machine }
     {
+        let Machine { unit, banks, .. } = self;
         let mut answers = Vec::with_capacity(alloc, events.len())?;
-        walk(&mut self.unit, &mut self.banks, events, &mut answers);
+        walk(unit, banks, events, &mut answers);
         Ok(answers)
     }
 
-    /// The number of words and loads on their way, each weighed by the pumps that it still takes.
-    /// After as many pumps every request that points into memory is accepted.
+    /// What is on its way, each word and load weighed by the pumps that it may still take at most:
+    /// from 0 to `4 * REGS * WORDS + replies + 2 * write_queue + banks * bank_queue`, with the numbers
+    /// of the shape.
+    ///
+    /// After as many pumps the weight is 0. Then each load, each prefetch and each store with a lane
+    /// that points into memory is accepted, and an eviction is accepted or refused because there is
+    /// no such block (1) or no frame holds it (11).
     pub fn weight(&self) -> u64
         ensures value { result ≡ driver.weight self.now.machine }
         ensures within { result ≤ most_weight self.now.sizes }
@@ -117,6 +125,7 @@ impl<const WAYS: usize, const WORDS: usize, const REGS: usize, const DEPTH: usiz
         ensures rests { IsNone result ↔ (driver.weight self.old.machine ≡ 0) }
         ensures lowers { IfSome result (λ p. driver.weight self.new.machine < driver.weight self.old.machine) }
         ensures flat { IfSome result (λ p. flat_step (machine.flat_of self.old.sizes self.old.machine) p.0 p.1 ≡ Some (machine.flat_of self.new.sizes self.new.machine)) }
+        ensures kept { IsKept self.new.sizes self.new.machine }
     {
         let event = next_event(&self.unit, &self.banks, self.shape.banks)?;
         Some((event, self.apply(event)))

@@ -23,7 +23,8 @@ impl<const WAYS: usize, const WORDS: usize, const REGS: usize, const DEPTH: usiz
     /// A unit that holds no block and waits for nothing.
     ///
     /// `BadShape` names the first number that is out of its range, in the order of [`bad_field`],
-    /// before any memory is asked for. `OutOfMemory` says that there was too little memory.
+    /// before any memory is asked for. `OutOfMemory` says that there was too little memory; what was
+    /// taken of it is given back.
     pub fn new(alloc: Global, shape: &Shape) -> Result<Self, MakeFault>
         ensures ok { IfOk result (λ u. u ≡ record { sizes = sizes_of WAYS WORDS REGS DEPTH shape.now; cache = opening_cache (sizes_of WAYS WORDS REGS DEPTH shape.now) }) }
         ensures in_range { OnOk result (limits.bad_field (sizes_of WAYS WORDS REGS DEPTH shape.now) ≡ None) }

@@ -123,7 +123,8 @@ impl<const WAYS: usize, const WORDS: usize, const REGS: usize, const DEPTH: usiz
         }
     }
 
-    /// The lanes of that word that memory doesn't have yet; `None` where there is no such word.
+    /// The dirty lanes of the buffer's word `i` of the block that the frame holds, which are those
+    /// stored into since the frame took it; `None` where it holds none or blocks have no such word.
     pub fn dirty(&self, frame: u32, i: u32) -> Option<Lanes>
         ensures { result ≡ views.dirty_view self.now.cache frame i }
     {

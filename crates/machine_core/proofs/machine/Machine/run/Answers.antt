@@ -2,7 +2,7 @@ use Rattle.std.proofs.Common.{◌≡◌, ℕ, Some, take, subst, arith}
 use Rattle.flat_model.specs.Flat.{flat_run}
 use Rattle.machine_core.specs.Machine.{MachineState, flat_of}
 use Rattle.machine_core.specs.Whole.{machine_of}
-use Rattle.machine_core.proofs.Whole.{takes_answers_walked, whole_walked, flat_then}
+use Rattle.machine_core.proofs.Whole.{takes_answers_walked, whole_walked, flat_then, is_kept}
 use Rattle.machine_core.proofs.machine.Machine.run.Goals as goal
 
 pub walk-requires : goal.walk-requires
@@ -12,9 +12,18 @@ walk-requires g c =
     (omega arith, (c.self.invariant.limit, (few, (made.items, omega arith))))
 
 pub invariant_of-self : goal.invariant_of-self
-invariant_of-self g c = whole_walked c.self.invariant c.args.events.now _ _ c.walk.ensures.unit c.walk.ensures.banks
+invariant_of-self g c = c.self.invariant
+
+pub returns-in_err-answers-clause-kept : goal.returns-in_err-answers-clause-kept
+returns-in_err-answers-clause-kept g c = is_kept c.self.invariant
+
+pub invariant_of-self-2 : goal.invariant_of-self-2
+invariant_of-self-2 g c = whole_walked c.self.invariant c.args.events.now _ _ c.walk.ensures.unit c.walk.ensures.banks
 
 pub returns-clause-flat : goal.returns-clause-flat
 returns-clause-flat g c =
     let flat = flat_then c.self.invariant c.args.events.now _ _ _ c.walk.ensures.answers c.walk.ensures.unit c.walk.ensures.banks in
     subst (λ (s : MachineState). flat_run (flat_of s.sizes s.machine) c.args.events.now c.walk.new.answers.items ≡ Some (flat_of c.walk.new.unit.sizes (machine_of c.walk.new.unit c.walk.new.banks))) c.self.view_is flat
+
+pub returns-clause-kept : goal.returns-clause-kept
+returns-clause-kept g c = is_kept (whole_walked c.self.invariant c.args.events.now _ _ c.walk.ensures.unit c.walk.ensures.banks)
