@@ -2,7 +2,7 @@ use Rattle.std.proofs.Common.{rules, arith, ◌≡◌, ◌+◌, ◌-◌, ◌<◌
 use Rattle.trace_text.specs.Serving.{no_counts}
 use Rattle.trace_text.specs.declared.lines.LineFault.TheVariants.{TooLong}
 use Rattle.trace_text.specs.declared.serve.TraceFault.TheVariants as fault
-use Rattle.trace_text.proofs.Ends.{going_start, going_still, going_on, through_on, fails_then, last_read, ends_fault, fails_many, fails_pending, ends_done, ends_cut}
+use Rattle.trace_text.proofs.Ends.{going_start, going_still, going_on, through_on, fails_then, last_read, ends_fault, fails_many, fails_pending, ends_done, ends_cut, ends_read}
 use Rattle.trace_text.proofs.serve.serve_pieces.Goals as goal
 use Rattle.trace_text.proofs.serve.serve_pieces.Goals.{else-left-gt0-via-then-left-gt0+else-counts-eq-MAX_LINES, else-left-gt0-via-else-left-gt0}
 
@@ -13,9 +13,7 @@ pieces-init g c =
     record { going = rw none start; filled = omega arith }
 
 pub returns-in-Err-fill : goal.returns-in-Err-fill
-returns-in-Err-fill g c =
-    let going = going_still c.pieces.invariant.going c.in-Ok.ensures.ok in
-    (going.bytes, c.pieces.reader, c.pieces.counts, _, going.read, c.in-Err-fill.ensures.err, going.through.served, going.short, going.unfinished, going.room)
+returns-in-Err-fill g c = ends_read g.R.Source.failed g.W.Sink.refused c.pieces.invariant.going c.in-Ok.ensures.ok c.in-Err-fill.ensures.err
 
 pub returns-in-Err-serve_ended : goal.returns-in-Err-serve_ended
 returns-in-Err-serve_ended g c =
@@ -28,15 +26,13 @@ returns-in-Err-serve_ended g c =
 
 pub returns-then-filled-eq0 : goal.returns-then-filled-eq0
 returns-then-filled-eq0 g c =
-    let going = going_still c.pieces.invariant.going c.in-Ok.ensures.ok in
     let fill = c.in-Ok-fill.ensures.ok in
-    ends_done going fill.gives (omega (arith, fill.count)) (omega (arith, length-take c.pieces.filled c.pieces.buffer))
+    ends_done g.R.Source.failed g.W.Sink.refused c.pieces.invariant.going c.in-Ok.ensures.ok fill.gives (omega (arith, fill.count)) (omega (arith, length-take c.pieces.filled c.pieces.buffer))
 
 pub returns-then-given-eq0 : goal.returns-then-given-eq0
 returns-then-given-eq0 g c =
-    let going = going_still c.pieces.invariant.going c.in-Ok.ensures.ok in
     let fill = c.in-Ok-fill.ensures.ok in
-    ends_cut g.W.Sink.refused going fill.gives (omega (arith, fill.count)) (omega (arith, fill.within, length-take c.pieces.filled c.pieces.buffer))
+    ends_cut g.R.Source.failed g.W.Sink.refused c.pieces.invariant.going c.in-Ok.ensures.ok fill.gives (omega (arith, fill.count)) (omega (arith, fill.within, length-take c.pieces.filled c.pieces.buffer))
 
 pub returns-then-counts-eq-MAX_LINES : goal.returns-then-counts-eq-MAX_LINES
 returns-then-counts-eq-MAX_LINES g c =
