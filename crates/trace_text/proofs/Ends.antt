@@ -10,7 +10,7 @@ use Rattle.trace_text.specs.declared.serve.Counts.{Counts}
 use Rattle.trace_text.specs.declared.serve.TraceFault.{TraceFault}
 use Rattle.trace_text.specs.declared.serve.TraceFault.TheVariants as fault
 use Rattle.trace_text.specs.Serving.{HasNoEnd, Moves, Served, joined, no_counts}
-use Rattle.trace_text.specs.Faults.{Fails, Through, Ended, Ends, Going, AfterFlush, IsInside, Filled, LastRead}
+use Rattle.trace_text.specs.Faults.{Fails, Through, Ended, Ends, Going, AfterFlush, IsInside, Filled, LastRead, Unfilled, BegunFault}
 use Rattle.trace_text.proofs.Serving.{moved_none, moved_more, served_none, served_then, served_more, served_still}
 
 pub filled_by : {R : Type 0} {gave : R → List ℕ → R → Type 0} {r r' : R} (old buf post : List ℕ) (filled given : ℕ)
@@ -146,27 +146,33 @@ ends_fault {gave = gave} failed took refused {r = r} {r' = r'} w v w' m m' {byte
 ends_fault failed took refused w v w' m m' fault.Read e' is p q flush = absurd is
 ends_fault failed took refused w v w' m m' fault.OutOfMemory e' is p q flush = absurd is
 
-pub fails_many : {W : Type 0} {took : W → List ℕ → W → Type 0} (refused : W → W → Type 0) {w w' : W} {m n : MachineState} {a c : Counts} {bytes rest : List ℕ}
-    → Through took w m a bytes rest w' n c → c.lines ≡ 16777216 → 0 < length rest
-    → Fails took refused w m a bytes w' n fault.TooManyLines
-fails_many refused {c = c} {rest = rest} p many some = (c, rest, p.served, many, some)
-
-pub fails_pending : {W : Type 0} {took : W → List ℕ → W → Type 0} (refused : W → W → Type 0) {w w' : W} {m n : MachineState} {a c : Counts} {bytes rest : List ℕ}
-    → Through took w m a bytes rest w' n c → HasNoEnd rest → 64 < length rest → c.lines < 16777216
-    → Fails took refused w m a bytes w' n (fault.Line (c.lines + 1) TooLong)
-fails_pending refused {c = c} {rest = rest} p none long room = (
-  c,
-  rest,
-  p.served,
-  refl,
-  room,
+-- the fault of a line that began, whatever comes behind it
+pub fails_begun : {W : Type 0} {took : W → List ℕ → W → Type 0} (refused : W → W → Type 0) {w w' : W} {m n : MachineState} {a c : Counts} {bytes rest : List ℕ} (left : ℕ) (e : TraceFault)
+    → Through took w m a bytes rest w' n c → HasNoEnd rest → left ≡ length rest → BegunFault c.lines left 64 e
+    → IsInside e × Fails took refused w m a bytes w' n e
+fails_begun refused {c = c} {rest = rest} left fault.TooManyLines p none same h = (tt, (c, rest, p.served, h.0, omega (arith, same, h.1)))
+fails_begun refused {c = c} {rest = rest} left (fault.Line number TooLong) p none same h = (
+  tt,
   (
-    long,
-    λ k lt e.
-        let below : k < 65 = omega (arith, lt, length-take 65 rest) in
-        none k (omega arith) (sym (get_or-take 65 rest k 0 below) ∙ e),
+    c,
+    rest,
+    p.served,
+    h.0,
+    h.1,
+    (
+      omega (arith, same, h.2),
+      λ k lt e.
+          let below : k < 65 = omega (arith, lt, length-take 65 rest) in
+          none k (omega (arith, same, h.2)) (sym (get_or-take 65 rest k 0 below) ∙ e),
+    ),
   ),
 )
+fails_begun refused left (fault.Line number Unknown) p none same h = absurd h
+fails_begun refused left (fault.Line number Field) p none same h = absurd h
+fails_begun refused left (fault.Line number NotEnded) p none same h = absurd h
+fails_begun refused left fault.Read p none same h = absurd h
+fails_begun refused left fault.Write p none same h = absurd h
+fails_begun refused left fault.OutOfMemory p none same h = absurd h
 
 pub none_of : (xs : List ℕ) → length xs ≡ 0 → [] ≡ xs
 none_of [] e = refl
@@ -186,9 +192,14 @@ pub ends_cut : {R W : Type 0} {gave : R → List ℕ → R → Type 0} (failed :
 ends_cut {gave = gave} failed refused {r' = r'} {r'' = r''} {v = v} {c = c} {pending = pending} {bs = bs} p flush gives none some =
     (p.bytes, r', v, p.read, subst (λ l. gave r' l r'') (sym (none_of bs none)) gives, (c, pending, p.through.served, refl, p.room some, (some, p.short, p.unfinished)), flush)
 
--- the reader answered an error
-pub ends_read : {R W : Type 0} {gave : R → List ℕ → R → Type 0} (failed : R → R → Type 0) {took : W → List ℕ → W → Type 0} (refused : W → W → Type 0) {r r' r'' : R} {w v w' : W} {m n : MachineState} {c : Counts} {pending : List ℕ}
-    → Going gave took r w m pending r' v n c → took v [] w' → failed r' r''
-    → Ends gave failed took refused r r'' w w' m n (Err fault.Read)
-ends_read failed refused {r' = r'} {v = v} {c = c} {pending = pending} p flush error =
-    (p.bytes, r', v, c, pending, p.read, error, p.through.served, p.short, p.unfinished, p.room, flush)
+-- the writer refused the flush before a read, or the reader answered an error
+pub ends_unfilled : {R W : Type 0} {gave : R → List ℕ → R → Type 0} (failed : R → R → Type 0) {took : W → List ℕ → W → Type 0} (refused : W → W → Type 0) {r r' : R} (r'' : R) {w v : W} (w' : W) {m n : MachineState} {c : Counts} {pending : List ℕ} (e : TraceFault)
+    → Going gave took r w m pending r' v n c → Unfilled failed took refused r' r'' v w' e
+    → Ends gave failed took refused r r'' w w' m n (Err e)
+ends_unfilled failed refused {r' = r'} r'' {v = v} w' {c = c} {pending = pending} fault.Read p h =
+    (p.bytes, r', v, c, pending, p.read, h.1, p.through.served, p.short, p.unfinished, p.room, h.0)
+ends_unfilled {gave = gave} failed refused {r = r} r'' {v = v} w' {n = n} {c = c} {pending = pending} fault.Write p h =
+    (p.bytes, subst (λ x. Moves gave r p.bytes x) (sym h.1) p.read, (c, pending, v, n, p.through.served, inr (h.0, refl)))
+ends_unfilled failed refused r'' w' (fault.Line number f) p h = absurd h
+ends_unfilled failed refused r'' w' fault.OutOfMemory p h = absurd h
+ends_unfilled failed refused r'' w' fault.TooManyLines p h = absurd h

@@ -76,12 +76,15 @@ fails_refusal {took = took} {refused = refused} {v = v} {w = w} {m = m} {b = b} 
   v,
   m,
   p.served,
-  inl (room, record {
-    line = (text, stop.0);
-    more = drop (at + 1) rest;
-    is_line = (omega (arith, ap length e, length-take at rest), subst HasNoEnd (sym e) (front_has_none rest at h), stop.1);
-    split = line_split rest at h ∙ ap (λ l. l ++ (10 ∷ drop (at + 1) rest)) (sym e);
-    stopped = stop.2;
-    state = stop.3;
-  }),
+  inl (
+    room,
+    record {
+      line = (text, stop.0);
+      more = drop (at + 1) rest;
+      is_line = (omega (arith, ap length e, length-take at rest), subst HasNoEnd (sym e) (front_has_none rest at h), stop.1);
+      split = line_split rest at h ∙ ap (λ l. l ++ (10 ∷ drop (at + 1) rest)) (sym e);
+      stopped = stop.2;
+      state = stop.3;
+    },
+  ),
 )

@@ -122,3 +122,20 @@ pub record Filled {R : Type 0} (gave : R → List ℕ → R → Type 0) (r r' : 
   pub count : length bytes ≡ given
   pub within : filled + given ≤ length old
   pub front : take (filled + given) new ≡ take filled old ++ bytes
+
+-- A flush and a read behind it: the writer refused the flush and nothing was read, or the reader failed.
+abbrev pub Unfilled : {R W : Type 0} (failed : R → R → Type 0) (took : W → List ℕ → W → Type 0) (refused : W → W → Type 0) (r r' : R) (w w' : W) → TraceFault → Type 0
+Unfilled failed took refused r r' w w' fault.Read = took w [] w' × failed r r'
+Unfilled failed took refused r r' w w' fault.Write = refused w w' × (r' ≡ r)
+Unfilled failed took refused r r' w w' (fault.Line n f) = ⊥
+Unfilled failed took refused r r' w w' fault.OutOfMemory = ⊥
+Unfilled failed took refused r r' w w' fault.TooManyLines = ⊥
+
+-- the fault of the line that so many bytes begin, behind so many lines: one too many, or too long
+abbrev pub BegunFault : (lines left most : ℕ) → TraceFault → Type 0
+BegunFault lines left most fault.TooManyLines = (lines ≡ 16777216) × (0 < left)
+BegunFault lines left most (fault.Line n TooLong) = (n ≡ lines + 1) × (lines < 16777216) × (most < left)
+BegunFault lines left most (fault.Line n f) = ⊥
+BegunFault lines left most fault.Read = ⊥
+BegunFault lines left most fault.Write = ⊥
+BegunFault lines left most fault.OutOfMemory = ⊥
