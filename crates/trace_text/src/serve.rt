@@ -279,13 +279,18 @@ pub fn serve<R: Source, W: Sink, C: Core>(
 /// of the input the counts of the lines and of their answers are returned.
 ///
 /// `Line` names the first line with a fault; the lines before it were applied and written. `Read`
-/// and `TooManyLines` leave the lines before them applied and written too. `Write` says that a
-/// write or a flush was refused, or that a write took no byte: the line whose text it was has been
-/// applied, and a front of its text may be written. `OutOfMemory` comes before anything is read,
-/// applied or written. An error isn't tried again.
+/// leaves the lines that ended before the error applied and written, and `TooManyLines`, where line
+/// 16,777,217 begins, all lines before that one. `Write` says that a write or a flush was refused,
+/// or that a write took no byte: the lines before were applied and written, and where it was a
+/// line's text that was refused, that line has been applied and a front of its text may be written.
+/// `OutOfMemory` comes before anything is read, applied or written. An error isn't tried again.
 ///
-/// One buffer of 4,096 bytes is all the memory that is taken. The writer is flushed before each
-/// read and at the end, also before a fault is answered.
+/// Nothing is read behind a fault, but the reader may have been read beyond the faulty line, by the
+/// rest of the piece that it came in. A line is too long once 65 bytes of it came without an LF.
+///
+/// One buffer of 4,096 bytes is all the memory that is taken, before the first read. The writer is
+/// flushed before each read and at the end, so all that was written is out before a fault is
+/// answered; a flush that is refused is answered as `Write` in its place.
 pub fn serve_text<
     R: Source,
     W: Sink,
