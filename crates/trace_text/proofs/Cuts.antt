@@ -4,7 +4,7 @@ use Rattle.std.specs.Prelude.{cond, nat_lt, ◌==◌}
 use Rattle.std.proofs.lemmas.Bool.Decides.{nat_tests}
 use Rattle.std.proofs.lemmas.Bool.{eqb-true}
 use Rattle.std.proofs.lemmas.List.Sums.{position_or_len_is, passes_at_first}
-use Rattle.std.proofs.Math.Seq.{take-append_seam, drop-append-add}
+use Rattle.std.proofs.Math.Seq.{take-append_seam, drop-append-add, get_or-append_seam}
 use Rattle.std.specs.List.{AllByRecursion, position_or_len}
 use Rattle.trace_text.specs.Lines.{cut_at, cut_of}
 
@@ -20,10 +20,6 @@ in_front [] ys k none lt = absurd (omega arith)
 in_front (x ∷ xs) ys zero none lt = is_not x none.0
 in_front (x ∷ xs) ys (suc k) none lt = in_front xs ys k none.1 (omega arith)
 
-at_seam : (xs ys : List ℕ) → get_or (xs ++ ys) (length xs) 0 ≡ get_or ys 0 0
-at_seam [] ys = refl
-at_seam (x ∷ xs) ys = at_seam xs ys
-
 drop_seam : (xs : List ℕ) (y : ℕ) (ys : List ℕ) → drop (length xs + 1) (xs ++ y ∷ ys) ≡ ys
 drop_seam xs y ys = drop-append-add xs (y ∷ ys) 1
 
@@ -32,7 +28,7 @@ cut_front xs ys none =
     let text = xs ++ 32 ∷ ys in
     let lt : length xs < length text = omega (arith, length-append xs (32 ∷ ys)) in
     let place : position_or_len (λ b. b == 32) text ≡ length xs =
-    position_or_len_is (λ b. b == 32) text (length xs) 0 (omega (arith, lt)) (λ k below. in_front xs (32 ∷ ys) k none below) (λ _. ap (λ b. b == 32) (at_seam xs (32 ∷ ys))) in
+    position_or_len_is (λ b. b == 32) text (length xs) 0 (omega (arith, lt)) (λ k below. in_front xs (32 ∷ ys) k none below) (λ _. ap (λ b. b == 32) (get_or-append_seam xs 32 ys 0)) in
     let test : nat_lt (length xs) (length text) ≡ true = grind (arith, nat_tests) in
     ap (λ i. cut_at text (cond (nat_lt i (length text)) (Some i) None)) place
     ∙ ap (λ b. cut_at text (cond b (Some (length xs)) None)) test

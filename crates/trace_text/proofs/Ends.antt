@@ -1,15 +1,16 @@
 -- How a whole run goes on and ends.
-use Rattle.std.proofs.Common.{◌≡◌, ℕ, ◌+◌, ◌-◌, ◌<◌, ◌≤◌, ◌⊎◌, List, [], ◌∷◌, ◌++◌, length, take, drop, length-take, length-drop, get_or-take, refl, sym, ◌∙◌, ap, subst, arith, Err, inl, inr}
+use Rattle.std.proofs.Common.{◌≡◌, ℕ, ◌+◌, ◌-◌, ◌<◌, ◌≤◌, ◌⊎◌, List, [], ◌∷◌, ◌++◌, length, take, drop, length-take, length-drop, get_or-take, refl, sym, ◌∙◌, ap, subst, arith, Ok, Err, inl, inr}
 use Rattle.std.proofs.Math.Seq.{take-append-add}
 use Rattle.std.proofs.lemmas.List.{take-append-le}
 use Rattle.machine_core.specs.Machine.{MachineState}
 use Rattle.trace_text.specs.declared.lines.Line.{Line}
+use Rattle.trace_text.specs.declared.lines.LineFault.{LineFault}
 use Rattle.trace_text.specs.declared.lines.LineFault.TheVariants.{Unknown, Field, TooLong, NotEnded}
 use Rattle.trace_text.specs.declared.serve.Counts.{Counts}
 use Rattle.trace_text.specs.declared.serve.TraceFault.{TraceFault}
 use Rattle.trace_text.specs.declared.serve.TraceFault.TheVariants as fault
-use Rattle.trace_text.specs.Serving.{HasNoEnd, Moves, Served, joined, no_counts, IsWithin}
-use Rattle.trace_text.specs.Faults.{Fails, Through, Ended, Ends, Going, AfterFlush, IsInside, Filled, LastRead}
+use Rattle.trace_text.specs.Serving.{HasNoEnd, Moves, Served, joined, no_counts}
+use Rattle.trace_text.specs.Faults.{Fails, Through, Ended, Ends, Going, AfterFlush, IsInside, Filled, LastRead, Unfilled, BegunFault}
 use Rattle.trace_text.proofs.Serving.{moved_none, moved_more, served_none, served_then, served_more, served_still}
 
 pub filled_by : {R : Type 0} {gave : R → List ℕ → R → Type 0} {r r' : R} (old buf post : List ℕ) (filled given : ℕ)
@@ -118,84 +119,87 @@ last_read {r' = r'} {pending = pending} piece p gives = record {
 all_read : {R : Type 0} {gave : R → List ℕ → R → Type 0} {r r' : R} {bytes : List ℕ} → LastRead gave r bytes r' → Moves gave r bytes r'
 all_read {gave = gave} {r = r} {r' = r'} p = subst (λ l. Moves gave r l r') (sym p.whole) (moved_more p.read p.gives)
 
-pub ends_inside : {R W : Type 0} {gave : R → List ℕ → R → Type 0} (failed : R → R → Type 0) (took : W → List ℕ → W → Type 0) (refused : W → W → Type 0) {r r' : R} (w w' : W) (m m' : MachineState) {bytes : List ℕ} (e : TraceFault)
-    → IsInside e → LastRead gave r bytes r' → Fails took refused w m no_counts bytes w' m' e
-    → Ends gave failed took refused r r' w w' m m' (Err e)
-ends_inside failed took refused w w' m m' {bytes = bytes} (fault.Line n Unknown) is p q = (bytes, p, q)
-ends_inside failed took refused w w' m m' {bytes = bytes} (fault.Line n Field) is p q = (bytes, p, q)
-ends_inside failed took refused w w' m m' {bytes = bytes} (fault.Line n TooLong) is p q = (bytes, p, q)
-ends_inside failed took refused w w' m m' (fault.Line n NotEnded) is p q = absurd is
-ends_inside failed took refused w w' m m' {bytes = bytes} fault.Write is p q = (bytes, all_read p, q)
-ends_inside failed took refused w w' m m' {bytes = bytes} fault.TooManyLines is p q = (bytes, p, q)
-ends_inside failed took refused w w' m m' fault.Read is p q = absurd is
-ends_inside failed took refused w w' m m' fault.OutOfMemory is p q = absurd is
+-- a fault that comes before the input's end, with a flush behind all that was written
+ends_told : {R W : Type 0} {gave : R → List ℕ → R → Type 0} (failed : R → R → Type 0) (took : W → List ℕ → W → Type 0) (refused : W → W → Type 0) {r r' : R} (w v w' : W) (m m' : MachineState) {bytes : List ℕ} (n : ℕ) (f : LineFault)
+    → IsInside (fault.Line n f) → LastRead gave r bytes r' → Fails took refused w m no_counts bytes v m' (fault.Line n f) → took v [] w'
+    → Ends gave failed took refused r r' w w' m m' (Err (fault.Line n f))
+ends_told failed took refused w v w' m m' {bytes = bytes} n Unknown is p q flush = (bytes, v, p, q, flush)
+ends_told failed took refused w v w' m m' {bytes = bytes} n Field is p q flush = (bytes, v, p, q, flush)
+ends_told failed took refused w v w' m m' {bytes = bytes} n TooLong is p q flush = (bytes, v, p, q, flush)
+ends_told failed took refused w v w' m m' n NotEnded is p q flush = absurd is
 
--- a flush before a fault is answered
-after_flush : {W : Type 0} (took : W → List ℕ → W → Type 0) (refused : W → W → Type 0) (w w' w'' : W) (m m' : MachineState) (bytes : List ℕ) (e e' : TraceFault)
-    → IsInside e → Fails took refused w m no_counts bytes w' m' e → AfterFlush took refused w' w'' e e'
-    → IsInside e' × Fails took refused w m no_counts bytes w'' m' e'
-after_flush took refused w w' w'' m m' bytes (fault.Line n f) e' is p (inl q) =
-    let P : TraceFault → Type 0 = λ x. IsInside x × Fails took refused w m no_counts bytes w'' m' x in
-    subst P (sym q.0) (is, (p.0, p.1, served_still p.2 q.1, p.3, p.4, p.5))
-after_flush took refused w w' w'' m m' bytes (fault.Line n f) e' is p (inr q) =
-    let P : TraceFault → Type 0 = λ x. IsInside x × Fails took refused w m no_counts bytes w'' m' x in
-    subst P (sym q.0) (tt, (p.0, p.1, w', m', p.2, inr (q.1, refl)))
-after_flush took refused w w' w'' m m' bytes fault.TooManyLines e' is p (inl q) =
-    let P : TraceFault → Type 0 = λ x. IsInside x × Fails took refused w m no_counts bytes w'' m' x in
-    subst P (sym q.0) (is, (p.0, p.1, served_still p.2 q.1, p.3, p.4))
-after_flush took refused w w' w'' m m' bytes fault.TooManyLines e' is p (inr q) =
-    let P : TraceFault → Type 0 = λ x. IsInside x × Fails took refused w m no_counts bytes w'' m' x in
-    subst P (sym q.0) (tt, (p.0, p.1, w', m', p.2, inr (q.1, refl)))
-after_flush took refused w w' w'' m m' bytes fault.Write e' is p q =
-    let P : TraceFault → Type 0 = λ x. IsInside x × Fails took refused w m no_counts bytes w'' m' x in
-    subst P (sym q.0) (is, subst (λ v. Fails took refused w m no_counts bytes v m' fault.Write) (sym q.1) p)
-after_flush took refused w w' w'' m m' bytes fault.Read e' is p q = absurd is
-after_flush took refused w w' w'' m m' bytes fault.OutOfMemory e' is p q = absurd is
+-- a fault, and the flush before it is answered
+pub ends_fault : {R W : Type 0} {gave : R → List ℕ → R → Type 0} (failed : R → R → Type 0) (took : W → List ℕ → W → Type 0) (refused : W → W → Type 0) {r r' : R} (w v w' : W) (m m' : MachineState) {bytes : List ℕ} (e e' : TraceFault)
+    → IsInside e → LastRead gave r bytes r' → Fails took refused w m no_counts bytes v m' e → AfterFlush took refused v w' e e'
+    → Ends gave failed took refused r r' w w' m m' (Err e')
+ends_fault {gave = gave} failed took refused {r = r} {r' = r'} w v w' m m' (fault.Line n f) e' is p q (inl flush) =
+    subst (λ x. Ends gave failed took refused r r' w w' m m' (Err x)) (sym flush.0) (ends_told failed took refused w v w' m m' n f is p q flush.1)
+ends_fault {gave = gave} failed took refused {r = r} {r' = r'} w v w' m m' {bytes = bytes} (fault.Line n f) e' is p q (inr flush) =
+    subst (λ x. Ends gave failed took refused r r' w w' m m' (Err x)) (sym flush.0) (bytes, all_read p, (q.0, q.1, v, m', q.2, inr (flush.1, refl)))
+ends_fault {gave = gave} failed took refused {r = r} {r' = r'} w v w' m m' {bytes = bytes} fault.TooManyLines e' is p q (inl flush) =
+    subst (λ x. Ends gave failed took refused r r' w w' m m' (Err x)) (sym flush.0) (bytes, v, p, q, flush.1)
+ends_fault {gave = gave} failed took refused {r = r} {r' = r'} w v w' m m' {bytes = bytes} fault.TooManyLines e' is p q (inr flush) =
+    subst (λ x. Ends gave failed took refused r r' w w' m m' (Err x)) (sym flush.0) (bytes, all_read p, (q.0, q.1, v, m', q.2, inr (flush.1, refl)))
+ends_fault {gave = gave} failed took refused {r = r} {r' = r'} w v w' m m' {bytes = bytes} fault.Write e' is p q flush =
+    subst (λ x. Ends gave failed took refused r r' w w' m m' (Err x)) (sym flush.0)
+    (bytes, all_read p, subst (λ x. Fails took refused w m no_counts bytes x m' fault.Write) (sym flush.1) q)
+ends_fault failed took refused w v w' m m' fault.Read e' is p q flush = absurd is
+ends_fault failed took refused w v w' m m' fault.OutOfMemory e' is p q flush = absurd is
 
--- a fault, behind a flush
-pub ends_fault : {R W : Type 0} {gave : R → List ℕ → R → Type 0} (failed : R → R → Type 0) (took : W → List ℕ → W → Type 0) (refused : W → W → Type 0) {r r' : R} (w w' w'' : W) (m m' : MachineState) {bytes : List ℕ} (e e' : TraceFault)
-    → IsInside e → LastRead gave r bytes r' → Fails took refused w m no_counts bytes w' m' e → AfterFlush took refused w' w'' e e'
-    → Ends gave failed took refused r r' w w'' m m' (Err e')
-ends_fault failed took refused w w' w'' m m' {bytes = bytes} e e' is p q flush =
-    let both = after_flush took refused w w' w'' m m' bytes e e' is q flush in
-    ends_inside failed took refused w w'' m m' e' both.0 p both.1
-
-pub fails_many : {W : Type 0} {took : W → List ℕ → W → Type 0} (refused : W → W → Type 0) {w w' : W} {m n : MachineState} {a c : Counts} {bytes rest : List ℕ}
-    → Through took w m a bytes rest w' n c → c.lines ≡ 16777216 → 0 < length rest
-    → Fails took refused w m a bytes w' n fault.TooManyLines
-fails_many refused {c = c} {rest = rest} p many some = (c, rest, p.served, many, some)
-
-pub fails_pending : {W : Type 0} {took : W → List ℕ → W → Type 0} (refused : W → W → Type 0) {w w' : W} {m n : MachineState} {a c : Counts} {bytes rest : List ℕ}
-    → Through took w m a bytes rest w' n c → HasNoEnd rest → 64 < length rest → c.lines < 16777216
-    → Fails took refused w m a bytes w' n (fault.Line (c.lines + 1) TooLong)
-fails_pending refused {c = c} {rest = rest} p none long room = (
-  c,
-  rest,
-  p.served,
-  refl,
-  room,
+-- the fault of a line that began, whatever comes behind it
+pub fails_begun : {W : Type 0} {took : W → List ℕ → W → Type 0} (refused : W → W → Type 0) {w w' : W} {m n : MachineState} {a c : Counts} {bytes rest : List ℕ} (left : ℕ) (e : TraceFault)
+    → Through took w m a bytes rest w' n c → HasNoEnd rest → left ≡ length rest → BegunFault c.lines left 64 e
+    → IsInside e × Fails took refused w m a bytes w' n e
+fails_begun refused {c = c} {rest = rest} left fault.TooManyLines p none same h = (tt, (c, rest, p.served, h.0, omega (arith, same, h.1)))
+fails_begun refused {c = c} {rest = rest} left (fault.Line number TooLong) p none same h = (
+  tt,
   (
-    long,
-    λ k lt e.
-        let below : k < 65 = omega (arith, lt, length-take 65 rest) in
-        none k (omega arith) (sym (get_or-take 65 rest k 0 below) ∙ e),
+    c,
+    rest,
+    p.served,
+    h.0,
+    h.1,
+    (
+      omega (arith, same, h.2),
+      λ k lt e.
+          let below : k < 65 = omega (arith, lt, length-take 65 rest) in
+          none k (omega (arith, same, h.2)) (sym (get_or-take 65 rest k 0 below) ∙ e),
+    ),
   ),
 )
+fails_begun refused left (fault.Line number Unknown) p none same h = absurd h
+fails_begun refused left (fault.Line number Field) p none same h = absurd h
+fails_begun refused left (fault.Line number NotEnded) p none same h = absurd h
+fails_begun refused left fault.Read p none same h = absurd h
+fails_begun refused left fault.Write p none same h = absurd h
+fails_begun refused left fault.OutOfMemory p none same h = absurd h
 
 pub none_of : (xs : List ℕ) → length xs ≡ 0 → [] ≡ xs
 none_of [] e = refl
 none_of (x ∷ xs) e = absurd (omega arith)
 
 -- the reader told its end, behind a whole line
-pub ends_done : {R W : Type 0} {gave : R → List ℕ → R → Type 0} {took : W → List ℕ → W → Type 0} {r r' r'' : R} {w w' : W} {m n : MachineState} {c : Counts} {pending bs : List ℕ}
-    → Going gave took r w m pending r' w' n c → gave r' bs r'' → length bs ≡ 0 → length pending ≡ 0
-    → (bytes : List ℕ) × (last : R) × Moves gave r bytes last × gave last [] r'' × Served took w m no_counts bytes [] w' n c × IsWithin c
-ends_done {gave = gave} {took = took} {r' = r'} {r'' = r''} {w = w} {w' = w'} {m = m} {n = n} {c = c} {pending = pending} {bs = bs} p gives none empty =
-    (p.bytes, r', p.read, subst (λ l. gave r' l r'') (sym (none_of bs none)) gives, subst (λ l. Served took w m no_counts p.bytes l w' n c) (sym (none_of pending empty)) p.through.served, p.through.within)
+pub ends_done : {R W : Type 0} {gave : R → List ℕ → R → Type 0} (failed : R → R → Type 0) {took : W → List ℕ → W → Type 0} (refused : W → W → Type 0) {r r' r'' : R} {w v w' : W} {m n : MachineState} {c : Counts} {pending bs : List ℕ}
+    → Going gave took r w m pending r' v n c → took v [] w' → gave r' bs r'' → length bs ≡ 0 → length pending ≡ 0
+    → Ends gave failed took refused r r'' w w' m n (Ok c)
+ends_done {gave = gave} failed {took = took} refused {r' = r'} {r'' = r''} {w = w} {v = v} {m = m} {n = n} {c = c} {pending = pending} {bs = bs} p flush gives none empty =
+    (p.bytes, r', v, p.read, subst (λ l. gave r' l r'') (sym (none_of bs none)) gives, subst (λ l. Served took w m no_counts p.bytes l v n c) (sym (none_of pending empty)) p.through.served, p.through.within, flush)
 
 -- the reader told its end, within a line
-pub ends_cut : {R W : Type 0} {gave : R → List ℕ → R → Type 0} {took : W → List ℕ → W → Type 0} (refused : W → W → Type 0) {r r' r'' : R} {w w' : W} {m n : MachineState} {c : Counts} {pending bs : List ℕ}
-    → Going gave took r w m pending r' w' n c → gave r' bs r'' → length bs ≡ 0 → 0 < length pending
-    → (bytes : List ℕ) × (last : R) × Moves gave r bytes last × gave last [] r'' × Fails took refused w m no_counts bytes w' n (fault.Line (c.lines + 1) NotEnded)
-ends_cut {gave = gave} refused {r' = r'} {r'' = r''} {c = c} {pending = pending} {bs = bs} p gives none some =
-    (p.bytes, r', p.read, subst (λ l. gave r' l r'') (sym (none_of bs none)) gives, (c, pending, p.through.served, refl, p.room some, (some, p.short, p.unfinished)))
+pub ends_cut : {R W : Type 0} {gave : R → List ℕ → R → Type 0} (failed : R → R → Type 0) {took : W → List ℕ → W → Type 0} (refused : W → W → Type 0) {r r' r'' : R} {w v w' : W} {m n : MachineState} {c : Counts} {pending bs : List ℕ}
+    → Going gave took r w m pending r' v n c → took v [] w' → gave r' bs r'' → length bs ≡ 0 → 0 < length pending
+    → Ends gave failed took refused r r'' w w' m n (Err (fault.Line (c.lines + 1) NotEnded))
+ends_cut {gave = gave} failed refused {r' = r'} {r'' = r''} {v = v} {c = c} {pending = pending} {bs = bs} p flush gives none some =
+    (p.bytes, r', v, p.read, subst (λ l. gave r' l r'') (sym (none_of bs none)) gives, (c, pending, p.through.served, refl, p.room some, (some, p.short, p.unfinished)), flush)
+
+-- the writer refused the flush before a read, or the reader answered an error
+pub ends_unfilled : {R W : Type 0} {gave : R → List ℕ → R → Type 0} (failed : R → R → Type 0) {took : W → List ℕ → W → Type 0} (refused : W → W → Type 0) {r r' : R} (r'' : R) {w v : W} (w' : W) {m n : MachineState} {c : Counts} {pending : List ℕ} (e : TraceFault)
+    → Going gave took r w m pending r' v n c → Unfilled failed took refused r' r'' v w' e
+    → Ends gave failed took refused r r'' w w' m n (Err e)
+ends_unfilled failed refused {r' = r'} r'' {v = v} w' {c = c} {pending = pending} fault.Read p h =
+    (p.bytes, r', v, c, pending, p.read, h.1, p.through.served, p.short, p.unfinished, p.room, h.0)
+ends_unfilled {gave = gave} failed refused {r = r} r'' {v = v} w' {n = n} {c = c} {pending = pending} fault.Write p h =
+    (p.bytes, subst (λ x. Moves gave r p.bytes x) (sym h.1) p.read, (c, pending, v, n, p.through.served, inr (h.0, refl)))
+ends_unfilled failed refused r'' w' (fault.Line number f) p h = absurd h
+ends_unfilled failed refused r'' w' fault.OutOfMemory p h = absurd h
+ends_unfilled failed refused r'' w' fault.TooManyLines p h = absurd h

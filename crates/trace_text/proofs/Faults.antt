@@ -68,20 +68,23 @@ fails_fault {took = took} refused {u = u} {v = v} {w = w} {k = k} {m = m} {n = n
 
 pub fails_refusal : {W : Type 0} {took : W → List ℕ → W → Type 0} {refused : W → W → Type 0} {u v w : W} {k m n : MachineState} {a b : Counts} {bytes rest text : List ℕ} (at : ℕ)
     → Through took u k a bytes rest v m b → IsEnd rest at → at ≤ 64 → text ≡ take at rest
-    → StopsLine took refused v m text w n Refusal
+    → StopsLine took refused v m text w n Refusal → b.lines < 16777216
     → Fails took refused u k a bytes w n fault.Write
-fails_refusal {took = took} {refused = refused} {v = v} {w = w} {m = m} {b = b} {rest = rest} {text = text} at p h short e stop = (
+fails_refusal {took = took} {refused = refused} {v = v} {w = w} {m = m} {b = b} {rest = rest} {text = text} at p h short e stop room = (
   b,
   rest,
   v,
   m,
   p.served,
-  inl (record {
-    line = (text, stop.0);
-    more = drop (at + 1) rest;
-    is_line = (omega (arith, ap length e, length-take at rest), subst HasNoEnd (sym e) (front_has_none rest at h), stop.1);
-    split = line_split rest at h ∙ ap (λ l. l ++ (10 ∷ drop (at + 1) rest)) (sym e);
-    stopped = stop.2;
-    state = stop.3;
-  }),
+  inl (
+    room,
+    record {
+      line = (text, stop.0);
+      more = drop (at + 1) rest;
+      is_line = (omega (arith, ap length e, length-take at rest), subst HasNoEnd (sym e) (front_has_none rest at h), stop.1);
+      split = line_split rest at h ∙ ap (λ l. l ++ (10 ∷ drop (at + 1) rest)) (sym e);
+      stopped = stop.2;
+      state = stop.3;
+    },
+  ),
 )

@@ -9,6 +9,7 @@ use Rattle.trace_text.specs.declared.serve.TraceFault.{TraceFault}
 use Rattle.trace_text.specs.Serving.{Moves, joined}
 use Rattle.trace_text.specs.Faults.{Ends}
 use Rattle.trace_text.specs.Known.{Whole}
+use Rattle.trace_text.proofs.Serving.{moved_still}
 
 abbrev Gave : {R : Type 0} → (R → Option (List ℕ)) → R → List ℕ → R → Type 0
 Gave rem s bytes t = Consumes (rem s) (rem t) bytes × (bytes ≡ [] → IsAtEnd (rem t))
@@ -34,16 +35,16 @@ pub whole_known : {R W : Type 0} (rem : R → Option (List ℕ)) (con : W → Op
     → Ends (Gave rem) (λ s t. Keeps (rem s) (rem t)) (Took con) (λ s t. Keeps (con s) (con t)) r r' w w' m m' result
     → IfOk result (λ counts. IfSome (rem r) (λ text. Whole text (con w) (con w') m m' counts))
 whole_known rem con r r' w w' m m' (Ok counts) h =
-    let served = h.4 in
-    let all : Consumes (rem r) (rem r') h.0 = subst (Consumes (rem r) (rem r')) (append-nil h.0) (Consumes-trans (rem r) (rem h.1) (rem r') h.0 [] (consumed rem h.2) h.3.0) in
-    Consumes-whole (rem r) (rem r') h.0 (λ text. Whole text (con w) (con w') m m' counts) all (h.3.1 refl)
+    let served = h.5 in
+    let all : Consumes (rem r) (rem r') h.0 = subst (Consumes (rem r) (rem r')) (append-nil h.0) (Consumes-trans (rem r) (rem h.1) (rem r') h.0 [] (consumed rem h.3) h.4.0) in
+    Consumes-whole (rem r) (rem r') h.0 (λ text. Whole text (con w) (con w') m m' counts) all (h.4.1 refl)
     (record {
       lines = served.lines;
       each = served.each;
       split = served.split ∙ append-nil (joined served.lines);
       number = omega (arith, served.number);
       counts = served.counts;
-      written = appended con served.written;
+      written = appended con (moved_still served.written h.7);
       state = served.state;
       runs = served.runs;
     })

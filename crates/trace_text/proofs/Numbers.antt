@@ -22,11 +22,11 @@ taken : (t : Bool) (x : Option ℕ) (m : ℕ) → cond t x None ≡ Some m → (
 taken true x m e = (refl, e)
 taken false x m e = cc
 
-both : (a b : Bool) → (a && b) ≡ true → (a ≡ true) × (b ≡ true)
+pub both : (a b : Bool) → (a && b) ≡ true → (a ≡ true) × (b ≡ true)
 both true b e = (refl, e)
 both false b e = cc
 
-le_of : (a b : ℕ) → nat_le a b ≡ true → a ≤ b
+pub le_of : (a b : ℕ) → nat_le a b ≡ true → a ≤ b
 le_of a b e = grind (arith, nat_tests)
 
 of_le : (a b : ℕ) → a ≤ b → nat_le a b ≡ true
@@ -44,7 +44,7 @@ read_ge : (n : ℕ) (bs : List ℕ) → n ≤ read_on n bs
 read_ge n [] = omega arith
 read_ge n (b ∷ bs) = omega (arith, read_ge (n * 10 + (b - 48)) bs)
 
-digits_taken : (t x : Bool) → cond t x false ≡ true → (t ≡ true) × (x ≡ true)
+pub digits_taken : (t x : Bool) → cond t x false ≡ true → (t ≡ true) × (x ≡ true)
 digits_taken true x e = (refl, e)
 digits_taken false x e = cc
 

@@ -7,6 +7,7 @@ use Rattle.trace_text.specs.declared.reading.Uncollected.TheVariants as miss
 use Rattle.trace_text.specs.declared.serve.TraceFault.{TraceFault}
 use Rattle.trace_text.specs.declared.serve.TraceFault.TheVariants as fault
 use Rattle.trace_text.specs.Serving.{HasNoEnd, Moves}
+use Rattle.trace_text.specs.Faults.{BegunFault}
 use Rattle.trace_text.specs.Reading.{joined_texts, IsGood, Good, BeginsFaulty, Misses, ReadWhole, Faulty, ReadStops, Collected, AllCollected, Reading, IsFound}
 use Rattle.trace_text.proofs.Serving.{moved_none, moved_more, all_then}
 use Rattle.trace_text.proofs.Faults.{IsEnd, line_split, front_has_none, none_in_front}
@@ -159,25 +160,33 @@ faulty_then more fault.OutOfMemory p q = tt
 faulty_then more fault.Read p q = absurd q
 faulty_then more fault.Write p q = absurd q
 
-pub faulty_many : {C : Type 0} {f : List ℕ → Option LineFault} {holds : C → List (List ℕ) → Type 0} {most : ℕ} {c d : C} {n m : ℕ} {bytes rest : List ℕ}
-    → Collected f holds most c n bytes rest d m → m ≡ 16777216 → 0 < length rest → Faulty f most n bytes fault.TooManyLines
-faulty_many {rest = rest} p many some = (p.texts, rest, p.good, omega (arith, p.number), some)
-
-pub faulty_pending : {C : Type 0} {f : List ℕ → Option LineFault} {holds : C → List (List ℕ) → Type 0} {most : ℕ} {c d : C} {n m : ℕ} {bytes rest : List ℕ}
-    → Collected f holds most c n bytes rest d m → HasNoEnd rest → most < length rest → m < 16777216 → Faulty f most n bytes (fault.Line (m + 1) TooLong)
-faulty_pending {most = most} {rest = rest} p none long room = (
-  p.texts,
-  rest,
-  p.good,
-  omega (arith, p.number),
-  omega (arith, p.number, room),
+-- the fault of a line that began, whatever comes behind it
+pub faulty_begun : {C : Type 0} {f : List ℕ → Option LineFault} {holds : C → List (List ℕ) → Type 0} {most : ℕ} {c d : C} {n m : ℕ} {bytes rest : List ℕ} (left : ℕ) (e : TraceFault)
+    → Collected f holds most c n bytes rest d m → HasNoEnd rest → left ≡ length rest → BegunFault m left most e
+    → IsFound e × Faulty f most n bytes e
+faulty_begun {rest = rest} left fault.TooManyLines p none same h = (tt, (p.texts, rest, p.good, omega (arith, p.number, h.0), omega (arith, same, h.1)))
+faulty_begun {most = most} {rest = rest} left (fault.Line number TooLong) p none same h = (
+  tt,
   (
-    long,
-    λ k lt e.
-        let below : k < most + 1 = omega (arith, lt, length-take (most + 1) rest) in
-        none k (omega arith) (sym (get_or-take (most + 1) rest k 0 below) ∙ e),
+    p.texts,
+    rest,
+    p.good,
+    omega (arith, p.number, h.0),
+    omega (arith, p.number, h.1),
+    (
+      omega (arith, same, h.2),
+      λ k lt e.
+          let below : k < most + 1 = omega (arith, lt, length-take (most + 1) rest) in
+          none k (omega (arith, same, h.2)) (sym (get_or-take (most + 1) rest k 0 below) ∙ e),
+    ),
   ),
 )
+faulty_begun left (fault.Line number Unknown) p none same h = absurd h
+faulty_begun left (fault.Line number Field) p none same h = absurd h
+faulty_begun left (fault.Line number NotEnded) p none same h = absurd h
+faulty_begun left fault.Read p none same h = absurd h
+faulty_begun left fault.Write p none same h = absurd h
+faulty_begun left fault.OutOfMemory p none same h = absurd h
 
 -- ---- ends
 

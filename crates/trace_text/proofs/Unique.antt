@@ -1,6 +1,8 @@
 -- A text is these lines and no others.
-use Rattle.std.proofs.Common.{◌≡◌, ◌≢◌, ℕ, zero, suc, ◌<◌, List, [], ◌∷◌, ◌++◌, length, get_or, refl, sym, ◌∙◌, ap, arith, append_assoc, take, length-take, get_or-take, Ok, Err}
+use Rattle.std.proofs.Common.{◌≡◌, ◌≢◌, ℕ, suc, ◌<◌, List, [], ◌∷◌, ◌++◌, length, get_or, refl, sym, ◌∙◌, ap, arith, append_assoc, take, length-take, get_or-take, Ok, Err}
 use Rattle.std.specs.List.{AllByRecursion}
+use Rattle.std.proofs.Math.Seq.{get_or-append_seam}
+use Rattle.std.proofs.lemmas.List.{get_or_append_left}
 use Rattle.trace_text.specs.Lines.{line_of}
 use Rattle.trace_text.specs.declared.lines.Line.{Line}
 use Rattle.trace_text.specs.declared.lines.LineFault.{LineFault}
@@ -61,23 +63,14 @@ at_fault text rest f more none fault e s p after is_line q =
     let said : line_of s.0 ≡ Ok s.1 = is_line.2 in
     cc
 
-at_seam : (xs ys : List ℕ) → get_or (xs ++ ys) (length xs) 0 ≡ get_or ys 0 0
-at_seam [] ys = refl
-at_seam (x ∷ xs) ys = at_seam xs ys
-
-in_front : (xs ys : List ℕ) (k : ℕ) → k < length xs → get_or (xs ++ ys) k 0 ≡ get_or xs k 0
-in_front [] ys k lt = absurd (omega arith)
-in_front (x ∷ xs) ys zero lt = refl
-in_front (x ∷ xs) ys (suc k) lt = in_front xs ys k (omega arith)
-
 too_long : (rest : List ℕ) → 64 < length rest → HasNoEnd (take 65 rest) → IsStuck rest
 too_long rest long none s p after is_line q =
     let k = length s.0 in
-    let here : get_or (s.0 ++ (10 ∷ p)) k 0 ≡ 10 = at_seam s.0 (10 ∷ p) in
+    let here : get_or (s.0 ++ (10 ∷ p)) k 0 ≡ 10 = get_or-append_seam s.0 10 p 0 in
     let within : k < 65 = omega (arith, is_line.0) in
     let inside : k < length rest = omega (arith, is_line.0) in
     none k (omega (arith, length-take 65 rest))
-    (get_or-take 65 rest k 0 within ∙ sym (in_front rest after k inside) ∙ ap (λ l. get_or l k 0) q ∙ here)
+    (get_or-take 65 rest k 0 within ∙ sym (get_or_append_left rest after 0 k inside) ∙ ap (λ l. get_or l k 0) q ∙ here)
 
 -- a fault of a line stands whatever follows
 pub fault_stands : (rest : List ℕ) (f : LineFault) → f ≢ NotEnded → BeginsWith rest f → IsStuck rest

@@ -16,18 +16,11 @@ use Rattle.trace_text.specs.declared.lines.Command.{Command}
 use Rattle.trace_text.specs.declared.lines.Command.TheVariants as command
 use Rattle.trace_text.specs.declared.lines.Line.{Line}
 use Rattle.trace_text.specs.declared.lines.Line.TheVariants as line
-use Rattle.trace_text.proofs.Numbers.{number_read, number_written, all_digits, decimal_digits}
+use Rattle.trace_text.proofs.Numbers.{number_read, number_written, all_digits, decimal_digits, both, le_of, digits_taken}
 use Rattle.trace_text.proofs.Words.{word_read, mask_read}
 use Rattle.trace_text.proofs.Cuts.{NoSpace, cut_front, cut_none, whole, cut_is, no_space, no_space_in}
 
 -- ---- words and masks are what their digits say
-
-both : (a b : Bool) → (a && b) ≡ true → (a ≡ true) × (b ≡ true)
-both true b e = (refl, e)
-both false b e = cc
-
-le_of : (a b : ℕ) → nat_le a b ≡ true → a ≤ b
-le_of a b e = grind (arith, nat_tests)
 
 lt_of : (a b : ℕ) → nat_lt a b ≡ true → a < b
 lt_of a b e = grind (arith, nat_tests)
@@ -360,14 +353,10 @@ high_spaceless : (xs : List ℕ) → High xs → NoSpace xs
 high_spaceless [] h = tt
 high_spaceless (x ∷ xs) h = (λ is. omega (arith, h.0, is), high_spaceless xs h.1)
 
-digit_test : (t x : Bool) → cond t x false ≡ true → (t ≡ true) × (x ≡ true)
-digit_test true x e = (refl, e)
-digit_test false x e = cc
-
 digits_high : (bs : List ℕ) → all_digits bs ≡ true → High bs
 digits_high [] e = tt
 digits_high (b ∷ bs) e =
-    let t = digit_test (is_digit b) (all_digits bs) e in
+    let t = digits_taken (is_digit b) (all_digits bs) e in
     (le_of 48 b (both (nat_le 48 b) (nat_lt b 58) t.0).0, digits_high bs t.1)
 
 pub number_high : (n : ℕ) → n ≤ 4294967295 → High (decimal n)

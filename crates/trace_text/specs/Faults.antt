@@ -4,6 +4,7 @@ use Rattle.std.specs.Option.{option_to_list}
 use Rattle.std.specs.List.{AllByRecursion}
 use Rattle.flat_model.specs.Flat.{flat_run}
 use Rattle.machine_core.specs.Machine.{MachineState}
+use Rattle.trace_text.specs.Codes.{line_feed, most_lines}
 use Rattle.trace_text.specs.Lines.{line_of, IsSaid}
 use Rattle.trace_text.specs.Texts.{flat, after_line}
 use Rattle.trace_text.specs.declared.lines.Line.{Line}
@@ -36,13 +37,13 @@ pub record LineServed {W : Type 0} (took : W → List ℕ → W → Type 0) (old
 abbrev pub BeginsWith : List ℕ → LineFault → Type 0
 BeginsWith bytes TooLong = (64 < length bytes) × HasNoEnd (take 65 bytes)
 BeginsWith bytes NotEnded = (0 < length bytes) × (length bytes ≤ 64) × HasNoEnd bytes
-BeginsWith bytes f = (text : List ℕ) × (more : List ℕ) × (bytes ≡ text ++ (10 ∷ more)) × (length text ≤ 64) × HasNoEnd text × (line_of text ≡ Err f)
+BeginsWith bytes f = (text : List ℕ) × (more : List ℕ) × (bytes ≡ text ++ (line_feed ∷ more)) × (length text ≤ 64) × HasNoEnd text × (line_of text ≡ Err f)
 
 -- Of these bytes some lines were served, and this fault came in the next.
 abbrev pub Fails : {W : Type 0} (took : W → List ℕ → W → Type 0) (refused : W → W → Type 0) (old : W) (m : MachineState) (c : Counts) (bytes : List ℕ) (new : W) (m' : MachineState) → TraceFault → Type 0
-Fails took refused old m c bytes new m' (fault.Line n f) = (c' : Counts) × (rest : List ℕ) × Served took old m c bytes rest new m' c' × (n ≡ c'.lines + 1) × (c'.lines < 16777216) × BeginsWith rest f
-Fails {W} took refused old m c bytes new m' fault.Write = (c' : Counts) × (rest : List ℕ) × (w : W) × (s : MachineState) × Served took old m c bytes rest w s c' × (Broken took refused w s rest new m' ⊎ (refused w new × (m' ≡ s)))
-Fails took refused old m c bytes new m' fault.TooManyLines = (c' : Counts) × (rest : List ℕ) × Served took old m c bytes rest new m' c' × (c'.lines ≡ 16777216) × (0 < length rest)
+Fails took refused old m c bytes new m' (fault.Line n f) = (c' : Counts) × (rest : List ℕ) × Served took old m c bytes rest new m' c' × (n ≡ c'.lines + 1) × (c'.lines < most_lines) × BeginsWith rest f
+Fails {W} took refused old m c bytes new m' fault.Write = (c' : Counts) × (rest : List ℕ) × (w : W) × (s : MachineState) × Served took old m c bytes rest w s c' × (((c'.lines < most_lines) × Broken took refused w s rest new m') ⊎ (refused w new × (m' ≡ s)))
+Fails took refused old m c bytes new m' fault.TooManyLines = (c' : Counts) × (rest : List ℕ) × Served took old m c bytes rest new m' c' × (c'.lines ≡ most_lines) × (0 < length rest)
 Fails took refused old m c bytes new m' fault.Read = ⊥
 Fails took refused old m c bytes new m' fault.OutOfMemory = ⊥
 
@@ -76,20 +77,21 @@ pub record LastRead {R : Type 0} (gave : R → List ℕ → R → Type 0) (old :
   pub gives : gave last piece new
   pub whole : bytes ≡ before ++ piece
 
--- How a whole run ends: what was read, applied and written, by its answer.
+-- How a whole run ends: what was read, applied and written, by its answer. Where no write was refused, a flush stands
+-- behind all that was written.
 abbrev pub Ends : {R W : Type 0} (gave : R → List ℕ → R → Type 0) (failed : R → R → Type 0) (took : W → List ℕ → W → Type 0) (refused : W → W → Type 0) (r : R) (r' : R) (w : W) (w' : W) (m : MachineState) (m' : MachineState) → Result Counts TraceFault → Type 0
 -- all was read, up to the end, and served
-Ends {R} gave failed took refused r r' w w' m m' (Ok counts) = (bytes : List ℕ) × (last : R) × Moves gave r bytes last × gave last [] r' × Served took w m no_counts bytes [] w' m' counts × IsWithin counts
+Ends {R} {W} gave failed took refused r r' w w' m m' (Ok counts) = (bytes : List ℕ) × (last : R) × (v : W) × Moves gave r bytes last × gave last [] r' × Served took w m no_counts bytes [] v m' counts × IsWithin counts × took v [] w'
 -- nothing happened
 Ends gave failed took refused r r' w w' m m' (Err fault.OutOfMemory) = (r' ≡ r) × (w' ≡ w) × (m' ≡ m)
 -- the lines that ended before the error were served
-Ends {R} gave failed took refused r r' w w' m m' (Err fault.Read) = (bytes : List ℕ) × (last : R) × (c' : Counts) × (rest : List ℕ) × Moves gave r bytes last × failed last r' × Served took w m no_counts bytes rest w' m' c' × (length rest ≤ 64) × HasNoEnd rest × (0 < length rest → c'.lines < 16777216)
+Ends {R} {W} gave failed took refused r r' w w' m m' (Err fault.Read) = (bytes : List ℕ) × (last : R) × (v : W) × (c' : Counts) × (rest : List ℕ) × Moves gave r bytes last × failed last r' × Served took w m no_counts bytes rest v m' c' × (length rest ≤ 64) × HasNoEnd rest × (0 < length rest → c'.lines < most_lines) × took v [] w'
 -- the input ended within a line
-Ends {R} gave failed took refused r r' w w' m m' (Err (fault.Line n NotEnded)) = (bytes : List ℕ) × (last : R) × Moves gave r bytes last × gave last [] r' × Fails took refused w m no_counts bytes w' m' (fault.Line n NotEnded)
+Ends {R} {W} gave failed took refused r r' w w' m m' (Err (fault.Line n NotEnded)) = (bytes : List ℕ) × (last : R) × (v : W) × Moves gave r bytes last × gave last [] r' × Fails took refused w m no_counts bytes v m' (fault.Line n NotEnded) × took v [] w'
 -- a write or a flush was refused
 Ends gave failed took refused r r' w w' m m' (Err fault.Write) = (bytes : List ℕ) × Moves gave r bytes r' × Fails took refused w m no_counts bytes w' m' fault.Write
 -- a line was at fault, or one too many began
-Ends gave failed took refused r r' w w' m m' (Err e) = (bytes : List ℕ) × LastRead gave r bytes r' × Fails took refused w m no_counts bytes w' m' e
+Ends {W = W} gave failed took refused r r' w w' m m' (Err e) = (bytes : List ℕ) × (v : W) × LastRead gave r bytes r' × Fails took refused w m no_counts bytes v m' e × took v [] w'
 
 -- In the middle of a run: what was read, and that all of it was served but the start of a line.
 pub record Going {R W : Type 0} (gave : R → List ℕ → R → Type 0) (took : W → List ℕ → W → Type 0) (r : R) (w : W) (m : MachineState) (pending : List ℕ) (r' : R) (w' : W) (m' : MachineState) (c' : Counts) : Type 0 where
@@ -98,7 +100,7 @@ pub record Going {R W : Type 0} (gave : R → List ℕ → R → Type 0) (took :
   pub through : Through took w m no_counts bytes pending w' m' c'
   pub short : length pending ≤ 64
   pub unfinished : HasNoEnd pending
-  pub room : 0 < length pending → c'.lines < 16777216
+  pub room : 0 < length pending → c'.lines < most_lines
 
 -- A flush before a fault is answered: the fault stays, or the flush was refused and the fault is a failed write.
 abbrev pub AfterFlush : {W : Type 0} (took : W → List ℕ → W → Type 0) (refused : W → W → Type 0) (w w' : W) → TraceFault → TraceFault → Type 0
@@ -121,3 +123,20 @@ pub record Filled {R : Type 0} (gave : R → List ℕ → R → Type 0) (r r' : 
   pub count : length bytes ≡ given
   pub within : filled + given ≤ length old
   pub front : take (filled + given) new ≡ take filled old ++ bytes
+
+-- A flush and a read behind it: the writer refused the flush and nothing was read, or the reader failed.
+abbrev pub Unfilled : {R W : Type 0} (failed : R → R → Type 0) (took : W → List ℕ → W → Type 0) (refused : W → W → Type 0) (r r' : R) (w w' : W) → TraceFault → Type 0
+Unfilled failed took refused r r' w w' fault.Read = took w [] w' × failed r r'
+Unfilled failed took refused r r' w w' fault.Write = refused w w' × (r' ≡ r)
+Unfilled failed took refused r r' w w' (fault.Line n f) = ⊥
+Unfilled failed took refused r r' w w' fault.OutOfMemory = ⊥
+Unfilled failed took refused r r' w w' fault.TooManyLines = ⊥
+
+-- the fault of the line that so many bytes begin, behind so many lines: one too many, or too long
+abbrev pub BegunFault : (lines left most : ℕ) → TraceFault → Type 0
+BegunFault lines left most fault.TooManyLines = (lines ≡ most_lines) × (0 < left)
+BegunFault lines left most (fault.Line n TooLong) = (n ≡ lines + 1) × (lines < most_lines) × (most < left)
+BegunFault lines left most (fault.Line n f) = ⊥
+BegunFault lines left most fault.Read = ⊥
+BegunFault lines left most fault.Write = ⊥
+BegunFault lines left most fault.OutOfMemory = ⊥

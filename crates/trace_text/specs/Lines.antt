@@ -5,6 +5,7 @@ use Rattle.std.specs.Cmp.Lexicographic.{pointwise}
 use Rattle.flat_model.specs.declared.Word.{Word}
 use Rattle.flat_model.specs.declared.Lanes.{Lanes}
 use Rattle.flat_model.specs.declared.Event.TheVariants.{Load, Store, Prefetch, Evict, Drain, Serve, Arrive, Process, Take}
+use Rattle.trace_text.specs.Codes.{line_feed, space}
 use Rattle.trace_text.specs.Fields.{number_of, lanes_of, word_of}
 use Rattle.trace_text.specs.declared.lines.Command.{Command}
 use Rattle.trace_text.specs.declared.lines.Command.TheVariants as command
@@ -22,7 +23,7 @@ cut_at text None = (text, None)
 
 -- the bytes up to the first space, and those behind it
 abbrev pub cut_of : List ℕ → List ℕ × Option (List ℕ)
-cut_of text = cut_at text (position (λ b. b == 32) text)
+cut_of text = cut_at text (position (λ b. b == space) text)
 
 abbrev pub same : List ℕ → List ℕ → Bool
 same = pointwise nat_eq
@@ -134,7 +135,7 @@ line_of text = said_by (command_named (cut_of text).0) (cut_of text).1
 
 -- whether the last byte is LF
 abbrev pub is_ended : List ℕ → Bool
-is_ended bytes = nat_lt 0 (length bytes) && (slice_index bytes (length bytes - 1) == 10)
+is_ended bytes = nat_lt 0 (length bytes) && (slice_index bytes (length bytes - 1) == line_feed)
 
 abbrev pub without_end : List ℕ → List ℕ
 without_end bytes = if is_ended bytes then take (length bytes - 1) bytes else bytes

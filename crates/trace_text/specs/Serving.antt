@@ -7,6 +7,7 @@ use Rattle.flat_model.specs.declared.Answer.{Answer}
 use Rattle.flat_model.specs.declared.Answer.TheVariants.{Accepted, Moved, Value, Nothing, Refused}
 use Rattle.flat_model.specs.Flat.{flat_run}
 use Rattle.machine_core.specs.Machine.{MachineState}
+use Rattle.trace_text.specs.Codes.{line_feed, most_lines}
 use Rattle.trace_text.specs.Lines.{line_of}
 use Rattle.trace_text.specs.Texts.{answered, flat, reply_text, after_line}
 use Rattle.trace_text.specs.declared.lines.Line.{Line}
@@ -17,7 +18,7 @@ use Rattle.trace_text.specs.declared.serve.Counts.{Counts}
 
 -- bytes with no LF among them
 abbrev pub HasNoEnd : List ℕ → Type 0
-HasNoEnd bytes = (k : ℕ) → k < length bytes → slice_index bytes k ≢ 10
+HasNoEnd bytes = (k : ℕ) → k < length bytes → slice_index bytes k ≢ line_feed
 
 -- the bytes before an LF, and the line that they are
 abbrev pub IsLine : List ℕ × Line → Type 0
@@ -26,11 +27,11 @@ IsLine s = (length s.0 ≤ 64) × HasNoEnd s.0 × (line_of s.0 ≡ Ok s.1)
 -- these lines, each with its LF
 abbrev pub joined : List (List ℕ × Line) → List ℕ
 joined [] = []
-joined (s ∷ ss) = s.0 ++ (10 ∷ joined ss)
+joined (s ∷ ss) = s.0 ++ (line_feed ∷ joined ss)
 
 -- what is written for a line
 abbrev pub told : MachineState → List ℕ × Line → List ℕ
-told m s = s.0 ++ (codes " -> " ++ (reply_text m s.1 ++ (10 ∷ [])))
+told m s = s.0 ++ (codes " -> " ++ (reply_text m s.1 ++ (line_feed ∷ [])))
 
 -- what is written for these lines
 abbrev pub told_all : MachineState → List (List ℕ × Line) → List ℕ
@@ -96,7 +97,7 @@ counted m c (s ∷ ss) = counted (after_line m s.1) (counted_line m c s.1) ss
 
 -- counts of a trace's lines: none is above the limit of lines
 pub record IsWithin (c : Counts) : Type 0 where
-  pub lines : c.lines ≤ 16777216
+  pub lines : c.lines ≤ most_lines
   pub accepted : c.accepted ≤ c.lines
   pub moved : c.moved ≤ c.lines
   pub values : c.values ≤ c.lines
@@ -145,10 +146,10 @@ pub record Broken {W : Type 0} (took : W → List ℕ → W → Type 0) (refused
   pub line : List ℕ × Line
   pub more : List ℕ
   pub is_line : IsLine line
-  pub split : bytes ≡ line.0 ++ (10 ∷ more)
+  pub split : bytes ≡ line.0 ++ (line_feed ∷ more)
   pub stopped : Stopped took refused old (told m line) new
   pub state : m' ≡ after_line m line.1
 
 -- these bytes don't begin with a line, whatever follows them
 abbrev pub IsStuck : List ℕ → Type 0
-IsStuck bytes = (s : List ℕ × Line) (more after : List ℕ) → IsLine s → bytes ++ after ≡ s.0 ++ (10 ∷ more) → ⊥
+IsStuck bytes = (s : List ℕ × Line) (more after : List ℕ) → IsLine s → bytes ++ after ≡ s.0 ++ (line_feed ∷ more) → ⊥

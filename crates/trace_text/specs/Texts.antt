@@ -10,6 +10,7 @@ use Rattle.miss_registers.specs.declared.RegisterView.{RegisterView}
 use Rattle.miss_registers.specs.declared.FieldView.{FieldView}
 use Rattle.cache_unit.specs.Views.{register_view, field_view}
 use Rattle.machine_core.specs.Machine.{MachineState, apply, bank_word, settled, flat_of}
+use Rattle.trace_text.specs.Codes.{space, hyphen, closing_bracket, letter_I, letter_O, letter_P, letter_V}
 use Rattle.trace_text.specs.Fields.{padded, lanes_text, word_text}
 use Rattle.trace_text.specs.declared.lines.Line.{Line}
 use Rattle.trace_text.specs.declared.lines.Line.TheVariants as line
@@ -46,7 +47,7 @@ is_settled s = settled s.machine
 unfoldable pub answer_text : Answer → List ℕ
 answer_text Accepted = codes "accepted"
 answer_text Moved = codes "moved"
-answer_text (Value tag word) = codes "value " ++ decimal tag ++ 32 ∷ word_text word
+answer_text (Value tag word) = codes "value " ++ decimal tag ++ space ∷ word_text word
 answer_text Nothing = codes "nothing"
 answer_text (Refused cause) = codes "refused " ++ decimal (number cause)
 
@@ -54,7 +55,7 @@ answer_text (Refused cause) = codes "refused " ++ decimal (number cause)
 
 -- a letter where a mark stands, and else a hyphen
 abbrev pub mark_text : Bool → ℕ → ℕ
-mark_text mark letter = if mark then letter else 45
+mark_text mark letter = if mark then letter else hyphen
 
 -- how many loads wait for a word, and a hyphen for none
 abbrev pub waiting_text : FieldView → List ℕ
@@ -62,15 +63,15 @@ waiting_text f = if f.send then decimal f.targets else codes "-"
 
 -- how many wait, whether the word stands in the input stack, and whether it was processed
 unfoldable pub marks_text : FieldView → List ℕ
-marks_text f = waiting_text f ++ mark_text f.in_stack 73 ∷ mark_text f.processed 80 ∷ []
+marks_text f = waiting_text f ++ mark_text f.in_stack letter_I ∷ mark_text f.processed letter_P ∷ []
 
 -- what is kept of the first load that waits
 unfoldable pub held_text : FieldView → List ℕ
-held_text f = padded 5 f.tag ++ 32 ∷ lanes_text f.held_lanes ++ 32 ∷ word_text f.held
+held_text f = padded 5 f.tag ++ space ∷ lanes_text f.held_lanes ++ space ∷ word_text f.held
 
 -- the part of a register for one word
 unfoldable pub field_text : FieldView → List ℕ
-field_text f = codes " [" ++ marks_text f ++ 32 ∷ lanes_text f.code ++ 32 ∷ held_text f ++ 93 ∷ []
+field_text f = codes " [" ++ marks_text f ++ space ∷ lanes_text f.code ++ space ∷ held_text f ++ closing_bracket ∷ []
 
 abbrev pub shown_or_nothing : Option FieldView → List ℕ
 shown_or_nothing None = []
@@ -82,7 +83,7 @@ field_text_at s slot i = shown_or_nothing (field_shown s slot i)
 -- the part of a register before its words
 unfoldable pub head_text : RegisterView → List ℕ
 head_text r =
-    mark_text r.valid 86 ∷ mark_text r.obsolete 79 ∷ 32 ∷ padded 7 r.block ++ 32 ∷ padded 4 r.frame ++ 32 ∷ padded 2 r.processed
+    mark_text r.valid letter_V ∷ mark_text r.obsolete letter_O ∷ space ∷ padded 7 r.block ++ space ∷ padded 4 r.frame ++ space ∷ padded 2 r.processed
 
 abbrev pub register_text_from : MachineState → ℕ → Option RegisterView → List ℕ
 register_text_from s slot None = codes "none"

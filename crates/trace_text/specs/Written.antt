@@ -4,19 +4,20 @@ use Rattle.flat_model.specs.declared.Word.{Word}
 use Rattle.flat_model.specs.declared.Event.TheVariants.{Load, Store, Prefetch, Evict, Drain, Serve, Arrive, Process, Take}
 use Rattle.flat_model.specs.declared.Answer.{Answer}
 use Rattle.flat_model.specs.declared.Answer.TheVariants.{Accepted, Moved, Value, Nothing, Refused}
+use Rattle.trace_text.specs.Codes.{space}
 use Rattle.trace_text.specs.Fields.{lanes_text, word_text}
 use Rattle.trace_text.specs.declared.lines.Line.{Line}
 use Rattle.trace_text.specs.declared.lines.Line.TheVariants as line
 
 -- a line of a trace, without its LF
 abbrev pub line_text : Line → List ℕ
-line_text (line.Event (Load tag at)) = codes "load " ++ decimal tag ++ 32 ∷ decimal at
-line_text (line.Event (Store at word lanes)) = codes "store " ++ (decimal at ++ (32 ∷ (lanes_text lanes ++ (32 ∷ word_text word))))
+line_text (line.Event (Load tag at)) = codes "load " ++ decimal tag ++ space ∷ decimal at
+line_text (line.Event (Store at word lanes)) = codes "store " ++ (decimal at ++ (space ∷ (lanes_text lanes ++ (space ∷ word_text word))))
 line_text (line.Event (Prefetch at)) = codes "prefetch " ++ decimal at
 line_text (line.Event (Evict block)) = codes "evict " ++ decimal block
 line_text (line.Event Drain) = codes "drain"
 line_text (line.Event (Serve bank)) = codes "serve " ++ decimal bank
-line_text (line.Event (Arrive bank place)) = codes "arrive " ++ decimal bank ++ 32 ∷ decimal place
+line_text (line.Event (Arrive bank place)) = codes "arrive " ++ decimal bank ++ space ∷ decimal place
 line_text (line.Event (Process place)) = codes "process " ++ decimal place
 line_text (line.Event (Take place)) = codes "take " ++ decimal place
 line_text (line.Register slot) = codes "reg " ++ decimal slot

@@ -19,6 +19,7 @@ pub enum CheckEnd {
     /// The events and answers are a run of flat memory, of so many steps.
     Flat { steps: u64 },
     /// The line of this number, counted from 1, has the first answer that flat memory doesn't give.
+    /// Lines that only show something count too.
     Mismatch { line: u64 },
 }
 
@@ -121,10 +122,17 @@ fn replayed(alloc: Global, steps: &Steps, words: u32) -> Result<CheckEnd, TraceF
 }
 
 /// Reads a whole served trace, and judges its events and answers from `words` words of zeros on.
+/// Each line is read as by [`read_pair`](crate::read_pair); all are read before any is judged.
 ///
-/// A fault gives no result. The lines are judged in order, and an error of the reader stands behind
-/// every line that ended or was too long before it; [`TraceFault::OutOfMemory`] may come in place of
-/// any answer, and [`TraceFault::Write`] never comes.
+/// A fault gives no result, and the reader may have been read beyond it. The first one in the order
+/// of the lines is answered: [`TraceFault::Line`] with the number of the line, counted from 1, that
+/// can't be read, [`TraceFault::TooManyLines`] where line 16,777,217 begins, and
+/// [`TraceFault::Read`] where the reader answered an error, behind every line that ended or was too
+/// long before it. [`TraceFault::OutOfMemory`] may come in place of any answer, and
+/// [`TraceFault::Write`] never comes.
+///
+/// One buffer of 4,096 bytes is taken before the first read. What is kept of the lines, and the
+/// memory that they are judged by, take more.
 pub fn check_text<R: Source>(
     alloc: Global,
     reader: &mut R,

@@ -23,7 +23,7 @@ fn known<R: Read, W: Write, C: Core>(
 
 /// [`serve_text`](crate::serve_text) over a reader and a writer of std that tell their bytes, as a
 /// slice and a `Vec` do: what is said of it holds of the bytes that were left to read and of those
-/// that were written.
+/// that were written. Its faults, and what they leave, are those of `serve_text`.
 pub fn serve_known<
     R: Read,
     W: Write,

@@ -12,9 +12,9 @@ use thiserror::Error;
 pub enum Line {
     /// An event for the machine.
     Event(Event),
-    /// Shows the register of this number.
+    /// Shows the register of this number. A machine need not have it.
     Register(u32),
-    /// Shows the word at this address, as it stands in its bank.
+    /// Shows the word at this address, as it stands in its bank. The address may be out of memory.
     Bank(u32),
     /// Shows whether the machine is settled.
     Settled,
@@ -24,16 +24,16 @@ pub enum Line {
 /// TooLong, NotEnded, Unknown, Field is named.
 #[derive(Clone, Copy, Debug, PartialEq, Eq, Error)]
 pub enum LineFault {
-    /// The first word is no command.
+    /// What stands up to the first space is no command. An empty line has none.
     #[error("unknown command")]
     Unknown,
     /// A field is missing, too many, malformed or too large, or a space is out of place.
     #[error("bad field")]
     Field,
-    /// More bytes than a line may have stand before the LF.
+    /// More than 64 bytes, or 768 in a served trace, come with no LF.
     #[error("line too long")]
     TooLong,
-    /// The last byte isn't LF.
+    /// The last byte isn't LF, or there is no byte.
     #[error("line not ended")]
     NotEnded,
 }
@@ -201,6 +201,17 @@ pub fn line_said(text: &[u8]) -> Result<Line, LineFault>
 }
 
 /// What a line says. The bytes are those of one line with its LF: at most 64 bytes stand before it.
+///
+/// A command and its fields have exactly one space between them. A number is decimal, with no zero
+/// before other digits: a tag is at most 65,535, any other number at most 4,294,967,295. A mask is
+/// four digits `0` or `1`, lane 0 first, and a word eight digits `0` to `9` or `a` to `f`, byte 0
+/// first. No number is compared with a machine: its ranges are the machine's to refuse.
+///
+/// The first refusal that fits is answered: [`LineFault::TooLong`] for more than 64 bytes, an LF at
+/// their end not counted; [`LineFault::NotEnded`] where the last byte isn't LF, or there is none;
+/// [`LineFault::Unknown`] where the bytes up to the first space, or up to the LF, are no command;
+/// and [`LineFault::Field`] for a field that is missing, one too many, malformed or too large, or a
+/// space too many.
 pub fn read_line(bytes: &[u8]) -> Result<Line, LineFault>
     ensures { result ≡ ended_line_of bytes.now }
 {

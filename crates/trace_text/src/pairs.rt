@@ -140,8 +140,14 @@ pub fn pair_said(text: &[u8]) -> Result<Pair, LineFault>
 /// What a line of a served trace says. The bytes are those of one line with its LF: at most 768
 /// bytes stand before it.
 ///
-/// A line that has no ` -> ` is a bad field; behind the first one stands the exact text of an
-/// answer. Where the line only shows something, what stands there is passed over.
+/// What stands before the first ` -> ` is read as by [`read_line`](crate::read_line). Behind it
+/// stands the exact text of an answer; where the line only shows something, it is passed over.
+///
+/// The first refusal that fits is answered: [`LineFault::TooLong`] for more than 768 bytes, an LF
+/// at their end not counted; [`LineFault::NotEnded`] where the last byte isn't LF, or there is
+/// none; [`LineFault::Field`] where no ` -> ` stands in the line; [`LineFault::Unknown`] and then
+/// [`LineFault::Field`] for what stands before it; and [`LineFault::Field`] where what stands
+/// behind it is no answer.
 pub fn read_pair(bytes: &[u8]) -> Result<Pair, LineFault>
     ensures { result ≡ ended_pair_of bytes.now }
 {

@@ -1,8 +1,10 @@
 //! A text comes in pieces: its lines are found, and the rest is kept for the next piece.
 ghost use Rattle.std.specs.Prelude.{◌≡◌, ◌≢◌, ℕ, ◌+◌, ◌-◌, ◌<◌, ◌≤◌, length, take, drop, OnErr, IfOk, IfSome, IfNone, slice_index};
 ghost use Rattle.trace_text.specs.Serving.{HasNoEnd};
-ghost use Rattle.trace_text.specs.Faults.{Filled};
+ghost use Rattle.trace_text.specs.Faults.{Filled, BegunFault};
 
+use crate::lines::LineFault;
+use crate::serve::TraceFault;
 use crate::streams::Source;
 
 // How many lines a trace has at most.
@@ -22,6 +24,26 @@ pub fn end_of_line(bytes: &[u8]) -> Option<usize>
         if *byte == b'\n' {
             return Some(i);
         }
+    }
+    None
+}
+
+// The fault of the line that the last `left` bytes begin, whatever comes behind them: it is one line
+// too many, or has more than `most` bytes.
+pub fn begun_fault(lines: u64, left: usize, most: usize) -> Option<TraceFault>
+    requires { lines ≤ 16777216 }
+    ensures some { IfSome result (BegunFault lines left most) }
+    ensures short { IfNone result (left ≤ most) }
+    ensures room { IfNone result (0 < left → lines < 16777216) }
+{
+    if left > 0 && lines == MAX_LINES {
+        return Some(TraceFault::TooManyLines);
+    }
+    if left > most {
+        return Some(TraceFault::Line {
+            number: lines + 1,
+            fault: LineFault::TooLong,
+        });
     }
     None
 }

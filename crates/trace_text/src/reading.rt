@@ -4,7 +4,7 @@ ghost use Rattle.trace_text.specs.declared.lines.LineFault.{LineFault};
 ghost use Rattle.trace_text.specs.Reading.{Misses, Faulty, AllCollected, IsFound, ReadWhole, ReadStops};
 
 use crate::lines::LineFault;
-use crate::pieces::{MAX_LINES, end_of_line, fill, keep_end};
+use crate::pieces::{MAX_LINES, begun_fault, end_of_line, fill, keep_end};
 use crate::serve::TraceFault;
 use crate::streams::Source;
 use std::alloc::Global;
@@ -82,9 +82,8 @@ fn read_pieces<R: Source, C: Collector>(
     let mut count = 0u64;
     let mut filled = 0usize;
     'pieces: loop {
-        let given = match fill(reader, buffer, filled) {
-            Ok(given) => given,
-            Err(_) => return Err(TraceFault::Read),
+        let Ok(given) = fill(reader, buffer, filled) else {
+            return Err(TraceFault::Read);
         };
         if given == 0 {
             if filled == 0 {
@@ -95,17 +94,9 @@ fn read_pieces<R: Source, C: Collector>(
             return Err(TraceFault::Line { number, fault });
         }
         let end = filled + given;
-        let left = match collect_ended(collector, most, &mut count, &buffer[..end]) {
-            Ok(left) => left,
-            Err(fault) => return Err(fault),
-        };
-        if left > 0 && count == MAX_LINES {
-            return Err(TraceFault::TooManyLines);
-        }
-        if left > most {
-            let number = count + 1;
-            let fault = LineFault::TooLong;
-            return Err(TraceFault::Line { number, fault });
+        let left = collect_ended(collector, most, &mut count, &buffer[..end])?;
+        if let Some(fault) = begun_fault(count, left, most) {
+            return Err(fault);
         }
         keep_end(buffer, end - left, end);
         filled = left;

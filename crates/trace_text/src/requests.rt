@@ -62,11 +62,16 @@ impl Collector for Requests {
 }
 
 /// The loads, stores, prefetches and evictions of a trace, in order: at most 16,777,216 events.
-/// The other lines are passed over, and a faulty one is refused.
+/// Each line is read as by [`read_line`](crate::read_line). The other lines are passed over.
 ///
-/// A fault gives no events. The lines are judged in order, and an error of the reader stands behind
-/// every line that ended or was too long before it; [`TraceFault::OutOfMemory`] may come in place of
-/// any answer, and [`TraceFault::Write`] never comes.
+/// A fault gives no events, and the reader may have been read beyond it. The first one in the order
+/// of the lines is answered: [`TraceFault::Line`] with the number of the line, counted from 1, that
+/// can't be read, [`TraceFault::TooManyLines`] where line 16,777,217 begins, and
+/// [`TraceFault::Read`] where the reader answered an error, behind every line that ended or was too
+/// long before it. [`TraceFault::OutOfMemory`] may come in place of any answer, and
+/// [`TraceFault::Write`] never comes.
+///
+/// One buffer of 4,096 bytes is taken before the first read. The events that are kept take more.
 pub fn read_requests<R: Source>(alloc: Global, reader: &mut R) -> Result<Vec<Event>, TraceFault>
     ensures read { IfOk result (λ events. (texts : List (List ℕ)) × ReadWhole R.gave (λ text. fault_of (line_of text)) 64 reader.old reader.new texts × (events.items ≡ requests_of texts)) }
     ensures requests { IfOk result (λ events. AllByRecursion IsRequest events.items) }

@@ -1,16 +1,16 @@
 //! A trace is served: each line is applied, and its answer written, before the next.
-ghost use Rattle.std.specs.Prelude.{◌≡◌, ℕ, ◌+◌, ◌-◌, ◌<◌, ◌≤◌, ◌++◌, length, take, drop, OnOk, OnErr, IfOk, IfErr, IfSome, IfNone, Some, slice_index, ◌≢◌};
+ghost use Rattle.std.specs.Prelude.{◌≡◌, ℕ, [], ◌+◌, ◌-◌, ◌<◌, ◌≤◌, ◌++◌, length, take, drop, OnOk, OnErr, IfOk, IfErr, IfSome, IfNone, Some, slice_index, ◌≢◌};
 ghost use Rattle.std.specs.Option.{option_to_list};
 ghost use Rattle.arrayvec.specs.ArrayVec.{array_vec_len};
 ghost use Rattle.flat_model.specs.Flat.{flat_run};
 ghost use Rattle.trace_text.specs.Lines.{line_of};
 ghost use Rattle.trace_text.specs.Texts.{flat, reply_text, after_line};
 ghost use Rattle.trace_text.specs.Serving.{HasNoEnd, IsWithin, Moves, Stopped, counted_reply, event_in, answer_to};
-ghost use Rattle.trace_text.specs.Faults.{StopsLine, LineServed, Fails, Ended, Ends, AfterFlush, IsInside, Filled};
+ghost use Rattle.trace_text.specs.Faults.{StopsLine, LineServed, Fails, Ended, Ends, AfterFlush, IsInside, Filled, Unfilled};
 
 use crate::lines::{Line, LineFault, line_said};
 use crate::machine::Core;
-use crate::pieces::{Failed, MAX_LINES, end_of_line, fill, keep_end};
+use crate::pieces::{Failed, MAX_LINES, begun_fault, end_of_line, fill, keep_end};
 use crate::streams::{Sink, Source};
 use crate::text::{push_answer, push_bank, push_register, push_settled};
 use arrayvec::ArrayVec;
@@ -199,6 +199,29 @@ fn flushed<W: Sink>(writer: &mut W, fault: TraceFault) -> TraceFault
     }
 }
 
+// Flushes the writer, so that what is due is out before the reader is waited for, and reads once,
+// behind the bytes that stand at the buffer's front.
+fn flush_and_fill<R: Source, W: Sink>(
+    reader: &mut R,
+    writer: &mut W,
+    buffer: &mut [u8],
+    filled: usize,
+) -> Result<usize, TraceFault>
+    requires { filled < length buffer.old }
+    ensures ok { IfOk result (Filled R.gave reader.old reader.new buffer.old buffer.new filled) }
+    ensures flushed { OnOk result (W.took writer.old [] writer.new) }
+    ensures err { IfErr result (Unfilled R.failed W.took W.refused reader.old reader.new writer.old writer.new) }
+{
+    match writer.flush_all() {
+        Ok(()) => {}
+        Err(_) => return Err(TraceFault::Write),
+    }
+    match fill(reader, buffer, filled) {
+        Ok(given) => Ok(given),
+        Err(_) => Err(TraceFault::Read),
+    }
+}
+
 fn serve_pieces<R: Source, W: Sink, C: Core>(
     reader: &mut R,
     writer: &mut W,
@@ -213,14 +236,7 @@ fn serve_pieces<R: Source, W: Sink, C: Core>(
     let mut counts = Counts::default();
     let mut filled = 0usize;
     'pieces: loop {
-        match writer.flush_all() {
-            Ok(()) => {}
-            Err(_) => return Err(TraceFault::Write),
-        }
-        let given = match fill(reader, buffer, filled) {
-            Ok(given) => given,
-            Err(_) => return Err(TraceFault::Read),
-        };
+        let given = flush_and_fill(reader, writer, buffer, filled)?;
         if given == 0 {
             if filled == 0 {
                 return Ok(counts);
@@ -234,13 +250,8 @@ fn serve_pieces<R: Source, W: Sink, C: Core>(
             Ok(left) => left,
             Err(fault) => return Err(flushed(writer, fault)),
         };
-        if left > 0 && counts.lines == MAX_LINES {
-            return Err(flushed(writer, TraceFault::TooManyLines));
-        }
-        if left > 64 {
-            let number = counts.lines + 1;
-            let fault = LineFault::TooLong;
-            return Err(flushed(writer, TraceFault::Line { number, fault }));
+        if let Some(fault) = begun_fault(counts.lines, left, 64) {
+            return Err(flushed(writer, fault));
         }
         keep_end(buffer, end - left, end);
         filled = left;
@@ -268,13 +279,18 @@ pub fn serve<R: Source, W: Sink, C: Core>(
 /// of the input the counts of the lines and of their answers are returned.
 ///
 /// `Line` names the first line with a fault; the lines before it were applied and written. `Read`
-/// and `TooManyLines` leave the lines before them applied and written too. `Write` says that a
-/// write or a flush was refused, or that a write took no byte: the line whose text it was has been
-/// applied, and a front of its text may be written. `OutOfMemory` comes before anything is read,
-/// applied or written. An error isn't tried again.
+/// leaves the lines that ended before the error applied and written, and `TooManyLines`, where line
+/// 16,777,217 begins, all lines before that one. `Write` says that a write or a flush was refused,
+/// or that a write took no byte: the lines before were applied and written, and where it was a
+/// line's text that was refused, that line has been applied and a front of its text may be written.
+/// `OutOfMemory` comes before anything is read, applied or written. An error isn't tried again.
 ///
-/// One buffer of 4,096 bytes is all the memory that is taken. The writer is flushed before each
-/// read and at the end, also before a fault is answered.
+/// Nothing is read behind a fault, but the reader may have been read beyond the faulty line, by the
+/// rest of the piece that it came in. A line is too long once 65 bytes of it came without an LF.
+///
+/// One buffer of 4,096 bytes is all the memory that is taken, before the first read. The writer is
+/// flushed before each read and at the end, so all that was written is out before a fault is
+/// answered; a flush that is refused is answered as `Write` in its place.
 pub fn serve_text<
     R: Source,
     W: Sink,

@@ -7,7 +7,7 @@ ghost use Rattle.std.specs.Io.KnownBytes.{Keeps, Appends, Consumes, IsAtEnd};
 use std::io;
 use std::io::{Read, Write};
 
-/// A reader whose answers a clause can follow: each reader is one.
+/// A reader whose answers a clause can follow: each reader of std is one.
 pub trait Source {
     // From one state of the reader, a read gave these bytes (none: the end) and left the other state.
     ghost gave: { Self → List ℕ → Self → Type 0 };
@@ -15,7 +15,8 @@ pub trait Source {
     // A read answered an error.
     ghost failed: { Self → Self → Type 0 };
 
-    /// One read.
+    /// One read, into the front of a buffer that has room: how many bytes came, and none at the
+    /// end. On an error no byte came.
     fn read_some(&mut self, buf: &mut [u8]) -> io::Result<usize>
         requires { 0 < length buf.old }
         ensures bound { ReadsAtMost result buf.new }
@@ -33,7 +34,7 @@ impl<R: Read> Source for R {
     }
 }
 
-/// A writer whose answers a clause can follow: each writer is one.
+/// A writer whose answers a clause can follow: each writer of std is one.
 pub trait Sink {
     // A write took these bytes, at least one; or a flush went through, with no bytes.
     ghost took: { Self → List ℕ → Self → Type 0 };
@@ -41,7 +42,8 @@ pub trait Sink {
     // A write or a flush answered an error, or a write took no byte.
     ghost refused: { Self → Self → Type 0 };
 
-    /// One write.
+    /// One write, of some bytes: how many of the first of them it took. It refused where it took
+    /// none, or answered an error.
     fn write_some(&mut self, buf: &[u8]) -> io::Result<usize>
         requires { 0 < length buf.now }
         ensures bound { WritesAtMost result buf.now }
@@ -49,7 +51,7 @@ pub trait Sink {
         ensures none { result ≡ Ok 0 → refused self.old self.new }
         ensures err { OnErr result (refused self.old self.new) };
 
-    /// One flush.
+    /// One flush: all that it took is out, where it answers no error.
     fn flush_all(&mut self) -> io::Result<()>
         ensures ok { OnOk result (took self.old [] self.new) }
         ensures err { OnErr result (refused self.old self.new) };

@@ -202,7 +202,8 @@ pub fn push_settled(out: &mut ArrayVec<u8, 768>, is_settled: bool)
     let _ = out.try_extend_from_slice(text.as_bytes());
 }
 
-/// The text of an answer.
+/// The text of an answer: `accepted`, `moved`, `nothing`, `refused` and the cause's number, or
+/// `value`, the tag and the word's eight digits.
 pub fn answer_text(answer: Answer) -> LineText
     ensures { result ≡ text_of_answer answer }
 {
@@ -213,6 +214,11 @@ pub fn answer_text(answer: Answer) -> LineText
 
 /// The text of a register: its marks, block, frame and count of processed words, and a part in
 /// brackets for each word of its block; `none` where there is no such register.
+///
+/// The marks are `V` where the register is valid and `O` where it is obsolete, and `-` else. A
+/// word's part has how many loads wait for the word, or `-` for none, `I` where it stands in the
+/// input stack and `P` where it was processed, or `-`, then its code, and the tag, the held lanes
+/// and the held word of the first load that waits. What doesn't apply shows zeros.
 pub fn register_text<const WAYS: usize, const WORDS: usize, const REGS: usize, const DEPTH: usize>(
     machine: &Machine<WAYS, WORDS, REGS, DEPTH>,
     slot: u32,

@@ -12,7 +12,7 @@ returns-in-Fault-clause-err g c =
 
 pub returns-in-Refusal-clause-err : goal.returns-in-Refusal-clause-err
 returns-in-Refusal-clause-err g c =
-    fails_refusal c.in-Some.at c.lines.invariant c.in-Some.ensures.some (omega arith) (grind (arith, common_steps)) (rw c.in-Refusal.is at c.in-Err.ensures.err)
+    fails_refusal c.in-Some.at c.lines.invariant c.in-Some.ensures.some (omega arith) (grind (arith, common_steps)) (rw c.in-Refusal.is at c.in-Err.ensures.err) (omega (arith, c.lines.invariant.within.lines))
 
 pub lines-preserved : goal.lines-preserved
 lines-preserved g c =
