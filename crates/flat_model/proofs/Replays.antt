@@ -1,10 +1,13 @@
 -- A replay that has come to a place, beside the whole run.
 use Rattle.std.proofs.Common.{◌≡◌, ◌≢◌, ℕ, zero, suc, ◌+◌, ◌<◌, ◌≤◌, Bool, true, false, cond, List, [], ◌∷◌, length, get_or, drop, Option, Some, None, refl, sym, ap, ap₂, ◌∙◌, arith}
+use Rattle.std.specs.List.{count_by}
 use Rattle.std.specs.Option.{option_map}
 use Rattle.std.proofs.lemmas.List.{drop_more, drop_all}
+use Rattle.std.proofs.lemmas.List.Sums.{sum_by-drop_more}
 use Rattle.flat_model.specs.declared.Event.{Event}
 use Rattle.flat_model.specs.declared.Answer.{Answer}
 use Rattle.flat_model.specs.Flat.{Flat, may_answer, flat_after, flat_run, first_fault}
+use Rattle.flat_model.specs.Memory.{is_load, more_owed}
 
 -- from `t` on, the pairs at this place and after it go on as the whole run from `s`
 pub record Follows (s t : Flat) (events : List Event) (answers : List Answer) (place : ℕ) : Type 0 where
@@ -84,3 +87,7 @@ uneven_run s [] [] h = absurd (h refl)
 uneven_run s [] (a ∷ answers) h = refl
 uneven_run s (e ∷ events) [] h = refl
 uneven_run s (e ∷ events) (a ∷ answers) h = run_from s e a events answers (uneven_run (flat_after s e a) events answers (λ q. h (ap suc q))) (may_answer s e a) refl
+
+-- the loads from a place on, and those behind it
+pub loads-from : (events : List Event) (place : ℕ) (e : Event) → place < length events → count_by is_load (drop place events) ≡ more_owed (get_or events place e) + count_by is_load (drop (place + 1) events)
+loads-from events place e h = sum_by-drop_more more_owed events place e h

@@ -1,5 +1,5 @@
 -- What a `FlatMemory` shows, and what the faults of a replay say.
-use Rattle.std.specs.Prelude.{ℕ, ⊤, ◌≡◌, ◌≢◌, List, length, Option, Some, None, nat_eq}
+use Rattle.std.specs.Prelude.{ℕ, ⊤, ◌≡◌, ◌≢◌, Bool, true, false, if◌then◌else◌, List, length, Option, Some, None, nat_eq}
 use Rattle.std.specs.HashMap.{get}
 use Rattle.flat_model.specs.declared.Event.{Event}
 use Rattle.flat_model.specs.declared.Event.TheVariants.{Load, Store, Prefetch, Take}
@@ -20,6 +20,15 @@ MovesOnly (Store at word lanes) = ⊥
 MovesOnly (Prefetch at) = ⊥
 MovesOnly (Take place) = ⊥
 MovesOnly event = ⊤
+
+-- whether an event is a load
+abbrev pub is_load : Event → Bool
+is_load (Load tag at) = true
+is_load event = false
+
+-- how many tags more may be owed a word after an event
+abbrev pub more_owed : Event → ℕ
+more_owed event = if is_load event then 1 else 0
 
 -- what each fault says of the run that was replayed
 abbrev pub FaultIs : Flat → List Event → List Answer → ReplayFault → Type 0

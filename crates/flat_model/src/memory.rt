@@ -1,10 +1,11 @@
 //! Flat memory as a value, and the replay of a run of events and answers over it.
 
 ghost use Rattle.std.specs.Prelude.{◌≡◌, ◌≢◌, Err, ◌+◌, true, length, None, Some, nat_lt, slice_get, IfOk, IfErr, OnOk, OnErr, ◌<◌, ◌≤◌};
+ghost use Rattle.std.specs.List.{count_by};
 ghost use Rattle.std.specs.HashMap.{spare};
 ghost use Rattle.flat_model.specs.Flat.{Flat, opening, word_at, stored, with_due, may_answer, flat_after, flat_run, is_between, load_refusals, store_refusals, prefetch_refusals, is_owed};
 ghost use Rattle.flat_model.specs.declared.memory.ReplayFault.TheVariants.{Lengths};
-ghost use Rattle.flat_model.specs.Memory.{shown, FaultIs, MovesOnly};
+ghost use Rattle.flat_model.specs.Memory.{shown, FaultIs, MovesOnly, is_load, more_owed};
 
 use crate::{Answer, Cause, Event, Lanes, Word, merge};
 use std::alloc::{AllocError, Global};
@@ -92,7 +93,7 @@ impl FlatMemory {
         if events.len() != answers.len() {
             return Err(ReplayFault::Lengths);
         }
-        let mut next = self.copy_with_room(alloc, events.len())?;
+        let mut next = self.copy_with_room(alloc, loads_in(events))?;
         next.follow(events, answers)?;
         *self = next;
         Ok(())
@@ -101,7 +102,7 @@ impl FlatMemory {
     // Makes the steps of a run, up to the first pair that is none.
     fn follow(&mut self, events: &[Event], answers: &[Answer]) -> Result<(), ReplayFault>
         requires lengths { length events.now ≡ length answers.now }
-        requires room { length events.now ≤ spare self.old.due }
+        requires room { count_by is_load events.now ≤ spare self.old.due }
         ensures ok { OnOk result
             (flat_run (shown self.old) events.now answers.now ≡ Some (shown self.new)) }
         ensures fault { IfErr result (FaultIs (shown self.old) events.now answers.now) }
@@ -199,9 +200,9 @@ impl FlatMemory {
     // The change that a pair of flat memory makes.
     fn step(&mut self, event: Event, answer: Answer)
         requires may { may_answer (shown self.old) event answer ≡ true }
-        requires room { 0 < spare self.old.due }
+        requires room { more_owed event ≤ spare self.old.due }
         ensures shown { shown self.new ≡ flat_after (shown self.old) event answer }
-        ensures room { spare self.old.due ≤ spare self.new.due + 1 }
+        ensures room { spare self.old.due ≤ spare self.new.due + more_owed event }
     {
         match (event, answer) {
             (Event::Load { tag, at }, Answer::Accepted) => self.owe(tag, at),
@@ -242,6 +243,19 @@ impl FlatMemory {
     {
         self.due.remove(&tag);
     }
+}
+
+// How many events are loads: no other event makes a tag that is owed a word.
+fn loads_in(events: &[Event]) -> usize
+    ensures { result ≡ count_by is_load events.now }
+{
+    events.iter().filter(|event| is_load(event)).count()
+}
+
+fn is_load(event: &Event) -> bool
+    ensures { result ≡ is_load event.now }
+{
+    matches!(event, Event::Load { .. })
 }
 
 // Whether this answer to an event that points at no word and takes nothing is one of flat memory.
