@@ -102,7 +102,7 @@ Adds-right zs x xs ys a =
       with = ap (λ l. l ++ zs) a.with ∙ append_assoc a.front (x ∷ a.back) zs;
     }
 
-pub map-append' : {X Y : Type 0} (f : X → Y) (xs ys : List X) → map f (xs ++ ys) ≡ map f xs ++ map f ys
+map-append' : {X Y : Type 0} (f : X → Y) (xs ys : List X) → map f (xs ++ ys) ≡ map f xs ++ map f ys
 map-append' f [] ys = refl
 map-append' f (x ∷ xs) ys = ap (λ l. f x ∷ l) (map-append' f xs ys)
 

@@ -74,7 +74,7 @@ tally_swapped p r a b c =
 
 -- ---- targets
 
-pub gathered_map : {X Y Z : Type 0} (h : ℕ → X → List Y) (f g : Y → Z) (d : X) (n : ℕ) (xs : List X) → ((k : ℕ) → k < length xs → map f (h (n + k) (get_or xs k d)) ≡ map g (h (n + k) (get_or xs k d))) → map f (gathered h n xs) ≡ map g (gathered h n xs)
+gathered_map : {X Y Z : Type 0} (h : ℕ → X → List Y) (f g : Y → Z) (d : X) (n : ℕ) (xs : List X) → ((k : ℕ) → k < length xs → map f (h (n + k) (get_or xs k d)) ≡ map g (h (n + k) (get_or xs k d))) → map f (gathered h n xs) ≡ map g (gathered h n xs)
 gathered_map h f g d n [] same = refl
 gathered_map h f g d n (x ∷ xs) same =
     let first : map f (h n x) ≡ map g (h n x) = subst (λ k. map f (h k x) ≡ map g (h k x)) (add-zero n) (same 0 (omega arith)) in

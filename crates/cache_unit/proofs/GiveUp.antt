@@ -1,5 +1,5 @@
 -- A block loses its frame.
-use Rattle.std.proofs.Common.{◌≡◌, ℕ, ◌+◌, ◌-◌, ◌*◌, ◌/◌, ◌<◌, ◌≤◌, nat_lt, Bool, true, false, ◌&&◌, not, List, [], ◌∷◌, ◌++◌, map, length, set, get_or, Option, Some, None, is_some, refl, ap, sym, ◌∙◌, arith, length-set, length-append, inl, inr, add-zero}
+use Rattle.std.proofs.Common.{◌≡◌, ℕ, ◌+◌, ◌-◌, ◌*◌, ◌/◌, ◌<◌, ◌≤◌, nat_lt, Bool, true, false, cond, ◌&&◌, not, List, [], ◌∷◌, ◌++◌, map, length, set, get_or, Option, Some, None, is_some, refl, ap, sym, ◌∙◌, arith, length-set, length-append, inl, inr, add-zero}
 use Rattle.std.specs.List.{sum_by}
 use Rattle.std.proofs.lemmas.List.{map-set, get_or-set_same, get_or-set_other, length-map}
 use Rattle.std.proofs.lemmas.List.Elements.{All-append}
@@ -18,6 +18,7 @@ use Rattle.cache_unit.specs.State.{Sizes, Frame, Field, Register, Cache, empty_f
 use Rattle.cache_unit.specs.Causes.{dirty_from, dirty_words, dirty_of_block, lacks_places}
 use Rattle.cache_unit.specs.Steps.{without_code, made_obsolete, obsoleted, without, released, evicted}
 use Rattle.cache_unit.specs.Parts.{retired}
+use Rattle.cache_unit.specs.GivenUp.{owed_by, owed_words, given_up}
 use Rattle.cache_unit.specs.Shown.{as_frame, as_field, as_register, as_cache}
 use Rattle.cache_unit.specs.Sound.{Tied, OwesSound, loads_of, loads_of_field, IsSound}
 use Rattle.cache_unit.proofs.Lists.{get_or-map}
@@ -244,15 +245,21 @@ module _ (z : Sizes) (d : dir.Frames) (rs : List regs.Register) (st : List Entry
   few_enough : (a b : ℕ) → nat_lt a b ≡ false → b ≤ a
   few_enough a b e = grind (arith, nat_tests)
 
-  pub can_give_up : lacks_places z (as_cache d rs st q.entries ready) (Some f) ≡ false → (dir.is_held d f ≡ true) × (block * z.block_words + z.block_words < 4294967296) × (length q.entries + length (dirty_from block (block * z.block_words) (dir.frame_at d.frames f).cells) ≤ q.limit)
+  -- what the frame owes are the block's dirty words, and without it the frame is released
+  pub owes_block : owed_words z.block_words d f ≡ dirty_from block (block * z.block_words) (dir.frame_at d.frames f).cells
+  owes_block = ap (λ o. owed_by z.block_words o (dir.frame_at d.frames f).cells) f_holds
+
+  pub is_released : given_up z.ways d f ≡ dir.released z.ways d f
+  is_released = ap (λ o. cond (is_some o) (dir.released z.ways d f) d) f_holds
+
+  pub can_give_up : lacks_places z (as_cache d rs st q.entries ready) (Some f) ≡ false → (f < length d.frames) × ((b : ℕ) → (dir.frame_at d.frames f).block ≡ Some b → b * z.block_words + z.block_words < 4294967296) × (length q.entries + length (dirty_from block (block * z.block_words) (dir.frame_at d.frames f).cells) ≤ q.limit)
   can_give_up e =
-      let m = h.in_memory f block f_holds in
       let l = few_enough (z.write_queue - length q.entries) (length (dirty_words z (as_cache d rs st q.entries ready) (Some f))) e in
       let w = ap (λ (x : List Queued). length x) words-shown in
       let a = h.queue_sound.limit in
       let b = h.queue_sound.within in
       let s = h.ranges.little_memory in
-      (ap is_some f_holds, omega arith, omega arith)
+      ((frame_of-some d.frames block f holds).0, λ b e. (let m = h.in_memory f b e in omega arith), omega arith)
 
   more : (a b : ℕ) → a < b → nat_lt a b ≡ true
   more a b l = grind (arith, nat_tests)

@@ -18,7 +18,7 @@ mod request;
 mod views;
 
 use crate::Reply;
-use crate::victim::{dirty_words, queue_dirty_words};
+use crate::victim::{dirty_words, vacate};
 use arrayvec::ArrayVec;
 use cache_directory::Directory;
 use flat_model::{Answer, Cause, Lanes, Shape, Word, merge};
@@ -125,8 +125,7 @@ impl<const WAYS: usize, const WORDS: usize, const REGS: usize, const DEPTH: usiz
         requires room { lacks_places self.old.sizes self.old.cache (Some frame) ≡ false }
         ensures { self.new ≡ record self.old { cache = steps.evicted self.old.sizes self.old.cache block frame } }
     {
-        queue_dirty_words(&self.directory, &mut self.queue, frame, block);
-        self.directory.release(frame);
+        vacate(&mut self.directory, &mut self.queue, frame);
         retire(&mut self.registers, block);
     }
 

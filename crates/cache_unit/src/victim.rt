@@ -28,8 +28,8 @@ pub fn dirty_words<const WAYS: usize, const WORDS: usize>(
     count
 }
 
-/// Queues the frame's words with dirty lanes, in word order, each with these lanes.
-pub fn queue_dirty_words<const WAYS: usize, const WORDS: usize>(
+// Queues the frame's words with dirty lanes, in word order, each with these lanes.
+fn queue_dirty_words<const WAYS: usize, const WORDS: usize>(
     directory: &Directory<WAYS, WORDS>,
     queue: &mut WriteQueue,
     frame: u32,

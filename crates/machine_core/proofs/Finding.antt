@@ -1,4 +1,4 @@
--- Which frame holds a block, and which register is live for it.
+-- The word at an address of a block that a frame holds.
 use Rattle.std.proofs.Common.{◌≡◌, ℕ, Some, None, ap, ◌∙◌}
 use Rattle.cache_unit.specs.State.{Sizes, frame_of, live_for, cell_in, block_of, place_in}
 use Rattle.machine_core.specs.Machine.{Machine}

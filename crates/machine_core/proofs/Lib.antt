@@ -26,6 +26,7 @@ pub mod Counting
 pub mod Resting
 pub mod Weighing
 pub mod Keeping
+pub mod Contract
 pub mod Stepping
 pub mod Totals
 pub mod Whole

@@ -28,12 +28,10 @@ use Rattle.machine_core.specs.Law.{IsLawful, HasRoom, IsKept, IsDriven, IsServed
 use Rattle.machine_core.specs.Sound.{IsSound, IsBounded}
 use Rattle.machine_core.specs.Whole.{machine_of, IsWhole, Serves, bad_field}
 use Rattle.machine_core.proofs.Counting.{on_their_way}
-use Rattle.machine_core.proofs.Opening.{opening_sound, opening_is, settled_ok}
-use Rattle.machine_core.proofs.Walking.{event_ok, walk_runs}
-use Rattle.machine_core.proofs.Routing.{event_bounded}
-use Rattle.machine_core.proofs.Weighing as weighing
-use Rattle.machine_core.proofs.Resting.{opening_bounded, bound_at_rest, served_after_pumps, held_walked}
+use Rattle.machine_core.proofs.Contract.{sound_opening, flat_opening, bounded_opening, sound_apply, bounded_apply, flat_apply, flat_walked, pumped_lowers, pumped_rests, pumped_at_rest, bound_at_rest, served_after_pumps}
+use Rattle.machine_core.proofs.Opening.{settled_ok}
 use Rattle.machine_core.proofs.Keeping.{kept_whole}
+use Rattle.machine_core.proofs.Resting.{held_walked}
 
 -- ---- the limits
 
@@ -87,8 +85,8 @@ module _ {ways words regs depth : ℕ} {shape : Shape} {unit : UnitState} {memor
 
   pub whole_applied : (event : Event) (u : UnitState) (n : Memory) → u ≡ record unit { cache = (apply unit.sizes (machine_of unit memory) event).machine.cache } → n ≡ with_banks memory (apply unit.sizes (machine_of unit memory) event).machine.banks → IsWhole ways words regs depth shape u n
   whole_applied event u n e f =
-      let sound = (event_ok unit.sizes (lawful unit.sizes whole.in_range) (machine_of unit memory) whole.sound event).sound in
-      let bounded = event_bounded unit.sizes (lawful unit.sizes whole.in_range) (machine_of unit memory) whole.sound whole.bounded event in
+      let sound = sound_apply unit.sizes (lawful unit.sizes whole.in_range) (machine_of unit memory) whole.sound event in
+      let bounded = bounded_apply unit.sizes (lawful unit.sizes whole.in_range) (machine_of unit memory) whole.sound whole.bounded event in
       moved (apply unit.sizes (machine_of unit memory) event).machine sound bounded u n e f
 
   pub whole_walked : (events : List Event) (u : UnitState) (n : Memory) → u ≡ record unit { cache = (walked unit.sizes (machine_of unit memory) events).cache } → n ≡ with_banks memory (walked unit.sizes (machine_of unit memory) events).banks → IsWhole ways words regs depth shape u n
@@ -116,8 +114,8 @@ module _ (ways words regs depth : ℕ) (shape : Shape) (image : List Word) where
         memory_words = refl;
         limit = refl;
         in_range = range;
-        sound = opening_sound new_sizes (lawful new_sizes range) image fits;
-        bounded = opening_bounded new_sizes (lawful new_sizes range) image fits;
+        sound = sound_opening new_sizes (lawful new_sizes range) image fits;
+        bounded = bounded_opening new_sizes (lawful new_sizes range) image fits;
       }
 
   pub whole_opening : (unit : UnitState) (memory : Memory) → limits.bad_field new_sizes ≡ None → length image ≡ shape.words → unit ≡ new_unit → memory ≡ new_memory → IsWhole ways words regs depth shape unit memory
@@ -129,7 +127,7 @@ module _ (ways words regs depth : ℕ) (shape : Shape) (image : List Word) where
   -- it stands for the image, and owes nothing
   pub flat_new : (unit : UnitState) (memory : Memory) → limits.bad_field new_sizes ≡ None → length image ≡ shape.words → unit ≡ new_unit → memory ≡ new_memory → flat_of unit.sizes (machine_of unit memory) ≡ record { mem = image; due = λ tag. None }
   flat_new unit memory none fits e f =
-      ap₂ (λ (u : UnitState) (n : Memory). flat_of u.sizes (machine_of u n)) e f ∙ opening_is new_sizes (lawful new_sizes (in_range new_sizes none)) image fits
+      ap₂ (λ (u : UnitState) (n : Memory). flat_of u.sizes (machine_of u n)) e f ∙ flat_opening new_sizes (lawful new_sizes (in_range new_sizes none)) image fits
 
 is_there : (n low high : ℕ) → low ≤ n → n ≤ high → mem.is_between n low high ≡ true
 is_there n low high l h = ap₂ (λ a b. a && b) (le-leb low n l) (le-leb n high h)
@@ -174,9 +172,9 @@ module _ {ways words regs depth : ℕ} {shape : Shape} {unit : UnitState} {memor
       let law = lawful unit.sizes whole.in_range in
       let room = roomy unit.sizes whole.in_range in
       record {
-        lowers = weighing.pump_lowers unit.sizes law room now whole.sound;
-        rests = weighing.pump_rests unit.sizes law room now whole.sound;
-        at_rest = weighing.pump_at_rest unit.sizes law room now whole.sound;
+        lowers = pumped_lowers unit.sizes law room now whole.sound;
+        rests = pumped_rests unit.sizes law room now whole.sound;
+        at_rest = pumped_at_rest unit.sizes law room now whole.sound;
       }
 
   pub is_served : IsServed unit.sizes now
@@ -205,12 +203,12 @@ module _ {ways words regs depth : ℕ} {shape : Shape} {unit : UnitState} {memor
   -- one event is a step of flat memory
   pub flat_now : (event : Event) (answer : Answer) (u : UnitState) (n : Memory) → answer ≡ (apply unit.sizes now event).answer → u ≡ record unit { cache = (apply unit.sizes now event).machine.cache } → n ≡ with_banks memory (apply unit.sizes now event).machine.banks → flat_step (flat_of unit.sizes now) event answer ≡ Some (flat_of u.sizes (machine_of u n))
   flat_now event answer u n a e f =
-      ap (flat_step (flat_of unit.sizes now) event) a ∙ (event_ok unit.sizes (lawful unit.sizes whole.in_range) now whole.sound event).run ∙ sym (ap₂ (λ (v : UnitState) (k : Memory). Some (flat_of v.sizes (machine_of v k))) e f)
+      ap (flat_step (flat_of unit.sizes now) event) a ∙ flat_apply unit.sizes (lawful unit.sizes whole.in_range) now whole.sound event ∙ sym (ap₂ (λ (v : UnitState) (k : Memory). Some (flat_of v.sizes (machine_of v k))) e f)
 
   -- and a walk is a run
   pub flat_then : (events : List Event) (answers : List Answer) (u : UnitState) (n : Memory) → answers ≡ told unit.sizes now events → u ≡ record unit { cache = (walked unit.sizes now events).cache } → n ≡ with_banks memory (walked unit.sizes now events).banks → flat_run (flat_of unit.sizes now) events answers ≡ Some (flat_of u.sizes (machine_of u n))
   flat_then events answers u n a e f =
-      ap (flat_run (flat_of unit.sizes now) events) a ∙ walk_runs unit.sizes (lawful unit.sizes whole.in_range) now whole.sound events ∙ sym (ap₂ (λ (v : UnitState) (k : Memory). Some (flat_of v.sizes (machine_of v k))) e f)
+      ap (flat_run (flat_of unit.sizes now) events) a ∙ flat_walked unit.sizes (lawful unit.sizes whole.in_range) now whole.sound events ∙ sym (ap₂ (λ (v : UnitState) (k : Memory). Some (flat_of v.sizes (machine_of v k))) e f)
 
   -- wherever a walk stands, no bank has more answers
   pub takes_answers_walked : (events : List Event) (b : ℕ) → length (bank_at (walked unit.sizes now events).banks b).answers ≤ 256
