@@ -10,7 +10,7 @@ use crate::sweep::{OpenGate, SweepFault, sweep, sweep_row};
 use crate::tool::tool;
 use cache_directory::Directory;
 use cache_unit::CacheUnit;
-use flat_model::{Answer, Event, FlatMemory, MakeFault, ReplayFault, Word};
+use flat_model::{Answer, Event, FlatMemory, MakeFault, ReplayFault, ShapeField, Word};
 use machine_core::Machine;
 use memory_banks::Banks;
 use miss_registers::RegisterFile;
@@ -64,26 +64,34 @@ impl Write for Taken {
     }
 }
 
-/// Asserts that a maker makes, or finds no memory and makes at its second call.
-fn makes<R: Abort, T: Drop, M: Fn() -> Result<T, MakeFault>>(rt: &R, make: M) {
-    if let Err(fault) = make() {
+/// Asserts of two calls of a maker that one made something, and that the other did too or found no
+/// memory.
+fn makes<R: Abort, T: Drop>(rt: &R, first: Result<T, MakeFault>, second: Result<T, MakeFault>) {
+    assert!(rt; first.is_ok() || second.is_ok());
+    if let Err(fault) = first {
         assert_eq!(rt; fault, MakeFault::OutOfMemory);
-        assert!(rt; make().is_ok());
+    }
+    if let Err(fault) = second {
+        assert_eq!(rt; fault, MakeFault::OutOfMemory);
     }
 }
 
 #[test]
 fn makers_may_find_no_memory(rt: HostRuntime) -> Result<(), Fail> {
     let alloc = rt.alloc();
+    let shape = small_shape();
     let image = small_image();
-    makes(&rt, || Directory::<1, 4>::new(alloc, 2));
-    makes(&rt, || RegisterFile::<4, 2>::new(alloc));
-    makes(&rt, || WriteQueue::new(alloc, 4));
-    makes(&rt, || Banks::new(alloc, &image, &small_shape()));
-    makes(&rt, || CacheUnit::<1, 4, 2, 2>::new(alloc, &small_shape()));
-    makes(&rt, || {
-        Machine::<1, 4, 2, 2>::new(alloc, small_shape(), &image)
-    });
+    let first = Directory::<1, 4>::new(alloc, 2);
+    makes(&rt, first, Directory::new(alloc, 2));
+    let first = RegisterFile::<4, 2>::new(alloc);
+    makes(&rt, first, RegisterFile::new(alloc));
+    makes(&rt, WriteQueue::new(alloc, 4), WriteQueue::new(alloc, 4));
+    let first = Banks::new(alloc, &image, &shape);
+    makes(&rt, first, Banks::new(alloc, &image, &shape));
+    let first = CacheUnit::<1, 4, 2, 2>::new(alloc, &shape);
+    makes(&rt, first, CacheUnit::new(alloc, &shape));
+    let first = Machine::<1, 4, 2, 2>::new(alloc, shape, &image);
+    makes(&rt, first, Machine::new(alloc, shape, &image));
     if FlatMemory::new(alloc, &image).is_err() {
         assert!(rt; FlatMemory::new(alloc, &image).is_ok());
     }
@@ -109,13 +117,27 @@ fn replay_may_find_no_memory(rt: HostRuntime) -> Result<(), Fail> {
 }
 
 #[test]
-fn lengths_are_refused_before_memory(rt: HostRuntime) -> Result<(), Fail> {
+fn some_refusals_come_before_memory(rt: HostRuntime) -> Result<(), Fail> {
     let alloc = rt.alloc();
-    let Ok(mut memory) = FlatMemory::new(alloc, &small_image()) else {
-        return Ok(());
+    if let Ok(mut memory) = FlatMemory::new(alloc, &small_image()) {
+        let uneven = memory.replay(alloc, &[Event::Drain], &[]);
+        assert_eq!(rt; uneven, Err(ReplayFault::Lengths));
+    }
+    let mut short_banks = small_shape();
+    short_banks.bank_queue = 1;
+    let refused = Machine::<1, 4, 2, 2>::new(alloc, short_banks, &small_image());
+    let fault = MakeFault::BadShape(ShapeField::BankQueue);
+    assert!(rt; matches!(refused, Err(found) if found == fault));
+
+    let mut three_ways = with_registers(2);
+    three_ways.ways = 3;
+    let shapes = [with_registers(1), three_ways];
+    let refused = sweep(&rt, alloc, &REQUESTS, &shapes, 1_000, &OpenGate);
+    let fault = SweepFault::BadShape {
+        place: 1,
+        field: ShapeField::Ways,
     };
-    let uneven = memory.replay(alloc, &[Event::Drain], &[]);
-    assert_eq!(rt; uneven, Err(ReplayFault::Lengths));
+    assert!(rt; matches!(refused, Err(found) if found == fault));
     Ok(())
 }
 
