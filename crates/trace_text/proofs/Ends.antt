@@ -9,7 +9,7 @@ use Rattle.trace_text.specs.declared.lines.LineFault.TheVariants.{Unknown, Field
 use Rattle.trace_text.specs.declared.serve.Counts.{Counts}
 use Rattle.trace_text.specs.declared.serve.TraceFault.{TraceFault}
 use Rattle.trace_text.specs.declared.serve.TraceFault.TheVariants as fault
-use Rattle.trace_text.specs.Serving.{HasNoEnd, Moves, Served, joined, no_counts}
+use Rattle.trace_text.specs.Serving.{HasNoEnd, Served, joined, no_counts}
 use Rattle.trace_text.specs.Faults.{Fails, Through, Ended, Ends, Going, AfterFlush, IsInside, Filled, LastRead, Unfilled, BegunFault}
 use Rattle.trace_text.proofs.Serving.{moved_none, moved_more, served_none, served_then, served_more, served_still}
 
@@ -116,9 +116,6 @@ last_read {r' = r'} {pending = pending} piece p gives = record {
   whole = refl;
 }
 
-all_read : {R : Type 0} {gave : R → List ℕ → R → Type 0} {r r' : R} {bytes : List ℕ} → LastRead gave r bytes r' → Moves gave r bytes r'
-all_read {gave = gave} {r = r} {r' = r'} p = subst (λ l. Moves gave r l r') (sym p.whole) (moved_more p.read p.gives)
-
 -- a fault that comes before the input's end, with a flush behind all that was written
 ends_told : {R W : Type 0} {gave : R → List ℕ → R → Type 0} (failed : R → R → Type 0) (took : W → List ℕ → W → Type 0) (refused : W → W → Type 0) {r r' : R} (w v w' : W) (m m' : MachineState) {bytes : List ℕ} (n : ℕ) (f : LineFault)
     → IsInside (fault.Line n f) → LastRead gave r bytes r' → Fails took refused w m no_counts bytes v m' (fault.Line n f) → took v [] w'
@@ -128,23 +125,28 @@ ends_told failed took refused w v w' m m' {bytes = bytes} n Field is p q flush =
 ends_told failed took refused w v w' m m' {bytes = bytes} n TooLong is p q flush = (bytes, v, p, q, flush)
 ends_told failed took refused w v w' m m' n NotEnded is p q flush = absurd is
 
--- a fault, and the flush before it is answered
-pub ends_fault : {R W : Type 0} {gave : R → List ℕ → R → Type 0} (failed : R → R → Type 0) (took : W → List ℕ → W → Type 0) (refused : W → W → Type 0) {r r' : R} (w v w' : W) (m m' : MachineState) {bytes : List ℕ} (e e' : TraceFault)
-    → IsInside e → LastRead gave r bytes r' → Fails took refused w m no_counts bytes v m' e → AfterFlush took refused v w' e e'
-    → Ends gave failed took refused r r' w w' m m' (Err e')
-ends_fault {gave = gave} failed took refused {r = r} {r' = r'} w v w' m m' (fault.Line n f) e' is p q (inl flush) =
-    subst (λ x. Ends gave failed took refused r r' w w' m m' (Err x)) (sym flush.0) (ends_told failed took refused w v w' m m' n f is p q flush.1)
-ends_fault {gave = gave} failed took refused {r = r} {r' = r'} w v w' m m' {bytes = bytes} (fault.Line n f) e' is p q (inr flush) =
-    subst (λ x. Ends gave failed took refused r r' w w' m m' (Err x)) (sym flush.0) (bytes, all_read p, (q.0, q.1, v, m', q.2, inr (flush.1, refl)))
-ends_fault {gave = gave} failed took refused {r = r} {r' = r'} w v w' m m' {bytes = bytes} fault.TooManyLines e' is p q (inl flush) =
-    subst (λ x. Ends gave failed took refused r r' w w' m m' (Err x)) (sym flush.0) (bytes, v, p, q, flush.1)
-ends_fault {gave = gave} failed took refused {r = r} {r' = r'} w v w' m m' {bytes = bytes} fault.TooManyLines e' is p q (inr flush) =
-    subst (λ x. Ends gave failed took refused r r' w w' m m' (Err x)) (sym flush.0) (bytes, all_read p, (q.0, q.1, v, m', q.2, inr (flush.1, refl)))
-ends_fault {gave = gave} failed took refused {r = r} {r' = r'} w v w' m m' {bytes = bytes} fault.Write e' is p q flush =
-    subst (λ x. Ends gave failed took refused r r' w w' m m' (Err x)) (sym flush.0)
-    (bytes, all_read p, subst (λ x. Fails took refused w m no_counts bytes x m' fault.Write) (sym flush.1) q)
-ends_fault failed took refused w v w' m m' fault.Read e' is p q flush = absurd is
-ends_fault failed took refused w v w' m m' fault.OutOfMemory e' is p q flush = absurd is
+-- a fault in the piece that came last, and the flush before it is answered
+pub ends_fault : {R W : Type 0} {gave : R → List ℕ → R → Type 0} (failed : R → R → Type 0) {took : W → List ℕ → W → Type 0} (refused : W → W → Type 0) {r r' r'' : R} {w x u : W} (v w' : W) {m s : MachineState} (m' : MachineState) {c : Counts} {pending : List ℕ} (piece : List ℕ) (e e' : TraceFault)
+    → Going gave took r w m pending r' x s c → took x [] u → gave r' piece r''
+    → IsInside e → Fails took refused u s c (pending ++ piece) v m' e → AfterFlush took refused v w' e e'
+    → Ends gave failed took refused r r'' w w' m m' (Err e')
+ends_fault {gave = gave} failed {took = took} refused {r = r} {r' = r'} {r'' = r''} {w = w} {x = x} {u = u} v w' {m = m} {s = s} m' {c = c} {pending = pending} piece (fault.Line n f) e' p out gives is q (inl flush) =
+    let going = going_still p out in
+    subst (λ y. Ends gave failed took refused r r'' w w' m m' (Err y)) (sym flush.0)
+    (ends_told failed took refused w v w' m m' n f is (last_read piece going gives) (fails_then refused v m' piece (fault.Line n f) going.through q) flush.1)
+ends_fault {gave = gave} failed {took = took} refused {r = r} {r' = r'} {r'' = r''} {w = w} {x = x} {u = u} v w' {m = m} {s = s} m' {c = c} {pending = pending} piece (fault.Line n f) e' p out gives is q (inr flush) =
+    subst (λ y. Ends gave failed took refused r r'' w w' m m' (Err y)) (sym flush.0) (pending, r', x, s, c, p, inr (piece, u, out, gives, (q.0, q.1, v, m', q.2, inr (flush.1, refl))))
+ends_fault {gave = gave} failed {took = took} refused {r = r} {r' = r'} {r'' = r''} {w = w} {x = x} {u = u} v w' {m = m} {s = s} m' {c = c} {pending = pending} piece fault.TooManyLines e' p out gives is q (inl flush) =
+    let going = going_still p out in
+    subst (λ y. Ends gave failed took refused r r'' w w' m m' (Err y)) (sym flush.0)
+    (going.bytes ++ piece, v, last_read piece going gives, fails_then refused v m' piece fault.TooManyLines going.through q, flush.1)
+ends_fault {gave = gave} failed {took = took} refused {r = r} {r' = r'} {r'' = r''} {w = w} {x = x} {u = u} v w' {m = m} {s = s} m' {c = c} {pending = pending} piece fault.TooManyLines e' p out gives is q (inr flush) =
+    subst (λ y. Ends gave failed took refused r r'' w w' m m' (Err y)) (sym flush.0) (pending, r', x, s, c, p, inr (piece, u, out, gives, (q.0, q.1, v, m', q.2, inr (flush.1, refl))))
+ends_fault {gave = gave} failed {took = took} refused {r = r} {r' = r'} {r'' = r''} {w = w} {x = x} {u = u} v w' {m = m} {s = s} m' {c = c} {pending = pending} piece fault.Write e' p out gives is q flush =
+    subst (λ y. Ends gave failed took refused r r'' w w' m m' (Err y)) (sym flush.0)
+    (pending, r', x, s, c, p, inr (piece, u, out, gives, subst (λ y. Fails took refused u s c (pending ++ piece) y m' fault.Write) (sym flush.1) q))
+ends_fault failed refused v w' m' piece fault.Read e' p out gives is q flush = absurd is
+ends_fault failed refused v w' m' piece fault.OutOfMemory e' p out gives is q flush = absurd is
 
 -- the fault of a line that began, whatever comes behind it
 pub fails_begun : {W : Type 0} {took : W → List ℕ → W → Type 0} (refused : W → W → Type 0) {w w' : W} {m n : MachineState} {a c : Counts} {bytes rest : List ℕ} (left : ℕ) (e : TraceFault)
@@ -198,8 +200,8 @@ pub ends_unfilled : {R W : Type 0} {gave : R → List ℕ → R → Type 0} (fai
     → Ends gave failed took refused r r'' w w' m n (Err e)
 ends_unfilled failed refused {r' = r'} r'' {v = v} w' {c = c} {pending = pending} fault.Read p h =
     (p.bytes, r', v, c, pending, p.read, h.1, p.through.served, p.short, p.unfinished, p.room, h.0)
-ends_unfilled {gave = gave} failed refused {r = r} r'' {v = v} w' {n = n} {c = c} {pending = pending} fault.Write p h =
-    (p.bytes, subst (λ x. Moves gave r p.bytes x) (sym h.1) p.read, (c, pending, v, n, p.through.served, inr (h.0, refl)))
+ends_unfilled failed refused {r' = r'} r'' {v = v} w' {n = n} {c = c} {pending = pending} fault.Write p h =
+    (pending, r', v, n, c, p, inl (h.0, h.1, refl))
 ends_unfilled failed refused r'' w' (fault.Line number f) p h = absurd h
 ends_unfilled failed refused r'' w' fault.OutOfMemory p h = absurd h
 ends_unfilled failed refused r'' w' fault.TooManyLines p h = absurd h

@@ -77,6 +77,20 @@ pub record LastRead {R : Type 0} (gave : R → List ℕ → R → Type 0) (old :
   pub gives : gave last piece new
   pub whole : bytes ≡ before ++ piece
 
+-- In the middle of a run: what was read, and that all of it was served but the start of a line.
+pub record Going {R W : Type 0} (gave : R → List ℕ → R → Type 0) (took : W → List ℕ → W → Type 0) (r : R) (w : W) (m : MachineState) (pending : List ℕ) (r' : R) (w' : W) (m' : MachineState) (c' : Counts) : Type 0 where
+  pub bytes : List ℕ
+  pub read : Moves gave r bytes r'
+  pub through : Through took w m no_counts bytes pending w' m' c'
+  pub short : length pending ≤ 64
+  pub unfinished : HasNoEnd pending
+  pub room : 0 < length pending → c'.lines < most_lines
+
+-- Writing stopped, and nothing was read behind it: the flush before a read was refused, or a write or a flush after the
+-- read that gave the last piece.
+abbrev pub Unwritten : {R W : Type 0} (gave : R → List ℕ → R → Type 0) (took : W → List ℕ → W → Type 0) (refused : W → W → Type 0) (r r' : R) (w w' : W) (m m' : MachineState) → Type 0
+Unwritten {R} {W} gave took refused r r' w w' m m' = (pending : List ℕ) × (last : R) × (v : W) × (s : MachineState) × (c : Counts) × Going gave took r w m pending last v s c × ((refused v w' × (r' ≡ last) × (m' ≡ s)) ⊎ ((piece : List ℕ) × (u : W) × took v [] u × gave last piece r' × Fails took refused u s c (pending ++ piece) w' m' fault.Write))
+
 -- How a whole run ends: what was read, applied and written, by its answer. Where no write was refused, a flush stands
 -- behind all that was written.
 abbrev pub Ends : {R W : Type 0} (gave : R → List ℕ → R → Type 0) (failed : R → R → Type 0) (took : W → List ℕ → W → Type 0) (refused : W → W → Type 0) (r : R) (r' : R) (w : W) (w' : W) (m : MachineState) (m' : MachineState) → Result Counts TraceFault → Type 0
@@ -89,18 +103,9 @@ Ends {R} {W} gave failed took refused r r' w w' m m' (Err fault.Read) = (bytes :
 -- the input ended within a line
 Ends {R} {W} gave failed took refused r r' w w' m m' (Err (fault.Line n NotEnded)) = (bytes : List ℕ) × (last : R) × (v : W) × Moves gave r bytes last × gave last [] r' × Fails took refused w m no_counts bytes v m' (fault.Line n NotEnded) × took v [] w'
 -- a write or a flush was refused
-Ends gave failed took refused r r' w w' m m' (Err fault.Write) = (bytes : List ℕ) × Moves gave r bytes r' × Fails took refused w m no_counts bytes w' m' fault.Write
+Ends gave failed took refused r r' w w' m m' (Err fault.Write) = Unwritten gave took refused r r' w w' m m'
 -- a line was at fault, or one too many began
 Ends {W = W} gave failed took refused r r' w w' m m' (Err e) = (bytes : List ℕ) × (v : W) × LastRead gave r bytes r' × Fails took refused w m no_counts bytes v m' e × took v [] w'
-
--- In the middle of a run: what was read, and that all of it was served but the start of a line.
-pub record Going {R W : Type 0} (gave : R → List ℕ → R → Type 0) (took : W → List ℕ → W → Type 0) (r : R) (w : W) (m : MachineState) (pending : List ℕ) (r' : R) (w' : W) (m' : MachineState) (c' : Counts) : Type 0 where
-  pub bytes : List ℕ
-  pub read : Moves gave r bytes r'
-  pub through : Through took w m no_counts bytes pending w' m' c'
-  pub short : length pending ≤ 64
-  pub unfinished : HasNoEnd pending
-  pub room : 0 < length pending → c'.lines < most_lines
 
 -- A flush before a fault is answered: the fault stays, or the flush was refused and the fault is a failed write.
 abbrev pub AfterFlush : {W : Type 0} (took : W → List ℕ → W → Type 0) (refused : W → W → Type 0) (w w' : W) → TraceFault → TraceFault → Type 0

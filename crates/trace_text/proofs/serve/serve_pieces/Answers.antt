@@ -1,7 +1,7 @@
-use Rattle.std.proofs.Common.{rules, arith, ◌≡◌, ◌+◌, ◌-◌, ◌<◌, ◌∙◌, length, take, drop, refl, sym, ap, length-take, length-drop}
+use Rattle.std.proofs.Common.{rules, arith, ◌≡◌, ◌+◌, ◌-◌, ◌<◌, ◌∙◌, length, take, drop, sym, ap, length-take, length-drop}
 use Rattle.std.proofs.lemmas.Result.{err_from_is_err_and}
 use Rattle.trace_text.specs.Serving.{no_counts}
-use Rattle.trace_text.proofs.Ends.{going_start, going_still, going_on, through_on, fails_then, last_read, ends_fault, fails_begun, ends_done, ends_cut, ends_unfilled}
+use Rattle.trace_text.proofs.Ends.{going_start, going_still, going_on, ends_fault, fails_begun, ends_done, ends_cut, ends_unfilled}
 use Rattle.trace_text.proofs.serve.serve_pieces.Goals as goal
 
 pub pieces-init : goal.pieces-init
@@ -17,12 +17,9 @@ returns-in_err-given g c =
 
 pub returns-in-Err : goal.returns-in-Err
 returns-in-Err g c =
-    let going = going_still c.pieces.invariant.going c.in_ok-given.ensures.flushed in
     let fill = c.in_ok-given.ensures.ok in
-    ends_fault g.R.Source.failed g.W.Sink.took g.W.Sink.refused c.args.writer.now c.serve_ended.new.writer c.flushed.new.writer (g.C.Core.state c.args.core.now) (g.C.Core.state c.serve_ended.new.core)
-    c.in-Err.fault _ c.in-Err.ensures.inside (last_read fill.bytes going fill.gives)
-    (fails_then g.W.Sink.refused c.serve_ended.new.writer (g.C.Core.state c.serve_ended.new.core) fill.bytes c.in-Err.fault going.through (rw fill.front at c.in-Err.ensures.err))
-    c.flushed.ensures
+    ends_fault g.R.Source.failed g.W.Sink.refused c.serve_ended.new.writer c.flushed.new.writer (g.C.Core.state c.serve_ended.new.core) fill.bytes c.in-Err.fault c.flushed.result
+    c.pieces.invariant.going c.in_ok-given.ensures.flushed fill.gives c.in-Err.ensures.inside (rw fill.front at c.in-Err.ensures.err) c.flushed.ensures
 
 pub returns-then-filled-eq0 : goal.returns-then-filled-eq0
 returns-then-filled-eq0 g c =
@@ -36,16 +33,13 @@ returns-then-given-eq0 g c =
 
 pub returns-in-Some : goal.returns-in-Some
 returns-in-Some g c =
-    let going = going_still c.pieces.invariant.going c.in_ok-given.ensures.flushed in
     let fill = c.in_ok-given.ensures.ok in
     let ended = c.in-Ok.ensures.ok in
     let whole = take (c.pieces.filled + c.in_ok-given.given) c.flush_and_fill.new.buffer in
     let left = c.in-Ok.left in
-    let through = through_on fill.bytes _ _ going.through fill.front ended refl in
-    let begun = fails_begun g.W.Sink.refused left c.in-Some.fault through ended.unfinished (omega (arith, ended.enough, length-drop (length whole - left) whole)) c.in-Some.ensures.some in
-    ends_fault g.R.Source.failed g.W.Sink.took g.W.Sink.refused c.args.writer.now c.serve_ended.new.writer c.flushed-in-Some.new.writer (g.C.Core.state c.args.core.now) (g.C.Core.state c.serve_ended.new.core)
-    c.in-Some.fault c.flushed-in-Some.result begun.0 (last_read fill.bytes going fill.gives) begun.1
-    c.flushed-in-Some.ensures
+    let begun = fails_begun g.W.Sink.refused left c.in-Some.fault ended.through ended.unfinished (omega (arith, ended.enough, length-drop (length whole - left) whole)) c.in-Some.ensures.some in
+    ends_fault g.R.Source.failed g.W.Sink.refused c.serve_ended.new.writer c.flushed-in-Some.new.writer (g.C.Core.state c.serve_ended.new.core) fill.bytes c.in-Some.fault c.flushed-in-Some.result
+    c.pieces.invariant.going c.in_ok-given.ensures.flushed fill.gives begun.0 (rw fill.front at begun.1) c.flushed-in-Some.ensures
 
 pub pieces-preserved : goal.pieces-preserved
 pieces-preserved g c =
