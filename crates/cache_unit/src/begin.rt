@@ -27,10 +27,12 @@ pub fn begin_words<const WAYS: usize, const WORDS: usize, const REGS: usize>(
     requires fresh { frame_at directory.old.frames frame ≡ fresh_frame WORDS block }
     requires slot { slot < length registers.old }
     requires allocated { register_at registers.old slot ≡ fresh WORDS block frame }
-    ensures directory { directory.new ≡ with_frame directory.old frame (begun_frame WORDS queue.now.entries block) }
+    ensures directory { directory.new
+        ≡ with_frame directory.old frame (begun_frame WORDS queue.now.entries block) }
     ensures whole { IsWhole WAYS WORDS directory.new }
     ensures whole_file { file.IsWhole WORDS REGS registers.new }
-    ensures registers { registers.new ≡ slice_set registers.old slot (begun_register WORDS queue.now.entries block frame) }
+    ensures registers { registers.new
+        ≡ slice_set registers.old slot (begun_register WORDS queue.now.entries block frame) }
 {
     for i in 0..WORDS as u32 {
         let newest = queue.newest(block * WORDS as u32 + i);

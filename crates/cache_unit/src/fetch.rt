@@ -24,7 +24,8 @@ pub fn choose_frame<const WAYS: usize, const WORDS: usize>(
     directory: &Directory<WAYS, WORDS>,
     block: u32,
 ) -> Option<u32>
-    ensures { result ≡ chosen_frame (dir.chosen WAYS directory.now (dir.set_of directory.now block)) }
+    ensures { result ≡ chosen_frame
+        (dir.chosen WAYS directory.now (dir.set_of directory.now block)) }
 {
     match directory.choose(block) {
         Choice::Free(frame) => Some(frame),
@@ -68,16 +69,23 @@ pub fn bring_in<L: Lines, const WAYS: usize, const WORDS: usize, const REGS: usi
     requires free { (regs.register_at registers.old places.slot).valid ≡ false }
     requires no_live { regs.live_for registers.old block ≡ None }
     requires fits { block * WORDS + WORDS < 2 ^ 32 }
-    requires held_fits { (b : ℕ) → (dir.frame_at directory.old.frames places.frame).block ≡ Some b → b * WORDS + WORDS < 2 ^ 32 }
-    requires room { length queue.old.entries + length (owed_words WORDS directory.old places.frame) ≤ queue.old.limit }
+    requires held_fits { (b : ℕ) → (dir.frame_at directory.old.frames places.frame).block ≡ Some b
+        → b * WORDS + WORDS < 2 ^ 32 }
+    requires room { length queue.old.entries + length (owed_words WORDS directory.old places.frame)
+        ≤ queue.old.limit }
     requires some_banks { 0 < banks }
-    requires bank_room { (b : ℕ) → length (commands_for b (block_reads places.slot (block * WORDS) WORDS banks WORDS)) ≤ L.room_of lines.old b }
+    requires bank_room { (b : ℕ)
+        → length (commands_for b (block_reads places.slot (block * WORDS) WORDS banks WORDS))
+        ≤ L.room_of lines.old b }
     ensures directory { directory.new
         ≡ missed_frames WAYS WORDS directory.old (queue.old.entries ++ owed_words WORDS directory.old places.frame) places.frame block }
     ensures registers { registers.new
         ≡ missed_registers WORDS registers.old (queue.old.entries ++ owed_words WORDS directory.old places.frame) places.frame places.slot block }
-    ensures queue { queue.new ≡ queue_of (queue.old.entries ++ owed_words WORDS directory.old places.frame) queue.old.limit }
-    ensures lines { HasSent L.sent_to L.room_of L.same lines.old lines.new (block_reads places.slot (block * WORDS) WORDS banks WORDS) }
+    ensures queue { queue.new
+        ≡ queue_of (queue.old.entries ++ owed_words WORDS directory.old places.frame)
+        queue.old.limit }
+    ensures lines { HasSent L.sent_to L.room_of L.same lines.old lines.new
+        (block_reads places.slot (block * WORDS) WORDS banks WORDS) }
     ensures whole { dir.IsWhole WAYS WORDS directory.new }
     ensures whole_file { whole.IsWhole WORDS REGS registers.new }
 {

@@ -25,7 +25,8 @@ fn words_in_bank(first: u32, words: u32, banks: u32, bank: u32) -> u32
 pub fn lacks_room<L: Lines>(lines: &L, first: u32, words: u32, banks: u32) -> bool
     requires some { 0 < banks }
     requires fits { first + words < 2 ^ 32 }
-    ensures { result ≡ list_any (is_short (L.room_of lines.now) first words banks) (range_with_len 0 banks) }
+    ensures { result ≡ list_any (is_short (L.room_of lines.now) first words banks)
+        (range_with_len 0 banks) }
 {
     for bank in 0..banks {
         if lines.room(bank) < words_in_bank(first, words, banks, bank) {
@@ -40,8 +41,11 @@ pub fn send_reads<L: Lines>(lines: &mut L, slot: u32, first: u32, words: u32, ba
     requires some { 0 < banks }
     requires words { 0 < words }
     requires fits { first + words < 2 ^ 32 }
-    requires room { (b : ℕ) → length (commands_for b (block_reads slot first words banks words)) ≤ L.room_of lines.old b }
-    ensures { HasSent L.sent_to L.room_of L.same lines.old lines.new (block_reads slot first words banks words) }
+    requires room { (b : ℕ)
+        → length (commands_for b (block_reads slot first words banks words))
+        ≤ L.room_of lines.old b }
+    ensures { HasSent L.sent_to L.room_of L.same lines.old lines.new
+        (block_reads slot first words banks words) }
 {
     for k in 0..words {
         let at = first + k;

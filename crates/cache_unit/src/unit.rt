@@ -68,11 +68,13 @@ impl<const WAYS: usize, const WORDS: usize, const REGS: usize, const DEPTH: usiz
     /// a refusal (10) that the bank has no room; both leave everything unchanged.
     #[tactic(auto, unfolding(crate::specs::Steps::drain_step))]
     pub fn drain<L: Lines>(&mut self, lines: &mut L) -> Answer
-        ensures answer { result ≡ (steps.drain_step self.old.sizes (L.room_of lines.old) self.old.cache).answer }
+        ensures answer { result
+            ≡ (steps.drain_step self.old.sizes (L.room_of lines.old) self.old.cache).answer }
         ensures unit { self.new
             ≡ record self.old { cache = (steps.drain_step self.old.sizes (L.room_of lines.old) self.old.cache).cache } }
         ensures forms { laws.DrainForms self.old.sizes self.old.cache result self.new.cache }
-        ensures lines { HasSent L.sent_to L.room_of L.same lines.old lines.new (steps.drain_step self.old.sizes (L.room_of lines.old) self.old.cache).sent }
+        ensures lines { HasSent L.sent_to L.room_of L.same lines.old lines.new
+            (steps.drain_step self.old.sizes (L.room_of lines.old) self.old.cache).sent }
     {
         let Some(front) = self.queue.front() else {
             return Answer::Nothing;
@@ -123,7 +125,8 @@ impl<const WAYS: usize, const WORDS: usize, const REGS: usize, const DEPTH: usiz
     fn give_up(&mut self, block: u32, frame: u32)
         requires holds { frame_of self.old.cache block ≡ Some frame }
         requires room { lacks_places self.old.sizes self.old.cache (Some frame) ≡ false }
-        ensures { self.new ≡ record self.old { cache = steps.evicted self.old.sizes self.old.cache block frame } }
+        ensures { self.new ≡ record self.old
+            { cache = steps.evicted self.old.sizes self.old.cache block frame } }
     {
         vacate(&mut self.directory, &mut self.queue, frame);
         retire(&mut self.registers, block);
@@ -134,7 +137,8 @@ impl<const WAYS: usize, const WORDS: usize, const REGS: usize, const DEPTH: usiz
     #[tactic(auto, unfolding(crate::specs::Steps::take_step))]
     pub fn take(&mut self, place: u32) -> Answer
         ensures answer { result ≡ (steps.take_step self.old.cache place).answer }
-        ensures unit { self.new ≡ record self.old { cache = (steps.take_step self.old.cache place).cache } }
+        ensures unit { self.new
+            ≡ record self.old { cache = (steps.take_step self.old.cache place).cache } }
         ensures forms { laws.TakenForms self.old.sizes self.old.cache result self.new.cache }
     {
         if (place as usize) < self.ready.len() {
@@ -152,10 +156,12 @@ impl<const WAYS: usize, const WORDS: usize, const REGS: usize, const DEPTH: usiz
     /// Refused where no register waits for it (13) or the stack is full (12); both leave everything
     /// unchanged.
     pub fn arrive(&mut self, slot: u32, i: u32, word: Word) -> Answer
-        ensures answer { result ≡ (steps.arrive_step self.old.sizes self.old.cache slot i word).answer }
+        ensures answer { result
+            ≡ (steps.arrive_step self.old.sizes self.old.cache slot i word).answer }
         ensures unit { self.new
             ≡ record self.old { cache = (steps.arrive_step self.old.sizes self.old.cache slot i word).cache } }
-        ensures forms { laws.ArriveForms self.old.sizes self.old.cache slot i word result self.new.cache }
+        ensures forms { laws.ArriveForms self.old.sizes self.old.cache slot i word result
+            self.new.cache }
     {
         if !self.registers.expects(slot, i) {
             return Answer::Refused(Cause::StrayWord);
@@ -175,7 +181,8 @@ impl<const WAYS: usize, const WORDS: usize, const REGS: usize, const DEPTH: usiz
     #[tactic(auto, unfolding(crate::specs::Steps::process_step))]
     pub fn process(&mut self, place: u32) -> Answer
         ensures answer { result ≡ (steps.process_step self.old.cache place).answer }
-        ensures unit { self.new ≡ record self.old { cache = (steps.process_step self.old.cache place).cache } }
+        ensures unit { self.new
+            ≡ record self.old { cache = (steps.process_step self.old.cache place).cache } }
         ensures forms { laws.ProcessForms self.old.sizes self.old.cache result self.new.cache }
     {
         let Some(e) = self.stack.remove(place) else {

@@ -16,7 +16,8 @@ pub fn dirty_words<const WAYS: usize, const WORDS: usize>(
 ) -> u32
     requires whole { IsWhole WAYS WORDS directory.now }
     requires held { IsTrue (is_held directory.now frame) }
-    ensures count { (block at : ℕ) → result ≡ length (dirty_from block at (frame_at directory.now.frames frame).cells) }
+    ensures count { (block at : ℕ)
+        → result ≡ length (dirty_from block at (frame_at directory.now.frames frame).cells) }
     ensures small { result ≤ 16 }
 {
     let mut count = 0;
@@ -38,8 +39,12 @@ fn queue_dirty_words<const WAYS: usize, const WORDS: usize>(
     requires whole { IsWhole WAYS WORDS directory.now }
     requires held { IsTrue (is_held directory.now frame) }
     requires fits { block * WORDS + WORDS < 2 ^ 32 }
-    requires room { length queue.old.entries + length (dirty_from block (block * WORDS) (frame_at directory.now.frames frame).cells) ≤ queue.old.limit }
-    ensures { queue.new ≡ queue_of (queue.old.entries ++ dirty_from block (block * WORDS) (frame_at directory.now.frames frame).cells) queue.old.limit }
+    requires room { length queue.old.entries + length
+        (dirty_from block (block * WORDS) (frame_at directory.now.frames frame).cells)
+        ≤ queue.old.limit }
+    ensures { queue.new ≡ queue_of
+        (queue.old.entries ++ dirty_from block (block * WORDS)
+        (frame_at directory.now.frames frame).cells) queue.old.limit }
 {
     for i in 0..WORDS as u32 {
         let lanes = directory.dirty(frame, i);
@@ -63,10 +68,13 @@ pub fn vacate<const WAYS: usize, const WORDS: usize>(
 )
     requires whole { IsWhole WAYS WORDS directory.old }
     requires frame { frame < length directory.old.frames }
-    requires fits { (block : ℕ) → (frame_at directory.old.frames frame).block ≡ Some block → block * WORDS + WORDS < 2 ^ 32 }
-    requires room { length queue.old.entries + length (owed_words WORDS directory.old frame) ≤ queue.old.limit }
+    requires fits { (block : ℕ) → (frame_at directory.old.frames frame).block ≡ Some block
+        → block * WORDS + WORDS < 2 ^ 32 }
+    requires room { length queue.old.entries + length (owed_words WORDS directory.old frame)
+        ≤ queue.old.limit }
     ensures directory { directory.new ≡ given_up WAYS directory.old frame }
-    ensures queue { queue.new ≡ queue_of (queue.old.entries ++ owed_words WORDS directory.old frame) queue.old.limit }
+    ensures queue { queue.new
+        ≡ queue_of (queue.old.entries ++ owed_words WORDS directory.old frame) queue.old.limit }
     ensures whole { IsWhole WAYS WORDS directory.new }
 {
     if let Some(block) = directory.block_of(frame) {

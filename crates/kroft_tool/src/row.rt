@@ -104,7 +104,8 @@ impl Row {
 fn ask<M: Driven>(machine: &mut M, row: &mut Row, event: Event) -> bool
     requires { total row.old < 2 ^ 63 }
     ensures ends { result ≡ sweep.ends event (course (M.state machine.old) row.old) }
-    ensures course { course (M.state machine.new) row.new ≡ sweep.ask event (course (M.state machine.old) row.old) }
+    ensures course { course (M.state machine.new) row.new
+        ≡ sweep.ask event (course (M.state machine.old) row.old) }
     ensures sizes { (M.state machine.new).sizes ≡ (M.state machine.old).sizes }
     ensures total { total row.new ≤ total row.old + 1 }
 {
@@ -115,7 +116,8 @@ fn ask<M: Driven>(machine: &mut M, row: &mut Row, event: Event) -> bool
 // Pumps once.
 fn pump_once<M: Driven>(machine: &mut M, row: &mut Row)
     requires { total row.old < 2 ^ 63 }
-    ensures course { course (M.state machine.new) row.new ≡ sweep.pump_once (course (M.state machine.old) row.old) }
+    ensures course { course (M.state machine.new) row.new
+        ≡ sweep.pump_once (course (M.state machine.old) row.old) }
     ensures sizes { (M.state machine.new).sizes ≡ (M.state machine.old).sizes }
     ensures total { total row.new ≤ total row.old + 2 }
 {
@@ -128,7 +130,9 @@ fn ask_again<M: Driven>(machine: &mut M, row: &mut Row, event: Event)
     requires few { most_weight (M.state machine.old).sizes < 2 ^ 32 }
     requires room { total row.old < 2 ^ 62 }
     ensures sizes { (M.state machine.new).sizes ≡ (M.state machine.old).sizes }
-    ensures course { course (M.state machine.new) row.new ≡ sweep.ask_again (driver.weight (M.state machine.old).machine) event (course (M.state machine.old) row.old) }
+    ensures course { course (M.state machine.new) row.new
+        ≡ sweep.ask_again (driver.weight (M.state machine.old).machine) event
+        (course (M.state machine.old) row.old) }
     ensures total { total row.new ≤ total row.old + 2 ^ 34 }
 {
     for _turn in 0..machine.weight() {
@@ -145,7 +149,8 @@ fn serve<M: Driven>(machine: &mut M, row: &mut Row, event: Event)
     requires few { most_weight (M.state machine.old).sizes < 2 ^ 32 }
     requires room { total row.old < 2 ^ 61 }
     ensures sizes { (M.state machine.new).sizes ≡ (M.state machine.old).sizes }
-    ensures course { course (M.state machine.new) row.new ≡ sweep.serve event (course (M.state machine.old) row.old) }
+    ensures course { course (M.state machine.new) row.new
+        ≡ sweep.serve event (course (M.state machine.old) row.old) }
     ensures total { total row.new ≤ total row.old + 2 ^ 35 }
 {
     if !ask(machine, row, event) {
@@ -158,7 +163,8 @@ fn serve<M: Driven>(machine: &mut M, row: &mut Row, event: Event)
 fn run_dry<M: Driven>(machine: &mut M, row: &mut Row)
     requires few { most_weight (M.state machine.old).sizes < 2 ^ 32 }
     requires room { total row.old < 2 ^ 61 }
-    ensures { course (M.state machine.new) row.new ≡ sweep.run_dry (course (M.state machine.old) row.old) }
+    ensures { course (M.state machine.new) row.new
+        ≡ sweep.run_dry (course (M.state machine.old) row.old) }
 {
     for _turn in 0..machine.weight() {
         pump_once(machine, row);

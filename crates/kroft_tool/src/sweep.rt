@@ -81,7 +81,8 @@ fn bad_field(tool: &ToolShape) -> Option<ShapeField>
 // The first shape with a bad field, and that field.
 fn first_bad(shapes: &[ToolShape]) -> Option<(usize, ShapeField)>
     ensures first { result ≡ bad_from 0 shapes.now }
-    ensures good { result ≡ None → (i : ℕ) (d : ToolShape) → i < length shapes.now → bad_field (slice_index_or shapes.now i d) ≡ None }
+    ensures good { result ≡ None → (i : ℕ) (d : ToolShape) → i < length shapes.now
+        → bad_field (slice_index_or shapes.now i d) ≡ None }
 {
     for (place, shape) in shapes.iter().enumerate() {
         if let Some(field) = bad_field(shape) {
@@ -174,8 +175,10 @@ fn row_in_turn<G: SweepGate>(
 #[tactic(auto, using(crate::proofs::Lawful::counts_all))]
 pub fn sweep_row(alloc: Global, shape: &ToolShape, events: &[Event]) -> Result<Row, SweepFault>
     requires { length events.now ≤ 16777216 }
-    ensures row { IfOk result (λ row. (bad_field shape.now ≡ None) × (row ≡ row_of events.now shape.now)) }
-    ensures counts { IfOk result (λ row. list_all is_request events.now ≡ true → CountsAll events.now shape.now row) }
+    ensures row { IfOk result
+        (λ row. (bad_field shape.now ≡ None) × (row ≡ row_of events.now shape.now)) }
+    ensures counts { IfOk result
+        (λ row. list_all is_request events.now ≡ true → CountsAll events.now shape.now row) }
     ensures fault { IfErr result (FaultSays (shape.now ∷ [])) }
     ensures no_turns { result ≢ Err TurnLimit }
 {
@@ -215,17 +218,25 @@ fn all_answers<R: Threads + Sync, G: SweepGate>(
     gate: &G,
 ) -> Result<Vec<Result<Row, Stop>>, AllocError>
     requires events { length events.now ≤ 16777216 }
-    requires shapes { (i : ℕ) (t : ToolShape) → i < length shapes.now → bad_field (slice_index_or shapes.now i t) ≡ None }
+    requires shapes { (i : ℕ) (t : ToolShape) → i < length shapes.now
+        → bad_field (slice_index_or shapes.now i t) ≡ None }
     ensures len { IfOk result (λ v. length v.items ≡ length shapes.now) }
-    ensures each { IfOk result (λ v. (i : ℕ) (d : Result Row Stop) (t : ToolShape) → i < length shapes.now → IfOk (slice_index_or v.items i d) (λ row. row ≡ row_of events.now (slice_index_or shapes.now i t))) }
+    ensures each { IfOk result
+        (λ v. (i : ℕ) (d : Result Row Stop) (t : ToolShape) → i < length shapes.now
+        → IfOk (slice_index_or v.items i d)
+        (λ row. row ≡ row_of events.now (slice_index_or shapes.now i t))) }
 {
     thread::map_indices(
         rt,
         alloc,
         shapes.len(),
         &|place: usize| -> Result<Row, Stop>
-            requires { (place < length shapes.now) × (length events.now ≤ 16777216) × ((i : ℕ) (t : ToolShape) → i < length shapes.now → bad_field (slice_index_or shapes.now i t) ≡ None) }
-            ensures { (t : ToolShape) → IfOk result (λ row. row ≡ row_of events.entry.now (slice_index_or shapes.entry.now place t)) }
+            requires { (place < length shapes.now) × (length events.now ≤ 16777216)
+                × ((i : ℕ) (t : ToolShape) → i < length shapes.now
+                → bad_field (slice_index_or shapes.now i t) ≡ None) }
+            ensures { (t : ToolShape)
+                → IfOk result (λ row. row
+                ≡ row_of events.entry.now (slice_index_or shapes.entry.now place t)) }
         { row_in_turn(alloc, place, &shapes[place], events, turns, gate) },
     )
 }

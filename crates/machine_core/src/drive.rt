@@ -40,14 +40,16 @@ pub(crate) fn next_event<
 
 // The lowest bank in which an answer stands.
 fn first_with_answer(banks: &Banks, number: u32) -> Option<u32>
-    ensures { result ≡ find (λ b. has_items (bank_at banks.now.banks b).answers) (range_with_len 0 number) }
+    ensures { result ≡ find (λ b. has_items (bank_at banks.now.banks b).answers)
+        (range_with_len 0 number) }
 {
     (0..number).find(|bank| has_answer(banks, *bank))
 }
 
 // The lowest bank at which a command waits.
 fn first_with_command(banks: &Banks, number: u32) -> Option<u32>
-    ensures { result ≡ find (λ b. has_items (bank_at banks.now.banks b).queue) (range_with_len 0 number) }
+    ensures { result ≡ find (λ b. has_items (bank_at banks.now.banks b).queue)
+        (range_with_len 0 number) }
 {
     (0..number).find(|bank| has_command(banks, *bank))
 }

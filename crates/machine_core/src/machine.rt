@@ -53,10 +53,19 @@ impl<const WAYS: usize, const WORDS: usize, const REGS: usize, const DEPTH: usiz
     /// first number that is out of its range, the image's length last, before any memory is asked
     /// for; `OutOfMemory` says that there was too little memory.
     pub fn new(alloc: Global, shape: Shape, image: &[Word]) -> Result<Self, MakeFault>
-        ensures ok { IfOk result (λ m. m ≡ record { sizes = sizes_of WAYS WORDS REGS DEPTH shape; machine = machine.opening (sizes_of WAYS WORDS REGS DEPTH shape) image.now }) }
-        ensures in_range { OnOk result (bad_field (sizes_of WAYS WORDS REGS DEPTH shape) (length image.now) ≡ None) }
-        ensures fault { IfErr result (λ e. e ≡ fault_of (bad_field (sizes_of WAYS WORDS REGS DEPTH shape) (length image.now))) }
-        ensures flat { IfOk result (λ m. machine.flat_of m.sizes m.machine ≡ record { mem = image.now; due = λ tag. None }) }
+        ensures ok { IfOk result
+            (λ m. m ≡ record {
+              sizes = sizes_of WAYS WORDS REGS DEPTH shape;
+              machine = machine.opening (sizes_of WAYS WORDS REGS DEPTH shape) image.now;
+            }) }
+        ensures in_range { OnOk result
+            (bad_field (sizes_of WAYS WORDS REGS DEPTH shape) (length image.now) ≡ None) }
+        ensures fault { IfErr result
+            (λ e. e ≡ fault_of (bad_field (sizes_of WAYS WORDS REGS DEPTH shape)
+            (length image.now))) }
+        ensures flat { IfOk result
+            (λ m. machine.flat_of m.sizes m.machine
+            ≡ record { mem = image.now; due = λ tag. None }) }
         ensures kept { IfOk result (λ m. IsKept m.sizes m.machine) }
     {
         if let Some(field) = bad_field::<WAYS, WORDS, REGS, DEPTH>(&shape, image.len()) {
@@ -71,8 +80,13 @@ impl<const WAYS: usize, const WORDS: usize, const REGS: usize, const DEPTH: usiz
     /// never comes. The answer is one of flat memory.
     pub fn apply(&mut self, event: Event) -> Answer
         ensures answer { result ≡ (machine.apply self.old.sizes self.old.machine event).answer }
-        ensures machine { self.new ≡ record self.old { machine = (machine.apply self.old.sizes self.old.machine event).machine } }
-        ensures flat { flat_step (machine.flat_of self.old.sizes self.old.machine) event result ≡ Some (machine.flat_of self.new.sizes self.new.machine) }
+        ensures machine { self.new
+            ≡ record self.old {
+              machine =
+                  (machine.apply self.old.sizes self.old.machine event).machine;
+            } }
+        ensures flat { flat_step (machine.flat_of self.old.sizes self.old.machine) event result
+            ≡ Some (machine.flat_of self.new.sizes self.new.machine) }
         ensures never_stray { result ≢ Answer.Refused StrayWord }
         ensures at_rest { driver.weight self.old.machine ≡ 0 → Serves self.old.sizes event result }
         ensures kept { IsKept self.new.sizes self.new.machine }
@@ -84,10 +98,15 @@ impl<const WAYS: usize, const WORDS: usize, const REGS: usize, const DEPTH: usiz
     /// flat memory. All memory is taken before the first event: want of it leaves the machine
     /// unchanged.
     pub fn run(&mut self, alloc: Global, events: &[Event]) -> Result<Vec<Answer>, AllocError>
-        ensures answers { IfOk result (λ answers. answers.items ≡ machine.told self.old.sizes self.old.machine events.now) }
-        ensures machine { OnOk result (self.new ≡ record self.old { machine = machine.walked self.old.sizes self.old.machine events.now }) }
+        ensures answers { IfOk result
+            (λ answers. answers.items ≡ machine.told self.old.sizes self.old.machine events.now) }
+        ensures machine { OnOk result
+            (self.new ≡ record self.old
+            { machine = machine.walked self.old.sizes self.old.machine events.now }) }
         ensures unchanged { OnErr result (self.new ≡ self.old) }
-        ensures flat { IfOk result (λ answers. flat_run (machine.flat_of self.old.sizes self.old.machine) events.now answers.items ≡ Some (machine.flat_of self.new.sizes self.new.machine)) }
+        ensures flat { IfOk result
+            (λ answers. flat_run (machine.flat_of self.old.sizes self.old.machine) events.now
+            answers.items ≡ Some (machine.flat_of self.new.sizes self.new.machine)) }
         ensures kept { IsKept self.new.sizes self.new.machine }
     {
         let Machine { unit, banks, .. } = self;
@@ -120,11 +139,20 @@ impl<const WAYS: usize, const WORDS: usize, const REGS: usize, const DEPTH: usiz
     /// drained. The event and its answer are returned, and the weight is lower than before. `None`
     /// says that the weight is 0, and changes nothing.
     pub fn pump(&mut self) -> Option<(Event, Answer)>
-        ensures event { result ≡ option_map (with_answer self.old.sizes self.old.machine) (driver.pumped self.old.sizes self.old.machine) }
-        ensures machine { self.new ≡ record self.old { machine = driver.after_event self.old.sizes self.old.machine (driver.pumped self.old.sizes self.old.machine) } }
+        ensures event { result
+            ≡ option_map (with_answer self.old.sizes self.old.machine)
+            (driver.pumped self.old.sizes self.old.machine) }
+        ensures machine { self.new
+            ≡ record self.old {
+              machine = driver.after_event self.old.sizes self.old.machine
+                  (driver.pumped self.old.sizes self.old.machine);
+            } }
         ensures rests { IsNone result ↔ (driver.weight self.old.machine ≡ 0) }
-        ensures lowers { IfSome result (λ p. driver.weight self.new.machine < driver.weight self.old.machine) }
-        ensures flat { IfSome result (λ p. flat_step (machine.flat_of self.old.sizes self.old.machine) p.0 p.1 ≡ Some (machine.flat_of self.new.sizes self.new.machine)) }
+        ensures lowers { IfSome result
+            (λ p. driver.weight self.new.machine < driver.weight self.old.machine) }
+        ensures flat { IfSome result
+            (λ p. flat_step (machine.flat_of self.old.sizes self.old.machine) p.0 p.1
+            ≡ Some (machine.flat_of self.new.sizes self.new.machine)) }
         ensures kept { IsKept self.new.sizes self.new.machine }
     {
         let event = next_event(&self.unit, &self.banks, self.shape.banks)?;
@@ -135,7 +163,9 @@ impl<const WAYS: usize, const WORDS: usize, const REGS: usize, const DEPTH: usiz
     /// banks are empty. The banks then hold the words of flat memory; replies may still stand ready.
     pub fn settled(&self) -> bool
         ensures value { result ≡ machine.settled self.now.machine }
-        ensures banks { IsTrue result → (at : ℕ) → at < self.now.sizes.words → machine.bank_word self.now.sizes self.now.machine at ≡ word_at (machine.flat_of self.now.sizes self.now.machine).mem at }
+        ensures banks { IsTrue result → (at : ℕ) → at < self.now.sizes.words
+            → machine.bank_word self.now.sizes self.now.machine at
+            ≡ word_at (machine.flat_of self.now.sizes self.now.machine).mem at }
     {
         self.unit.clean() && all_served(&self.banks, self.shape.banks)
     }

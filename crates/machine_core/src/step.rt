@@ -18,9 +18,16 @@ pub(crate) fn step<const WAYS: usize, const WORDS: usize, const REGS: usize, con
 ) -> Answer
     requires limit { banks.old.limit ≡ unit.old.sizes.bank_queue }
     requires few { (b : ℕ) → length (bank_at banks.old.banks b).answers ≤ 256 }
-    ensures answer { result ≡ (machine.apply unit.old.sizes (machine_of unit.old banks.old) event).answer }
-    ensures unit { unit.new ≡ record unit.old { cache = (machine.apply unit.old.sizes (machine_of unit.old banks.old) event).machine.cache } }
-    ensures banks { banks.new ≡ with_banks banks.old (machine.apply unit.old.sizes (machine_of unit.old banks.old) event).machine.banks }
+    ensures answer { result
+        ≡ (machine.apply unit.old.sizes (machine_of unit.old banks.old) event).answer }
+    ensures unit { unit.new
+        ≡ record unit.old {
+          cache =
+              (machine.apply unit.old.sizes (machine_of unit.old banks.old) event).machine.cache;
+        } }
+    ensures banks { banks.new
+        ≡ with_banks banks.old
+        (machine.apply unit.old.sizes (machine_of unit.old banks.old) event).machine.banks }
 {
     match event {
         Event::Load { tag, at } => ask(unit, banks, Request::Load { tag, at }),
@@ -43,12 +50,21 @@ pub(crate) fn walk<const WAYS: usize, const WORDS: usize, const REGS: usize, con
     answers: &mut Vec<Answer>,
 )
     requires limit { banks.old.limit ≡ unit.old.sizes.bank_queue }
-    requires few { (n b : ℕ) → length (bank_at (machine.walked unit.old.sizes (machine_of unit.old banks.old) (take n events.now)).banks b).answers ≤ 256 }
+    requires few { (n b : ℕ)
+        → length (bank_at (machine.walked unit.old.sizes (machine_of unit.old banks.old)
+        (take n events.now)).banks b).answers ≤ 256 }
     requires empty { answers.old.items ≡ [] }
     requires room { length events.now ≤ vec_capacity answers.old }
-    ensures answers { answers.new.items ≡ machine.told unit.old.sizes (machine_of unit.old banks.old) events.now }
-    ensures unit { unit.new ≡ record unit.old { cache = (machine.walked unit.old.sizes (machine_of unit.old banks.old) events.now).cache } }
-    ensures banks { banks.new ≡ with_banks banks.old (machine.walked unit.old.sizes (machine_of unit.old banks.old) events.now).banks }
+    ensures answers { answers.new.items
+        ≡ machine.told unit.old.sizes (machine_of unit.old banks.old) events.now }
+    ensures unit { unit.new
+        ≡ record unit.old {
+          cache =
+              (machine.walked unit.old.sizes (machine_of unit.old banks.old) events.now).cache;
+        } }
+    ensures banks { banks.new
+        ≡ with_banks banks.old
+        (machine.walked unit.old.sizes (machine_of unit.old banks.old) events.now).banks }
 {
     for event in events {
         let answer = step(unit, banks, *event);
@@ -63,9 +79,20 @@ fn ask<const WAYS: usize, const WORDS: usize, const REGS: usize, const DEPTH: us
     request: Request,
 ) -> Answer
     requires { banks.old.limit ≡ unit.old.sizes.bank_queue }
-    ensures answer { result ≡ (steps.request_step unit.old.sizes (room_in unit.old.sizes.bank_queue banks.old.banks) unit.old.cache request).answer }
-    ensures unit { unit.new ≡ record unit.old { cache = (steps.request_step unit.old.sizes (room_in unit.old.sizes.bank_queue banks.old.banks) unit.old.cache request).cache } }
-    ensures banks { banks.new ≡ with_banks banks.old (all_sent banks.old.banks (steps.request_step unit.old.sizes (room_in unit.old.sizes.bank_queue banks.old.banks) unit.old.cache request).sent) }
+    ensures answer { result
+        ≡ (steps.request_step unit.old.sizes
+        (room_in unit.old.sizes.bank_queue banks.old.banks) unit.old.cache request).answer }
+    ensures unit { unit.new
+        ≡ record unit.old {
+          cache =
+              (steps.request_step unit.old.sizes
+              (room_in unit.old.sizes.bank_queue banks.old.banks) unit.old.cache request).cache;
+        } }
+    ensures banks { banks.new
+        ≡ with_banks banks.old
+        (all_sent banks.old.banks
+        (steps.request_step unit.old.sizes
+        (room_in unit.old.sizes.bank_queue banks.old.banks) unit.old.cache request).sent) }
 {
     unit.request(request, banks)
 }
@@ -76,9 +103,20 @@ fn drain<const WAYS: usize, const WORDS: usize, const REGS: usize, const DEPTH: 
     banks: &mut Banks,
 ) -> Answer
     requires { banks.old.limit ≡ unit.old.sizes.bank_queue }
-    ensures answer { result ≡ (steps.drain_step unit.old.sizes (room_in unit.old.sizes.bank_queue banks.old.banks) unit.old.cache).answer }
-    ensures unit { unit.new ≡ record unit.old { cache = (steps.drain_step unit.old.sizes (room_in unit.old.sizes.bank_queue banks.old.banks) unit.old.cache).cache } }
-    ensures banks { banks.new ≡ with_banks banks.old (all_sent banks.old.banks (steps.drain_step unit.old.sizes (room_in unit.old.sizes.bank_queue banks.old.banks) unit.old.cache).sent) }
+    ensures answer { result
+        ≡ (steps.drain_step unit.old.sizes
+        (room_in unit.old.sizes.bank_queue banks.old.banks) unit.old.cache).answer }
+    ensures unit { unit.new
+        ≡ record unit.old {
+          cache =
+              (steps.drain_step unit.old.sizes
+              (room_in unit.old.sizes.bank_queue banks.old.banks) unit.old.cache).cache;
+        } }
+    ensures banks { banks.new
+        ≡ with_banks banks.old
+        (all_sent banks.old.banks
+        (steps.drain_step unit.old.sizes
+        (room_in unit.old.sizes.bank_queue banks.old.banks) unit.old.cache).sent) }
 {
     unit.drain(banks)
 }
@@ -86,9 +124,13 @@ fn drain<const WAYS: usize, const WORDS: usize, const REGS: usize, const DEPTH: 
 // The bank serves its first command.
 fn serve(banks: &mut Banks, bank: u32) -> Answer
     requires { length (bank_at banks.old.banks bank).answers ≤ 256 }
-    ensures answer { (m : machine.Machine) → m.banks ≡ banks.old.banks → result ≡ (machine.serve_from m bank (bank_at banks.old.banks bank).queue).answer }
-    ensures cache { (m : machine.Machine) → m.banks ≡ banks.old.banks → m.cache ≡ (machine.serve_from m bank (bank_at banks.old.banks bank).queue).machine.cache }
-    ensures banks { (m : machine.Machine) → m.banks ≡ banks.old.banks → banks.new ≡ with_banks banks.old (machine.serve_from m bank (bank_at banks.old.banks bank).queue).machine.banks }
+    ensures answer { (m : machine.Machine) → m.banks ≡ banks.old.banks
+        → result ≡ (machine.serve_from m bank (bank_at banks.old.banks bank).queue).answer }
+    ensures cache { (m : machine.Machine) → m.banks ≡ banks.old.banks
+        → m.cache ≡ (machine.serve_from m bank (bank_at banks.old.banks bank).queue).machine.cache }
+    ensures banks { (m : machine.Machine) → m.banks ≡ banks.old.banks
+        → banks.new ≡ with_banks banks.old
+        (machine.serve_from m bank (bank_at banks.old.banks bank).queue).machine.banks }
 {
     if banks.serve(bank) {
         Answer::Moved
@@ -104,9 +146,19 @@ fn bring<const WAYS: usize, const WORDS: usize, const REGS: usize, const DEPTH: 
     bank: u32,
     place: u32,
 ) -> Answer
-    ensures answer { result ≡ (machine.arrive_from unit.old.sizes (machine_of unit.old banks.old) bank place (slice_get (bank_at banks.old.banks bank).answers place)).answer }
-    ensures unit { unit.new ≡ record unit.old { cache = (machine.arrive_from unit.old.sizes (machine_of unit.old banks.old) bank place (slice_get (bank_at banks.old.banks bank).answers place)).machine.cache } }
-    ensures banks { banks.new ≡ with_banks banks.old (machine.arrive_from unit.old.sizes (machine_of unit.old banks.old) bank place (slice_get (bank_at banks.old.banks bank).answers place)).machine.banks }
+    ensures answer { result
+        ≡ (machine.arrive_from unit.old.sizes (machine_of unit.old banks.old) bank place
+        (slice_get (bank_at banks.old.banks bank).answers place)).answer }
+    ensures unit { unit.new
+        ≡ record unit.old {
+          cache =
+              (machine.arrive_from unit.old.sizes (machine_of unit.old banks.old) bank place
+              (slice_get (bank_at banks.old.banks bank).answers place)).machine.cache;
+        } }
+    ensures banks { banks.new
+        ≡ with_banks banks.old
+        (machine.arrive_from unit.old.sizes (machine_of unit.old banks.old) bank place
+        (slice_get (bank_at banks.old.banks bank).answers place)).machine.banks }
 {
     let Some(answer) = banks.answer_at(bank, place) else {
         return Answer::Nothing;

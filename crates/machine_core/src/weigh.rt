@@ -42,7 +42,8 @@ pub(crate) fn weight_of_registers<
     requires few_words { WORDS ≤ 16 }
     requires registers { length unit.now.cache.registers ≡ REGS }
     requires words { unit.now.sizes.block_words ≡ WORDS }
-    requires fields { (s : ℕ) → (register_at unit.now.cache s).valid ≡ true → length (register_at unit.now.cache s).fields ≡ WORDS }
+    requires fields { (s : ℕ) → (register_at unit.now.cache s).valid ≡ true
+        → length (register_at unit.now.cache s).fields ≡ WORDS }
     ensures value { result ≡ total register_weight unit.now.cache.registers }
     ensures small { result < 2 ^ 48 }
 {
@@ -60,7 +61,8 @@ fn weight_of_register<const WAYS: usize, const WORDS: usize, const REGS: usize, 
     requires few_words { WORDS ≤ 16 }
     requires slot { slot < length unit.now.cache.registers }
     requires words { unit.now.sizes.block_words ≡ WORDS }
-    requires fields { (register_at unit.now.cache slot).valid ≡ true → length (register_at unit.now.cache slot).fields ≡ WORDS }
+    requires fields { (register_at unit.now.cache slot).valid ≡ true
+        → length (register_at unit.now.cache slot).fields ≡ WORDS }
     ensures value { result ≡ register_weight (register_at unit.now.cache slot) }
     ensures small { result < 2 ^ 40 }
 {

@@ -50,9 +50,12 @@ pub struct Steps {
 
 impl Steps {
     fn keep(&mut self, number: u64, step: Option<Step>) -> Result<(), Uncollected>
-        ensures events { OnOk result (self.new.events.items ≡ self.old.events.items ++ event_of step) }
-        ensures answers { OnOk result (self.new.answers.items ≡ self.old.answers.items ++ answer_of step) }
-        ensures numbers { OnOk result (self.new.numbers.items ≡ self.old.numbers.items ++ number_of number step) }
+        ensures events { OnOk result
+            (self.new.events.items ≡ self.old.events.items ++ event_of step) }
+        ensures answers { OnOk result
+            (self.new.answers.items ≡ self.old.answers.items ++ answer_of step) }
+        ensures numbers { OnOk result
+            (self.new.numbers.items ≡ self.old.numbers.items ++ number_of number step) }
         ensures err { IfErr result (λ miss. miss ≡ Uncollected.Memory) }
     {
         let Some(step) = step else {
@@ -105,8 +108,12 @@ fn found_at(fault: ReplayFault, numbers: &[u64]) -> Result<CheckEnd, TraceFault>
 }
 
 fn replayed(alloc: Global, steps: &Steps, words: u32) -> Result<CheckEnd, TraceFault>
-    requires held { (texts : List (List ℕ)) × Holds steps.now.events.items steps.now.answers.items steps.now.numbers.items texts }
-    ensures judged { IfOk result (λ end. (texts : List (List ℕ)) → Holds steps.now.events.items steps.now.answers.items steps.now.numbers.items texts → IsJudged words texts end) }
+    requires held { (texts : List (List ℕ))
+        × Holds steps.now.events.items steps.now.answers.items steps.now.numbers.items texts }
+    ensures judged { IfOk result
+        (λ end. (texts : List (List ℕ))
+        → Holds steps.now.events.items steps.now.answers.items steps.now.numbers.items texts
+        → IsJudged words texts end) }
     ensures fault { IfErr result (λ f. f ≡ TraceFault.OutOfMemory) }
 {
     let Ok(mut memory) = zero_memory(alloc, words) else {
@@ -138,8 +145,12 @@ pub fn check_text<R: Source>(
     reader: &mut R,
     words: u32,
 ) -> Result<CheckEnd, TraceFault>
-    ensures judged { IfOk result (λ end. (texts : List (List ℕ)) × ReadWhole R.gave (λ text. fault_of (pair_of text)) 768 reader.old reader.new texts × IsJudged words texts end) }
-    ensures fault { IfErr result (ReadStops R.gave R.failed (λ text. fault_of (pair_of text)) 768 reader.old reader.new) }
+    ensures judged { IfOk result
+        (λ end. (texts : List (List ℕ))
+        × ReadWhole R.gave (λ text. fault_of (pair_of text)) 768 reader.old reader.new texts
+        × IsJudged words texts end) }
+    ensures fault { IfErr result
+        (ReadStops R.gave R.failed (λ text. fault_of (pair_of text)) 768 reader.old reader.new) }
 {
     let mut steps = Steps {
         events: Vec::new(alloc),

@@ -33,7 +33,8 @@ fn push_zeros(out: &mut ArrayVec<u8, 768>, count: usize)
 fn push_behind_zeros(out: &mut ArrayVec<u8, 768>, digits: &[u8], width: usize)
     requires width { array_vec_len out.old + width ≤ 768 }
     requires digits { array_vec_len out.old + length digits.now ≤ 768 }
-    ensures text { out.new.items ≡ out.old.items ++ replicate (width - length digits.now) 48 ++ digits.now }
+    ensures text { out.new.items
+        ≡ out.old.items ++ replicate (width - length digits.now) 48 ++ digits.now }
     ensures len { array_vec_len out.new ≡ array_vec_len out.old + max width (length digits.now) }
 {
     push_zeros(out, width.saturating_sub(digits.len()));

@@ -18,21 +18,26 @@ ghost use Rattle.trace_text.specs.Faults.{BeginsWith};
 
 /// A field is the number whose decimal digits it is, and no other field is a number.
 pub fn numbers()
-    ensures read { (most n : ℕ) (text : List ℕ) → most < 2 ^ 32 → number_of most text ≡ Some n → (text ≡ decimal n) }
-    ensures bound { (most n : ℕ) (text : List ℕ) → most < 2 ^ 32 → number_of most text ≡ Some n → (n ≤ most) }
-    ensures written { (most n : ℕ) → most < 2 ^ 32 → n ≤ most → number_of most (decimal n) ≡ Some n }
+    ensures read { (most n : ℕ) (text : List ℕ) → most < 2 ^ 32 → number_of most text ≡ Some n
+        → (text ≡ decimal n) }
+    ensures bound { (most n : ℕ) (text : List ℕ) → most < 2 ^ 32 → number_of most text ≡ Some n
+        → (n ≤ most) }
+    ensures written { (most n : ℕ) → most < 2 ^ 32 → n ≤ most
+        → number_of most (decimal n) ≡ Some n }
 {}
 
 /// What is written for a word or a mask is read as it.
 pub fn words_and_masks()
-    ensures words { (w : Word) → w.b0 < 256 → w.b1 < 256 → w.b2 < 256 → w.b3 < 256 → word_of (word_text w) ≡ Some w }
+    ensures words { (w : Word) → w.b0 < 256 → w.b1 < 256 → w.b2 < 256 → w.b3 < 256
+        → word_of (word_text w) ≡ Some w }
     ensures masks { (m : Lanes) → m.0 < 16 → lanes_of (lanes_text m) ≡ Some m }
 {}
 
 /// A text is lines and a rest that begins no line in one way only: so it doesn't matter in which
 /// pieces it came, nor how far it was read beyond the rest's begin.
 pub fn one_reading()
-    ensures { (xs ys : List (List ℕ × Line)) (a b more after : List ℕ) → AllByRecursion IsLine xs → AllByRecursion IsLine ys
+    ensures { (xs ys : List (List ℕ × Line)) (a b more after : List ℕ) → AllByRecursion IsLine xs
+        → AllByRecursion IsLine ys
         → IsStuck a → IsStuck b → joined xs ++ (a ++ more) ≡ joined ys ++ (b ++ after)
         → (xs ≡ ys) × (a ++ more ≡ b ++ after) }
 {}
@@ -45,13 +50,15 @@ pub fn faults_stand()
 
 /// A line is the text that it has, and no other text.
 pub fn lines()
-    ensures read { (text : List ℕ) (l : Line) → line_of text ≡ Ok l → IsFit l × (text ≡ line_text l) }
+    ensures read { (text : List ℕ) (l : Line) → line_of text ≡ Ok l → IsFit l
+        × (text ≡ line_text l) }
     ensures written { (l : Line) → IsFit l → line_of (line_text l) ≡ Ok l }
 {}
 
 /// An answer is the text that it has, and no other text.
 pub fn answers()
-    ensures read { (text : List ℕ) (a : Answer) → answer_of text ≡ Some a → IsFitAnswer a × (text ≡ answer_text a) }
+    ensures read { (text : List ℕ) (a : Answer) → answer_of text ≡ Some a → IsFitAnswer a
+        × (text ≡ answer_text a) }
     ensures written { (a : Answer) → IsFitAnswer a → answer_of (answer_text a) ≡ Some a }
 {}
 

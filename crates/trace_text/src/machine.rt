@@ -16,7 +16,8 @@ pub trait Core {
     fn apply(&mut self, event: Event) -> Answer
         ensures answer { result ≡ answered (state self.old) event }
         ensures after { state self.new ≡ after_event (state self.old) event }
-        ensures flat { flat_step (flat (state self.old)) event result ≡ Some (flat (state self.new)) };
+        ensures flat { flat_step (flat (state self.old)) event result
+            ≡ Some (flat (state self.new)) };
 
     fn register(&self, slot: u32) -> Option<RegisterView>
         ensures { result ≡ register_shown (state self.now) slot };

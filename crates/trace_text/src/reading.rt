@@ -27,7 +27,9 @@ pub trait Collector {
     // Takes the line of this number, counted from 1, without its LF.
     fn collect(&mut self, number: u64, text: &[u8]) -> Result<(), Uncollected>
         ensures good { OnOk result (fault_in text.now ≡ None) }
-        ensures kept { OnOk result ((texts : List (List ℕ)) → number ≡ length texts + 1 → holds self.old texts → holds self.new (texts ++ text.now ∷ [])) }
+        ensures kept { OnOk result
+            ((texts : List (List ℕ)) → number ≡ length texts + 1 → holds self.old texts
+            → holds self.new (texts ++ text.now ∷ [])) }
         ensures miss { IfErr result (Misses (fault_in text.now)) };
 }
 
@@ -38,7 +40,9 @@ fn collect_ended<C: Collector>(
     bytes: &[u8],
 ) -> Result<usize, TraceFault>
     requires { count.old ≤ 16777216 }
-    ensures ok { IfOk result (λ left. AllCollected C.fault_in C.holds most collector.old count.old bytes.now left collector.new count.new) }
+    ensures ok { IfOk result
+        (λ left. AllCollected C.fault_in C.holds most collector.old count.old bytes.now left
+        collector.new count.new) }
     ensures err { IfErr result (Faulty C.fault_in most count.old bytes.now) }
     ensures found { IfErr result IsFound }
 {
@@ -76,7 +80,9 @@ fn read_pieces<R: Source, C: Collector>(
     requires most { most ≤ 1000 }
     requires room { length buffer.old ≡ 4096 }
     requires empty { C.holds collector.old [] }
-    ensures ok { OnOk result ((texts : List (List ℕ)) × ReadWhole R.gave C.fault_in most reader.old reader.new texts × C.holds collector.new texts) }
+    ensures ok { OnOk result
+        ((texts : List (List ℕ)) × ReadWhole R.gave C.fault_in most reader.old reader.new texts
+        × C.holds collector.new texts) }
     ensures err { IfErr result (ReadStops R.gave R.failed C.fault_in most reader.old reader.new) }
 {
     let mut count = 0u64;
@@ -112,7 +118,9 @@ pub fn read_lines<R: Source, C: Collector>(
 ) -> Result<(), TraceFault>
     requires most { most ≤ 1000 }
     requires empty { C.holds collector.old [] }
-    ensures ok { OnOk result ((texts : List (List ℕ)) × ReadWhole R.gave C.fault_in most reader.old reader.new texts × C.holds collector.new texts) }
+    ensures ok { OnOk result
+        ((texts : List (List ℕ)) × ReadWhole R.gave C.fault_in most reader.old reader.new texts
+        × C.holds collector.new texts) }
     ensures err { IfErr result (ReadStops R.gave R.failed C.fault_in most reader.old reader.new) }
 {
     let Ok(mut buffer) = vec![in alloc; 0u8; 4096] else {

@@ -73,10 +73,14 @@ impl Collector for Requests {
 ///
 /// One buffer of 4,096 bytes is taken before the first read. The events that are kept take more.
 pub fn read_requests<R: Source>(alloc: Global, reader: &mut R) -> Result<Vec<Event>, TraceFault>
-    ensures read { IfOk result (λ events. (texts : List (List ℕ)) × ReadWhole R.gave (λ text. fault_of (line_of text)) 64 reader.old reader.new texts × (events.items ≡ requests_of texts)) }
+    ensures read { IfOk result
+        (λ events. (texts : List (List ℕ))
+        × ReadWhole R.gave (λ text. fault_of (line_of text)) 64 reader.old reader.new texts
+        × (events.items ≡ requests_of texts)) }
     ensures requests { IfOk result (λ events. AllByRecursion IsRequest events.items) }
     ensures few { IfOk result (λ events. length events.items ≤ 16777216) }
-    ensures fault { IfErr result (ReadStops R.gave R.failed (λ text. fault_of (line_of text)) 64 reader.old reader.new) }
+    ensures fault { IfErr result
+        (ReadStops R.gave R.failed (λ text. fault_of (line_of text)) 64 reader.old reader.new) }
 {
     let mut requests = Requests {
         events: Vec::new(alloc),

@@ -105,7 +105,8 @@ fn push_reply<C: Core>(out: &mut ArrayVec<u8, 768>, core: &mut C, line: Line) ->
     ensures text { out.new.items ≡ out.old.items ++ reply_text (C.state core.old) line }
     ensures len { array_vec_len out.new ≤ array_vec_len out.old + 675 }
     ensures after { C.state core.new ≡ after_line (C.state core.old) line }
-    ensures runs { flat_run (flat (C.state core.old)) (option_to_list (event_in line)) (option_to_list (answer_to (C.state core.old) line)) ≡ Some (flat (C.state core.new)) }
+    ensures runs { flat_run (flat (C.state core.old)) (option_to_list (event_in line))
+        (option_to_list (answer_to (C.state core.old) line)) ≡ Some (flat (C.state core.new)) }
 {
     match line {
         Line::Event(event) => {
@@ -130,8 +131,12 @@ fn serve_line<W: Sink, C: Core>(
     requires short { length text.now ≤ 64 }
     requires within { IsWithin counts.old }
     requires more { counts.old.lines < 16777216 }
-    ensures ok { OnOk result (LineServed W.took writer.old (C.state core.old) counts.old text.now writer.new (C.state core.new) counts.new) }
-    ensures err { IfErr result (StopsLine W.took W.refused writer.old (C.state core.old) text.now writer.new (C.state core.new)) }
+    ensures ok { OnOk result
+        (LineServed W.took writer.old (C.state core.old) counts.old text.now writer.new
+        (C.state core.new) counts.new) }
+    ensures err { IfErr result
+        (StopsLine W.took W.refused writer.old (C.state core.old) text.now writer.new
+        (C.state core.new)) }
 {
     let line = match line_said(text) {
         Ok(line) => line,
@@ -210,7 +215,8 @@ fn flush_and_fill<R: Source, W: Sink>(
     requires { filled < length buffer.old }
     ensures ok { IfOk result (Filled R.gave reader.old reader.new buffer.old buffer.new filled) }
     ensures flushed { OnOk result (W.took writer.old [] writer.new) }
-    ensures err { IfErr result (Unfilled R.failed W.took W.refused reader.old reader.new writer.old writer.new) }
+    ensures err { IfErr result
+        (Unfilled R.failed W.took W.refused reader.old reader.new writer.old writer.new) }
 {
     match writer.flush_all() {
         Ok(()) => {}

@@ -150,7 +150,8 @@ fn push_field_at<C: Core>(out: &mut ArrayVec<u8, 768>, core: &C, slot: u32, i: u
 
 fn push_fields<C: Core>(out: &mut ArrayVec<u8, 768>, core: &C, slot: u32)
     requires { array_vec_len out.old + 640 ≤ 768 }
-    ensures text { out.new.items ≡ out.old.items ++ flat_map (field_text_at (C.state core.now) slot) (range_with_len 0 16) }
+    ensures text { out.new.items
+        ≡ out.old.items ++ flat_map (field_text_at (C.state core.now) slot) (range_with_len 0 16) }
     ensures len { array_vec_len out.new ≤ array_vec_len out.old + 640 }
 {
     for i in 0..16 {

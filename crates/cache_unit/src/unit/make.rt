@@ -26,9 +26,15 @@ impl<const WAYS: usize, const WORDS: usize, const REGS: usize, const DEPTH: usiz
     /// before any memory is asked for. `OutOfMemory` says that there was too little memory; what was
     /// taken of it is given back.
     pub fn new(alloc: Global, shape: &Shape) -> Result<Self, MakeFault>
-        ensures ok { IfOk result (λ u. u ≡ record { sizes = sizes_of WAYS WORDS REGS DEPTH shape.now; cache = opening_cache (sizes_of WAYS WORDS REGS DEPTH shape.now) }) }
-        ensures in_range { OnOk result (limits.bad_field (sizes_of WAYS WORDS REGS DEPTH shape.now) ≡ None) }
-        ensures fault { IfErr result (λ e. e ≡ fault_of (limits.bad_field (sizes_of WAYS WORDS REGS DEPTH shape.now))) }
+        ensures ok { IfOk result
+            (λ u. u ≡ record {
+              sizes = sizes_of WAYS WORDS REGS DEPTH shape.now;
+              cache = opening_cache (sizes_of WAYS WORDS REGS DEPTH shape.now);
+            }) }
+        ensures in_range { OnOk result
+            (limits.bad_field (sizes_of WAYS WORDS REGS DEPTH shape.now) ≡ None) }
+        ensures fault { IfErr result
+            (λ e. e ≡ fault_of (limits.bad_field (sizes_of WAYS WORDS REGS DEPTH shape.now))) }
     {
         if let Some(field) = bad_field::<WAYS, WORDS, REGS, DEPTH>(shape) {
             return Err(MakeFault::BadShape(field));

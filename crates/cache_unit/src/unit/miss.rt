@@ -21,8 +21,12 @@ impl<const WAYS: usize, const WORDS: usize, const REGS: usize, const DEPTH: usiz
     // The frame and the register that a miss on the block takes, or the first cause against it.
     pub(super) fn find_places<L: Lines>(&self, lines: &L, block: u32) -> Result<Places, Cause>
         requires { block * WORDS + WORDS ≤ self.now.sizes.words }
-        ensures refused { IfErr result (λ cause. first_cause (miss_causes self.now.sizes (L.room_of lines.now) self.now.cache block) ≡ Some cause) }
-        ensures found { IfOk result (λ places. MayTake self.now.sizes (L.room_of lines.now) self.now.cache block places) }
+        ensures refused { IfErr result
+            (λ cause. first_cause
+            (miss_causes self.now.sizes (L.room_of lines.now) self.now.cache block)
+            ≡ Some cause) }
+        ensures found { IfOk result
+            (λ places. MayTake self.now.sizes (L.room_of lines.now) self.now.cache block places) }
     {
         let Some(slot) = self.registers.free_slot() else {
             return Err(Cause::NoRegister);
@@ -44,9 +48,12 @@ impl<const WAYS: usize, const WORDS: usize, const REGS: usize, const DEPTH: usiz
     pub(super) fn fetch<L: Lines>(&mut self, lines: &mut L, block: u32, places: Places)
         requires absent { is_present self.old.cache block ≡ false }
         requires in_memory { block * WORDS + WORDS ≤ self.old.sizes.words }
-        requires may_take { MayTake self.old.sizes (L.room_of lines.old) self.old.cache block places }
-        ensures unit { self.new ≡ record self.old { cache = fetched self.old.sizes self.old.cache block } }
-        ensures lines { HasSent L.sent_to L.room_of L.same lines.old lines.new (fetches self.old.sizes self.old.cache block) }
+        requires may_take { MayTake self.old.sizes
+            (L.room_of lines.old) self.old.cache block places }
+        ensures unit { self.new
+            ≡ record self.old { cache = fetched self.old.sizes self.old.cache block } }
+        ensures lines { HasSent L.sent_to L.room_of L.same lines.old lines.new
+            (fetches self.old.sizes self.old.cache block) }
     {
         bring_in(
             &mut self.directory,

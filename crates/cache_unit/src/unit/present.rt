@@ -138,7 +138,8 @@ fn write_buffer<const WAYS: usize, const WORDS: usize>(
 )
     requires whole { dir.IsWhole WAYS WORDS directory.old }
     requires there { i < WORDS }
-    ensures written { directory.new ≡ written_for directory.old (dir.frame_of directory.old.frames block) i word lanes }
+    ensures written { directory.new
+        ≡ written_for directory.old (dir.frame_of directory.old.frames block) i word lanes }
     ensures whole { dir.IsWhole WAYS WORDS directory.new }
 {
     if let Some(frame) = directory.look(block) {
@@ -155,7 +156,8 @@ fn note_code<const WORDS: usize, const REGS: usize>(
 )
     requires whole { IsWhole WORDS REGS registers.old }
     requires there { i < WORDS }
-    ensures noted { registers.new ≡ noted_for registers.old (regs.live_for registers.old block) i lanes }
+    ensures noted { registers.new
+        ≡ noted_for registers.old (regs.live_for registers.old block) i lanes }
     ensures whole { IsWhole WORDS REGS registers.new }
 {
     let Some(slot) = registers.live_for(block) else {

@@ -30,7 +30,8 @@ impl<const WAYS: usize, const WORDS: usize, const REGS: usize, const DEPTH: usiz
     /// of its set is pending (8), the write queue has too few free places for the victim's dirty
     /// words (9), or a bank has too little room for its reads (10).
     pub fn request<L: Lines>(&mut self, request: Request, lines: &mut L) -> Answer
-        ensures answer { result ≡ (request_step self.old.sizes (L.room_of lines.old) self.old.cache request).answer }
+        ensures answer { result
+            ≡ (request_step self.old.sizes (L.room_of lines.old) self.old.cache request).answer }
         ensures unit { self.new
             ≡ record self.old { cache = (request_step self.old.sizes (L.room_of lines.old) self.old.cache request).cache } }
         ensures lines { HasSent L.sent_to L.room_of L.same lines.old lines.new
@@ -45,7 +46,8 @@ impl<const WAYS: usize, const WORDS: usize, const REGS: usize, const DEPTH: usiz
     }
 
     fn load<L: Lines>(&mut self, tag: u16, at: u32, lines: &mut L) -> Answer
-        ensures answer { result ≡ (load_step self.old.sizes (L.room_of lines.old) self.old.cache tag at).answer }
+        ensures answer { result
+            ≡ (load_step self.old.sizes (L.room_of lines.old) self.old.cache tag at).answer }
         ensures unit { self.new
             ≡ record self.old { cache = (load_step self.old.sizes (L.room_of lines.old) self.old.cache tag at).cache } }
         ensures lines { HasSent L.sent_to L.room_of L.same lines.old lines.new
@@ -76,7 +78,9 @@ impl<const WAYS: usize, const WORDS: usize, const REGS: usize, const DEPTH: usiz
     }
 
     fn store<L: Lines>(&mut self, at: u32, word: Word, lanes: Lanes, lines: &mut L) -> Answer
-        ensures answer { result ≡ (store_step self.old.sizes (L.room_of lines.old) self.old.cache at word lanes).answer }
+        ensures answer { result
+            ≡ (store_step self.old.sizes
+            (L.room_of lines.old) self.old.cache at word lanes).answer }
         ensures unit { self.new
             ≡ record self.old { cache = (store_step self.old.sizes (L.room_of lines.old) self.old.cache at word lanes).cache } }
         ensures lines { HasSent L.sent_to L.room_of L.same lines.old lines.new
@@ -101,7 +105,8 @@ impl<const WAYS: usize, const WORDS: usize, const REGS: usize, const DEPTH: usiz
     }
 
     fn prefetch<L: Lines>(&mut self, at: u32, lines: &mut L) -> Answer
-        ensures answer { result ≡ (prefetch_step self.old.sizes (L.room_of lines.old) self.old.cache at).answer }
+        ensures answer { result
+            ≡ (prefetch_step self.old.sizes (L.room_of lines.old) self.old.cache at).answer }
         ensures unit { self.new
             ≡ record self.old { cache = (prefetch_step self.old.sizes (L.room_of lines.old) self.old.cache at).cache } }
         ensures lines { HasSent L.sent_to L.room_of L.same lines.old lines.new
@@ -136,7 +141,9 @@ impl<const WAYS: usize, const WORDS: usize, const REGS: usize, const DEPTH: usiz
     // The block of a word, which lies in memory whole where the word does.
     fn block_of(&self, at: u32) -> u32
         ensures value { result ≡ block_of self.now.sizes at }
-        ensures within { at < self.now.sizes.words → result * self.now.sizes.block_words + self.now.sizes.block_words ≤ self.now.sizes.words }
+        ensures within { at < self.now.sizes.words
+            → result * self.now.sizes.block_words + self.now.sizes.block_words
+            ≤ self.now.sizes.words }
     {
         let _shape = &self.shape;
         at / WORDS as u32
@@ -168,15 +175,24 @@ impl<const WAYS: usize, const WORDS: usize, const REGS: usize, const DEPTH: usiz
     // Brings the block in where no frame holds it, or answers the first cause against that and
     // changes nothing. No load waits yet for a word of a block that was brought in.
     fn make_present<L: Lines>(&mut self, lines: &mut L, block: u32) -> Result<(), Cause>
-        requires { block * self.old.sizes.block_words + self.old.sizes.block_words ≤ self.old.sizes.words }
-        ensures cause { IfErr result (λ cause. absence_cause self.old.sizes (L.room_of lines.old) self.old.cache block ≡ Some cause) }
+        requires { block * self.old.sizes.block_words + self.old.sizes.block_words
+            ≤ self.old.sizes.words }
+        ensures cause { IfErr result
+            (λ cause. absence_cause self.old.sizes (L.room_of lines.old) self.old.cache block
+            ≡ Some cause) }
         ensures unit_kept { OnErr result (self.new ≡ self.old) }
         ensures lines_kept { OnErr result (lines.new ≡ lines.old) }
-        ensures no_cause { OnOk result (absence_cause self.old.sizes (L.room_of lines.old) self.old.cache block ≡ None) }
-        ensures unit { OnOk result (self.new ≡ record self.old { cache = fetched self.old.sizes self.old.cache block }) }
-        ensures lines { OnOk result (HasSent L.sent_to L.room_of L.same lines.old lines.new (fetches self.old.sizes self.old.cache block)) }
+        ensures no_cause { OnOk result
+            (absence_cause self.old.sizes (L.room_of lines.old) self.old.cache block ≡ None) }
+        ensures unit { OnOk result
+            (self.new ≡ record self.old { cache = fetched self.old.sizes self.old.cache block }) }
+        ensures lines { OnOk result
+            (HasSent L.sent_to L.room_of L.same lines.old lines.new
+            (fetches self.old.sizes self.old.cache block)) }
         ensures tags_kept { OnOk result (tags self.new.cache ≡ tags self.old.cache) }
-        ensures targets { OnOk result ((i : ℕ) → is_full_for self.old.cache block i ≡ false → targets_full self.new.cache i (found self.new.cache block i) ≡ false) }
+        ensures targets { OnOk result
+            ((i : ℕ) → is_full_for self.old.cache block i ≡ false
+            → targets_full self.new.cache i (found self.new.cache block i) ≡ false) }
     {
         if self.directory.look(block).is_some() {
             return Ok(());

@@ -178,7 +178,8 @@ fn is_clean<const WAYS: usize, const WORDS: usize>(
 ) -> bool
     requires whole { dir.IsWhole WAYS WORDS directory.now }
     requires frame { frame < length directory.now.frames }
-    ensures { result ≡ list_all (λ cell. not (has_any cell.dirty)) (dir.frame_at directory.now.frames frame).cells }
+    ensures { result ≡ list_all (λ cell. not (has_any cell.dirty))
+        (dir.frame_at directory.now.frames frame).cells }
 {
     match directory.block_of(frame) {
         Some(_) => dirty_words(directory, frame) == 0,
@@ -193,7 +194,8 @@ fn are_clean<const WAYS: usize, const WORDS: usize>(
 ) -> bool
     requires whole { dir.IsWhole WAYS WORDS directory.now }
     requires frames { frames ≡ length directory.now.frames }
-    ensures { result ≡ list_all (λ f. list_all (λ cell. not (has_any cell.dirty)) f.cells) directory.now.frames }
+    ensures { result ≡ list_all
+        (λ f. list_all (λ cell. not (has_any cell.dirty)) f.cells) directory.now.frames }
 {
     for frame in 0..frames {
         if !is_clean(directory, frame) {
