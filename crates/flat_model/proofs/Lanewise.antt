@@ -1,5 +1,5 @@
 -- Words, one lane at a time.
-use Rattle.std.proofs.Common.{◌≡◌, ℕ, zero, suc, bit_or, ◌<◌, Bool, true, false, cond, ◌&&◌, ◌||◌, List, [], ◌∷◌, max, ◌*◌, bit_and, refl, sym, ap, ap₂, ◌∙◌, arith, ◌==◌}
+use Rattle.std.proofs.Common.{◌≡◌, ℕ, zero, suc, bit_or, ◌<◌, Bool, true, false, cond, ◌&&◌, ◌||◌, max, ◌*◌, bit_and, refl, sym, ap, ap₂, ◌∙◌, arith, ◌==◌}
 use Rattle.std.specs.Int.{bit_at}
 use Rattle.std.proofs.lemmas.Grind.{common_steps}
 use Rattle.std.proofs.lemmas.Nat.Bits.{and_pow, bit_at_or, bit_at-lt}

@@ -1,5 +1,5 @@
 -- What a `FlatMemory` shows, and what the faults of a replay say.
-use Rattle.std.specs.Prelude.{ℕ, ⊤, ◌≡◌, ◌≢◌, Bool, true, false, if◌then◌else◌, List, length, Option, Some, None, nat_eq}
+use Rattle.std.specs.Prelude.{ℕ, ⊤, ◌≡◌, ◌≢◌, Bool, true, false, if◌then◌else◌, List, length, Some, None, nat_eq}
 use Rattle.std.specs.HashMap.{get}
 use Rattle.flat_model.specs.declared.Event.{Event}
 use Rattle.flat_model.specs.declared.Event.TheVariants.{Load, Store, Prefetch, Take}

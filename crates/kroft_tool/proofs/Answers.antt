@@ -1,9 +1,8 @@
 -- The answers about a shape file that are not for want of memory.
-use Rattle.std.proofs.Common.{◌≡◌, ◌≢◌, ℕ, ℤ, Bool, true, false, ◌&&◌, ◌||◌, ◌==◌, nat_le, ◌+◌, ◌-◌, ◌/◌, ◌%◌, pos, negsuc, cond, Result, Ok, Err, Option, Some, None, refl, ap, codes}
+use Rattle.std.proofs.Common.{◌≡◌, ◌≢◌, ℕ, ℤ, Bool, true, false, ◌&&◌, ◌==◌, nat_le, ◌+◌, ◌-◌, ◌/◌, ◌%◌, pos, negsuc, cond, Result, Ok, Err, Option, Some, None, refl, ap, codes}
 use Rattle.flat_model.specs.declared.ShapeField.{ShapeField}
 use Rattle.flat_model.specs.declared.ShapeField.TheVariants.{Ways, Regs, Words, Sets, Banks, BankQueue, WriteQueue, Replies}
 use Rattle.toml.specs.Data.{Members}
-use Rattle.kroft_tool.specs.declared.shape_file.ToolShape.{ToolShape}
 use Rattle.kroft_tool.specs.declared.shape_file.ShapeFault.{ShapeFault}
 use Rattle.kroft_tool.specs.declared.shape_file.ShapeFault.TheVariants.{NotToml, UnknownKey, NotWhole, BadShape, OutOfMemory}
 use Rattle.kroft_tool.specs.declared.shape_file.Numbers.{Numbers}

@@ -1,5 +1,5 @@
 -- A shape whose fields are in range makes a machine that keeps what machines keep.
-use Rattle.std.proofs.Common.{◌≡◌, ℕ, zero, suc, ◌+◌, ◌-◌, ◌/◌, ◌%◌, ◌*◌, ◌^◌, ◌<◌, ◌≤◌, Bool, true, false, ◌&&◌, ◌||◌, ◌==◌, nat_le, not, cond, List, length, replicate, Option, Some, None, is_some, refl, sym, ap, ap₂, subst, ◌∙◌, arith}
+use Rattle.std.proofs.Common.{◌≡◌, ℕ, zero, ◌+◌, ◌-◌, ◌/◌, ◌%◌, ◌*◌, ◌^◌, ◌<◌, ◌≤◌, Bool, true, false, ◌&&◌, ◌==◌, nat_le, not, cond, List, length, replicate, Option, Some, None, is_some, refl, sym, ap, ap₂, ◌∙◌, arith}
 use Rattle.std.specs.List.{list_all}
 use Rattle.std.proofs.lemmas.Grind.{common_steps}
 use Rattle.std.proofs.lemmas.List.{length-replicate}
@@ -18,7 +18,7 @@ use Rattle.machine_core.proofs.Contract.{sound_opening, bounded_opening, flat_op
 use Rattle.kroft_tool.specs.declared.shape_file.ToolShape.{ToolShape}
 use Rattle.kroft_tool.specs.ShapeFile.{is_register_count}
 use Rattle.cache_unit.specs.Limits.{is_between}
-use Rattle.kroft_tool.specs.Sweep.{sizes_of, new_machine, new_course, bad_field, row_of, CountsAll, is_request}
+use Rattle.kroft_tool.specs.Sweep.{sizes_of, new_machine, bad_field, row_of, CountsAll, is_request}
 use Rattle.kroft_tool.proofs.Ending.{Good, row_counts}
 
 good : (b : Bool) (field : ShapeField) (rest : Option ShapeField) → cond (not b) (Some field) rest ≡ None → (b ≡ true) × (rest ≡ None)

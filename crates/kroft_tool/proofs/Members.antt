@@ -1,5 +1,5 @@
 -- The keys of a table, one after another.
-use Rattle.std.proofs.Common.{◌≡◌, ℕ, Bool, true, false, ◌||◌, not, List, [], ◌∷◌, String, Global, string_bytes, refl, ap}
+use Rattle.std.proofs.Common.{◌≡◌, Bool, false, ◌||◌, not, List, [], ◌∷◌, String, Global, string_bytes, refl, ap}
 use Rattle.std.specs.Map.{keys_of}
 use Rattle.toml.specs.declared.value.Value.{Value}
 use Rattle.toml.specs.View.{members_view}

@@ -1,6 +1,5 @@
 -- What a request's answer does to the machine, and when it ends the request.
-use Rattle.std.proofs.Common.{◌≡◌, ℕ, zero, suc, ◌+◌, ◌<◌, ◌≤◌, Bool, true, false, cond, ◌&&◌, ◌==◌, nat_lt, not, List, [], ◌∷◌, length, Option, Some, None, is_some, is_none, refl, sym, ap, ap₂, ◌∙◌, arith}
-use Rattle.std.proofs.lemmas.Grind.{common_steps}
+use Rattle.std.proofs.Common.{◌≡◌, ℕ, Bool, true, false, nat_lt, not, List, length, Option, Some, None, is_none, refl, sym, ap, ap₂, ◌∙◌}
 use Rattle.flat_model.specs.declared.Word.{Word}
 use Rattle.flat_model.specs.declared.Lanes.{Lanes}
 use Rattle.flat_model.specs.declared.Cause.{Cause}
@@ -15,7 +14,7 @@ use Rattle.memory_banks.specs.Banks.{Bank}
 use Rattle.cache_unit.specs.State.{Sizes, Cache}
 use Rattle.cache_unit.specs.Causes.{load_cause, store_cause, prefetch_cause, evict_cause}
 use Rattle.cache_unit.specs.Steps.{Stepped, unless, load_step, store_step, prefetch_step, evict_step}
-use Rattle.machine_core.specs.Law.{ServesRequests, serves_eviction}
+use Rattle.machine_core.specs.Law.{serves_eviction}
 use Rattle.machine_core.specs.Machine.{Machine, apply, joined_with}
 use Rattle.kroft_tool.specs.Sweep.{is_end, is_request}
 

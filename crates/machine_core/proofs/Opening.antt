@@ -1,11 +1,11 @@
 -- The opening machine, and a settled one.
-use Rattle.std.proofs.Common.{◌≡◌, ◌≢◌, ℕ, zero, suc, ◌+◌, ◌-◌, ◌*◌, ◌/◌, ◌%◌, ◌<◌, ◌≤◌, Bool, true, false, cond, not, ◌&&◌, ◌||◌, ◌==◌, nat_lt, List, [], ◌∷◌, ◌++◌, map, length, get_or, set, replicate, Option, Some, None, refl, sym, ap, ap₂, ◌∙◌, subst, arith, ◌⊎◌, inl, inr, ⊎_elim, mod-lt, div-add-mod', flat_map, ext_get_or, le-div_iff_mul-le, zero-add, length-set}
+use Rattle.std.proofs.Common.{◌≡◌, ℕ, zero, suc, ◌+◌, ◌-◌, ◌*◌, ◌/◌, ◌%◌, ◌<◌, ◌≤◌, Bool, true, false, not, ◌||◌, ◌==◌, List, [], ◌∷◌, ◌++◌, map, length, get_or, set, replicate, Option, Some, None, refl, sym, ap, ap₂, ◌∙◌, subst, arith, mod-lt, div-add-mod', flat_map, ext_get_or, le-div_iff_mul-le, zero-add}
 use Rattle.std.specs.List.{range_with_len, list_all, list_any}
 use Rattle.std.proofs.lemmas.Bool.{and_parts, not-true}
 use Rattle.flat_model.specs.declared.Word.{Word}
 use Rattle.flat_model.specs.Words.{merged, zero_word, no_lanes, has_any}
 use Rattle.flat_model.specs.Flat.{word_at}
-use Rattle.memory_banks.specs.Banks.{Bank, no_bank, bank_at, pending, all_pending, words_after, share_of, opening_banks}
+use Rattle.memory_banks.specs.Banks.{Bank, no_bank, bank_at, pending, all_pending, words_after, share_of}
 use Rattle.cache_unit.specs.declared.Reply.{Reply}
 use Rattle.cache_unit.specs.State.{Sizes, Frame, Register, zero_cell, empty_frame, free_register, frame_at, frame_of, register_at, is_live, cell_in, cell_of, gathered, targets_of, targets, block_of, place_in}
 use Rattle.cache_directory.specs.declared.Cell.{Cell}

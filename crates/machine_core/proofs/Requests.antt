@@ -1,5 +1,5 @@
 -- Loads, stores, prefetches and evictions.
-use Rattle.std.proofs.Common.{◌≡◌, ◌≢◌, ℕ, zero, suc, ◌+◌, ◌*◌, ◌/◌, ◌%◌, ◌<◌, ◌≤◌, Bool, true, false, cond, not, ◌&&◌, ◌||◌, ◌==◌, nat_lt, nat_le, List, [], ◌∷◌, ◌++◌, map, length, get_or, set, Option, Some, None, option_map, find, is_some, is_none, refl, sym, ap, ap₂, ◌∙◌, subst, arith, ◌⊎◌, inl, inr, ⊎_elim, ltb-true, lt-ltb, add-zero, div-add-mod', mod-lt, length-append}
+use Rattle.std.proofs.Common.{◌≡◌, ℕ, zero, suc, ◌+◌, ◌/◌, ◌<◌, ◌≤◌, Bool, true, false, cond, not, ◌&&◌, ◌||◌, ◌==◌, nat_lt, nat_le, List, [], ◌∷◌, ◌++◌, map, length, set, Option, Some, None, option_map, find, is_some, is_none, refl, sym, ap, ap₂, ◌∙◌, subst, arith, ltb-true, lt-ltb, add-zero, div-add-mod', length-append}
 use Rattle.std.specs.List.{range_with_len, list_any, list_all, filter}
 use Rattle.std.proofs.lemmas.Bool.{not-false, leb-false}
 use Rattle.flat_model.specs.declared.Word.{Word}
@@ -12,7 +12,7 @@ use Rattle.flat_model.specs.declared.Answer.TheVariants.{Accepted, Refused}
 use Rattle.flat_model.specs.Words.{merged, has_any, zero_word}
 use Rattle.flat_model.specs.Flat.{word_at, stored, with_due, flat_after, may_answer, load_refusals, store_refusals, prefetch_refusals, is_between}
 use Rattle.cache_unit.specs.declared.Reply.{Reply}
-use Rattle.cache_unit.specs.State.{Sizes, Cache, frame_of, is_present, frame_at, live_for, free_slot, cell_of, cell_in, tags, targets, block_of, place_in, address, is_pending, Target}
+use Rattle.cache_unit.specs.State.{Sizes, Cache, frame_of, is_present, frame_at, live_for, cell_of, tags, targets, block_of, place_in, address, is_pending, Target}
 use Rattle.cache_unit.specs.Causes.{first_cause, ways_of, choose, found, targets_full, is_in_use, miss_causes, lacks_places, lacks_room, dirty_words, dirty_of_block, dirty_from, order_of, load_cause, store_cause, prefetch_cause, evict_cause}
 use Rattle.cache_unit.specs.Steps.{load_step, store_step, prefetch_step, evict_step, Stepped, unless, fetched, fetches, loaded, written, released, evicted, evicted_from, obsoleted, without}
 use Rattle.cache_unit.specs.Counts.{tally}

@@ -16,7 +16,7 @@ use Rattle.memory_banks.specs.declared.Command.TheVariants.{Read, Write}
 use Rattle.memory_banks.specs.Banks.{Bank, bank_at, no_bank, all_pending, room_in}
 use Rattle.cache_directory.specs.declared.Cell.{Cell}
 use Rattle.cache_unit.specs.declared.Reply.{Reply}
-use Rattle.cache_unit.specs.State.{Sizes, Field, Register, Target, Cache, clear_field, free_register, frame_at, frame_of, is_present, register_at, field_at, is_live, live_for, is_pending_block, is_pending, cell_of, gathered, targets_of, targets, tags, block_of, place_in, address}
+use Rattle.cache_unit.specs.State.{Sizes, Field, Register, Target, Cache, clear_field, free_register, frame_at, frame_of, is_present, register_at, is_live, live_for, is_pending_block, is_pending, cell_of, gathered, targets_of, targets, tags, block_of, place_in, address}
 use Rattle.cache_unit.specs.Causes.{first_cause, ways_of, choose, dirty_from, dirty_of_block, dirty_words, addresses, lacks_places, lacks_room, miss_causes, found, found_in, targets_full, is_in_use, load_cause, store_cause, prefetch_cause, evict_cause}
 use Rattle.cache_unit.specs.Steps.{Stepped, unless, load_step, store_step, prefetch_step, evict_step}
 use Rattle.cache_unit.specs.Counts.{tally, bit}

@@ -455,8 +455,8 @@ fn thirteen_pumps(rt: HostRuntime) -> Result<(), Fail> {
     Ok(())
 }
 
-#[test]
-fn smallest_machine(rt: HostRuntime) -> Result<(), Fail> {
+/// A machine with one of each, and two replies.
+fn machine_of_ones(alloc: Global) -> Result<Machine<1, 1, 1, 1>, Fail> {
     let shape = Shape {
         words: 8,
         sets: 1,
@@ -465,8 +465,13 @@ fn smallest_machine(rt: HostRuntime) -> Result<(), Fail> {
         write_queue: 1,
         replies: 2,
     };
-    let image = image(rt.alloc(), 8)?;
-    let mut machine: Machine<1, 1, 1, 1> = Machine::new(rt.alloc(), shape, &image)?;
+    let image = image(alloc, 8)?;
+    Ok(Machine::new(alloc, shape, &image)?)
+}
+
+#[test]
+fn smallest_machine(rt: HostRuntime) -> Result<(), Fail> {
+    let mut machine = machine_of_ones(rt.alloc())?;
     let lines = "load 1 4 -> accepted
 load 2 5 -> refused 7
 load 1 5 -> refused 3
@@ -479,7 +484,11 @@ take 1 -> value 2 04000000
 take 0 -> value 1 04000000
 load 1 8 -> refused 1
 ";
-    plays(&rt, rt.alloc(), &mut machine, &[lines])?;
+    plays(&rt, rt.alloc(), &mut machine, &[lines])
+}
+
+#[test]
+fn smallest_machine_runs_a_list(rt: HostRuntime) -> Result<(), Fail> {
     let events = [
         Event::Load { tag: 1, at: 4 },
         Event::Load { tag: 2, at: 5 },
@@ -507,7 +516,7 @@ load 1 8 -> refused 1
         Answer::Value { tag: 1, word: four },
         Answer::Refused(Cause::OutOfRange),
     ];
-    let mut machine: Machine<1, 1, 1, 1> = Machine::new(rt.alloc(), shape, &image)?;
+    let mut machine = machine_of_ones(rt.alloc())?;
     let answers = machine.run(rt.alloc(), &events)?;
     assert_eq!(rt; answers.as_slice(), &wanted[..]);
     Ok(())

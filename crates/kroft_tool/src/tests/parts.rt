@@ -45,7 +45,14 @@ fn replay(rt: HostRuntime) -> Result<(), Fail> {
     assert_eq!(rt; accepted, Err(ReplayFault::Mismatch { place: 0 }));
     let refused = memory.replay(alloc, &outside, &[Answer::Refused(Cause::OutOfRange)]);
     assert_eq!(rt; refused, Ok(()));
+    Ok(())
+}
 
+#[test]
+fn replay_of_a_value_that_came_later(rt: HostRuntime) -> Result<(), Fail> {
+    let alloc = rt.alloc();
+    let image = [word(0, 0, 0, 0), word(1, 0, 0, 0)];
+    let mut memory = FlatMemory::new(alloc, &image)?;
     let stored_later = [
         Event::Load { tag: 1, at: 0 },
         Event::Store {

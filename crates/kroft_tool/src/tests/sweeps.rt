@@ -2,7 +2,7 @@
 
 use crate::row::Row;
 use crate::shape_file::ToolShape;
-use crate::sweep::{SweepFault, SweepGate, sweep, sweep_row};
+use crate::sweep::{OpenGate, SweepFault, SweepGate, sweep, sweep_row};
 use flat_model::{Event, ShapeField};
 use std::alloc::Global;
 use std::sync::atomic::{AtomicBool, AtomicU64, Ordering};
@@ -120,7 +120,12 @@ fn sweep_on_threads(rt: HostRuntime) -> Result<(), Fail> {
     assert_eq!(rt; rows.as_slice(), wanted.as_slice());
     assert_eq!(rt; gate.read[0].load(Ordering::SeqCst), 2);
     assert_eq!(rt; gate.read[1].load(Ordering::SeqCst), 2);
+    Ok(())
+}
 
+#[test]
+fn sweep_of_a_bad_shape_or_none(rt: HostRuntime) -> Result<(), Fail> {
+    let alloc = rt.alloc();
     let mut three_ways = with_registers(2);
     three_ways.ways = 3;
     let refused = sweep(
@@ -129,14 +134,14 @@ fn sweep_on_threads(rt: HostRuntime) -> Result<(), Fail> {
         &REQUESTS,
         &[with_registers(1), three_ways],
         5_000_000,
-        &gate,
+        &OpenGate,
     );
     let fault = SweepFault::BadShape {
         place: 1,
         field: ShapeField::Ways,
     };
     assert!(rt; matches!(refused, Err(found) if found == fault));
-    let none = sweep(&rt, alloc, &REQUESTS, &[], 5_000_000, &gate)?;
+    let none = sweep(&rt, alloc, &REQUESTS, &[], 5_000_000, &OpenGate)?;
     assert!(rt; none.is_empty());
     Ok(())
 }

@@ -1,4 +1,4 @@
-use Rattle.std.proofs.Common.{◌≡◌, ◌+◌, ◌*◌, ◌^◌, ◌≤◌, drop}
+use Rattle.std.proofs.Common.{◌≡◌, ◌*◌, ◌^◌, ◌≤◌, drop}
 use Rattle.kroft_tool.specs.Sweep.{course, total, empty_row, serve_all}
 use Rattle.kroft_tool.proofs.row.row_from.Given as goal
 

@@ -1,4 +1,4 @@
-use Rattle.std.proofs.Common.{◌≡◌, ◌+◌, ◌-◌, ◌<◌, ◌≤◌, refl, sym, ap, ◌∙◌, arith}
+use Rattle.std.proofs.Common.{◌-◌, ◌<◌, ◌≤◌, sym, ap, ◌∙◌, arith}
 use Rattle.kroft_tool.specs.Sweep.{course, total, pump_times}
 use Rattle.kroft_tool.proofs.Turns.{pump_turn, no_pump_left}
 use Rattle.kroft_tool.proofs.row.run_dry.Goals as goal

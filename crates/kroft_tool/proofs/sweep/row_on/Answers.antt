@@ -1,5 +1,4 @@
-use Rattle.std.proofs.Common.{◌≡◌, replicate, ap, ◌∙◌}
-use Rattle.flat_model.specs.Words.{zero_word}
+use Rattle.std.proofs.Common.{replicate, ap, ◌∙◌}
 use Rattle.kroft_tool.specs.Sweep.{row_from}
 use Rattle.kroft_tool.proofs.Lawful.{made, zero_from}
 use Rattle.kroft_tool.proofs.sweep.row_on.Goals as goal

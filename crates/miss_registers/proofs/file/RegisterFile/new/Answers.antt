@@ -1,4 +1,4 @@
-use Rattle.std.proofs.Common.{◌≡◌, arith}
+use Rattle.std.proofs.Common.{arith}
 use Rattle.miss_registers.proofs.Whole.{new-whole}
 use Rattle.miss_registers.proofs.file.RegisterFile.new.Goals as goal
 
