@@ -51,10 +51,7 @@ impl Way {
     pub fn is_free(&self) -> bool
         ensures { result ≡ is_none self.now.block }
     {
-        match self.block {
-            Some(_) => false,
-            None => true,
-        }
+        self.block.is_none()
     }
 
     /// Whether the frame holds this block.
@@ -160,7 +157,7 @@ fn zero_cells(words: u32) -> ArrayVec<Cell, 16>
     ensures { result.items ≡ replicate words zero_cell }
 {
     let mut cells = ArrayVec::new();
-    for k in 0..words {
+    for _ in 0..words {
         cells.push(Cell::default());
     }
     cells

@@ -267,11 +267,11 @@ fn may_move(event: Event, answer: Answer) -> bool
         Answer::Moved | Answer::Nothing => !matches!(event, Event::Evict { .. }),
         Answer::Value { .. } => false,
         Answer::Refused(cause) => match event {
-            Event::Evict { .. } => is_between(cause, 1, 1)
-                || is_between(cause, 9, 9)
-                || is_between(cause, 11, 11),
-            Event::Drain => is_between(cause, 10, 10),
-            Event::Arrive { .. } => is_between(cause, 12, 12),
+            Event::Evict { .. } => {
+                matches!(cause, Cause::OutOfRange | Cause::QueueFull | Cause::NotPresent)
+            }
+            Event::Drain => matches!(cause, Cause::BankFull),
+            Event::Arrive { .. } => matches!(cause, Cause::StackFull),
             _ => false,
         },
     }
@@ -287,21 +287,29 @@ fn is_owed(owed: Option<Word>, word: Word) -> bool
     }
 }
 
-// Whether a cause has one of these numbers, the first and the last among them.
-fn is_between(cause: Cause, first: u8, last: u8) -> bool
-    ensures { result ≡ is_between cause first last }
+// Whether this is a cause against bringing a block in.
+fn is_of_a_miss(cause: Cause) -> bool
+    ensures { result ≡ is_between cause 6 10 }
 {
-    first <= cause.number() && cause.number() <= last
+    matches!(
+        cause,
+        Cause::BlockQueued
+            | Cause::NoRegister
+            | Cause::SetPending
+            | Cause::QueueFull
+            | Cause::BankFull
+    )
 }
 
 // Whether a load may be refused for this cause.
 fn load_refused(inside: bool, owed: bool, cause: Cause) -> bool
     ensures { result ≡ load_refusals inside owed cause }
 {
-    match (inside, owed) {
-        (false, _) => is_between(cause, 1, 1),
-        (true, true) => is_between(cause, 3, 3),
-        (true, false) => is_between(cause, 4, 10),
+    match cause {
+        Cause::OutOfRange => !inside,
+        Cause::TagInUse => inside && owed,
+        Cause::RepliesFull | Cause::TargetsFull => inside && !owed,
+        _ => inside && !owed && is_of_a_miss(cause),
     }
 }
 
@@ -309,10 +317,10 @@ fn load_refused(inside: bool, owed: bool, cause: Cause) -> bool
 fn store_refused(inside: bool, any_lane: bool, cause: Cause) -> bool
     ensures { result ≡ store_refusals inside any_lane cause }
 {
-    match (inside, any_lane) {
-        (false, _) => is_between(cause, 1, 1),
-        (true, false) => is_between(cause, 2, 2),
-        (true, true) => is_between(cause, 6, 10),
+    match cause {
+        Cause::OutOfRange => !inside,
+        Cause::NoLanes => inside && !any_lane,
+        _ => inside && any_lane && is_of_a_miss(cause),
     }
 }
 
@@ -320,9 +328,8 @@ fn store_refused(inside: bool, any_lane: bool, cause: Cause) -> bool
 fn prefetch_refused(inside: bool, cause: Cause) -> bool
     ensures { result ≡ prefetch_refusals inside cause }
 {
-    if inside {
-        is_between(cause, 6, 10)
-    } else {
-        is_between(cause, 1, 1)
+    match cause {
+        Cause::OutOfRange => !inside,
+        _ => inside && is_of_a_miss(cause),
     }
 }

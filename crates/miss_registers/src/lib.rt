@@ -111,10 +111,7 @@ impl OwedList {
     fn first(&self) -> Owed
         ensures { result ≡ load_at_front self.now }
     {
-        match self.get(0) {
-            Some(owed) => owed,
-            None => Owed::default(),
-        }
+        self.get(0).unwrap_or_default()
     }
 
     /// How many loads there are: four at most.

@@ -273,7 +273,7 @@ fn clear_marks(words: u32) -> ArrayVec<Mark, 16>
     ensures { result.items ≡ replicate words clear_mark }
 {
     let mut marks = ArrayVec::new();
-    for k in 0..words {
+    for _ in 0..words {
         marks.push(Mark::default());
     }
     marks
