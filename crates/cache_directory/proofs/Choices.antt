@@ -4,10 +4,10 @@ use Rattle.std.specs.List.{find}
 use Rattle.std.proofs.lemmas.Bool.{both_ways, false_from_ne_true, not-true, not-false, eqb-true}
 use Rattle.std.proofs.lemmas.Nat.{row_fits}
 use Rattle.flat_model.specs.Places.{is_number}
-use Rattle.flat_model.proofs.Places.{place_of-first, place_of-none}
+use Rattle.flat_model.proofs.Places.{place_of-first, place_of-none, place_of-nowhere}
 use Rattle.cache_directory.specs.declared.directory.Choice.TheVariants.{Free, Victim}
 use Rattle.cache_directory.specs.Frames.{Frame, Frames, IsWhole, empty_frame, frame_at, is_held, frame_of, order_of, ways_of, set_of, choice_from, free_way, oldest, chosen, is_all_pending, are_pending}
-use Rattle.cache_directory.proofs.Finds.{place_of-nowhere, place_of-passes, find-passes, find-all, find-nowhere, range_within, All-range, list_all-passes, range_not_all}
+use Rattle.cache_directory.proofs.Finds.{find-passes, find-all, find-nowhere, range_within, All-range, list_all-passes, range_not_all}
 use Rattle.cache_directory.proofs.Orders.{times-all}
 use Rattle.cache_directory.proofs.Whole.{held_there, in_row, of_row, held_in_order, order_held}
 
@@ -20,13 +20,6 @@ is_number-same : (o : Option ℕ) (b : ℕ) → o ≡ Some b → is_number o b �
 is_number-same o b e = ap (λ k. is_number k b) e ∙ eq-eqb b b refl
 
 -- ---- the frame that holds a block
-
--- it is there, and holds the block
-pub found_there : (d : Frames) (block f : ℕ) → frame_of d.frames block ≡ Some f → (f < length d.frames) × ((frame_at d.frames f).block ≡ Some block)
-unfolding frame_of
-found_there d block f e =
-    let h = place_of-passes (λ (y : Frame). is_number y.block block) d.frames f empty_frame e in
-    (h.0, is_number-true (frame_at d.frames f).block block h.1)
 
 -- no frame holds the block
 pub found_nowhere : (d : Frames) (block f : ℕ) → frame_of d.frames block ≡ None → (frame_at d.frames f).block ≡ Some block → ⊥

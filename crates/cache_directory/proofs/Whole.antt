@@ -1,15 +1,15 @@
 -- What is always so of a directory stays so.
-use Rattle.std.proofs.Common.{◌≡◌, ℕ, ◌+◌, ◌-◌, ◌*◌, ◌/◌, ◌%◌, ◌<◌, ◌≤◌, Bool, true, false, cond, ◌&&◌, ◌==◌, List, [], ◌∷◌, ◌++◌, length, get_or, set, replicate, Option, Some, None, is_some, refl, ap, sym, ◌∙◌, arith, inl, inr, ◌⊎◌, eq-eqb, ne_eqb, length-set, get_or-set_same, get_or-set_other}
+use Rattle.std.proofs.Common.{◌≡◌, ℕ, ◌+◌, ◌-◌, ◌*◌, ◌/◌, ◌%◌, ◌<◌, ◌≤◌, Bool, true, false, cond, ◌&&◌, ◌==◌, List, [], ◌∷◌, ◌++◌, length, get_or, set, Option, Some, None, is_some, refl, ap, sym, ◌∙◌, arith, inl, inr, ◌⊎◌, eq-eqb, ne_eqb, length-set, get_or-set_same, get_or-set_other}
 use Rattle.std.specs.List.{All}
 use Rattle.std.proofs.lemmas.Bool.{cases_eq, cases_lt, false≢true, both_ways, and_parts, eqb-true}
-use Rattle.std.proofs.lemmas.List.{get_or_past, get_or-replicate, length-replicate}
+use Rattle.std.proofs.lemmas.List.{get_or_past, length-replicate}
 use Rattle.std.proofs.lemmas.Nat.{rows, div-add-mod', div-mul-add}
 use Rattle.flat_model.specs.declared.Word.{Word}
 use Rattle.flat_model.specs.declared.Lanes.{Lanes}
 use Rattle.flat_model.specs.Places.{is_number}
-use Rattle.cache_directory.specs.Frames.{Frame, Frames, IsWhole, empty_frame, zero_cell, frame_at, is_held, frame_of, order_of, set_of, all_empty, times_in, with_frame, filled, written, settled, fresh_frame, without, installed, released}
+use Rattle.flat_model.proofs.Places.{place_of-nowhere}
+use Rattle.cache_directory.specs.Frames.{Frame, Frames, IsWhole, empty_frame, zero_cell, frame_at, is_held, frame_of, order_of, set_of, times_in, with_frame, filled, written, settled, fresh_frame, without, installed, released}
 use Rattle.cache_directory.proofs.Orders.{times-append, times-one, times-none, times-without_same, times-without_other, length-within, All-times}
-use Rattle.cache_directory.proofs.Finds.{place_of-nowhere}
 
 -- a frame that holds a block is there
 pub held_there : (d : Frames) (f : ℕ) → is_held d f ≡ true → f < length d.frames
@@ -241,32 +241,3 @@ whole-released ways words d f h held =
     ordered s g (inr m) (inr n) = ap (λ l. times_in l g) (get_or-set_other d.orders t s (without (order_of d t) f) [] m) ∙ at_other s g n
 
 -- ---- a new directory
-
-get_or-empty : {X : Type 0} (n i : ℕ) (d : X) → get_or (replicate n d) i d ≡ d
-get_or-empty n i d =
-    elim (cases_lt i n) [
-      | inl l ↦ get_or-replicate n i d d l
-      | inr l ↦ get_or_past (replicate n d) i d (rw (length-replicate n d) l)
-    ]
-
-pub whole-all_empty : (ways words sets : ℕ) → 0 < ways → ways ≤ 8 → 0 < words → words ≤ 16 → 0 < sets → sets ≤ 1024 → IsWhole ways words (all_empty ways sets)
-whole-all_empty ways words sets a b c d e g = record {
-  some_way = a;
-  few_ways = b;
-  some_word = c;
-  few_words = d;
-  some_set = rw (length-replicate {A = List ℕ} sets []) e;
-  few_sets = rw (length-replicate {A = List ℕ} sets []) g;
-  frames_there = length-replicate (sets * ways) empty_frame ∙ ap (λ n. n * ways) (sym (length-replicate {A = List ℕ} sets []));
-  cells = λ f k p. absurd (both_ways (is_held (all_empty ways sets) f) (unheld f) (ap is_some p));
-  empty = λ f p. at f;
-  in_set = λ f k p. absurd (both_ways (is_held (all_empty ways sets) f) (unheld f) (ap is_some p));
-  alone = λ f h k p q. absurd (both_ways (is_held (all_empty ways sets) f) (unheld f) (ap is_some p));
-  ordered = λ s f. ap (λ o. times_in o f) (get_or-empty sets s []) ∙ rw (unheld f) refl;
-}
-  where
-    at : (f : ℕ) → frame_at (all_empty ways sets).frames f ≡ empty_frame
-    at f = get_or-empty (sets * ways) f empty_frame
-
-    unheld : (f : ℕ) → is_held (all_empty ways sets) f ≡ false
-    unheld f = ap (λ (y : Frame). is_some y.block) (at f)

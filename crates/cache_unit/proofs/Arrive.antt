@@ -311,10 +311,6 @@ not_le {m} {n} h = grind (arith, nat_tests)
 abbrev made : Sizes → Cache → UnitState
 made z c = record { sizes = z; cache = c }
 
-not_false : (b : Bool) → not b ≡ true → b ≡ false
-not_false true h = absurd (false≢true h)
-not_false false h = refl
-
 pub arrive-stray : (z : Sizes) (c : Cache) (u : UnitState) (s i : ℕ) (word : Word) → made z c ≡ u → is_stray z c s i ≡ true → arrive_step u.sizes u.cache s i word ≡ record { answer = Refused StrayWord; cache = u.cache; sent = [] }
 unfolding arrive_step arrive_cause
 arrive-stray z c u s i word e h = subst (λ (v : UnitState). arrive_step v.sizes v.cache s i word ≡ record { answer = Refused StrayWord; cache = v.cache; sent = [] }) e (rw h refl)

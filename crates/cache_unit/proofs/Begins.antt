@@ -1,7 +1,7 @@
 -- A block's words as they are begun, one after the other.
 use Rattle.std.proofs.Common.{◌≡◌, ℕ, suc, zero, ◌+◌, ◌*◌, ◌<◌, ◌≤◌, true, false, List, [], ◌∷◌, map, length, replicate, get_or, set, Some, refl, sym, ap, ap₂, ◌∙◌, arith, add-zero, add-one}
 use Rattle.std.specs.List.{range_with_len}
-use Rattle.std.proofs.lemmas.List.{get_or-set_same, set-get_or}
+use Rattle.std.proofs.lemmas.List.{get_or-set_same, set-get_or, set-set}
 use Rattle.flat_model.specs.Words.{zero_word, no_lanes, merged, joined}
 use Rattle.flat_model.proofs.Lanewise.{merged-none, joined-none}
 use Rattle.cache_directory.specs.declared.Cell.{Cell}
@@ -10,7 +10,6 @@ use Rattle.miss_registers.specs.Registers.{Field, Register, free_register, clear
 use Rattle.write_queue.specs.declared.Queued.{Queued}
 use Rattle.write_queue.specs.Queue.{overlaid, queued_lanes}
 use Rattle.cache_unit.specs.Begun.{begun_cell, begun_field, begun_frame, begun_register}
-use Rattle.cache_unit.proofs.Lists.{set_twice}
 
 -- of n values, the first i those of g from a on, and d behind them
 abbrev pub begun_to : {X : Type 0} → (ℕ → X) → X → (a i n : ℕ) → List X
@@ -63,7 +62,7 @@ frame_next d d' d'' words entries block frame i there small e e' =
     let clean : (cell_at now i).dirty ≡ no_lanes = ap (λ (c : Cell). c.dirty) (begun_at g zero_cell zero_cell (block * words) i words small) in
     let one : filled now i word no_lanes ≡ frame_to words entries block (i + 1) =
     ap (λ (cs : List Cell). let f : Frame = record { block = Some block; pending = true; cells = cs } in f) (ap₂ (λ w m. let c : Cell = record { word = w; dirty = m } in set now.cells i c) bytes clean ∙ begun_set g zero_cell (block * words) i words small ∙ ap (λ k. begun_to g zero_cell (block * words) k words) (sym (add-one i))) in
-    e' ∙ ap (λ (f : Frame). with_frame d' frame (filled f i word no_lanes)) at ∙ ap (λ (f : Frame). with_frame d' frame f) one ∙ ap (λ (x : Frames). with_frame x frame (frame_to words entries block (i + 1))) e ∙ ap (λ (fs : List Frame). let x : Frames = record { frames = fs; orders = d.orders } in x) (set_twice d.frames frame now (frame_to words entries block (i + 1)))
+    e' ∙ ap (λ (f : Frame). with_frame d' frame (filled f i word no_lanes)) at ∙ ap (λ (f : Frame). with_frame d' frame f) one ∙ ap (λ (x : Frames). with_frame x frame (frame_to words entries block (i + 1))) e ∙ ap (λ (fs : List Frame). let x : Frames = record { frames = fs; orders = d.orders } in x) (set-set d.frames frame now (frame_to words entries block (i + 1)))
 
 -- the register's next code is noted
 pub register_next : (rs rs' rs'' : List Register) (words : ℕ) (entries : List Queued) (block frame slot i : ℕ) → slot < length rs → i < words → rs' ≡ set rs slot (register_to words entries block frame i) → rs'' ≡ set rs' slot (noted (register_at rs' slot) i (queued_lanes entries (block * words + i))) → rs'' ≡ set rs slot (register_to words entries block frame (i + 1))
@@ -77,7 +76,7 @@ register_next rs rs' rs'' words entries block frame slot i there small e e' =
     let field : (f : Field) → f ≡ clear_field → ◌≡◌ {A = Field} (record f { code = joined f.code lanes }) (g (block * words + i)) = λ f q. ap (λ (x : Field). let y : Field = record x { code = joined x.code lanes } in y) q ∙ ap (λ m. let y : Field = record { in_stack = false; processed = false; code = m; waiting = [] } in y) (joined-none lanes) in
     let one : noted now i lanes ≡ register_to words entries block frame (i + 1) =
     ap (λ (fs : List Field). let r : Register = record { valid = true; obsolete = false; block = block; frame = frame; fields = fs } in r) (ap (λ (f : Field). set now.fields i f) (field (field_of now i) clear) ∙ begun_set g clear_field (block * words) i words small ∙ ap (λ k. begun_to g clear_field (block * words) k words) (sym (add-one i))) in
-    e' ∙ ap (λ (r : Register). set rs' slot (noted r i lanes)) at ∙ ap (λ (r : Register). set rs' slot r) one ∙ ap (λ (x : List Register). set x slot (register_to words entries block frame (i + 1))) e ∙ set_twice rs slot now (register_to words entries block frame (i + 1))
+    e' ∙ ap (λ (r : Register). set rs' slot (noted r i lanes)) at ∙ ap (λ (r : Register). set rs' slot r) one ∙ ap (λ (x : List Register). set x slot (register_to words entries block frame (i + 1))) e ∙ set-set rs slot now (register_to words entries block frame (i + 1))
 
 pub frame_whole : (words : ℕ) (entries : List Queued) (block i : ℕ) → i ≡ words → frame_to words entries block i ≡ begun_frame words entries block
 frame_whole words entries block i e =

@@ -1,7 +1,7 @@
 -- What the parts show once a miss has brought its block in.
-use Rattle.std.proofs.Common.{◌≡◌, ℕ, suc, zero, ◌+◌, ◌*◌, ◌/◌, ◌%◌, ◌==◌, not, ◌&&◌, if◌then◌else◌, Bool, true, false, cond, List, [], ◌∷◌, ◌++◌, map, set, Option, Some, None, refl, sym, ap, ap₂, ◌∙◌, arith, add-zero}
+use Rattle.std.proofs.Common.{◌≡◌, ℕ, zero, ◌+◌, ◌*◌, ◌/◌, ◌%◌, ◌==◌, not, ◌&&◌, if◌then◌else◌, Bool, true, false, cond, List, [], ◌∷◌, ◌++◌, map, set, Option, Some, None, refl, sym, ap, ap₂, ◌∙◌, arith, add-zero}
 use Rattle.std.specs.List.{range_with_len}
-use Rattle.std.proofs.lemmas.List.{set-get_or}
+use Rattle.std.proofs.lemmas.List.{set-get_or, set-set, map-set}
 use Rattle.input_stack.specs.declared.Entry.{Entry}
 use Rattle.write_queue.specs.declared.Queued.{Queued}
 use Rattle.cache_directory.specs.Frames as dir
@@ -13,12 +13,7 @@ use Rattle.cache_unit.specs.Steps.{without, released, fresh_frame, fresh_registe
 use Rattle.cache_unit.specs.Shown.{as_frame, as_field, as_register, as_cache}
 use Rattle.cache_unit.specs.Begun.{begun_cell, begun_field, begun_frame, begun_register}
 use Rattle.cache_unit.specs.GivenUp.{owed_by, owed_words, given_up, missed_frames, missed_registers}
-use Rattle.cache_unit.proofs.Lists.{get_or-map, set_twice}
-
-pub map-set : {X Y : Type 0} (f : X → Y) (xs : List X) (i : ℕ) (x : X) → map f (set xs i x) ≡ set (map f xs) i (f x)
-map-set f [] i x = refl
-map-set f (y ∷ xs) zero x = refl
-map-set f (y ∷ xs) (suc i) x = ap (λ l. f y ∷ l) (map-set f xs i x)
+use Rattle.cache_unit.proofs.Lists.{get_or-map}
 
 pub map-map : {X Y Z : Type 0} (f : Y → Z) (g : X → Y) (xs : List X) → map f (map g xs) ≡ map (λ x. f (g x)) xs
 map-map f g [] = refl
@@ -58,7 +53,7 @@ given_orders ways words d f whole = go (dir.is_held d f) refl
 pub given_frames : (ways : ℕ) (d : dir.Frames) (f : ℕ) (x : dir.Frame) → set (given_up ways d f).frames f x ≡ set d.frames f x
 unfolding dir.released
 given_frames ways d f x =
-    elim (dir.is_held d f) as (λ b. set (cond b (dir.released ways d f) d).frames f x ≡ set d.frames f x) [ true ↦ set_twice d.frames f dir.empty_frame x | false ↦ refl ]
+    elim (dir.is_held d f) as (λ b. set (cond b (dir.released ways d f) d).frames f x ≡ set d.frames f x) [ true ↦ set-set d.frames f dir.empty_frame x | false ↦ refl ]
 
 -- what the frame owes to memory
 pub owed-shown : (z : Sizes) (d : dir.Frames) (rs : List regs.Register) (st : List Entry) (q : List Queued) (ready : List Reply) (f : ℕ) → dirty_words z (as_cache d rs st q ready) (Some f) ≡ owed_words z.block_words d f
@@ -92,12 +87,12 @@ installed-shown z d rs st q ready block f slot whole of_set =
     let fresh = dir.fresh_frame z.block_words block in
     let begun = begun_frame z.block_words q' block in
     let frames : map as_frame (set (set given.frames f fresh) f begun) ≡ set (set (map as_frame d.frames) f empty_frame) f (fresh_frame z (q ++ dirty_words z c (Some f)) block) =
-    ap (map as_frame) (set_twice given.frames f fresh begun ∙ given_frames z.ways d f begun) ∙ map-set as_frame d.frames f begun ∙ ap (set (map as_frame d.frames) f) (begun_frame-shown z q' block ∙ ap (λ l. fresh_frame z l block) queues) ∙ sym (set_twice (map as_frame d.frames) f empty_frame (fresh_frame z (q ++ dirty_words z c (Some f)) block)) in
+    ap (map as_frame) (set-set given.frames f fresh begun ∙ given_frames z.ways d f begun) ∙ map-set as_frame d.frames f begun ∙ ap (set (map as_frame d.frames) f) (begun_frame-shown z q' block ∙ ap (λ l. fresh_frame z l block) queues) ∙ sym (set-set (map as_frame d.frames) f empty_frame (fresh_frame z (q ++ dirty_words z c (Some f)) block)) in
     let given_set : given.orders ≡ set d.orders (f / z.ways) (without (order_of d.orders (f / z.ways)) f) = given_os in
     let orders : set given.orders (f / z.ways) (order_of given.orders (f / z.ways) ++ f ∷ []) ≡ set (set d.orders (f / z.ways) (without (order_of d.orders (f / z.ways)) f)) (block % z.sets) (order_of (set d.orders (f / z.ways) (without (order_of d.orders (f / z.ways)) f)) (block % z.sets) ++ f ∷ []) =
     ap (λ (os : List (List ℕ)). set os (f / z.ways) (order_of os (f / z.ways) ++ f ∷ [])) given_set ∙ ap (λ s. set (set d.orders (f / z.ways) (without (order_of d.orders (f / z.ways)) f)) s (order_of (set d.orders (f / z.ways) (without (order_of d.orders (f / z.ways)) f)) s ++ f ∷ [])) of_set in
     let registers : map as_register (missed_registers z.block_words rs q' f slot block) ≡ set (map as_register rs) slot (fresh_register z (q ++ dirty_words z c (Some f)) block) =
-    ap (map as_register) (set_twice rs slot (regs.fresh z.block_words block f) (begun_register z.block_words q' block f)) ∙ map-set as_register rs slot (begun_register z.block_words q' block f) ∙ ap (set (map as_register rs) slot) (begun_register-shown z q' block f ∙ ap (λ l. fresh_register z l block) queues) in
+    ap (map as_register) (set-set rs slot (regs.fresh z.block_words block f) (begun_register z.block_words q' block f)) ∙ map-set as_register rs slot (begun_register z.block_words q' block f) ∙ ap (set (map as_register rs) slot) (begun_register-shown z q' block f ∙ ap (λ l. fresh_register z l block) queues) in
     λ i. record { frames = frames i; orders = orders i; registers = registers i; stack = st; queue = queues i; ready = ready }
 
 -- the parts after a miss show what the step says

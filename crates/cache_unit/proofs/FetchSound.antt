@@ -2,7 +2,7 @@
 use Rattle.std.proofs.Common.{◌≡◌, ℕ, suc, zero, ◌+◌, ◌*◌, ◌/◌, ◌<◌, ◌≤◌, ◌⊎◌, inl, inr, ◌&&◌, not, Bool, true, false, cond, List, [], ◌∷◌, ◌++◌, map, length, get_or, set, Option, Some, None, refl, sym, ap, ◌∙◌, subst, arith, length-append, length-set, eq-eqb}
 use Rattle.std.specs.List.{range_with_len, sum_by, All}
 use Rattle.std.proofs.lemmas.Bool.{cases_eq, false≢true}
-use Rattle.std.proofs.lemmas.List.{get_or-set_same, get_or-set_other}
+use Rattle.std.proofs.lemmas.List.{get_or-set_same, get_or-set_other, set-set}
 use Rattle.std.proofs.lemmas.List.Elements.{All-nil, All-cons, All-append}
 use Rattle.std.proofs.lemmas.List.FromFn.{length-map-range_with_len}
 use Rattle.std.proofs.lemmas.Option.{none-some}
@@ -21,7 +21,7 @@ use Rattle.cache_unit.specs.Causes.{dirty_from}
 use Rattle.cache_unit.specs.Sound.{entry_at, HasInStack, HasFrame, FilledBy, loads_of, loads_of_field, Stands, StackSound, Tied, QueueSound, OwesSound, IsSound}
 use Rattle.cache_unit.specs.Begun.{begun_cell, begun_field, begun_frame, begun_register}
 use Rattle.cache_unit.specs.GivenUp.{owed_by, owed_words, given_up, missed_frames, missed_registers}
-use Rattle.cache_unit.proofs.Lists.{place_of-only, place_of-none, set_twice}
+use Rattle.cache_unit.proofs.Lists.{place_of-only, place_of-none}
 use Rattle.cache_unit.proofs.Keeps.{frame_of-some}
 use Rattle.cache_unit.proofs.Owing.{owes-same}
 use Rattle.cache_unit.proofs.DirtyWords.{queued_cell}
@@ -70,7 +70,7 @@ QueueSound-given z d f q whole within room h =
 pub missed_is : (ways words : ℕ) (d : dir.Frames) (q : List Queued) (f block : ℕ) → (missed_frames ways words d q f block).frames ≡ set d.frames f (begun_frame words q block)
 unfolding dir.installed
 missed_is ways words d q f block =
-    set_twice (given_up ways d f).frames f (dir.fresh_frame words block) (begun_frame words q block) ∙ given_frames ways d f (begun_frame words q block)
+    set-set (given_up ways d f).frames f (dir.fresh_frame words block) (begun_frame words q block) ∙ given_frames ways d f (begun_frame words q block)
 
 missed_orders : (ways words : ℕ) (d : dir.Frames) (q : List Queued) (f block : ℕ) → dir.IsWhole ways words d → length (missed_frames ways words d q f block).orders ≡ length d.orders
 unfolding dir.installed
@@ -98,9 +98,6 @@ found_alone fs block f e only =
     place_of-only (λ (x : dir.Frame). is_number x.block block) dir.empty_frame fs f refl (ap (λ o. is_number o block) e ∙ eq-eqb block block refl) (λ g h. only g (number_from (dir.frame_at fs g).block block h))
 
 -- ---- frames and registers
-
-length-begun : (g : ℕ → Cell) (a n : ℕ) → length (map g (range_with_len a n)) ≡ n
-length-begun g a n = length-map-range_with_len g a n
 
 not_in_stack : (q : List Queued) (xs : List ℕ) (i : ℕ) → (get_or (map (begun_field q) xs) i regs.clear_field).in_stack ≡ false
 not_in_stack q [] i = refl
@@ -239,7 +236,7 @@ pub IsSound-missed : (z : Sizes) (d : dir.Frames) (rs : List regs.Register) (st 
 IsSound-missed z d rs st q ready block f slot h in_range idle absent there free small room whole whole' =
     let q' = q.entries ++ owed_words z.block_words d f in
     let frames = sym (missed_is z.ways z.block_words d q' f block) in
-    let registers = sym (set_twice rs slot (regs.fresh z.block_words block f) (begun_register z.block_words q' block f)) in
+    let registers = sym (set-set rs slot (regs.fresh z.block_words block f) (begun_register z.block_words q' block f)) in
     let tied = missed_tied z d rs st q ready h block f slot q' in_range idle absent there free in
     let stack_sound = missed_stack z d rs st q ready h block f slot q' in_range idle absent there free in
     let owes = missed_owes z d rs st q ready h block f slot q' in_range idle absent there free in

@@ -6,17 +6,17 @@ use native.Mathlib.Nat.{div-eq_of_lt-le}
 use Rattle.std.proofs.lemmas.Bool.{not-true, or_cases, or_left, or_right}
 use Rattle.std.proofs.lemmas.List.{set-set}
 use Rattle.flat_model.specs.Places.{place_of}
+use Rattle.flat_model.proofs.Places.{place_of-passes}
 use Rattle.write_queue.specs.declared.Queued.{Queued}
 use Rattle.cache_unit.specs.State.{Sizes, Frame, Register, Cache, empty_frame, free_register, frame_at, frame_of, is_present, register_at, is_live, live_for, is_pending, is_pending_block, free_slot}
 use Rattle.cache_unit.specs.Causes.{choose, ways_of, order_of, is_resident_block, dirty_words}
 use Rattle.cache_unit.specs.Steps.{fresh_frame, fresh_register, released, installed, missed, fetched}
 use Rattle.cache_unit.specs.FormLaws.{form_at, missed_words, fetched_words}
 use Rattle.cache_unit.specs.SoundCache.{IsSoundCache}
-use Rattle.cache_unit.proofs.FormsLists.{passes_from_find}
 use Rattle.cache_unit.proofs.FormsParts.{in_range}
 use Rattle.cache_unit.proofs.FormsFinding.{frame_of-some, live_for-some}
 use Rattle.cache_unit.proofs.FormsFetching.{FetchedBy, installed-by}
-use Rattle.cache_unit.proofs.Lists.{place_of-some}
+use Rattle.cache_directory.proofs.Finds.{find-passes}
 
 -- ---- searches
 
@@ -89,7 +89,7 @@ chosen z c h block f e = go (find free ways) refl (find resident order) refl e
 
     by_resident : find resident order ≡ Some f → f < length c.frames
     by_resident q =
-        in_range (λ (x : Frame). is_some x.block) empty_frame c.frames f refl (resident_from c (frame_at c f).block (passes_from_find resident order f q))
+        in_range (λ (x : Frame). is_some x.block) empty_frame c.frames f refl (resident_from c (frame_at c f).block (find-passes resident order f q))
 
     go : (a : Option ℕ) → find free ways ≡ a → (b : Option ℕ) → find resident order ≡ b → option_or a b ≡ Some f → f < length c.frames
     go (Some x) p b q r = by_free (p ∙ r)
@@ -97,7 +97,7 @@ chosen z c h block f e = go (find free ways) refl (find resident order) refl e
 
 pub free_register_at : (c : Cache) (slot : ℕ) → free_slot c ≡ Some slot → (slot < length c.registers) × ((register_at c slot).valid ≡ false)
 free_register_at c slot e =
-    let p = place_of-some (λ (r : Register). not r.valid) free_register c.registers slot e in
+    let p = place_of-passes (λ (r : Register). not r.valid) c.registers slot free_register e in
     (p.0, not-true (register_at c slot).valid p.1)
 
 -- ---- what the causes leave

@@ -17,7 +17,7 @@ use Rattle.memory_banks.specs.declared.Command.TheVariants.{Write}
 use Rattle.cache_unit.specs.declared.Reply.{Reply}
 use Rattle.cache_unit.specs.State.{Sizes, Target, Cache, field_at, live_for, frame_of, targets, cell_of, block_of, place_in}
 use Rattle.cache_unit.specs.Causes.{arrive_cause}
-use Rattle.cache_unit.specs.Steps.{Stepped, unless, moved, drain_first, drain_step, arrived, arrive_step, take_reply, take_step}
+use Rattle.cache_unit.specs.Steps.{Stepped, unless, moved, drain_first, arrived, arrive_step, take_reply, take_step}
 use Rattle.cache_unit.specs.Forms.{Byte, Asked, Form, bytes_of, missing_form, coming_form, over_form, form_in, form, target_form, owed, fill}
 use Rattle.cache_unit.specs.FormLaws.{form_where, form_at, forms, but_at, filled_form, DrainForms, ArriveForms, TakenForms}
 use Rattle.cache_unit.specs.SoundCache.{IsSoundCache}
@@ -45,10 +45,6 @@ drained z room c (q ∷ rest) = go (nat_lt 0 (room (q.at % z.banks)))
     go true = refl
     go false = refl
 
-pub drain_forms : (z : Sizes) (room : ℕ → ℕ) (c : Cache) (a : Answer) (d : Cache) → d ≡ (drain_step z room c).cache → DrainForms z c a d
-unfolding DrainForms drain_step
-drain_forms z room c a d e = ap (forms z) e ∙ drained z room c c.queue
-
 -- another write queue changes none
 pub drain_queue : (z : Sizes) (c : Cache) (queue : List Queued) (a : Answer) → DrainForms z c a (record c { queue = queue })
 unfolding DrainForms form_at frame_of live_for
@@ -59,10 +55,6 @@ unfolding DrainForms
 drain_kept z c a = refl
 
 -- ---- arrive
-
-pub arrive_refused : (z : Sizes) (c : Cache) (slot i : ℕ) (w : Word) (cause : Cause) → ArriveForms z c slot i w (Refused cause) c
-unfolding ArriveForms
-arrive_refused z c slot i w cause = refl
 
 -- a word that arrives fills what comes
 coming_filled : (c : Cache) (slot i : ℕ) (w : Word) (s j : ℕ) (l : Lane) → coming_form (arrived c slot i w) s j l ≡ fill slot i w (coming_form c s j l)

@@ -2,6 +2,7 @@
 use Rattle.std.proofs.Common.{◌≡◌, ℕ, zero, suc, ◌+◌, ◌<◌, true, false, cond, not, ◌==◌, List, [], ◌∷◌, ◌++◌, map, length, get_or, set, Option, Some, None, refl, sym, ap, ◌∙◌, arith, ◌⊎◌, inl, inr, ⊎_elim, mod-lt, div-add-mod', get_or-set_same, get_or-set_other, add-zero, eq-eqb, ne_eqb}
 use Rattle.std.specs.List.{range_with_len}
 use Rattle.std.proofs.lemmas.Bool.{cases_eq, and_parts}
+use Rattle.std.proofs.lemmas.List.FromFn.{length-map-range_with_len}
 use Rattle.flat_model.specs.declared.Word.{Word}
 use Rattle.flat_model.specs.Words.{zero_word, no_lanes}
 use Rattle.write_queue.specs.declared.Queued.{Queued}
@@ -23,10 +24,6 @@ pub range_at : {X : Type 0} (g : ℕ → X) (d : X) (a n j : ℕ) → j < n → 
 range_at g d a zero j l = absurd (omega arith)
 range_at g d a (suc n) zero l = ap g (sym (add-zero a))
 range_at g d a (suc n) (suc j) l = let e : a + 1 + j ≡ a + suc j = omega arith in range_at g d (a + 1) n j (omega arith) ∙ ap g e
-
-pub range_length : {X : Type 0} (g : ℕ → X) (a n : ℕ) → length (map g (range_with_len a n)) ≡ n
-range_length g a zero = refl
-range_length g a (suc n) = ap suc (range_length g (a + 1) n)
 
 pub no_loads : (queue : List Queued) (slot n a k : ℕ) → gathered (targets_of_field slot) n (map (λ (at : ℕ). let f : Field = record { processed = false; code = queued_lanes queue at; waiting = [] } in f) (range_with_len a k)) ≡ []
 no_loads queue slot n a zero = refl
@@ -174,6 +171,6 @@ module _ (z : Sizes) (c : Cache) (h : IsSoundCache z c) (block f slot : ℕ) (ab
         frame = f;
         present = found_now;
         waits = λ a s l j. let q : s ≡ slot = let e : Some s ≡ Some slot = sym l ∙ live_now in cc in ap (λ x. (field_at with_block x j).waiting) q ∙ ap (λ (r : Register). (get_or r.fields j clear_field).waiting) own_register ∙ none_wait queue_then (addresses z block) j;
-        cells = ap (λ (x : Frame). length x.cells) own_frame ∙ range_length _ (address z block 0) z.block_words;
-        fields = λ s l. let q : s ≡ slot = let e : Some s ≡ Some slot = sym l ∙ live_now in cc in ap (λ x. length (register_at with_block x).fields) q ∙ ap (λ (r : Register). length r.fields) own_register ∙ range_length _ (address z block 0) z.block_words;
+        cells = ap (λ (x : Frame). length x.cells) own_frame ∙ length-map-range_with_len _ (address z block 0) z.block_words;
+        fields = λ s l. let q : s ≡ slot = let e : Some s ≡ Some slot = sym l ∙ live_now in cc in ap (λ x. length (register_at with_block x).fields) q ∙ ap (λ (r : Register). length r.fields) own_register ∙ length-map-range_with_len _ (address z block 0) z.block_words;
       }

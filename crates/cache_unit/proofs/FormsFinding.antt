@@ -2,9 +2,10 @@
 use Rattle.std.proofs.Common.{◌≡◌, ℕ, ◌<◌, true, ◌&&◌, ◌==◌, length, Option, Some, None, refl, sym, ap, ap₂, ◌∙◌, eqb-true, eq-eqb}
 use Rattle.std.proofs.lemmas.Bool.{and_parts, and_from, false_from_ne_true}
 use Rattle.flat_model.specs.Places.{is_number}
+use Rattle.flat_model.proofs.Places.{place_of-passes}
 use Rattle.cache_unit.specs.State.{Frame, Register, Cache, empty_frame, free_register, frame_at, frame_of, register_at, is_live, live_for}
 use Rattle.cache_unit.proofs.FormsParts.{place_of-like}
-use Rattle.cache_unit.proofs.Lists.{place_of-some, place_of-only, place_of-none, place_of-all_none}
+use Rattle.cache_unit.proofs.Lists.{place_of-only, place_of-none, place_of-all_none}
 
 pub number_from : (o : Option ℕ) (n : ℕ) → is_number o n ≡ true → o ≡ Some n
 number_from None n h = cc
@@ -16,7 +17,7 @@ number_is o n h = ap (λ x. is_number x n) h ∙ eq-eqb n n refl
 pub frame_of-some : (c : Cache) (b k : ℕ) → frame_of c b ≡ Some k → (k < length c.frames) × ((frame_at c k).block ≡ Some b)
 unfolding frame_of
 frame_of-some c b k h =
-    let s = place_of-some (λ (f : Frame). is_number f.block b) empty_frame c.frames k h in
+    let s = place_of-passes (λ (f : Frame). is_number f.block b) c.frames k empty_frame h in
     (s.0, number_from _ b s.1)
 
 pub frame_of-is : (c : Cache) (b k : ℕ) → ((f g n : ℕ) → (frame_at c f).block ≡ Some n → (frame_at c g).block ≡ Some n → f ≡ g) → (frame_at c k).block ≡ Some b → frame_of c b ≡ Some k
@@ -44,7 +45,7 @@ frame_of-like c c' b e h =
 pub live_for-some : (c : Cache) (b s : ℕ) → live_for c b ≡ Some s → (is_live (register_at c s) ≡ true) × ((register_at c s).block ≡ b)
 unfolding live_for
 live_for-some c b s h =
-    let p = place_of-some (λ (r : Register). is_live r && r.block == b) free_register c.registers s h in
+    let p = place_of-passes (λ (r : Register). is_live r && r.block == b) c.registers s free_register h in
     let q = and_parts (is_live (register_at c s)) ((register_at c s).block == b) p.1 in
     (q.0, eqb-true (register_at c s).block b q.1)
 

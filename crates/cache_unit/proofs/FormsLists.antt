@@ -2,7 +2,7 @@
 use Rattle.std.proofs.Common.{◌≡◌, ℕ, zero, suc, ◌+◌, ◌<◌, ◌≤◌, Bool, true, false, cond, List, [], ◌∷◌, ◌++◌, map, length, get_or, set, take, drop, Option, Some, None, option_map, find, remove, filter, refl, sym, ap, ap₂, ◌∙◌, arith, slice_get, flat_map, append_assoc, append-nil, add-zero, zero-add, length-append}
 use Rattle.std.specs.Option.{option_or}
 use Rattle.std.proofs.lemmas.List.Folds.{find-append}
-use Rattle.flat_model.specs.Places.{place_of}
+use Rattle.std.proofs.lemmas.List.{map-append}
 use Rattle.cache_unit.specs.State.{gathered}
 use Rattle.cache_unit.specs.Counts.{bit, tally}
 
@@ -26,16 +26,6 @@ pub some_from_find : {X : Type 0} (p : X → Bool) (xs : List X) (x : X) → fin
 some_from_find p [] x h = cc
 some_from_find p (y ∷ xs) x h =
     elim (p y) as (λ b. cond b (Some y) (find p xs) ≡ Some x → 1 ≤ bit b + tally p xs) [ true ↦ λ k. omega arith | false ↦ λ k. let ih = some_from_find p xs x k in omega arith ] h
-
--- what is found passes
-pub passes_from_find : {X : Type 0} (p : X → Bool) (xs : List X) (x : X) → find p xs ≡ Some x → p x ≡ true
-passes_from_find p [] x h = cc
-passes_from_find p (y ∷ xs) x h =
-    go (p y) refl (passes_from_find p xs x) h
-  where
-    go : (b : Bool) → p y ≡ b → (find p xs ≡ Some x → p x ≡ true) → cond b (Some y) (find p xs) ≡ Some x → p x ≡ true
-    go true e rest k = let same : y ≡ x = cc in ap p (sym same) ∙ e
-    go false e rest k = rest k
 
 -- where at most one passes, two parts may change places
 pub option_or_comm : {X : Type 0} (p : X → Bool) (xs ys : List X) → tally p xs + tally p ys ≤ 1 → option_or (find p xs) (find p ys) ≡ option_or (find p ys) (find p xs)
@@ -102,17 +92,13 @@ Adds-right zs x xs ys a =
       with = ap (λ l. l ++ zs) a.with ∙ append_assoc a.front (x ∷ a.back) zs;
     }
 
-map-append' : {X Y : Type 0} (f : X → Y) (xs ys : List X) → map f (xs ++ ys) ≡ map f xs ++ map f ys
-map-append' f [] ys = refl
-map-append' f (x ∷ xs) ys = ap (λ l. f x ∷ l) (map-append' f xs ys)
-
 pub Adds-map : {X Y : Type 0} (f : X → Y) (x : X) (xs ys : List X) → Adds x xs ys → Adds (f x) (map f xs) (map f ys)
 Adds-map f x xs ys a =
     record {
       front = map f a.front;
       back = map f a.back;
-      without = ap (map f) a.without ∙ map-append' f a.front a.back;
-      with = ap (map f) a.with ∙ map-append' f a.front (x ∷ a.back);
+      without = ap (map f) a.without ∙ map-append f a.front a.back;
+      with = ap (map f) a.with ∙ map-append f a.front (x ∷ a.back);
     }
 
 -- a removal, read backwards
@@ -125,17 +111,6 @@ Adds-remove x xs k h = record { front = take k xs; back = drop (suc k) xs; witho
     split (y ∷ l) (suc n) e = ap (λ v. y ∷ v) (split l n e)
 
 -- ---- the first place
-
--- two lists of which the tests say the same at each place
-pub place_of-same : {X Y : Type 0} (p : X → Bool) (q : Y → Bool) (xs : List X) (ys : List Y) → map p xs ≡ map q ys → place_of p xs ≡ place_of q ys
-place_of-same p q [] [] h = refl
-place_of-same p q [] (y ∷ ys) h = cc
-place_of-same p q (x ∷ xs) [] h = cc
-place_of-same p q (x ∷ xs) (y ∷ ys) h =
-    let head : p x ≡ q y = cc in
-    let tail : map p xs ≡ map q ys = cc in
-    let ih = place_of-same p q xs ys tail in
-    cc
 
 -- ---- parts of a gathered list
 

@@ -383,7 +383,3 @@ process_ok z c h place (Some x) e = processed_forms z c h place x e
 pub process_forms : (z : Sizes) (c : Cache) → IsSoundCache z c → (place : ℕ) (a : Answer) (d : Cache) → d ≡ (process_step c place).cache → ProcessForms z c a d
 unfolding ProcessForms process_step
 process_forms z c h place a d e = ap (forms z) e ∙ process_ok z c h place (slice_get c.stack place) refl
-
-pub process_kept : (z : Sizes) (c : Cache) (a : Answer) → ProcessForms z c a c
-unfolding ProcessForms
-process_kept z c a = refl

@@ -6,7 +6,7 @@ use Rattle.flat_model.specs.declared.Lanes.{Lanes}
 use Rattle.flat_model.specs.declared.Cause.{Cause}
 use Rattle.flat_model.specs.declared.Cause.TheVariants.{OutOfRange, NoLanes, TagInUse, RepliesFull, NoRegister, SetPending}
 use Rattle.flat_model.specs.declared.Answer.{Answer}
-use Rattle.flat_model.specs.declared.Answer.TheVariants.{Accepted, Refused}
+use Rattle.flat_model.specs.declared.Answer.TheVariants.{Accepted}
 use Rattle.memory_banks.specs.declared.Command.{Command}
 use Rattle.cache_unit.specs.declared.Reply.{Reply}
 use Rattle.cache_unit.specs.declared.Request.{Request}
@@ -113,9 +113,3 @@ module _ (z : Sizes) (room : ℕ → ℕ) (c : Cache) (h : IsSoundCache z c) whe
 pub request_forms : (z : Sizes) (room : ℕ → ℕ) (c : Cache) → IsSoundCache z c → (request : Request) (a : Answer) (d : Cache) → a ≡ (request_step z room c request).answer → d ≡ (request_step z room c request).cache → RequestForms z c request a d
 request_forms z room c h request a d ea ed =
     subst (λ x. RequestForms z c request x d) (sym ea) (subst (λ x. RequestForms z c request (request_step z room c request).answer x) (sym ed) (request-ok z room c h request))
-
-pub request_refused : (z : Sizes) (c : Cache) (request : Request) (cause : Cause) → RequestForms z c request (Refused cause) c
-unfolding RequestForms
-request_refused z c (Load tag at) cause = refl
-request_refused z c (Store at word lanes) cause = refl
-request_refused z c (Prefetch at) cause = refl

@@ -3,7 +3,7 @@ use Rattle.std.proofs.Common.{◌≡◌, ℕ, suc, zero, ◌+◌, ◌<◌, ◌�
 use Rattle.std.specs.List.{list_all, remove}
 use Rattle.std.proofs.lemmas.List.{get_or-set_same, get_or-set_other, get_or_past}
 use Rattle.std.proofs.lemmas.List.Edits.{length-remove, get_or-remove_below, get_or-remove_above}
-use Rattle.std.proofs.lemmas.Bool.{false≢true, cases_lt, cases_eq, cases_order}
+use Rattle.std.proofs.lemmas.Bool.{false≢true, cases_lt, cases_eq, cases_order, false_from_ne_true}
 use Rattle.flat_model.specs.declared.Word.{Word}
 use Rattle.flat_model.specs.declared.Lanes.{Lanes}
 use Rattle.flat_model.specs.Places.{place_of}
@@ -15,14 +15,16 @@ use Rattle.std.proofs.lemmas.Option.{none-some, same_Some}
 use Rattle.cache_unit.specs.Parts.{filled_live, settled_if, CanFill}
 use Rattle.write_queue.specs.Queue.{Queue}
 use Rattle.flat_model.specs.Places.{is_number}
+use Rattle.flat_model.proofs.Places.{place_of-passes}
 use Rattle.cache_unit.specs.State.{Sizes}
 use Rattle.cache_unit.specs.Sound.{no_entry, entry_at, HasInStack, Stands, HasFrame, FilledBy, IsSound}
 use Rattle.cache_unit.specs.Steps.{answered}
 use Rattle.miss_registers.specs.Whole.{IsWhole}
 use Rattle.cache_unit.proofs.Owing.{count_by-all, loads_there, owes-finished}
-use Rattle.cache_unit.proofs.Lists.{list_all-at, place_of-some}
+use Rattle.cache_unit.proofs.Lists.{list_all-at}
 use Rattle.cache_unit.proofs.Process.{live_of, filled_live-orders}
 use Rattle.cache_unit.proofs.FormsFinding.{number_from}
+use Rattle.cache_unit.proofs.FormsPlaces.{place_of-set}
 
 -- ---- one register
 
@@ -38,10 +40,6 @@ live-open r h = open_by r.valid r.obsolete h
     open_by true true e = absurd (false≢true e)
     open_by false o e = absurd (false≢true e)
 
-is_false : (b : Bool) → (b ≡ true → ⊥) → b ≡ false
-is_false true h = absurd (h refl)
-is_false false h = refl
-
 pub HasInStack-finished : (r : regs.Register) (i j : ℕ) → HasInStack r j → (j ≡ i → ⊥) → HasInStack (regs.finished r i) j
 unfolding regs.finished
 HasInStack-finished r i j h n =
@@ -50,7 +48,7 @@ HasInStack-finished r i j h n =
     let m : (get_or fs j regs.clear_field).in_stack ≡ true = ap (λ (f : regs.Field). f.in_stack) (get_or-set_other r.fields i j regs.finished_field regs.clear_field n) ∙ h.marked in
     let p : (get_or fs j regs.clear_field).processed ≡ false = ap (λ (f : regs.Field). f.processed) (get_or-set_other r.fields i j regs.finished_field regs.clear_field n) ∙ h.waits in
     let there : j < length fs = omega (arith, l, h.there) in
-    HasInStack-by (regs.is_done fs) r fs j (is_false _ (λ t. false≢true (sym p ∙ list_all-at (λ (f : regs.Field). f.processed) fs j regs.clear_field t there))) h.valid there p m
+    HasInStack-by (regs.is_done fs) r fs j (false_from_ne_true _ (λ t. false≢true (sym p ∙ list_all-at (λ (f : regs.Field). f.processed) fs j regs.clear_field t there))) h.valid there p m
 
 finished-live : (b : Bool) (r : regs.Register) (fs : List regs.Field) → regs.is_live (if b then regs.free_register else record r { fields = fs }) ≡ true → ((if b then regs.free_register else record r { fields = fs }) ≡ record r { fields = fs }) × (regs.is_live r ≡ true) × (b ≡ false)
 finished-live true r fs h = absurd (false≢true h)
@@ -63,11 +61,6 @@ pub record SameBlocks (d d' : List dir.Frame) : Type 0 where
   pub holds : (b : ℕ) → dir.frame_of d' b ≡ dir.frame_of d b
   pub cells : (f : ℕ) → length (dir.frame_at d' f).cells ≡ length (dir.frame_at d f).cells
   pub blocks : (f : ℕ) → (dir.frame_at d' f).block ≡ (dir.frame_at d f).block
-
-place_of-set : {X : Type 0} (p : X → Bool) (xs : List X) (i : ℕ) (y d : X) → p y ≡ p (get_or xs i d) → place_of p (set xs i y) ≡ place_of p xs
-place_of-set p [] i y d e = refl
-place_of-set p (x ∷ xs) zero y d e = rw e refl
-place_of-set p (x ∷ xs) (suc i) y d e = rw (place_of-set p xs i y d e) refl
 
 length_at-set : (xs : List dir.Frame) (i f : ℕ) (y : dir.Frame) → length y.cells ≡ length (dir.frame_at xs i).cells → length (dir.frame_at (set xs i y) f).cells ≡ length (dir.frame_at xs f).cells
 length_at-set [] i f y e = refl
@@ -86,7 +79,7 @@ block_at-set (x ∷ xs) (suc i) (suc f) y e = block_at-set xs i f y e
 pub SameBlocks-set : (d : List dir.Frame) (f : ℕ) (y : dir.Frame) → y.block ≡ (dir.frame_at d f).block → length y.cells ≡ length (dir.frame_at d f).cells → SameBlocks d (set d f y)
 unfolding dir.frame_of
 SameBlocks-set d f y e l = record {
-  holds = λ b. place_of-set (λ (x : dir.Frame). is_number x.block b) d f y dir.empty_frame (ap (λ (o : Option ℕ). is_number o b) e);
+  holds = λ b. place_of-set (λ (x : dir.Frame). is_number x.block b) dir.empty_frame d f y (ap (λ (o : Option ℕ). is_number o b) e);
   cells = λ g. length_at-set d f g y l;
   blocks = λ g. block_at-set d f g y e;
 }
@@ -145,7 +138,7 @@ was_pending d (Some f) i word keep true g h =
 pub frame_of-some : (fs : List dir.Frame) (b f : ℕ) → dir.frame_of fs b ≡ Some f → (f < length fs) × ((dir.frame_at fs f).block ≡ Some b)
 unfolding dir.frame_of
 frame_of-some fs b f e =
-    let s = place_of-some (λ (x : dir.Frame). is_number x.block b) dir.empty_frame fs f e in
+    let s = place_of-passes (λ (x : dir.Frame). is_number x.block b) fs f dir.empty_frame e in
     (s.0, number_from _ b s.1)
 
 -- two live registers bring the words of two frames
@@ -233,12 +226,6 @@ live_before rs s t r l f h =
           let same : regs.register_at (set rs s r) t ≡ regs.register_at rs t = get_or-set_other rs s t r regs.free_register e in
           rw same (Since-self (regs.register_at rs t) (rw same at h)))
     ]
-
-pub apart_before : (rs rs' : List regs.Register) → ((s : ℕ) → regs.is_live (regs.register_at rs' s) ≡ true → Since (regs.register_at rs s) (regs.register_at rs' s)) → ((s t : ℕ) → regs.is_live (regs.register_at rs s) ≡ true → regs.is_live (regs.register_at rs t) ≡ true → (regs.register_at rs s).block ≡ (regs.register_at rs t).block → s ≡ t) → (s t : ℕ) → regs.is_live (regs.register_at rs' s) ≡ true → regs.is_live (regs.register_at rs' t) ≡ true → (regs.register_at rs' s).block ≡ (regs.register_at rs' t).block → s ≡ t
-apart_before rs rs' b h s t ls lt e =
-    let x = b s ls in
-    let y = b t lt in
-    h s t x.live y.live (sym x.block ∙ e ∙ y.block)
 
 finished-since : (r : regs.Register) (i : ℕ) → regs.is_live (regs.finished r i) ≡ true → Since r (regs.finished r i)
 unfolding regs.finished
@@ -369,7 +356,7 @@ module _ (z : Sizes) (d : dir.Frames) (rs : List regs.Register) (st : List Entry
           let live : regs.is_live r ≡ true = ap (λ s. regs.is_live (regs.register_at rs s)) (sym x) ∙ w.live in
           let frame : r.frame ≡ f = ap (λ s. (regs.register_at rs s).frame) (sym x) ∙ w.frame in
           let open_ : r.obsolete ≡ false = live-open r live in
-          let few : last ≡ false = is_false last (λ t. n t (rw open_ (ap Some frame))) in
+          let few : last ≡ false = false_from_ne_true last (λ t. n t (rw open_ (ap Some frame))) in
           let s = finished-still r (entry_at st k).i few live in
           record { slot = (entry_at st k).slot; live = ap regs.is_live own ∙ s.0; frame = ap (λ (y : regs.Register). y.frame) own ∙ s.1 ∙ frame }
 

@@ -18,7 +18,7 @@ use Rattle.cache_unit.specs.Shown.{as_frame, as_register, as_cache}
 use Rattle.cache_unit.specs.Sound.{InRange, owing, loads_of, IsSound}
 
 -- each element of a list of equal ones, and what stands past its end
-all_same : {X : Type 0} (n k : ℕ) (x : X) → get_or (replicate n x) k x ≡ x
+pub all_same : {X : Type 0} (n k : ℕ) (x : X) → get_or (replicate n x) k x ≡ x
 all_same n k x =
     elim (cases_lt k n) [
       | inl h ↦ get_or-replicate n k x x h

@@ -1,18 +1,15 @@
 -- What a shape with no bad number gives.
-use Rattle.std.proofs.Common.{◌≡◌, ℕ, ◌+◌, ◌-◌, ◌*◌, ◌/◌, ◌%◌, ◌≤◌, Bool, true, false, ◌&&◌, not, cond, ◌==◌, nat_le, Option, Some, None, refl, arith}
+use Rattle.std.proofs.Common.{◌≡◌, ℕ, ◌+◌, ◌-◌, ◌*◌, ◌/◌, ◌%◌, ◌≤◌, Bool, true, false, ◌&&◌, not, cond, ◌==◌, Option, Some, None, refl, arith}
 use Rattle.std.proofs.Math.Nat.{mod-lt, mul-le-mul_right}
 use Rattle.std.proofs.lemmas.Nat.{div-add-mod'}
-use Rattle.std.proofs.lemmas.Bool.{leb-true, eqb-true, and_parts}
+use Rattle.std.proofs.lemmas.Bool.{eqb-true, and_parts}
 use Rattle.flat_model.specs.declared.ShapeField.{ShapeField}
 use Rattle.flat_model.specs.declared.ShapeField.TheVariants.{BlockWords, Ways, Regs, Depth, Words, Sets, Banks, BankQueue, WriteQueue, Replies}
+use Rattle.flat_model.specs.Ranges.{is_between}
+use Rattle.flat_model.proofs.Ranges.{between}
 use Rattle.cache_unit.specs.State.{Sizes}
 use Rattle.cache_unit.specs.Sound.{InRange}
-use Rattle.cache_unit.specs.Limits.{is_between, words_per_bank, bad_number, bad_field}
-
-between : (n low high : ℕ) → is_between n low high ≡ true → (low ≤ n) × (n ≤ high)
-between n low high e =
-    let p = and_parts (nat_le low n) (nat_le n high) e in
-    (leb-true low n p.0, leb-true n high p.1)
+use Rattle.cache_unit.specs.Limits.{words_per_bank, bad_number, bad_field}
 
 -- so many commands at each bank are enough for a block
 enough : (words banks queue : ℕ) → 1 ≤ banks → (words + banks - 1) / banks ≤ queue → words ≤ queue * banks

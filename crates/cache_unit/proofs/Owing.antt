@@ -1,28 +1,18 @@
 -- How many values are owed, by a test of their tags.
-use Rattle.std.proofs.Common.{◌≡◌, ℕ, suc, zero, ◌+◌, ◌<◌, ◌≤◌, Bool, true, false, cond, ◌==◌, if◌then◌else◌, List, [], ◌∷◌, ◌++◌, map, length, set, refl, arith}
+use Rattle.std.proofs.Common.{◌≡◌, ℕ, suc, zero, ◌+◌, ◌<◌, ◌≤◌, Bool, true, false, cond, ◌==◌, if◌then◌else◌, List, [], ◌∷◌, ◌++◌, length, set, refl, arith}
 use Rattle.std.specs.List.{sum_by, count_by, remove}
-use Rattle.std.proofs.lemmas.List.Sums.{sum_by-set, sum_by-cons, sum_by-append}
+use Rattle.std.proofs.lemmas.List.Sums.{sum_by-set, sum_by-cons}
 use Rattle.flat_model.specs.declared.Word.{Word}
 use Rattle.flat_model.specs.Words.{merged}
 use Rattle.miss_registers.specs.Registers as regs
 use Rattle.miss_registers.specs.declared.Owed.{Owed}
+use Rattle.miss_registers.proofs.Tags.{count_by-append, count_by-map}
 use Rattle.cache_unit.specs.declared.Reply.{Reply}
 use Rattle.cache_unit.specs.State.{Sizes}
 use Rattle.cache_unit.specs.Steps.{answered}
 use Rattle.cache_unit.specs.Sound.{loads_of_field, loads_of, owing, OwesSound}
 
 -- ---- counts
-
-pub count_by-append : {X : Type 0} (p : X → Bool) (xs ys : List X) → count_by p (xs ++ ys) ≡ count_by p xs + count_by p ys
-count_by-append p xs ys = sum_by-append (λ x. cond (p x) 1 0) xs ys
-
-pub count_by-map : {X Y : Type 0} (p : Y → Bool) (f : X → Y) (xs : List X) → count_by p (map f xs) ≡ count_by (λ x. p (f x)) xs
-count_by-map p f [] = refl
-count_by-map p f (x ∷ xs) =
-    let a = sum_by-cons (λ y. cond (p y) 1 0) (f x) (map f xs) in
-    let b = sum_by-cons (λ y. cond (p (f y)) 1 0) x xs in
-    let r = count_by-map p f xs in
-    omega arith
 
 pub count_by-all : {X : Type 0} (xs : List X) → count_by (λ x. true) xs ≡ length xs
 count_by-all [] = refl

@@ -246,12 +246,6 @@ written_in-shown d rs st q ready (Some f) i word m =
     let merge_in : Cell → Cell = λ x. record { word = merged x.word word m; dirty = joined x.dirty m } in
     with_cell-shown d rs st q ready f i (merge_in cell) ∙ ap (λ (x : Frame). with_cell c f i (merge_in (get_or x.cells i zero_cell))) (sym (frame_at-shown d.frames f))
 
--- the registers don't change where a cell does
-live_for-written : (c : Cache) (o : Option ℕ) (i : ℕ) (word : Word) (m : Lanes) (block : ℕ) → live_for (written_in c o i word m) block ≡ live_for c block
-unfolding live_for with_cell
-live_for-written c None i word m block = refl
-live_for-written c (Some f) i word m block = refl
-
 pub stored-shown : (d : dir.Frames) (rs : List regs.Register) (st : List Entry) (q : List Queued) (ready : List Reply) (block i : ℕ) (word : Word) (m : Lanes) → as_cache (written_for d (dir.frame_of d.frames block) i word m) (noted_for rs (regs.live_for rs block) i m) st q ready ≡ written (as_cache d rs st q ready) block i word m
 stored-shown d rs st q ready block i word m =
     let c = as_cache d rs st q ready in

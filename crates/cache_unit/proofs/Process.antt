@@ -3,6 +3,7 @@ use Rattle.std.proofs.Common.{◌≡◌, ℕ, Bool, true, false, if◌then◌els
 use Rattle.std.specs.List.{list_all, remove}
 use Rattle.std.proofs.lemmas.List.{map-set}
 use Rattle.std.proofs.Math.Seq.{map-set_same}
+use Rattle.std.proofs.lemmas.List.Folds.{list_all-map}
 use Rattle.flat_model.specs.declared.Word.{Word}
 use Rattle.flat_model.specs.declared.Lanes.{Lanes}
 use Rattle.flat_model.specs.Words.{merged}
@@ -19,7 +20,7 @@ use Rattle.cache_unit.specs.Steps.{finished, filled, filled_in, processed, answe
 use Rattle.cache_unit.specs.Parts.{filled_live, settled_if}
 use Rattle.cache_unit.specs.Shown.{as_frame, as_field, as_register, as_cache}
 use Rattle.cache_unit.specs.Sound.{HasFrame}
-use Rattle.cache_unit.proofs.Lists.{get_or-map, list_all-map}
+use Rattle.cache_unit.proofs.Lists.{get_or-map}
 
 -- ---- registers
 

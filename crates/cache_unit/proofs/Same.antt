@@ -4,7 +4,7 @@ use Rattle.std.proofs.lemmas.List.{get_or-set_same, get_or-set_other}
 use Rattle.std.proofs.lemmas.Bool.{false≢true, cases_eq, and_parts, and_from, false_from_ne_true}
 use Rattle.std.proofs.lemmas.Option.{same_Some}
 use Rattle.flat_model.specs.Places.{is_number}
-use Rattle.flat_model.proofs.Places.{place_of-map}
+use Rattle.flat_model.proofs.Places.{place_of-map, place_of-passes}
 use Rattle.cache_directory.specs.Frames as dir
 use Rattle.miss_registers.specs.Registers as regs
 use Rattle.input_stack.specs.declared.Entry.{Entry}
@@ -13,7 +13,7 @@ use Rattle.cache_unit.specs.declared.Reply.{Reply}
 use Rattle.cache_unit.specs.State.{Register, is_live, live_for}
 use Rattle.cache_unit.specs.Shown.{as_register, as_cache}
 use Rattle.cache_unit.specs.Sound.{entry_at, StackSound, Tied}
-use Rattle.cache_unit.proofs.Lists.{place_of-some, place_of-only, place_of-none, place_of-all_none}
+use Rattle.cache_unit.proofs.Lists.{place_of-only, place_of-none, place_of-all_none}
 use Rattle.cache_unit.proofs.Keeps.{SameBlocks, frame_of-some}
 use Rattle.cache_unit.proofs.FormsFinding.{number_from, number_is}
 
@@ -52,22 +52,6 @@ StackSound-same rs rs' st m h = record {
       });
   distinct = h.distinct;
   marks = λ s i t. h.marks s i (sym ((m s).in_stack i) ∙ t);
-}
-
--- a register that wasn't valid is another without marks
-pub StackSound-fresh : (rs : List regs.Register) (st : List Entry) (slot : ℕ) (r : regs.Register) → slot < length rs → (regs.register_at rs slot).valid ≡ false → ((i : ℕ) → (regs.field_of r i).in_stack ≡ false) → StackSound rs st → StackSound (set rs slot r) st
-StackSound-fresh rs st slot r l v f h = record {
-  entries = λ k p. (
-      let e = h.entries k p in
-      let other : (entry_at st k).slot ≡ slot → ⊥ = λ q. false≢true (sym v ∙ ap (λ s. (regs.register_at rs s).valid) (sym q) ∙ e.valid) in
-      rw (get_or-set_other rs slot (entry_at st k).slot r regs.free_register other) e);
-  distinct = h.distinct;
-  marks = λ s i t. elim (cases_eq s slot) [
-    | inl q ↦ (
-        let same : regs.register_at (set rs slot r) s ≡ r = rw q (get_or-set_same rs slot r regs.free_register l) in
-        absurd (false≢true (sym (f i) ∙ ap (λ (x : regs.Register). (regs.field_of x i).in_stack) (sym same) ∙ t)))
-    | inr q ↦ h.marks s i (ap (λ (x : regs.Register). (regs.field_of x i).in_stack) (sym (get_or-set_other rs slot s r regs.free_register q)) ∙ t)
-  ];
 }
 
 -- ---- registers of which the block and the frame stay
@@ -150,7 +134,7 @@ live_for-shown d rs st q ready b = place_of-map (λ (r : Register). is_live r &&
 pub live_for-some : (rs : List regs.Register) (b s : ℕ) → regs.live_for rs b ≡ Some s → (s < length rs) × (regs.is_live (regs.register_at rs s) ≡ true) × ((regs.register_at rs s).block ≡ b)
 unfolding regs.live_for
 live_for-some rs b s h =
-    let p = place_of-some (λ (r : regs.Register). regs.is_live r && r.block == b) regs.free_register rs s h in
+    let p = place_of-passes (λ (r : regs.Register). regs.is_live r && r.block == b) rs s regs.free_register h in
     let q = and_parts (regs.is_live (regs.register_at rs s)) ((regs.register_at rs s).block == b) p.1 in
     (p.0, q.0, eqb-true (regs.register_at rs s).block b q.1)
 

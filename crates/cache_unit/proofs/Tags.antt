@@ -1,13 +1,14 @@
 -- The tags of the values that stand ready, and of the loads that wait.
 use Rattle.std.proofs.Common.{◌≡◌, ℕ, suc, ◌+◌, ◌<◌, ◌≤◌, Bool, true, false, cond, ◌||◌, ◌==◌, if◌then◌else◌, List, [], ◌∷◌, ◌++◌, map, length, get_or, set, refl, ap, ap₂, sym, ◌∙◌, arith, length-append, eqb-true}
 use Rattle.std.specs.List.{sum_by, count_by, list_any, flat_map}
-use Rattle.std.proofs.lemmas.Bool.{false≢true}
+use Rattle.std.proofs.lemmas.Bool.{false≢true, or_parts}
 use Rattle.std.proofs.lemmas.List.{map-append, length-map}
 use Rattle.std.proofs.lemmas.List.Sums.{sum_by-cons}
 use Rattle.std.proofs.lemmas.List.Folds.{list_any-append}
 use Rattle.miss_registers.specs.Registers as regs
 use Rattle.miss_registers.specs.Whole.{IsWhole, IsWholeRegister}
 use Rattle.miss_registers.specs.declared.Owed.{Owed}
+use Rattle.miss_registers.proofs.Tags.{count_by-append, count_by-map}
 use Rattle.cache_directory.specs.Frames as dir
 use Rattle.input_stack.specs.declared.Entry.{Entry}
 use Rattle.write_queue.specs.declared.Queued.{Queued}
@@ -16,7 +17,7 @@ use Rattle.cache_unit.specs.State.{Sizes, Target, gathered, targets_of_field, ta
 use Rattle.cache_unit.specs.Causes.{is_in_use}
 use Rattle.cache_unit.specs.Shown.{as_field, as_register, as_cache}
 use Rattle.cache_unit.specs.Sound.{loads_of_field, loads_of, owing, OwesSound}
-use Rattle.cache_unit.proofs.Owing.{count_by-append, count_by-map, count_by-all, owing-set, loads-set}
+use Rattle.cache_unit.proofs.Owing.{count_by-all, owing-set, loads-set}
 
 abbrev tag_of : Target → ℕ
 tag_of t = t.load.tag
@@ -122,17 +123,9 @@ none_counted p (x ∷ xs) h =
         let one : bit (p x) ≡ 0 = ap bit e in
         omega arith
 
-or_left : (a b : Bool) → (a || b) ≡ false → a ≡ false
-or_left false b e = refl
-or_left true b e = e
-
-or_right : (a b : Bool) → (a || b) ≡ false → b ≡ false
-or_right false b e = e
-or_right true b e = absurd (false≢true (sym e))
-
 pub not_waiting : (words regs' : ℕ) (d : dir.Frames) (rs : List regs.Register) (st : List Entry) (q : List Queued) (ready : List Reply) (tag : ℕ) → IsWhole words regs' rs → is_in_use (as_cache d rs st q ready) tag ≡ false → regs.tag_waits rs tag ≡ false
 not_waiting words regs' d rs st q ready tag w h =
-    or_right _ _ (sym (in_use-shown words regs' d rs st q ready tag w) ∙ h)
+    (or_parts _ _ (sym (in_use-shown words regs' d rs st q ready tag w) ∙ h)).1
 
 -- one value more is owed
 pub owes-added : (z : Sizes) (words regs' : ℕ) (d : dir.Frames) (rs rs' : List regs.Register) (st : List Entry) (q : List Queued) (ready ready' : List Reply) (tag : ℕ) → IsWhole words regs' rs → is_in_use (as_cache d rs st q ready) tag ≡ false → length (tags (as_cache d rs st q ready)) < z.replies → ((p : ℕ → Bool) → owing p ready' rs' ≡ owing p ready rs + (if p tag then 1 else 0)) → OwesSound z ready rs → OwesSound z ready' rs'

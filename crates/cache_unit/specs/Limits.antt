@@ -1,11 +1,9 @@
 -- The ranges of a machine's numbers, in the order of the checks.
-use Rattle.std.specs.Prelude.{ℕ, ◌+◌, ◌-◌, ◌/◌, ◌%◌, Bool, ◌&&◌, not, if◌then◌else◌, ◌==◌, nat_le, Option, Some, None}
+use Rattle.std.specs.Prelude.{ℕ, ◌+◌, ◌-◌, ◌/◌, ◌%◌, ◌&&◌, not, if◌then◌else◌, ◌==◌, Option, Some, None}
 use Rattle.flat_model.specs.declared.ShapeField.{ShapeField}
 use Rattle.flat_model.specs.declared.ShapeField.TheVariants.{BlockWords, Ways, Regs, Depth, Words, Sets, Banks, BankQueue, WriteQueue, Replies}
+use Rattle.flat_model.specs.Ranges.{is_between}
 use Rattle.cache_unit.specs.State.{Sizes}
-
-abbrev pub is_between : ℕ → ℕ → ℕ → Bool
-is_between n low high = nat_le low n && nat_le n high
 
 -- the words of a block that one bank has, where they are spread as evenly as may be: the quotient, rounded up
 abbrev pub words_per_bank : Sizes → ℕ

@@ -1,4 +1,5 @@
 pub mod Words
 pub mod Places
+pub mod Ranges
 pub mod Flat
 pub mod Memory

@@ -3,7 +3,8 @@
 ghost use Rattle.std.specs.Prelude.{◌≡◌, ◌≢◌, Err, ◌+◌, true, length, None, Some, nat_lt, slice_get, IfOk, IfErr, OnOk, OnErr, ◌<◌, ◌≤◌};
 ghost use Rattle.std.specs.List.{count_by};
 ghost use Rattle.std.specs.HashMap.{spare};
-ghost use Rattle.flat_model.specs.Flat.{Flat, opening, word_at, stored, with_due, may_answer, flat_after, flat_run, is_between, load_refusals, store_refusals, prefetch_refusals, is_owed};
+ghost use Rattle.flat_model.specs.Flat.{Flat, opening, word_at, stored, with_due, may_answer, flat_after, flat_run, number, load_refusals, store_refusals, prefetch_refusals, is_owed};
+ghost use Rattle.flat_model.specs.Ranges.{is_between};
 ghost use Rattle.flat_model.specs.declared.memory.ReplayFault.TheVariants.{Lengths};
 ghost use Rattle.flat_model.specs.Memory.{shown, FaultIs, MovesOnly, is_load, more_owed};
 
@@ -289,7 +290,7 @@ fn is_owed(owed: Option<Word>, word: Word) -> bool
 
 // Whether this is a cause against bringing a block in.
 fn is_of_a_miss(cause: Cause) -> bool
-    ensures { result ≡ is_between cause 6 10 }
+    ensures { result ≡ is_between (number cause) 6 10 }
 {
     matches!(
         cause,

@@ -16,6 +16,7 @@ use Rattle.machine_core.specs.Law.{IsLawful, HasRoom, ServesRequests}
 use Rattle.machine_core.specs.Machine.{Machine, MachineState, apply, flat_of, flat_due}
 use Rattle.std.specs.Option.{option_map}
 use Rattle.std.specs.List.{list_all}
+use Rattle.std.proofs.lemmas.Bool.{and_parts}
 use Rattle.machine_core.specs.Pump.{pumped, weight, when, first_event, has_items, lowest}
 use Rattle.machine_core.specs.Sound.{IsSound, IsBounded}
 use Rattle.machine_core.proofs.Contract.{sound_apply, bounded_apply, flat_apply, pumped_lowers, pumped_rests, bound_at_rest}
@@ -50,13 +51,6 @@ may_of : (s : MachineState) (event : Event) → Good s → may_answer (flat_of s
 may_of s event g = listed _ _ event (answered s event) (step_of s event g)
 
 -- ---- a pump lowers the weight
-
-good_pump : (s : MachineState) → Good s → Good (pump_leaves s)
-good_pump s g = go (pumped s.sizes s.machine)
-  where
-    go : (o : Option Event) → Good (after_some s o)
-    go None = g
-    go (Some event) = good_after s event g
 
 pump_lighter : (s : MachineState) → Good s → 0 < weight s.machine → weight (pump_leaves s).machine < weight s.machine
 pump_lighter s g h = go (pumped s.sizes s.machine) refl
@@ -319,19 +313,11 @@ record Taken (due : ℕ → Option Word) (tags : List ℕ) (event : Event) (row 
   owing : Owing due left
   more : length left ≡ length tags + loads_between event row (with_end row a)
 
-and_left : (a b : Bool) → (a && b) ≡ true → a ≡ true
-and_left true b h = refl
-and_left false b h = cc
-
-and_right : (a b : Bool) → (a && b) ≡ true → b ≡ true
-and_right true b h = h
-and_right false b h = cc
-
 takes : (f : Flat) (event : Event) (a : Answer) (tags : List ℕ) (row : Row) → Owing f.due tags → may_answer f event a ≡ true → is_request event ≡ true → Taken (flat_after f event a).due tags event row a
 takes f (Load tag at) Accepted tags row owes may r =
     record {
       left = tag ∷ tags;
-      owing = owe f.due tags tag (word_at f.mem at) owes (and_right (nat_lt at (length f.mem)) (is_none (f.due tag)) may);
+      owing = owe f.due tags tag (word_at f.mem at) owes (and_parts (nat_lt at (length f.mem)) (is_none (f.due tag)) may).1;
       more = omega arith;
     }
 takes f (Load tag at) (Refused cause) tags row owes may r =
@@ -448,8 +434,9 @@ counted_all [] c ended loads r k =
     let paid : loads ≡ loads + 0 = omega arith in
     subst (λ n. Counted c n (loads + 0)) ends (subst (λ n. Counted c ended n) paid k)
 counted_all (event ∷ events) c ended loads r k =
-    let first = and_left (is_request event) (list_all is_request events) r in
-    let rest = and_right (is_request event) (list_all is_request events) r in
+    let requests = and_parts (is_request event) (list_all is_request events) r in
+    let first = requests.0 in
+    let rest = requests.1 in
     let one = served event c ended loads first k in
     let all = counted_all events (serve event c) (ended + 1) (loads + loads_between event c.row (serve event c).row) rest one in
     let d = serve_all events (serve event c) in
@@ -480,7 +467,7 @@ owes_nothing s g words rest tag =
     let accepted = serves.loads tag 0 words in
     let f = flat_of s.sizes s.machine in
     let may : may_answer f (Load tag 0) Accepted ≡ true = sym (ap (may_answer f (Load tag 0)) accepted) ∙ may_of s (Load tag 0) g in
-    none_is (due_of s tag) (and_right (nat_lt 0 (length f.mem)) (is_none (due_of s tag)) may)
+    none_is (due_of s tag) (and_parts (nat_lt 0 (length f.mem)) (is_none (due_of s tag)) may).1
   where
     none_is : (o : Option Word) → is_none o ≡ true → is_some o ≡ false
     none_is None h = refl

@@ -1,40 +1,31 @@
 -- A shape whose fields are in range makes a machine that keeps what machines keep.
-use Rattle.std.proofs.Common.{◌≡◌, ℕ, zero, ◌+◌, ◌-◌, ◌/◌, ◌%◌, ◌*◌, ◌^◌, ◌<◌, ◌≤◌, Bool, true, false, ◌&&◌, ◌==◌, nat_le, not, cond, List, length, replicate, Option, Some, None, is_some, refl, sym, ap, ap₂, ◌∙◌, arith}
+use Rattle.std.proofs.Common.{◌≡◌, ℕ, zero, ◌+◌, ◌-◌, ◌/◌, ◌%◌, ◌*◌, ◌^◌, ◌<◌, ◌≤◌, Bool, true, false, ◌&&◌, ◌==◌, not, cond, List, length, replicate, Option, Some, None, is_some, refl, sym, ap, ap₂, ◌∙◌, arith}
 use Rattle.std.specs.List.{list_all}
 use Rattle.std.proofs.lemmas.Grind.{common_steps}
 use Rattle.std.proofs.lemmas.List.{length-replicate}
-use Rattle.std.proofs.lemmas.Nat.{div-add-mod', mul-le}
+use Rattle.std.proofs.lemmas.Nat.{div-add-mod'}
 use Rattle.std.proofs.Math.Nat.{mod-lt, mul-le-mul_right}
+use Rattle.std.proofs.lemmas.Bool.{and_parts}
 use Rattle.kroft_tool.proofs.Requests.{no}
 use Rattle.flat_model.specs.declared.Word.{Word}
 use Rattle.flat_model.specs.declared.Event.{Event}
 use Rattle.flat_model.specs.declared.ShapeField.{ShapeField}
 use Rattle.flat_model.specs.declared.ShapeField.TheVariants.{Ways, Regs, Words, Sets, Banks, BankQueue, WriteQueue, Replies}
 use Rattle.flat_model.specs.Words.{zero_word}
+use Rattle.flat_model.specs.Ranges.{is_between}
+use Rattle.flat_model.proofs.Ranges.{between}
 use Rattle.cache_unit.specs.Shown as shown
 use Rattle.machine_core.specs.Machine.{MachineState, opening}
-use Rattle.machine_core.specs.Law.{IsLawful, HasRoom, most_weight}
+use Rattle.machine_core.specs.Law.{IsLawful, HasRoom}
 use Rattle.machine_core.proofs.Contract.{sound_opening, bounded_opening, flat_opening}
 use Rattle.kroft_tool.specs.declared.shape_file.ToolShape.{ToolShape}
 use Rattle.kroft_tool.specs.ShapeFile.{is_register_count}
-use Rattle.cache_unit.specs.Limits.{is_between}
 use Rattle.kroft_tool.specs.Sweep.{sizes_of, new_machine, bad_field, row_of, CountsAll, is_request}
 use Rattle.kroft_tool.proofs.Ending.{Good, row_counts}
 
 good : (b : Bool) (field : ShapeField) (rest : Option ShapeField) → cond (not b) (Some field) rest ≡ None → (b ≡ true) × (rest ≡ None)
 good true field rest h = (refl, h)
 good false field rest h = cc
-
-both : (a b : Bool) → (a && b) ≡ true → (a ≡ true) × (b ≡ true)
-both true b h = (refl, h)
-both false b h = cc
-
-between : (n low high : ℕ) → is_between n low high ≡ true → (low ≤ n) × (n ≤ high)
-between n low high h =
-    let parts = both (nat_le low n) (nat_le n high) h in
-    let low_fits = parts.0 in
-    let high_fits = parts.1 in
-    (grind (arith, common_steps, low_fits), grind (arith, common_steps, high_fits))
 
 -- the fields of a shape, in range
 pub record InRange (t : ToolShape) : Type 0 where
@@ -58,7 +49,7 @@ in_range t h =
     let bank_queue = good (is_between t.shape.bank_queue ((4 + t.shape.banks - 1) / t.shape.banks) 64) BankQueue _ banks.1 in
     let write_queue = good (is_between t.shape.write_queue 4 256) WriteQueue _ bank_queue.1 in
     let replies = good (is_between t.shape.replies 1 64) Replies _ write_queue.1 in
-    let whole = both (is_between t.shape.words 1 1048576) (t.shape.words % 4 == 0) words.0 in
+    let whole = and_parts (is_between t.shape.words 1 1048576) (t.shape.words % 4 == 0) words.0 in
     let multiple = whole.1 in
     record {
       ways = between t.ways 1 2 ways.0;
@@ -132,16 +123,6 @@ counts_all t events h r =
     let words = range.words.0 in
     let counts = row_counts (new_machine t) t.regs events (good_machine t range) (omega (arith, words)) (λ tag. ap (λ f. is_some (f.due tag)) opened) r in
     record { each_ends = counts.0; each_is_paid = counts.1 }
-
--- little can be on its way in a machine of such a shape
-pub few_on_their_way : (t : ToolShape) → bad_field t ≡ None → most_weight (sizes_of t) < 2 ^ 32
-few_on_their_way t h =
-    let range = in_range t h in
-    let regs = (some_registers t.regs range.regs).1 in
-    let replies = range.replies.1 in
-    let queue = range.write_queue.1 in
-    let banks : t.shape.banks * t.shape.bank_queue ≤ 16 * 64 = mul-le t.shape.banks t.shape.bank_queue 16 64 range.banks.1 range.bank_queue.1 in
-    omega (arith, regs, replies, queue, banks)
 
 -- a machine that is made over zeros is the new machine of its shape
 pub made : (t : ToolShape) (ways regs : ℕ) (image : List Word) (m : MachineState) → t.ways ≡ ways → t.regs ≡ regs → image ≡ replicate t.shape.words zero_word → m ≡ record { sizes = shown.sizes_of ways 4 regs 4 t.shape; machine = opening (shown.sizes_of ways 4 regs 4 t.shape) image } → m ≡ new_machine t

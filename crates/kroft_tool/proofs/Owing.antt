@@ -17,9 +17,6 @@ pub record Owing (due : ℕ → Option Word) (tags : List ℕ) : Type 0 where
   pub apart : Differ tags
   pub owed : (t : ℕ) → is_some (due t) ≡ has t tags
 
-pub none_owed : Owing (λ t. None) []
-none_owed = record { apart = tt; owed = λ t. refl }
-
 same_tag : (t u : ℕ) → (t == u) ≡ (u == t)
 same_tag t u = grind (arith, common_steps)
 

@@ -9,7 +9,8 @@ use Rattle.flat_model.specs.declared.Event.TheVariants.{Load, Store, Prefetch, E
 use Rattle.flat_model.specs.declared.Answer.{Answer}
 use Rattle.flat_model.specs.declared.Answer.TheVariants.{Accepted, Moved, Value, Nothing, Refused}
 use Rattle.flat_model.specs.Words.{has_any}
-use Rattle.flat_model.specs.Flat.{Flat, may_answer, flat_after, flat_step, is_between, load_refusals, store_refusals, prefetch_refusals}
+use Rattle.flat_model.specs.Flat.{Flat, may_answer, flat_after, flat_step, load_refusals, store_refusals, prefetch_refusals, number}
+use Rattle.flat_model.specs.Ranges.{is_between}
 use Rattle.memory_banks.specs.Banks.{Bank}
 use Rattle.cache_unit.specs.State.{Sizes, Cache}
 use Rattle.cache_unit.specs.Causes.{load_cause, store_cause, prefetch_cause, evict_cause}
@@ -23,7 +24,7 @@ no e = cc
 
 -- ---- the answers of flat memory
 
-only_range : (c : Cause) → is_between c 1 1 ≡ true → is_end (Refused c) ≡ true
+only_range : (c : Cause) → is_between (number c) 1 1 ≡ true → is_end (Refused c) ≡ true
 only_range OutOfRange h = refl
 only_range NoLanes h = cc
 only_range TagInUse h = cc
@@ -38,7 +39,7 @@ only_range NotPresent h = cc
 only_range StackFull h = cc
 only_range StrayWord h = cc
 
-only_lanes : (c : Cause) → is_between c 2 2 ≡ true → is_end (Refused c) ≡ true
+only_lanes : (c : Cause) → is_between (number c) 2 2 ≡ true → is_end (Refused c) ≡ true
 only_lanes OutOfRange h = cc
 only_lanes NoLanes h = refl
 only_lanes TagInUse h = cc

@@ -9,9 +9,10 @@ use Rattle.flat_model.specs.declared.Answer.TheVariants.{Accepted, Value, Refuse
 use Rattle.flat_model.specs.declared.ShapeField.{ShapeField}
 use Rattle.flat_model.specs.declared.ShapeField.TheVariants.{Ways, Regs}
 use Rattle.flat_model.specs.Words.{zero_word}
+use Rattle.flat_model.specs.Ranges.{is_between}
 use Rattle.cache_unit.specs.State.{Sizes}
 use Rattle.cache_unit.specs.Shown as shown
-use Rattle.cache_unit.specs.Limits.{is_between, bad_number}
+use Rattle.cache_unit.specs.Limits.{bad_number}
 use Rattle.machine_core.specs.Machine.{MachineState, apply, opening}
 use Rattle.machine_core.specs.Pump.{pumped, weight}
 use Rattle.kroft_tool.specs.declared.shape_file.ToolShape.{ToolShape}

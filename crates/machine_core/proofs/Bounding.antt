@@ -1,5 +1,5 @@
 -- What is on its way stays within the limits.
-use Rattle.std.proofs.Common.{◌≡◌, ℕ, zero, suc, ◌+◌, ◌-◌, ◌/◌, ◌%◌, ◌<◌, ◌≤◌, Bool, true, false, cond, not, ◌&&◌, ◌||◌, ◌==◌, nat_lt, nat_le, List, [], ◌∷◌, map, length, get_or, set, Option, Some, None, slice_get, refl, sym, ap, ◌∙◌, subst, arith, length-append, length-set, ⊎_elim, get_or-set_same, get_or-set_other, ltb-true, lt-ltb, eqb-true}
+use Rattle.std.proofs.Common.{◌≡◌, ℕ, zero, suc, ◌+◌, ◌-◌, ◌/◌, ◌%◌, ◌<◌, ◌≤◌, Bool, true, false, cond, not, ◌&&◌, ◌||◌, ◌==◌, nat_lt, nat_le, List, [], ◌∷◌, map, length, get_or, set, Option, Some, None, slice_get, refl, sym, ap, ◌∙◌, subst, arith, length-append, ⊎_elim, get_or-set_same, get_or-set_other, ltb-true, lt-ltb, eqb-true}
 use Rattle.std.specs.List.{list_all, list_any, filter, range_with_len}
 use Rattle.std.proofs.lemmas.Bool.{cases_eq, cases_lt, ltb-false, eqb-false}
 use Rattle.std.proofs.lemmas.List.{get_or_past, set_past}
@@ -15,6 +15,7 @@ use Rattle.memory_banks.specs.declared.Command.{Command}
 use Rattle.memory_banks.specs.declared.Command.TheVariants.{Read, Write}
 use Rattle.memory_banks.specs.declared.BankAnswer.{BankAnswer}
 use Rattle.memory_banks.specs.Banks.{Bank, bank_at, no_bank, with_command, served, room_in, all_sent, commands_for}
+use Rattle.memory_banks.proofs.Sending.{all_sent-length}
 use Rattle.input_stack.specs.declared.Entry.{Entry}
 use Rattle.write_queue.specs.declared.Queued.{Queued}
 use Rattle.write_queue.specs.Queue.{queued_lanes}
@@ -157,10 +158,6 @@ little_processed z c place e h =
 
 abbrev pub Fits : Sizes → Bank → Type 0
 Fits z b = length b.queue ≤ z.bank_queue
-
-all_sent-length : (banks : List Bank) (sent : List (ℕ × Command)) → length (all_sent banks sent) ≡ length banks
-all_sent-length banks [] = refl
-all_sent-length banks (c ∷ rest) = all_sent-length (set banks c.0 (with_command (bank_at banks c.0) c.1)) rest ∙ length-set banks c.0 _
 
 one_sent : (banks : List Bank) (k : ℕ) (command : Command) (b : ℕ) → length (bank_at (set banks k (with_command (bank_at banks k) command)) b).queue ≤ length (bank_at banks b).queue + bit (k == b)
 unfolding with_command

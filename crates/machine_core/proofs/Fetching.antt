@@ -6,11 +6,12 @@ use Rattle.std.specs.Option.{option_or}
 use Rattle.flat_model.specs.Words.{merged}
 use Rattle.cache_unit.specs.State.{Sizes, Frame, Cache, zero_cell, empty_frame, frame_at, frame_of, is_present, register_at, live_for, is_pending, is_pending_block, free_slot, cell_in, cell_of, block_of, place_in, address}
 use Rattle.cache_directory.specs.declared.Cell.{Cell}
+use Rattle.cache_directory.proofs.Finds.{find-passes}
 use Rattle.input_stack.specs.Stack.{stack_word}
 use Rattle.cache_unit.specs.Causes.{choose, ways_of, order_of, is_resident_block, dirty_from, dirty_of_block, dirty_words}
 use Rattle.cache_unit.specs.Steps.{without, fresh_frame, released, installed, missed, reads, fetched, fetches}
 use Rattle.cache_unit.specs.Counts.{tally}
-use Rattle.cache_unit.proofs.FormsLists.{passes_from_find, read_set}
+use Rattle.cache_unit.proofs.FormsLists.{read_set}
 use Rattle.cache_unit.proofs.FormsChoosing.{find_range, none_from, free_register_at, Able, all_valid, found_in, one_fails}
 use Rattle.cache_unit.proofs.FormsParts.{in_range}
 use Rattle.cache_unit.proofs.FormsFinding.{frame_of-some, frame_of-like, none_in_frames}
@@ -131,11 +132,11 @@ chosen z lawful m h block f e = go (find free ways) refl (find resident order) r
         let k : suc (block % z.sets) * z.ways ≤ z.sets * z.ways = mul-le-mul_right z.ways l in
         let n = h.frames_are in
         let r1 = r.1 in
-        (omega arith, inl (none_from _ (passes_from_find free ways f q)), div-eq_of_lt-le z.ways (let r0 = r.0 in omega arith) (let r2 = r.1 in omega arith))
+        (omega arith, inl (none_from _ (find-passes free ways f q)), div-eq_of_lt-le z.ways (let r0 = r.0 in omega arith) (let r2 = r.1 in omega arith))
 
     by_resident : find resident order ≡ Some f → (f < length m.cache.frames) × MayGo m.cache f × (f / z.ways ≡ block % z.sets)
     by_resident q =
-        let p = resident_from m.cache (frame_at m.cache f).block (passes_from_find resident order f q) in
+        let p = resident_from m.cache (frame_at m.cache f).block (find-passes resident order f q) in
         (in_range (λ (x : Frame). is_some x.block) empty_frame m.cache.frames f refl (ap is_some p.1), inr p, h.in_order.in_set (block % z.sets) f (member resident order f q))
 
     go : (a : Option ℕ) → find free ways ≡ a → (b : Option ℕ) → find resident order ≡ b → option_or a b ≡ Some f → (f < length m.cache.frames) × MayGo m.cache f × (f / z.ways ≡ block % z.sets)

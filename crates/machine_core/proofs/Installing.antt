@@ -1,6 +1,7 @@
 -- A missing block gets a frame and a register, and its words are asked for.
 use Rattle.std.proofs.Common.{◌≡◌, ℕ, zero, ◌+◌, ◌*◌, ◌/◌, ◌%◌, ◌<◌, ◌≤◌, Bool, true, false, cond, not, ◌&&◌, nat_lt, nat_le, List, [], ◌∷◌, ◌++◌, map, length, get_or, set, Option, Some, None, option_map, find, refl, sym, ap, ap₂, ◌∙◌, subst, arith, length-set, ◌⊎◌, inl, inr, ⊎_elim, mod-lt, get_or-set_same, get_or-set_other}
 use Rattle.std.proofs.lemmas.Bool.{cases_eq, and_parts}
+use Rattle.std.proofs.lemmas.List.FromFn.{length-map-range_with_len}
 use Rattle.flat_model.specs.declared.Word.{Word}
 use Rattle.flat_model.specs.Words.{merged, zero_word, no_lanes}
 use Rattle.flat_model.specs.Flat.{word_at}
@@ -15,7 +16,7 @@ use Rattle.cache_unit.specs.Causes.{addresses}
 use Rattle.cache_unit.specs.Steps.{fresh_frame, fresh_register}
 use Rattle.cache_unit.specs.Counts.{tally, bit}
 use Rattle.cache_unit.proofs.FormsLists.{find_none, gathered_part}
-use Rattle.cache_unit.proofs.FormsFetching.{range_at, range_length, no_loads, address_is}
+use Rattle.cache_unit.proofs.FormsFetching.{range_at, no_loads, address_is}
 use Rattle.cache_unit.proofs.FormsParts.{targets_map}
 use Rattle.cache_unit.proofs.FormsFinding.{frame_of-some, frame_of-is, frame_of-none, none_in_frames, live_for-some, live_for-is, live_for-none, none_live}
 use Rattle.machine_core.specs.Law.{IsLawful}
@@ -285,7 +286,7 @@ module _ (z : Sizes) (lawful : IsLawful z) (m : Machine) (h : IsSound z m) (bloc
         counted = counted_after;
         once = λ tag. subst (λ ds. tally (has_tag tag) ds ≤ 1) (sym dues_with_block) (h.once tag);
         kept = kept_with_block;
-        whole_frames = λ k b e. ⊎_elim (λ x. (ap (λ y. length (frame_at with_block.cache y).cells) x.0 ∙ ap (λ (y : Frame). length y.cells) own_frame ∙ range_length _ (address z block 0) z.block_words, subst (λ y. address z y 0 < z.words) (sym x.1) in_memory)) (λ x. let p = h.whole_frames k b x.1 in (ap (λ (y : Frame). length y.cells) (other_frame k x.0) ∙ p.0, p.1)) (holds k b e);
+        whole_frames = λ k b e. ⊎_elim (λ x. (ap (λ y. length (frame_at with_block.cache y).cells) x.0 ∙ ap (λ (y : Frame). length y.cells) own_frame ∙ length-map-range_with_len _ (address z block 0) z.block_words, subst (λ y. address z y 0 < z.words) (sym x.1) in_memory)) (λ x. let p = h.whole_frames k b x.1 in (ap (λ (y : Frame). length y.cells) (other_frame k x.0) ∙ p.0, p.1)) (holds k b e);
         whole_registers = whole_after;
         queue_in = h.queue_in;
         frames_are = length-set m.cache.frames f _ ∙ h.frames_are;
@@ -321,7 +322,7 @@ module _ (z : Sizes) (lawful : IsLawful z) (m : Machine) (h : IsSound z m) (bloc
           here q = subst (λ x. tally (is_for x j) (all_pending with_block.banks) + tally (is_entry_for x j) m.cache.stack ≡ wanted z (register_at with_block.cache x) j) (sym q) own
 
       whole_after : (t : ℕ) → (register_at with_block.cache t).valid ≡ true → length (register_at with_block.cache t).fields ≡ z.block_words
-      whole_after t v = ⊎_elim (λ q. ap (λ x. length (register_at with_block.cache x).fields) q ∙ ap (λ (r : Register). length r.fields) own_register ∙ range_length _ (address z block 0) z.block_words) (λ n. ap (λ (r : Register). length r.fields) (other_register t n) ∙ h.whole_registers t (ap (λ (r : Register). r.valid) (sym (other_register t n)) ∙ v)) (cases_eq t slot)
+      whole_after t v = ⊎_elim (λ q. ap (λ x. length (register_at with_block.cache x).fields) q ∙ ap (λ (r : Register). length r.fields) own_register ∙ length-map-range_with_len _ (address z block 0) z.block_words) (λ n. ap (λ (r : Register). length r.fields) (other_register t n) ∙ h.whole_registers t (ap (λ (r : Register). r.valid) (sym (other_register t n)) ∙ v)) (cases_eq t slot)
 
   pub with_block_same : Same z m with_block
   with_block_same = record { words = words_with_block; owing = λ tag. ap (λ ds. due_in ds tag) dues_with_block; as_many = ap length dues_with_block }

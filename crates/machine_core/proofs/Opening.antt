@@ -2,6 +2,8 @@
 use Rattle.std.proofs.Common.{◌≡◌, ℕ, zero, suc, ◌+◌, ◌-◌, ◌*◌, ◌/◌, ◌%◌, ◌<◌, ◌≤◌, Bool, true, false, not, ◌||◌, ◌==◌, List, [], ◌∷◌, ◌++◌, map, length, get_or, set, replicate, Option, Some, None, refl, sym, ap, ap₂, ◌∙◌, subst, arith, mod-lt, div-add-mod', flat_map, ext_get_or, le-div_iff_mul-le, zero-add}
 use Rattle.std.specs.List.{range_with_len, list_all, list_any}
 use Rattle.std.proofs.lemmas.Bool.{and_parts, not-true}
+use Rattle.std.proofs.lemmas.List.FromFn.{length-map-range_with_len}
+use Rattle.std.proofs.lemmas.List.{length-replicate}
 use Rattle.flat_model.specs.declared.Word.{Word}
 use Rattle.flat_model.specs.Words.{merged, zero_word, no_lanes, has_any}
 use Rattle.flat_model.specs.Flat.{word_at}
@@ -14,21 +16,13 @@ use Rattle.machine_core.specs.Law.{IsLawful}
 use Rattle.machine_core.specs.Machine.{Machine, backing, opening, settled, bank_word, flat_due, flat_of}
 use Rattle.cache_unit.specs.Views.{is_empty, is_clean}
 use Rattle.cache_unit.specs.Counts.{tally}
-use Rattle.cache_unit.proofs.FormsFetching.{range_at, range_length}
+use Rattle.cache_unit.proofs.FormsFetching.{range_at}
 use Rattle.cache_unit.proofs.FormsFinding.{frame_of-none}
+use Rattle.cache_unit.proofs.Made.{all_same}
 use Rattle.machine_core.specs.Sound.{word_now, word_now_in, has_tag, dues, IsSound, wanted}
 use Rattle.flat_model.proofs.Lanewise.{merged-none, merged_no_lane, has-none}
 use Rattle.machine_core.proofs.Coming.{flat_word-now, flat_due-in, due_in}
 use Rattle.machine_core.proofs.Requests.{mem_length, mem_at}
-
-pub all_default : {X : Type 0} (n : ℕ) (d : X) (k : ℕ) → get_or (replicate n d) k d ≡ d
-all_default zero d k = refl
-all_default (suc n) d zero = refl
-all_default (suc n) d (suc k) = all_default n d k
-
-replicate_length : {X : Type 0} (n : ℕ) (d : X) → length (replicate n d) ≡ n
-replicate_length zero d = refl
-replicate_length (suc n) d = ap suc (replicate_length n d)
 
 no_targets : (n k : ℕ) → gathered targets_of k (replicate n free_register) ≡ []
 no_targets zero k = refl
@@ -46,10 +40,10 @@ module _ (z : Sizes) (lawful : IsLawful z) (image : List Word) (fits : length im
   bank_of b = record { words = share_of image z.banks b; queue = []; answers = [] }
 
   empty_frames : (k : ℕ) → frame_at m0.cache k ≡ empty_frame
-  empty_frames k = all_default (z.sets * z.ways) empty_frame k
+  empty_frames k = all_same (z.sets * z.ways) k empty_frame
 
   free_registers : (t : ℕ) → register_at m0.cache t ≡ free_register
-  free_registers t = all_default z.regs free_register t
+  free_registers t = all_same z.regs t free_register
 
   no_block : (k b : ℕ) → (frame_at m0.cache k).block ≡ Some b → ⊥
   no_block k b e = let n : (frame_at m0.cache k).block ≡ None = ap (λ (x : Frame). x.block) (empty_frames k) in cc
@@ -61,7 +55,7 @@ module _ (z : Sizes) (lawful : IsLawful z) (image : List Word) (fits : length im
   no_live t e = let n : is_live (register_at m0.cache t) ≡ false = ap is_live (free_registers t) in cc
 
   no_order : (s f : ℕ) → list_any (λ g. g == f) (get_or m0.cache.orders s []) ≡ true → ⊥
-  no_order s f e = let n : list_any (λ g. g == f) (get_or m0.cache.orders s []) ≡ false = ap (list_any (λ g. g == f)) (all_default z.sets [] s) in cc
+  no_order s f e = let n : list_any (λ g. g == f) (get_or m0.cache.orders s []) ≡ false = ap (list_any (λ g. g == f)) (all_same z.sets s []) in cc
 
   absent : (b : ℕ) → frame_of m0.cache b ≡ None
   absent b = frame_of-none m0.cache b (λ k e. no_block k b e)
@@ -79,7 +73,7 @@ module _ (z : Sizes) (lawful : IsLawful z) (image : List Word) (fits : length im
       (le-div_iff_mul-le lawful.some_banks).1 le
 
   share_length : (at : ℕ) → length (bank_of (at % z.banks)).words ≡ (length image + z.banks - 1 - at % z.banks) / z.banks
-  share_length at = range_length (λ k. word_at image (k * z.banks + at % z.banks)) 0 _
+  share_length at = length-map-range_with_len (λ k. word_at image (k * z.banks + at % z.banks)) 0 _
 
   word_there : (at : ℕ) → at < z.words → word_at (words_after (bank_at m0.banks (at % z.banks))) (at / z.banks) ≡ word_at image at
   word_there at l =
@@ -108,10 +102,10 @@ module _ (z : Sizes) (lawful : IsLawful z) (image : List Word) (fits : length im
         whole_frames = λ f b p. absurd (no_block f b p);
         whole_registers = λ s v. absurd (no_valid s v);
         queue_in = tt;
-        frames_are = replicate_length (z.sets * z.ways) empty_frame;
-        in_order = record { placed = λ f b p. absurd (no_block f b p); in_set = λ s f p. absurd (no_order s f p); sized = replicate_length z.sets [] };
-        registers_are = replicate_length z.regs free_register;
-        banks_are = range_length bank_of 0 z.banks;
+        frames_are = length-replicate (z.sets * z.ways) empty_frame;
+        in_order = record { placed = λ f b p. absurd (no_block f b p); in_set = λ s f p. absurd (no_order s f p); sized = length-replicate z.sets [] };
+        registers_are = length-replicate z.regs free_register;
+        banks_are = length-map-range_with_len bank_of 0 z.banks;
         banks_hold = λ at l. subst (λ n. at / z.banks < n) (sym (ap (λ (b : Bank). length b.words) (bank_is (at % z.banks) (mod-lt at lawful.some_banks)) ∙ share_length at)) (place_there at l);
       }
 

@@ -55,10 +55,6 @@ due_in-at r xs ys a once =
 unfoldable pub with_ready : Machine → List Reply → Machine
 with_ready m ready = record { cache = record m.cache { ready = ready }; banks = m.banks }
 
-pub with_ready-coming : (m : Machine) (ready : List Reply) (s i : ℕ) → coming (with_ready m ready) s i ≡ coming m s i
-unfolding coming stack_word with_ready
-with_ready-coming m ready s i = refl
-
 pub with_ready-words : (z : Sizes) (m : Machine) (ready : List Reply) (at : ℕ) → word_now z (with_ready m ready) at ≡ word_now z m at
 unfolding word_now frame_of live_for stack_word coming with_ready
 with_ready-words z m ready at = refl

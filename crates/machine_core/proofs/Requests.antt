@@ -10,7 +10,8 @@ use Rattle.flat_model.specs.declared.Event.{Event}
 use Rattle.flat_model.specs.declared.Event.TheVariants.{Load, Store, Prefetch, Evict}
 use Rattle.flat_model.specs.declared.Answer.TheVariants.{Accepted, Refused}
 use Rattle.flat_model.specs.Words.{merged, has_any, zero_word}
-use Rattle.flat_model.specs.Flat.{word_at, stored, with_due, flat_after, may_answer, load_refusals, store_refusals, prefetch_refusals, is_between}
+use Rattle.flat_model.specs.Flat.{word_at, stored, with_due, flat_after, may_answer, load_refusals, store_refusals, prefetch_refusals, number}
+use Rattle.flat_model.specs.Ranges.{is_between}
 use Rattle.cache_unit.specs.declared.Reply.{Reply}
 use Rattle.cache_unit.specs.State.{Sizes, Cache, frame_of, is_present, frame_at, live_for, cell_of, tags, targets, block_of, place_in, address, is_pending, Target}
 use Rattle.cache_unit.specs.Causes.{first_cause, ways_of, choose, found, targets_full, is_in_use, miss_causes, lacks_places, lacks_room, dirty_words, dirty_of_block, dirty_from, order_of, load_cause, store_cause, prefetch_cause, evict_cause}
@@ -18,7 +19,7 @@ use Rattle.cache_unit.specs.Steps.{load_step, store_step, prefetch_step, evict_s
 use Rattle.cache_unit.specs.Counts.{tally}
 use Rattle.cache_unit.proofs.FormsLists.{none_from_find, Adds-length}
 use Rattle.cache_unit.proofs.FormsChoosing.{Able}
-use Rattle.cache_unit.proofs.FormsFetching.{range_at, range_length}
+use Rattle.cache_unit.proofs.FormsFetching.{range_at}
 use Rattle.cache_unit.proofs.Arrive.{is_some-map}
 use Rattle.cache_unit.proofs.FormsFinding.{frame_of-some}
 use Rattle.cache_unit.proofs.Tags.{any-map}
@@ -35,11 +36,13 @@ use Rattle.machine_core.proofs.Storing.{store_hit}
 use Rattle.machine_core.proofs.Orders.{InOrder-released}
 use Rattle.machine_core.proofs.Fetching.{fetched_machine, FetchedBy, fetch_ok}
 use Rattle.std.proofs.lemmas.List.{length-map}
+use Rattle.std.proofs.lemmas.List.FromFn.{length-map-range_with_len}
+use Rattle.std.proofs.lemmas.List.Folds.{list_any-append}
 
 -- ---- memory as a list
 
 pub mem_length : (z : Sizes) (m : Machine) → length (flat_of z m).mem ≡ z.words
-mem_length z m = range_length (flat_word z m) 0 z.words
+mem_length z m = length-map-range_with_len (flat_word z m) 0 z.words
 
 pub mem_at : (z : Sizes) (m : Machine) (at : ℕ) → at < z.words → word_at (flat_of z m).mem at ≡ flat_word z m at
 mem_at z m at l = range_at (flat_word z m) zero_word 0 z.words at l ∙ ap (flat_word z m) (omega arith)
@@ -66,10 +69,6 @@ refusal z m event cause h may stays =
 
 -- ---- tags
 
-any-append : {X : Type 0} (p : X → Bool) (xs ys : List X) → list_any p (xs ++ ys) ≡ (list_any p xs || list_any p ys)
-any-append p [] ys = refl
-any-append p (x ∷ xs) ys = elim (p x) as (λ b. (b || list_any p (xs ++ ys)) ≡ ((b || list_any p xs) || list_any p ys)) [ true ↦ refl | false ↦ any-append p xs ys ]
-
 any-find : {X : Type 0} (p : X → Bool) (xs : List X) → list_any p xs ≡ is_some (find p xs)
 any-find p [] = refl
 any-find p (x ∷ xs) = elim (p x) as (λ b. (b || list_any p xs) ≡ is_some (cond b (Some x) (find p xs))) [ true ↦ refl | false ↦ any-find p xs ]
@@ -77,7 +76,7 @@ any-find p (x ∷ xs) = elim (p x) as (λ b. (b || list_any p xs) ≡ is_some (c
 in_use_is : (m : Machine) (tag : ℕ) → is_in_use m.cache tag ≡ is_some (due_in (dues m) tag)
 unfolding due_in dues
 in_use_is m tag =
-    any-append (λ t. t == tag) (map (λ r. r.tag) m.cache.ready) _ ∙ ap₂ (λ x y. x || y) (any-map (λ t. t == tag) (λ (r : Reply). r.tag) m.cache.ready) (any-map (λ t. t == tag) (λ t. t.load.tag) (targets m.cache.registers) ∙ sym (any-map (has_tag tag) (reply_to m) (targets m.cache.registers))) ∙ sym (any-append (has_tag tag) m.cache.ready (map (reply_to m) (targets m.cache.registers))) ∙ any-find (has_tag tag) (m.cache.ready ++ map (reply_to m) (targets m.cache.registers)) ∙ sym (is_some-map (λ (r : Reply). r.word) (find (has_tag tag) (m.cache.ready ++ map (reply_to m) (targets m.cache.registers))))
+    list_any-append (λ t. t == tag) (map (λ r. r.tag) m.cache.ready) _ ∙ ap₂ (λ x y. x || y) (any-map (λ t. t == tag) (λ (r : Reply). r.tag) m.cache.ready) (any-map (λ t. t == tag) (λ t. t.load.tag) (targets m.cache.registers) ∙ sym (any-map (has_tag tag) (reply_to m) (targets m.cache.registers))) ∙ sym (list_any-append (has_tag tag) m.cache.ready (map (reply_to m) (targets m.cache.registers))) ∙ any-find (has_tag tag) (m.cache.ready ++ map (reply_to m) (targets m.cache.registers)) ∙ sym (is_some-map (λ (r : Reply). r.word) (find (has_tag tag) (m.cache.ready ++ map (reply_to m) (targets m.cache.registers))))
 
 not_due : (replies : List Reply) (tag : ℕ) → is_some (due_in replies tag) ≡ false → tally (has_tag tag) replies ≡ 0
 unfolding due_in
@@ -112,7 +111,7 @@ starts_in z at l = let e = div-add-mod' at z.block_words in omega arith
 -- ---- requests
 
 -- the event is kept, whichever of a miss's causes holds, if there is one; `go_on` is the case of none
-miss_or : (z : Sizes) (m : Machine) (block : ℕ) (event : Event) (step : Stepped) → IsSound z m → ((cause : Cause) → is_between cause 7 10 ≡ true → KeptBy z m event (record { answer = Refused cause; machine = m })) → (Able z m.cache block → KeptBy z m event (joined_with m.banks step)) → KeptBy z m event (joined_with m.banks (unless (first_cause (miss_causes z (room_in z.bank_queue m.banks) m.cache block)) m.cache step))
+miss_or : (z : Sizes) (m : Machine) (block : ℕ) (event : Event) (step : Stepped) → IsSound z m → ((cause : Cause) → is_between (number cause) 7 10 ≡ true → KeptBy z m event (record { answer = Refused cause; machine = m })) → (Able z m.cache block → KeptBy z m event (joined_with m.banks step)) → KeptBy z m event (joined_with m.banks (unless (first_cause (miss_causes z (room_in z.bank_queue m.banks) m.cache block)) m.cache step))
 miss_or z m block event step h refuse go_on = go (length (filter (λ r. r.valid) m.cache.registers) == z.regs) refl (list_all (is_pending m.cache) (ways_of z block)) refl (lacks_places z m.cache (choose z m.cache block)) (lacks_room z (room_in z.bank_queue m.banks) block)
   where
     go : (a : Bool) → (length (filter (λ r. r.valid) m.cache.registers) == z.regs) ≡ a → (b : Bool) → list_all (is_pending m.cache) (ways_of z block) ≡ b → (c d : Bool) → KeptBy z m event (joined_with m.banks (unless (cond a (Some NoRegister) (cond b (Some SetPending) (cond c (Some QueueFull) (cond d (Some BankFull) None)))) m.cache step))
@@ -175,7 +174,7 @@ module _ (z : Sizes) (lawful : IsLawful z) (m : Machine) (h : IsSound z m) where
       four : Bool
       four = targets_full m.cache (place_in z at) (found m.cache (block_of z at) (place_in z at))
 
-      between : (cause : Cause) → is_between cause 7 10 ≡ true → is_between cause 4 10 ≡ true
+      between : (cause : Cause) → is_between (number cause) 7 10 ≡ true → is_between (number cause) 4 10 ≡ true
       between OutOfRange e = cc
       between NoLanes e = cc
       between TagInUse e = cc
@@ -237,7 +236,7 @@ module _ (z : Sizes) (lawful : IsLawful z) (m : Machine) (h : IsSound z m) where
       accept l u able =
           accept_store at word lanes l u (fetched_machine z m (block_of z at)) (fetch_ok z lawful m h (block_of z at) (starts_in z at l) able)
 
-      between : (cause : Cause) → is_between cause 7 10 ≡ true → is_between cause 6 10 ≡ true
+      between : (cause : Cause) → is_between (number cause) 7 10 ≡ true → is_between (number cause) 6 10 ≡ true
       between OutOfRange e = cc
       between NoLanes e = cc
       between TagInUse e = cc
@@ -277,7 +276,7 @@ module _ (z : Sizes) (lawful : IsLawful z) (m : Machine) (h : IsSound z m) where
             few = λ q. subst (λ n. n ≤ z.replies) (sym (f.same.as_many)) q;
           }
 
-      between : (cause : Cause) → is_between cause 7 10 ≡ true → is_between cause 6 10 ≡ true
+      between : (cause : Cause) → is_between (number cause) 7 10 ≡ true → is_between (number cause) 6 10 ≡ true
       between OutOfRange e = cc
       between NoLanes e = cc
       between TagInUse e = cc

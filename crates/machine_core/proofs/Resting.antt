@@ -3,6 +3,7 @@ use Rattle.std.proofs.Common.{◌≡◌, ℕ, zero, suc, ◌+◌, ◌-◌, ◌*�
 use Rattle.std.specs.List.{list_all, list_any, filter, range_with_len}
 use Rattle.std.proofs.lemmas.Bool.{cases_lt, lt-leb}
 use Rattle.std.proofs.lemmas.Nat.{mod-mul-add}
+use Rattle.std.proofs.lemmas.List.{nil_from_length}
 use Rattle.flat_model.specs.declared.Word.{Word}
 use Rattle.flat_model.specs.declared.Lanes.{Lanes}
 use Rattle.flat_model.specs.declared.Cause.{Cause}
@@ -21,11 +22,12 @@ use Rattle.cache_unit.specs.Causes.{first_cause, ways_of, choose, dirty_from, di
 use Rattle.cache_unit.specs.Steps.{Stepped, unless, load_step, store_step, prefetch_step, evict_step}
 use Rattle.cache_unit.specs.Counts.{tally, bit}
 use Rattle.cache_unit.proofs.FormsFinding.{live_for-none}
+use Rattle.cache_unit.proofs.Made.{all_same}
 use Rattle.machine_core.specs.Law.{IsLawful, HasRoom, serves_eviction, ServesRequests, IsServed, RequestsAreServed}
 use Rattle.machine_core.specs.Machine.{Machine, apply, joined_with, opening, walked}
 use Rattle.machine_core.specs.Pump.{total, command_weight, bank_weight, weight, pumped, after_event, after_pumps}
 use Rattle.machine_core.specs.Sound.{is_for, is_entry_for, wanted, IsSound, IsBounded}
-use Rattle.machine_core.proofs.Opening.{all_default, opening_sound, nothing_due, opening_idle}
+use Rattle.machine_core.proofs.Opening.{opening_sound, nothing_due, opening_idle}
 use Rattle.machine_core.proofs.Requests.{tags_dues}
 use Rattle.machine_core.proofs.Walking.{event_ok}
 use Rattle.machine_core.proofs.Weighing.{all_idle, pump_lowers, pump_rests}
@@ -133,10 +135,6 @@ no_commands [] e = refl
 no_commands (Read slot i place ∷ rest) e = absurd (omega arith)
 no_commands (Write place word lanes ∷ rest) e = absurd (omega arith)
 
-nothing_in : {X : Type 0} (xs : List X) → length xs ≡ 0 → xs ≡ []
-nothing_in [] e = refl
-nothing_in (x ∷ xs) e = absurd (omega arith)
-
 dirty_few : (block at : ℕ) (cells : List Cell) → length (dirty_from block at cells) ≤ length cells
 dirty_few block at [] = omega arith
 dirty_few block at (cell ∷ rest) = go (has_any cell.dirty) (dirty_few block (at + 1) rest)
@@ -149,10 +147,10 @@ dirty_few block at (cell ∷ rest) = go (has_any cell.dirty) (dirty_few block (a
 
 module _ (z : Sizes) (lawful : IsLawful z) (roomy : HasRoom z) (m : Machine) (sound : IsSound z m) (bounded : IsBounded z m) (rest : weight m ≡ 0) where
   no_ready : m.cache.ready ≡ []
-  no_ready = nothing_in m.cache.ready (omega arith)
+  no_ready = nil_from_length m.cache.ready (omega arith)
 
   no_stack : m.cache.stack ≡ []
-  no_stack = nothing_in m.cache.stack (omega arith)
+  no_stack = nil_from_length m.cache.stack (omega arith)
 
   no_queue : length m.cache.queue ≡ 0
   no_queue = omega arith
@@ -160,7 +158,7 @@ module _ (z : Sizes) (lawful : IsLawful z) (roomy : HasRoom z) (m : Machine) (so
   idle : (b : ℕ) → b < length m.banks → ((bank_at m.banks b).answers ≡ []) × ((bank_at m.banks b).queue ≡ [])
   idle b l =
       let own = total_zero bank_weight no_bank m.banks b l (omega arith) in
-      (nothing_in (bank_at m.banks b).answers (omega arith), no_commands (bank_at m.banks b).queue (omega arith))
+      (nil_from_length (bank_at m.banks b).answers (omega arith), no_commands (bank_at m.banks b).queue (omega arith))
 
   nothing_pending : all_pending m.banks ≡ []
   nothing_pending = all_idle m.banks idle
@@ -311,7 +309,7 @@ module _ (z : Sizes) (lawful : IsLawful z) (roomy : HasRoom z) (m : Machine) (so
 pub opening_bounded : (z : Sizes) → IsLawful z → (image : List Word) → length image ≡ z.words → IsBounded z (opening z image)
 opening_bounded z lawful image fits =
     record {
-      unfinished = λ s v. let no : (register_at (opening z image).cache s).valid ≡ false = ap (λ (r : Register). r.valid) (all_default z.regs free_register s) in cc;
+      unfinished = λ s v. let no : (register_at (opening z image).cache s).valid ≡ false = ap (λ (r : Register). r.valid) (all_same z.regs s free_register) in cc;
       few_tags = let e = ap length (nothing_due z lawful image fits) in subst (λ n. n ≤ z.replies) (sym (tags_dues (opening z image) ∙ e)) (omega arith);
       few_queued = omega arith;
       at_its_bank = λ b s i l. let part = pending_part (is_for s i) (opening z image).banks b in let none = ap (tally (is_for s i)) (opening_idle z lawful image fits) in absurd (omega arith);

@@ -1,6 +1,6 @@
 -- Sums that are taken one element after another.
 use Rattle.std.proofs.Common.{◌≡◌, ℕ, ◌+◌, ◌*◌, ◌<◌, cond, List, [], ◌∷◌, ◌++◌, length, get_or, take, refl, ap, ◌∙◌, arith}
-use Rattle.std.proofs.lemmas.List.{take_more, take_all}
+use Rattle.std.proofs.lemmas.List.{take_more}
 use Rattle.std.proofs.lemmas.List.Sums.{sum_by-cons}
 use Rattle.std.specs.List.{count_by}
 use Rattle.memory_banks.specs.declared.Command.{Command}
@@ -18,10 +18,6 @@ total_more f xs k d sum more l so_far e =
     let t = ap (total f) (take_more xs k d l) in
     let a = total-append f (take k xs) (get_or xs k d ∷ []) in
     omega arith
-
--- all elements
-pub total_all : {X : Type 0} (f : X → ℕ) (xs : List X) (k sum : ℕ) → length xs ≡ k → sum ≡ total f (take k xs) → sum ≡ total f xs
-total_all f xs k sum e so_far = so_far ∙ ap (total f) (take_all k xs (omega arith))
 
 -- 1 for a read
 abbrev read_counts : Command → ℕ

@@ -2,6 +2,7 @@
 use Rattle.std.proofs.Common.{◌≡◌, ℕ, zero, suc, ◌+◌, ◌-◌, ◌*◌, ◌/◌, ◌%◌, ◌<◌, ◌≤◌, Bool, true, false, cond, not, ◌&&◌, nat_lt, nat_le, List, [], ◌∷◌, ◌++◌, length, get_or, set, Option, Some, None, option_map, find, remove, slice_get, refl, sym, ap, ap₂, ◌∙◌, subst, arith, length-append, ⊎_elim, lt-ltb, mod-lt, flat_map}
 use Rattle.std.specs.List.{range_with_len, list_all}
 use Rattle.std.proofs.lemmas.Bool.{cases_eq}
+use Rattle.std.proofs.lemmas.List.{nil_from_length}
 use Rattle.flat_model.specs.declared.Event.{Event}
 use Rattle.flat_model.specs.declared.Event.TheVariants.{Take, Process, Arrive, Serve, Drain}
 use Rattle.flat_model.specs.declared.Word.{Word}
@@ -192,10 +193,6 @@ module _ (z : Sizes) (lawful : IsLawful z) (roomy : HasRoom z) (m : Machine) (h 
   no_answer : arrivals ≡ None → (b : ℕ) → b < z.banks → length (bank_at m.banks b).answers ≡ 0
   no_answer e b l = items_none _ (find_nowhere (λ k. has_items (bank_at m.banks k).answers) 0 z.banks b e (omega arith) (omega arith))
 
-  nil_from : {X : Type 0} (xs : List X) → length xs ≡ 0 → xs ≡ []
-  nil_from [] e = refl
-  nil_from (x ∷ xs) e = absurd (omega arith)
-
   parts_of : {X : Type 0} (xs : List X) → has_items xs ≡ true → (x : X) × (rest : List X) × (xs ≡ x ∷ rest)
   parts_of [] e = cc
   parts_of (x ∷ xs) e = (x, xs, refl)
@@ -218,7 +215,7 @@ module _ (z : Sizes) (lawful : IsLawful z) (roomy : HasRoom z) (m : Machine) (h 
           let l = parts_of (bank_at m.banks b).queue p.1 in
           so (Serve b) q (serve_lowers b l.0 l.1 p.0 l.2)
       go [] er [] es None ea None et (x ∷ rest) eq q =
-          so Drain q (drain_lowers x rest eq (nil_from _ (no_turn et (x.at % z.banks) (mod-lt x.at lawful.some_banks))))
+          so Drain q (drain_lowers x rest eq (nil_from_length _ (no_turn et (x.at % z.banks) (mod-lt x.at lawful.some_banks))))
       go [] er [] es None ea None et [] eq q = cc
 
   -- nothing is left where the driver has no event
@@ -243,11 +240,11 @@ module _ (z : Sizes) (lawful : IsLawful z) (roomy : HasRoom z) (m : Machine) (h 
           idle b l =
               let l' : b < z.banks = let n = h.banks_are in omega arith in
               let a = no_answer ea b l' in
-              let c : total command_weight (bank_at m.banks b).queue ≡ 0 = ap (total command_weight) (nil_from _ (no_turn et b l')) in
+              let c : total command_weight (bank_at m.banks b).queue ≡ 0 = ap (total command_weight) (nil_from_length _ (no_turn et b l')) in
               omega arith
 
           nothing : all_pending m.banks ≡ []
-          nothing = all_idle m.banks (λ b l. let l' : b < z.banks = let n = h.banks_are in omega arith in (nil_from _ (no_answer ea b l'), nil_from _ (no_turn et b l')))
+          nothing = all_idle m.banks (λ b l. let l' : b < z.banks = let n = h.banks_are in omega arith in (nil_from_length _ (no_answer ea b l'), nil_from_length _ (no_turn et b l')))
 
           quiet : (s : ℕ) → s < length m.cache.registers → register_weight (register_at m.cache s) ≡ 0
           quiet s l = by_valid (register_at m.cache s).valid refl

@@ -14,6 +14,7 @@ use Rattle.flat_model.specs.declared.Answer.TheVariants.{Refused}
 use Rattle.flat_model.specs.declared.Cause.TheVariants.{StrayWord}
 use Rattle.flat_model.specs.Words.{has_any}
 use Rattle.flat_model.specs.Flat.{Flat, word_at, may_answer, load_refusals, store_refusals, prefetch_refusals, flat_after, flat_step, flat_run}
+use Rattle.flat_model.specs.Ranges.{is_between}
 use Rattle.memory_banks.specs.Banks.{Bank, bank_at, pending, all_pending, answers_to, opening_banks}
 use Rattle.memory_banks.specs.Memory.{Memory, with_banks}
 use Rattle.cache_unit.specs.State.{Sizes, UnitState, opening_cache}
@@ -129,7 +130,7 @@ module _ (ways words regs depth : ℕ) (shape : Shape) (image : List Word) where
   flat_new unit memory none fits e f =
       ap₂ (λ (u : UnitState) (n : Memory). flat_of u.sizes (machine_of u n)) e f ∙ flat_opening new_sizes (lawful new_sizes (in_range new_sizes none)) image fits
 
-is_there : (n low high : ℕ) → low ≤ n → n ≤ high → mem.is_between n low high ≡ true
+is_there : (n low high : ℕ) → low ≤ n → n ≤ high → is_between n low high ≡ true
 is_there n low high l h = ap₂ (λ a b. a && b) (le-leb low n l) (le-leb n high h)
 
 -- the numbers of a unit are in range for its banks, too
@@ -139,7 +140,7 @@ banks_fit z image shape r w b q e =
     let banks = is_there shape.banks 1 16 (omega (arith, r.some_banks)) (omega (arith, r.few_banks)) in
     let queue = is_there shape.bank_queue 1 64 (subst (λ n. 1 ≤ n) q (some_queue z r)) (omega (arith, r.few_commands)) in
     let fits = eq-eqb image shape.words (e ∙ w) in
-    ap₂ (λ s t. cond (not s) (Some Words) (cond (not t) (Some Banks) (cond (not (mem.is_between shape.bank_queue 1 64)) (Some BankQueue) (cond (not (image == shape.words)) (Some Image) None)))) words banks
+    ap₂ (λ s t. cond (not s) (Some Words) (cond (not t) (Some Banks) (cond (not (is_between shape.bank_queue 1 64)) (Some BankQueue) (cond (not (image == shape.words)) (Some Image) None)))) words banks
     ∙ ap₂ (λ s t. cond (not s) (Some BankQueue) (cond (not t) (Some Image) None)) queue fits
   where
     some_queue : (y : Sizes) → InRange y → 1 ≤ y.bank_queue

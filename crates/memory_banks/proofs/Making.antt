@@ -1,14 +1,16 @@
 -- Lists that are made from the front, one element after another, and the banks that they make.
-use Rattle.std.proofs.Common.{◌≡◌, ℕ, zero, suc, ◌+◌, ◌-◌, ◌*◌, ◌/◌, ◌<◌, ◌≤◌, Bool, true, false, not, cond, ◌==◌, nat_le, List, [], ◌∷◌, ◌++◌, map, length, Some, None, refl, ap, sym, ◌∙◌, subst, arith, zero-add}
+use Rattle.std.proofs.Common.{◌≡◌, ℕ, zero, suc, ◌+◌, ◌-◌, ◌*◌, ◌/◌, ◌<◌, ◌≤◌, Bool, true, false, not, cond, ◌==◌, List, [], ◌∷◌, ◌++◌, map, length, Some, None, refl, ap, sym, ◌∙◌, subst, arith, zero-add}
 use Rattle.std.specs.List.{range_with_len}
-use Rattle.std.proofs.lemmas.Bool.{leb-true, eqb-true, and_parts}
+use Rattle.std.proofs.lemmas.Bool.{eqb-true}
 use Rattle.std.proofs.lemmas.List.FromFn.{map-range_with_len_more, length-map-range_with_len, get_or-map-range_with_len}
 use Rattle.flat_model.specs.declared.Word.{Word}
 use Rattle.flat_model.specs.declared.Shape.{Shape}
 use Rattle.flat_model.specs.declared.ShapeField.TheVariants.{Words, Banks, BankQueue, Image}
 use Rattle.flat_model.specs.Flat.{word_at}
+use Rattle.flat_model.specs.Ranges.{is_between}
+use Rattle.flat_model.proofs.Ranges.{between}
 use Rattle.memory_banks.specs.Banks.{Bank, no_bank, bank_at, share_of, opening_banks}
-use Rattle.memory_banks.specs.Memory.{Memory, IsMemory, share_length, is_between, bad_field}
+use Rattle.memory_banks.specs.Memory.{Memory, IsMemory, share_length, bad_field}
 
 pub one_more : {X : Type 0} (f : ℕ → X) (k : ℕ) (xs more : List X) → xs ≡ map f (range_with_len 0 k) → more ≡ xs ++ f k ∷ [] → more ≡ map f (range_with_len 0 (k + 1))
 one_more f k xs more so_far e =
@@ -40,11 +42,6 @@ pub record InRange (image : ℕ) (shape : Shape) : Type 0 where
   pub some_queue : 1 ≤ shape.bank_queue
   pub most_queue : shape.bank_queue ≤ 64
   pub image_fits : image ≡ shape.words
-
-between : (n low high : ℕ) → is_between n low high ≡ true → (low ≤ n) × (n ≤ high)
-between n low high e =
-    let p = and_parts (nat_le low n) (nat_le n high) e in
-    (leb-true low n p.0, leb-true n high p.1)
 
 pub in_range : (image : ℕ) (shape : Shape) → bad_field image shape ≡ None → InRange image shape
 in_range image shape e = go (is_between shape.words 1 1048576) refl (is_between shape.banks 1 16) refl (is_between shape.bank_queue 1 64) refl (image == shape.words) refl e

@@ -77,7 +77,7 @@ module _ (limit : ℕ) (banks : List Bank) (b : ℕ) (command : Command) (x y : 
 
 -- ---- several commands
 
-all_sent-length : (banks : List Bank) (sent : List (ℕ × Command)) → length (all_sent banks sent) ≡ length banks
+pub all_sent-length : (banks : List Bank) (sent : List (ℕ × Command)) → length (all_sent banks sent) ≡ length banks
 all_sent-length banks [] = refl
 all_sent-length banks (c ∷ rest) = all_sent-length (set banks c.0 (with_command (bank_at banks c.0) c.1)) rest ∙ length-set banks c.0 _
 

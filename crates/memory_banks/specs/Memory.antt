@@ -1,5 +1,5 @@
 -- A whole memory: its banks, and what they have in common.
-use Rattle.std.specs.Prelude.{◌≡◌, ℕ, ◌+◌, ◌-◌, ◌/◌, ◌%◌, ◌<◌, ◌≤◌, Bool, true, false, ◌&&◌, not, nat_lt, nat_le, ◌==◌, if◌then◌else◌, List, [], ◌∷◌, length, slice_set, Option, Some, None, refl}
+use Rattle.std.specs.Prelude.{◌≡◌, ℕ, ◌+◌, ◌-◌, ◌/◌, ◌%◌, ◌<◌, ◌≤◌, Bool, true, false, ◌&&◌, not, nat_lt, ◌==◌, if◌then◌else◌, List, [], ◌∷◌, length, slice_set, Option, Some, None, refl}
 use Rattle.std.proofs.Common.{◌∙◌}
 use Rattle.std.specs.List.{remove}
 use Rattle.flat_model.specs.declared.Word.{Word}
@@ -9,6 +9,7 @@ use Rattle.flat_model.specs.declared.ShapeField.TheVariants.{Words, Banks, BankQ
 use Rattle.flat_model.specs.declared.MakeFault.{MakeFault}
 use Rattle.flat_model.specs.declared.MakeFault.TheVariants.{BadShape, OutOfMemory}
 use Rattle.flat_model.specs.Flat.{word_at}
+use Rattle.flat_model.specs.Ranges.{is_between}
 use Rattle.memory_banks.specs.declared.Command.{Command}
 use Rattle.memory_banks.specs.declared.Command.TheVariants.{Read, Write}
 use Rattle.memory_banks.specs.Banks.{Bank, bank_at, served}
@@ -91,9 +92,6 @@ same_steps l m n p q =
     }
 
 -- ---- what is made
-
-abbrev pub is_between : ℕ → ℕ → ℕ → Bool
-is_between n low high = nat_le low n && nat_le n high
 
 -- the first number of a shape that is out of its range for banks with an image of so many words
 abbrev pub bad_field : ℕ → Shape → Option ShapeField

@@ -5,9 +5,8 @@ use Rattle.std.proofs.lemmas.Bool.{cases_eq, ltb-false, and_parts}
 use Rattle.std.proofs.lemmas.List.{get_or-set_same, get_or-set_other}
 use Rattle.std.proofs.lemmas.List.Sums.{sum_by-cons, sum_by-set}
 use Rattle.std.proofs.lemmas.List.Folds.{flat_map-map}
-use Rattle.flat_model.specs.declared.Lanes.{Lanes}
 use Rattle.miss_registers.specs.declared.Owed.{Owed}
-use Rattle.miss_registers.specs.Registers.{Field, Register, free_register, clear_field, register_at, field_of, with_field, is_done, awaited, noted, marked, finished, finished_field, finished_fields, made_obsolete, without_code, fresh, tags_of, tags_of_field, waiting_tags, tag_waits}
+use Rattle.miss_registers.specs.Registers.{Field, Register, free_register, clear_field, register_at, field_of, with_field, is_done, awaited, finished, finished_field, finished_fields, made_obsolete, without_code, fresh, tags_of, tags_of_field, waiting_tags, tag_waits}
 use Rattle.miss_registers.proofs.Tags.{count_by-append, count_by-flat_map, count_by-map, list_any-count_by}
 
 -- ---- one part is another
@@ -46,14 +45,6 @@ tags_of-fresh words block frame = go words
     go : (n : ℕ) → flat_map tags_of_field (replicate n clear_field) ≡ []
     go zero = refl
     go (suc n) = go n
-
-pub tags_of-noted : (r : Register) (i : ℕ) (lanes : Lanes) → tags_of (noted r i lanes) ≡ tags_of r
-unfolding noted
-tags_of-noted r i lanes = flat_map-set_same tags_of_field r.fields i _ clear_field refl
-
-pub tags_of-marked : (r : Register) (i : ℕ) → tags_of (marked r i) ≡ tags_of r
-unfolding marked
-tags_of-marked r i = flat_map-set_same tags_of_field r.fields i _ clear_field refl
 
 pub tags_of-obsolete : (r : Register) → tags_of (made_obsolete r) ≡ tags_of r
 unfolding made_obsolete
@@ -121,11 +112,4 @@ pub none_counted : (rs : List Register) (tag : ℕ) → tag_waits rs tag ≡ fal
 none_counted rs tag h =
     let e = list_any-count_by (λ t. t == tag) (waiting_tags rs) in
     let z = ltb-false 0 (count_by (λ t. t == tag) (waiting_tags rs)) (sym e ∙ h) in
-    omega arith
-
-pub length-count_by : {X : Type 0} (xs : List X) → length xs ≡ count_by (λ x. true) xs
-length-count_by [] = refl
-length-count_by {X} (x ∷ xs) =
-    let b = sum_by-cons (λ (y : X). 1) x xs in
-    let r = length-count_by xs in
     omega arith

@@ -1,5 +1,5 @@
 -- Each step keeps the registers whole.
-use Rattle.std.proofs.Common.{◌≡◌, ◌⊎◌, ℕ, suc, zero, ◌<◌, ◌≤◌, ◌==◌, Bool, true, false, cond, if◌then◌else◌, List, [], ◌∷◌, ◌++◌, map, length, set, get_or, replicate, Option, None, Some, refl, ap, sym, ◌∙◌, inl, inr, arith, length-set, length-append}
+use Rattle.std.proofs.Common.{◌≡◌, ◌⊎◌, ℕ, suc, zero, ◌<◌, ◌≤◌, ◌==◌, Bool, true, false, cond, if◌then◌else◌, List, [], ◌∷◌, ◌++◌, map, length, set, get_or, replicate, None, refl, ap, sym, ◌∙◌, inl, inr, arith, length-set, length-append}
 use Rattle.std.specs.List.{count_by}
 use Rattle.std.proofs.lemmas.Bool.{cases_eq, cases_lt, cases_Bool, false≢true, and_parts, and_right, both_ways, not-true, eq-eqb, ne_eqb}
 use Rattle.std.proofs.lemmas.List.{get_or_past, get_or-set_same, get_or-set_other, length-replicate, length-map, get_or-replicate}
@@ -10,7 +10,7 @@ use Rattle.flat_model.specs.Words.{no_lanes, joined}
 use Rattle.miss_registers.specs.declared.Owed.{Owed}
 use Rattle.miss_registers.specs.Registers.{Field, Register, free_register, clear_field, register_at, field_of, with_field, is_live, is_done, live_for, awaited, noted, marked, finished, finished_field, finished_fields, made_obsolete, without_code, fresh, expects, tags_of, tags_of_field, waiting_tags, tag_waits}
 use Rattle.miss_registers.specs.Whole.{IsWholeRegister, IsWhole}
-use Rattle.miss_registers.proofs.Places.{live_for-missing, live_for-found}
+use Rattle.miss_registers.proofs.Places.{live_for-missing}
 use Rattle.miss_registers.proofs.Words.{in_stack_there, expects-parts}
 use Rattle.miss_registers.proofs.Counts.{flat_map-set_same, count-with_register, waiting_tags-same, tags_of-fresh, tags_of-obsolete, count-awaited_file, count-finished_file, none_counted}
 
@@ -297,13 +297,3 @@ new-whole words regs a b c d = record {
 }
 
 -- ---- the comparator
-
--- it finds the one live register of a block
-pub live_for-one : (words regs : ℕ) (rs : List Register) (block slot : ℕ) → IsWhole words regs rs → is_live (register_at rs slot) ≡ true → (register_at rs slot).block ≡ block → live_for rs block ≡ Some slot
-live_for-one words regs rs block slot h l s = go (live_for rs block) refl
-  where
-    go : (o : Option ℕ) → live_for rs block ≡ o → o ≡ Some slot
-    go None e = absurd (live_for-missing rs block slot e l s)
-    go (Some k) e =
-        let f = live_for-found rs block k e in
-        ap Some (h.one_live k slot f.live l (f.same ∙ sym s))

@@ -2,7 +2,7 @@
 use Rattle.std.proofs.Common.{◌≡◌, ℕ, ◌≤◌, Bool, true, false, Option, Some, None, List, ◌∷◌, ◌++◌, refl, sym, ◌∙◌, ap, subst, arith, decimal}
 use Rattle.std.specs.Prelude.{cond, codes, ◌==◌}
 use Rattle.std.specs.Option.{option_and_then}
-use Rattle.std.proofs.lemmas.Bool.Decides.{nat_tests}
+use Rattle.std.proofs.lemmas.Bool.{eqb-true}
 use Rattle.flat_model.specs.declared.Word.{Word}
 use Rattle.flat_model.specs.declared.Cause.{Cause}
 use Rattle.flat_model.specs.declared.Cause.TheVariants.{OutOfRange, NoLanes, TagInUse, RepliesFull, TargetsFull, BlockQueued, NoRegister, SetPending, QueueFull, BankFull, NotPresent, StackFull, StrayWord}
@@ -21,26 +21,23 @@ use Rattle.trace_text.proofs.Written.{same_is, chosen, tag_is, number_is, word_i
 abbrev IsAnswered : List ℕ → Option (List ℕ) → Answer → Type 0
 IsAnswered kind fields a = IsFitAnswer a × (whole kind fields ≡ answer_text a)
 
-same_number : (m n : ℕ) → (m == n) ≡ true → m ≡ n
-same_number m n e = grind (arith, nat_tests)
-
 cause_is : (n : ℕ) (c : Cause) → cause_of n ≡ Some c → n ≡ number c
 unfolding cause_of
 cause_is n c e =
     let P : Cause → Type 0 = λ k. n ≡ number k in
-    chosen P (n == 1) OutOfRange c _ (same_number n 1)
-    (chosen P (n == 2) NoLanes c _ (same_number n 2)
-    (chosen P (n == 3) TagInUse c _ (same_number n 3)
-    (chosen P (n == 4) RepliesFull c _ (same_number n 4)
-    (chosen P (n == 5) TargetsFull c _ (same_number n 5)
-    (chosen P (n == 6) BlockQueued c _ (same_number n 6)
-    (chosen P (n == 7) NoRegister c _ (same_number n 7)
-    (chosen P (n == 8) SetPending c _ (same_number n 8)
-    (chosen P (n == 9) QueueFull c _ (same_number n 9)
-    (chosen P (n == 10) BankFull c _ (same_number n 10)
-    (chosen P (n == 11) NotPresent c _ (same_number n 11)
-    (chosen P (n == 12) StackFull c _ (same_number n 12)
-    (chosen P (n == 13) StrayWord c _ (same_number n 13)
+    chosen P (n == 1) OutOfRange c _ (eqb-true n 1)
+    (chosen P (n == 2) NoLanes c _ (eqb-true n 2)
+    (chosen P (n == 3) TagInUse c _ (eqb-true n 3)
+    (chosen P (n == 4) RepliesFull c _ (eqb-true n 4)
+    (chosen P (n == 5) TargetsFull c _ (eqb-true n 5)
+    (chosen P (n == 6) BlockQueued c _ (eqb-true n 6)
+    (chosen P (n == 7) NoRegister c _ (eqb-true n 7)
+    (chosen P (n == 8) SetPending c _ (eqb-true n 8)
+    (chosen P (n == 9) QueueFull c _ (eqb-true n 9)
+    (chosen P (n == 10) BankFull c _ (eqb-true n 10)
+    (chosen P (n == 11) NotPresent c _ (eqb-true n 11)
+    (chosen P (n == 12) StackFull c _ (eqb-true n 12)
+    (chosen P (n == 13) StrayWord c _ (eqb-true n 13)
     (λ none. cc))))))))))))) e
 
 cause_back : (c : Cause) → cause_of (number c) ≡ Some c

@@ -80,7 +80,3 @@ no_space_in [] e = tt
 no_space_in (b ∷ bs) e =
     let t = space_test (b == 32) (no_space bs) e in
     (λ is. let same : (b == 32) ≡ true = grind (arith, nat_tests) in cc, no_space_in bs t.1)
-
-pub no_space_then : (xs ys : List ℕ) → NoSpace xs → NoSpace ys → NoSpace (xs ++ ys)
-no_space_then [] ys p q = q
-no_space_then (x ∷ xs) ys p q = (p.0, no_space_then xs ys p.1 q)

@@ -1,5 +1,5 @@
 -- How a whole run goes on and ends.
-use Rattle.std.proofs.Common.{◌≡◌, ℕ, ◌+◌, ◌-◌, ◌<◌, ◌≤◌, ◌⊎◌, List, [], ◌∷◌, ◌++◌, length, take, drop, length-take, length-drop, get_or-take, refl, sym, ◌∙◌, ap, subst, arith, Ok, Err, inl, inr}
+use Rattle.std.proofs.Common.{◌≡◌, ℕ, ◌+◌, ◌-◌, ◌<◌, ◌≤◌, ◌⊎◌, List, [], ◌∷◌, ◌++◌, length, take, drop, length-take, get_or-take, refl, sym, ◌∙◌, ap, subst, arith, Ok, Err, inl, inr}
 use Rattle.std.proofs.Math.Seq.{take-append-add}
 use Rattle.std.proofs.lemmas.List.{take-append-le}
 use Rattle.machine_core.specs.Machine.{MachineState}
@@ -83,15 +83,6 @@ going_on more whole rest p gives e ended at_end len room = record {
 progress : (lines : List (List ℕ × Line)) (bytes rest : List ℕ) → bytes ≡ joined lines ++ rest → (0 < length lines) ⊎ (length bytes ≡ length rest)
 progress [] bytes rest e = inr (ap length e)
 progress (s ∷ ss) bytes rest e = inl (omega arith)
-
--- more lines have been served, or no whole line was there
-pub ended_progress : {W : Type 0} {took : W → List ℕ → W → Type 0} {w w' : W} {m n : MachineState} {b c : Counts} {left : ℕ} {bytes : List ℕ}
-    → Ended took w m b bytes left w' n c → (b.lines < c.lines) ⊎ (left ≡ length bytes)
-ended_progress {left = left} {bytes = bytes} p =
-    elim (progress p.through.served.lines bytes _ p.through.served.split) [
-      | inl h ↦ inl (omega (arith, p.through.served.number, h))
-      | inr h ↦ inr (omega (arith, h, p.enough, length-drop (length bytes - left) bytes))
-    ]
 
 -- a fault in the lines of a piece is a fault of the whole run
 pub fails_then : {W : Type 0} {took : W → List ℕ → W → Type 0} (refused : W → W → Type 0) {w w' : W} (w'' : W) {k m : MachineState} (n : MachineState) {a b : Counts} {bytes pending : List ℕ} (more : List ℕ) (e : TraceFault)

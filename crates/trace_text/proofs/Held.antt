@@ -1,8 +1,8 @@
 -- What is held of the lines so far.
-use Rattle.std.proofs.Common.{◌≡◌, ℕ, suc, ◌+◌, ◌<◌, ◌≤◌, Bool, true, false, Option, Some, None, Result, Ok, Err, OnOk, IfOk, List, [], ◌∷◌, ◌++◌, length, length-append, append-nil, append_assoc, refl, sym, ◌∙◌, ap, subst, arith}
+use Rattle.std.proofs.Common.{◌≡◌, ℕ, suc, ◌+◌, ◌<◌, ◌≤◌, Bool, true, false, Option, Some, None, Result, Ok, Err, OnOk, List, [], ◌∷◌, ◌++◌, length, length-append, append-nil, append_assoc, refl, sym, ◌∙◌, ap, arith}
 use Rattle.std.specs.Prelude.{cond}
 use Rattle.std.specs.Option.{option_map, option_to_list}
-use Rattle.std.specs.List.{AllByRecursion, slice_get}
+use Rattle.std.specs.List.{AllByRecursion}
 use Rattle.flat_model.specs.declared.Event.{Event}
 use Rattle.flat_model.specs.declared.Event.TheVariants.{Load, Store, Prefetch, Evict, Drain, Serve, Arrive, Process, Take}
 use Rattle.flat_model.specs.declared.Answer.{Answer}
@@ -13,9 +13,7 @@ use Rattle.flat_model.specs.Memory.{FaultIs}
 use Rattle.trace_text.specs.Lines.{line_of}
 use Rattle.trace_text.specs.Pairs.{pair_of}
 use Rattle.trace_text.specs.Requests.{IsRequest, request_event, request_in, request_of, requests_of}
-use Rattle.trace_text.specs.Checks.{step_of, event_of, answer_of, number_of, events_in, answers_in, numbers_from, step_with, zeros, Holds, IsJudged, HasLine, FoundAt}
-use Rattle.trace_text.specs.declared.serve.TraceFault.{TraceFault}
-use Rattle.trace_text.specs.declared.check.CheckEnd.{CheckEnd}
+use Rattle.trace_text.specs.Checks.{step_of, event_of, answer_of, number_of, events_in, answers_in, numbers_from, step_with, zeros, Holds, IsJudged, HasLine}
 use Rattle.trace_text.specs.declared.check.CheckEnd.TheVariants.{Flat as FlatRun, Mismatch}
 use Rattle.trace_text.specs.declared.check.Step.{Step}
 use Rattle.trace_text.specs.declared.lines.Line.{Line}
@@ -157,22 +155,3 @@ has_line memory events answers numbers texts (replay_fault.Mismatch place) found
     omega (arith, fault_inside events memory answers place found.0, ap length held.events, ap length held.numbers, numbers_length 1 texts)
 has_line memory events answers numbers texts replay_fault.Lengths found held = tt
 has_line memory events answers numbers texts replay_fault.OutOfMemory found held = tt
-
-pub judged_fault : (words : ℕ) (memory : Flat) (events : List Event) (answers : List Answer) (numbers : List ℕ) (texts : List (List ℕ)) (fault : ReplayFault) (result : Result CheckEnd TraceFault)
-    → memory ≡ zeros words → FaultIs memory events answers fault → Holds events answers numbers texts → FoundAt numbers fault result
-    → IfOk result (IsJudged words texts)
-judged_fault words memory events answers numbers texts (replay_fault.Mismatch place) (Ok (Mismatch n)) opens found held at =
-    let P = λ (m : Flat) (es : List Event) (xs : List Answer). first_fault m es xs ≡ Some place in
-    let N = λ (m : Flat) (es : List Event) (xs : List Answer). flat_run m es xs ≡ None in
-    let first = subst (λ xs. P (zeros words) (events_in texts) xs) held.answers (subst (λ es. P (zeros words) es answers) held.events (subst (λ m. P m events answers) opens found.0)) in
-    let none = subst (λ xs. N (zeros words) (events_in texts) xs) held.answers (subst (λ es. N (zeros words) es answers) held.events (subst (λ m. N m events answers) opens found.2)) in
-    (none, (place, first, ap (λ l. slice_get l place) (sym held.numbers) ∙ at))
-judged_fault words memory events answers numbers texts (replay_fault.Mismatch place) (Ok (FlatRun steps)) opens found held at = absurd at
-judged_fault words memory events answers numbers texts (replay_fault.Mismatch place) (Err fault) opens found held at = tt
-judged_fault words memory events answers numbers texts replay_fault.Lengths result opens found held at = subst (λ r. IfOk r (IsJudged words texts)) (sym at) tt
-judged_fault words memory events answers numbers texts replay_fault.OutOfMemory result opens found held at = subst (λ r. IfOk r (IsJudged words texts)) (sym at) tt
-
-pub if_ok_each : {A E : Type 0} (P : A → List (List ℕ) → Type 0) (H : List (List ℕ) → Type 0) (r : Result A E)
-    → ((texts : List (List ℕ)) → H texts → IfOk r (λ x. P x texts)) → IfOk r (λ x. (texts : List (List ℕ)) → H texts → P x texts)
-if_ok_each P H (Ok x) f = f
-if_ok_each P H (Err e) f = tt

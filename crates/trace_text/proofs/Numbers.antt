@@ -5,6 +5,7 @@ use Rattle.std.proofs.Common.{rules}
 use Rattle.std.proofs.lemmas.Bool.Decides.{nat_tests}
 use Rattle.std.proofs.lemmas.Str.Parse.{IsNumeralModel, numerals_by_fold}
 use Rattle.std.proofs.lemmas.Fmt.{decimal-digits_value, digits_decimal, digits_value-decimal, decimal_nonempty, first_decimal, decimal_digit}
+use Rattle.std.proofs.lemmas.Bool.{and_parts, leb-true}
 use Rattle.trace_text.specs.Fields.{is_digit, number_after, begins_badly, number_of}
 
 abbrev pub read_on : ℕ → List ℕ → ℕ
@@ -22,13 +23,6 @@ taken : (t : Bool) (x : Option ℕ) (m : ℕ) → cond t x None ≡ Some m → (
 taken true x m e = (refl, e)
 taken false x m e = cc
 
-pub both : (a b : Bool) → (a && b) ≡ true → (a ≡ true) × (b ≡ true)
-both true b e = (refl, e)
-both false b e = cc
-
-pub le_of : (a b : ℕ) → nat_le a b ≡ true → a ≤ b
-le_of a b e = grind (arith, nat_tests)
-
 of_le : (a b : ℕ) → a ≤ b → nat_le a b ≡ true
 of_le a b e = grind (arith, nat_tests)
 
@@ -36,8 +30,8 @@ after_reads : (most n m : ℕ) (bs : List ℕ) → n ≤ most → number_after m
 after_reads most n m [] le e = let same : n ≡ m = cc in (refl, same, omega arith)
 after_reads most n m (b ∷ bs) le e =
     let t = taken (is_digit b && nat_le (n * 10 + (b - 48)) most) (number_after most (n * 10 + (b - 48)) bs) m e in
-    let d = both (is_digit b) (nat_le (n * 10 + (b - 48)) most) t.0 in
-    let rest = after_reads most (n * 10 + (b - 48)) m bs (le_of (n * 10 + (b - 48)) most d.1) t.1 in
+    let d = and_parts (is_digit b) (nat_le (n * 10 + (b - 48)) most) t.0 in
+    let rest = after_reads most (n * 10 + (b - 48)) m bs (leb-true (n * 10 + (b - 48)) most d.1) t.1 in
     (ap (λ x. cond x (all_digits bs) false) d.0 ∙ rest.0, rest.1, rest.2)
 
 read_ge : (n : ℕ) (bs : List ℕ) → n ≤ read_on n bs

@@ -8,10 +8,9 @@ use Rattle.trace_text.specs.declared.serve.TraceFault.{TraceFault}
 use Rattle.trace_text.specs.declared.serve.TraceFault.TheVariants as fault
 use Rattle.trace_text.specs.Serving.{HasNoEnd, Moves}
 use Rattle.trace_text.specs.Faults.{BegunFault}
-use Rattle.trace_text.specs.Reading.{joined_texts, IsGood, Good, BeginsFaulty, Misses, ReadWhole, Faulty, ReadStops, Collected, AllCollected, Reading, IsFound}
+use Rattle.trace_text.specs.Reading.{joined_texts, IsGood, Good, BeginsFaulty, Misses, Faulty, ReadStops, Collected, AllCollected, Reading, IsFound}
 use Rattle.trace_text.proofs.Serving.{moved_none, moved_more, all_then}
-use Rattle.trace_text.proofs.Faults.{IsEnd, line_split, front_has_none, none_in_front}
-use Rattle.trace_text.proofs.Ends.{none_of}
+use Rattle.trace_text.proofs.Faults.{IsEnd, line_split, front_has_none}
 
 -- ---- good lines
 
@@ -94,11 +93,6 @@ pub faulty_said : {C : Type 0} {f : List ℕ → Option LineFault} {holds : C �
     → Faulty f most n bytes (fault.Line (m + 1) e)
 faulty_said {f = f} {most = most} {rest = rest} at e p h short same missed room =
     (p.texts, rest, p.good, omega (arith, p.number), omega (arith, p.number, room), begins_said f most rest at e h short (ap f (sym same) ∙ missed.0) missed.1)
-
-pub faulty_long : {C : Type 0} {f : List ℕ → Option LineFault} {holds : C → List (List ℕ) → Type 0} {most : ℕ} {c d : C} {n m : ℕ} {bytes rest : List ℕ} (at : ℕ)
-    → Collected f holds most c n bytes rest d m → IsEnd rest at → most < at → m < 16777216
-    → Faulty f most n bytes (fault.Line (m + 1) TooLong)
-faulty_long {most = most} {rest = rest} at p h long room = (p.texts, rest, p.good, omega (arith, p.number), omega (arith, p.number, room), (omega (arith, h.0), none_in_front rest at (most + 1) h (omega arith)))
 
 -- ---- pieces
 
@@ -200,28 +194,3 @@ stops_found failed f most {bytes = bytes} fault.TooManyLines is p q = (bytes, p,
 stops_found failed f most fault.OutOfMemory is p q = tt
 stops_found failed f most fault.Read is p q = absurd is
 stops_found failed f most fault.Write is p q = absurd is
-
--- the reader told its end, behind a whole line
-pub read_done : {R C : Type 0} {gave : R → List ℕ → R → Type 0} {f : List ℕ → Option LineFault} {holds : C → List (List ℕ) → Type 0} {most : ℕ} {r r' r'' : R} {c d : C} {n : ℕ} {pending bs : List ℕ}
-    → Reading gave f holds most r c pending r' d n → gave r' bs r'' → length bs ≡ 0 → length pending ≡ 0 → holds c []
-    → (texts : List (List ℕ)) × ReadWhole gave f most r r'' texts × holds d texts
-read_done {gave = gave} {f = f} {most = most} {r' = r'} {r'' = r''} {pending = pending} {bs = bs} p gives none empty start =
-    let texts = p.collected.texts in (
-      texts,
-      record {
-        bytes = p.bytes;
-        last = r';
-        read = p.read;
-        ends = subst (λ l. gave r' l r'') (sym (none_of bs none)) gives;
-        good = subst (λ l. Good f most p.bytes texts l) (sym (none_of pending empty)) p.collected.good;
-        within = omega (arith, p.collected.number, p.collected.within);
-      },
-      p.collected.kept [] refl start,
-    )
-
--- the reader told its end, within a line
-pub read_cut : {R C : Type 0} {gave : R → List ℕ → R → Type 0} {f : List ℕ → Option LineFault} {holds : C → List (List ℕ) → Type 0} {most : ℕ} {r r' r'' : R} {c d : C} {n : ℕ} {pending bs : List ℕ}
-    → Reading gave f holds most r c pending r' d n → gave r' bs r'' → length bs ≡ 0 → 0 < length pending
-    → (bytes : List ℕ) × (last : R) × Moves gave r bytes last × gave last [] r'' × Faulty f most 0 bytes (fault.Line (n + 1) NotEnded)
-read_cut {gave = gave} {r' = r'} {r'' = r''} {pending = pending} {bs = bs} p gives none some =
-    (p.bytes, r', p.read, subst (λ l. gave r' l r'') (sym (none_of bs none)) gives, (p.collected.texts, pending, p.collected.good, omega (arith, p.collected.number), omega (arith, p.collected.number, p.room some), (some, p.short, p.unfinished)))

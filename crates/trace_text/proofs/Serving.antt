@@ -135,9 +135,6 @@ served_one {took = took} {u = u} {v = v} {m = m} {n = n} text rest p good = reco
   runs = subst (λ l. flat_run (flat m) l (option_to_list (answer_to m p.line) ++ []) ≡ Some (flat n)) (sym (append-nil (option_to_list (event_in p.line)))) (subst (λ l. flat_run (flat m) (option_to_list (event_in p.line)) l ≡ Some (flat n)) (sym (append-nil (option_to_list (answer_to m p.line)))) p.runs);
 }
 
-pub partly_none : {S : Type 0} {step : S → List ℕ → S → Type 0} (s : S) (bytes : List ℕ) → Partly step s bytes bytes s
-partly_none s bytes = record { front = []; whole = refl; moved = moved_none s }
-
 pub partly_more : {S : Type 0} {step : S → List ℕ → S → Type 0} {r s t : S} {bytes rest : List ℕ} (n : ℕ) (rest' : List ℕ)
     → Partly step r bytes rest s → step s (take n rest) t → rest' ≡ drop n rest → Partly step r bytes rest' t
 partly_more {rest = rest} n rest' p q e = record {

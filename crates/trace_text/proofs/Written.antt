@@ -5,6 +5,7 @@ use Rattle.std.specs.Option.{option_map}
 use Rattle.std.specs.List.{AllByRecursion}
 use Rattle.std.specs.Cmp.Lexicographic.{bytes_decides}
 use Rattle.std.proofs.lemmas.Bool.Decides.{nat_tests}
+use Rattle.std.proofs.lemmas.Bool.{and_parts, leb-true, ltb-true, eqb-true}
 use Rattle.flat_model.specs.declared.Word.{Word}
 use Rattle.flat_model.specs.declared.Lanes.{Lanes}
 use Rattle.flat_model.specs.declared.Event.TheVariants.{Load, Store, Prefetch, Evict, Drain, Serve, Arrive, Process, Take}
@@ -16,14 +17,11 @@ use Rattle.trace_text.specs.declared.lines.Command.{Command}
 use Rattle.trace_text.specs.declared.lines.Command.TheVariants as command
 use Rattle.trace_text.specs.declared.lines.Line.{Line}
 use Rattle.trace_text.specs.declared.lines.Line.TheVariants as line
-use Rattle.trace_text.proofs.Numbers.{number_read, number_written, all_digits, decimal_digits, both, le_of, digits_taken}
+use Rattle.trace_text.proofs.Numbers.{number_read, number_written, all_digits, decimal_digits, digits_taken}
 use Rattle.trace_text.proofs.Words.{word_read, mask_read}
 use Rattle.trace_text.proofs.Cuts.{NoSpace, cut_front, cut_none, whole, cut_is, no_space, no_space_in}
 
 -- ---- words and masks are what their digits say
-
-lt_of : (a b : ℕ) → nat_lt a b ≡ true → a < b
-lt_of a b e = grind (arith, nat_tests)
 
 low_digit : (n : ℕ) → n < 10 → hex_digit n ≡ 48 + n
 low_digit n lt = let test : nat_lt n 10 ≡ true = grind (arith, nat_tests) in ap (λ t. cond t (48 + n) (87 + n)) test
@@ -33,17 +31,17 @@ high_digit n le = let test : nat_lt n 10 ≡ false = grind (arith, nat_tests) in
 
 nibble_cases : (b n : ℕ) (t u : Bool) → is_digit b ≡ t → (nat_le 97 b && nat_lt b 103) ≡ u → cond t (Some (b - 48)) (cond u (Some (b - 87)) None) ≡ Some n → (b ≡ hex_digit n) × (n < 16)
 nibble_cases b n true u et eu e =
-    let range = both (nat_le 48 b) (nat_lt b 58) et in
-    let low = le_of 48 b range.0 in
-    let high = lt_of b 58 range.1 in
+    let range = and_parts (nat_le 48 b) (nat_lt b 58) et in
+    let low = leb-true 48 b range.0 in
+    let high = ltb-true b 58 range.1 in
     let is : b - 48 ≡ n = cc in
     let small : n < 10 = omega (arith, low, high, is) in
     let sum : b ≡ 48 + n = omega (arith, low, is) in
     (sum ∙ sym (low_digit n small), omega (arith, small))
 nibble_cases b n false true et eu e =
-    let range = both (nat_le 97 b) (nat_lt b 103) eu in
-    let low = le_of 97 b range.0 in
-    let high = lt_of b 103 range.1 in
+    let range = and_parts (nat_le 97 b) (nat_lt b 103) eu in
+    let low = leb-true 97 b range.0 in
+    let high = ltb-true b 103 range.1 in
     let is : b - 87 ≡ n = cc in
     let large : 10 ≤ n = omega (arith, low, is) in
     let sum : b ≡ 87 + n = omega (arith, low, is) in
@@ -104,12 +102,9 @@ data IsBit (b n : ℕ) : Type 0 where
   clear : b ≡ 48 → n ≡ 0 → IsBit b n
   set : b ≡ 49 → n ≡ 1 → IsBit b n
 
-same_byte : (a b : ℕ) → (a == b) ≡ true → a ≡ b
-same_byte a b e = grind (arith, nat_tests)
-
 bit_cases : (b n : ℕ) (t u : Bool) → (b == 48) ≡ t → (b == 49) ≡ u → cond t (Some 0) (cond u (Some 1) None) ≡ Some n → IsBit b n
-bit_cases b n true u et eu e = let is : n ≡ 0 = cc in clear (same_byte b 48 et) is
-bit_cases b n false true et eu e = let is : n ≡ 1 = cc in set (same_byte b 49 eu) is
+bit_cases b n true u et eu e = let is : n ≡ 0 = cc in clear (eqb-true b 48 et) is
+bit_cases b n false true et eu e = let is : n ≡ 1 = cc in set (eqb-true b 49 eu) is
 bit_cases b n false false et eu e = cc
 
 bit_is : (b n : ℕ) → bit_of b ≡ Some n → IsBit b n
@@ -117,9 +112,6 @@ bit_is b n e = bit_cases b n (b == 48) (b == 49) refl refl e
 
 abbrev mask : ℕ → ℕ → ℕ → ℕ → Lanes
 mask a b c d = record { 0 = a + 2 * b + 4 * c + 8 * d }
-
-abbrev bit_text_of : ℕ → ℕ
-bit_text_of n = 48 + n
 
 below_two : (b n : ℕ) → IsBit b n → (b ≡ 48 + n) × (n < 2)
 below_two b n (clear x y) = (omega (arith, x, y), omega (arith, y))
@@ -357,7 +349,7 @@ digits_high : (bs : List ℕ) → all_digits bs ≡ true → High bs
 digits_high [] e = tt
 digits_high (b ∷ bs) e =
     let t = digits_taken (is_digit b) (all_digits bs) e in
-    (le_of 48 b (both (nat_le 48 b) (nat_lt b 58) t.0).0, digits_high bs t.1)
+    (leb-true 48 b (and_parts (nat_le 48 b) (nat_lt b 58) t.0).0, digits_high bs t.1)
 
 pub number_high : (n : ℕ) → n ≤ 4294967295 → High (decimal n)
 number_high n le = digits_high (decimal n) (decimal_digits n (omega (arith, le)))

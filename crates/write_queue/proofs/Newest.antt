@@ -5,6 +5,7 @@ use lib.Bits.{or_step, or_zero_r}
 use Rattle.flat_model.specs.declared.Lanes.{Lanes}
 use Rattle.flat_model.specs.declared.Word.{Word}
 use Rattle.flat_model.specs.Words.{zero_word, no_lanes, joined, merged}
+use Rattle.flat_model.proofs.Lanewise.{joined-none}
 use Rattle.write_queue.specs.declared.Queued.{Queued}
 use Rattle.write_queue.specs.Queue.{overlaid, queued_lanes, newest}
 
@@ -23,10 +24,6 @@ joined-assoc : (l m n : Lanes) → joined (joined l m) n ≡ joined l (joined m 
 unfolding joined
 joined-assoc l m n = ap (λ (b : ℕ). let r : Lanes = record { 0 = b } in r) (or_assoc-below l.0 l.0 m.0 n.0 (omega arith))
 
-pub joined-none_left : (m : Lanes) → joined no_lanes m ≡ m
-unfolding joined
-joined-none_left m = refl
-
 pub joined-none_right : (m : Lanes) → joined m no_lanes ≡ m
 unfolding joined
 joined-none_right m = ap (λ (b : ℕ). let r : Lanes = record { 0 = b } in r) (or_zero_r m.0)
@@ -37,7 +34,7 @@ pub record Found (so_far : Word) (held : Lanes) (left entries : List Queued) (at
 
 pub found-start : (word : Word) (lanes : Lanes) (left entries : List Queued) (at : ℕ) → word ≡ zero_word → lanes ≡ no_lanes → left ≡ entries → Found word lanes left entries at
 found-start word lanes left entries at none empty all =
-    rw (none, empty, all) (record { word = refl; lanes = joined-none_left (queued_lanes entries at) })
+    rw (none, empty, all) (record { word = refl; lanes = joined-none (queued_lanes entries at) })
 
 pub found-other : (word : Word) (lanes : Lanes) (q : Queued) (rest left entries : List Queued) (at : ℕ) → Found word lanes left entries at → left ≡ q ∷ rest → (q.at == at) ≡ false → Found word lanes rest entries at
 found-other word lanes q rest left entries at found step other =

@@ -145,6 +145,7 @@ impl<const WAYS: usize, const WORDS: usize, const REGS: usize, const DEPTH: usiz
             → result * self.now.sizes.block_words + self.now.sizes.block_words
             ≤ self.now.sizes.words }
     {
+        // Reading a field opens the unit's invariant, which says that a block has `WORDS` words.
         let _shape = &self.shape;
         at / WORDS as u32
     }
@@ -154,6 +155,7 @@ impl<const WAYS: usize, const WORDS: usize, const REGS: usize, const DEPTH: usiz
         ensures value { result ≡ place_in self.now.sizes at }
         ensures small { result < self.now.sizes.block_words }
     {
+        // Reading a field opens the unit's invariant, which says that a block has `WORDS` words.
         let _shape = &self.shape;
         at % WORDS as u32
     }

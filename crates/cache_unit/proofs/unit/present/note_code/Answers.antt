@@ -1,5 +1,5 @@
 use Rattle.std.proofs.Common.{◌≡◌, ◌<◌, ◌&&◌, not, Bool, true, false, length, ap, sym, ◌∙◌, arith, lit<, refl}
-use Rattle.std.proofs.lemmas.Bool.{false≢true}
+use Rattle.std.proofs.lemmas.Bool.{false≢true, not-true}
 use Rattle.std.proofs.lemmas.Option.{same_Some}
 use Rattle.miss_registers.specs.Registers as regs
 use Rattle.miss_registers.specs.declared.FieldView.{FieldView}
@@ -11,10 +11,6 @@ valid_by : (v o : Bool) → (v && not o) ≡ true → v ≡ true
 valid_by true o e = refl
 valid_by false o e = absurd (false≢true e)
 
-not_true : (b : Bool) → not b ≡ true → b ≡ false
-not_true true e = absurd (false≢true e)
-not_true false e = refl
-
 pub note_store-requires : goal.note_store-requires
 note_store-requires g c =
     let rs = c.args.registers.now in
@@ -23,5 +19,5 @@ note_store-requires g c =
     let n = (c.requires.whole.each c.in-Some.slot).fields_there v in
     let there : c.args.i < length (regs.register_at rs c.in-Some.slot).fields = omega (arith, c.requires.there) in
     let e = same_Some _ _ (c.in-Some-field.ensures.answer ∙ view_there g.row.WORDS rs c.in-Some.slot c.args.i p.0 c.requires.there) in
-    let processed = sym (ap (λ (f : FieldView). f.processed) e) ∙ not_true c.in-Some-field.field.processed c.if-not-field.true in
+    let processed = sym (ap (λ (f : FieldView). f.processed) e) ∙ not-true c.in-Some-field.field.processed c.if-not-field.true in
     (lit< tt, (p.0, (p.1, (there, processed))))
