@@ -269,7 +269,10 @@ fn may_move(event: Event, answer: Answer) -> bool
         Answer::Value { .. } => false,
         Answer::Refused(cause) => match event {
             Event::Evict { .. } => {
-                matches!(cause, Cause::OutOfRange | Cause::QueueFull | Cause::NotPresent)
+                matches!(
+                    cause,
+                    Cause::OutOfRange | Cause::QueueFull | Cause::NotPresent
+                )
             }
             Event::Drain => matches!(cause, Cause::BankFull),
             Event::Arrive { .. } => matches!(cause, Cause::StackFull),

@@ -2,8 +2,6 @@
 //! and nothing else, nothing has changed, and a second call gives the answer of its example. With
 //! memory, as in a whole run of the tests, the first call gives that answer.
 
-use super::fixture::small_shape;
-use super::program::{STORED_INPUT, STORED_OUTPUT};
 use super::sweeps::{REQUESTS, row_of_three_loads, with_registers};
 use crate::shape_file::{ShapeFault, ToolShape, read_shape};
 use crate::sweep::{OpenGate, SweepFault, sweep, sweep_row};
@@ -19,6 +17,7 @@ use std::io::Write;
 use std::process::Abort;
 use std::test::Fail;
 use trace_text::{CheckEnd, Counts, TraceFault, check_text, read_requests, serve_text};
+use worked_examples::{SMALL_SHAPE, STORED_INPUT, STORED_OUTPUT};
 use write_queue::WriteQueue;
 
 /// The words of the small image: the first byte of each is its number.
@@ -79,7 +78,7 @@ fn makes<R: Abort, T: Drop>(rt: &R, first: Result<T, MakeFault>, second: Result<
 #[test]
 fn makers_may_find_no_memory(rt: HostRuntime) -> Result<(), Fail> {
     let alloc = rt.alloc();
-    let shape = small_shape();
+    let shape = SMALL_SHAPE;
     let image = small_image();
     let first = Directory::<1, 4>::new(alloc, 2);
     makes(&rt, first, Directory::new(alloc, 2));
@@ -123,7 +122,7 @@ fn some_refusals_come_before_memory(rt: HostRuntime) -> Result<(), Fail> {
         let uneven = memory.replay(alloc, &[Event::Drain], &[]);
         assert_eq!(rt; uneven, Err(ReplayFault::Lengths));
     }
-    let mut short_banks = small_shape();
+    let mut short_banks = SMALL_SHAPE;
     short_banks.bank_queue = 1;
     let refused = Machine::<1, 4, 2, 2>::new(alloc, short_banks, &small_image());
     let fault = MakeFault::BadShape(ShapeField::BankQueue);
@@ -144,7 +143,7 @@ fn some_refusals_come_before_memory(rt: HostRuntime) -> Result<(), Fail> {
 #[test]
 fn run_may_find_no_memory(rt: HostRuntime) -> Result<(), Fail> {
     let alloc = rt.alloc();
-    let Ok(mut machine) = Machine::<1, 4, 2, 2>::new(alloc, small_shape(), &small_image()) else {
+    let Ok(mut machine) = Machine::<1, 4, 2, 2>::new(alloc, SMALL_SHAPE, &small_image()) else {
         return Ok(());
     };
     let events = [Event::Load { tag: 1, at: 5 }, Event::Serve { bank: 1 }];

@@ -1,7 +1,8 @@
 //! The examples of the machine, as the lines that it is told and answers.
 
-use super::fixture::{image, small_machine, small_shape};
+use super::fixture::{image, small_machine};
 use super::play::{ARRIVED, GOT, plays};
+use crate::SMALL_SHAPE;
 use flat_model::{Answer, Cause, Event, Lanes, Shape, Word};
 use machine_core::Machine;
 use std::alloc::{AllocError, Global};
@@ -164,7 +165,7 @@ load 2 4 -> accepted
         &mut machine,
         &[two_misses, "load 3 8 -> refused 7\n"],
     )?;
-    let mut machine = machine_of::<1, 4>(rt.alloc(), small_shape())?;
+    let mut machine = machine_of::<1, 4>(rt.alloc(), SMALL_SHAPE)?;
     plays(
         &rt,
         rt.alloc(),
@@ -413,7 +414,7 @@ bank 32 -> none
 
 #[test]
 fn oldest_way_is_given_up(rt: HostRuntime) -> Result<(), Fail> {
-    let mut machine = machine_of::<2, 2>(rt.alloc(), small_shape())?;
+    let mut machine = machine_of::<2, 2>(rt.alloc(), SMALL_SHAPE)?;
     let lines = "load 1 0 -> accepted
 take 0 -> value 1 00000000
 prefetch 16 -> accepted
@@ -524,7 +525,7 @@ fn smallest_machine_runs_a_list(rt: HostRuntime) -> Result<(), Fail> {
 
 #[test]
 fn interleaved_block(rt: HostRuntime) -> Result<(), Fail> {
-    let mut machine = machine_of::<1, 1>(rt.alloc(), small_shape())?;
+    let mut machine = machine_of::<1, 1>(rt.alloc(), SMALL_SHAPE)?;
     let lines = "load 1 5 -> accepted
 load 2 0 -> refused 7
 serve 1 -> moved
@@ -572,7 +573,7 @@ load 4 5 -> accepted
 
 #[test]
 fn four_loads_of_one_word(rt: HostRuntime) -> Result<(), Fail> {
-    let mut shape = small_shape();
+    let mut shape = SMALL_SHAPE;
     shape.replies = 8;
     let mut machine = machine_of::<1, 2>(rt.alloc(), shape)?;
     plays(

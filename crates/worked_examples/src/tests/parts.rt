@@ -1,6 +1,7 @@
 //! The examples of the parts: flat memory, the makers, and the cache unit over its banks.
 
-use super::fixture::{image, small_machine, small_shape};
+use super::fixture::{image, small_machine};
+use crate::SMALL_SHAPE;
 use cache_directory::{Choice, Directory};
 use cache_unit::{CacheUnit, Request};
 use flat_model::{
@@ -90,10 +91,10 @@ fn makers(rt: HostRuntime) -> Result<(), Fail> {
     let queue = WriteQueue::new(alloc, 4)?;
     assert_eq!(rt; queue.room(), 4);
     let image = image(alloc, 32)?;
-    let banks = Banks::new(alloc, &image, &small_shape())?;
+    let banks = Banks::new(alloc, &image, &SMALL_SHAPE)?;
     assert_eq!(rt; banks.word(5), Some(word(5, 0, 0, 0)));
     assert!(rt; banks.idle());
-    let unit: Unit = CacheUnit::new(alloc, &small_shape())?;
+    let unit: Unit = CacheUnit::new(alloc, &SMALL_SHAPE)?;
     assert!(rt; unit.clean());
     Ok(())
 }
@@ -112,20 +113,20 @@ fn makers_refuse_a_bad_shape(rt: HostRuntime) -> Result<(), Fail> {
     let alloc = rt.alloc();
     let short_image = image(alloc, 31)?;
     let image = image(alloc, 32)?;
-    let mut short_banks = small_shape();
+    let mut short_banks = SMALL_SHAPE;
     short_banks.bank_queue = 1;
     assert_eq!(rt;
         refusal::<2>(alloc, short_banks, &image),
         Some(ShapeField::BankQueue)
     );
-    let mut broken_block = small_shape();
+    let mut broken_block = SMALL_SHAPE;
     broken_block.words = 30;
     assert_eq!(rt;
         refusal::<2>(alloc, broken_block, &image),
         Some(ShapeField::Words)
     );
     assert_eq!(rt;
-        refusal::<2>(alloc, small_shape(), &short_image),
+        refusal::<2>(alloc, SMALL_SHAPE, &short_image),
         Some(ShapeField::Image)
     );
     assert_eq!(rt;
@@ -138,8 +139,8 @@ fn makers_refuse_a_bad_shape(rt: HostRuntime) -> Result<(), Fail> {
 /// A unit of the small shape, and its banks.
 fn unit_and_banks(alloc: Global) -> Result<(Unit, Banks), MakeFault> {
     let image = image(alloc, 32)?;
-    let unit = CacheUnit::new(alloc, &small_shape())?;
-    let banks = Banks::new(alloc, &image, &small_shape())?;
+    let unit = CacheUnit::new(alloc, &SMALL_SHAPE)?;
+    let banks = Banks::new(alloc, &image, &SMALL_SHAPE)?;
     Ok((unit, banks))
 }
 

@@ -1,6 +1,6 @@
 //! The examples of lines, and of readers and writers that fail.
 
-use super::program::{STORED_INPUT, STORED_OUTPUT};
+use crate::{STORED_INPUT, STORED_OUTPUT};
 use flat_model::{Event, Lanes, Shape, Word};
 use machine_core::Machine;
 use std::alloc::Global;

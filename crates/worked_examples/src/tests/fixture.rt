@@ -1,20 +1,9 @@
-//! What the examples share: the small shape, its image and its machine.
+//! What the examples share: an image, and the machine of the small shape over it.
 
-use flat_model::{MakeFault, Shape, Word};
+use crate::SMALL_SHAPE;
+use flat_model::{MakeFault, Word};
 use machine_core::Machine;
 use std::alloc::{AllocError, Global};
-
-/// 32 words, 2 sets, 2 banks, queues of 4.
-pub fn small_shape() -> Shape {
-    Shape {
-        words: 32,
-        sets: 2,
-        banks: 2,
-        bank_queue: 4,
-        write_queue: 4,
-        replies: 4,
-    }
-}
 
 /// Words whose first byte is their number.
 pub fn image(alloc: Global, words: u8) -> Result<Vec<Word>, AllocError> {
@@ -30,8 +19,8 @@ pub fn image(alloc: Global, words: u8) -> Result<Vec<Word>, AllocError> {
     Ok(image)
 }
 
-/// A machine of that shape, with one way, 4 words in a block and a stack of 2.
+/// A machine of the small shape, with one way, 4 words in a block and a stack of 2.
 pub fn small_machine(alloc: Global) -> Result<Machine<1, 4, 2, 2>, MakeFault> {
     let image = image(alloc, 32)?;
-    Machine::new(alloc, small_shape(), &image)
+    Machine::new(alloc, SMALL_SHAPE, &image)
 }

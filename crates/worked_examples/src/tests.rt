@@ -1,0 +1,8 @@
+//! The examples, and what they share.
+
+mod fixture;
+mod machine;
+mod order;
+mod parts;
+mod play;
+mod streams;
