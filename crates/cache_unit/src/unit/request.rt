@@ -199,7 +199,10 @@ impl<const WAYS: usize, const WORDS: usize, const REGS: usize, const DEPTH: usiz
         if self.directory.look(block).is_some() {
             return Ok(());
         }
-        let places = self.find_places(lines, block)?;
+        let places = match self.find_places(lines, block) {
+            Ok(places) => places,
+            Err(cause) => return Err(cause),
+        };
         self.fetch(lines, block, places);
         Ok(())
     }
