@@ -43,11 +43,6 @@ released-absent ways d f block there absent =
     nowhere g held (inr n) =
         found_nowhere d block g absent (ap (λ (x : Frame). x.block) (sym (released-elsewhere ways d f g n)) ∙ held)
 
-abbrev together : List Frame → List (List ℕ) → Frames
-together frames orders = record { frames = frames; orders = orders }
-
--- ---- the chosen frame may take the block
-
 -- ---- a block is installed
 
 pub installed-here : (ways words : ℕ) (d : Frames) (f block : ℕ) → f < length d.frames → frame_at (installed ways words d f block).frames f ≡ fresh_frame words block

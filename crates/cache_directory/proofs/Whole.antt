@@ -239,5 +239,3 @@ whole-released ways words d f h held =
         let same : times_in (get_or os s []) g ≡ 0 = ap (λ l. times_in l g) (get_or-set_other d.orders t s (without (order_of d t) f) [] m) ∙ rw q count in
         same ∙ rw (at_frame g q) refl
     ordered s g (inr m) (inr n) = ap (λ l. times_in l g) (get_or-set_other d.orders t s (without (order_of d t) f) [] m) ∙ at_other s g n
-
--- ---- a new directory

@@ -110,8 +110,6 @@ Adds-remove x xs k h = record { front = take k xs; back = drop (suc k) xs; witho
     split (y ∷ l) zero e = let same : y ≡ x = cc in ap (λ v. v ∷ l) same
     split (y ∷ l) (suc n) e = ap (λ v. y ∷ v) (split l n e)
 
--- ---- the first place
-
 -- ---- parts of a gathered list
 
 -- the part at place k, and what stands there once that element is another

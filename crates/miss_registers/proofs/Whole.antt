@@ -295,5 +295,3 @@ new-whole words regs a b c d = record {
   one_live = λ j k l m s. absurd (false≢true (sym (ap is_live (new_at regs j)) ∙ l));
   once = λ tag. rw (waiting_tags-new regs) (omega arith);
 }
-
--- ---- the comparator
