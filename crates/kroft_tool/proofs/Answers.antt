@@ -2,11 +2,11 @@
 use Rattle.std.proofs.Common.{◌≡◌, ◌≢◌, ℕ, ℤ, Bool, true, false, ◌&&◌, ◌==◌, nat_le, ◌+◌, ◌-◌, ◌/◌, ◌%◌, pos, negsuc, cond, Result, Ok, Err, Option, Some, None, refl, ap, codes}
 use Rattle.flat_model.specs.declared.ShapeField.{ShapeField}
 use Rattle.flat_model.specs.declared.ShapeField.TheVariants.{Ways, Regs, Words, Sets, Banks, BankQueue, WriteQueue, Replies}
-use Rattle.toml.specs.Data.{Members}
+use Rattle.toml.specs.Data.{Members, no_members}
 use Rattle.kroft_tool.specs.declared.shape_file.ShapeFault.{ShapeFault}
 use Rattle.kroft_tool.specs.declared.shape_file.ShapeFault.TheVariants.{NotToml, UnknownKey, NotWhole, BadShape, OutOfMemory}
 use Rattle.kroft_tool.specs.declared.shape_file.Numbers.{Numbers}
-use Rattle.kroft_tool.specs.ShapeFile.{and_then, integer_at, whole, numbers_of, ranged, kept, is_register_count, shape_of, has_other_key, table_says}
+use Rattle.kroft_tool.specs.ShapeFile.{and_then, integer_at, whole, numbers_of, ranged, kept, is_register_count, shape_of, has_other_key, table_says, default_shape}
 
 -- whether an answer is not for want of memory
 abbrev pub has_room : {A : Type 0} → Result A ShapeFault → Bool
@@ -65,6 +65,10 @@ table_room ms = go (has_other_key ms)
     go : (b : Bool) → has_room (cond b (Err UnknownKey) (and_then (numbers_of ms) shape_of)) ≡ true
     go true = refl
     go false = then_room _ _ (numbers_room ms) shape_room
+
+-- a table without keys says the program's own shape
+pub no_key_is_default : table_says no_members ≡ Ok default_shape
+no_key_is_default = refl
 
 -- a table is never refused for want of memory
 pub table_has_room : (ms : Members) → table_says ms ≢ Err OutOfMemory

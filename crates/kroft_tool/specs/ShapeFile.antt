@@ -2,14 +2,17 @@
 use Rattle.std.specs.Prelude.{ℕ, ℤ, pos, negsuc, Bool, false, ◌&&◌, ◌||◌, not, if◌then◌else◌, ◌==◌, ◌+◌, ◌-◌, ◌/◌, ◌%◌, nat_le, List, Option, Some, None, Result, Ok, Err, codes}
 use Rattle.std.specs.Option.{option_map}
 use Rattle.std.specs.Str.{bytes_eq}
-use Rattle.toml.specs.Data.{integer, Members, no_members, member, get_member, as_integer}
-use Rattle.flat_model.specs.declared.Shape.{Shape}
+use Rattle.toml.specs.Data.{Members, no_members, member, get_member, as_integer}
 use Rattle.flat_model.specs.declared.ShapeField.{ShapeField}
 use Rattle.flat_model.specs.declared.ShapeField.TheVariants.{Ways, Regs, Words, Sets, Banks, BankQueue, WriteQueue, Replies}
 use Rattle.kroft_tool.specs.declared.shape_file.ToolShape.{ToolShape}
 use Rattle.kroft_tool.specs.declared.shape_file.ShapeFault.{ShapeFault}
 use Rattle.kroft_tool.specs.declared.shape_file.ShapeFault.TheVariants.{NotToml, UnknownKey, NotWhole, BadShape}
 use Rattle.kroft_tool.specs.declared.shape_file.Numbers.{Numbers}
+
+-- the shape of a file that names no key
+abbrev pub default_shape : ToolShape
+default_shape = record { shape = record { words = 64; sets = 4; banks = 4; bank_queue = 8; write_queue = 8; replies = 8 }; ways = 2; regs = 4 }
 
 -- whether a shape file may have this key
 abbrev pub is_key : List ℕ → Bool
@@ -39,14 +42,14 @@ whole field default (Some None) = Err (NotWhole field)
 -- the numbers of a table, in the order in which they are asked for
 abbrev pub numbers_of : Members → Result Numbers ShapeFault
 numbers_of ms =
-    and_then (whole Ways (pos 2) (integer_at (codes "ways") ms)) (λ ways.
-    and_then (whole Regs (pos 4) (integer_at (codes "regs") ms)) (λ regs.
-    and_then (whole Words (pos 64) (integer_at (codes "words") ms)) (λ words.
-    and_then (whole Sets (pos 4) (integer_at (codes "sets") ms)) (λ sets.
-    and_then (whole Banks (pos 4) (integer_at (codes "banks") ms)) (λ banks.
-    and_then (whole BankQueue (pos 8) (integer_at (codes "bank_queue") ms)) (λ bank_queue.
-    and_then (whole WriteQueue (pos 8) (integer_at (codes "write_queue") ms)) (λ write_queue.
-    and_then (whole Replies (pos 8) (integer_at (codes "replies") ms)) (λ replies.
+    and_then (whole Ways (pos default_shape.ways) (integer_at (codes "ways") ms)) (λ ways.
+    and_then (whole Regs (pos default_shape.regs) (integer_at (codes "regs") ms)) (λ regs.
+    and_then (whole Words (pos default_shape.shape.words) (integer_at (codes "words") ms)) (λ words.
+    and_then (whole Sets (pos default_shape.shape.sets) (integer_at (codes "sets") ms)) (λ sets.
+    and_then (whole Banks (pos default_shape.shape.banks) (integer_at (codes "banks") ms)) (λ banks.
+    and_then (whole BankQueue (pos default_shape.shape.bank_queue) (integer_at (codes "bank_queue") ms)) (λ bank_queue.
+    and_then (whole WriteQueue (pos default_shape.shape.write_queue) (integer_at (codes "write_queue") ms)) (λ write_queue.
+    and_then (whole Replies (pos default_shape.shape.replies) (integer_at (codes "replies") ms)) (λ replies.
     Ok (record { ways = ways; regs = regs; words = words; sets = sets; banks = banks; bank_queue = bank_queue; write_queue = write_queue; replies = replies })))))))))
 
 -- a number between two others, these among them

@@ -28,12 +28,11 @@ pub struct ToolShape {
 }
 
 impl Default for ToolShape {
-    ghost use Rattle.std.specs.Prelude.{◌≡◌, Ok};
-    ghost use Rattle.toml.specs.Data.{no_members};
-    ghost use Rattle.kroft_tool.specs.ShapeFile.{table_says};
+    ghost use Rattle.std.specs.Prelude.{◌≡◌};
+    ghost use Rattle.kroft_tool.specs.ShapeFile.{default_shape};
 
     // What a shape file says that names no key.
-    ghost is_default = { λ tool. Ok tool ≡ table_says no_members };
+    ghost is_default = { λ tool. tool ≡ default_shape };
 
     fn default() -> ToolShape {
         ToolShape {
