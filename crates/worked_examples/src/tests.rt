@@ -5,4 +5,5 @@ mod machine;
 mod order;
 mod parts;
 mod play;
+mod refusals;
 mod streams;

@@ -1,9 +1,30 @@
-//! What the examples share: an image, and the machine of the small shape over it.
+//! What the examples share: shapes, an image, and the machine of the small shape over it.
 
 use crate::SMALL_SHAPE;
-use flat_model::{MakeFault, Word};
+use flat_model::{MakeFault, Shape, Word};
 use machine_core::Machine;
 use std::alloc::{AllocError, Global};
+use trace_text::Counts;
+
+/// The program's own shape.
+pub const PROGRAM_SHAPE: Shape = Shape {
+    words: 64,
+    sets: 4,
+    banks: 4,
+    bank_queue: 8,
+    write_queue: 8,
+    replies: 8,
+};
+
+/// What serving the stored run counts.
+pub const STORED_COUNTS: Counts = Counts {
+    lines: 10,
+    accepted: 3,
+    moved: 3,
+    values: 2,
+    nothing: 0,
+    refused: 0,
+};
 
 /// Words whose first byte is their number.
 pub fn image(alloc: Global, words: u8) -> Result<Vec<Word>, AllocError> {

@@ -1,7 +1,8 @@
 //! The examples of lines, and of readers and writers that fail.
 
+use super::fixture::{PROGRAM_SHAPE, STORED_COUNTS};
 use crate::{STORED_INPUT, STORED_OUTPUT};
-use flat_model::{Event, Lanes, Shape, Word};
+use flat_model::{Event, Lanes, Word};
 use machine_core::Machine;
 use std::alloc::Global;
 use std::io;
@@ -9,22 +10,13 @@ use std::io::{Read, Write};
 use std::process::Abort;
 use std::test::Fail;
 use trace_text::{
-    CheckEnd, Counts, Line, LineFault, Pair, TraceFault, check_text, read_pair, read_requests,
-    serve_text,
+    CheckEnd, Line, LineFault, Pair, TraceFault, check_text, read_pair, read_requests, serve_text,
 };
 
 /// A machine of the program's default shape.
 pub fn default_machine(alloc: Global) -> Result<Machine<2, 4, 4, 4>, Fail> {
-    let shape = Shape {
-        words: 64,
-        sets: 4,
-        banks: 4,
-        bank_queue: 8,
-        write_queue: 8,
-        replies: 8,
-    };
     let image = vec![in alloc; Word::default(); 64]?;
-    Ok(Machine::new(alloc, shape, &image)?)
+    Ok(Machine::new(alloc, PROGRAM_SHAPE, &image)?)
 }
 
 /// Gives its bytes, at most so many at a time, and then fails, or ends.
@@ -227,14 +219,6 @@ fn writer_fails_between_two_lines(rt: HostRuntime) -> Result<(), Fail> {
 
 #[test]
 fn pieces_of_the_stored_run(rt: HostRuntime) -> Result<(), Fail> {
-    let counts = Counts {
-        lines: 10,
-        accepted: 3,
-        moved: 3,
-        values: 2,
-        nothing: 0,
-        refused: 0,
-    };
     for most in [1usize, 2, 3, 7, 64, 4096] {
         let mut machine = default_machine(rt.alloc())?;
         let mut reader = Pieces {
@@ -248,7 +232,7 @@ fn pieces_of_the_stored_run(rt: HostRuntime) -> Result<(), Fail> {
             most,
         };
         let ended = serve_text(rt.alloc(), &mut reader, &mut writer, &mut machine);
-        assert_eq!(rt; ended, Ok(counts));
+        assert_eq!(rt; ended, Ok(STORED_COUNTS));
         assert_eq!(rt; writer.taken.as_slice(), STORED_OUTPUT.as_bytes());
     }
     Ok(())
