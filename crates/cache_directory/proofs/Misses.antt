@@ -1,7 +1,7 @@
 -- A miss: the frame that is chosen may be released, and then takes the block.
-use Rattle.std.proofs.Common.{◌≡◌, ℕ, ◌+◌, ◌/◌, ◌%◌, ◌<◌, List, [], ◌∷◌, length, Some, None, is_some, ap, sym, ◌∙◌, inl, inr, ◌⊎◌, length-set, get_or-set_same, get_or-set_other}
+use Rattle.std.proofs.Common.{◌≡◌, ℕ, ◌/◌, ◌<◌, length, Some, None, is_some, ap, sym, ◌∙◌, inl, inr, ◌⊎◌, length-set, get_or-set_same, get_or-set_other}
 use Rattle.std.proofs.lemmas.Bool.{cases_eq, both_ways}
-use Rattle.cache_directory.specs.Frames.{Frame, Frames, empty_frame, frame_at, frame_of, order_of, set_of, fresh_frame, without, installed, released, chosen}
+use Rattle.cache_directory.specs.Frames.{Frame, Frames, empty_frame, frame_at, frame_of, order_of, set_of, fresh_frame, without, installed, released}
 use Rattle.cache_directory.proofs.Choices.{found_nowhere, found_none}
 
 -- what `install` asks

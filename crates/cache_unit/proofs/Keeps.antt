@@ -6,7 +6,6 @@ use Rattle.std.proofs.lemmas.List.Edits.{length-remove, get_or-remove_below, get
 use Rattle.std.proofs.lemmas.Bool.{false≢true, cases_lt, cases_eq, cases_order, false_from_ne_true}
 use Rattle.flat_model.specs.declared.Word.{Word}
 use Rattle.flat_model.specs.declared.Lanes.{Lanes}
-use Rattle.flat_model.specs.Places.{place_of}
 use Rattle.cache_directory.specs.Frames as dir
 use Rattle.miss_registers.specs.Registers as regs
 use Rattle.input_stack.specs.declared.Entry.{Entry}
@@ -24,6 +23,7 @@ use Rattle.cache_unit.proofs.Owing.{count_by-all, loads_there, owes-finished}
 use Rattle.cache_unit.proofs.Lists.{list_all-at}
 use Rattle.cache_unit.proofs.Process.{live_of, filled_live-orders}
 use Rattle.cache_unit.proofs.FormsFinding.{number_from}
+use Rattle.cache_unit.proofs.FormsLists.{read_set}
 use Rattle.cache_unit.proofs.FormsPlaces.{place_of-set}
 
 -- ---- one register
@@ -62,26 +62,12 @@ pub record SameBlocks (d d' : List dir.Frame) : Type 0 where
   pub cells : (f : ℕ) → length (dir.frame_at d' f).cells ≡ length (dir.frame_at d f).cells
   pub blocks : (f : ℕ) → (dir.frame_at d' f).block ≡ (dir.frame_at d f).block
 
-length_at-set : (xs : List dir.Frame) (i f : ℕ) (y : dir.Frame) → length y.cells ≡ length (dir.frame_at xs i).cells → length (dir.frame_at (set xs i y) f).cells ≡ length (dir.frame_at xs f).cells
-length_at-set [] i f y e = refl
-length_at-set (x ∷ xs) zero zero y e = e
-length_at-set (x ∷ xs) zero (suc f) y e = refl
-length_at-set (x ∷ xs) (suc i) zero y e = refl
-length_at-set (x ∷ xs) (suc i) (suc f) y e = length_at-set xs i f y e
-
-pub block_at-set : (xs : List dir.Frame) (i f : ℕ) (y : dir.Frame) → y.block ≡ (dir.frame_at xs i).block → (dir.frame_at (set xs i y) f).block ≡ (dir.frame_at xs f).block
-block_at-set [] i f y e = refl
-block_at-set (x ∷ xs) zero zero y e = e
-block_at-set (x ∷ xs) zero (suc f) y e = refl
-block_at-set (x ∷ xs) (suc i) zero y e = refl
-block_at-set (x ∷ xs) (suc i) (suc f) y e = block_at-set xs i f y e
-
 pub SameBlocks-set : (d : List dir.Frame) (f : ℕ) (y : dir.Frame) → y.block ≡ (dir.frame_at d f).block → length y.cells ≡ length (dir.frame_at d f).cells → SameBlocks d (set d f y)
 unfolding dir.frame_of
 SameBlocks-set d f y e l = record {
   holds = λ b. place_of-set (λ (x : dir.Frame). is_number x.block b) dir.empty_frame d f y (ap (λ (o : Option ℕ). is_number o b) e);
-  cells = λ g. length_at-set d f g y l;
-  blocks = λ g. block_at-set d f g y e;
+  cells = read_set (λ (x : dir.Frame). length x.cells) dir.empty_frame d f y l;
+  blocks = read_set (λ (x : dir.Frame). x.block) dir.empty_frame d f y e;
 }
 
 SameBlocks-trans : (a b c : List dir.Frame) → SameBlocks a b → SameBlocks b c → SameBlocks a c
@@ -393,7 +379,7 @@ module _ (z : Sizes) (d : dir.Frames) (rs : List regs.Register) (st : List Entry
 -- a frame that is filled still holds its block
 pub held-filled : (d : dir.Frames) (f i : ℕ) (word : Word) (keep : Lanes) → dir.is_held d f ≡ true → dir.is_held (dir.with_frame d f (dir.filled (dir.frame_at d.frames f) i word keep)) f ≡ true
 unfolding dir.filled
-held-filled d f i word keep h = ap is_some (block_at-set d.frames f f _ refl) ∙ h
+held-filled d f i word keep h = ap is_some (read_set (λ (x : dir.Frame). x.block) dir.empty_frame d.frames f _ refl f) ∙ h
 
 pub held_from : (d : dir.Frames) (f b : ℕ) → (dir.frame_at d.frames f).block ≡ Some b → dir.is_held d f ≡ true
 held_from d f b e = ap is_some e

@@ -1,5 +1,5 @@
 -- Each request of a sweep ends, and each accepted load is paid.
-use Rattle.std.proofs.Common.{◌≡◌, ℕ, zero, suc, ◌+◌, ◌-◌, ◌<◌, ◌≤◌, Bool, true, false, cond, ◌&&◌, nat_lt, not, List, [], ◌∷◌, length, Option, Some, None, is_some, is_none, refl, sym, ap, subst, ◌∙◌, arith}
+use Rattle.std.proofs.Common.{◌≡◌, ℕ, zero, suc, ◌+◌, ◌-◌, ◌<◌, ◌≤◌, Bool, true, false, cond, nat_lt, List, [], ◌∷◌, length, Option, Some, None, is_some, is_none, refl, sym, ap, subst, ◌∙◌, arith}
 use Rattle.std.proofs.lemmas.Grind.{common_steps}
 use Rattle.flat_model.specs.declared.Word.{Word}
 use Rattle.flat_model.specs.declared.Lanes.{Lanes}
@@ -13,7 +13,7 @@ use Rattle.flat_model.specs.Words.{has_any}
 use Rattle.flat_model.specs.Flat.{Flat, may_answer, flat_after, flat_step, word_at, is_owed}
 use Rattle.cache_unit.specs.State.{Sizes}
 use Rattle.machine_core.specs.Law.{IsLawful, HasRoom, ServesRequests}
-use Rattle.machine_core.specs.Machine.{Machine, MachineState, apply, flat_of, flat_due}
+use Rattle.machine_core.specs.Machine.{Machine, MachineState, flat_of, flat_due}
 use Rattle.std.specs.Option.{option_map}
 use Rattle.std.specs.List.{list_all}
 use Rattle.std.proofs.lemmas.Bool.{and_parts}

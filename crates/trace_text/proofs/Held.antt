@@ -14,7 +14,7 @@ use Rattle.trace_text.specs.Lines.{line_of}
 use Rattle.trace_text.specs.Pairs.{pair_of}
 use Rattle.trace_text.specs.Requests.{IsRequest, request_event, request_in, request_of, requests_of}
 use Rattle.trace_text.specs.Checks.{step_of, event_of, answer_of, number_of, events_in, answers_in, numbers_from, step_with, zeros, Holds, IsJudged, HasLine}
-use Rattle.trace_text.specs.declared.check.CheckEnd.TheVariants.{Flat as FlatRun, Mismatch}
+use Rattle.trace_text.specs.declared.check.CheckEnd.TheVariants.{Flat as FlatRun}
 use Rattle.trace_text.specs.declared.check.Step.{Step}
 use Rattle.trace_text.specs.declared.lines.Line.{Line}
 use Rattle.trace_text.specs.declared.lines.Line.TheVariants as line

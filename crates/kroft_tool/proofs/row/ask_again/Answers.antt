@@ -1,5 +1,5 @@
-use Rattle.std.proofs.Common.{◌-◌, ◌<◌, ◌≤◌, sym, ap, ◌∙◌, arith}
-use Rattle.kroft_tool.specs.Sweep.{course, total, ask_again}
+use Rattle.std.proofs.Common.{◌<◌, ◌≤◌, sym, ap, ◌∙◌, arith}
+use Rattle.kroft_tool.specs.Sweep.{course, ask_again}
 use Rattle.kroft_tool.proofs.Turns.{waited, turn_ends, turn_goes_on, no_turn_left}
 use Rattle.kroft_tool.proofs.row.ask_again.Goals as goal
 

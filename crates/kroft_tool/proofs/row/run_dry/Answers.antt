@@ -1,5 +1,5 @@
-use Rattle.std.proofs.Common.{◌-◌, ◌<◌, ◌≤◌, sym, ap, ◌∙◌, arith}
-use Rattle.kroft_tool.specs.Sweep.{course, total, pump_times}
+use Rattle.std.proofs.Common.{◌<◌, ◌≤◌, sym, ap, ◌∙◌, arith}
+use Rattle.kroft_tool.specs.Sweep.{course, pump_times}
 use Rattle.kroft_tool.proofs.Turns.{pump_turn, no_pump_left}
 use Rattle.kroft_tool.proofs.row.run_dry.Goals as goal
 

@@ -1,4 +1,4 @@
-use Rattle.std.proofs.Common.{true, false, not, ◌||◌, ◌∙◌, sym, ap}
+use Rattle.std.proofs.Common.{not, ◌||◌, ◌∙◌, sym, ap}
 use Rattle.kroft_tool.specs.ShapeFile.{is_key}
 use Rattle.kroft_tool.proofs.Members.{others, others-keys}
 use Rattle.kroft_tool.proofs.shape_file.has_other_key.Goals as goal

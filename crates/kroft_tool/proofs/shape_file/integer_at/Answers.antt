@@ -1,5 +1,4 @@
 use Rattle.std.proofs.Common.{Some, ap, ◌∙◌}
-use Rattle.toml.specs.Data.{as_integer}
 use Rattle.toml.proofs.Views.{table_get}
 use Rattle.kroft_tool.proofs.shape_file.integer_at.Goals as goal
 
