@@ -22,10 +22,10 @@ then_room (Err (NotWhole e)) f h k = refl
 then_room (Err (BadShape e)) f h k = refl
 then_room (Err OutOfMemory) f h k = h
 
-whole_room : (e : ShapeField) (z : ℤ) (found : Option (Option ℤ)) → has_room (whole e z found) ≡ true
-whole_room e z None = refl
-whole_room e z (Some (Some n)) = refl
-whole_room e z (Some None) = refl
+whole_room : (e : ShapeField) (n : ℕ) (found : Option (Option ℤ)) → has_room (whole e n found) ≡ true
+whole_room e n None = refl
+whole_room e n (Some (Some z)) = refl
+whole_room e n (Some None) = refl
 
 kept_room : (e : ShapeField) (good : Bool) (n : ℕ) → has_room (kept e good n) ≡ true
 kept_room e true n = refl
@@ -37,14 +37,14 @@ ranged_room e (negsuc n) low high = refl
 
 numbers_room : (ms : Members) → has_room (numbers_of ms) ≡ true
 numbers_room ms =
-    then_room _ _ (whole_room Ways (pos 2) (integer_at (codes "ways") ms)) (λ ways.
-    then_room _ _ (whole_room Regs (pos 4) (integer_at (codes "regs") ms)) (λ regs.
-    then_room _ _ (whole_room Words (pos 64) (integer_at (codes "words") ms)) (λ words.
-    then_room _ _ (whole_room Sets (pos 4) (integer_at (codes "sets") ms)) (λ sets.
-    then_room _ _ (whole_room Banks (pos 4) (integer_at (codes "banks") ms)) (λ banks.
-    then_room _ _ (whole_room BankQueue (pos 8) (integer_at (codes "bank_queue") ms)) (λ bank_queue.
-    then_room _ _ (whole_room WriteQueue (pos 8) (integer_at (codes "write_queue") ms)) (λ write_queue.
-    then_room _ _ (whole_room Replies (pos 8) (integer_at (codes "replies") ms)) (λ replies. refl))))))))
+    then_room _ _ (whole_room Ways default_shape.ways (integer_at (codes "ways") ms)) (λ ways.
+    then_room _ _ (whole_room Regs default_shape.regs (integer_at (codes "regs") ms)) (λ regs.
+    then_room _ _ (whole_room Words default_shape.shape.words (integer_at (codes "words") ms)) (λ words.
+    then_room _ _ (whole_room Sets default_shape.shape.sets (integer_at (codes "sets") ms)) (λ sets.
+    then_room _ _ (whole_room Banks default_shape.shape.banks (integer_at (codes "banks") ms)) (λ banks.
+    then_room _ _ (whole_room BankQueue default_shape.shape.bank_queue (integer_at (codes "bank_queue") ms)) (λ bank_queue.
+    then_room _ _ (whole_room WriteQueue default_shape.shape.write_queue (integer_at (codes "write_queue") ms)) (λ write_queue.
+    then_room _ _ (whole_room Replies default_shape.shape.replies (integer_at (codes "replies") ms)) (λ replies. refl))))))))
 
 shape_room : (n : Numbers) → has_room (shape_of n) ≡ true
 shape_room n =

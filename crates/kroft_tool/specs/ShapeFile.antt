@@ -34,22 +34,22 @@ abbrev pub integer_at : List ℕ → Members → Option (Option ℤ)
 integer_at key ms = option_map as_integer (get_member key ms)
 
 -- a whole number, the default where nothing stands
-abbrev pub whole : ShapeField → ℤ → Option (Option ℤ) → Result ℤ ShapeFault
-whole field default None = Ok default
+abbrev pub whole : ShapeField → ℕ → Option (Option ℤ) → Result ℤ ShapeFault
+whole field default None = Ok (pos default)
 whole field default (Some (Some z)) = Ok z
 whole field default (Some None) = Err (NotWhole field)
 
 -- the numbers of a table, in the order in which they are asked for
 abbrev pub numbers_of : Members → Result Numbers ShapeFault
 numbers_of ms =
-    and_then (whole Ways (pos default_shape.ways) (integer_at (codes "ways") ms)) (λ ways.
-    and_then (whole Regs (pos default_shape.regs) (integer_at (codes "regs") ms)) (λ regs.
-    and_then (whole Words (pos default_shape.shape.words) (integer_at (codes "words") ms)) (λ words.
-    and_then (whole Sets (pos default_shape.shape.sets) (integer_at (codes "sets") ms)) (λ sets.
-    and_then (whole Banks (pos default_shape.shape.banks) (integer_at (codes "banks") ms)) (λ banks.
-    and_then (whole BankQueue (pos default_shape.shape.bank_queue) (integer_at (codes "bank_queue") ms)) (λ bank_queue.
-    and_then (whole WriteQueue (pos default_shape.shape.write_queue) (integer_at (codes "write_queue") ms)) (λ write_queue.
-    and_then (whole Replies (pos default_shape.shape.replies) (integer_at (codes "replies") ms)) (λ replies.
+    and_then (whole Ways default_shape.ways (integer_at (codes "ways") ms)) (λ ways.
+    and_then (whole Regs default_shape.regs (integer_at (codes "regs") ms)) (λ regs.
+    and_then (whole Words default_shape.shape.words (integer_at (codes "words") ms)) (λ words.
+    and_then (whole Sets default_shape.shape.sets (integer_at (codes "sets") ms)) (λ sets.
+    and_then (whole Banks default_shape.shape.banks (integer_at (codes "banks") ms)) (λ banks.
+    and_then (whole BankQueue default_shape.shape.bank_queue (integer_at (codes "bank_queue") ms)) (λ bank_queue.
+    and_then (whole WriteQueue default_shape.shape.write_queue (integer_at (codes "write_queue") ms)) (λ write_queue.
+    and_then (whole Replies default_shape.shape.replies (integer_at (codes "replies") ms)) (λ replies.
     Ok (record { ways = ways; regs = regs; words = words; sets = sets; banks = banks; bank_queue = bank_queue; write_queue = write_queue; replies = replies })))))))))
 
 -- a number between two others, these among them

@@ -168,13 +168,13 @@ fn integer_at(table: &Table, key: &str) -> Option<Option<i64>>
 }
 
 // A whole number, the default where nothing stands.
-fn whole(field: ShapeField, default: i64, found: Option<Option<i64>>) -> Result<i64, ShapeFault>
+fn whole(field: ShapeField, default: u32, found: Option<Option<i64>>) -> Result<i64, ShapeFault>
     ensures { result ≡ whole field default found }
 {
     match found {
         Some(Some(number)) => Ok(number),
         Some(None) => Err(ShapeFault::NotWhole(field)),
-        None => Ok(default),
+        None => Ok(i64::from(default)),
     }
 }
 
@@ -182,14 +182,27 @@ fn whole(field: ShapeField, default: i64, found: Option<Option<i64>>) -> Result<
 fn numbers_of(table: &Table) -> Result<Numbers, ShapeFault>
     ensures { result ≡ numbers_of (table_view table.now) }
 {
-    let ways = whole(ShapeField::Ways, 2, integer_at(table, "ways"))?;
-    let regs = whole(ShapeField::Regs, 4, integer_at(table, "regs"))?;
-    let words = whole(ShapeField::Words, 64, integer_at(table, "words"))?;
-    let sets = whole(ShapeField::Sets, 4, integer_at(table, "sets"))?;
-    let banks = whole(ShapeField::Banks, 4, integer_at(table, "banks"))?;
-    let bank_queue = whole(ShapeField::BankQueue, 8, integer_at(table, "bank_queue"))?;
-    let write_queue = whole(ShapeField::WriteQueue, 8, integer_at(table, "write_queue"))?;
-    let replies = whole(ShapeField::Replies, 8, integer_at(table, "replies"))?;
+    let ToolShape { shape, ways, regs } = ToolShape::default();
+    let ways = whole(ShapeField::Ways, ways, integer_at(table, "ways"))?;
+    let regs = whole(ShapeField::Regs, regs, integer_at(table, "regs"))?;
+    let words = whole(ShapeField::Words, shape.words, integer_at(table, "words"))?;
+    let sets = whole(ShapeField::Sets, shape.sets, integer_at(table, "sets"))?;
+    let banks = whole(ShapeField::Banks, shape.banks, integer_at(table, "banks"))?;
+    let bank_queue = whole(
+        ShapeField::BankQueue,
+        shape.bank_queue,
+        integer_at(table, "bank_queue"),
+    )?;
+    let write_queue = whole(
+        ShapeField::WriteQueue,
+        shape.write_queue,
+        integer_at(table, "write_queue"),
+    )?;
+    let replies = whole(
+        ShapeField::Replies,
+        shape.replies,
+        integer_at(table, "replies"),
+    )?;
     Ok(Numbers {
         ways,
         regs,
