@@ -147,12 +147,12 @@ fn checking_may_find_no_memory(rt: HostRuntime) -> Result<(), Fail> {
 #[test]
 fn reading_requests_may_find_no_memory(rt: HostRuntime) -> Result<(), Fail> {
     let alloc = rt.alloc();
-    let trace = b"load 1 0\nload 2 4\n";
+    let trace = b"load 1 0\nload 2 4\nload 3 8\n";
     let mut requests = read_requests(alloc, &mut trace.as_slice());
     if requests.is_err() {
         requests = read_requests(alloc, &mut trace.as_slice());
     }
-    let wanted = [Event::Load { tag: 1, at: 0 }, Event::Load { tag: 2, at: 4 }];
+    let wanted = [(1, 0), (2, 4), (3, 8)].map(|(tag, at)| Event::Load { tag, at });
     assert_eq!(rt; requests?.as_slice(), &wanted[..]);
     Ok(())
 }
