@@ -9,11 +9,12 @@ ghost use Rattle.std.specs.Prelude.{⊤, ◌≡◌, ◌==◌, [], ◌∷◌, cod
 ghost use Rattle.flat_model.specs.Flat.{number};
 ghost use Rattle.flat_model.specs.Words.{no_lanes, merged, joined, has_any, has_all};
 
+mod display;
 mod memory;
 mod operators;
 
 use bitflags::{Flag, Flags};
-pub use memory::{FlatMemory, ReplayFault};
+pub use memory::{FlatMemory, ReplayFault, StepFault};
 use std::alloc::AllocError;
 use thiserror::Error;
 
