@@ -18,7 +18,8 @@ pub use memory::{FlatMemory, ReplayFault, StepFault};
 use std::alloc::AllocError;
 use thiserror::Error;
 
-/// A word of memory: four bytes in memory order, byte 0 first.
+/// A word of memory: four bytes in memory order, byte 0 first. C has it as four bytes too.
+#[repr(C)]
 #[derive(Clone, Copy, PartialEq, Eq, Debug, Default)]
 pub struct Word {
     /// Byte 0, the first in memory.
