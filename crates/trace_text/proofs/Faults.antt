@@ -53,24 +53,24 @@ begins_said rest at NotEnded h short said is = absurd is
 pub begins_long : (rest : List ℕ) (at : ℕ) → IsEnd rest at → 64 < at → BeginsWith rest TooLong
 begins_long rest at h long = (omega (arith, h.0), none_in_front rest at 65 h (omega arith))
 
-pub fails_long : {W : Type 0} {took : W → List ℕ → W → Type 0} (refused : W → W → Type 0) {u v : W} {k m : MachineState} {a b : Counts} {bytes rest : List ℕ} (at : ℕ)
+pub fails_long : {W : Type 0} {took : W → List ℕ → W → Type 0} (refused unflushed : W → W → Type 0) {u v : W} {k m : MachineState} {a b : Counts} {bytes rest : List ℕ} (at : ℕ)
     → Through took u k a bytes rest v m b → IsEnd rest at → 64 < at → b.lines < 16777216
-    → Fails took refused u k a bytes v m (fault.Line (b.lines + 1) TooLong)
-fails_long refused {b = b} {rest = rest} at p h long room = (b, rest, p.served, refl, room, begins_long rest at h long)
+    → Fails took refused unflushed u k a bytes v m (fault.Line (b.lines + 1) TooLong)
+fails_long refused unflushed {b = b} {rest = rest} at p h long room = (b, rest, p.served, refl, room, begins_long rest at h long)
 
-pub fails_fault : {W : Type 0} {took : W → List ℕ → W → Type 0} (refused : W → W → Type 0) {u v w : W} {k m n : MachineState} {a b : Counts} {bytes rest text : List ℕ} (at : ℕ) (f : LineFault)
+pub fails_fault : {W : Type 0} {took : W → List ℕ → W → Type 0} (refused unflushed : W → W → Type 0) {u v w : W} {k m n : MachineState} {a b : Counts} {bytes rest text : List ℕ} (at : ℕ) (f : LineFault)
     → Through took u k a bytes rest v m b → IsEnd rest at → at ≤ 64 → text ≡ take at rest
     → StopsLine took refused v m text w n (Fault f) → b.lines < 16777216
-    → Fails took refused u k a bytes w n (fault.Line (b.lines + 1) f)
-fails_fault {took = took} refused {u = u} {v = v} {w = w} {k = k} {m = m} {n = n} {a = a} {b = b} {bytes = bytes} {rest = rest} at f p h short e stop room =
+    → Fails took refused unflushed u k a bytes w n (fault.Line (b.lines + 1) f)
+fails_fault {took = took} refused unflushed {u = u} {v = v} {w = w} {k = k} {m = m} {n = n} {a = a} {b = b} {bytes = bytes} {rest = rest} at f p h short e stop room =
     let same : Served took u k a bytes rest w n b = subst (λ s. Served took u k a bytes rest w s b) (sym stop.3) (subst (λ x. Served took u k a bytes rest x m b) (sym stop.2) p.served) in
     (b, rest, same, refl, room, begins_said rest at f h short (ap line_of (sym e) ∙ stop.0) stop.1)
 
-pub fails_refusal : {W : Type 0} {took : W → List ℕ → W → Type 0} {refused : W → W → Type 0} {u v w : W} {k m n : MachineState} {a b : Counts} {bytes rest text : List ℕ} (at : ℕ)
+pub fails_refusal : {W : Type 0} {took : W → List ℕ → W → Type 0} {refused : W → W → Type 0} (unflushed : W → W → Type 0) {u v w : W} {k m n : MachineState} {a b : Counts} {bytes rest text : List ℕ} (at : ℕ)
     → Through took u k a bytes rest v m b → IsEnd rest at → at ≤ 64 → text ≡ take at rest
     → StopsLine took refused v m text w n Refusal → b.lines < 16777216
-    → Fails took refused u k a bytes w n fault.Write
-fails_refusal {took = took} {refused = refused} {v = v} {w = w} {m = m} {b = b} {rest = rest} {text = text} at p h short e stop room = (
+    → Fails took refused unflushed u k a bytes w n fault.Write
+fails_refusal {took = took} {refused = refused} unflushed {v = v} {w = w} {m = m} {b = b} {rest = rest} {text = text} at p h short e stop room = (
   b,
   rest,
   v,

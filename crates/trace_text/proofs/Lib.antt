@@ -5,7 +5,6 @@ pub mod Serving
 pub mod Faults
 pub mod Ends
 pub mod Unique
-pub mod KnownBytes
 pub mod Arrows
 pub mod Readings
 pub mod Held

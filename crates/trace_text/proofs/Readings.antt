@@ -6,7 +6,7 @@ use Rattle.trace_text.specs.declared.lines.LineFault.TheVariants.{Unknown, Field
 use Rattle.trace_text.specs.declared.reading.Uncollected.TheVariants as miss
 use Rattle.trace_text.specs.declared.serve.TraceFault.{TraceFault}
 use Rattle.trace_text.specs.declared.serve.TraceFault.TheVariants as fault
-use Rattle.trace_text.specs.Serving.{HasNoEnd, Moves}
+use Rattle.trace_text.specs.Serving.{HasNoEnd, Came, Moves}
 use Rattle.trace_text.specs.Faults.{BegunFault}
 use Rattle.trace_text.specs.Reading.{joined_texts, IsGood, Good, BeginsFaulty, Misses, Faulty, ReadStops, Collected, AllCollected, Reading, IsFound}
 use Rattle.trace_text.proofs.Serving.{moved_none, moved_more, all_then}
@@ -117,7 +117,7 @@ collected_on {f = f} {holds = holds} {most = most} {d = d} {e = e} {n = n} {m = 
     collected_then (collected_more more p) (subst (λ l. Collected f holds most d n l rest e m) same behind)
 
 pub reading_on : {R C : Type 0} {gave : R → List ℕ → R → Type 0} {f : List ℕ → Option LineFault} {holds : C → List (List ℕ) → Type 0} {most : ℕ} {r r' r'' : R} {c d e : C} {n m left : ℕ} {pending : List ℕ} (more whole rest : List ℕ)
-    → Reading gave f holds most r c pending r' d n → gave r' more r'' → whole ≡ pending ++ more
+    → Reading gave f holds most r c pending r' d n → Came gave r' more r'' → whole ≡ pending ++ more
     → AllCollected f holds most d n whole left e m → rest ≡ drop (length whole - left) whole → length rest ≤ most → (0 < length rest → m < 16777216)
     → Reading gave f holds most r c rest r'' e m
 reading_on more whole rest p gives same all at_end short room = record {
@@ -185,7 +185,7 @@ faulty_begun left fault.OutOfMemory p none same h = absurd h
 -- ---- ends
 
 pub stops_found : {R : Type 0} {gave : R → List ℕ → R → Type 0} (failed : R → R → Type 0) (f : List ℕ → Option LineFault) (most : ℕ) {r r' : R} {bytes : List ℕ} (e : TraceFault)
-    → IsFound e → Moves gave r bytes r' → Faulty f most 0 bytes e → ReadStops gave failed f most r r' e
+    → IsFound e → Moves (Came gave) r bytes r' → Faulty f most 0 bytes e → ReadStops gave failed f most r r' e
 stops_found failed f most {bytes = bytes} (fault.Line n Unknown) is p q = (bytes, p, q)
 stops_found failed f most {bytes = bytes} (fault.Line n Field) is p q = (bytes, p, q)
 stops_found failed f most {bytes = bytes} (fault.Line n TooLong) is p q = (bytes, p, q)

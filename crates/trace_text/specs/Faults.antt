@@ -15,7 +15,7 @@ use Rattle.trace_text.specs.declared.serve.LineStop.TheVariants.{Fault, Refusal}
 use Rattle.trace_text.specs.declared.serve.Counts.{Counts}
 use Rattle.trace_text.specs.declared.serve.TraceFault.{TraceFault}
 use Rattle.trace_text.specs.declared.serve.TraceFault.TheVariants as fault
-use Rattle.trace_text.specs.Serving.{IsLine, HasNoEnd, joined, told, no_counts, counted_line, event_in, answer_to, IsWithin, Moves, Stopped, Served, Broken}
+use Rattle.trace_text.specs.Serving.{IsLine, HasNoEnd, joined, told, no_counts, counted_line, event_in, answer_to, IsWithin, Came, Moves, Stopped, Served, Broken}
 
 -- one line: it was at fault and nothing changed, or it was applied and writing its text stopped
 abbrev pub StopsLine : {W : Type 0} (took : W → List ℕ → W → Type 0) (refused : W → W → Type 0) (old : W) (m : MachineState) (text : List ℕ) (new : W) (m' : MachineState) → LineStop → Type 0
@@ -40,12 +40,12 @@ BeginsWith bytes NotEnded = (0 < length bytes) × (length bytes ≤ 64) × HasNo
 BeginsWith bytes f = (text : List ℕ) × (more : List ℕ) × (bytes ≡ text ++ (line_feed ∷ more)) × (length text ≤ 64) × HasNoEnd text × (line_of text ≡ Err f)
 
 -- Of these bytes some lines were served, and this fault came in the next.
-abbrev pub Fails : {W : Type 0} (took : W → List ℕ → W → Type 0) (refused : W → W → Type 0) (old : W) (m : MachineState) (c : Counts) (bytes : List ℕ) (new : W) (m' : MachineState) → TraceFault → Type 0
-Fails took refused old m c bytes new m' (fault.Line n f) = (c' : Counts) × (rest : List ℕ) × Served took old m c bytes rest new m' c' × (n ≡ c'.lines + 1) × (c'.lines < most_lines) × BeginsWith rest f
-Fails {W} took refused old m c bytes new m' fault.Write = (c' : Counts) × (rest : List ℕ) × (w : W) × (s : MachineState) × Served took old m c bytes rest w s c' × (((c'.lines < most_lines) × Broken took refused w s rest new m') ⊎ (refused w new × (m' ≡ s)))
-Fails took refused old m c bytes new m' fault.TooManyLines = (c' : Counts) × (rest : List ℕ) × Served took old m c bytes rest new m' c' × (c'.lines ≡ most_lines) × (0 < length rest)
-Fails took refused old m c bytes new m' fault.Read = ⊥
-Fails took refused old m c bytes new m' fault.OutOfMemory = ⊥
+abbrev pub Fails : {W : Type 0} (took : W → List ℕ → W → Type 0) (refused unflushed : W → W → Type 0) (old : W) (m : MachineState) (c : Counts) (bytes : List ℕ) (new : W) (m' : MachineState) → TraceFault → Type 0
+Fails took refused unflushed old m c bytes new m' (fault.Line n f) = (c' : Counts) × (rest : List ℕ) × Served took old m c bytes rest new m' c' × (n ≡ c'.lines + 1) × (c'.lines < most_lines) × BeginsWith rest f
+Fails {W} took refused unflushed old m c bytes new m' fault.Write = (c' : Counts) × (rest : List ℕ) × (w : W) × (s : MachineState) × Served took old m c bytes rest w s c' × (((c'.lines < most_lines) × Broken took refused w s rest new m') ⊎ (unflushed w new × (m' ≡ s)))
+Fails took refused unflushed old m c bytes new m' fault.TooManyLines = (c' : Counts) × (rest : List ℕ) × Served took old m c bytes rest new m' c' × (c'.lines ≡ most_lines) × (0 < length rest)
+Fails took refused unflushed old m c bytes new m' fault.Read = ⊥
+Fails took refused unflushed old m c bytes new m' fault.OutOfMemory = ⊥
 
 -- Of these bytes some lines were served, and the rest is to come.
 pub record Through {W : Type 0} (took : W → List ℕ → W → Type 0) (old : W) (m : MachineState) (c : Counts) (bytes : List ℕ) (rest : List ℕ) (new : W) (m' : MachineState) (c' : Counts) : Type 0 where
@@ -73,14 +73,14 @@ pub record LastRead {R : Type 0} (gave : R → List ℕ → R → Type 0) (old :
   pub last : R
   pub piece : List ℕ
   pub sound : IsSound before
-  pub read : Moves gave old before last
-  pub gives : gave last piece new
+  pub read : Moves (Came gave) old before last
+  pub gives : Came gave last piece new
   pub whole : bytes ≡ before ++ piece
 
 -- In the middle of a run: what was read, and that all of it was served but the start of a line.
 pub record Going {R W : Type 0} (gave : R → List ℕ → R → Type 0) (took : W → List ℕ → W → Type 0) (r : R) (w : W) (m : MachineState) (pending : List ℕ) (r' : R) (w' : W) (m' : MachineState) (c' : Counts) : Type 0 where
   pub bytes : List ℕ
-  pub read : Moves gave r bytes r'
+  pub read : Moves (Came gave) r bytes r'
   pub through : Through took w m no_counts bytes pending w' m' c'
   pub short : length pending ≤ 64
   pub unfinished : HasNoEnd pending
@@ -88,29 +88,29 @@ pub record Going {R W : Type 0} (gave : R → List ℕ → R → Type 0) (took :
 
 -- Writing stopped, and nothing was read behind it: the flush before a read was refused, or a write or a flush after the
 -- read that gave the last piece.
-abbrev pub Unwritten : {R W : Type 0} (gave : R → List ℕ → R → Type 0) (took : W → List ℕ → W → Type 0) (refused : W → W → Type 0) (r r' : R) (w w' : W) (m m' : MachineState) → Type 0
-Unwritten {R} {W} gave took refused r r' w w' m m' = (pending : List ℕ) × (last : R) × (v : W) × (s : MachineState) × (c : Counts) × Going gave took r w m pending last v s c × ((refused v w' × (r' ≡ last) × (m' ≡ s)) ⊎ ((piece : List ℕ) × (u : W) × took v [] u × gave last piece r' × Fails took refused u s c (pending ++ piece) w' m' fault.Write))
+abbrev pub Unwritten : {R W : Type 0} (gave : R → List ℕ → R → Type 0) (took : W → List ℕ → W → Type 0) (refused unflushed : W → W → Type 0) (r r' : R) (w w' : W) (m m' : MachineState) → Type 0
+Unwritten {R} {W} gave took refused unflushed r r' w w' m m' = (pending : List ℕ) × (last : R) × (v : W) × (s : MachineState) × (c : Counts) × Going gave took r w m pending last v s c × ((unflushed v w' × (r' ≡ last) × (m' ≡ s)) ⊎ ((piece : List ℕ) × (u : W) × took v [] u × Came gave last piece r' × Fails took refused unflushed u s c (pending ++ piece) w' m' fault.Write))
 
 -- How a whole run ends: what was read, applied and written, by its answer. Where no write was refused, a flush stands
 -- behind all that was written.
-abbrev pub Ends : {R W : Type 0} (gave : R → List ℕ → R → Type 0) (failed : R → R → Type 0) (took : W → List ℕ → W → Type 0) (refused : W → W → Type 0) (r : R) (r' : R) (w : W) (w' : W) (m : MachineState) (m' : MachineState) → Result Counts TraceFault → Type 0
+abbrev pub Ends : {R W : Type 0} (gave : R → List ℕ → R → Type 0) (failed : R → R → Type 0) (took : W → List ℕ → W → Type 0) (refused unflushed : W → W → Type 0) (r : R) (r' : R) (w : W) (w' : W) (m : MachineState) (m' : MachineState) → Result Counts TraceFault → Type 0
 -- all was read, up to the end, and served
-Ends {R} {W} gave failed took refused r r' w w' m m' (Ok counts) = (bytes : List ℕ) × (last : R) × (v : W) × Moves gave r bytes last × gave last [] r' × Served took w m no_counts bytes [] v m' counts × IsWithin counts × took v [] w'
+Ends {R} {W} gave failed took refused unflushed r r' w w' m m' (Ok counts) = (bytes : List ℕ) × (last : R) × (v : W) × Moves (Came gave) r bytes last × gave last [] r' × Served took w m no_counts bytes [] v m' counts × IsWithin counts × took v [] w'
 -- nothing happened
-Ends gave failed took refused r r' w w' m m' (Err fault.OutOfMemory) = (r' ≡ r) × (w' ≡ w) × (m' ≡ m)
+Ends gave failed took refused unflushed r r' w w' m m' (Err fault.OutOfMemory) = (r' ≡ r) × (w' ≡ w) × (m' ≡ m)
 -- the lines that ended before the error were served
-Ends {R} {W} gave failed took refused r r' w w' m m' (Err fault.Read) = (bytes : List ℕ) × (last : R) × (v : W) × (c' : Counts) × (rest : List ℕ) × Moves gave r bytes last × failed last r' × Served took w m no_counts bytes rest v m' c' × (length rest ≤ 64) × HasNoEnd rest × (0 < length rest → c'.lines < most_lines) × took v [] w'
+Ends {R} {W} gave failed took refused unflushed r r' w w' m m' (Err fault.Read) = (bytes : List ℕ) × (last : R) × (v : W) × (c' : Counts) × (rest : List ℕ) × Moves (Came gave) r bytes last × failed last r' × Served took w m no_counts bytes rest v m' c' × (length rest ≤ 64) × HasNoEnd rest × (0 < length rest → c'.lines < most_lines) × took v [] w'
 -- the input ended within a line
-Ends {R} {W} gave failed took refused r r' w w' m m' (Err (fault.Line n NotEnded)) = (bytes : List ℕ) × (last : R) × (v : W) × Moves gave r bytes last × gave last [] r' × Fails took refused w m no_counts bytes v m' (fault.Line n NotEnded) × took v [] w'
+Ends {R} {W} gave failed took refused unflushed r r' w w' m m' (Err (fault.Line n NotEnded)) = (bytes : List ℕ) × (last : R) × (v : W) × Moves (Came gave) r bytes last × gave last [] r' × Fails took refused unflushed w m no_counts bytes v m' (fault.Line n NotEnded) × took v [] w'
 -- a write or a flush was refused
-Ends gave failed took refused r r' w w' m m' (Err fault.Write) = Unwritten gave took refused r r' w w' m m'
+Ends gave failed took refused unflushed r r' w w' m m' (Err fault.Write) = Unwritten gave took refused unflushed r r' w w' m m'
 -- a line was at fault, or one too many began
-Ends {W = W} gave failed took refused r r' w w' m m' (Err e) = (bytes : List ℕ) × (v : W) × LastRead gave r bytes r' × Fails took refused w m no_counts bytes v m' e × took v [] w'
+Ends {W = W} gave failed took refused unflushed r r' w w' m m' (Err e) = (bytes : List ℕ) × (v : W) × LastRead gave r bytes r' × Fails took refused unflushed w m no_counts bytes v m' e × took v [] w'
 
 -- A flush before a fault is answered: the fault stays, or the flush was refused and the fault is a failed write.
-abbrev pub AfterFlush : {W : Type 0} (took : W → List ℕ → W → Type 0) (refused : W → W → Type 0) (w w' : W) → TraceFault → TraceFault → Type 0
-AfterFlush took refused w w' fault.Write e' = (e' ≡ fault.Write) × (w' ≡ w)
-AfterFlush took refused w w' e e' = ((e' ≡ e) × took w [] w') ⊎ ((e' ≡ fault.Write) × refused w w')
+abbrev pub AfterFlush : {W : Type 0} (took : W → List ℕ → W → Type 0) (unflushed : W → W → Type 0) (w w' : W) → TraceFault → TraceFault → Type 0
+AfterFlush took unflushed w w' fault.Write e' = (e' ≡ fault.Write) × (w' ≡ w)
+AfterFlush took unflushed w w' e e' = ((e' ≡ e) × took w [] w') ⊎ ((e' ≡ fault.Write) × unflushed w w')
 
 -- a fault that comes before the input's end
 abbrev pub IsInside : TraceFault → Type 0
@@ -130,12 +130,12 @@ pub record Filled {R : Type 0} (gave : R → List ℕ → R → Type 0) (r r' : 
   pub front : take (filled + given) new ≡ take filled old ++ bytes
 
 -- A flush and a read behind it: the writer refused the flush and nothing was read, or the reader failed.
-abbrev pub Unfilled : {R W : Type 0} (failed : R → R → Type 0) (took : W → List ℕ → W → Type 0) (refused : W → W → Type 0) (r r' : R) (w w' : W) → TraceFault → Type 0
-Unfilled failed took refused r r' w w' fault.Read = took w [] w' × failed r r'
-Unfilled failed took refused r r' w w' fault.Write = refused w w' × (r' ≡ r)
-Unfilled failed took refused r r' w w' (fault.Line n f) = ⊥
-Unfilled failed took refused r r' w w' fault.OutOfMemory = ⊥
-Unfilled failed took refused r r' w w' fault.TooManyLines = ⊥
+abbrev pub Unfilled : {R W : Type 0} (failed : R → R → Type 0) (took : W → List ℕ → W → Type 0) (unflushed : W → W → Type 0) (r r' : R) (w w' : W) → TraceFault → Type 0
+Unfilled failed took unflushed r r' w w' fault.Read = took w [] w' × failed r r'
+Unfilled failed took unflushed r r' w w' fault.Write = unflushed w w' × (r' ≡ r)
+Unfilled failed took unflushed r r' w w' (fault.Line n f) = ⊥
+Unfilled failed took unflushed r r' w w' fault.OutOfMemory = ⊥
+Unfilled failed took unflushed r r' w w' fault.TooManyLines = ⊥
 
 -- the fault of the line that so many bytes begin, behind so many lines: one too many, or too long
 abbrev pub BegunFault : (lines left most : ℕ) → TraceFault → Type 0

@@ -5,7 +5,6 @@ pub mod Texts
 pub mod Pairs
 pub mod Serving
 pub mod Faults
-pub mod Known
 pub mod Reading
 pub mod Requests
 pub mod Checks

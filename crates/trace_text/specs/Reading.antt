@@ -9,7 +9,7 @@ use Rattle.trace_text.specs.declared.reading.Uncollected.{Uncollected}
 use Rattle.trace_text.specs.declared.reading.Uncollected.TheVariants as miss
 use Rattle.trace_text.specs.declared.serve.TraceFault.{TraceFault}
 use Rattle.trace_text.specs.declared.serve.TraceFault.TheVariants as fault
-use Rattle.trace_text.specs.Serving.{HasNoEnd, Moves}
+use Rattle.trace_text.specs.Serving.{HasNoEnd, Came, Moves}
 
 -- the fault of a reading, where it has one
 abbrev pub fault_of : {X : Type 0} → Result X LineFault → Option LineFault
@@ -45,7 +45,7 @@ Misses found miss.Memory = Unit {0}
 pub record ReadWhole {R : Type 0} (gave : R → List ℕ → R → Type 0) (fault_in : List ℕ → Option LineFault) (most : ℕ) (r r' : R) (texts : List (List ℕ)) : Type 0 where
   pub bytes : List ℕ
   pub last : R
-  pub read : Moves gave r bytes last
+  pub read : Moves (Came gave) r bytes last
   pub ends : gave last [] r'
   pub good : Good fault_in most bytes texts []
   pub within : length texts ≤ most_lines
@@ -62,10 +62,10 @@ Faulty fault_in most before bytes fault.Write = ⊥
 -- What was read where a reading has a fault: the first one in the order of the lines. An error of the reader stands
 -- behind every line that ended or was too long before it.
 abbrev pub ReadStops : {R : Type 0} (gave : R → List ℕ → R → Type 0) (failed : R → R → Type 0) (fault_in : List ℕ → Option LineFault) (most : ℕ) (r r' : R) → TraceFault → Type 0
-ReadStops {R} gave failed fault_in most r r' fault.Read = (bytes : List ℕ) × (last : R) × (texts : List (List ℕ)) × (rest : List ℕ) × Moves gave r bytes last × failed last r' × Good fault_in most bytes texts rest × (length rest ≤ most) × HasNoEnd rest × (length texts ≤ most_lines) × (0 < length rest → length texts < most_lines)
-ReadStops {R} gave failed fault_in most r r' (fault.Line n NotEnded) = (bytes : List ℕ) × (last : R) × Moves gave r bytes last × gave last [] r' × Faulty fault_in most 0 bytes (fault.Line n NotEnded)
+ReadStops {R} gave failed fault_in most r r' fault.Read = (bytes : List ℕ) × (last : R) × (texts : List (List ℕ)) × (rest : List ℕ) × Moves (Came gave) r bytes last × failed last r' × Good fault_in most bytes texts rest × (length rest ≤ most) × HasNoEnd rest × (length texts ≤ most_lines) × (0 < length rest → length texts < most_lines)
+ReadStops {R} gave failed fault_in most r r' (fault.Line n NotEnded) = (bytes : List ℕ) × (last : R) × Moves (Came gave) r bytes last × gave last [] r' × Faulty fault_in most 0 bytes (fault.Line n NotEnded)
 ReadStops gave failed fault_in most r r' fault.OutOfMemory = Unit {0}
-ReadStops gave failed fault_in most r r' e = (bytes : List ℕ) × Moves gave r bytes r' × Faulty fault_in most 0 bytes e
+ReadStops gave failed fault_in most r r' e = (bytes : List ℕ) × Moves (Came gave) r bytes r' × Faulty fault_in most 0 bytes e
 
 -- ---- in the middle of a reading
 
@@ -86,7 +86,7 @@ pub record AllCollected {C : Type 0} (fault_in : List ℕ → Option LineFault) 
 -- What was read, and that all of it was collected but the start of a line.
 pub record Reading {R C : Type 0} (gave : R → List ℕ → R → Type 0) (fault_in : List ℕ → Option LineFault) (holds : C → List (List ℕ) → Type 0) (most : ℕ) (r : R) (c : C) (pending : List ℕ) (r' : R) (c' : C) (count : ℕ) : Type 0 where
   pub bytes : List ℕ
-  pub read : Moves gave r bytes r'
+  pub read : Moves (Came gave) r bytes r'
   pub collected : Collected fault_in holds most c 0 bytes pending c' count
   pub short : length pending ≤ most
   pub unfinished : HasNoEnd pending

@@ -106,13 +106,17 @@ pub record IsWithin (c : Counts) : Type 0 where
 
 -- ---- readers and writers
 
+-- A read gave these bytes, at least one: it was not the end.
+abbrev pub Came : {S : Type 0} → (S → List ℕ → S → Type 0) → S → List ℕ → S → Type 0
+Came gave old bytes new = gave old bytes new × (0 < length bytes)
+
 -- From one state to the other, these bytes moved, in one piece after another.
 pub record Moves {S : Type 0} (step : S → List ℕ → S → Type 0) (old : S) (bytes : List ℕ) (new : S) : Type 0 where
   pub pieces : List (List ℕ)
   pub steps : FoldsTo step old pieces new
   pub whole : concat pieces ≡ bytes
 
--- A front of the bytes moved, and then a write or a flush was refused.
+-- A front of the bytes moved, and then a write was refused.
 pub record Stopped {S : Type 0} (step : S → List ℕ → S → Type 0) (refused : S → S → Type 0) (old : S) (bytes : List ℕ) (new : S) : Type 0 where
   pub front : List ℕ
   pub back : List ℕ

@@ -13,7 +13,6 @@
 mod check;
 mod digits;
 mod fields;
-mod known;
 pub mod laws;
 mod lines;
 mod machine;
@@ -27,7 +26,6 @@ mod text;
 mod writers;
 
 pub use check::{CheckEnd, check_text};
-pub use known::serve_known;
 pub use lines::{Line, LineFault, read_line};
 pub use pairs::{Pair, read_pair};
 pub use requests::read_requests;

@@ -164,7 +164,7 @@ fn serve_ended<W: Sink, C: Core>(
     requires { IsWithin counts.old }
     ensures ok { IfOk result (λ left. Ended W.took writer.old (C.state core.old) counts.old bytes.now left
         writer.new (C.state core.new) counts.new) }
-    ensures err { IfErr result (Fails W.took W.refused writer.old (C.state core.old) counts.old bytes.now
+    ensures err { IfErr result (Fails W.took W.refused W.unflushed writer.old (C.state core.old) counts.old bytes.now
         writer.new (C.state core.new)) }
     ensures inside { IfErr result IsInside }
 {
@@ -193,7 +193,7 @@ fn serve_ended<W: Sink, C: Core>(
 }
 
 fn flushed<W: Sink>(writer: &mut W, fault: TraceFault) -> TraceFault
-    ensures { AfterFlush W.took W.refused writer.old writer.new fault result }
+    ensures { AfterFlush W.took W.unflushed writer.old writer.new fault result }
 {
     match fault {
         TraceFault::Write => TraceFault::Write,
@@ -216,7 +216,7 @@ fn flush_and_fill<R: Source, W: Sink>(
     ensures ok { IfOk result (Filled R.gave reader.old reader.new buffer.old buffer.new filled) }
     ensures flushed { OnOk result (W.took writer.old [] writer.new) }
     ensures err { IfErr result
-        (Unfilled R.failed W.took W.refused reader.old reader.new writer.old writer.new) }
+        (Unfilled R.failed W.took W.unflushed reader.old reader.new writer.old writer.new) }
 {
     match writer.flush_all() {
         Ok(()) => {}
@@ -235,7 +235,7 @@ fn serve_pieces<R: Source, W: Sink, C: Core>(
     buffer: &mut [u8],
 ) -> Result<Counts, TraceFault>
     requires { length buffer.old ≡ 4096 }
-    ensures { Ends R.gave R.failed W.took W.refused reader.old reader.new writer.old writer.new
+    ensures { Ends R.gave R.failed W.took W.refused W.unflushed reader.old reader.new writer.old writer.new
         (C.state core.old) (C.state core.new) result }
 {
     let mut out = ArrayVec::new();
@@ -271,7 +271,7 @@ pub fn serve<R: Source, W: Sink, C: Core>(
     writer: &mut W,
     core: &mut C,
 ) -> Result<Counts, TraceFault>
-    ensures { Ends R.gave R.failed W.took W.refused reader.old reader.new writer.old writer.new
+    ensures { Ends R.gave R.failed W.took W.refused W.unflushed reader.old reader.new writer.old writer.new
         (C.state core.old) (C.state core.new) result }
 {
     let Ok(mut buffer) = vec![in alloc; 0u8; 4096] else {
@@ -310,7 +310,7 @@ pub fn serve_text<
     writer: &mut W,
     machine: &mut Machine<WAYS, WORDS, REGS, DEPTH>,
 ) -> Result<Counts, TraceFault>
-    ensures { Ends R.gave R.failed W.took W.refused reader.old reader.new writer.old writer.new
+    ensures { Ends R.gave R.failed W.took W.refused W.unflushed reader.old reader.new writer.old writer.new
         machine.old machine.new result }
 {
     serve(alloc, reader, writer, machine)

@@ -39,8 +39,11 @@ pub trait Sink {
     // A write took these bytes, at least one; or a flush went through, with no bytes.
     ghost took: { Self → List ℕ → Self → Type 0 };
 
-    // A write or a flush answered an error, or a write took no byte.
+    // A write answered an error, or took no byte.
     ghost refused: { Self → Self → Type 0 };
+
+    // A flush answered an error.
+    ghost unflushed: { Self → Self → Type 0 };
 
     /// One write, of some bytes: how many of the first of them it took. It refused where it took
     /// none, or answered an error.
@@ -54,13 +57,15 @@ pub trait Sink {
     /// One flush: all that it took is out, where it answers no error.
     fn flush_all(&mut self) -> io::Result<()>
         ensures ok { OnOk result (took self.old [] self.new) }
-        ensures err { OnErr result (refused self.old self.new) };
+        ensures err { OnErr result (unflushed self.old self.new) };
 }
 
 impl<W: Write> Sink for W {
     ghost took = { λ s bytes t. Appends (W.contents s) (W.contents t) bytes };
 
     ghost refused = { λ s t. Keeps (W.contents s) (W.contents t) };
+
+    ghost unflushed = { λ s t. Keeps (W.contents s) (W.contents t) };
 
     fn write_some(&mut self, buf: &[u8]) -> io::Result<usize> {
         self.write(buf)

@@ -1,6 +1,7 @@
 //! The examples, and what they share.
 
 mod fixture;
+mod input_end;
 mod machine;
 mod order;
 mod parts;

@@ -12,7 +12,7 @@ returns-in_err-left-clause-err g c =
     let p = err_from_is_err_and c.from_residual.result c.from_residual.ensures.1 in
     let reading = c.pieces.invariant.reading in
     let fill = c.in-Ok.ensures.ok in
-    rw (p.1, p.2) (stops_found g.R.Source.failed g.C.Collector.fault_in c.args.most _ c.in_err-left.ensures.found (moved_more reading.read fill.gives)
+    rw (p.1, p.2) (stops_found g.R.Source.failed g.C.Collector.fault_in c.args.most _ c.in_err-left.ensures.found (moved_more reading.read (fill.gives, omega (arith, fill.count)))
     (faulty_then fill.bytes _ reading.collected (rw fill.front at c.in_err-left.ensures.err)))
 
 pub returns-in-Some-clause-err : goal.returns-in-Some-clause-err
@@ -24,7 +24,7 @@ returns-in-Some-clause-err g c =
     let left = c.in_ok-left.left in
     let collected = collected_on fill.bytes _ _ reading.collected fill.front all refl in
     let begun = faulty_begun left c.in-Some.fault collected all.unfinished (omega (arith, all.enough, length-drop (length whole - left) whole)) c.in-Some.ensures.some in
-    stops_found g.R.Source.failed g.C.Collector.fault_in c.args.most c.in-Some.fault begun.0 (moved_more reading.read fill.gives) begun.1
+    stops_found g.R.Source.failed g.C.Collector.fault_in c.args.most c.in-Some.fault begun.0 (moved_more reading.read (fill.gives, omega (arith, fill.count))) begun.1
 
 pub pieces-preserved : goal.pieces-preserved
 pieces-preserved g c =
@@ -41,7 +41,7 @@ pieces-preserved g c =
     let short = c.in_default-begun_fault.ensures.short in
     let room : 0 < length (take left new) → c.collect_ended.new.count < 16777216 = λ some. c.in_default-begun_fault.ensures.room (omega (arith, some, length-take left new)) in
     record {
-      reading = reading_on fill.bytes whole (take left new) c.pieces.invariant.reading fill.gives fill.front all at_end (omega (arith, short, length-take left new)) room;
+      reading = reading_on fill.bytes whole (take left new) c.pieces.invariant.reading (fill.gives, omega (arith, fill.count)) fill.front all at_end (omega (arith, short, length-take left new)) room;
       filled = omega (arith, short);
     }
 

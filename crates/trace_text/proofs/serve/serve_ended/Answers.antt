@@ -4,15 +4,15 @@ use Rattle.trace_text.proofs.Faults.{fails_long, fails_fault, fails_refusal, thr
 use Rattle.trace_text.proofs.serve.serve_ended.Goals as goal
 
 pub returns-then-at-gt64-clause-err : goal.returns-then-at-gt64-clause-err
-returns-then-at-gt64-clause-err g c = fails_long g.W.Sink.refused c.in-Some.at c.lines.invariant c.in-Some.ensures.some (omega arith) (omega (arith, c.lines.invariant.within.lines))
+returns-then-at-gt64-clause-err g c = fails_long g.W.Sink.refused g.W.Sink.unflushed c.in-Some.at c.lines.invariant c.in-Some.ensures.some (omega arith) (omega (arith, c.lines.invariant.within.lines))
 
 pub returns-in-Fault-clause-err : goal.returns-in-Fault-clause-err
 returns-in-Fault-clause-err g c =
-    fails_fault g.W.Sink.refused c.in-Some.at c.in-Fault.fault c.lines.invariant c.in-Some.ensures.some (omega arith) (grind (arith, common_steps)) (rw c.in-Fault.is at c.in-Err.ensures.err) (omega (arith, c.lines.invariant.within.lines))
+    fails_fault g.W.Sink.refused g.W.Sink.unflushed c.in-Some.at c.in-Fault.fault c.lines.invariant c.in-Some.ensures.some (omega arith) (grind (arith, common_steps)) (rw c.in-Fault.is at c.in-Err.ensures.err) (omega (arith, c.lines.invariant.within.lines))
 
 pub returns-in-Refusal-clause-err : goal.returns-in-Refusal-clause-err
 returns-in-Refusal-clause-err g c =
-    fails_refusal c.in-Some.at c.lines.invariant c.in-Some.ensures.some (omega arith) (grind (arith, common_steps)) (rw c.in-Refusal.is at c.in-Err.ensures.err) (omega (arith, c.lines.invariant.within.lines))
+    fails_refusal g.W.Sink.unflushed c.in-Some.at c.lines.invariant c.in-Some.ensures.some (omega arith) (grind (arith, common_steps)) (rw c.in-Refusal.is at c.in-Err.ensures.err) (omega (arith, c.lines.invariant.within.lines))
 
 pub lines-preserved : goal.lines-preserved
 lines-preserved g c =
