@@ -1,34 +1,30 @@
 -- What is held of the lines so far.
-use Rattle.std.proofs.Common.{◌≡◌, ℕ, suc, ◌+◌, ◌<◌, ◌≤◌, Bool, true, false, Option, Some, None, Result, Ok, Err, OnOk, List, [], ◌∷◌, ◌++◌, length, length-append, append-nil, append_assoc, refl, sym, ◌∙◌, ap, arith}
-use Rattle.std.specs.Prelude.{cond}
-use Rattle.std.specs.Option.{option_map, option_to_list}
+use Rattle.std.proofs.Common.{◌≡◌, ℕ, suc, ◌+◌, ◌≤◌, Bool, true, false, Option, Some, None, Result, Ok, Err, OnOk, List, [], ◌∷◌, ◌++◌, length, get_or, length-append, append-nil, append_assoc, refl, sym, ◌∙◌, ap, subst, arith}
+use Rattle.std.specs.Prelude.{cond, slice_get}
+use Rattle.std.specs.Option.{option_map, option_to_list, option_and_then}
 use Rattle.std.specs.List.{AllByRecursion}
+use Rattle.std.proofs.Math.Seq.{get_or-append_seam}
+use Rattle.std.proofs.lemmas.List.{get_or_append_left}
+use Rattle.std.proofs.lemmas.Option.{slice_get_within, slice_get-get_or, get_or_from_slice_get}
 use Rattle.flat_model.specs.declared.Event.{Event}
 use Rattle.flat_model.specs.declared.Event.TheVariants.{Load, Store, Prefetch, Evict, Drain, Serve, Arrive, Process, Take}
 use Rattle.flat_model.specs.declared.Answer.{Answer}
-use Rattle.flat_model.specs.declared.memory.ReplayFault.{ReplayFault}
-use Rattle.flat_model.specs.declared.memory.ReplayFault.TheVariants as replay_fault
-use Rattle.flat_model.specs.Flat.{Flat, may_answer, flat_after, flat_run, first_fault}
-use Rattle.flat_model.specs.Memory.{FaultIs}
+use Rattle.flat_model.specs.Flat.{Flat, may_answer, flat_after, flat_step, flat_run, first_fault}
 use Rattle.trace_text.specs.Lines.{line_of}
 use Rattle.trace_text.specs.Pairs.{pair_of}
 use Rattle.trace_text.specs.Requests.{IsRequest, request_event, request_in, request_of, requests_of}
-use Rattle.trace_text.specs.Checks.{step_of, event_of, answer_of, number_of, events_in, answers_in, numbers_from, step_with, zeros, Holds, IsJudged, HasLine}
-use Rattle.trace_text.specs.declared.check.CheckEnd.TheVariants.{Flat as FlatRun}
+use Rattle.trace_text.specs.Checks.{step_of, event_of, answer_of, number_of, events_in, answers_in, numbers_from, step_with, zeros, IsJudged, JudgedFrom, Judges}
+use Rattle.trace_text.specs.declared.check.CheckEnd.TheVariants.{Flat as FlatRun, Mismatch}
 use Rattle.trace_text.specs.declared.check.Step.{Step}
 use Rattle.trace_text.specs.declared.lines.Line.{Line}
 use Rattle.trace_text.specs.declared.lines.Line.TheVariants as line
 use Rattle.trace_text.specs.declared.lines.LineFault.{LineFault}
 use Rattle.trace_text.specs.declared.pairs.Pair.{Pair}
-use Rattle.trace_text.proofs.Serving.{all_then}
+use Rattle.trace_text.proofs.Serving.{all_then, runs_then}
 
 pub on_ok : {A E P Q : Type 0} (r : Result A E) → (P → Q) → OnOk r P → OnOk r Q
 on_ok (Ok x) f p = f p
 on_ok (Err e) f p = tt
-
-pub on_ok_three : {A E P Q R S : Type 0} (r : Result A E) → (P → Q → R → S) → OnOk r P → OnOk r Q → OnOk r R → OnOk r S
-on_ok_three (Ok x) f p q s = f p q s
-on_ok_three (Err e) f p q s = tt
 
 -- ---- requests
 
@@ -97,23 +93,6 @@ numbers_more n (t ∷ ts) text =
     ∙ ap (λ k. number_of n (step_of (pair_of t)) ++ (numbers_from (n + 1) ts ++ number_of k (step_of (pair_of text)))) same
     ∙ sym (append_assoc (number_of n (step_of (pair_of t))) (numbers_from (n + 1) ts) (number_of (n + length (t ∷ ts)) (step_of (pair_of text))))
 
-pub steps_kept : (events events' : List Event) (answers answers' : List Answer) (numbers numbers' : List ℕ) (number : ℕ) (step : Option Step) (pair : Pair) (text : List ℕ)
-    → step ≡ step_with pair.line pair.answer → Ok pair ≡ pair_of text
-    → (texts : List (List ℕ)) → number ≡ length texts + 1 → Holds events answers numbers texts
-    → events' ≡ events ++ event_of step → answers' ≡ answers ++ answer_of step → numbers' ≡ numbers ++ number_of number step
-    → Holds events' answers' numbers' (texts ++ text ∷ [])
-steps_kept events events' answers answers' numbers numbers' number step pair text is read texts at held e a n =
-    let found : step ≡ step_of (pair_of text) = is ∙ ap step_of read in
-    let place : number ≡ 1 + length texts = omega (arith, at) in
-    record {
-      events = e ∙ ap (λ o. events ++ event_of o) found ∙ ap (λ l. l ++ event_of (step_of (pair_of text))) held.events ∙ sym (events_more texts text);
-      answers = a ∙ ap (λ o. answers ++ answer_of o) found ∙ ap (λ l. l ++ answer_of (step_of (pair_of text))) held.answers ∙ sym (answers_more texts text);
-      numbers =
-          n ∙ ap (λ o. numbers ++ number_of number o) found ∙ ap (λ k. numbers ++ number_of k (step_of (pair_of text))) place
-          ∙ ap (λ l. l ++ number_of (1 + length texts) (step_of (pair_of text))) held.numbers
-          ∙ sym (numbers_more 1 texts text);
-    }
-
 -- as many numbers as events
 same_number : (n : ℕ) (o : Option Step) → length (number_of n o) ≡ length (event_of o)
 same_number n None = refl
@@ -125,33 +104,153 @@ numbers_length n (t ∷ ts) =
     let o = step_of (pair_of t) in
     omega (arith, numbers_length (n + 1) ts, same_number n o, length-append (number_of n o) (numbers_from (n + 1) ts), length-append (event_of o) (events_in ts))
 
-inside_next : (b : Bool) (o : Option ℕ) (place n : ℕ) → ((k : ℕ) → o ≡ Some k → k < n) → cond b (option_map (λ k. suc k) o) (Some 0) ≡ Some place → place < n + 1
-inside_next false o place n below e = let here : 0 ≡ place = cc in omega (arith, here)
-inside_next true None place n below e = cc
-inside_next true (Some k) place n below e = let here : suc k ≡ place = cc in omega (arith, here, below k refl)
+-- ---- a run that is judged as it goes
 
--- the first fault is one of the steps
-pub fault_inside : (events : List Event) (s : Flat) (answers : List Answer) (place : ℕ) → first_fault s events answers ≡ Some place → place < length events
-fault_inside [] s [] place e = cc
-fault_inside [] s (a ∷ answers) place e = cc
-fault_inside (x ∷ events) s [] place e = cc
-fault_inside (x ∷ events) s (a ∷ answers) place e =
-    let next = inside_next (may_answer s x a) (first_fault (flat_after s x a) events answers) place (length events) (λ k here. fault_inside events (flat_after s x a) answers k here) e in
-    omega (arith, next)
+step_in : (b : Bool) (o p : Option ℕ) (place : ℕ) → ((k : ℕ) → o ≡ Some k → p ≡ Some k) → cond b (option_map (λ k. suc k) o) (Some 0) ≡ Some place → cond b (option_map (λ k. suc k) p) (Some 0) ≡ Some place
+step_in false o p place more e = e
+step_in true None p place more e = cc
+step_in true (Some k) p place more e = ap (option_map (λ n. suc n)) (more k refl) ∙ e
 
--- ---- what a replay finds
+-- the first fault stands, whatever follows
+fault_then : (xs ys : List Event) (xa ya : List Answer) (s : Flat) (place : ℕ) → first_fault s xs xa ≡ Some place → first_fault s (xs ++ ys) (xa ++ ya) ≡ Some place
+fault_then [] ys [] ya s place e = cc
+fault_then [] ys (a ∷ xa) ya s place e = cc
+fault_then (x ∷ xs) ys [] ya s place e = cc
+fault_then (x ∷ xs) ys (a ∷ xa) ya s place e =
+    let after = flat_after s x a in
+    step_in (may_answer s x a) (first_fault after xs xa) (first_fault after (xs ++ ys) (xa ++ ya)) place (λ k here. fault_then xs ys xa ya after k here) e
 
-pub judged_flat : (words : ℕ) (memory after : Flat) (events : List Event) (answers : List Answer) (numbers : List ℕ) (texts : List (List ℕ))
-    → memory ≡ zeros words → flat_run memory events answers ≡ Some after → Holds events answers numbers texts
-    → IsJudged words texts (FlatRun (length events))
-judged_flat words memory after events answers numbers texts opens runs held =
-    let from_zeros : flat_run (zeros words) events answers ≡ Some after = ap (λ m. flat_run m events answers) (sym opens) ∙ runs in
-    let their_events : flat_run (zeros words) (events_in texts) answers ≡ Some after = ap (λ l. flat_run (zeros words) l answers) (sym held.events) ∙ from_zeros in
-    (ap length held.events, (after, ap (flat_run (zeros words) (events_in texts)) (sym held.answers) ∙ their_events))
+no_run_in : (b : Bool) (o : Option ℕ) (place : ℕ) (s : Flat) (f : Flat → Option Flat) → ((k : ℕ) → o ≡ Some k → f s ≡ None) → cond b (option_map (λ k. suc k) o) (Some 0) ≡ Some place → option_and_then f (cond b (Some s) None) ≡ None
+no_run_in false o place s f more e = refl
+no_run_in true None place s f more e = cc
+no_run_in true (Some k) place s f more e = more k refl
 
-pub has_line : (memory : Flat) (events : List Event) (answers : List Answer) (numbers : List ℕ) (texts : List (List ℕ)) (fault : ReplayFault)
-    → FaultIs memory events answers fault → Holds events answers numbers texts → HasLine numbers fault
-has_line memory events answers numbers texts (replay_fault.Mismatch place) found held =
-    omega (arith, fault_inside events memory answers place found.0, ap length held.events, ap length held.numbers, numbers_length 1 texts)
-has_line memory events answers numbers texts replay_fault.Lengths found held = tt
-has_line memory events answers numbers texts replay_fault.OutOfMemory found held = tt
+-- a run with a fault is none
+fault_no_run : (xs : List Event) (xa : List Answer) (s : Flat) (place : ℕ) → first_fault s xs xa ≡ Some place → flat_run s xs xa ≡ None
+fault_no_run [] [] s place e = cc
+fault_no_run [] (a ∷ xa) s place e = cc
+fault_no_run (x ∷ xs) [] s place e = cc
+fault_no_run (x ∷ xs) (a ∷ xa) s place e =
+    let after = flat_after s x a in
+    no_run_in (may_answer s x a) (first_fault after xs xa) place after (λ t. flat_run t xs xa) (λ k here. fault_no_run xs xa after k here) e
+
+no_step : (b : Bool) (t : Flat) → cond b (Some t) None ≡ None → b ≡ false
+no_step false t e = refl
+no_step true t e = cc
+
+end_in : (b : Bool) (s t : Flat) (o : Option ℕ) (f : Flat → Option Flat) (place : ℕ) → option_and_then f (cond b (Some s) None) ≡ Some t → (f s ≡ Some t → o ≡ Some place) → cond b (option_map (λ k. suc k) o) (Some 0) ≡ Some (suc place)
+end_in false s t o f place e here = cc
+end_in true s t o f place e here = ap (option_map (λ n. suc n)) (here e)
+
+-- a step behind a run that is none is the first fault
+fault_at_end : (xs : List Event) (xa : List Answer) (x : Event) (a : Answer) (s t : Flat) → flat_run s xs xa ≡ Some t → flat_step t x a ≡ None → first_fault s (xs ++ x ∷ []) (xa ++ a ∷ []) ≡ Some (length xs)
+fault_at_end [] [] x a s t run none =
+    let here : s ≡ t = cc in
+    let may : may_answer s x a ≡ false = ap (λ m. may_answer m x a) here ∙ no_step (may_answer t x a) (flat_after t x a) none in
+    ap (λ b. cond b (option_map (λ k. suc k) None) (Some 0)) may
+fault_at_end [] (b ∷ xa) x a s t run none = cc
+fault_at_end (y ∷ xs) [] x a s t run none = cc
+fault_at_end (y ∷ xs) (b ∷ xa) x a s t run none =
+    let after = flat_after s y b in
+    let n : suc (length xs) ≡ length (y ∷ xs) = omega arith in
+    end_in (may_answer s y b) after t (first_fault after (xs ++ x ∷ []) (xa ++ a ∷ [])) (λ m. flat_run m xs xa) (length xs) run (λ here. fault_at_end xs xa x a after t here none) ∙ ap Some n
+
+get_more : (ns ms : List ℕ) (place n : ℕ) → slice_get ns place ≡ Some n → slice_get (ns ++ ms) place ≡ Some n
+get_more ns ms place n e =
+    let lt = slice_get_within ns place n e in
+    slice_get-get_or (ns ++ ms) place 0 (omega (arith, lt, length-append ns ms)) ∙ ap Some (get_or_append_left ns ms 0 place lt ∙ get_or_from_slice_get ns place n 0 e)
+
+get_last : (ns : List ℕ) (place n : ℕ) → place ≡ length ns → slice_get (ns ++ n ∷ []) place ≡ Some n
+get_last ns place n e =
+    slice_get-get_or (ns ++ n ∷ []) place 0 (omega (arith, e, length-append ns (n ∷ []))) ∙ ap Some (ap (λ k. get_or (ns ++ n ∷ []) k 0) e ∙ get_or-append_seam ns n [] 0)
+
+-- what a judgement says, over the lists that it speaks of
+abbrev Judged : Flat → List Event → List Answer → List ℕ → ℕ → Option ℕ → Flat → Type 0
+Judged start events answers numbers steps None now = (steps ≡ length events) × (flat_run start events answers ≡ Some now)
+Judged start events answers numbers steps (Some n) now = (steps ≤ length events) × ((place : ℕ) × (first_fault start events answers ≡ Some place) × (slice_get numbers place ≡ Some n))
+
+spread : (start now : Flat) (texts : List (List ℕ)) (steps : ℕ) (o : Option ℕ) → JudgedFrom start texts steps o now → Judged start (events_in texts) (answers_in texts) (numbers_from 1 texts) steps o now
+spread start now texts steps None judged = judged
+spread start now texts steps (Some n) judged = judged
+
+gathered : (start now : Flat) (texts : List (List ℕ)) (steps : ℕ) (o : Option ℕ) → Judged start (events_in texts) (answers_in texts) (numbers_from 1 texts) steps o now → JudgedFrom start texts steps o now
+gathered start now texts steps None judged = judged
+gathered start now texts steps (Some n) judged = judged
+
+-- the lists are these
+judged_of : (start now : Flat) (texts : List (List ℕ)) (steps : ℕ) (o : Option ℕ) (events : List Event) (answers : List Answer) (numbers : List ℕ)
+    → events_in texts ≡ events → answers_in texts ≡ answers → numbers_from 1 texts ≡ numbers → Judged start events answers numbers steps o now → JudgedFrom start texts steps o now
+judged_of start now texts steps o events answers numbers e a n judged =
+    gathered start now texts steps o
+    (subst (λ l. Judged start l (answers_in texts) (numbers_from 1 texts) steps o now) (sym e)
+    (subst (λ l. Judged start events l (numbers_from 1 texts) steps o now) (sym a)
+    (subst (λ l. Judged start events answers l steps o now) (sym n) judged)))
+
+-- one more step
+judges_then : (start now next : Flat) (events : List Event) (answers : List Answer) (numbers : List ℕ) (event : Event) (answer : Answer) (number steps steps' : ℕ) (o o' : Option ℕ)
+    → length numbers ≡ length events → Judged start events answers numbers steps o now → Judges number event answer now steps o next steps' o'
+    → Judged start (events ++ event ∷ []) (answers ++ answer ∷ []) (numbers ++ number ∷ []) steps' o' next
+judges_then start now next events answers numbers event answer number steps steps' (Some m) o' even judged step =
+    subst (λ x. Judged start (events ++ event ∷ []) (answers ++ answer ∷ []) (numbers ++ number ∷ []) steps' x next) (sym step.1)
+    (omega (arith, step.0, judged.0, length-append events (event ∷ [])), (judged.1.0, fault_then events (event ∷ []) answers (answer ∷ []) start judged.1.0 judged.1.1, get_more numbers (number ∷ []) judged.1.0 m judged.1.2))
+judges_then start now next events answers numbers event answer number steps steps' None None even judged step =
+    (omega (arith, step.1, judged.0, length-append events (event ∷ [])), runs_then events (event ∷ []) answers (answer ∷ []) start now next judged.1 (ap (option_and_then (λ t. flat_run t [] [])) step.0))
+judges_then start now next events answers numbers event answer number steps steps' None (Some n) even judged step = (
+  omega (arith, step.1, judged.0, length-append events (event ∷ [])),
+  (
+    length events,
+    fault_at_end events answers event answer start now judged.1 step.0,
+    ap (λ k. slice_get (numbers ++ k ∷ []) (length events)) (sym step.2) ∙ get_last numbers (length events) n (sym even),
+  ),
+)
+
+-- a line that is no step
+pub judged_still : (start now : Flat) (texts : List (List ℕ)) (text : List ℕ) (pair : Pair) (steps : ℕ) (o : Option ℕ)
+    → Ok pair ≡ pair_of text → None ≡ step_with pair.line pair.answer → JudgedFrom start texts steps o now → JudgedFrom start (texts ++ text ∷ []) steps o now
+judged_still start now texts text pair steps o read none judged =
+    let no : step_of (pair_of text) ≡ None = ap step_of (sym read) ∙ sym none in
+    let events : events_in (texts ++ text ∷ []) ≡ events_in texts = events_more texts text ∙ ap (λ s. events_in texts ++ event_of s) no ∙ append-nil (events_in texts) in
+    let answers : answers_in (texts ++ text ∷ []) ≡ answers_in texts = answers_more texts text ∙ ap (λ s. answers_in texts ++ answer_of s) no ∙ append-nil (answers_in texts) in
+    let numbers : numbers_from 1 (texts ++ text ∷ []) ≡ numbers_from 1 texts = numbers_more 1 texts text ∙ ap (λ s. numbers_from 1 texts ++ number_of (1 + length texts) s) no ∙ append-nil (numbers_from 1 texts) in
+    judged_of start now (texts ++ text ∷ []) steps o (events_in texts) (answers_in texts) (numbers_from 1 texts) events answers numbers (spread start now texts steps o judged)
+
+-- a line that is a step
+pub judged_more : (start now : Flat) (texts : List (List ℕ)) (text : List ℕ) (pair : Pair) (step : Step) (number steps : ℕ) (o : Option ℕ) (next : Flat) (steps' : ℕ) (o' : Option ℕ)
+    → Ok pair ≡ pair_of text → Some step ≡ step_with pair.line pair.answer → number ≡ length texts + 1
+    → JudgedFrom start texts steps o now → Judges number step.event step.answer now steps o next steps' o'
+    → JudgedFrom start (texts ++ text ∷ []) steps' o' next
+judged_more start now texts text pair step number steps o next steps' o' read some at judged step_is =
+    let is : step_of (pair_of text) ≡ Some step = ap step_of (sym read) ∙ sym some in
+    let place : 1 + length texts ≡ number = omega (arith, at) in
+    let events : events_in (texts ++ text ∷ []) ≡ events_in texts ++ step.event ∷ [] = events_more texts text ∙ ap (λ s. events_in texts ++ event_of s) is in
+    let answers : answers_in (texts ++ text ∷ []) ≡ answers_in texts ++ step.answer ∷ [] = answers_more texts text ∙ ap (λ s. answers_in texts ++ answer_of s) is in
+    let numbers : numbers_from 1 (texts ++ text ∷ []) ≡ numbers_from 1 texts ++ number ∷ [] = numbers_more 1 texts text ∙ ap (λ s. numbers_from 1 texts ++ number_of (1 + length texts) s) is ∙ ap (λ k. numbers_from 1 texts ++ k ∷ []) place in
+    judged_of start next (texts ++ text ∷ []) steps' o' (events_in texts ++ step.event ∷ []) (answers_in texts ++ step.answer ∷ []) (numbers_from 1 texts ++ number ∷ []) events answers numbers
+    (judges_then start now next (events_in texts) (answers_in texts) (numbers_from 1 texts) step.event step.answer number steps steps' o o' (numbers_length 1 texts) (spread start now texts steps o judged) step_is)
+
+one_event : (o : Option Step) → length (event_of o) ≤ 1
+one_event None = omega arith
+one_event (Some step) = omega arith
+
+events_few : (texts : List (List ℕ)) → length (events_in texts) ≤ length texts
+events_few [] = omega arith
+events_few (t ∷ ts) =
+    let o = step_of (pair_of t) in
+    omega (arith, events_few ts, one_event o, length-append (event_of o) (events_in ts))
+
+-- fewer steps than lines
+pub few_steps : (start now : Flat) (texts : List (List ℕ)) (steps : ℕ) (o : Option ℕ) → JudgedFrom start texts steps o now → steps ≤ length texts
+few_steps start now texts steps None judged = omega (arith, judged.0, events_few texts)
+few_steps start now texts steps (Some n) judged = omega (arith, judged.0, events_few texts)
+
+-- ---- what is answered
+
+pub judged_flat : (words : ℕ) (start now : Flat) (texts : List (List ℕ)) (steps : ℕ) (o : Option ℕ) → start ≡ zeros words → JudgedFrom start texts steps o now → o ≡ None → IsJudged words texts (FlatRun steps)
+judged_flat words start now texts steps None opens judged is = (judged.0, (now, ap (λ m. flat_run m (events_in texts) (answers_in texts)) (sym opens) ∙ judged.1))
+judged_flat words start now texts steps (Some n) opens judged is = cc
+
+pub judged_mismatch : (words : ℕ) (start now : Flat) (texts : List (List ℕ)) (steps n : ℕ) (o : Option ℕ) → start ≡ zeros words → JudgedFrom start texts steps o now → o ≡ Some n → IsJudged words texts (Mismatch n)
+judged_mismatch words start now texts steps n None opens judged is = cc
+judged_mismatch words start now texts steps n (Some m) opens judged is =
+    let fault : first_fault (zeros words) (events_in texts) (answers_in texts) ≡ Some judged.1.0 = ap (λ x. first_fault x (events_in texts) (answers_in texts)) (sym opens) ∙ judged.1.1 in
+    (fault_no_run (events_in texts) (answers_in texts) (zeros words) judged.1.0 fault, (judged.1.0, fault, judged.1.2 ∙ is))

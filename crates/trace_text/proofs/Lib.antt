@@ -2,11 +2,10 @@ pub mod Ranges
 pub mod Numbers
 pub mod Words
 pub mod Serving
-pub mod Faults
+pub mod Readings
 pub mod Ends
 pub mod Unique
 pub mod Arrows
-pub mod Readings
 pub mod Held
 pub mod Cuts
 pub mod Written

@@ -1,16 +1,48 @@
 -- How a reading goes on and ends.
-use Rattle.std.proofs.Common.{◌≡◌, ℕ, ◌+◌, ◌-◌, ◌<◌, ◌≤◌, ◌⊎◌, Option, Some, None, List, [], ◌∷◌, ◌++◌, length, take, drop, get_or-take, length-take, length-drop, length-append, append-nil, append_assoc, refl, sym, ◌∙◌, ap, subst, arith, inl, inr}
+use Rattle.std.proofs.Common.{◌≡◌, ◌≢◌, ℕ, ◌+◌, ◌-◌, ◌<◌, ◌≤◌, ◌⊎◌, Option, Some, None, List, [], ◌∷◌, ◌++◌, length, take, drop, get_or, get_or-take, drop-cons, add-one, take-append-drop, length-take, length-drop, length-append, append-nil, append_assoc, refl, sym, ◌∙◌, ap, subst, arith, inl, inr, Ok, Err}
+use Rattle.std.proofs.Math.Seq.{take-append-add}
+use Rattle.std.proofs.lemmas.List.{take-append-le}
 use Rattle.trace_text.specs.Lines.{IsSaid}
 use Rattle.trace_text.specs.declared.lines.LineFault.{LineFault}
 use Rattle.trace_text.specs.declared.lines.LineFault.TheVariants.{Unknown, Field, TooLong, NotEnded}
 use Rattle.trace_text.specs.declared.reading.Uncollected.TheVariants as miss
-use Rattle.trace_text.specs.declared.serve.TraceFault.{TraceFault}
-use Rattle.trace_text.specs.declared.serve.TraceFault.TheVariants as fault
-use Rattle.trace_text.specs.Serving.{HasNoEnd, Came, Moves}
-use Rattle.trace_text.specs.Faults.{BegunFault}
-use Rattle.trace_text.specs.Reading.{joined_texts, IsGood, Good, BeginsFaulty, Misses, Faulty, ReadStops, Collected, AllCollected, Reading, IsFound}
+use Rattle.trace_text.specs.declared.reading.Stop.{Stop}
+use Rattle.trace_text.specs.declared.reading.Stop.TheVariants.{Fault, Halted}
+use Rattle.trace_text.specs.declared.fault.TraceFault.{TraceFault}
+use Rattle.trace_text.specs.declared.fault.TraceFault.TheVariants as fault
+use Rattle.trace_text.specs.Streams.{HasNoEnd, Came}
+use Rattle.trace_text.specs.Reading.{joined_texts, IsGood, Good, BeginsFaulty, ReadSoFar, ReadInto, ReadStops}
+use Rattle.trace_text.specs.Collecting.{Misses, Reads, Collected, AllCollected, Misread, Reading, Filled, BegunFault, AfterPause}
 use Rattle.trace_text.proofs.Serving.{moved_none, moved_more, all_then}
-use Rattle.trace_text.proofs.Faults.{IsEnd, line_split, front_has_none}
+
+-- ---- the first LF
+
+-- the first LF of these bytes is here
+abbrev pub IsEnd : List ℕ → ℕ → Type 0
+IsEnd rest at = (at < length rest) × (get_or rest at 0 ≡ 10) × ((k : ℕ) → k < at → get_or rest k 0 ≢ 10)
+
+cut : (rest : List ℕ) (at : ℕ) → IsEnd rest at → drop at rest ≡ 10 ∷ drop (at + 1) rest
+cut rest at h = let lt : at < length rest = h.0 in rw (add-one, drop-cons rest at 0, h.1) refl
+
+line_split : (rest : List ℕ) (at : ℕ) → IsEnd rest at → rest ≡ take at rest ++ (10 ∷ drop (at + 1) rest)
+line_split rest at h = sym (take-append-drop at rest) ∙ ap (λ l. take at rest ++ l) (cut rest at h)
+
+none_in_front : (rest : List ℕ) (at n : ℕ) → IsEnd rest at → n ≤ at → HasNoEnd (take n rest)
+none_in_front rest at n h le k lt e =
+    let below : k < n = omega (arith, length-take n rest) in
+    h.2 k (omega arith) (sym (get_or-take n rest k 0 below) ∙ e)
+
+front_has_none : (rest : List ℕ) (at : ℕ) → IsEnd rest at → HasNoEnd (take at rest)
+front_has_none rest at h = none_in_front rest at at h (omega arith)
+
+-- the line before the first LF
+good_front : (f : List ℕ → Option LineFault) (most : ℕ) (rest text : List ℕ) (at : ℕ) → IsEnd rest at → at ≤ most → text ≡ take at rest → f text ≡ None → IsGood f most text
+good_front f most rest text at h short same none =
+    (omega (arith, ap length same, length-take at rest), subst HasNoEnd (sym same) (front_has_none rest at h), none)
+
+whole_line : (rest text rest' : List ℕ) (at : ℕ) → IsEnd rest at → text ≡ take at rest → rest' ≡ drop (at + 1) rest → rest ≡ text ++ (10 ∷ rest')
+whole_line rest text rest' at h same behind =
+    line_split rest at h ∙ ap (λ l. take at rest ++ (10 ∷ l)) (sym behind) ∙ ap (λ l. l ++ (10 ∷ rest')) (sym same)
 
 -- ---- good lines
 
@@ -36,51 +68,51 @@ good_one : {f : List ℕ → Option LineFault} {most : ℕ} (text rest bytes : L
     → IsGood f most text → bytes ≡ text ++ (10 ∷ rest) → Good f most bytes (text ∷ []) rest
 good_one text rest bytes good e = record { each = (good, tt); split = e ∙ sym (append_assoc text (10 ∷ []) rest) }
 
--- ---- collected lines
+-- ---- lines that were taken
 
-pub collected_none : {C : Type 0} {f : List ℕ → Option LineFault} {holds : C → List (List ℕ) → Type 0} {most : ℕ} (c : C) (n : ℕ) (bytes : List ℕ)
-    → n ≤ 16777216 → Collected f holds most c n bytes bytes c n
-collected_none {holds = holds} c n bytes le = record {
+pub collected_none : {C : Type 0} {f : List ℕ → Option LineFault} {went : C → List (List ℕ) → C → Type 0} {most : ℕ} (c : C) (n : ℕ) (bytes : List ℕ)
+    → n ≤ 16777216 → Collected f went most c n bytes bytes c n
+collected_none {went = went} c n bytes le = record {
   texts = [];
   good = record { each = tt; split = refl };
   number = omega arith;
   within = le;
-  kept = λ front e h. subst (holds c) (sym (append-nil front)) h;
+  kept = λ start front e h. subst (λ l. went start l c) (sym (append-nil front)) h;
 }
 
-pub collected_then : {C : Type 0} {f : List ℕ → Option LineFault} {holds : C → List (List ℕ) → Type 0} {most : ℕ} {c d e : C} {n m k : ℕ} {xs ys zs : List ℕ}
-    → Collected f holds most c n xs ys d m → Collected f holds most d m ys zs e k → Collected f holds most c n xs zs e k
-collected_then {holds = holds} {e = e} {m = m} p q = record {
+collected_then : {C : Type 0} {f : List ℕ → Option LineFault} {went : C → List (List ℕ) → C → Type 0} {most : ℕ} {c d e : C} {n m k : ℕ} {xs ys zs : List ℕ}
+    → Collected f went most c n xs ys d m → Collected f went most d m ys zs e k → Collected f went most c n xs zs e k
+collected_then {went = went} {e = e} {m = m} p q = record {
   texts = p.texts ++ q.texts;
   good = good_then p.good q.good;
   number = omega (arith, p.number, q.number, length-append p.texts q.texts);
   within = q.within;
-  kept = λ front at h.
+  kept = λ start front at h.
       let len : length (front ++ p.texts) ≡ m = omega (arith, at, p.number, length-append front p.texts) in
-      subst (holds e) (append_assoc front p.texts q.texts) (q.kept (front ++ p.texts) len (p.kept front at h));
+      subst (λ l. went start l e) (append_assoc front p.texts q.texts) (q.kept start (front ++ p.texts) len (p.kept start front at h));
 }
 
-collected_more : {C : Type 0} {f : List ℕ → Option LineFault} {holds : C → List (List ℕ) → Type 0} {most : ℕ} {c d : C} {n m : ℕ} {xs ys : List ℕ} (more : List ℕ)
-    → Collected f holds most c n xs ys d m → Collected f holds most c n (xs ++ more) (ys ++ more) d m
-collected_more more p = record { texts = p.texts; good = good_more more p.good; number = p.number; within = p.within; kept = p.kept }
-
-pub collected_line : {C : Type 0} {f : List ℕ → Option LineFault} {holds : C → List (List ℕ) → Type 0} {most : ℕ} {c d e : C} {n m : ℕ} {bytes rest text : List ℕ} (at : ℕ) (rest' : List ℕ)
-    → Collected f holds most c n bytes rest d m → IsEnd rest at → at ≤ most → text ≡ take at rest → f text ≡ None
-    → ((texts : List (List ℕ)) → m + 1 ≡ length texts + 1 → holds d texts → holds e (texts ++ text ∷ []))
-    → m < 16777216 → rest' ≡ drop (at + 1) rest → Collected f holds most c n bytes rest' e (m + 1)
+pub collected_line : {C : Type 0} {f : List ℕ → Option LineFault} {went : C → List (List ℕ) → C → Type 0} {most : ℕ} {c d e : C} {n m : ℕ} {bytes rest text : List ℕ} (at : ℕ) (rest' : List ℕ)
+    → Collected f went most c n bytes rest d m → IsEnd rest at → at ≤ most → text ≡ take at rest → f text ≡ None
+    → ((start : C) (texts : List (List ℕ)) → m + 1 ≡ length texts + 1 → went start texts d → went start (texts ++ text ∷ []) e)
+    → m < 16777216 → rest' ≡ drop (at + 1) rest → Collected f went most c n bytes rest' e (m + 1)
 collected_line {f = f} {most = most} {m = m} {rest = rest} {text = text} at rest' p h short same none kept lt behind =
-    let good : IsGood f most text = (omega (arith, ap length same, length-take at rest), subst HasNoEnd (sym same) (front_has_none rest at h), none) in
-    let whole : rest ≡ text ++ (10 ∷ rest') =
-    line_split rest at h ∙ ap (λ l. take at rest ++ (10 ∷ l)) (sym behind) ∙ ap (λ l. l ++ (10 ∷ rest')) (sym same) in
+    let good : IsGood f most text = good_front f most rest text at h short same none in
     collected_then p (record {
       texts = text ∷ [];
-      good = good_one text rest' rest good whole;
+      good = good_one text rest' rest good (whole_line rest text rest' at h same behind);
       number = refl;
       within = omega arith;
-      kept = λ front len held. kept front (omega (arith, len)) held;
+      kept = λ start front len held. kept start front (omega (arith, len)) held;
     })
 
--- ---- faults
+-- lines were taken, from a state that took others before
+pub taken_so_far : {C : Type 0} {f : List ℕ → Option LineFault} {went : C → List (List ℕ) → C → Type 0} {most : ℕ} {c d : C} {n m : ℕ} {bytes rest : List ℕ}
+    → (start : C) × (texts : List (List ℕ)) × went start texts c × (n ≡ length texts) → Collected f went most c n bytes rest d m
+    → (start : C) × (texts : List (List ℕ)) × went start texts d × (m + 1 ≡ length texts + 1)
+taken_so_far p q = (p.0, p.1 ++ q.texts, q.kept p.0 p.1 (sym p.3) p.2, omega (arith, p.3, q.number, length-append p.1 q.texts))
+
+-- ---- a line at which the reading stops
 
 begins_said : (f : List ℕ → Option LineFault) (most : ℕ) (rest : List ℕ) (at : ℕ) (e : LineFault) → IsEnd rest at → at ≤ most → f (take at rest) ≡ Some e → IsSaid e → BeginsFaulty f most rest e
 begins_said f most rest at Unknown h short said is = (take at rest, drop (at + 1) rest, line_split rest at h, omega (arith, length-take at rest), front_has_none rest at h, said)
@@ -88,109 +120,216 @@ begins_said f most rest at Field h short said is = (take at rest, drop (at + 1) 
 begins_said f most rest at TooLong h short said is = absurd is
 begins_said f most rest at NotEnded h short said is = absurd is
 
-pub faulty_said : {C : Type 0} {f : List ℕ → Option LineFault} {holds : C → List (List ℕ) → Type 0} {most : ℕ} {c d : C} {n m : ℕ} {bytes rest text : List ℕ} (at : ℕ) (e : LineFault)
-    → Collected f holds most c n bytes rest d m → IsEnd rest at → at ≤ most → text ≡ take at rest → Misses (f text) (miss.Fault e) → m < 16777216
-    → Faulty f most n bytes (fault.Line (m + 1) e)
-faulty_said {f = f} {most = most} {rest = rest} at e p h short same missed room =
-    (p.texts, rest, p.good, omega (arith, p.number), omega (arith, p.number, room), begins_said f most rest at e h short (ap f (sym same) ∙ missed.0) missed.1)
+pub misread_said : {C : Type 0} {f : List ℕ → Option LineFault} {went : C → List (List ℕ) → C → Type 0} (stopped : C → List ℕ → C → Type 0) {most : ℕ} {c d d' : C} {n m : ℕ} {bytes rest text : List ℕ} (at : ℕ) (e : LineFault)
+    → Collected f went most c n bytes rest d m → IsEnd rest at → at ≤ most → text ≡ take at rest → Misses stopped (f text) d text d' (miss.Fault e) → m < 16777216
+    → Misread f went stopped most c n bytes d' (Fault (fault.Line (m + 1) e))
+misread_said {f = f} {went = went} stopped {most = most} {c = c} {n = n} {m = m} {bytes = bytes} {rest = rest} at e p h short same missed room =
+    (rest, m, subst (λ x. Collected f went most c n bytes rest x m) (sym missed.2) p, refl, room, begins_said f most rest at e h short (ap f (sym same) ∙ missed.0) missed.1)
+
+pub misread_long : {C : Type 0} {f : List ℕ → Option LineFault} {went : C → List (List ℕ) → C → Type 0} (stopped : C → List ℕ → C → Type 0) {most : ℕ} {c d : C} {n m : ℕ} {bytes rest : List ℕ} (at : ℕ)
+    → Collected f went most c n bytes rest d m → IsEnd rest at → most < at → m < 16777216
+    → Misread f went stopped most c n bytes d (Fault (fault.Line (m + 1) TooLong))
+misread_long stopped {most = most} {m = m} {rest = rest} at p h long room =
+    (rest, m, p, refl, room, (omega (arith, h.0), none_in_front rest at (most + 1) h (omega arith)))
+
+pub misread_halted : {C : Type 0} {f : List ℕ → Option LineFault} {went : C → List (List ℕ) → C → Type 0} (stopped : C → List ℕ → C → Type 0) {most : ℕ} {c d d' : C} {n m : ℕ} {bytes rest text : List ℕ} (at : ℕ)
+    → Collected f went most c n bytes rest d m → IsEnd rest at → at ≤ most → text ≡ take at rest → Misses stopped (f text) d text d' miss.Halted → m < 16777216
+    → Misread f went stopped most c n bytes d' Halted
+misread_halted {f = f} stopped {most = most} {d = d} {m = m} {rest = rest} {text = text} at p h short same missed room =
+    (rest, m, d, p, room, (text, drop (at + 1) rest, whole_line rest text (drop (at + 1) rest) at h same refl, good_front f most rest text at h short same missed.0, missed.1))
 
 -- ---- pieces
 
-pub reading_start : {R C : Type 0} {gave : R → List ℕ → R → Type 0} {f : List ℕ → Option LineFault} {holds : C → List (List ℕ) → Type 0} {most : ℕ} (r : R) (c : C)
-    → Reading gave f holds most r c [] r c 0
-reading_start r c = record {
-  bytes = [];
-  read = moved_none r;
-  collected = collected_none c 0 [] (omega arith);
-  short = omega arith;
-  unfinished = λ k lt e. omega arith;
-  room = λ some. omega arith;
+pub filled_by : {R : Type 0} {gave : R → List ℕ → R → Type 0} {r r' : R} (old buf post : List ℕ) (filled given : ℕ)
+    → gave r (take given buf) r' → filled < length old → given ≤ length buf → length buf ≡ length old - filled
+    → Filled gave r r' old (take filled old ++ (buf ++ post)) filled given
+filled_by old buf post filled given gives lt le len =
+    let front : length (take filled old) ≡ filled = omega (arith, length-take filled old) in
+    record {
+      bytes = take given buf;
+      gives = gives;
+      count = omega (arith, length-take given buf);
+      within = omega arith;
+      front = ap (λ n. take (n + given) (take filled old ++ (buf ++ post))) (sym front)
+          ∙ take-append-add (take filled old) (buf ++ post) given
+          ∙ ap (λ l. take filled old ++ l) (take-append-le given buf post le);
+    }
+
+pub reading_start : {R C : Type 0} {gave : R → List ℕ → R → Type 0} {f : List ℕ → Option LineFault} {went : C → List (List ℕ) → C → Type 0} {most : ℕ} (r : R) (c : C)
+    → went c [] c → Reading gave f went most r c [] r c 0
+reading_start r c none = record {
+  texts = [];
+  so_far = record {
+    bytes = [];
+    read = moved_none r;
+    good = record { each = tt; split = refl };
+    short = omega arith;
+    unfinished = λ k lt e. omega arith;
+    within = omega arith;
+    room = λ some. omega arith;
+  };
+  took = none;
+  number = refl;
 }
 
--- the next piece came, and its whole lines were collected
-pub collected_on : {C : Type 0} {f : List ℕ → Option LineFault} {holds : C → List (List ℕ) → Type 0} {most : ℕ} {c d e : C} {n m left : ℕ} {bytes pending : List ℕ} (more whole rest : List ℕ)
-    → Collected f holds most c 0 bytes pending d n → whole ≡ pending ++ more
-    → AllCollected f holds most d n whole left e m → rest ≡ drop (length whole - left) whole
-    → Collected f holds most c 0 (bytes ++ more) rest e m
-collected_on {f = f} {holds = holds} {most = most} {d = d} {e = e} {n = n} {m = m} more whole rest p same all at_end =
-    let behind : Collected f holds most d n whole rest e m = subst (λ l. Collected f holds most d n whole l e m) (sym at_end) all.collected in
-    collected_then (collected_more more p) (subst (λ l. Collected f holds most d n l rest e m) same behind)
+-- a pause
+pub reading_still : {R C : Type 0} {gave : R → List ℕ → R → Type 0} {f : List ℕ → Option LineFault} {went : C → List (List ℕ) → C → Type 0} {most : ℕ} {r r' : R} {c d e : C} {n : ℕ} {pending : List ℕ}
+    → Reading gave f went most r c pending r' d n → ((start : C) (texts : List (List ℕ)) → went start texts d → went start texts e)
+    → Reading gave f went most r c pending r' e n
+reading_still {c = c} p kept = record { texts = p.texts; so_far = p.so_far; took = kept c p.texts p.took; number = p.number }
 
-pub reading_on : {R C : Type 0} {gave : R → List ℕ → R → Type 0} {f : List ℕ → Option LineFault} {holds : C → List (List ℕ) → Type 0} {most : ℕ} {r r' r'' : R} {c d e : C} {n m left : ℕ} {pending : List ℕ} (more whole rest : List ℕ)
-    → Reading gave f holds most r c pending r' d n → Came gave r' more r'' → whole ≡ pending ++ more
-    → AllCollected f holds most d n whole left e m → rest ≡ drop (length whole - left) whole → length rest ≤ most → (0 < length rest → m < 16777216)
-    → Reading gave f holds most r c rest r'' e m
-reading_on more whole rest p gives same all at_end short room = record {
-  bytes = p.bytes ++ more;
-  read = moved_more p.read gives;
-  collected = collected_on more whole rest p.collected same all at_end;
-  short = short;
-  unfinished = subst HasNoEnd (sym at_end) all.unfinished;
-  room = room;
-}
+-- the next piece came, and of its lines the first were taken
+pub record ReadOn {R C : Type 0} (gave : R → List ℕ → R → Type 0) (f : List ℕ → Option LineFault) (went : C → List (List ℕ) → C → Type 0) (most : ℕ) (r : R) (c : C) (r' : R) (rest : List ℕ) (e : C) (count : ℕ) : Type 0 where
+  pub texts : List (List ℕ)
+  pub into : ReadInto gave f most r r' texts rest
+  pub took : went c texts e
+  pub number : count ≡ length texts
+
+pub read_on : {R C : Type 0} {gave : R → List ℕ → R → Type 0} {f : List ℕ → Option LineFault} {went : C → List (List ℕ) → C → Type 0} {most : ℕ} {r r' r'' : R} {c d e : C} {n m : ℕ} {pending rest : List ℕ} (more whole : List ℕ)
+    → Reading gave f went most r c pending r' d n → Came gave r' more r'' → whole ≡ pending ++ more
+    → Collected f went most d n whole rest e m → ReadOn gave f went most r c r'' rest e m
+read_on {f = f} {most = most} {r' = r'} {c = c} {m = m} {pending = pending} {rest = rest} more whole p gives same q =
+    let number : m ≡ length (p.texts ++ q.texts) = omega (arith, p.number, q.number, length-append p.texts q.texts) in
+    record {
+      texts = p.texts ++ q.texts;
+      into = record {
+        before = p.texts;
+        pending = pending;
+        last = r';
+        so_far = p.so_far;
+        piece = more;
+        gives = gives;
+        good = good_then (good_more more p.so_far.good) (subst (λ l. Good f most l q.texts rest) same q.good);
+        within = omega (arith, number, q.within);
+      };
+      took = q.kept c p.texts (sym p.number) p.took;
+      number = number;
+    }
+
+pub reading_on : {R C : Type 0} {gave : R → List ℕ → R → Type 0} {f : List ℕ → Option LineFault} {went : C → List (List ℕ) → C → Type 0} {most : ℕ} {r r' r'' : R} {c d e : C} {n m left : ℕ} {pending : List ℕ} (more whole rest : List ℕ)
+    → Reading gave f went most r c pending r' d n → Came gave r' more r'' → whole ≡ pending ++ more
+    → AllCollected f went most d n whole left e m → rest ≡ drop (length whole - left) whole → length rest ≤ most → (0 < length rest → m < 16777216)
+    → Reading gave f went most r c rest r'' e m
+reading_on {f = f} {went = went} {most = most} {c = c} {d = d} {e = e} {n = n} {m = m} more whole rest p gives same all at_end short room =
+    let q : Collected f went most d n whole rest e m = subst (λ l. Collected f went most d n whole l e m) (sym at_end) all.collected in
+    let number : m ≡ length (p.texts ++ q.texts) = omega (arith, p.number, q.number, length-append p.texts q.texts) in
+    record {
+      texts = p.texts ++ q.texts;
+      so_far = record {
+        bytes = p.so_far.bytes ++ more;
+        read = moved_more p.so_far.read gives;
+        good = good_then (good_more more p.so_far.good) (subst (λ l. Good f most l q.texts rest) same q.good);
+        short = short;
+        unfinished = subst HasNoEnd (sym at_end) all.unfinished;
+        within = omega (arith, number, q.within);
+        room = λ some. omega (arith, room some, number);
+      };
+      took = q.kept c p.texts (sym p.number) p.took;
+      number = number;
+    }
 
 progress : (texts : List (List ℕ)) (bytes rest : List ℕ) → bytes ≡ joined_texts texts ++ rest → (0 < length texts) ⊎ (length bytes ≡ length rest)
 progress [] bytes rest e = inr (ap length e)
 progress (t ∷ ts) bytes rest e = inl (omega arith)
 
--- more lines have been collected, or no whole line was there
-pub all_progress : {C : Type 0} {f : List ℕ → Option LineFault} {holds : C → List (List ℕ) → Type 0} {most : ℕ} {c d : C} {n m left : ℕ} {bytes : List ℕ}
-    → AllCollected f holds most c n bytes left d m → (n < m) ⊎ (left ≡ length bytes)
+-- more lines have been taken, or no whole line was there
+pub all_progress : {C : Type 0} {f : List ℕ → Option LineFault} {went : C → List (List ℕ) → C → Type 0} {most : ℕ} {c d : C} {n m left : ℕ} {bytes : List ℕ}
+    → AllCollected f went most c n bytes left d m → (n < m) ⊎ (left ≡ length bytes)
 all_progress {left = left} {bytes = bytes} p =
     elim (progress p.collected.texts bytes _ p.collected.good.split) [
       | inl h ↦ inl (omega (arith, p.collected.number, h))
       | inr h ↦ inr (omega (arith, h, p.enough, length-drop (length bytes - left) bytes))
     ]
 
--- a fault in the lines of a piece is a fault of the whole text
-pub faulty_then : {C : Type 0} {f : List ℕ → Option LineFault} {holds : C → List (List ℕ) → Type 0} {most : ℕ} {c d : C} {n : ℕ} {bytes pending : List ℕ} (more : List ℕ) (e : TraceFault)
-    → Collected f holds most c 0 bytes pending d n → Faulty f most n (pending ++ more) e → Faulty f most 0 (bytes ++ more) e
-faulty_then more (fault.Line number e) p q =
-    let both = length-append p.texts q.0 in
-    (p.texts ++ q.0, q.1, good_then (good_more more p.good) q.2, omega (arith, p.number, q.3, both), omega (arith, p.number, q.4, both), q.5)
-faulty_then more fault.TooManyLines p q =
-    (p.texts ++ q.0, q.1, good_then (good_more more p.good) q.2, omega (arith, p.number, q.3, length-append p.texts q.0), q.4)
-faulty_then more fault.OutOfMemory p q = tt
-faulty_then more fault.Read p q = absurd q
-faulty_then more fault.Write p q = absurd q
-
--- the fault of a line that began, whatever comes behind it
-pub faulty_begun : {C : Type 0} {f : List ℕ → Option LineFault} {holds : C → List (List ℕ) → Type 0} {most : ℕ} {c d : C} {n m : ℕ} {bytes rest : List ℕ} (left : ℕ) (e : TraceFault)
-    → Collected f holds most c n bytes rest d m → HasNoEnd rest → left ≡ length rest → BegunFault m left most e
-    → IsFound e × Faulty f most n bytes e
-faulty_begun {rest = rest} left fault.TooManyLines p none same h = (tt, (p.texts, rest, p.good, omega (arith, p.number, h.0), omega (arith, same, h.1)))
-faulty_begun {most = most} {rest = rest} left (fault.Line number TooLong) p none same h = (
-  tt,
-  (
-    p.texts,
-    rest,
-    p.good,
-    omega (arith, p.number, h.0),
-    omega (arith, p.number, h.1),
-    (
-      omega (arith, same, h.2),
-      λ k lt e.
-          let below : k < most + 1 = omega (arith, lt, length-take (most + 1) rest) in
-          none k (omega (arith, same, h.2)) (sym (get_or-take (most + 1) rest k 0 below) ∙ e),
-    ),
-  ),
-)
-faulty_begun left (fault.Line number Unknown) p none same h = absurd h
-faulty_begun left (fault.Line number Field) p none same h = absurd h
-faulty_begun left (fault.Line number NotEnded) p none same h = absurd h
-faulty_begun left fault.Read p none same h = absurd h
-faulty_begun left fault.Write p none same h = absurd h
-faulty_begun left fault.OutOfMemory p none same h = absurd h
-
 -- ---- ends
 
-pub stops_found : {R : Type 0} {gave : R → List ℕ → R → Type 0} (failed : R → R → Type 0) (f : List ℕ → Option LineFault) (most : ℕ) {r r' : R} {bytes : List ℕ} (e : TraceFault)
-    → IsFound e → Moves (Came gave) r bytes r' → Faulty f most 0 bytes e → ReadStops gave failed f most r r' e
-stops_found failed f most {bytes = bytes} (fault.Line n Unknown) is p q = (bytes, p, q)
-stops_found failed f most {bytes = bytes} (fault.Line n Field) is p q = (bytes, p, q)
-stops_found failed f most {bytes = bytes} (fault.Line n TooLong) is p q = (bytes, p, q)
-stops_found failed f most (fault.Line n NotEnded) is p q = absurd is
-stops_found failed f most {bytes = bytes} fault.TooManyLines is p q = (bytes, p, q)
-stops_found failed f most fault.OutOfMemory is p q = tt
-stops_found failed f most fault.Read is p q = absurd is
-stops_found failed f most fault.Write is p q = absurd is
+-- the fault of a line that began, whatever comes behind it
+pub misread_begun : {C : Type 0} {f : List ℕ → Option LineFault} {went : C → List (List ℕ) → C → Type 0} (stopped : C → List ℕ → C → Type 0) {most : ℕ} {c d : C} {n m : ℕ} {bytes rest : List ℕ} (left : ℕ) (e : TraceFault)
+    → Collected f went most c n bytes rest d m → HasNoEnd rest → left ≡ length rest → BegunFault m left most e
+    → Misread f went stopped most c n bytes d (Fault e)
+misread_begun stopped {m = m} {rest = rest} left fault.TooManyLines p none same h = (rest, m, p, h.0, omega (arith, same, h.1))
+misread_begun stopped {most = most} {m = m} {rest = rest} left (fault.Line number TooLong) p none same h = (
+  rest,
+  m,
+  p,
+  h.0,
+  h.1,
+  (
+    omega (arith, same, h.2),
+    λ k lt e.
+        let below : k < most + 1 = omega (arith, lt, length-take (most + 1) rest) in
+        none k (omega (arith, same, h.2)) (sym (get_or-take (most + 1) rest k 0 below) ∙ e),
+  ),
+)
+misread_begun stopped left (fault.Line number Unknown) p none same h = absurd h
+misread_begun stopped left (fault.Line number Field) p none same h = absurd h
+misread_begun stopped left (fault.Line number NotEnded) p none same h = absurd h
+misread_begun stopped left fault.Read p none same h = absurd h
+misread_begun stopped left fault.Write p none same h = absurd h
+misread_begun stopped left fault.OutOfMemory p none same h = absurd h
+
+-- a fault of what was read, told after a pause
+told_after : {R C : Type 0} {gave : R → List ℕ → R → Type 0} {f : List ℕ → Option LineFault} {went : C → List (List ℕ) → C → Type 0} (failed : R → R → Type 0) (stopped : C → List ℕ → C → Type 0) (paused unpaused : C → C → Type 0) {most : ℕ} {r r' : R} {c x : C} (c' : C) {rest : List ℕ} {k : ℕ} (e : TraceFault) (stop : Stop)
+    → (on : ReadOn gave f went most r c r' rest x k) → ReadStops gave failed f most r r' on.texts e → AfterPause paused unpaused x c' e stop
+    → Reads gave failed f went stopped paused unpaused most r r' c c' (Err stop)
+told_after {gave = gave} {f = f} failed stopped paused unpaused {most = most} {r = r} {r' = r'} {x = x} c' e (Fault g) on stops after =
+    (on.texts, x, subst (ReadStops gave failed f most r r' on.texts) (sym after.0) stops, on.took, after.1)
+told_after failed stopped paused unpaused {x = x} c' {rest = rest} e Halted on stops after = (on.texts, rest, x, on.took, inr (on.into, inl after))
+
+line_stops : {R C : Type 0} {gave : R → List ℕ → R → Type 0} (failed : R → R → Type 0) {f : List ℕ → Option LineFault} {went : C → List (List ℕ) → C → Type 0} {most : ℕ} {r r' : R} {c x : C} {rest : List ℕ} {k : ℕ} (n : ℕ) (e : LineFault)
+    → (on : ReadOn gave f went most r c r' rest x k) → n ≡ k + 1 → k < 16777216 → BeginsFaulty f most rest e → ReadStops gave failed f most r r' on.texts (fault.Line n e)
+line_stops failed {rest = rest} n Unknown on is lt begins = (rest, on.into, omega (arith, is, on.number), omega (arith, lt, on.number), begins)
+line_stops failed {rest = rest} n Field on is lt begins = (rest, on.into, omega (arith, is, on.number), omega (arith, lt, on.number), begins)
+line_stops failed {rest = rest} n TooLong on is lt begins = (rest, on.into, omega (arith, is, on.number), omega (arith, lt, on.number), begins)
+line_stops failed n NotEnded on is lt begins = absurd begins
+
+-- a fault in the piece that came last, told after a pause
+pub reads_fault : {R C : Type 0} {gave : R → List ℕ → R → Type 0} {f : List ℕ → Option LineFault} {went : C → List (List ℕ) → C → Type 0} (failed : R → R → Type 0) (stopped : C → List ℕ → C → Type 0) (paused unpaused : C → C → Type 0) {most : ℕ} {r r' r'' : R} {c d : C} (x c' : C) {n : ℕ} {pending : List ℕ} (more whole : List ℕ) (e : TraceFault) (stop : Stop)
+    → Reading gave f went most r c pending r' d n → Came gave r' more r'' → whole ≡ pending ++ more
+    → Misread f went stopped most d n whole x (Fault e) → AfterPause paused unpaused x c' e stop
+    → Reads gave failed f went stopped paused unpaused most r r'' c c' (Err stop)
+reads_fault {gave = gave} failed stopped paused unpaused {r = r} x c' more whole (fault.Line number e) stop p gives same q after =
+    let on = read_on {gave = gave} {r = r} more whole p gives same q.2 in
+    told_after failed stopped paused unpaused c' (fault.Line number e) stop on (line_stops failed number e on q.3 q.4 q.5) after
+reads_fault {gave = gave} failed stopped paused unpaused {r = r} x c' more whole fault.TooManyLines stop p gives same q after =
+    let on = read_on {gave = gave} {r = r} more whole p gives same q.2 in
+    told_after failed stopped paused unpaused c' fault.TooManyLines stop on (q.0, on.into, omega (arith, q.3, on.number), q.4) after
+reads_fault failed stopped paused unpaused x c' more whole fault.Read stop p gives same q after = absurd q
+reads_fault failed stopped paused unpaused x c' more whole fault.Write stop p gives same q after = absurd q
+reads_fault failed stopped paused unpaused x c' more whole fault.OutOfMemory stop p gives same q after = absurd q
+
+-- the collector stopped at a line
+pub reads_halted : {R C : Type 0} {gave : R → List ℕ → R → Type 0} {f : List ℕ → Option LineFault} {went : C → List (List ℕ) → C → Type 0} (failed : R → R → Type 0) (stopped : C → List ℕ → C → Type 0) (paused unpaused : C → C → Type 0) {most : ℕ} {r r' r'' : R} {c d : C} (x : C) {n : ℕ} {pending : List ℕ} (more whole : List ℕ)
+    → Reading gave f went most r c pending r' d n → Came gave r' more r'' → whole ≡ pending ++ more
+    → Misread f went stopped most d n whole x Halted → Reads gave failed f went stopped paused unpaused most r r'' c x (Err Halted)
+reads_halted {gave = gave} failed stopped paused unpaused {r = r} x more whole p gives same q =
+    let on = read_on {gave = gave} {r = r} more whole p gives same q.3 in
+    (on.texts, q.0, q.2, on.took, inr (on.into, inr (omega (arith, q.4, on.number), q.5)))
+
+none_of : (xs : List ℕ) → length xs ≡ 0 → [] ≡ xs
+none_of [] e = refl
+none_of (x ∷ xs) e = absurd (omega arith)
+
+-- the reader told its end, behind a whole line
+pub reads_done : {R C : Type 0} {gave : R → List ℕ → R → Type 0} {f : List ℕ → Option LineFault} {went : C → List (List ℕ) → C → Type 0} (failed : R → R → Type 0) (stopped : C → List ℕ → C → Type 0) (paused unpaused : C → C → Type 0) {most : ℕ} {r r' r'' : R} {c d : C} (c' : C) {n : ℕ} {pending bs : List ℕ} (done : Unit {0})
+    → Reading gave f went most r c pending r' d n → paused d c' → gave r' bs r'' → length bs ≡ 0 → length pending ≡ 0
+    → Reads gave failed f went stopped paused unpaused most r r'' c c' (Ok done)
+reads_done {gave = gave} {f = f} failed stopped paused unpaused {most = most} {r = r} {r' = r'} {r'' = r''} {d = d} c' {pending = pending} {bs = bs} done p pause gives none empty =
+    (p.texts, d, (r', subst (ReadSoFar gave f most r r' p.texts) (sym (none_of pending empty)) p.so_far, subst (λ l. gave r' l r'') (sym (none_of bs none)) gives), p.took, pause)
+
+-- the reader told its end, within a line
+pub reads_cut : {R C : Type 0} {gave : R → List ℕ → R → Type 0} {f : List ℕ → Option LineFault} {went : C → List (List ℕ) → C → Type 0} (failed : R → R → Type 0) (stopped : C → List ℕ → C → Type 0) (paused unpaused : C → C → Type 0) {most : ℕ} {r r' r'' : R} {c d : C} (c' : C) {n : ℕ} {pending bs : List ℕ}
+    → Reading gave f went most r c pending r' d n → paused d c' → gave r' bs r'' → length bs ≡ 0 → 0 < length pending
+    → Reads gave failed f went stopped paused unpaused most r r'' c c' (Err (Fault (fault.Line (n + 1) NotEnded)))
+reads_cut {gave = gave} failed stopped paused unpaused {r' = r'} {r'' = r''} {d = d} c' {n = n} {pending = pending} {bs = bs} p pause gives none some =
+    (p.texts, d, (r', pending, p.so_far, subst (λ l. gave r' l r'') (sym (none_of bs none)) gives, some, omega (arith, p.number)), p.took, pause)
+
+pub reads_failed : {R C : Type 0} {gave : R → List ℕ → R → Type 0} {f : List ℕ → Option LineFault} {went : C → List (List ℕ) → C → Type 0} (failed : R → R → Type 0) (stopped : C → List ℕ → C → Type 0) (paused unpaused : C → C → Type 0) {most : ℕ} {r r' : R} (r'' : R) {c d : C} (c' : C) {n : ℕ} {pending : List ℕ}
+    → Reading gave f went most r c pending r' d n → paused d c' → failed r' r''
+    → Reads gave failed f went stopped paused unpaused most r r'' c c' (Err (Fault fault.Read))
+reads_failed failed stopped paused unpaused {r' = r'} r'' {d = d} c' {pending = pending} p pause fails = (p.texts, d, (r', pending, p.so_far, fails), p.took, pause)
+
+pub reads_unpaused : {R C : Type 0} {gave : R → List ℕ → R → Type 0} {f : List ℕ → Option LineFault} {went : C → List (List ℕ) → C → Type 0} (failed : R → R → Type 0) (stopped : C → List ℕ → C → Type 0) (paused unpaused : C → C → Type 0) {most : ℕ} {r r' : R} {c d : C} (c' : C) {n : ℕ} {pending : List ℕ}
+    → Reading gave f went most r c pending r' d n → unpaused d c'
+    → Reads gave failed f went stopped paused unpaused most r r' c c' (Err Halted)
+reads_unpaused failed stopped paused unpaused {d = d} c' {pending = pending} p stop = (p.texts, pending, d, p.took, inl (p.so_far, stop))

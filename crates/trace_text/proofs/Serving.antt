@@ -9,8 +9,8 @@ use Rattle.machine_core.specs.Machine.{MachineState}
 use Rattle.trace_text.specs.Texts.{flat, after_line}
 use Rattle.trace_text.specs.declared.lines.Line.{Line}
 use Rattle.trace_text.specs.declared.serve.Counts.{Counts}
-use Rattle.trace_text.specs.Serving.{IsLine, joined, told, told_all, after_all, events_of, answers_of, event_in, answer_to, counted, counted_line, Moves, Served, Partly}
-use Rattle.trace_text.specs.Faults.{LineServed}
+use Rattle.trace_text.specs.Streams.{Moves, Partly}
+use Rattle.trace_text.specs.Serving.{IsRead, texts_of, told, told_all, after_all, events_of, answers_of, event_in, answer_to, no_counts, counted, counted_line, LineServed, Applied}
 
 folds_then : {S A : Type 0} (step : S → A → S → Type 0) (xs ys : List A) (r s t : S) → FoldsTo step r xs s → FoldsTo step s ys t → FoldsTo step r (xs ++ ys) t
 folds_then step [] ys r s t p q = subst (λ x. FoldsTo step x ys t) (sym p) q
@@ -39,10 +39,6 @@ moved_more p q = moved_then p (moved_one q)
 pub moved_still : {S : Type 0} {step : S → List ℕ → S → Type 0} {r s t : S} {xs : List ℕ} → Moves step r xs s → step s [] t → Moves step r xs t
 moved_still {step = step} {r = r} {t = t} {xs = xs} p q = subst (λ l. Moves step r l t) (append-nil xs) (moved_more p q)
 
-joined_then : (xs ys : List (List ℕ × Line)) → joined (xs ++ ys) ≡ joined xs ++ joined ys
-joined_then [] ys = refl
-joined_then (x ∷ xs) ys = ap (λ l. x.0 ++ (10 ∷ l)) (joined_then xs ys) ∙ sym (append_assoc x.0 (10 ∷ joined xs) (joined ys))
-
 after_then : (m : MachineState) (xs ys : List (List ℕ × Line)) → after_all m (xs ++ ys) ≡ after_all (after_all m xs) ys
 after_then m [] ys = refl
 after_then m (x ∷ xs) ys = after_then (after_line m x.1) xs ys
@@ -70,7 +66,7 @@ and_then_more None f g t u more p = cc
 and_then_more (Some v) f g t u more p = more v p
 
 -- a run, and a run from where it ended
-runs_then : (xs ys : List Event) (xa ya : List Answer) (s t u : Flat)
+pub runs_then : (xs ys : List Event) (xa ya : List Answer) (s t u : Flat)
     → flat_run s xs xa ≡ Some t → flat_run t ys ya ≡ Some u → flat_run s (xs ++ ys) (xa ++ ya) ≡ Some u
 runs_then [] ys [] ya s t u p q = let here : s ≡ t = cc in subst (λ x. flat_run x ys ya ≡ Some u) (sym here) q
 runs_then [] ys (a ∷ xa) ya s t u p q = cc
@@ -82,58 +78,67 @@ pub all_then : {X : Type 0} (P : X → Type 0) (xs ys : List X) → AllByRecursi
 all_then P [] ys p q = q
 all_then P (x ∷ xs) ys p q = (p.0, all_then P xs ys p.1 q)
 
-pub served_none : {W : Type 0} {took : W → List ℕ → W → Type 0} (w : W) (m : MachineState) (c : Counts) (bytes : List ℕ) → Served took w m c bytes bytes w m c
-served_none w m c bytes = record { lines = []; each = tt; split = refl; number = omega arith; counts = refl; written = moved_none w; state = refl; runs = refl }
+texts_then : (xs ys : List (List ℕ × Line)) → texts_of (xs ++ ys) ≡ texts_of xs ++ texts_of ys
+texts_then [] ys = refl
+texts_then (x ∷ xs) ys = ap (λ l. x.0 ∷ l) (texts_then xs ys)
 
-pub served_then : {W : Type 0} {took : W → List ℕ → W → Type 0} {u v w : W} {k m n : MachineState} {a b c : Counts} {xs ys zs : List ℕ}
-    → Served took u k a xs ys v m b → Served took v m b ys zs w n c → Served took u k a xs zs w n c
-served_then {took = took} {u = u} {v = v} {w = w} {k = k} {m = m} {n = n} {a = a} {b = b} {c = c} {zs = zs} p q = record {
-  lines = p.lines ++ q.lines;
-  each = all_then IsLine p.lines q.lines p.each q.each;
-  split = p.split ∙ ap (λ l. joined p.lines ++ l) q.split ∙ sym (append_assoc (joined p.lines) (joined q.lines) zs) ∙ ap (λ l. l ++ zs) (sym (joined_then p.lines q.lines));
-  number = omega (arith, p.number, q.number, length-append p.lines q.lines);
-  counts = q.counts ∙ ap (λ s. counted s b q.lines) p.state ∙ ap (λ x. counted (after_all k p.lines) x q.lines) p.counts ∙ sym (counted_then k a p.lines q.lines);
-  written = subst (λ l. Moves took u l w) (ap (λ s. told_all k p.lines ++ told_all s q.lines) p.state ∙ sym (told_then k p.lines q.lines)) (moved_then p.written q.written);
-  state = q.state ∙ ap (λ s. after_all s q.lines) p.state ∙ sym (after_then k p.lines q.lines);
-  runs =
-      let both = runs_then (events_of p.lines) (events_of q.lines) (answers_of k p.lines) (answers_of m q.lines) (flat k) (flat m) (flat n) p.runs q.runs in
-      let answers : answers_of k p.lines ++ answers_of m q.lines ≡ answers_of k (p.lines ++ q.lines) =
-      ap (λ s. answers_of k p.lines ++ answers_of s q.lines) p.state ∙ sym (answers_then k p.lines q.lines) in
-      subst (λ l. flat_run (flat k) l (answers_of k (p.lines ++ q.lines)) ≡ Some (flat n)) (sym (events_then p.lines q.lines)) (subst (λ l. flat_run (flat k) (events_of p.lines ++ events_of q.lines) l ≡ Some (flat n)) answers both);
-}
+-- ---- lines that were applied
 
--- more bytes came
-pub served_more : {W : Type 0} {took : W → List ℕ → W → Type 0} {u v : W} {m n : MachineState} {a b : Counts} {xs ys : List ℕ} (more : List ℕ)
-    → Served took u m a xs ys v n b → Served took u m a (xs ++ more) (ys ++ more) v n b
-served_more {ys = ys} more p = record {
-  lines = p.lines;
-  each = p.each;
-  number = p.number;
-  counts = p.counts;
-  written = p.written;
-  state = p.state;
-  runs = p.runs;
-  split = ap (λ l. l ++ more) p.split ∙ append_assoc (joined p.lines) ys more;
-}
+pub applied_none : {W : Type 0} {took : W → List ℕ → W → Type 0} (w : W) (m : MachineState) (c : Counts) → c ≡ no_counts → Applied took w m [] w m c
+applied_none {took = took} w m c none = subst (Applied took w m [] w m) (sym none) (record {
+  lines = [];
+  read = tt;
+  whole = refl;
+  number = omega arith;
+  within = record { lines = omega arith; accepted = omega arith; moved = omega arith; values = omega arith; nothing = omega arith; refused = omega arith };
+  counts = refl;
+  written = moved_none w;
+  state = refl;
+  runs = refl;
+})
+
+-- one line more
+pub applied_line : {W : Type 0} {took : W → List ℕ → W → Type 0} {u v w : W} {k m n : MachineState} {b c : Counts} {texts : List (List ℕ)} (text : List ℕ)
+    → Applied took u k texts v m b → LineServed took v m b text w n c → Applied took u k (texts ++ text ∷ []) w n c
+applied_line {took = took} {u = u} {v = v} {w = w} {k = k} {m = m} {n = n} {b = b} {c = c} {texts = texts} text p q =
+    let more = (text, q.line) ∷ [] in
+    record {
+      lines = p.lines ++ more;
+      read = all_then IsRead p.lines more p.read (q.said, tt);
+      whole = ap (λ l. l ++ text ∷ []) p.whole ∙ sym (texts_then p.lines more);
+      number = omega (arith, p.number, q.number, length-append texts (text ∷ []));
+      within = q.within;
+      counts = q.counts ∙ ap (λ x. counted_line m x q.line) p.counts ∙ ap (λ s. counted_line s (counted k no_counts p.lines) q.line) p.state ∙ sym (counted_then k no_counts p.lines more);
+      written =
+          let told_last : told m (text, q.line) ≡ told_all (after_all k p.lines) more = ap (λ s. told s (text, q.line)) p.state ∙ sym (append-nil (told (after_all k p.lines) (text, q.line))) in
+          subst (λ l. Moves took u l w) (ap (λ l. told_all k p.lines ++ l) told_last ∙ sym (told_then k p.lines more)) (moved_then p.written q.written);
+      state = q.state ∙ ap (λ s. after_line s q.line) p.state ∙ sym (after_then k p.lines more);
+      runs =
+          let last = option_to_list (event_in q.line) in
+          let both = runs_then (events_of p.lines) last (answers_of k p.lines) (option_to_list (answer_to m q.line)) (flat k) (flat m) (flat n) p.runs q.runs in
+          let events : events_of p.lines ++ last ≡ events_of (p.lines ++ more) = ap (λ l. events_of p.lines ++ l) (sym (append-nil last)) ∙ sym (events_then p.lines more) in
+          let answers : answers_of k p.lines ++ option_to_list (answer_to m q.line) ≡ answers_of k (p.lines ++ more) =
+          ap (λ s. answers_of k p.lines ++ option_to_list (answer_to s q.line)) p.state
+          ∙ ap (λ l. answers_of k p.lines ++ l) (sym (append-nil (option_to_list (answer_to (after_all k p.lines) q.line))))
+          ∙ sym (answers_then k p.lines more) in
+          subst (λ l. flat_run (flat k) l (answers_of k (p.lines ++ more)) ≡ Some (flat n)) events (subst (λ l. flat_run (flat k) (events_of p.lines ++ last) l ≡ Some (flat n)) answers both);
+    }
 
 -- a flush
-pub served_still : {W : Type 0} {took : W → List ℕ → W → Type 0} {u v w : W} {m n : MachineState} {a b : Counts} {xs ys : List ℕ}
-    → Served took u m a xs ys v n b → took v [] w → Served took u m a xs ys w n b
-served_still p q = record { lines = p.lines; each = p.each; split = p.split; number = p.number; counts = p.counts; written = moved_still p.written q; state = p.state; runs = p.runs }
-
--- one line
-pub served_one : {W : Type 0} {took : W → List ℕ → W → Type 0} {u v : W} {m n : MachineState} {a b : Counts} (text rest : List ℕ)
-    → (p : LineServed took u m a text v n b) → IsLine (text, p.line) → Served took u m a (text ++ (10 ∷ rest)) rest v n b
-served_one {took = took} {u = u} {v = v} {m = m} {n = n} text rest p good = record {
-  lines = (text, p.line) ∷ [];
-  each = (good, tt);
-  split = sym (append_assoc text (10 ∷ []) rest);
-  number = omega (arith, p.number);
-  counts = p.counts;
-  written = subst (λ l. Moves took u l v) (sym (append-nil (told m (text, p.line)))) p.written;
-  state = p.state;
-  runs = subst (λ l. flat_run (flat m) l (option_to_list (answer_to m p.line) ++ []) ≡ Some (flat n)) (sym (append-nil (option_to_list (event_in p.line)))) (subst (λ l. flat_run (flat m) (option_to_list (event_in p.line)) l ≡ Some (flat n)) (sym (append-nil (option_to_list (answer_to m p.line)))) p.runs);
-}
+pub applied_still : {W : Type 0} {took : W → List ℕ → W → Type 0} {u v w : W} {k m n : MachineState} {b c : Counts} {texts : List (List ℕ)}
+    → Applied took u k texts v m b → took v [] w → n ≡ m → c ≡ b → Applied took u k texts w n c
+applied_still {took = took} {u = u} {w = w} {k = k} {n = n} {b = b} {texts = texts} p flush state counts =
+    subst (λ x. Applied took u k texts w n x) (sym counts) (subst (λ s. Applied took u k texts w s b) (sym state) (record {
+      lines = p.lines;
+      read = p.read;
+      whole = p.whole;
+      number = p.number;
+      within = p.within;
+      counts = p.counts;
+      written = moved_still p.written flush;
+      state = p.state;
+      runs = p.runs;
+    }))
 
 pub partly_more : {S : Type 0} {step : S → List ℕ → S → Type 0} {r s t : S} {bytes rest : List ℕ} (n : ℕ) (rest' : List ℕ)
     → Partly step r bytes rest s → step s (take n rest) t → rest' ≡ drop n rest → Partly step r bytes rest' t

@@ -1,18 +1,15 @@
 -- What a check of a served trace finds.
-use Rattle.std.specs.Prelude.{◌≡◌, ℕ, ◌+◌, ◌<◌, Option, Some, None, Result, Ok, Err, List, [], ◌∷◌, ◌++◌, length, replicate, slice_get}
+use Rattle.std.specs.Prelude.{◌≡◌, ℕ, ◌+◌, ◌≤◌, Option, Some, None, Result, Ok, Err, List, [], ◌∷◌, ◌++◌, length, replicate, slice_get}
 use Rattle.flat_model.specs.declared.Event.{Event}
 use Rattle.flat_model.specs.declared.Answer.{Answer}
 use Rattle.flat_model.specs.Words.{zero_word}
-use Rattle.flat_model.specs.Flat.{Flat, opening, flat_run, first_fault}
-use Rattle.flat_model.specs.declared.memory.ReplayFault.{ReplayFault}
-use Rattle.flat_model.specs.declared.memory.ReplayFault.TheVariants as replay_fault
+use Rattle.flat_model.specs.Flat.{Flat, opening, flat_step, flat_run, first_fault}
 use Rattle.trace_text.specs.Pairs.{pair_of}
+use Rattle.trace_text.specs.Reading.{fault_of}
 use Rattle.trace_text.specs.declared.lines.Line.{Line}
 use Rattle.trace_text.specs.declared.lines.Line.TheVariants as line
 use Rattle.trace_text.specs.declared.lines.LineFault.{LineFault}
 use Rattle.trace_text.specs.declared.pairs.Pair.{Pair}
-use Rattle.trace_text.specs.declared.serve.TraceFault.{TraceFault}
-use Rattle.trace_text.specs.declared.serve.TraceFault.TheVariants.{OutOfMemory}
 use Rattle.trace_text.specs.declared.check.Step.{Step}
 use Rattle.trace_text.specs.declared.check.CheckEnd.{CheckEnd}
 use Rattle.trace_text.specs.declared.check.CheckEnd.TheVariants.{Flat as FlatRun, Mismatch}
@@ -63,22 +60,18 @@ abbrev pub IsJudged : ℕ → List (List ℕ) → CheckEnd → Type 0
 IsJudged words texts (FlatRun steps) = (steps ≡ length (events_in texts)) × ((last : Flat) × (flat_run (zeros words) (events_in texts) (answers_in texts) ≡ Some last))
 IsJudged words texts (Mismatch n) = (flat_run (zeros words) (events_in texts) (answers_in texts) ≡ None) × ((place : ℕ) × (first_fault (zeros words) (events_in texts) (answers_in texts) ≡ Some place) × (slice_get (numbers_from 1 texts) place ≡ Some n))
 
--- what is held of these lines
-pub record Holds (held_events : List Event) (held_answers : List Answer) (held_numbers : List ℕ) (texts : List (List ℕ)) : Type 0 where
-  pub events : held_events ≡ events_in texts
-  pub answers : held_answers ≡ answers_in texts
-  pub numbers : held_numbers ≡ numbers_from 1 texts
+-- the fault of a line of a served trace, where it has one
+abbrev pub pair_fault : List ℕ → Option LineFault
+pair_fault text = fault_of (pair_of text)
 
--- the place of a mismatch has a line
-abbrev pub HasLine : List ℕ → ReplayFault → Type 0
-HasLine numbers (replay_fault.Mismatch place) = place < length numbers
-HasLine numbers replay_fault.Lengths = Unit {0}
-HasLine numbers replay_fault.OutOfMemory = Unit {0}
+-- so many events of these lines are a flat run from one memory to the other, or this is the line of the first pair that
+-- isn't listed
+abbrev pub JudgedFrom : Flat → List (List ℕ) → ℕ → Option ℕ → Flat → Type 0
+JudgedFrom start texts steps None now = (steps ≡ length (events_in texts)) × (flat_run start (events_in texts) (answers_in texts) ≡ Some now)
+JudgedFrom start texts steps (Some n) now = (steps ≤ length (events_in texts)) × ((place : ℕ) × (first_fault start (events_in texts) (answers_in texts) ≡ Some place) × (slice_get (numbers_from 1 texts) place ≡ Some n))
 
--- what is answered for a fault of the replay
-abbrev pub FoundAt : List ℕ → ReplayFault → Result CheckEnd TraceFault → Type 0
-FoundAt numbers (replay_fault.Mismatch place) (Ok (Mismatch n)) = slice_get numbers place ≡ Some n
-FoundAt numbers (replay_fault.Mismatch place) (Ok (FlatRun steps)) = ⊥
-FoundAt numbers (replay_fault.Mismatch place) (Err fault) = ⊥
-FoundAt numbers replay_fault.Lengths result = result ≡ Err OutOfMemory
-FoundAt numbers replay_fault.OutOfMemory result = result ≡ Err OutOfMemory
+-- One more step, of line n: it is one of flat memory, or the first that isn't. Behind a mismatch nothing is judged.
+abbrev pub Judges : ℕ → Event → Answer → Flat → ℕ → Option ℕ → Flat → ℕ → Option ℕ → Type 0
+Judges n event answer s steps (Some m) t steps' o = (steps' ≡ steps) × (o ≡ Some m)
+Judges n event answer s steps None t steps' None = (flat_step s event answer ≡ Some t) × (steps' ≡ steps + 1)
+Judges n event answer s steps None t steps' (Some m) = (flat_step s event answer ≡ None) × (steps' ≡ steps) × (m ≡ n)

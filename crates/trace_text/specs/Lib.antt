@@ -3,9 +3,10 @@ pub mod Fields
 pub mod Lines
 pub mod Texts
 pub mod Pairs
-pub mod Serving
-pub mod Faults
+pub mod Streams
 pub mod Reading
+pub mod Collecting
+pub mod Serving
 pub mod Requests
 pub mod Checks
 pub mod Written

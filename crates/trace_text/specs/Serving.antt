@@ -1,7 +1,7 @@
 -- What a run over a trace reads, applies and writes.
-use Rattle.std.specs.Prelude.{◌≡◌, ◌≢◌, ℕ, ◌+◌, ◌<◌, ◌≤◌, Option, None, Some, Ok, List, [], ◌∷◌, ◌++◌, length, codes, slice_index}
+use Rattle.std.specs.Prelude.{◌≡◌, ℕ, ◌+◌, ◌<◌, ◌≤◌, ◌⊎◌, Option, None, Some, Result, Ok, Err, List, [], ◌∷◌, ◌++◌, length, codes}
 use Rattle.std.specs.Option.{option_to_list}
-use Rattle.std.specs.List.{FoldsTo, concat, AllByRecursion}
+use Rattle.std.specs.List.{AllByRecursion}
 use Rattle.flat_model.specs.declared.Event.{Event}
 use Rattle.flat_model.specs.declared.Answer.{Answer}
 use Rattle.flat_model.specs.declared.Answer.TheVariants.{Accepted, Moved, Value, Nothing, Refused}
@@ -10,24 +10,29 @@ use Rattle.machine_core.specs.Machine.{MachineState}
 use Rattle.trace_text.specs.Codes.{line_feed, most_lines}
 use Rattle.trace_text.specs.Lines.{line_of}
 use Rattle.trace_text.specs.Texts.{answered, flat, reply_text, after_line}
+use Rattle.trace_text.specs.Streams.{Moves, Stopped}
+use Rattle.trace_text.specs.Reading.{fault_of, FirstLine, ReadSoFar, ReadInto, ReadWhole, ReadStops}
 use Rattle.trace_text.specs.declared.lines.Line.{Line}
 use Rattle.trace_text.specs.declared.lines.Line.TheVariants as line
+use Rattle.trace_text.specs.declared.lines.LineFault.{LineFault}
 use Rattle.trace_text.specs.declared.serve.Counts.{Counts}
+use Rattle.trace_text.specs.declared.fault.TraceFault.{TraceFault}
+use Rattle.trace_text.specs.declared.fault.TraceFault.TheVariants as fault
 
--- ---- a trace
-
--- bytes with no LF among them
-abbrev pub HasNoEnd : List ℕ → Type 0
-HasNoEnd bytes = (k : ℕ) → k < length bytes → slice_index bytes k ≢ line_feed
+-- the fault of a line of a trace, where it has one
+abbrev pub trace_fault : List ℕ → Option LineFault
+trace_fault text = fault_of (line_of text)
 
 -- the bytes before an LF, and the line that they are
-abbrev pub IsLine : List ℕ × Line → Type 0
-IsLine s = (length s.0 ≤ 64) × HasNoEnd s.0 × (line_of s.0 ≡ Ok s.1)
+abbrev pub IsRead : List ℕ × Line → Type 0
+IsRead s = line_of s.0 ≡ Ok s.1
 
--- these lines, each with its LF
-abbrev pub joined : List (List ℕ × Line) → List ℕ
-joined [] = []
-joined (s ∷ ss) = s.0 ++ (line_feed ∷ joined ss)
+-- the bytes of these lines
+abbrev pub texts_of : List (List ℕ × Line) → List (List ℕ)
+texts_of [] = []
+texts_of (s ∷ ss) = s.0 ∷ texts_of ss
+
+-- ---- what is written
 
 -- what is written for a line
 abbrev pub told : MachineState → List ℕ × Line → List ℕ
@@ -104,56 +109,43 @@ pub record IsWithin (c : Counts) : Type 0 where
   pub nothing : c.nothing ≤ c.lines
   pub refused : c.refused ≤ c.lines
 
--- ---- readers and writers
-
--- A read gave these bytes, at least one: it was not the end.
-abbrev pub Came : {S : Type 0} → (S → List ℕ → S → Type 0) → S → List ℕ → S → Type 0
-Came gave old bytes new = gave old bytes new × (0 < length bytes)
-
--- From one state to the other, these bytes moved, in one piece after another.
-pub record Moves {S : Type 0} (step : S → List ℕ → S → Type 0) (old : S) (bytes : List ℕ) (new : S) : Type 0 where
-  pub pieces : List (List ℕ)
-  pub steps : FoldsTo step old pieces new
-  pub whole : concat pieces ≡ bytes
-
--- A front of the bytes moved, and then a write was refused.
-pub record Stopped {S : Type 0} (step : S → List ℕ → S → Type 0) (refused : S → S → Type 0) (old : S) (bytes : List ℕ) (new : S) : Type 0 where
-  pub front : List ℕ
-  pub back : List ℕ
-  pub whole : bytes ≡ front ++ back
-  pub last : S
-  pub moved : Moves step old front last
-  pub refusal : refused last new
-
--- A front of the bytes has moved.
-pub record Partly {S : Type 0} (step : S → List ℕ → S → Type 0) (old : S) (bytes : List ℕ) (rest : List ℕ) (new : S) : Type 0 where
-  pub front : List ℕ
-  pub whole : bytes ≡ front ++ rest
-  pub moved : Moves step old front new
-
 -- ---- lines that were served
 
--- Of these bytes the first lines were applied and their texts were written; the rest is still to come. The answers
--- are a run of flat memory.
-pub record Served {W : Type 0} (took : W → List ℕ → W → Type 0) (old : W) (m : MachineState) (c : Counts) (bytes : List ℕ) (rest : List ℕ) (new : W) (m' : MachineState) (c' : Counts) : Type 0 where
+-- one line was applied, counted and written
+pub record LineServed {W : Type 0} (took : W → List ℕ → W → Type 0) (old : W) (m : MachineState) (c : Counts) (text : List ℕ) (new : W) (m' : MachineState) (c' : Counts) : Type 0 where
+  pub line : Line
+  pub said : line_of text ≡ Ok line
+  pub written : Moves took old (told m (text, line)) new
+  pub state : m' ≡ after_line m line
+  pub counts : c' ≡ counted_line m c line
+  pub within : IsWithin c'
+  pub number : c'.lines ≡ c.lines + 1
+  pub runs : flat_run (flat m) (option_to_list (event_in line)) (option_to_list (answer_to m line)) ≡ Some (flat m')
+
+-- These lines were applied and counted, and their texts were written. The answers are a run of flat memory.
+pub record Applied {W : Type 0} (took : W → List ℕ → W → Type 0) (old : W) (m : MachineState) (texts : List (List ℕ)) (new : W) (m' : MachineState) (c : Counts) : Type 0 where
   pub lines : List (List ℕ × Line)
-  pub each : AllByRecursion IsLine lines
-  pub split : bytes ≡ joined lines ++ rest
-  pub number : c'.lines ≡ c.lines + length lines
-  pub counts : c' ≡ counted m c lines
+  pub read : AllByRecursion IsRead lines
+  pub whole : texts ≡ texts_of lines
+  pub number : c.lines ≡ length texts
+  pub within : IsWithin c
+  pub counts : c ≡ counted m no_counts lines
   pub written : Moves took old (told_all m lines) new
   pub state : m' ≡ after_all m lines
   pub runs : flat_run (flat m) (events_of lines) (answers_of m lines) ≡ Some (flat m')
 
--- The first line of these bytes was applied, and writing its text stopped at a refusal.
-pub record Broken {W : Type 0} (took : W → List ℕ → W → Type 0) (refused : W → W → Type 0) (old : W) (m : MachineState) (bytes : List ℕ) (new : W) (m' : MachineState) : Type 0 where
-  pub line : List ℕ × Line
-  pub more : List ℕ
-  pub is_line : IsLine line
-  pub split : bytes ≡ line.0 ++ (line_feed ∷ more)
-  pub stopped : Stopped took refused old (told m line) new
-  pub state : m' ≡ after_line m line.1
+-- This line was applied, and writing its text stopped at a refusal.
+abbrev pub Broken : {W : Type 0} (took : W → List ℕ → W → Type 0) (refused : W → W → Type 0) (old : W) (m : MachineState) (text : List ℕ) (new : W) (m' : MachineState) → Type 0
+Broken took refused old m text new m' = (line : Line) × (line_of text ≡ Ok line) × Stopped took refused old (told m (text, line)) new × (m' ≡ after_line m line)
 
--- these bytes don't begin with a line, whatever follows them
-abbrev pub IsStuck : List ℕ → Type 0
-IsStuck bytes = (s : List ℕ × Line) (more after : List ℕ) → IsLine s → bytes ++ after ≡ s.0 ++ (line_feed ∷ more) → ⊥
+-- How a whole run ends: what was read, applied and written, by its answer. Where nothing was refused, a flush stands
+-- behind all that was written.
+abbrev pub Ends : {R W : Type 0} (gave : R → List ℕ → R → Type 0) (failed : R → R → Type 0) (took : W → List ℕ → W → Type 0) (refused unflushed : W → W → Type 0) (r r' : R) (w w' : W) (m m' : MachineState) → Result Counts TraceFault → Type 0
+-- all was read, up to the end, and served
+Ends {R} {W} gave failed took refused unflushed r r' w w' m m' (Ok counts) = (texts : List (List ℕ)) × (v : W) × ReadWhole gave trace_fault 64 r r' texts × Applied took w m texts v m' counts × took v [] w'
+-- nothing happened
+Ends gave failed took refused unflushed r r' w w' m m' (Err fault.OutOfMemory) = (r' ≡ r) × (w' ≡ w) × (m' ≡ m)
+-- a flush before a read or before a fault was refused, or the text of a line that was applied
+Ends {R} {W} gave failed took refused unflushed r r' w w' m m' (Err fault.Write) = (texts : List (List ℕ)) × (rest : List ℕ) × (v : W) × (s : MachineState) × (c : Counts) × Applied took w m texts v s c × ((ReadSoFar gave trace_fault 64 r r' texts rest × unflushed v w' × (m' ≡ s)) ⊎ (ReadInto gave trace_fault 64 r r' texts rest × ((unflushed v w' × (m' ≡ s)) ⊎ ((length texts < most_lines) × FirstLine trace_fault 64 (λ text. Broken took refused v s text w' m') rest))))
+-- the lines before the fault were served
+Ends {R} {W} gave failed took refused unflushed r r' w w' m m' (Err e) = (texts : List (List ℕ)) × (v : W) × (c : Counts) × ReadStops gave failed trace_fault 64 r r' texts e × Applied took w m texts v m' c × took v [] w'

@@ -1,16 +1,16 @@
 //! A served trace is checked against flat memory.
-ghost use Rattle.std.specs.Prelude.{◌≡◌, ℕ, ◌++◌, List, OnOk, IfOk, IfErr};
+ghost use Rattle.std.specs.Prelude.{◌≡◌, ℕ, ◌<◌, List, OnOk, IfOk, IfErr};
 ghost use Rattle.flat_model.specs.Memory.{shown};
-ghost use Rattle.trace_text.specs.Pairs.{pair_of};
-ghost use Rattle.trace_text.specs.Reading.{fault_of, ReadWhole, ReadStops};
-ghost use Rattle.trace_text.specs.Checks.{step_with, event_of, answer_of, number_of, zeros, Holds, IsJudged, HasLine, FoundAt};
+ghost use Rattle.trace_text.specs.Reading.{ReadWhole, ReadFails};
+ghost use Rattle.trace_text.specs.Checks.{step_with, pair_fault, zeros, IsJudged, JudgedFrom, Judges};
 
+use crate::fault::{BUFFER_LEN, MAX_PAIR, TraceFault};
 use crate::lines::Line;
 use crate::pairs::{Pair, pair_said};
+use crate::pieces::Failed;
 use crate::reading::{Collector, Uncollected, read_lines};
-use crate::serve::TraceFault;
 use crate::streams::Source;
-use flat_model::{Answer, Event, FlatMemory, ReplayFault, Word};
+use flat_model::{Answer, Event, FlatMemory, StepFault, Word};
 use std::alloc::{AllocError, Global};
 
 /// What a check of a served trace found.
@@ -40,48 +40,69 @@ fn step_in(pair: Pair) -> Option<Step>
     }
 }
 
-// The events of the lines so far, their answers, and the numbers of their lines.
+// Flat memory behind the lines so far, or the line of the first mismatch. Nothing else is kept of the
+// lines: a fault in a later line goes before a mismatch, so they are read on.
 #[derive(Drop)]
-pub struct Steps {
-    pub events: Vec<Event>,
-    pub answers: Vec<Answer>,
-    pub numbers: Vec<u64>,
+pub struct Checking {
+    pub memory: FlatMemory,
+    pub steps: u64,
+    pub mismatch: Option<u64>,
 }
 
-impl Steps {
-    fn keep(&mut self, number: u64, step: Option<Step>) -> Result<(), Uncollected>
-        ensures events { OnOk result
-            (self.new.events.items ≡ self.old.events.items ++ event_of step) }
-        ensures answers { OnOk result
-            (self.new.answers.items ≡ self.old.answers.items ++ answer_of step) }
-        ensures numbers { OnOk result
-            (self.new.numbers.items ≡ self.old.numbers.items ++ number_of number step) }
-        ensures err { IfErr result (λ miss. miss ≡ Uncollected.Memory) }
+impl Checking {
+    // Judges the step of the line of this number, unless a mismatch came before it.
+    fn judge(&mut self, number: u64, step: Step) -> Result<(), Uncollected>
+        requires few { self.old.steps < 16777216 }
+        ensures judged { OnOk result
+            (Judges number step.event step.answer (shown self.old.memory) self.old.steps self.old.mismatch
+            (shown self.new.memory) self.new.steps self.new.mismatch) }
+        ensures err { IfErr result (λ miss. miss ≡ Uncollected.Halted) }
     {
-        let Some(step) = step else {
+        if self.mismatch.is_some() {
             return Ok(());
-        };
-        if self.events.push(step.event).is_err()
-            || self.answers.push(step.answer).is_err()
-            || self.numbers.push(number).is_err()
-        {
-            return Err(Uncollected::Memory);
         }
-        Ok(())
+        match self.memory.step(step.event, step.answer) {
+            Ok(()) => {
+                self.steps += 1;
+                Ok(())
+            }
+            Err(StepFault::Mismatch) => {
+                self.mismatch = Some(number);
+                Ok(())
+            }
+            Err(StepFault::OutOfMemory) => Err(Uncollected::Halted),
+        }
     }
 }
 
-impl Collector for Steps {
-    ghost fault_in = { λ text. fault_of (pair_of text) };
+impl Collector for Checking {
+    ghost fault_in = { pair_fault };
 
-    ghost holds = { λ c texts. Holds c.events.items c.answers.items c.numbers.items texts };
+    ghost longest = { 768 };
+
+    ghost went = { λ s texts t. JudgedFrom (shown s.memory) texts t.steps t.mismatch (shown t.memory) };
+
+    ghost stopped = { λ s text t. Unit {0} };
+
+    ghost paused = { λ s t. t ≡ s };
+
+    ghost unpaused = { λ s t. ⊥ };
+
+    ghost holds_same = { λ s t. Unit {0} };
 
     fn collect(&mut self, number: u64, text: &[u8]) -> Result<(), Uncollected> {
         let pair = match pair_said(text) {
             Ok(pair) => pair,
             Err(fault) => return Err(Uncollected::Fault(fault)),
         };
-        self.keep(number, step_in(pair))
+        match step_in(pair) {
+            None => Ok(()),
+            Some(step) => self.judge(number, step),
+        }
+    }
+
+    fn pause(&mut self) -> Result<(), Failed> {
+        Ok(())
     }
 }
 
@@ -93,43 +114,9 @@ fn zero_memory(alloc: Global, words: u32) -> Result<FlatMemory, AllocError>
     FlatMemory::new(alloc, image.as_slice())
 }
 
-// What is answered for a fault of the replay. As many answers as events are handed to it, so its
-// other faults are want of memory.
-fn found_at(fault: ReplayFault, numbers: &[u64]) -> Result<CheckEnd, TraceFault>
-    requires { HasLine numbers.now fault }
-    ensures { FoundAt numbers.now fault result }
-{
-    match fault {
-        ReplayFault::Mismatch { place } => Ok(CheckEnd::Mismatch {
-            line: numbers[place],
-        }),
-        ReplayFault::Lengths | ReplayFault::OutOfMemory => Err(TraceFault::OutOfMemory),
-    }
-}
-
-fn replayed(alloc: Global, steps: &Steps, words: u32) -> Result<CheckEnd, TraceFault>
-    requires held { (texts : List (List ℕ))
-        × Holds steps.now.events.items steps.now.answers.items steps.now.numbers.items texts }
-    ensures judged { IfOk result
-        (λ end. (texts : List (List ℕ))
-        → Holds steps.now.events.items steps.now.answers.items steps.now.numbers.items texts
-        → IsJudged words texts end) }
-    ensures fault { IfErr result (λ f. f ≡ TraceFault.OutOfMemory) }
-{
-    let Ok(mut memory) = zero_memory(alloc, words) else {
-        return Err(TraceFault::OutOfMemory);
-    };
-    let events = steps.events.as_slice();
-    match memory.replay(alloc, events, steps.answers.as_slice()) {
-        Ok(()) => Ok(CheckEnd::Flat {
-            steps: events.len() as u64,
-        }),
-        Err(fault) => found_at(fault, steps.numbers.as_slice()),
-    }
-}
-
 /// Reads a whole served trace, and judges its events and answers from `words` words of zeros on.
-/// Each line is read as by [`read_pair`](crate::read_pair); all are read before any is judged.
+/// Each line is read as by [`read_pair`](crate::read_pair). Behind a mismatch the rest is read too, so
+/// that a fault in a later line is the answer.
 ///
 /// A fault gives no result, and the reader may have been read beyond it. The first one in the order
 /// of the lines is answered: [`TraceFault::Line`] with the number of the line, counted from 1, that
@@ -138,27 +125,33 @@ fn replayed(alloc: Global, steps: &Steps, words: u32) -> Result<CheckEnd, TraceF
 /// long before it. [`TraceFault::OutOfMemory`] may come in place of any answer, and
 /// [`TraceFault::Write`] never comes.
 ///
-/// One buffer of 4,096 bytes is taken before the first read. What is kept of the lines, and the
-/// memory that they are judged by, take more.
+/// The memory that the lines are judged by and one buffer of 4,096 bytes are taken before the first
+/// read. No line is kept: what is taken later grows with the tags that are owed a word at a time
+/// alone, of which there are at most 65,536.
 pub fn check_text<R: Source>(
     alloc: Global,
     reader: &mut R,
     words: u32,
 ) -> Result<CheckEnd, TraceFault>
     ensures judged { IfOk result
-        (λ end. (texts : List (List ℕ))
-        × ReadWhole R.gave (λ text. fault_of (pair_of text)) 768 reader.old reader.new texts
+        (λ end. (texts : List (List ℕ)) × ReadWhole R.gave pair_fault 768 reader.old reader.new texts
         × IsJudged words texts end) }
     ensures fault { IfErr result
-        (ReadStops R.gave R.failed (λ text. fault_of (pair_of text)) 768 reader.old reader.new) }
+        (ReadFails R.gave R.failed pair_fault 768 reader.old reader.new) }
 {
-    let mut steps = Steps {
-        events: Vec::new(alloc),
-        answers: Vec::new(alloc),
-        numbers: Vec::new(alloc),
+    let mut checking = Checking {
+        memory: zero_memory(alloc, words)?,
+        steps: 0,
+        mismatch: None,
     };
-    match read_lines(alloc, reader, &mut steps, 768) {
-        Ok(()) => replayed(alloc, &steps, words),
-        Err(fault) => Err(fault),
+    let mut buffer = vec![in alloc; 0u8; BUFFER_LEN]?;
+    match read_lines(reader, &mut checking, MAX_PAIR, &mut buffer) {
+        Ok(()) => Ok(match checking.mismatch {
+            None => CheckEnd::Flat {
+                steps: checking.steps,
+            },
+            Some(line) => CheckEnd::Mismatch { line },
+        }),
+        Err(stop) => Err(stop.fault_or(TraceFault::OutOfMemory)),
     }
 }

@@ -1,11 +1,10 @@
 //! What holds of traces alone. These functions do nothing: their contracts are laws.
-ghost use Rattle.std.specs.Prelude.{◌≡◌, ◌≢◌, ℕ, ◌^◌, ◌<◌, ◌≤◌, List, ◌∷◌, ◌++◌, Some, Ok, decimal, codes};
+ghost use Rattle.std.specs.Prelude.{◌≡◌, ℕ, Option, ◌^◌, ◌<◌, ◌≤◌, List, ◌∷◌, ◌++◌, Some, Ok, decimal, codes};
 ghost use Rattle.std.specs.List.{AllByRecursion};
 ghost use Rattle.flat_model.specs.declared.Word.{Word};
 ghost use Rattle.flat_model.specs.declared.Lanes.{Lanes};
 ghost use Rattle.trace_text.specs.declared.lines.Line.{Line};
 ghost use Rattle.trace_text.specs.declared.lines.LineFault.{LineFault};
-ghost use Rattle.trace_text.specs.declared.lines.LineFault.TheVariants.{NotEnded};
 ghost use Rattle.machine_core.specs.Machine.{MachineState};
 ghost use Rattle.trace_text.specs.Fields.{number_of, word_of, word_text, lanes_of, lanes_text};
 ghost use Rattle.trace_text.specs.Lines.{line_of};
@@ -13,8 +12,8 @@ ghost use Rattle.trace_text.specs.Written.{line_text, IsFit, IsFitAnswer, IsFitR
 ghost use Rattle.trace_text.specs.Texts.{answer_text, reply_text};
 ghost use Rattle.trace_text.specs.Pairs.{answer_of, pair_of};
 ghost use Rattle.flat_model.specs.declared.Answer.{Answer};
-ghost use Rattle.trace_text.specs.Serving.{IsLine, IsStuck, joined, answer_to};
-ghost use Rattle.trace_text.specs.Faults.{BeginsWith};
+ghost use Rattle.trace_text.specs.Serving.{answer_to};
+ghost use Rattle.trace_text.specs.Reading.{joined_texts, IsGood, IsStuck, BeginsFaulty};
 
 /// A field is the number whose decimal digits it is, and no other field is a number.
 pub fn numbers()
@@ -33,19 +32,21 @@ pub fn words_and_masks()
     ensures masks { (m : Lanes) → m.0 < 16 → lanes_of (lanes_text m) ≡ Some m }
 {}
 
-/// A text is lines and a rest that begins no line in one way only: so it doesn't matter in which
+/// A text is good lines and a rest that begins none in one way only: so it doesn't matter in which
 /// pieces it came, nor how far it was read beyond the rest's begin.
 pub fn one_reading()
-    ensures { (xs ys : List (List ℕ × Line)) (a b more after : List ℕ) → AllByRecursion IsLine xs
-        → AllByRecursion IsLine ys
-        → IsStuck a → IsStuck b → joined xs ++ (a ++ more) ≡ joined ys ++ (b ++ after)
+    ensures { (fault_in : List ℕ → Option LineFault) (most : ℕ) (xs ys : List (List ℕ)) (a b more after : List ℕ)
+        → AllByRecursion (IsGood fault_in most) xs → AllByRecursion (IsGood fault_in most) ys
+        → IsStuck fault_in most a → IsStuck fault_in most b
+        → joined_texts xs ++ (a ++ more) ≡ joined_texts ys ++ (b ++ after)
         → (xs ≡ ys) × (a ++ more ≡ b ++ after) }
 {}
 
 /// A line's fault stands whatever follows: so the same lines go before it, however far the trace
 /// was read.
 pub fn faults_stand()
-    ensures { (rest : List ℕ) (f : LineFault) → f ≢ NotEnded → BeginsWith rest f → IsStuck rest }
+    ensures { (fault_in : List ℕ → Option LineFault) (most : ℕ) (rest : List ℕ) (f : LineFault)
+        → BeginsFaulty fault_in most rest f → IsStuck fault_in most rest }
 {}
 
 /// A line is the text that it has, and no other text.

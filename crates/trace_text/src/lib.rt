@@ -12,6 +12,7 @@
 
 mod check;
 mod digits;
+mod fault;
 mod fields;
 pub mod laws;
 mod lines;
@@ -26,10 +27,11 @@ mod text;
 mod writers;
 
 pub use check::{CheckEnd, check_text};
+pub use fault::TraceFault;
 pub use lines::{Line, LineFault, read_line};
 pub use pairs::{Pair, read_pair};
 pub use requests::read_requests;
-pub use serve::{Counts, TraceFault, serve_text};
+pub use serve::{Counts, serve_text};
 pub use streams::{Sink, Source};
 pub use text::{LineText, answer_text, register_text};
 pub use writers::{recorded_pairs, written_line, written_pair};

@@ -3,6 +3,7 @@ ghost use Rattle.std.specs.Prelude.{◌≡◌, ◌<◌, length, ◌==◌, positi
 ghost use Rattle.std.specs.Option.{option_map};
 ghost use Rattle.trace_text.specs.Lines.{IsSaid, line_of, ended_line_of, cut_of, command_named, one_number, bare as bare_line, load_of, store_of, arrive_of, line_from as line_made};
 
+use crate::fault::MAX_LINE;
 use crate::fields::{lanes, number, word};
 use flat_model::Event;
 use thiserror::Error;
@@ -217,13 +218,13 @@ pub fn read_line(bytes: &[u8]) -> Result<Line, LineFault>
 {
     match bytes.split_last() {
         Some((b'\n', text)) => {
-            if text.len() > 64 {
+            if text.len() > MAX_LINE {
                 return Err(LineFault::TooLong);
             }
             line_said(text)
         }
         _ => {
-            if bytes.len() > 64 {
+            if bytes.len() > MAX_LINE {
                 return Err(LineFault::TooLong);
             }
             Err(LineFault::NotEnded)

@@ -4,6 +4,7 @@ ghost use Rattle.std.specs.Option.{option_map};
 ghost use Rattle.trace_text.specs.Lines.{IsSaid};
 ghost use Rattle.trace_text.specs.Pairs.{cause_of, bare_answer as bare_of, value_of, refusal_of, answer_from as answer_made, answer_of, arrow_in, pair_with as pair_made, pair_of, ended_pair_of};
 
+use crate::fault::MAX_PAIR;
 use crate::fields::{number, word};
 use crate::lines::{Line, LineFault, cut, line_said, one};
 use flat_model::{Answer, Cause};
@@ -153,13 +154,13 @@ pub fn read_pair(bytes: &[u8]) -> Result<Pair, LineFault>
 {
     match bytes.split_last() {
         Some((b'\n', text)) => {
-            if text.len() > 768 {
+            if text.len() > MAX_PAIR {
                 return Err(LineFault::TooLong);
             }
             pair_said(text)
         }
         _ => {
-            if bytes.len() > 768 {
+            if bytes.len() > MAX_PAIR {
                 return Err(LineFault::TooLong);
             }
             Err(LineFault::NotEnded)

@@ -1,14 +1,12 @@
 //! A text comes in pieces: its lines are found, and the rest is kept for the next piece.
 ghost use Rattle.std.specs.Prelude.{◌≡◌, ◌≢◌, ℕ, ◌+◌, ◌-◌, ◌<◌, ◌≤◌, length, take, drop, OnErr, IfOk, IfSome, IfNone, slice_index};
-ghost use Rattle.trace_text.specs.Serving.{HasNoEnd};
-ghost use Rattle.trace_text.specs.Faults.{Filled, BegunFault};
+ghost use Rattle.trace_text.specs.Streams.{HasNoEnd};
+ghost use Rattle.trace_text.specs.Collecting.{Filled, BegunFault};
 
+use crate::fault::{MAX_LINES, TraceFault};
 use crate::lines::LineFault;
-use crate::serve::TraceFault;
 use crate::streams::Source;
-
-// How many lines a trace has at most.
-pub const MAX_LINES: u64 = 16_777_216;
+use memchr::memchr;
 
 // A write or a flush was refused, or a read failed.
 #[derive(Clone, Copy)]
@@ -20,12 +18,7 @@ pub fn end_of_line(bytes: &[u8]) -> Option<usize>
         × ((k : ℕ) → k < at → slice_index bytes.now k ≢ 10)) }
     ensures none { IfNone result (HasNoEnd bytes.now) }
 {
-    for (i, byte) in bytes.iter().enumerate() {
-        if *byte == b'\n' {
-            return Some(i);
-        }
-    }
-    None
+    memchr(b'\n', bytes)
 }
 
 // The fault of the line that the last `left` bytes begin, whatever comes behind them: it is one line

@@ -1,19 +1,38 @@
-//! A text is read to its end, and its lines are collected.
-ghost use Rattle.std.specs.Prelude.{◌≡◌, ℕ, ◌+◌, ◌≤◌, ◌++◌, ◌∷◌, [], List, None, Option, length, OnOk, IfOk, IfErr};
+//! A text is read to its end, line by line: the one loop over pieces and lines.
+ghost use Rattle.std.specs.Prelude.{◌≡◌, ℕ, ◌+◌, ◌≤◌, ◌++◌, ◌∷◌, [], List, None, Option, length, OnOk, OnErr, IfOk, IfErr};
 ghost use Rattle.trace_text.specs.declared.lines.LineFault.{LineFault};
-ghost use Rattle.trace_text.specs.Reading.{Misses, Faulty, AllCollected, IsFound, ReadWhole, ReadStops};
+ghost use Rattle.trace_text.specs.Collecting.{Misses, AllCollected, Misread, Reads, AfterPause};
 
+use crate::fault::{MAX_LINES, TraceFault};
 use crate::lines::LineFault;
-use crate::pieces::{MAX_LINES, begun_fault, end_of_line, fill, keep_end};
-use crate::serve::TraceFault;
+use crate::pieces::{Failed, begun_fault, end_of_line, fill, keep_end};
 use crate::streams::Source;
-use std::alloc::Global;
 
-// Why a line wasn't collected.
+// Why a line wasn't taken.
 #[derive(Clone, Copy)]
 pub enum Uncollected {
     Fault(LineFault),
-    Memory,
+    Halted,
+}
+
+// Why a text wasn't read to its end: a fault of the text or its reader, or the collector stopped.
+#[derive(Clone, Copy)]
+pub enum Stop {
+    Fault(TraceFault),
+    Halted,
+}
+
+impl Stop {
+    // The fault that is answered, where this one stands for the collector's own.
+    pub fn fault_or(self, halted: TraceFault) -> TraceFault
+        ensures fault { (fault : TraceFault) → self ≡ Stop.Fault fault → result ≡ fault }
+        ensures halted { self ≡ Stop.Halted → result ≡ halted }
+    {
+        match self {
+            Stop::Fault(fault) => fault,
+            Stop::Halted => halted,
+        }
+    }
 }
 
 // What becomes of the lines of a text.
@@ -21,16 +40,45 @@ pub trait Collector {
     // The fault of a line, where it has one.
     ghost fault_in: { List ℕ → Option LineFault };
 
-    // That it holds what these lines say.
-    ghost holds: { Self → List (List ℕ) → Type 0 };
+    // How many bytes a line has at most, LF not counted.
+    ghost longest: { ℕ };
+
+    // From one state to the other, these lines were taken.
+    ghost went: { Self → List (List ℕ) → Self → Type 0 };
+
+    // It stopped at this line.
+    ghost stopped: { Self → List ℕ → Self → Type 0 };
+
+    // A pause was made.
+    ghost paused: { Self → Self → Type 0 };
+
+    // It stopped at a pause.
+    ghost unpaused: { Self → Self → Type 0 };
+
+    // It still holds what it borrowed.
+    ghost holds_same: { Self → Self → Type 0 };
 
     // Takes the line of this number, counted from 1, without its LF.
     fn collect(&mut self, number: u64, text: &[u8]) -> Result<(), Uncollected>
+        requires went { (start : Self) × (texts : List (List ℕ)) × went start texts self.old
+            × (number ≡ length texts + 1) }
+        requires few { number ≤ 16777216 }
+        requires short { length text.now ≤ longest }
         ensures good { OnOk result (fault_in text.now ≡ None) }
         ensures kept { OnOk result
-            ((texts : List (List ℕ)) → number ≡ length texts + 1 → holds self.old texts
-            → holds self.new (texts ++ text.now ∷ [])) }
-        ensures miss { IfErr result (Misses (fault_in text.now)) };
+            ((start : Self) (texts : List (List ℕ)) → number ≡ length texts + 1
+            → went start texts self.old → went start (texts ++ text.now ∷ []) self.new) }
+        ensures miss { IfErr result (Misses stopped (fault_in text.now) self.old text.now self.new) }
+        ensures same { (start : Self) → holds_same start self.old → holds_same start self.new };
+
+    // What is due before the text's reader is waited for, and before a fault is told.
+    fn pause(&mut self) -> Result<(), Failed>
+        ensures ok { OnOk result (paused self.old self.new) }
+        ensures kept { OnOk result
+            ((start : Self) (texts : List (List ℕ)) → went start texts self.old
+            → went start texts self.new) }
+        ensures err { OnErr result (unpaused self.old self.new) }
+        ensures same { (start : Self) → holds_same start self.old → holds_same start self.new };
 }
 
 fn collect_ended<C: Collector>(
@@ -38,31 +86,36 @@ fn collect_ended<C: Collector>(
     most: usize,
     count: &mut u64,
     bytes: &[u8],
-) -> Result<usize, TraceFault>
-    requires { count.old ≤ 16777216 }
+) -> Result<usize, Stop>
+    requires went { (start : C) × (texts : List (List ℕ)) × C.went start texts collector.old
+        × (count.old ≡ length texts) }
+    requires few { count.old ≤ 16777216 }
+    requires longest { most ≡ C.longest }
     ensures ok { IfOk result
-        (λ left. AllCollected C.fault_in C.holds most collector.old count.old bytes.now left
+        (λ left. AllCollected C.fault_in C.went most collector.old count.old bytes.now left
         collector.new count.new) }
-    ensures err { IfErr result (Faulty C.fault_in most count.old bytes.now) }
-    ensures found { IfErr result IsFound }
+    ensures err { IfErr result
+        (Misread C.fault_in C.went C.stopped most collector.old count.old bytes.now collector.new) }
+    ensures same { (start : C) → C.holds_same start collector.old
+        → C.holds_same start collector.new }
 {
     let mut rest = bytes;
     'lines: while let Some(at) = end_of_line(rest) {
         if *count == MAX_LINES {
-            return Err(TraceFault::TooManyLines);
+            return Err(Stop::Fault(TraceFault::TooManyLines));
         }
         let number = *count + 1;
         if at > most {
-            return Err(TraceFault::Line {
-                number,
-                fault: LineFault::TooLong,
-            });
+            let fault = LineFault::TooLong;
+            return Err(Stop::Fault(TraceFault::Line { number, fault }));
         }
         match collector.collect(number, &rest[..at]) {
             Ok(()) => {}
             Err(miss) => match miss {
-                Uncollected::Fault(fault) => return Err(TraceFault::Line { number, fault }),
-                Uncollected::Memory => return Err(TraceFault::OutOfMemory),
+                Uncollected::Fault(fault) => {
+                    return Err(Stop::Fault(TraceFault::Line { number, fault }));
+                }
+                Uncollected::Halted => return Err(Stop::Halted),
             },
         }
         *count = number;
@@ -71,25 +124,44 @@ fn collect_ended<C: Collector>(
     Ok(rest.len())
 }
 
-fn read_pieces<R: Source, C: Collector>(
+// Makes a pause before a fault is told.
+fn told<C: Collector>(collector: &mut C, fault: TraceFault) -> Stop
+    ensures stop { AfterPause C.paused C.unpaused collector.old collector.new fault result }
+    ensures same { (start : C) → C.holds_same start collector.old
+        → C.holds_same start collector.new }
+{
+    match collector.pause() {
+        Ok(()) => Stop::Fault(fault),
+        Err(_) => Stop::Halted,
+    }
+}
+
+// Reads a text whose lines have at most `most` bytes, LF not counted, up to its first end, through a
+// buffer. The collector pauses before each read, and so at the end, and before a fault is told.
+pub fn read_lines<R: Source, C: Collector>(
     reader: &mut R,
     collector: &mut C,
     most: usize,
     buffer: &mut [u8],
-) -> Result<(), TraceFault>
+) -> Result<(), Stop>
+    requires longest { most ≡ C.longest }
     requires most { most ≤ 1000 }
     requires room { length buffer.old ≡ 4096 }
-    requires empty { C.holds collector.old [] }
-    ensures ok { OnOk result
-        ((texts : List (List ℕ)) × ReadWhole R.gave C.fault_in most reader.old reader.new texts
-        × C.holds collector.new texts) }
-    ensures err { IfErr result (ReadStops R.gave R.failed C.fault_in most reader.old reader.new) }
+    requires went { C.went collector.old [] collector.old }
+    requires same { C.holds_same collector.old collector.old }
+    ensures reads { Reads R.gave R.failed C.fault_in C.went C.stopped C.paused C.unpaused most reader.old
+        reader.new collector.old collector.new result }
+    ensures same { C.holds_same collector.old collector.new }
 {
     let mut count = 0u64;
     let mut filled = 0usize;
     'pieces: loop {
+        match collector.pause() {
+            Ok(()) => {}
+            Err(_) => return Err(Stop::Halted),
+        }
         let Ok(given) = fill(reader, buffer, filled) else {
-            return Err(TraceFault::Read);
+            return Err(Stop::Fault(TraceFault::Read));
         };
         if given == 0 {
             if filled == 0 {
@@ -97,34 +169,18 @@ fn read_pieces<R: Source, C: Collector>(
             }
             let number = count + 1;
             let fault = LineFault::NotEnded;
-            return Err(TraceFault::Line { number, fault });
+            return Err(Stop::Fault(TraceFault::Line { number, fault }));
         }
         let end = filled + given;
-        let left = collect_ended(collector, most, &mut count, &buffer[..end])?;
+        let left = match collect_ended(collector, most, &mut count, &buffer[..end]) {
+            Ok(left) => left,
+            Err(Stop::Halted) => return Err(Stop::Halted),
+            Err(Stop::Fault(fault)) => return Err(told(collector, fault)),
+        };
         if let Some(fault) = begun_fault(count, left, most) {
-            return Err(fault);
+            return Err(told(collector, fault));
         }
         keep_end(buffer, end - left, end);
         filled = left;
     }
-}
-
-// Reads a text whose lines have at most `most` bytes, LF not counted, to its end.
-pub fn read_lines<R: Source, C: Collector>(
-    alloc: Global,
-    reader: &mut R,
-    collector: &mut C,
-    most: usize,
-) -> Result<(), TraceFault>
-    requires most { most ≤ 1000 }
-    requires empty { C.holds collector.old [] }
-    ensures ok { OnOk result
-        ((texts : List (List ℕ)) × ReadWhole R.gave C.fault_in most reader.old reader.new texts
-        × C.holds collector.new texts) }
-    ensures err { IfErr result (ReadStops R.gave R.failed C.fault_in most reader.old reader.new) }
-{
-    let Ok(mut buffer) = vec![in alloc; 0u8; 4096] else {
-        return Err(TraceFault::OutOfMemory);
-    };
-    read_pieces(reader, collector, most, &mut buffer)
 }

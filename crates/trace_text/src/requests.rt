@@ -2,13 +2,14 @@
 ghost use Rattle.std.specs.Prelude.{◌≡◌, ℕ, ◌≤◌, ◌++◌, List, length, OnOk, IfOk, IfErr};
 ghost use Rattle.std.specs.Option.{option_to_list};
 ghost use Rattle.std.specs.List.{AllByRecursion};
-ghost use Rattle.trace_text.specs.Lines.{line_of};
-ghost use Rattle.trace_text.specs.Reading.{fault_of, ReadWhole, ReadStops};
+ghost use Rattle.trace_text.specs.Reading.{ReadWhole, ReadFails};
+ghost use Rattle.trace_text.specs.Serving.{trace_fault};
 ghost use Rattle.trace_text.specs.Requests.{IsRequest, request_in, requests_of};
 
+use crate::fault::{BUFFER_LEN, MAX_LINE, TraceFault};
 use crate::lines::{Line, line_said};
+use crate::pieces::Failed;
 use crate::reading::{Collector, Uncollected, read_lines};
-use crate::serve::TraceFault;
 use crate::streams::Source;
 use flat_model::Event;
 use std::alloc::Global;
@@ -36,21 +37,31 @@ fn request(line: Line) -> Option<Event>
 
 fn keep(events: &mut Vec<Event>, event: Option<Event>) -> Result<(), Uncollected>
     ensures ok { OnOk result (events.new.items ≡ events.old.items ++ option_to_list event) }
-    ensures err { IfErr result (λ miss. miss ≡ Uncollected.Memory) }
+    ensures err { IfErr result (λ miss. miss ≡ Uncollected.Halted) }
 {
     let Some(event) = event else {
         return Ok(());
     };
     match events.push(event) {
         Ok(()) => Ok(()),
-        Err(_) => Err(Uncollected::Memory),
+        Err(_) => Err(Uncollected::Halted),
     }
 }
 
 impl Collector for Requests {
-    ghost fault_in = { λ text. fault_of (line_of text) };
+    ghost fault_in = { trace_fault };
 
-    ghost holds = { λ c texts. c.events.items ≡ requests_of texts };
+    ghost longest = { 64 };
+
+    ghost went = { λ s texts t. t.events.items ≡ requests_of texts };
+
+    ghost stopped = { λ s text t. Unit {0} };
+
+    ghost paused = { λ s t. t.events.items ≡ s.events.items };
+
+    ghost unpaused = { λ s t. ⊥ };
+
+    ghost holds_same = { λ s t. Unit {0} };
 
     fn collect(&mut self, _number: u64, text: &[u8]) -> Result<(), Uncollected> {
         let line = match line_said(text) {
@@ -58,6 +69,10 @@ impl Collector for Requests {
             Err(fault) => return Err(Uncollected::Fault(fault)),
         };
         keep(&mut self.events, request(line))
+    }
+
+    fn pause(&mut self) -> Result<(), Failed> {
+        Ok(())
     }
 }
 
@@ -75,18 +90,19 @@ impl Collector for Requests {
 pub fn read_requests<R: Source>(alloc: Global, reader: &mut R) -> Result<Vec<Event>, TraceFault>
     ensures read { IfOk result
         (λ events. (texts : List (List ℕ))
-        × ReadWhole R.gave (λ text. fault_of (line_of text)) 64 reader.old reader.new texts
+        × ReadWhole R.gave trace_fault 64 reader.old reader.new texts
         × (events.items ≡ requests_of texts)) }
     ensures requests { IfOk result (λ events. AllByRecursion IsRequest events.items) }
     ensures few { IfOk result (λ events. length events.items ≤ 16777216) }
     ensures fault { IfErr result
-        (ReadStops R.gave R.failed (λ text. fault_of (line_of text)) 64 reader.old reader.new) }
+        (ReadFails R.gave R.failed trace_fault 64 reader.old reader.new) }
 {
     let mut requests = Requests {
         events: Vec::new(alloc),
     };
-    match read_lines(alloc, reader, &mut requests, 64) {
+    let mut buffer = vec![in alloc; 0u8; BUFFER_LEN]?;
+    match read_lines(reader, &mut requests, MAX_LINE, &mut buffer) {
         Ok(()) => Ok(requests.events),
-        Err(fault) => Err(fault),
+        Err(stop) => Err(stop.fault_or(TraceFault::OutOfMemory)),
     }
 }

@@ -1,23 +1,24 @@
 //! A trace is served: each line is applied, and its answer written, before the next.
-ghost use Rattle.std.specs.Prelude.{◌≡◌, ℕ, [], ◌+◌, ◌-◌, ◌<◌, ◌≤◌, ◌++◌, length, take, drop, OnOk, OnErr, IfOk, IfErr, IfSome, IfNone, Some, slice_index, ◌≢◌};
+ghost use Rattle.std.specs.Prelude.{◌≡◌, ℕ, [], ◌+◌, ◌<◌, ◌≤◌, ◌++◌, length, Ok, OnOk, OnErr, Some};
 ghost use Rattle.std.specs.Option.{option_to_list};
 ghost use Rattle.arrayvec.specs.ArrayVec.{array_vec_len};
 ghost use Rattle.flat_model.specs.Flat.{flat_run};
+ghost use Rattle.trace_text.specs.Streams.{Moves, Stopped};
 ghost use Rattle.trace_text.specs.Lines.{line_of};
 ghost use Rattle.trace_text.specs.Texts.{flat, reply_text, after_line};
-ghost use Rattle.trace_text.specs.Serving.{HasNoEnd, IsWithin, Moves, Stopped, counted_reply, event_in, answer_to};
-ghost use Rattle.trace_text.specs.Faults.{StopsLine, LineServed, Fails, Ended, Ends, AfterFlush, IsInside, Filled, Unfilled};
+ghost use Rattle.trace_text.specs.Serving.{IsWithin, LineServed, Applied, Broken, Ends, no_counts, counted_reply, event_in, answer_to, trace_fault};
 
-use crate::lines::{Line, LineFault, line_said};
+use crate::fault::{BUFFER_LEN, MAX_LINE, TraceFault};
+use crate::lines::{Line, line_said};
 use crate::machine::Core;
-use crate::pieces::{Failed, MAX_LINES, begun_fault, end_of_line, fill, keep_end};
+use crate::pieces::Failed;
+use crate::reading::{Collector, Uncollected, read_lines};
 use crate::streams::{Sink, Source};
 use crate::text::{push_answer, push_bank, push_register, push_settled};
 use arrayvec::ArrayVec;
 use flat_model::Answer;
 use machine_core::Machine;
 use std::alloc::Global;
-use thiserror::Error;
 
 /// What was served: every line counts once, and the answer to an event once more, by its kind.
 #[derive(Clone, Copy, Debug, Default, PartialEq, Eq)]
@@ -34,33 +35,6 @@ pub struct Counts {
     pub nothing: u64,
     /// Events that were refused.
     pub refused: u64,
-}
-
-/// Why a trace wasn't read or served to its end.
-#[derive(Clone, Copy, Debug, PartialEq, Eq, Error)]
-pub enum TraceFault {
-    /// The line of this number, counted from 1, has this fault.
-    #[error("line {number}: {fault}")]
-    Line { number: u64, fault: LineFault },
-    /// The reader answered an error.
-    #[error("read failed")]
-    Read,
-    /// The writer answered an error, or took no byte.
-    #[error("write failed")]
-    Write,
-    /// There was too little memory.
-    #[error("out of memory")]
-    OutOfMemory,
-    /// Line 16,777,217 begins.
-    #[error("too many lines")]
-    TooManyLines,
-}
-
-// Why a line wasn't served.
-#[derive(Clone, Copy)]
-pub enum LineStop {
-    Fault(LineFault),
-    Refusal,
 }
 
 fn write_whole<W: Sink>(writer: &mut W, bytes: &[u8]) -> Result<(), Failed>
@@ -121,151 +95,106 @@ fn push_reply<C: Core>(out: &mut ArrayVec<u8, 768>, core: &mut C, line: Line) ->
     None
 }
 
+// Applies a line, and then writes it with its answer.
 fn serve_line<W: Sink, C: Core>(
     writer: &mut W,
     core: &mut C,
     out: &mut ArrayVec<u8, 768>,
     counts: &mut Counts,
     text: &[u8],
-) -> Result<(), LineStop>
+    line: Line,
+) -> Result<(), Failed>
     requires short { length text.now ≤ 64 }
+    requires said { line_of text.now ≡ Ok line }
     requires within { IsWithin counts.old }
     requires more { counts.old.lines < 16777216 }
     ensures ok { OnOk result
         (LineServed W.took writer.old (C.state core.old) counts.old text.now writer.new
         (C.state core.new) counts.new) }
-    ensures err { IfErr result
-        (StopsLine W.took W.refused writer.old (C.state core.old) text.now writer.new
+    ensures err { OnErr result
+        (Broken W.took W.refused writer.old (C.state core.old) text.now writer.new
         (C.state core.new)) }
 {
-    let line = match line_said(text) {
-        Ok(line) => line,
-        Err(fault) => return Err(LineStop::Fault(fault)),
-    };
     out.clear();
     let _ = out.try_extend_from_slice(text);
     let _ = out.try_extend_from_slice(b" -> ");
     let answer = push_reply(out, core, line);
     count(counts, answer);
     out.push(b'\n');
-    match write_whole(writer, out.as_slice()) {
-        Ok(()) => Ok(()),
-        Err(_) => Err(LineStop::Refusal),
+    write_whole(writer, out.as_slice())
+}
+
+// A machine and a writer that serve the lines of a trace.
+#[derive(Drop)]
+pub struct Serving<'a, W, C> {
+    pub writer: &'a mut W,
+    pub core: &'a mut C,
+    pub out: ArrayVec<u8, 768>,
+    pub counts: Counts,
+}
+
+impl<'a, W: Sink, C: Core> Collector for Serving<'a, W, C> {
+    ghost fault_in = { trace_fault };
+
+    ghost longest = { 64 };
+
+    ghost went = { λ s texts t. Applied W.took s.writer.now (C.state s.core.now) texts t.writer.now (C.state t.core.now) t.counts };
+
+    ghost stopped = { λ s text t. Broken W.took W.refused s.writer.now (C.state s.core.now) text t.writer.now (C.state t.core.now) };
+
+    ghost paused = { λ s t. W.took s.writer.now [] t.writer.now × (C.state t.core.now ≡ C.state s.core.now) × (t.counts ≡ s.counts) };
+
+    ghost unpaused = { λ s t. W.unflushed s.writer.now t.writer.now × (C.state t.core.now ≡ C.state s.core.now) };
+
+    ghost holds_same = { λ s t. (t.writer.ghost_name ≡ s.writer.ghost_name) × (t.core.ghost_name ≡ s.core.ghost_name) };
+
+    fn collect(&mut self, _number: u64, text: &[u8]) -> Result<(), Uncollected> {
+        let line = match line_said(text) {
+            Ok(line) => line,
+            Err(fault) => return Err(Uncollected::Fault(fault)),
+        };
+        match serve_line(
+            self.writer,
+            self.core,
+            &mut self.out,
+            &mut self.counts,
+            text,
+            line,
+        ) {
+            Ok(()) => Ok(()),
+            Err(_) => Err(Uncollected::Halted),
+        }
+    }
+
+    fn pause(&mut self) -> Result<(), Failed> {
+        match self.writer.flush_all() {
+            Ok(()) => Ok(()),
+            Err(_) => Err(Failed),
+        }
     }
 }
 
-fn serve_ended<W: Sink, C: Core>(
-    writer: &mut W,
-    core: &mut C,
-    out: &mut ArrayVec<u8, 768>,
-    counts: &mut Counts,
-    bytes: &[u8],
-) -> Result<usize, TraceFault>
-    requires { IsWithin counts.old }
-    ensures ok { IfOk result (λ left. Ended W.took writer.old (C.state core.old) counts.old bytes.now left
-        writer.new (C.state core.new) counts.new) }
-    ensures err { IfErr result (Fails W.took W.refused W.unflushed writer.old (C.state core.old) counts.old bytes.now
-        writer.new (C.state core.new)) }
-    ensures inside { IfErr result IsInside }
-{
-    let mut rest = bytes;
-    'lines: while let Some(at) = end_of_line(rest) {
-        if counts.lines == MAX_LINES {
-            return Err(TraceFault::TooManyLines);
-        }
-        let number = counts.lines + 1;
-        if at > 64 {
-            return Err(TraceFault::Line {
-                number,
-                fault: LineFault::TooLong,
-            });
-        }
-        match serve_line(writer, core, out, counts, &rest[..at]) {
-            Ok(()) => {}
-            Err(stop) => match stop {
-                LineStop::Fault(fault) => return Err(TraceFault::Line { number, fault }),
-                LineStop::Refusal => return Err(TraceFault::Write),
-            },
-        }
-        rest = &rest[at + 1..];
-    }
-    Ok(rest.len())
-}
-
-fn flushed<W: Sink>(writer: &mut W, fault: TraceFault) -> TraceFault
-    ensures { AfterFlush W.took W.unflushed writer.old writer.new fault result }
-{
-    match fault {
-        TraceFault::Write => TraceFault::Write,
-        other => match writer.flush_all() {
-            Ok(()) => other,
-            Err(_) => TraceFault::Write,
-        },
-    }
-}
-
-// Flushes the writer, so that what is due is out before the reader is waited for, and reads once,
-// behind the bytes that stand at the buffer's front.
-fn flush_and_fill<R: Source, W: Sink>(
+// Serves a trace to its end, through a buffer.
+fn serve_through<R: Source, W: Sink, C: Core>(
     reader: &mut R,
-    writer: &mut W,
-    buffer: &mut [u8],
-    filled: usize,
-) -> Result<usize, TraceFault>
-    requires { filled < length buffer.old }
-    ensures ok { IfOk result (Filled R.gave reader.old reader.new buffer.old buffer.new filled) }
-    ensures flushed { OnOk result (W.took writer.old [] writer.new) }
-    ensures err { IfErr result
-        (Unfilled R.failed W.took W.unflushed reader.old reader.new writer.old writer.new) }
-{
-    match writer.flush_all() {
-        Ok(()) => {}
-        Err(_) => return Err(TraceFault::Write),
-    }
-    match fill(reader, buffer, filled) {
-        Ok(given) => Ok(given),
-        Err(_) => Err(TraceFault::Read),
-    }
-}
-
-fn serve_pieces<R: Source, W: Sink, C: Core>(
-    reader: &mut R,
-    writer: &mut W,
-    core: &mut C,
+    serving: &mut Serving<W, C>,
     buffer: &mut [u8],
 ) -> Result<Counts, TraceFault>
-    requires { length buffer.old ≡ 4096 }
-    ensures { Ends R.gave R.failed W.took W.refused W.unflushed reader.old reader.new writer.old writer.new
-        (C.state core.old) (C.state core.new) result }
+    requires room { length buffer.old ≡ 4096 }
+    requires fresh { serving.old.counts ≡ no_counts }
+    ensures ends { Ends R.gave R.failed W.took W.refused W.unflushed reader.old reader.new
+        serving.old.writer.now serving.new.writer.now (C.state serving.old.core.now)
+        (C.state serving.new.core.now) result }
+    ensures same_writer { serving.new.writer.ghost_name ≡ serving.old.writer.ghost_name }
+    ensures same_core { serving.new.core.ghost_name ≡ serving.old.core.ghost_name }
 {
-    let mut out = ArrayVec::new();
-    let mut counts = Counts::default();
-    let mut filled = 0usize;
-    'pieces: loop {
-        let given = flush_and_fill(reader, writer, buffer, filled)?;
-        if given == 0 {
-            if filled == 0 {
-                return Ok(counts);
-            }
-            let number = counts.lines + 1;
-            let fault = LineFault::NotEnded;
-            return Err(TraceFault::Line { number, fault });
-        }
-        let end = filled + given;
-        let left = match serve_ended(writer, core, &mut out, &mut counts, &buffer[..end]) {
-            Ok(left) => left,
-            Err(fault) => return Err(flushed(writer, fault)),
-        };
-        if let Some(fault) = begun_fault(counts.lines, left, 64) {
-            return Err(flushed(writer, fault));
-        }
-        keep_end(buffer, end - left, end);
-        filled = left;
+    match read_lines(reader, serving, MAX_LINE, buffer) {
+        Ok(()) => Ok(serving.counts),
+        Err(stop) => Err(stop.fault_or(TraceFault::Write)),
     }
 }
 
-// Serves a trace to its end.
-pub fn serve<R: Source, W: Sink, C: Core>(
+fn serve<R: Source, W: Sink, C: Core>(
     alloc: Global,
     reader: &mut R,
     writer: &mut W,
@@ -274,10 +203,14 @@ pub fn serve<R: Source, W: Sink, C: Core>(
     ensures { Ends R.gave R.failed W.took W.refused W.unflushed reader.old reader.new writer.old writer.new
         (C.state core.old) (C.state core.new) result }
 {
-    let Ok(mut buffer) = vec![in alloc; 0u8; 4096] else {
-        return Err(TraceFault::OutOfMemory);
+    let mut buffer = vec![in alloc; 0u8; BUFFER_LEN]?;
+    let mut serving = Serving {
+        writer,
+        core,
+        out: ArrayVec::new(),
+        counts: Counts::default(),
     };
-    serve_pieces(reader, writer, core, &mut buffer)
+    serve_through(reader, &mut serving, &mut buffer)
 }
 
 /// Serves a trace: each line is applied to the machine, and its text written, before the next line

@@ -1,5 +1,5 @@
 use Rattle.std.proofs.Common.{arith}
-use Rattle.trace_text.proofs.Ends.{filled_by}
+use Rattle.trace_text.proofs.Readings.{filled_by}
 use Rattle.trace_text.proofs.pieces.fill.Goals as goal
 
 pub returns-in-Ok-clause-ok : goal.returns-in-Ok-clause-ok

@@ -1,15 +1,24 @@
-use Rattle.std.proofs.Common.{arith, sym, ap, subst, length}
+use Rattle.std.proofs.Common.{arith, ◌≡◌, ℕ, List, sym, ◌∙◌, ap, subst, length}
 use Rattle.std.specs.List.{AllByRecursion}
-use Rattle.trace_text.specs.Requests.{IsRequest}
+use Rattle.trace_text.specs.Requests.{IsRequest, requests_of}
+use Rattle.trace_text.specs.declared.requests.Requests.{Requests}
+use Rattle.trace_text.specs.Serving.{trace_fault}
+use Rattle.trace_text.proofs.Ends.{read_fails}
 use Rattle.trace_text.proofs.Held.{requests_are, requests_few}
 use Rattle.trace_text.proofs.requests.read_requests.Goals as goal
 
 pub returns-in-Ok-clause-requests : goal.returns-in-Ok-clause-requests
 returns-in-Ok-clause-requests g c =
-    let ok = c.in-Ok.ensures.ok in
-    subst (AllByRecursion IsRequest) (sym ok.2) (requests_are ok.0)
+    let reads = c.in-Ok.ensures.reads in
+    subst (AllByRecursion IsRequest) (sym (reads.4 ∙ reads.3)) (requests_are reads.0)
 
 pub returns-in-Ok-clause-few : goal.returns-in-Ok-clause-few
 returns-in-Ok-clause-few g c =
-    let ok = c.in-Ok.ensures.ok in
-    omega (arith, ap length ok.2, requests_few ok.0, ok.1.within)
+    let reads = c.in-Ok.ensures.reads in
+    omega (arith, ap length (reads.4 ∙ reads.3), requests_few reads.0, reads.2.1.within)
+
+pub returns-in-Err-clause-fault : goal.returns-in-Err-clause-fault
+returns-in-Err-clause-fault g c =
+    let went : Requests → List (List ℕ) → Requests → Type 0 = λ s texts t. t.events.items ≡ requests_of texts in
+    let start : Requests = record { events = c.new.result } in
+    read_fails g.R.Source.gave g.R.Source.failed trace_fault went (λ s text t. Unit {0}) (λ s t. t.events.items ≡ s.events.items) (λ s t. ⊥) 64 c.args.reader.now c.read_lines.new.reader start c.read_lines.new.collector c.in-Err.stop c.fault_or.result c.in-Err.ensures.reads c.fault_or.ensures.fault c.fault_or.ensures.halted

@@ -1,5 +1,5 @@
 use Rattle.std.proofs.Common.{length}
-use Rattle.trace_text.specs.Serving.{Partly}
+use Rattle.trace_text.specs.Streams.{Partly}
 use Rattle.trace_text.proofs.serve.write_whole.Given as goal
 
 abbrev pub invariant-loop-rest : goal.invariant-loop-rest
