@@ -1,2 +1,3 @@
 pub mod ShapeFile
 pub mod Sweep
+pub mod Jobs

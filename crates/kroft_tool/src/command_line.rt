@@ -23,8 +23,15 @@ pub struct CommandLine<'a> {
     pub shape_file: Option<&'a str>,
 }
 
-const PROGRAM_NOTES: &str = "Each command reads standard input and writes standard output. \
-A fault is one line on standard error.
+/// What the user calls the program.
+const PROGRAM: &str = "kroft";
+
+/// The name of the argument that stands for a trace's path.
+const TRACE: &str = "trace";
+
+const PROGRAM_NOTES: &str =
+    "Each command reads standard input and writes standard output: `kroft run < FILE`.
+A fault is one line on standard error. `kroft run --help` lists the lines of a trace.
 
 Statuses:
   0  done, or help was asked for
@@ -32,24 +39,63 @@ Statuses:
   2  the command line is wrong
   3  the shape file is wrong
   4  the input is wrong, or a stream failed
-  5  there is too little memory, or a sweep came to its limit
+  5  there is too little memory
+
+Keys of a shape file, a TOML table of whole numbers:
+  words        1 to 1048576, a multiple of 4        default 64
+  sets         1 to 1024                            default 4
+  ways         1 or 2                               default 2
+  regs         1, 2, 4 or 8                         default 4
+  banks        1 to 16                              default 4
+  bank_queue   4 / banks, rounded up, to 64         default 8
+  write_queue  4 to 256                             default 8
+  replies      1 to 64                              default 8
 
 Example:
-  $ echo 'load 1 4' | kroft_tool run
+  $ echo 'load 1 4' | kroft run
   load 1 4 -> accepted";
 
-const RUN_NOTES: &str = "Reads a trace, one event a line, such as 'load TAG AT' or 'serve BANK'.
+const RUN_NOTES: &str = "Reads a trace from standard input, one event a line:
+  load TAG AT           load the word at AT under a tag
+  store AT MASK WORD    store the bytes of a word that the mask names
+  prefetch AT           bring the block of a word in
+  evict BLOCK           give a block's frame up
+  drain                 send the front of the write queue to its bank
+  serve BANK            let a bank serve its first command
+  arrive BANK PLACE     move a bank's answer into the input stack
+  process PLACE         take a word of the input stack
+  take PLACE            take a ready value
+  reg SLOT              show a miss register
+  bank AT               show a word as its bank has it
+  settled               show whether nothing is on its way
 Writes each line with ' -> ' and its answer behind it.
+
+A tag is 0 to 65535, any other number 0 to 4294967295, with no zero in front. A mask is four
+digits 0 or 1, byte 0 first. A word is eight digits 0 to 9 or a to f, byte 0 first. One space
+stands between the words of a line, and an LF at its end: no comment, no empty line, no CR.
+A line has at most 64 bytes, a trace at most 16777216 lines.
+
+'reg' shows a register as
+  V- 0000001 0001 00 [--- 0000 00000 0000 00000000] [1-- 0100 00001 0100 00aa0000] ..
+V: it is in use, O: its block was given up; then the block, the frame and how many words of it
+came. For each word: how many loads wait for it (or -), I: it stands in the input stack, P: it
+came; the bytes that were stored meanwhile; and of the first load that waits its tag, the
+bytes that it holds already, and their values.
 
 Statuses: 0 all lines were served, 2 the command line is wrong, 3 the shape file is wrong,
 4 a line is faulty or a stream failed, 5 there is too little memory.
 
 Example:
-  $ printf 'load 1 4\\nserve 0\\n' | kroft_tool run
+  $ printf 'load 1 4\\nserve 0\\n' | kroft run
   load 1 4 -> accepted
   serve 0 -> moved";
 
-const CHECK_NOTES: &str = "Reads lines as 'run' writes them, from whatever machine or simulator.
+const CHECK_NOTES: &str =
+    "Reads lines from standard input as 'run' writes them, from whatever machine or simulator:
+a line of a trace ('kroft run --help' lists them), ' -> ', and its answer, one of
+  accepted, moved, nothing, refused N (1 to 13), value TAG WORD
+What stands behind the ' -> ' of 'reg', 'bank' and 'settled' is passed over. A line has at
+most 768 bytes.
 Writes 'flat run, N steps', or 'mismatch at line N' for the first line that flat memory
 doesn't explain. Memory begins with zeros; of a shape file only the words matter.
 
@@ -57,19 +103,24 @@ Statuses: 0 the run is flat, 1 it isn't, 2 the command line is wrong, 3 the shap
 4 a line is faulty or a stream failed, 5 there is too little memory.
 
 Example:
-  $ echo 'take 0 -> value 1 00000000' | kroft_tool check
+  $ echo 'take 0 -> value 1 00000000' | kroft check
   mismatch at line 1";
 
-const SWEEP_NOTES: &str = "Reads a trace and keeps its loads, stores, prefetches and evictions.
+const SWEEP_NOTES: &str =
+    "Reads a trace from standard input ('kroft run --help' lists its lines), and keeps its
+  load TAG AT, store AT MASK WORD, prefetch AT and evict BLOCK
 Writes a row for 1, 2, 4 and 8 registers: how many requests were accepted, denied and stalled,
 how many pumps the stalled ones waited for, and how many pumps and values there were in all.
-A shape file's number of registers isn't used.
+A pump is one step of the machine's own driver: it counts work, and not time, and stalled
+requests wait one after another. So on a long trace the rows hardly differ. A shape file's
+number of registers isn't used.
 
 Statuses: 0 done, 2 the command line is wrong, 3 the shape file is wrong, 4 a line is faulty or a
-stream failed, 5 there is too little memory, or a machine came to its limit of turns.
+stream failed, 5 there is too little memory. (The limit of turns that a sweep has for callers
+with a gate of their own can't be reached here: the program's gate is always open.)
 
 Example:
-  $ echo 'load 1 0' | kroft_tool sweep
+  $ echo 'load 1 0' | kroft sweep
   regs 1 accepted 1 denied 0 stalled 0 waited 0 pumps 13 values 1
   regs 2 accepted 1 denied 0 stalled 0 waited 0 pumps 13 values 1
   regs 4 accepted 1 denied 0 stalled 0 waited 0 pumps 13 values 1
@@ -84,6 +135,12 @@ fn shape_argument<'a>(alloc: Global) -> Arg<'a> {
         .help("The TOML file with the machine's numbers")
 }
 
+// The name of a trace, where a user gives one: no command takes it, and the refusal says what to
+// write.
+fn trace_argument<'a>(alloc: Global) -> Arg<'a> {
+    Arg::new(alloc, TRACE).action(ArgAction::Set).hide(true)
+}
+
 // A subcommand, with what its help says.
 fn subcommand<'a>(
     alloc: Global,
@@ -94,17 +151,18 @@ fn subcommand<'a>(
     Command::new(alloc, name)
         .about(about)
         .after_help(notes)
-        .arg(shape_argument(alloc))
+        .arg(shape_argument(alloc))?
+        .arg(trace_argument(alloc))
 }
 
 // The program's whole command line.
 fn program<'a>(alloc: Global) -> Result<Command<'a>, AllocError> {
-    Command::new(alloc, "kroft_tool")
+    Command::new(alloc, PROGRAM)
         .version("0.1.0")
         .about("A lockup-free cache that goes on serving while blocks are missing")
         .after_help(PROGRAM_NOTES)
         .no_binary_name(true)
-        .bin_name("kroft_tool")?
+        .bin_name(PROGRAM)?
         .subcommand_required(true)
         .disable_help_subcommand(true)
         .arg(shape_argument(alloc))?
@@ -129,12 +187,16 @@ pub fn read_words<'a>(alloc: Global, words: &'a [&'a str]) -> Result<CommandLine
     let mut command = program(alloc)?;
     let matches = command.try_get_matches_from_mut(words)?;
     let before = matches.get_str("shape");
-    let (task, behind) = match matches.subcommand() {
-        Some(("check", rest)) => (Task::Check, rest.get_str("shape")),
-        Some(("sweep", rest)) => (Task::Sweep, rest.get_str("shape")),
-        Some((_, rest)) => (Task::Run, rest.get_str("shape")),
-        None => (Task::Run, None),
+    let (task, behind, trace) = match matches.subcommand() {
+        Some(("check", rest)) => (Task::Check, rest.get_str("shape"), rest.get_str(TRACE)),
+        Some(("sweep", rest)) => (Task::Sweep, rest.get_str("shape"), rest.get_str(TRACE)),
+        Some((_, rest)) => (Task::Run, rest.get_str("shape"), rest.get_str(TRACE)),
+        None => (Task::Run, None, None),
     };
+    if trace.is_some() {
+        let told = "the trace is read from standard input: write '< FILE'";
+        return Err(command.error(ErrorKind::UnknownArgument, told)?);
+    }
     if before.is_some() && behind.is_some() {
         let told = "the argument '--shape <FILE>' cannot be used multiple times";
         return Err(command.error(ErrorKind::ArgumentConflict, told)?);

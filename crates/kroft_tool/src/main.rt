@@ -3,6 +3,8 @@
 
 mod command_line;
 mod driven;
+mod fault;
+mod jobs;
 mod row;
 mod shape_file;
 mod sweep;
@@ -11,7 +13,7 @@ mod tests;
 mod tool;
 
 pub use row::Row;
-pub use shape_file::{BLOCK_WORDS, ShapeFault, ToolShape, read_shape};
+pub use shape_file::{BLOCK_WORDS, ShapeFault, ToolShape, read_shape, shape_of_table};
 use std::io::{BufWriter, Input, Print};
 use std::process::ExitCode;
 use std::rt::{Env, Files};

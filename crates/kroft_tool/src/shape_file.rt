@@ -120,8 +120,11 @@ pub fn read_shape(alloc: Global, text: &str) -> Result<ToolShape, ShapeFault>
     }
 }
 
-// What a table says.
-fn shape_of_table(table: &Table) -> Result<ToolShape, ShapeFault>
+/// What a table says: the answer of [`read_shape`] for a text that is TOML. A key that no shape has
+/// is found first, then what is no whole number, then a number out of its range, each of the last
+/// two in the order ways, regs, words, sets, banks, bank_queue, write_queue, replies.
+/// `OutOfMemory` and `NotToml` never come.
+pub fn shape_of_table(table: &Table) -> Result<ToolShape, ShapeFault>
     ensures { result ≡ table_says (table_view table.now) }
 {
     if has_other_key(table) {

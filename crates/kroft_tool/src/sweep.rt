@@ -64,8 +64,8 @@ impl SweepGate for OpenGate {
     fn ended(&self, _place: usize) {}
 }
 
-// The first field of a shape that is out of its range.
-fn bad_field(tool: &ToolShape) -> Option<ShapeField>
+/// The first field of a shape that is out of its range.
+pub(crate) fn bad_field(tool: &ToolShape) -> Option<ShapeField>
     ensures { result ≡ bad_field tool.now }
 {
     if tool.ways < 1 || tool.ways > 2 {

@@ -1,6 +1,7 @@
 //! The worked examples of the program, each under its name.
 
 mod help;
+mod jobs;
 mod program;
 mod refusals;
 mod shapes;

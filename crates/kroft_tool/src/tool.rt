@@ -3,104 +3,17 @@
 ghost use Rattle.std.specs.Prelude.{◌≤◌, IfOk};
 
 use crate::command_line::{Task, read_words};
-use crate::row::Row;
-use crate::shape_file::{BLOCK_WORDS, ShapeFault, ToolShape, read_shape};
-use crate::sweep::{OpenGate, SweepFault, sweep};
+use crate::fault::ToolFault;
+use crate::jobs::{Verdict, check, serve, sweep_registers};
+use crate::shape_file::{ShapeFault, ToolShape, read_shape};
+use crate::sweep::bad_field;
 use clap::error::ErrorKind;
-use flat_model::{MakeFault, ShapeField, Word};
-use machine_core::Machine;
-use std::alloc::{AllocError, Global};
+use std::alloc::Global;
 use std::io::{Read, Write};
 use std::rt::Files;
 use std::thread::Threads;
 use std::{fmt, io};
-use thiserror::Error;
-use trace_text::{CheckEnd, TraceFault, check_text, read_requests, serve_text};
-
-// Turns of each thread of a sweep.
-const SWEEP_TURNS: u64 = 1_000_000;
-
-/// Why the program ends without having done what it was asked for.
-#[derive(Debug, Drop, Error)]
-enum ToolFault {
-    /// The words of the command line.
-    #[error("{0}")]
-    CommandLine(clap::Error),
-    /// The shape file can't be read, or isn't UTF-8.
-    #[error("shape: file not readable")]
-    ShapeUnreadable,
-    /// What the shape file says.
-    #[error("{0}")]
-    Shape(ShapeFault),
-    /// What the trace says, or a failed read or write.
-    #[error("{0}")]
-    Trace(TraceFault),
-    /// The thread of a sweep used up its turns.
-    #[error("turn limit")]
-    TurnLimit,
-    /// There was too little memory.
-    #[error("out of memory")]
-    OutOfMemory,
-}
-
-impl ToolFault {
-    // The status with which the program ends.
-    fn status(&self) -> u8
-        ensures { result ≤ 5 }
-    {
-        match self {
-            ToolFault::CommandLine(_) => 2,
-            ToolFault::ShapeUnreadable | ToolFault::Shape(_) => 3,
-            ToolFault::Trace(_) => 4,
-            ToolFault::TurnLimit | ToolFault::OutOfMemory => 5,
-        }
-    }
-}
-
-impl From<AllocError> for ToolFault {
-    fn from(_fault: AllocError) -> ToolFault {
-        ToolFault::OutOfMemory
-    }
-}
-
-impl From<ShapeFault> for ToolFault {
-    fn from(fault: ShapeFault) -> ToolFault {
-        match fault {
-            ShapeFault::OutOfMemory => ToolFault::OutOfMemory,
-            _ => ToolFault::Shape(fault),
-        }
-    }
-}
-
-impl From<TraceFault> for ToolFault {
-    fn from(fault: TraceFault) -> ToolFault {
-        match fault {
-            TraceFault::OutOfMemory => ToolFault::OutOfMemory,
-            _ => ToolFault::Trace(fault),
-        }
-    }
-}
-
-impl From<MakeFault> for ToolFault {
-    fn from(fault: MakeFault) -> ToolFault {
-        match fault {
-            MakeFault::OutOfMemory => ToolFault::OutOfMemory,
-            MakeFault::BadShape(field) => ToolFault::Shape(ShapeFault::BadShape(field)),
-        }
-    }
-}
-
-impl From<SweepFault> for ToolFault {
-    fn from(fault: SweepFault) -> ToolFault {
-        match fault {
-            SweepFault::OutOfMemory => ToolFault::OutOfMemory,
-            SweepFault::TurnLimit => ToolFault::TurnLimit,
-            SweepFault::BadShape { place: _, field } => {
-                ToolFault::Shape(ShapeFault::BadShape(field))
-            }
-        }
-    }
-}
+use trace_text::TraceFault;
 
 /// Does what the words behind the program's name ask for, and gives the status that the program
 /// ends with: 0 done, 1 a mismatch was found, 2 the words were refused, 3 a fault of the shape
@@ -157,7 +70,7 @@ fn work<R: AllocGlobal + Files + Threads + Sync, I: Read, O: Write>(
     input: &mut I,
     output: &mut O,
 ) -> Result<u8, ToolFault>
-    ensures { IfOk result (λ status. status ≤ 5) }
+    ensures { IfOk result (λ status. status ≤ 1) }
 {
     let asked = match read_words(rt.alloc(), words) {
         Ok(asked) => asked,
@@ -177,8 +90,8 @@ fn work<R: AllocGlobal + Files + Threads + Sync, I: Read, O: Write>(
     };
     match asked.task {
         Task::Run => run(rt.alloc(), &shape, input, output),
-        Task::Check => check(rt.alloc(), &shape, input, output),
-        Task::Sweep => sweep_registers(rt, &shape, input, output),
+        Task::Check => judge(rt.alloc(), &shape, input, output),
+        Task::Sweep => compare(rt, &shape, input, output),
     }
 }
 
@@ -201,82 +114,40 @@ fn run<I: Read, O: Write>(
     input: &mut I,
     output: &mut O,
 ) -> Result<u8, ToolFault>
-    ensures { IfOk result (λ status. status ≤ 5) }
+    ensures { IfOk result (λ status. status ≤ 1) }
 {
-    match (tool.ways, tool.regs) {
-        (1, 1) => serve_on::<1, 1, I, O>(alloc, tool, input, output),
-        (1, 2) => serve_on::<1, 2, I, O>(alloc, tool, input, output),
-        (1, 4) => serve_on::<1, 4, I, O>(alloc, tool, input, output),
-        (1, 8) => serve_on::<1, 8, I, O>(alloc, tool, input, output),
-        (2, 1) => serve_on::<2, 1, I, O>(alloc, tool, input, output),
-        (2, 2) => serve_on::<2, 2, I, O>(alloc, tool, input, output),
-        (2, 4) => serve_on::<2, 4, I, O>(alloc, tool, input, output),
-        (2, 8) => serve_on::<2, 8, I, O>(alloc, tool, input, output),
-        // No shape file says so.
-        _ => Err(ToolFault::Shape(ShapeFault::BadShape(ShapeField::Regs))),
+    if let Some(field) = bad_field(tool) {
+        return Err(ToolFault::Shape(ShapeFault::BadShape(field)));
     }
-}
-
-fn serve_on<const WAYS: usize, const REGS: usize, I: Read, O: Write>(
-    alloc: Global,
-    tool: &ToolShape,
-    input: &mut I,
-    output: &mut O,
-) -> Result<u8, ToolFault>
-    ensures { IfOk result (λ status. status ≤ 5) }
-{
-    let image = vec![in alloc; Word::default(); tool.shape.words as usize]?;
-    let mut machine: Machine<WAYS, 4, REGS, 4> = Machine::new(alloc, tool.shape, image.as_slice())?;
-    serve_text(alloc, input, output, &mut machine)?;
+    serve(alloc, tool, input, output)?;
     Ok(0)
 }
 
 // Judges what a run wrote.
-fn check<I: Read, O: Write>(
+fn judge<I: Read, O: Write>(
     alloc: Global,
     tool: &ToolShape,
     input: &mut I,
     output: &mut O,
 ) -> Result<u8, ToolFault>
-    ensures { IfOk result (λ status. status ≤ 5) }
+    ensures { IfOk result (λ status. status ≤ 1) }
 {
-    let status = match check_text(alloc, input, tool.shape.words)? {
-        CheckEnd::Flat { steps } => {
-            show(output, format_args!("flat run, {steps} steps\n"))?;
-            0
-        }
-        CheckEnd::Mismatch { line } => {
-            show(output, format_args!("mismatch at line {line}\n"))?;
-            1
-        }
-    };
+    let verdict = Verdict(check(alloc, tool, input)?);
+    show(output, format_args!("{verdict}\n"))?;
     finish(output)?;
-    Ok(status)
+    Ok(verdict.status())
 }
 
 // Serves the requests with 1, 2, 4 and 8 registers.
-fn sweep_registers<R: AllocGlobal + Threads + Sync, I: Read, O: Write>(
+fn compare<R: AllocGlobal + Threads + Sync, I: Read, O: Write>(
     rt: &R,
     tool: &ToolShape,
     input: &mut I,
     output: &mut O,
 ) -> Result<u8, ToolFault>
-    ensures { IfOk result (λ status. status ≤ 5) }
+    ensures { IfOk result (λ status. status ≤ 1) }
 {
-    let requests = read_requests(rt.alloc(), input)?;
-    let shapes = [1, 2, 4, 8].map(|regs| ToolShape {
-        shape: tool.shape,
-        ways: tool.ways,
-        regs,
-    });
-    let rows = sweep(
-        rt,
-        rt.alloc(),
-        requests.as_slice(),
-        &shapes,
-        SWEEP_TURNS,
-        &OpenGate,
-    )?;
+    let rows = sweep_registers(rt, rt.alloc(), tool, input)?;
     for row in &rows {
         show(output, format_args!("{row}\n"))?;
     }

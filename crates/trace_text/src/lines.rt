@@ -78,33 +78,22 @@ pub fn cut(text: &[u8]) -> (&[u8], Option<&[u8]>)
 fn named_command(name: &[u8]) -> Option<Command>
     ensures { result ≡ command_named name.now }
 {
-    if name == b"load".as_slice() {
-        Some(Command::Load)
-    } else if name == b"store".as_slice() {
-        Some(Command::Store)
-    } else if name == b"prefetch".as_slice() {
-        Some(Command::Prefetch)
-    } else if name == b"evict".as_slice() {
-        Some(Command::Evict)
-    } else if name == b"drain".as_slice() {
-        Some(Command::Drain)
-    } else if name == b"serve".as_slice() {
-        Some(Command::Serve)
-    } else if name == b"arrive".as_slice() {
-        Some(Command::Arrive)
-    } else if name == b"process".as_slice() {
-        Some(Command::Process)
-    } else if name == b"take".as_slice() {
-        Some(Command::Take)
-    } else if name == b"reg".as_slice() {
-        Some(Command::Register)
-    } else if name == b"bank".as_slice() {
-        Some(Command::Bank)
-    } else if name == b"settled".as_slice() {
-        Some(Command::Settled)
-    } else {
-        None
-    }
+    let (command, rest, wanted) = match name {
+        [b'l', rest @ ..] => (Command::Load, rest, b"oad".as_slice()),
+        [b't', rest @ ..] => (Command::Take, rest, b"ake".as_slice()),
+        [b'a', rest @ ..] => (Command::Arrive, rest, b"rrive".as_slice()),
+        [b's', b't', rest @ ..] => (Command::Store, rest, b"ore".as_slice()),
+        [b's', b'e', b'r', rest @ ..] => (Command::Serve, rest, b"ve".as_slice()),
+        [b's', rest @ ..] => (Command::Settled, rest, b"ettled".as_slice()),
+        [b'p', b'r', b'o', rest @ ..] => (Command::Process, rest, b"cess".as_slice()),
+        [b'p', rest @ ..] => (Command::Prefetch, rest, b"refetch".as_slice()),
+        [b'd', rest @ ..] => (Command::Drain, rest, b"rain".as_slice()),
+        [b'e', rest @ ..] => (Command::Evict, rest, b"vict".as_slice()),
+        [b'r', rest @ ..] => (Command::Register, rest, b"eg".as_slice()),
+        [b'b', rest @ ..] => (Command::Bank, rest, b"ank".as_slice()),
+        _ => return None,
+    };
+    if rest == wanted { Some(command) } else { None }
 }
 
 // The one number that stands behind the command.

@@ -6,7 +6,6 @@ ghost use Rattle.trace_text.specs.Collecting.{Filled, BegunFault};
 use crate::fault::{MAX_LINES, TraceFault};
 use crate::lines::LineFault;
 use crate::streams::Source;
-use memchr::memchr;
 
 // A write or a flush was refused, or a read failed.
 #[derive(Clone, Copy)]
@@ -18,7 +17,12 @@ pub fn end_of_line(bytes: &[u8]) -> Option<usize>
         × ((k : ℕ) → k < at → slice_index bytes.now k ≢ 10)) }
     ensures none { IfNone result (HasNoEnd bytes.now) }
 {
-    memchr(b'\n', bytes)
+    for (i, byte) in bytes.iter().enumerate() {
+        if *byte == b'\n' {
+            return Some(i);
+        }
+    }
+    None
 }
 
 // The fault of the line that the last `left` bytes begin, whatever comes behind them: it is one line

@@ -38,20 +38,24 @@ fn indented(alloc: Global, text: &str) -> Result<String, Fail> {
 fn help_of_the_program(rt: HostRuntime) -> Result<(), Fail> {
     let help = output_of(&rt, &["--help"], "", 0)?;
     let parts = [
-        "Usage: kroft_tool [OPTIONS] <COMMAND>",
+        "Usage: kroft [OPTIONS] <COMMAND>",
         "  run    Serve a trace",
         "  check  Tell whether a recorded run is one of flat memory",
         "  sweep  Count what requests wait for",
         "      --shape <FILE>",
         "reads standard input",
         "writes standard output",
+        "kroft run < FILE",
+        "  words        1 to 1048576, a multiple of 4        default 64",
+        "  bank_queue ",
+        "  replies      1 to 64 ",
         "  0  done",
         "  1  check found",
         "  2  the command line",
         "  3  the shape file",
         "  4  the input",
         "  5  there is too little memory",
-        "  $ echo 'load 1 4' | kroft_tool run\n  load 1 4 -> accepted\n",
+        "  $ echo 'load 1 4' | kroft run\n  load 1 4 -> accepted\n",
     ];
     for part in parts {
         assert!(rt; help.as_str().contains(part), "{part}");
@@ -70,8 +74,8 @@ fn help_of_the_subcommands(rt: HostRuntime) -> Result<(), Fail> {
     ];
     for (name, input, status) in examples {
         let help = output_of(&rt, &[name, "--help"], "", 0)?;
-        let usage = format!(in rt.alloc(); "Usage: kroft_tool {name} [OPTIONS]\n")?;
-        let example = format!(in rt.alloc(); "| kroft_tool {name}\n")?;
+        let usage = format!(in rt.alloc(); "Usage: kroft {name} [OPTIONS]\n")?;
+        let example = format!(in rt.alloc(); "| kroft {name}\n")?;
         let parts = [
             usage.as_str(),
             "      --shape <FILE>",
@@ -86,6 +90,44 @@ fn help_of_the_subcommands(rt: HostRuntime) -> Result<(), Fail> {
         let output = output_of(&rt, &[name], input, status)?;
         let shown = indented(rt.alloc(), output.as_str())?;
         assert!(rt; help.as_str().ends_with(shown.as_str()), "{name}");
+    }
+    Ok(())
+}
+
+#[test]
+fn help_lists_every_line(rt: HostRuntime) -> Result<(), Fail> {
+    let help = output_of(&rt, &["run", "--help"], "", 0)?;
+    let lines = [
+        "  load TAG AT ",
+        "  store AT MASK WORD ",
+        "  prefetch AT ",
+        "  evict BLOCK ",
+        "  drain ",
+        "  serve BANK ",
+        "  arrive BANK PLACE ",
+        "  process PLACE ",
+        "  take PLACE ",
+        "  reg SLOT ",
+        "  bank AT ",
+        "  settled ",
+    ];
+    for line in lines {
+        assert!(rt; help.as_str().contains(line), "{line}");
+    }
+    Ok(())
+}
+
+#[test]
+fn a_trace_named_as_a_word_is_refused(rt: HostRuntime) -> Result<(), Fail> {
+    for name in ["run", "check", "sweep"] {
+        let mut output = Vec::new(rt.alloc());
+        let mut errors = Vec::new(rt.alloc());
+        let words = [name, "examples/first_run.trace"];
+        let status = tool(&rt, &words, &mut &b""[..], &mut output, &mut errors);
+        assert_eq!(rt; status, 2);
+        assert_eq!(rt; output.len(), 0);
+        let told = std::str::from_utf8(errors.as_slice())?;
+        assert!(rt; told.contains("write '< FILE'"), "{name}");
     }
     Ok(())
 }

@@ -168,5 +168,5 @@ fn refused_words(rt: HostRuntime) -> Result<(), Fail> {
 
 #[test]
 fn version(rt: HostRuntime) -> Result<(), Fail> {
-    ends(&rt, &["--version"], "", (0, "kroft_tool 0.1.0\n", ""))
+    ends(&rt, &["--version"], "", (0, "kroft 0.1.0\n", ""))
 }

@@ -1,0 +1,53 @@
+-- What the program does, and how it ends.
+use Rattle.std.specs.Prelude.{ℕ, List, [], ◌∷◌, ◌++◌, map, codes, decimal}
+use Rattle.trace_text.specs.declared.check.CheckEnd.{CheckEnd}
+use Rattle.trace_text.specs.declared.check.CheckEnd.TheVariants.{Flat, Mismatch}
+use Rattle.trace_text.specs.declared.fault.TraceFault.{TraceFault}
+use Rattle.trace_text.specs.declared.fault.TraceFault.TheVariants as trace
+use Rattle.kroft_tool.specs.declared.shape_file.ToolShape.{ToolShape}
+use Rattle.kroft_tool.specs.declared.shape_file.ShapeFault.{ShapeFault}
+use Rattle.kroft_tool.specs.declared.shape_file.ShapeFault.TheVariants as shape
+use Rattle.kroft_tool.specs.declared.sweep.SweepFault.{SweepFault}
+use Rattle.kroft_tool.specs.declared.sweep.SweepFault.TheVariants as sweep
+use Rattle.kroft_tool.specs.declared.fault.ToolFault.{ToolFault}
+use Rattle.kroft_tool.specs.declared.fault.ToolFault.TheVariants.{CommandLine, ShapeUnreadable, Shape, Trace, TurnLimit, OutOfMemory}
+
+-- the shapes that a sweep goes over
+abbrev pub with_registers : ToolShape → ℕ → ToolShape
+with_registers t regs = record t { regs = regs }
+
+abbrev pub swept : ToolShape → List ToolShape
+swept t = map (with_registers t) (1 ∷ 2 ∷ 4 ∷ 8 ∷ [])
+
+-- the text of what a check found
+abbrev pub verdict_text : CheckEnd → List ℕ
+verdict_text (Flat steps) = codes "flat run, " ++ decimal steps ++ codes " steps"
+verdict_text (Mismatch line) = codes "mismatch at line " ++ decimal line
+
+-- the status of a check that came to its end
+abbrev pub verdict_status : CheckEnd → ℕ
+verdict_status (Flat steps) = 0
+verdict_status (Mismatch line) = 1
+
+-- the status with which the program ends at a fault
+abbrev pub status_of : ToolFault → ℕ
+status_of (CommandLine error) = 2
+status_of ShapeUnreadable = 3
+status_of (Shape fault) = 3
+status_of (Trace fault) = 4
+status_of TurnLimit = 5
+status_of OutOfMemory = 5
+
+-- want of memory is told alike, wherever it was found
+abbrev pub of_shape : ShapeFault → ToolFault
+of_shape shape.OutOfMemory = OutOfMemory
+of_shape fault = Shape fault
+
+abbrev pub of_trace : TraceFault → ToolFault
+of_trace trace.OutOfMemory = OutOfMemory
+of_trace fault = Trace fault
+
+abbrev pub of_sweep : SweepFault → ToolFault
+of_sweep sweep.OutOfMemory = OutOfMemory
+of_sweep sweep.TurnLimit = TurnLimit
+of_sweep (sweep.BadShape place field) = Shape (shape.BadShape field)
