@@ -5,4 +5,6 @@ mod jobs;
 mod program;
 mod refusals;
 mod shapes;
+mod sizes;
 mod sweeps;
+mod turns;

@@ -163,3 +163,49 @@ fn a_refused_write_or_flush_ends_each_job(rt: HostRuntime) -> Result<(), Fail> {
     }
     Ok(())
 }
+
+#[test]
+fn each_key_is_named_in_its_faults(rt: HostRuntime) -> Result<(), Fail> {
+    let keys = [
+        "words",
+        "sets",
+        "ways",
+        "regs",
+        "banks",
+        "bank_queue",
+        "write_queue",
+        "replies",
+    ];
+    for key in keys {
+        let no_number = format!(in rt.alloc(); "{key} = true")?;
+        let told = format!(in rt.alloc(); "shape: {key} is not a whole number\n")?;
+        ends_with(&rt, "run", no_number.as_str(), "", (3, "", told.as_str()))?;
+        let none = format!(in rt.alloc(); "{key} = 0")?;
+        let told = format!(in rt.alloc(); "shape: {key} out of range\n")?;
+        ends_with(&rt, "run", none.as_str(), "", (3, "", told.as_str()))?;
+    }
+    Ok(())
+}
+
+#[test]
+fn each_fault_of_a_trace_is_told(rt: HostRuntime) -> Result<(), Fail> {
+    let long = "load 1 000000000000000000000000000000000000000000000000000000000000000000\n";
+    let faults = [
+        ("jump\n", "line 1: unknown command\n"),
+        ("load 1\n", "line 1: bad field\n"),
+        (long, "line 1: line too long\n"),
+        ("load 1 4", "line 1: line not ended\n"),
+    ];
+    for (trace, told) in faults {
+        for job in ["run", "sweep"] {
+            ends_with(&rt, job, "", trace, (4, "", told))?;
+        }
+    }
+    ends_with(
+        &rt,
+        "check",
+        "",
+        "jump -> moved\n",
+        (4, "", "line 1: unknown command\n"),
+    )
+}
