@@ -7,4 +7,5 @@ mod order;
 mod parts;
 mod play;
 mod refusals;
+mod sizes;
 mod streams;

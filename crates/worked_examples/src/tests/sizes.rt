@@ -1,0 +1,104 @@
+//! Each call that takes memory, once at its largest size, or over 200,000 items where it has none.
+
+use super::streams::default_machine;
+use cache_directory::Directory;
+use flat_model::{Answer, Event, FlatMemory, Shape, Word};
+use machine_core::Machine;
+use memory_banks::{Banks, Lines};
+use std::test::Fail;
+use trace_text::{CheckEnd, check_text, read_requests};
+use write_queue::WriteQueue;
+
+const LARGEST: Shape = Shape {
+    words: 1_048_576,
+    sets: 1_024,
+    banks: 16,
+    bank_queue: 64,
+    write_queue: 256,
+    replies: 64,
+};
+
+const MANY: usize = 200_000;
+
+#[test]
+fn parts_of_the_largest_shape(rt: HostRuntime) -> Result<(), Fail> {
+    let alloc = rt.alloc();
+    let image = vec![in alloc; Word::default(); 1_048_576]?;
+    let memory = FlatMemory::new(alloc, &image)?;
+    assert_eq!(rt; memory.word(1_048_575), Some(Word::default()));
+    let banks = Banks::new(alloc, &image, &LARGEST)?;
+    assert_eq!(rt; banks.room(15), 64);
+    assert_eq!(rt; banks.word(1_048_575), Some(Word::default()));
+    let queue = WriteQueue::new(alloc, 256)?;
+    assert_eq!(rt; queue.room(), 256);
+    let directory = Directory::<2, 4>::new(alloc, 1_024)?;
+    assert_eq!(rt; directory.look(1_023), None);
+    let mut machine = Machine::<2, 4, 8, 4>::new(alloc, LARGEST, &image)?;
+    let load = Event::Load {
+        tag: 1,
+        at: 1_048_575,
+    };
+    assert_eq!(rt; machine.apply(load), Answer::Accepted);
+    Ok(())
+}
+
+#[test]
+fn words_that_the_banks_do_not_share_evenly(rt: HostRuntime) -> Result<(), Fail> {
+    let shape = Shape {
+        words: 64,
+        sets: 4,
+        banks: 5,
+        bank_queue: 8,
+        write_queue: 8,
+        replies: 8,
+    };
+    let mut image = Vec::with_capacity(rt.alloc(), 64)?;
+    for b0 in 0..64u8 {
+        image.push(Word {
+            b0,
+            b1: 0,
+            b2: 0,
+            b3: 0,
+        })?;
+    }
+    let banks = Banks::new(rt.alloc(), &image, &shape)?;
+    for at in 0..64u32 {
+        let wanted = image.get(at as usize).copied();
+        assert_eq!(rt; banks.word(at), wanted, "{at}");
+    }
+    assert_eq!(rt; banks.word(64), None);
+    Ok(())
+}
+
+#[test]
+fn long_runs(rt: HostRuntime) -> Result<(), Fail> {
+    let mut machine = default_machine(rt.alloc())?;
+    let events = vec![in rt.alloc(); Event::Drain; MANY]?;
+    let answers = machine.run(rt.alloc(), &events)?;
+    assert_eq!(rt; answers.len(), MANY);
+    let mut memory = FlatMemory::new(rt.alloc(), &[Word::default(); 4])?;
+    assert_eq!(rt; memory.replay(rt.alloc(), &events, &answers), Ok(()));
+    let mut loads = Vec::with_capacity(rt.alloc(), 60_000)?;
+    for tag in 0..60_000u16 {
+        loads.push(Event::Load { tag, at: 3 })?;
+    }
+    let accepted = vec![in rt.alloc(); Answer::Accepted; 60_000]?;
+    assert_eq!(rt; memory.replay(rt.alloc(), &loads, &accepted), Ok(()));
+    assert_eq!(rt; memory.due_word(59_999), Some(Word::default()));
+    Ok(())
+}
+
+#[test]
+fn long_texts(rt: HostRuntime) -> Result<(), Fail> {
+    let mut trace = Vec::with_capacity(rt.alloc(), 14 * MANY)?;
+    let mut run = Vec::with_capacity(rt.alloc(), 28 * MANY)?;
+    for _ in 0..MANY {
+        trace.extend_from_slice(b"prefetch 1\n")?;
+        run.extend_from_slice(b"prefetch 1 -> accepted\n")?;
+    }
+    let requests = read_requests(rt.alloc(), &mut trace.as_slice())?;
+    assert_eq!(rt; requests.len(), MANY);
+    let end = check_text(rt.alloc(), &mut run.as_slice(), 1_048_576);
+    assert_eq!(rt; end, Ok(CheckEnd::Flat { steps: 200_000 }));
+    Ok(())
+}
