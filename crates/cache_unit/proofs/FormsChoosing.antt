@@ -13,8 +13,9 @@ use Rattle.cache_unit.specs.Causes.{choose, ways_of, order_of, is_resident_block
 use Rattle.cache_unit.specs.Steps.{fresh_frame, fresh_register, released, installed, missed, fetched}
 use Rattle.cache_unit.specs.FormLaws.{form_at, missed_words, fetched_words}
 use Rattle.cache_unit.specs.SoundCache.{IsSoundCache}
+use Rattle.cache_unit.proofs.FormsPlaces.{frame-comes}
 use Rattle.cache_unit.proofs.FormsParts.{in_range}
-use Rattle.cache_unit.proofs.FormsFinding.{frame_of-some, live_for-some}
+use Rattle.cache_unit.proofs.FormsFinding.{frame_of-some, none_in_frames, live_for-some}
 use Rattle.cache_unit.proofs.FormsFetching.{FetchedBy, installed-by}
 use Rattle.cache_directory.proofs.Finds.{find-passes}
 
@@ -222,3 +223,19 @@ fetched-by z c h block able = go (frame_of c block) refl
     go None e =
         let a = able (ap is_some e) in
         subst (λ b. FetchedBy z c block (by b (choose z c block) (free_slot c))) (sym (ap is_some e)) (taken (free_slot c) refl (choose z c block) refl (some_slot z c h a.0) (some_frame z c h block a.1) e)
+
+-- a block that is fetched lies in the frame that was chosen for it
+pub fetched_frame : (z : Sizes) (c : Cache) → IsSoundCache z c → (block f slot : ℕ) → frame_of c block ≡ None → choose z c block ≡ Some f → free_slot c ≡ Some slot → frame_of (fetched z c block) block ≡ Some f
+unfolding fetched installed released
+fetched_frame z c h block f slot absent ef es =
+    ap (λ (x : Cache). frame_of x block) by ∙ frame-comes c (installed z (released z c f) block f slot) f (fresh_frame z queue block) block frames (chosen z c h block f ef) refl (λ k e. absurd (none_in_frames c block absent k e))
+  where
+    queue : List Queued
+    queue = c.queue ++ dirty_words z c (Some f)
+
+    frames : (installed z (released z c f) block f slot).frames ≡ set c.frames f (fresh_frame z queue block)
+    frames = set-set c.frames f empty_frame (fresh_frame z queue block)
+
+    by : fetched z c block ≡ installed z (released z c f) block f slot
+    by =
+        ap (λ o. cond (is_some o) c (missed z c block (choose z c block) (free_slot c))) absent ∙ ap (λ o. missed z c block o (free_slot c)) ef ∙ ap (missed z c block (Some f)) es

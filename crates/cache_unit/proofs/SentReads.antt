@@ -1,5 +1,5 @@
 -- Commands on their way to banks.
-use Rattle.std.proofs.Common.{◌≡◌, ◌≢◌, ℕ, suc, zero, ◌+◌, ◌%◌, ◌/◌, ◌<◌, ◌≤◌, ◌==◌, ◌⊎◌, inl, inr, true, false, cond, List, [], ◌∷◌, ◌++◌, map, length, refl, sym, ap, ◌∙◌, subst, arith, append_assoc, append-nil, length-append, eq-eqb, ne_eqb, ltb-false, mod-lt}
+use Rattle.std.proofs.Common.{◌≡◌, ◌≢◌, ℕ, suc, zero, ◌+◌, ◌%◌, ◌/◌, ◌<◌, ◌≤◌, ◌==◌, ◌⊎◌, inl, inr, true, false, cond, List, [], ◌∷◌, ◌++◌, map, length, refl, sym, ap, ◌∙◌, subst, arith, append_assoc, append-nil, length-append, eq-eqb, ne_eqb, ltb-false, mod-lt, Bool}
 use Rattle.std.specs.List.{filter, list_any, range_with_len}
 use Rattle.std.proofs.lemmas.Bool.{cases_eq, cases_lt}
 use Rattle.std.proofs.lemmas.List.{map-append}
@@ -85,3 +85,12 @@ room_for_all room slot first words banks some e b =
     go (inr g) =
         let none = count_none (λ at. at % banks == b) first words (λ at. (let m : at % banks < banks = mod-lt at some in ne_eqb (at % banks) b (λ q. (let same : at % banks ≡ b = q in omega arith)))) in
         omega arith
+
+-- of n numbers side by side at most n pass a test
+pub length-filter-range : (p : ℕ → Bool) (a n : ℕ) → length (filter p (range_with_len a n)) ≤ n
+length-filter-range p a zero = omega arith
+length-filter-range p a (suc n) = go (p a) (length-filter-range p (a + 1) n)
+  where
+    go : (b : Bool) → length (filter p (range_with_len (a + 1) n)) ≤ n → length (cond b (a ∷ filter p (range_with_len (a + 1) n)) (filter p (range_with_len (a + 1) n))) ≤ suc n
+    go true h = omega arith
+    go false h = omega arith

@@ -1,7 +1,11 @@
 -- Why a request for a block may not be served, by its block.
-use Rattle.std.specs.Prelude.{ℕ, Bool, ◌&&◌, if◌then◌else◌, [], Option}
+use Rattle.std.specs.Prelude.{ℕ, Bool, true, false, ◌&&◌, if◌then◌else◌, [], Option}
 use Rattle.flat_model.specs.declared.Cause.{Cause}
-use Rattle.cache_unit.specs.State.{Sizes, Cache, is_present}
+use Rattle.flat_model.specs.declared.Cause.TheVariants.{TargetsFull}
+use Rattle.flat_model.specs.declared.Answer.{Answer}
+use Rattle.flat_model.specs.declared.Answer.TheVariants.{Accepted, Refused}
+use Rattle.cache_unit.specs.State.{Sizes, Cache, is_present, cell_of}
+use Rattle.cache_unit.specs.Steps.{loaded}
 use Rattle.cache_unit.specs.Causes.{first_cause, miss_causes, found, targets_full}
 
 -- a block that is present takes no miss
@@ -11,3 +15,12 @@ absence_cause z room c block = first_cause (if is_present c block then [] else m
 -- a present block's word is awaited by as many loads as may await it
 abbrev pub is_full_for : Cache → ℕ → ℕ → Bool
 is_full_for c block i = is_present c block && targets_full c i (found c block i)
+
+-- a load of a present block, by whether four loads wait for its word: the answer, and the unit after it
+abbrev pub load_answer : Bool → Answer
+load_answer true = Refused TargetsFull
+load_answer false = Accepted
+
+abbrev pub load_present : Cache → ℕ → ℕ → ℕ → Bool → Cache
+load_present c tag block i true = c
+load_present c tag block i false = loaded c tag i (cell_of c block i).word (found c block i)

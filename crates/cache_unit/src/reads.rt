@@ -21,6 +21,20 @@ fn words_in_bank(first: u32, words: u32, banks: u32, bank: u32) -> u32
     count
 }
 
+// Whether a bank with so much room has too little for its share of these words. One that has room
+// for all of them needs no count.
+fn is_short(room: u32, first: u32, words: u32, banks: u32, bank: u32) -> bool
+    requires some { 0 < banks }
+    requires fits { first + words < 2 ^ 32 }
+    ensures { result ≡ nat_lt room
+        (length (filter (λ at. at % banks == bank) (range_with_len first words))) }
+{
+    if room >= words {
+        return false;
+    }
+    room < words_in_bank(first, words, banks, bank)
+}
+
 /// Whether some bank has less room than these words need.
 pub fn lacks_room<L: Lines>(lines: &L, first: u32, words: u32, banks: u32) -> bool
     requires some { 0 < banks }
@@ -29,7 +43,7 @@ pub fn lacks_room<L: Lines>(lines: &L, first: u32, words: u32, banks: u32) -> bo
         (range_with_len 0 banks) }
 {
     for bank in 0..banks {
-        if lines.room(bank) < words_in_bank(first, words, banks, bank) {
+        if is_short(lines.room(bank), first, words, banks, bank) {
             return true;
         }
     }

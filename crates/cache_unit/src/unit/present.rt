@@ -1,18 +1,17 @@
 //! Loads and stores of a block that a frame holds.
-ghost use Rattle.std.specs.Prelude.{◌≡◌, ◌+◌, ◌<◌, ◌≤◌, ◌==◌, length, true, false};
+ghost use Rattle.std.specs.Prelude.{◌≡◌, ◌+◌, ◌<◌, ◌≤◌, ◌==◌, length, true, false, Some};
 ghost use Rattle.std.specs.List.{list_any};
-ghost use Rattle.cache_directory.specs.Frames as dir;
 ghost use Rattle.miss_registers.specs.Registers as regs;
 ghost use Rattle.miss_registers.specs.Whole.{IsWhole};
 ghost use Rattle.cache_unit.specs.SoundCache.{IsSoundCache};
-ghost use Rattle.cache_unit.specs.State.{cell_of, tags};
+ghost use Rattle.cache_unit.specs.State.{frame_of, tags};
 ghost use Rattle.cache_unit.specs.Causes.{found, is_in_use, targets_full};
-ghost use Rattle.cache_unit.specs.Steps.{loaded, written};
-ghost use Rattle.cache_unit.specs.Parts.{finding_of, written_for, noted_for};
+ghost use Rattle.cache_unit.specs.Steps.{written};
+ghost use Rattle.cache_unit.specs.Requests.{load_answer, load_present};
+ghost use Rattle.cache_unit.specs.Parts.{finding_of, noted_for};
 
 use crate::{CacheUnit, Reply};
-use cache_directory::Directory;
-use flat_model::{Lanes, Word, merge};
+use flat_model::{Answer, Cause, Lanes, Word, merge};
 use miss_registers::RegisterFile;
 
 /// Where a load finds its word.
@@ -54,23 +53,13 @@ impl<const WAYS: usize, const WORDS: usize, const REGS: usize, const DEPTH: usiz
         has_tag(self.ready.as_slice(), tag) || self.registers.tag_waits(tag)
     }
 
-    // The buffer's word, or the zero word where no frame holds the block.
-    fn buffered(&self, block: u32, i: u32) -> Word
-        requires { i < self.now.sizes.block_words }
-        ensures { result ≡ (cell_of self.now.cache block i).word }
-    {
-        match self.directory.look(block) {
-            Some(frame) => self.directory.word(frame, i),
-            None => Word::default(),
-        }
-    }
-
-    // Where a load of the block's word finds it.
-    pub(super) fn find_word(&self, block: u32, i: u32) -> Finding
-        requires { i < self.now.sizes.block_words }
+    // Where a load of the word of a block finds it, whose frame is known.
+    pub(super) fn find_word(&self, block: u32, i: u32, frame: u32) -> Finding
+        requires word { i < self.now.sizes.block_words }
+        requires held { frame_of self.now.cache block ≡ Some frame }
         ensures { result ≡ finding_of self.now.cache block i (found self.now.cache block i) }
     {
-        let buffer = self.buffered(block, i);
+        let buffer = self.directory.word(frame, i);
         let Some(slot) = self.registers.live_for(block) else {
             return Finding::Here(buffer);
         };
@@ -91,32 +80,47 @@ impl<const WAYS: usize, const WORDS: usize, const REGS: usize, const DEPTH: usiz
         }
     }
 
-    // A load that may be accepted, of a block that is present: its value is ready, or it waits.
-    pub(super) fn load_present(&mut self, tag: u16, block: u32, i: u32)
+    // A load of a block that is present, in this frame: its value is ready, or it waits, unless four
+    // loads wait for its word.
+    pub(super) fn load_present(&mut self, tag: u16, block: u32, i: u32, frame: u32) -> Answer
         requires word { i < self.old.sizes.block_words }
+        requires held { frame_of self.old.cache block ≡ Some frame }
         requires new_tag { is_in_use self.old.cache tag ≡ false }
         requires replies { length (tags self.old.cache) < self.old.sizes.replies }
-        requires targets { targets_full self.old.cache i (found self.old.cache block i) ≡ false }
-        ensures { self.new
-            ≡ record self.old { cache = loaded self.old.cache tag i (cell_of self.old.cache block i).word (found self.old.cache block i) } }
+        ensures answer { result ≡ load_answer
+            (targets_full self.old.cache i (found self.old.cache block i)) }
+        ensures unit { self.new ≡ record self.old {
+          cache = load_present self.old.cache tag block i
+              (targets_full self.old.cache i (found self.old.cache block i));
+        } }
     {
-        match self.find_word(block, i) {
-            Finding::Here(word) => self.ready.push(Reply { tag, word }),
+        match self.find_word(block, i, frame) {
+            Finding::Here(word) => {
+                self.ready.push(Reply { tag, word });
+                Answer::Accepted
+            }
             Finding::Coming {
                 slot,
                 held,
                 code,
-                ..
-            } => self.registers.await_word(slot, i, tag, held, code),
+                waiting,
+            } => {
+                if waiting >= 4 {
+                    return Answer::Refused(Cause::TargetsFull);
+                }
+                self.registers.await_word(slot, i, tag, held, code);
+                Answer::Accepted
+            }
         }
     }
 
-    // A store into a block that is present.
-    pub(super) fn store_present(&mut self, block: u32, i: u32, word: Word, lanes: Lanes)
-        requires { i < self.old.sizes.block_words }
+    // A store into a block that is present, in this frame.
+    pub(super) fn store_present(&mut self, block: u32, i: u32, frame: u32, word: Word, lanes: Lanes)
+        requires word { i < self.old.sizes.block_words }
+        requires held { frame_of self.old.cache block ≡ Some frame }
         ensures { self.new ≡ record self.old { cache = written self.old.cache block i word lanes } }
     {
-        write_buffer(&mut self.directory, block, i, word, lanes);
+        self.directory.write(frame, i, word, lanes);
         note_code(&mut self.registers, block, i, lanes);
     }
 }
@@ -126,25 +130,6 @@ fn has_tag(ready: &[Reply], tag: u16) -> bool
     ensures { result ≡ list_any (λ r. r.tag == tag) ready.now }
 {
     ready.iter().any(|r| r.tag == tag)
-}
-
-// The bytes go into the buffer, where a frame holds the block.
-fn write_buffer<const WAYS: usize, const WORDS: usize>(
-    directory: &mut Directory<WAYS, WORDS>,
-    block: u32,
-    i: u32,
-    word: Word,
-    lanes: Lanes,
-)
-    requires whole { dir.IsWhole WAYS WORDS directory.old }
-    requires there { i < WORDS }
-    ensures written { directory.new
-        ≡ written_for directory.old (dir.frame_of directory.old.frames block) i word lanes }
-    ensures whole { dir.IsWhole WAYS WORDS directory.new }
-{
-    if let Some(frame) = directory.look(block) {
-        directory.write(frame, i, word, lanes);
-    }
 }
 
 // The lanes join the word's code, where it is still on its way to a live register.

@@ -1,7 +1,7 @@
 //! Requests of the processor.
-ghost use Rattle.std.specs.Prelude.{◌≡◌, ℕ, ◌+◌, ◌*◌, ◌≤◌, ◌<◌, nat_lt, nat_le, not, length, IfErr, OnErr, OnOk, None, Some, false};
+ghost use Rattle.std.specs.Prelude.{◌≡◌, ℕ, ◌+◌, ◌*◌, ◌≤◌, ◌<◌, nat_lt, nat_le, not, length, IfOk, IfErr, OnErr, OnOk, None, Some};
 ghost use Rattle.memory_banks.specs.Banks.{HasSent};
-ghost use Rattle.cache_unit.specs.State.{is_present, block_of, place_in, tags};
+ghost use Rattle.cache_unit.specs.State.{frame_of, block_of, place_in, tags};
 ghost use Rattle.cache_unit.specs.Causes.{found, targets_full};
 ghost use Rattle.cache_unit.specs.SoundCache.{IsSoundCache};
 ghost use Rattle.cache_unit.specs.FormLaws.{RequestForms};
@@ -65,10 +65,10 @@ impl<const WAYS: usize, const WORDS: usize, const REGS: usize, const DEPTH: usiz
         requires { i < self.now.sizes.block_words }
         ensures { result ≡ lookup_of self.now.cache block i }
     {
-        if self.directory.look(block).is_none() {
+        let Some(frame) = self.directory.look(block) else {
             return Lookup::Miss;
-        }
-        match self.find_word(block, i) {
+        };
+        match self.find_word(block, i, frame) {
             Finding::Here(_) => Lookup::Hit,
             Finding::Coming { .. } => Lookup::Join,
         }
@@ -94,14 +94,8 @@ impl<const WAYS: usize, const WORDS: usize, const REGS: usize, const DEPTH: usiz
         }
         let block = self.block_of(at);
         let i = self.place_in(at);
-        if self.is_full_for(block, i) {
-            return Answer::Refused(Cause::TargetsFull);
-        }
         match self.make_present(lines, block) {
-            Ok(()) => {
-                self.load_present(tag, block, i);
-                Answer::Accepted
-            }
+            Ok(frame) => self.load_present(tag, block, i, frame),
             Err(cause) => Answer::Refused(cause),
         }
     }
@@ -125,8 +119,8 @@ impl<const WAYS: usize, const WORDS: usize, const REGS: usize, const DEPTH: usiz
         let block = self.block_of(at);
         let i = self.place_in(at);
         match self.make_present(lines, block) {
-            Ok(()) => {
-                self.store_present(block, i, word, lanes);
+            Ok(frame) => {
+                self.store_present(block, i, frame, word, lanes);
                 Answer::Accepted
             }
             Err(cause) => Answer::Refused(cause),
@@ -147,7 +141,7 @@ impl<const WAYS: usize, const WORDS: usize, const REGS: usize, const DEPTH: usiz
         }
         let block = self.block_of(at);
         match self.make_present(lines, block) {
-            Ok(()) => Answer::Accepted,
+            Ok(_) => Answer::Accepted,
             Err(cause) => Answer::Refused(cause),
         }
     }
@@ -189,23 +183,10 @@ impl<const WAYS: usize, const WORDS: usize, const REGS: usize, const DEPTH: usiz
         at % WORDS as u32
     }
 
-    // Whether a frame holds the block and four loads wait for its word.
-    fn is_full_for(&self, block: u32, i: u32) -> bool
-        requires { i < self.now.sizes.block_words }
-        ensures { result ≡ is_full_for self.now.cache block i }
-    {
-        if self.directory.look(block).is_none() {
-            return false;
-        }
-        match self.find_word(block, i) {
-            Finding::Here(_) => false,
-            Finding::Coming { waiting, .. } => waiting >= 4,
-        }
-    }
-
-    // Brings the block in where no frame holds it, or answers the first cause against that and
-    // changes nothing. No load waits yet for a word of a block that was brought in.
-    fn make_present<L: Lines>(&mut self, lines: &mut L, block: u32) -> Result<(), Cause>
+    // The block's frame; where no frame holds the block it is brought in first, or the first cause
+    // against that is answered and nothing changes. No load waits yet for a word of a block that was
+    // brought in.
+    fn make_present<L: Lines>(&mut self, lines: &mut L, block: u32) -> Result<u32, Cause>
         requires { block * self.old.sizes.block_words + self.old.sizes.block_words
             ≤ self.old.sizes.words }
         ensures cause { IfErr result
@@ -222,17 +203,18 @@ impl<const WAYS: usize, const WORDS: usize, const REGS: usize, const DEPTH: usiz
             (fetches self.old.sizes self.old.cache block)) }
         ensures tags_kept { OnOk result (tags self.new.cache ≡ tags self.old.cache) }
         ensures targets { OnOk result
-            ((i : ℕ) → is_full_for self.old.cache block i ≡ false
-            → targets_full self.new.cache i (found self.new.cache block i) ≡ false) }
+            ((i : ℕ) → targets_full self.new.cache i (found self.new.cache block i)
+            ≡ is_full_for self.old.cache block i) }
+        ensures held { IfOk result (λ frame. frame_of self.new.cache block ≡ Some frame) }
     {
-        if self.directory.look(block).is_some() {
-            return Ok(());
+        if let Some(frame) = self.directory.look(block) {
+            return Ok(frame);
         }
         let places = match self.find_places(lines, block) {
             Ok(places) => places,
             Err(cause) => return Err(cause),
         };
         self.fetch(lines, block, places);
-        Ok(())
+        Ok(places.frame)
     }
 }

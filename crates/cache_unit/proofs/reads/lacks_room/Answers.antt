@@ -1,16 +1,19 @@
-use Rattle.std.proofs.Common.{nat_lt, sym, ap₂, ◌∙◌, arith, lt-ltb, le-ltb, below_more}
+use Rattle.std.proofs.Common.{◌≡◌, ◌%◌, ◌==◌, nat_lt, length, sym, ap, ◌∙◌, arith, below_more}
+use Rattle.std.specs.List.{filter, range_with_len}
 use Rattle.cache_unit.specs.Reads.{is_short}
 use Rattle.cache_unit.proofs.Ranges.{any_found, none_found}
 use Rattle.cache_unit.proofs.reads.lacks_room.Goals as goal
 
-pub returns-then-room-words_in_bank : goal.returns-then-room-words_in_bank
-returns-then-room-words_in_bank g c =
+pub returns-then-is_short : goal.returns-then-is_short
+returns-then-is_short g c =
     let p = is_short (g.L.Lines.room_of c.args.lines.now) c.args.first c.args.words c.args.banks in
-    sym (any_found p c.args.banks c.loop-bank.bank c.loop-bank-test.true (ap₂ nat_lt (sym c.room.ensures) (sym c.words_in_bank.ensures) ∙ lt-ltb _ _ c.if-room-words_in_bank.true))
+    let share = length (filter (λ at. at % c.args.banks == c.loop-bank.bank) (range_with_len c.args.first c.args.words)) in
+    sym (any_found p c.args.banks c.loop-bank.bank c.loop-bank-test.true (ap (λ r. nat_lt r share) (sym c.room.ensures) ∙ sym c.is_short.ensures ∙ c.if-is_short.true))
 
 pub loop-bank-preserved : goal.loop-bank-preserved
 loop-bank-preserved g c =
-    below_more _ _ c.loop-bank.invariant (ap₂ nat_lt (sym c.room.ensures) (sym c.words_in_bank.ensures) ∙ le-ltb _ _ c.if-room-words_in_bank.false)
+    let share = length (filter (λ at. at % c.args.banks == c.loop-bank.bank) (range_with_len c.args.first c.args.words)) in
+    below_more _ _ c.loop-bank.invariant (ap (λ r. nat_lt r share) (sym c.room.ensures) ∙ sym c.is_short.ensures ∙ c.if-is_short.false)
 
 pub returns : goal.returns
 returns g c =
