@@ -95,9 +95,14 @@ hits_few n b a k most lb l = ⊎_elim (λ none. omega arith) few (⊎_elim behin
     few : hits n b a k * n + 1 ≤ k + n → hits n b a k ≤ most
     few h = ⊎_elim (λ big. let le : suc most * n ≤ hits n b a k * n = mul-le-mul_right n big in absurd (omega arith)) (λ s. s) (cases_lt most (hits n b a k))
 
+-- of k numbers side by side, no more than `most` are for one of n banks, where k is at most `most * n`
+pub spread_evenly : (n b a k most : ℕ) → b < n → k ≤ most * n → length (filter (λ at. at % n == b) (range_with_len a k)) ≤ most
+unfolding hits
+spread_evenly n b a k most lb l = hits_few n b a k most lb l
+
 -- ---- lists of which nothing passes
 
-any_false : (p : ℕ → Bool) (a n : ℕ) → ((k : ℕ) → a ≤ k → k < a + n → p k ≡ false) → list_any p (range_with_len a n) ≡ false
+pub any_false : (p : ℕ → Bool) (a n : ℕ) → ((k : ℕ) → a ≤ k → k < a + n → p k ≡ false) → list_any p (range_with_len a n) ≡ false
 any_false p a zero h = refl
 any_false p a (suc n) h =
     ap₂ (λ x y. x || y) (h a (omega arith) (omega arith)) (any_false p (a + 1) n (λ k lo hi. h k (omega arith) (omega arith)))

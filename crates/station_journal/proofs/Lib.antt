@@ -1,0 +1,15 @@
+pub mod Rooms
+pub mod FlatFrom
+pub mod Serving
+pub mod Standing
+pub mod Stepping
+pub mod Refusing
+pub mod Walking
+pub mod Recording
+pub mod Knowing
+pub mod Telling
+pub mod Paying
+pub mod Counting
+pub mod Bringing
+pub mod Sides
+pub mod Parting

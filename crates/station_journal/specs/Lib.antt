@@ -1,0 +1,6 @@
+pub mod Journal
+pub mod Parts
+pub mod Law
+pub mod Side
+pub mod Paid
+pub mod Examples

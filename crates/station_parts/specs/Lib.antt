@@ -1,0 +1,4 @@
+pub mod Rows
+pub mod Ports
+pub mod Asking
+pub mod Seen

@@ -1,0 +1,95 @@
+//! What the cache side does for an ask.
+ghost use Rattle.std.specs.Prelude.{◌≡◌, ◌<◌, ◌+◌, ◌*◌, ◌%◌, ℕ, ◌++◌, ◌∷◌, []};
+ghost use Rattle.memory_banks.specs.Banks.{commands_for};
+ghost use Rattle.station_parts.specs.Rows.{sent_at, free_at, OnlySent};
+ghost use Rattle.station_journal.specs.Parts.{verdict, IsVerdict};
+ghost use Rattle.station_journal.specs.declared.asks.Told.TheVariants.{Value};
+ghost use Rattle.station_parts.specs.Asking.{event_for, asked_step};
+
+use crate::lines::Row;
+use cache_unit::{CacheUnit, Request};
+use flat_model::{Answer, Event, Word};
+use station_journal::{Ask, Told};
+
+// The tag under which the core knows a port's load.
+fn core_tag(port: u32, tag: u8) -> u16
+    requires { port < 16 }
+    ensures { result ≡ port * 256 + tag }
+{
+    port as u16 * 256 + u16::from(tag)
+}
+
+/// The event that an ask is.
+pub(crate) fn event_for(port: u32, ask: Ask) -> Event
+    requires { port < 16 }
+    ensures { result ≡ event_for port ask }
+{
+    match ask {
+        Ask::Load { tag, at } => Event::Load {
+            tag: core_tag(port, tag),
+            at,
+        },
+        Ask::Store { at, word, lanes } => Event::Store { at, word, lanes },
+        Ask::Prefetch { at } => Event::Prefetch { at },
+        Ask::Evict { block } => Event::Evict { block },
+        Ask::Done => Event::Drain,
+    }
+}
+
+/// Asks the unit.
+pub(crate) fn answer_ask<
+    const WAYS: usize,
+    const WORDS: usize,
+    const REGS: usize,
+    const DEPTH: usize,
+>(unit: &mut CacheUnit<WAYS, WORDS, REGS, DEPTH>, row: &mut Row, port: u32, ask: Ask) -> Answer
+    requires { port < 16 }
+    ensures answer { result
+        ≡ (asked_step unit.old.sizes (free_at row.old.lines.items) port unit.old.cache ask).answer }
+    ensures unit { unit.new
+        ≡ record unit.old {
+          cache =
+              (asked_step unit.old.sizes
+              (free_at row.old.lines.items) port unit.old.cache ask).cache;
+        } }
+    ensures same { OnlySent row.old.lines.items row.new.lines.items }
+    ensures sent { (b : ℕ) → sent_at row.new.lines.items b
+        ≡ sent_at row.old.lines.items b ++ commands_for b
+        (asked_step unit.old.sizes
+        (free_at row.old.lines.items) port unit.old.cache ask).sent }
+{
+    match ask {
+        Ask::Load { tag, at } => unit.request(
+            Request::Load {
+                tag: core_tag(port, tag),
+                at,
+            },
+            row,
+        ),
+        Ask::Store { at, word, lanes } => unit.request(Request::Store { at, word, lanes }, row),
+        Ask::Prefetch { at } => unit.request(Request::Prefetch { at }, row),
+        Ask::Evict { block } => unit.evict(block),
+        Ask::Done => Answer::Nothing,
+    }
+}
+
+/// What a port is told of the answer to its ask.
+pub(crate) fn verdict_of(answer: Answer) -> Told
+    requires { IsVerdict answer }
+    ensures { verdict answer ≡ result ∷ [] }
+{
+    match answer {
+        Answer::Refused(cause) => Told::Refused(cause),
+        _ => Told::Accepted,
+    }
+}
+
+/// What a port is told of a value.
+pub(crate) fn value_told(tag: u16, word: Word) -> Told
+    ensures { result ≡ Value (tag % 256) word }
+{
+    Told::Value {
+        tag: (tag % 256) as u8,
+        word,
+    }
+}

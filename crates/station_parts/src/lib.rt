@@ -1,0 +1,22 @@
+//! The parts of a station: ports, the cache side and bank sides, joined by rings.
+//!
+//! The cache side keeps a journal of what it did. A station whose parts are all in hand may be
+//! audited, and after that its journal is known to be a run of flat memory.
+#![tactic(auto)]
+
+mod asking;
+mod bank;
+mod ends;
+mod lines;
+mod parts;
+mod port;
+mod raw;
+mod row;
+mod side;
+mod views;
+
+pub use bank::BankSide;
+pub use parts::{CacheSide, Stepped};
+pub use port::Port;
+pub use raw::RawBank;
+pub use station_journal::{Ask, Entry, SideFault, Source, Told};
