@@ -16,7 +16,7 @@ mod side;
 mod views;
 
 pub use bank::BankSide;
-pub use parts::{CacheSide, Stepped};
-pub use port::Port;
+pub use parts::{Audit, CacheSide, Ring, Station, Stepped};
+pub use port::{ASK_PLACES, Port, TELLING_PLACES};
 pub use raw::RawBank;
 pub use station_journal::{Ask, Entry, SideFault, Source, Told};
