@@ -1,4 +1,5 @@
 pub mod Rows
+pub mod Moves
 pub mod Rowing
 pub mod Porting
 pub mod Turning
