@@ -6,3 +6,4 @@ pub mod Ids
 pub mod Station
 pub mod Words
 pub mod Serving
+pub mod New
