@@ -13,3 +13,4 @@ pub mod Counting
 pub mod Bringing
 pub mod Sides
 pub mod Parting
+pub mod Conversing
