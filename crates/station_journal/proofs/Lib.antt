@@ -14,3 +14,7 @@ pub mod Bringing
 pub mod Sides
 pub mod Parting
 pub mod Conversing
+pub mod OpenTags
+pub mod Judging
+pub mod Owed
+pub mod Answering

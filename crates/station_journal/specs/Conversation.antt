@@ -39,6 +39,14 @@ abbrev pub accepted_loads : List Ask → List Told → ℕ
 accepted_loads (ask ∷ asked) (verdict ∷ verdicts) = accepted_load ask verdict + accepted_loads asked verdicts
 accepted_loads asked verdicts = 0
 
+-- the asks that get a verdict
+abbrev pub is_request : Ask → Bool
+is_request Done = false
+is_request ask = true
+
+abbrev pub requests_in : List Ask → List Ask
+requests_in asks = filter is_request asks
+
 -- the asks of a script were offered in its order, each again until its verdict was final; `left` is
 -- what of the script is still to come
 abbrev pub Follows : List Ask → List Ask → List Told → List Ask → Type 0
