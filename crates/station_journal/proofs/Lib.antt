@@ -18,3 +18,4 @@ pub mod OpenTags
 pub mod Judging
 pub mod Owed
 pub mod Answering
+pub mod Sourcing
