@@ -13,3 +13,9 @@ pub mod Counting
 pub mod Bringing
 pub mod Sides
 pub mod Parting
+pub mod Conversing
+pub mod OpenTags
+pub mod Judging
+pub mod Owed
+pub mod Answering
+pub mod Sourcing

@@ -15,11 +15,11 @@ use Rattle.station_journal.proofs.Stepping.{eqb_true}
 
 -- ---- a run, step by step
 
-record Then (f g : Flat) (event : Event) (answer : Answer) (entries : List Entry) (h : Flat) : Type 0 where
-  may : may_answer f event answer ≡ true
-  runs : flat_run (flat_after f event answer) (events_of entries) (answers_of entries) ≡ Some g
+pub record Then (f g : Flat) (event : Event) (answer : Answer) (entries : List Entry) (h : Flat) : Type 0 where
+  pub may : may_answer f event answer ≡ true
+  pub runs : flat_run (flat_after f event answer) (events_of entries) (answers_of entries) ≡ Some g
 
-first_of_run : (f g : Flat) (event : Event) (answer : Answer) (entries : List Entry) → option_and_then (λ t. flat_run t (events_of entries) (answers_of entries)) (flat_step f event answer) ≡ Some g → Then f g event answer entries f
+pub first_of_run : (f g : Flat) (event : Event) (answer : Answer) (entries : List Entry) → option_and_then (λ t. flat_run t (events_of entries) (answers_of entries)) (flat_step f event answer) ≡ Some g → Then f g event answer entries f
 first_of_run f g event answer entries e = go (may_answer f event answer) refl e
   where
     go : (t : Bool) → may_answer f event answer ≡ t → option_and_then (λ x. flat_run x (events_of entries) (answers_of entries)) (cond t (Some (flat_after f event answer)) None) ≡ Some g → Then f g event answer entries f

@@ -13,6 +13,7 @@ use Rattle.flat_model.specs.declared.Answer.{Answer}
 use Rattle.flat_model.specs.declared.Answer.TheVariants.{Refused}
 use Rattle.flat_model.specs.Words.{zero_word}
 use Rattle.flat_model.specs.Flat.{word_at, flat_step, flat_run}
+use Rattle.flat_model.specs.Flat.{opening as flat_opening}
 use Rattle.memory_banks.specs.Banks.{Bank, no_bank, all_pending}
 use Rattle.cache_unit.specs.State.{Sizes, Cache}
 use Rattle.cache_unit.specs.Causes.{arrive_cause}
@@ -28,6 +29,8 @@ use Rattle.station_journal.specs.Law.{TakesABlock, IsFlatJournal, JournalIsFlat}
 use Rattle.station_journal.proofs.FlatFrom.{FlatFrom, flat_from_opening, opens_flat}
 use Rattle.station_journal.proofs.Standing.{Stands, Next, opening_stands}
 use Rattle.station_journal.proofs.Stepping.{event_ok}
+use Rattle.station_journal.proofs.Owed.{none_owed, unmapped}
+use Rattle.station_journal.proofs.Paying.{loads_are_taken}
 use Rattle.station_journal.proofs.Refusing.{full_ok, is_full-refused}
 
 -- where a journal leads
@@ -115,8 +118,12 @@ pub walk_is_flat : (z : Sizes) (entries : List Entry) (e : Stand) → IsLawful z
 walk_is_flat z entries e lawful takes true_of_banks =
     record {
       flat = flat_of z last.0;
-      runs = ap (λ f. flat_run f (events_of entries) (answers_of entries)) (sym (opens_flat z lawful (zeros z) fits)) ∙ last.1.runs;
-      owes = λ tag none. ap (option_map (filled_by (all_pending last.0.banks))) (ap (λ (c : Cache). owed c tag) last.1.stands.cache ∙ none);
+      runs = runs;
+      owes = owes;
+      owes_no_less = λ tag none. sym (same_owed tag) ∙ unmapped (filled_by (all_pending last.0.banks)) (owed last.0.cache tag) none;
+      ends = λ few.
+          let none = λ (tag : ℕ). owes tag (none_owed e.cache few tag) in
+          record { none_due = none; taken = loads_are_taken entries (flat_opening (zeros z)) (flat_of z last.0) runs none };
       settles = λ clean at l.
           let here = mod-lt at lawful.some_banks in
           let bank = ap (λ (x : Bank). word_at x.words (at / z.banks)) (last.1.stands.bank (at % z.banks) here) in
@@ -130,6 +137,16 @@ walk_is_flat z entries e lawful takes true_of_banks =
     last : (n : Machine) × Led z (opening z (zeros z)) entries e n
     last =
         walk_ok z lawful takes entries (opening_stand z) e (opening z (zeros z)) (opening_stands z) (flat_from_opening z lawful (zeros z) fits) true_of_banks
+
+    runs : flat_run (flat_opening (zeros z)) (events_of entries) (answers_of entries) ≡ Some (flat_of z last.0)
+    runs =
+        ap (λ f. flat_run f (events_of entries) (answers_of entries)) (sym (opens_flat z lawful (zeros z) fits)) ∙ last.1.runs
+
+    same_owed : (tag : ℕ) → owed last.0.cache tag ≡ owed e.cache tag
+    same_owed tag = ap (λ (c : Cache). owed c tag) last.1.stands.cache
+
+    owes : (tag : ℕ) → owed e.cache tag ≡ None → (flat_of z last.0).due tag ≡ None
+    owes tag none = ap (option_map (filled_by (all_pending last.0.banks))) (same_owed tag ∙ none)
 
     idle : list_all (λ (b : Bank). is_empty b.queue) last.0.banks ≡ true
     idle =

@@ -1,5 +1,6 @@
 -- The parts of a journal: what each port asked, and what it is told.
-use Rattle.std.specs.Prelude.{ℕ, ◌-◌, ◌*◌, ◌/◌, ◌++◌, ◌==◌, if◌then◌else◌, Bool, true, false, IsTrue, List, [], ◌∷◌}
+use Rattle.std.specs.Prelude.{◌≡◌, ℕ, ◌-◌, ◌*◌, ◌/◌, ◌++◌, ◌==◌, ◌&&◌, nat_lt, if◌then◌else◌, Bool, true, false, IsTrue, List, [], ◌∷◌}
+use Rattle.std.specs.List.{list_all}
 use Rattle.flat_model.specs.declared.Event.{Event}
 use Rattle.flat_model.specs.declared.Event.TheVariants as events
 use Rattle.flat_model.specs.declared.Answer.{Answer}
@@ -62,3 +63,26 @@ is_verdict answer = false
 
 abbrev pub IsVerdict : Answer → Type 0
 IsVerdict answer = IsTrue (is_verdict answer)
+
+-- ---- the sources of events
+
+-- the events that a source makes, in a station with so many ports: an ask is of a port of the
+-- station, and a load stands under a tag of its port
+abbrev pub is_event_of : ℕ → Source → Event → Bool
+is_event_of ports (sources.Ask port) (events.Load tag at) = nat_lt port ports && (tag / 256 == port)
+is_event_of ports (sources.Ask port) (events.Store at word lanes) = nat_lt port ports
+is_event_of ports (sources.Ask port) (events.Prefetch at) = nat_lt port ports
+is_event_of ports (sources.Ask port) (events.Evict block) = nat_lt port ports
+is_event_of ports (sources.Word bank) (events.Arrive b place) = (b == bank) && (place == 0)
+is_event_of ports (sources.Stack place) (events.Process p) = p == place
+is_event_of ports sources.Drain events.Drain = true
+is_event_of ports (sources.Reply place) (events.Take p) = p == place
+is_event_of ports source event = false
+
+abbrev pub is_entry_of : ℕ → Entry → Bool
+is_entry_of ports (Ended port) = nat_lt port ports
+is_entry_of ports (Step source event answer) = is_event_of ports source event
+
+-- each entry's event is its source's
+abbrev pub IsOfPorts : ℕ → List Entry → Type 0
+IsOfPorts ports entries = list_all (is_entry_of ports) entries ≡ true

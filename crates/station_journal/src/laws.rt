@@ -3,7 +3,7 @@
 ghost use Rattle.std.specs.Prelude.{List};
 ghost use Rattle.cache_unit.specs.State.{Sizes};
 ghost use Rattle.station_journal.specs.declared.journal.Entry.{Entry};
-ghost use Rattle.station_journal.specs.Law.{JournalIsFlat, SideIsTrue, RunIsTaken};
+ghost use Rattle.station_journal.specs.Law.{JournalIsFlat, SideIsTrue, RunIsTaken, AsksAreJudged, RunIsAnswered};
 
 /// A journal that is true of the banks is a run of flat memory from zeros. Where the unit is clean
 /// at its end, what the banks were sent makes them hold flat memory.
@@ -22,4 +22,17 @@ pub fn side_is_true()
 /// behind it, and before the next accepted load of its tag.
 pub fn loads_are_taken()
     ensures { RunIsTaken }
+{}
+
+/// In a journal that is true of the banks, and up to each of its entries, a port has been told one
+/// verdict for each ask of its but Done: its k-th verdict is on its k-th ask.
+pub fn asks_are_judged()
+    ensures { AsksAreJudged }
+{}
+
+/// Where the ports of a station have had their whole conversations, and an audit finds what they
+/// offered and took in a journal that is true of the banks, no telling is left for a port, and no
+/// accepted load waits for its value.
+pub fn run_is_answered()
+    ensures { RunIsAnswered }
 {}

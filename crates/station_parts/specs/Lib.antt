@@ -9,3 +9,4 @@ pub mod Words
 pub mod Serving
 pub mod SideState
 pub mod SideSteps
+pub mod New
