@@ -1,8 +1,8 @@
 //! What the cache side does for an ask.
-ghost use Rattle.std.specs.Prelude.{◌≡◌, ◌≢◌, ◌<◌, ◌+◌, ◌*◌, ◌%◌, ℕ, ◌++◌, ◌∷◌, [], length};
+ghost use Rattle.std.specs.Prelude.{◌≡◌, ◌≢◌, ◌<◌, ◌+◌, ◌*◌, ◌%◌, ℕ, ◌++◌, ◌∷◌, [], length, true};
 ghost use Rattle.memory_banks.specs.Banks.{commands_for};
 ghost use Rattle.station_parts.specs.Rows.{sent_at, free_at, OnlySent};
-ghost use Rattle.station_journal.specs.Parts.{verdict, IsVerdict};
+ghost use Rattle.station_journal.specs.Parts.{verdict, is_event_of, IsVerdict};
 ghost use Rattle.station_journal.specs.declared.asks.Told.TheVariants.{Value};
 ghost use Rattle.station_parts.specs.Asking.{event_for, asked_step};
 ghost use Rattle.station_parts.specs.SideSteps.{EventForms};
@@ -10,7 +10,7 @@ ghost use Rattle.station_parts.specs.SideSteps.{EventForms};
 use crate::lines::Row;
 use cache_unit::{CacheUnit, Request};
 use flat_model::{Answer, Event, Word};
-use station_journal::{Ask, Told};
+use station_journal::{Ask, Source, Told};
 
 // The tag under which the core knows a port's load.
 fn core_tag(port: u32, tag: u8) -> u16
@@ -20,10 +20,12 @@ fn core_tag(port: u32, tag: u8) -> u16
     port as u16 * 256 + u16::from(tag)
 }
 
-/// The event that an ask is.
+/// The event that an ask is. Done is none.
 pub(crate) fn event_for(port: u32, ask: Ask) -> Event
-    requires { port < 16 }
-    ensures { result ≡ event_for port ask }
+    requires few_ports { port < 16 }
+    requires not_done { ask ≢ Ask.Done }
+    ensures event { result ≡ event_for port ask }
+    ensures sourced { (ports : ℕ) → port < ports → is_event_of ports (Source.Ask port) result ≡ true }
 {
     match ask {
         Ask::Load { tag, at } => Event::Load {
@@ -33,7 +35,7 @@ pub(crate) fn event_for(port: u32, ask: Ask) -> Event
         Ask::Store { at, word, lanes } => Event::Store { at, word, lanes },
         Ask::Prefetch { at } => Event::Prefetch { at },
         Ask::Evict { block } => Event::Evict { block },
-        Ask::Done => Event::Drain,
+        Ask::Done => unreachable!(),
     }
 }
 

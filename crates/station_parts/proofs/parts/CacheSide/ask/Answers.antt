@@ -62,6 +62,7 @@ invariant_of-self-in-Done g c =
     let longer = c.push_reserved.ensures.len in
     let room = c.requires.room in
     let pops = c.in-Some.ensures.pops in
+    let there = there_popped s.asks.items c.pop_at.new.ends.items c.args.port c.in-Some.ask pops in
     let asks = λ (p : ℕ). pops.popped p ∙ ap (λ l. received_at s.asks.items p ++ l) (ap (λ a. only c.args.port (a ∷ []) p) c.in-Done.is ∙ only_ended c.args.port p) in
     let tellings = λ (p : ℕ). c.look_at.ensures.looks.pushed p ∙ sym (append-nil (pushed_at s.tellings.items p)) in
     record {
@@ -75,7 +76,7 @@ invariant_of-self-in-Done g c =
       tells = ∥∥₁_map s.tells (side_ended s.unit (sent_at s.row.lines.items) (popped_at s.answers.items) s.fault s.journal.items c.push_reserved.new.self.items c.args.port c.push_reserved.ensures.items);
       counted = s.counted;
       few_ports = subst (λ n. n ≤ 16) (sym (same_length pops_from s.asks.items c.pop_at.new.ends.items c.in-Some.ensures.pops.rings)) s.few_ports;
-      ports = ports_step s.asks.items c.pop_at.new.ends.items s.tellings.items c.look_at.new.ends.items s.journal.items c.push_reserved.new.self.items (Ended c.args.port ∷ []) pops.rings c.look_at.ensures.looks.rings s.ports asks tellings c.push_reserved.ensures.items;
+      ports = ports_step s.asks.items c.pop_at.new.ends.items s.tellings.items c.look_at.new.ends.items s.journal.items c.push_reserved.new.self.items (Ended c.args.port ∷ []) pops.rings c.look_at.ensures.looks.rings s.ports (ap (λ t. t && true) (lt-ltb c.args.port (length s.asks.items) there)) asks tellings c.push_reserved.ensures.items;
     }
 
 pub verdict_of-requires : goal.verdict_of-requires
@@ -92,7 +93,8 @@ invariant_of-self-2 g c =
     let longer = c.push_reserved-2.ensures.len in
     let room = c.requires.room in
     let pops = c.in-Some.ensures.pops in
-    let asks = λ (p : ℕ). pops.popped p ∙ ap (λ l. received_at s.asks.items p ++ l) (only_asked c.args.port c.in-Some.ask c.event_for.result c.answer_ask-answer.result c.in_default-ask.not-Done c.event_for.ensures p) in
+    let there = there_popped s.asks.items c.pop_at.new.ends.items c.args.port c.in-Some.ask pops in
+    let asks = λ (p : ℕ). pops.popped p ∙ ap (λ l. received_at s.asks.items p ++ l) (only_asked c.args.port c.in-Some.ask c.event_for.result c.answer_ask-answer.result c.in_default-ask.not-Done c.event_for.ensures.event p) in
     let tellings = λ (p : ℕ). c.push_at.ensures.pushed p ∙ ap₂ (λ l m. l ++ m) (c.look_at.ensures.looks.pushed p) (only_told c.args.port c.event_for.result c.answer_ask-answer.result c.verdict_of.result c.verdict_of.ensures p) in
     record {
       shaped = sizes ∙ s.shaped;
@@ -102,10 +104,10 @@ invariant_of-self-2 g c =
       small = s.small;
       within = omega arith;
       reserved = omega (arith, s.reserved, c.push_reserved-2.ensures.capacity);
-      tells = ∥∥₁_map s.tells (λ h. side_asked s.unit c.answer_ask-answer.new.unit (sent_at s.row.lines.items) (sent_at c.look_all.new.self.lines.items) (sent_at c.answer_ask-answer.new.row.lines.items) (popped_at s.answers.items) s.fault s.journal.items c.push_reserved-2.new.self.items (free_at c.look_all.new.self.lines.items) c.args.port c.in-Some.ask c.event_for.result c.answer_ask-answer.result c.in_default-ask.not-Done c.requires.sound c.event_for.ensures h unit c.answer_ask-answer.ensures.answer c.look_all.ensures.sent c.answer_ask-answer.ensures.sent c.push_reserved-2.ensures.items);
+      tells = ∥∥₁_map s.tells (λ h. side_asked s.unit c.answer_ask-answer.new.unit (sent_at s.row.lines.items) (sent_at c.look_all.new.self.lines.items) (sent_at c.answer_ask-answer.new.row.lines.items) (popped_at s.answers.items) s.fault s.journal.items c.push_reserved-2.new.self.items (free_at c.look_all.new.self.lines.items) c.args.port c.in-Some.ask c.event_for.result c.answer_ask-answer.result c.in_default-ask.not-Done c.requires.sound c.event_for.ensures.event h unit c.answer_ask-answer.ensures.answer c.look_all.ensures.sent c.answer_ask-answer.ensures.sent c.push_reserved-2.ensures.items);
       counted = λ sound b. c.answer_ask-answer.ensures.same.taken b ∙ c.look_all.ensures.kept.taken b ∙ s.counted sound b;
       few_ports = subst (λ n. n ≤ 16) (sym (same_length pops_from s.asks.items c.pop_at.new.ends.items c.in-Some.ensures.pops.rings)) s.few_ports;
-      ports = ports_step s.asks.items c.pop_at.new.ends.items s.tellings.items c.push_at.new.ends.items s.journal.items c.push_reserved-2.new.self.items (Step (sources.Ask c.args.port) c.event_for.result c.answer_ask-answer.result ∷ []) pops.rings (c.push_at.ensures.rings ∙ c.look_at.ensures.looks.rings) s.ports asks tellings c.push_reserved-2.ensures.items;
+      ports = ports_step s.asks.items c.pop_at.new.ends.items s.tellings.items c.push_at.new.ends.items s.journal.items c.push_reserved-2.new.self.items (Step (sources.Ask c.args.port) c.event_for.result c.answer_ask-answer.result ∷ []) pops.rings (c.push_at.ensures.rings ∙ c.look_at.ensures.looks.rings) s.ports (ap (λ t. t && true) (c.event_for.ensures.sourced (length s.asks.items) there)) asks tellings c.push_reserved-2.ensures.items;
     }
 
 -- ---- what the step makes
@@ -168,8 +170,8 @@ answer_ask-answer-requires g c =
     let there = there_popped c.args.self.now.asks.items c.pop_at.new.ends.items c.args.port c.in-Some.ask c.in-Some.ensures.pops in
     (search rules, (omega arith, c.in_default-ask.not-Done))
 
-pub event_for-requires : goal.event_for-requires
-event_for-requires g c =
+pub event_for-requires-clause-few_ports : goal.event_for-requires-clause-few_ports
+event_for-requires-clause-few_ports g c =
     let few = c.args.self.now.few_ports in
     let there = there_popped c.args.self.now.asks.items c.pop_at.new.ends.items c.args.port c.in-Some.ask c.in-Some.ensures.pops in
     omega arith
@@ -198,7 +200,7 @@ returns-clause-makes g c =
     let mine = only_asked port ask event d.answer not_done refl in
     let told = only_told port event d.answer c.verdict_of.result (ap verdict (sym unit.answer) ∙ c.verdict_of.ensures) in
     let makes : Makes _ s looked _ = record {
-      journal = noted_so s.journal c.push_reserved-2.new.self.items (sources.Ask port) c.event_for.result event c.answer_ask-answer.result d.answer c.push_reserved-2.ensures.items c.event_for.ensures unit.answer;
+      journal = noted_so s.journal c.push_reserved-2.new.self.items (sources.Ask port) c.event_for.result event c.answer_ask-answer.result d.answer c.push_reserved-2.ensures.items c.event_for.ensures.event unit.answer;
       cache = cache;
       fault = refl;
       asked = λ p. pops.popped p ∙ ap (λ l. s.asked p ++ l) (mine p);

@@ -14,6 +14,7 @@ use Rattle.cache_unit.specs.Views.{is_empty}
 use Rattle.station_journal.specs.declared.journal.Source.TheVariants as sources
 use Rattle.station_journal.specs.declared.journal.SideFault.TheVariants.{Uncalled, Stray}
 use Rattle.station_journal.proofs.Bringing.{none_popped, uncalled, called, stray, refused, side_stray, side_word, counts}
+use Rattle.station_journal.proofs.Sourcing.{word_is_of}
 use Rattle.station_parts.specs.declared.parts.Stepped.TheVariants.{Did, Faulted}
 use Rattle.station_parts.specs.declared.row.Line.{Line}
 use Rattle.station_parts.specs.Rings.{pops_from, pushes_to}
@@ -119,7 +120,7 @@ invariant_of-self-2 g c =
       reserved = omega (arith, s.reserved, c.push_reserved.ensures.capacity);
       tells = ∥∥₁_map s.tells (λ h. side_word s.unit c.arrive.new.self sent (sent_at c.note_word.new.self.lines.items) popped popped' s.fault s.journal.items c.push_reserved.new.self.items c.args.bank c.in-Some.word Moved c.requires.sound here (called s.unit.sizes s.in_range s.unit.cache sent popped popped' s.journal.items c.args.bank c.in-Some.word here more others (taken_at s.row.lines.items c.args.bank) s.limit (s.counted c.requires.sound c.args.bank) s.within s.small s.fault c.requires.sound h (sym c.is_called.ensures ∙ c.if-not-is_called.false)) more others c.note_word.ensures.sent (sym c.in-Moved.is ∙ c.arrive.ensures.answer) refl unit c.push_reserved.ensures.items h);
       counted = λ sound b. counts (taken_at s.row.lines.items) (taken_at c.note_word.new.self.lines.items) popped popped' c.args.bank c.in-Some.word (s.counted sound) more others c.note_word.ensures.here c.note_word.ensures.others b;
-      ports = ports_silent _ _ s.journal.items _ _ _ _ s.ports (λ p. refl) (λ p. refl) c.push_reserved.ensures.items;
+      ports = ports_silent _ _ s.journal.items _ _ _ _ s.ports (word_is_of (length s.asks.items) c.args.bank) (λ p. refl) (λ p. refl) c.push_reserved.ensures.items;
     }
 
 -- ---- what the step makes

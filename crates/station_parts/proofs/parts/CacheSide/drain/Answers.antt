@@ -62,7 +62,7 @@ invariant_of-self-2 g c =
       reserved = omega (arith, s.reserved, c.push_reserved.ensures.capacity);
       tells = ∥∥₁_map s.tells (λ h. side_drain s.unit c.drain-answer.new.self _ _ _ _ s.fault s.journal.items c.push_reserved.new.self.items _ c.drain-answer.result (omega (arith, s.in_range.some_words)) c.requires.sound h unit c.drain-answer.ensures.answer c.look.ensures.looks.sent c.drain-answer.ensures.lines.queued c.push_reserved.ensures.items);
       counted = λ sound b. c.drain-answer.ensures.lines.kept.taken b ∙ c.look.ensures.looks.kept.taken b ∙ s.counted sound b;
-      ports = ports_silent _ _ s.journal.items _ _ _ _ s.ports (λ p. refl) (λ p. refl) c.push_reserved.ensures.items;
+      ports = ports_silent _ _ s.journal.items _ _ _ _ s.ports refl (λ p. refl) (λ p. refl) c.push_reserved.ensures.items;
     }
 
 -- ---- what the step makes

@@ -1,4 +1,4 @@
-use Rattle.std.proofs.Common.{ℕ, true, ◌≤◌, ◌<◌, length, refl, sym, ap, ◌∙◌, arith, append-nil, add-zero, subst₂, ◌++◌, ◌+◌}
+use Rattle.std.proofs.Common.{ℕ, true, ◌≤◌, ◌<◌, length, refl, sym, ap, ◌∙◌, arith, append-nil, add-zero, eq-eqb, subst₂, ◌++◌, ◌+◌}
 use Rattle.std.proofs.lemmas.Bool.{lt-ltb, le-ltb}
 use Rattle.std.proofs.Math.Logic.{∥∥₁_map}
 use Rattle.flat_model.specs.declared.Event.TheVariants.{Process}
@@ -22,7 +22,7 @@ invariant_of-self-clause-tells g c =
 
 pub invariant_of-self-clause-ports : goal.invariant_of-self-clause-ports
 invariant_of-self-clause-ports g c =
-    ports_silent _ _ c.args.self.now.journal.items _ _ _ _ c.args.self.now.ports (λ p. refl) (λ p. refl) c.push_reserved.ensures.items
+    ports_silent _ _ c.args.self.now.journal.items _ _ _ _ c.args.self.now.ports (eq-eqb c.args.place c.args.place refl) (λ p. refl) (λ p. refl) c.push_reserved.ensures.items
 
 pub returns-then-place-stack_len-clause-makes : goal.returns-then-place-stack_len-clause-makes
 returns-then-place-stack_len-clause-makes g c =

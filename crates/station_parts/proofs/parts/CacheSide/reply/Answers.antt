@@ -1,4 +1,4 @@
-use Rattle.std.proofs.Common.{ℕ, ◌+◌, true, nat_lt, ◌++◌, ◌∷◌, [], length, ◌∙◌, Some, refl, sym, ap, ap₂, subst, subst₂, arith, add-zero, append-nil}
+use Rattle.std.proofs.Common.{ℕ, ◌+◌, ◌&&◌, true, nat_lt, ◌++◌, ◌∷◌, [], length, ◌∙◌, Some, refl, sym, ap, ap₂, subst, subst₂, arith, add-zero, append-nil, eq-eqb}
 use Rattle.std.proofs.Math.Logic.{∥∥₁_map}
 use Rattle.std.proofs.lemmas.Bool.{lt-ltb, le-ltb}
 use Rattle.flat_model.specs.declared.Event.TheVariants.{Take}
@@ -60,7 +60,7 @@ invariant_of-self-2 g c =
       tells = ∥∥₁_map s.tells (λ h. side_replied s.unit c.take-answer.new.self (sent_at s.row.lines.items) (popped_at s.answers.items) s.fault s.journal.items c.push_reserved.new.self.items c.args.place c.take-answer.result c.requires.sound h unit c.take-answer.ensures.answer c.push_reserved.ensures.items);
       counted = s.counted;
       few_ports = s.few_ports;
-      ports = ports_step s.asks.items s.asks.items s.tellings.items c.push_at.new.ends.items s.journal.items c.push_reserved.new.self.items (Step (sources.Reply c.args.place) (Take c.args.place) c.take-answer.result ∷ []) refl (c.push_at.ensures.rings ∙ c.look_at.ensures.looks.rings) s.ports (λ p. sym (append-nil (received_at s.asks.items p))) tellings c.push_reserved.ensures.items;
+      ports = ports_step s.asks.items s.asks.items s.tellings.items c.push_at.new.ends.items s.journal.items c.push_reserved.new.self.items (Step (sources.Reply c.args.place) (Take c.args.place) c.take-answer.result ∷ []) refl (c.push_at.ensures.rings ∙ c.look_at.ensures.looks.rings) s.ports (ap (λ t. t && true) (eq-eqb c.args.place c.args.place refl)) (λ p. sym (append-nil (received_at s.asks.items p))) tellings c.push_reserved.ensures.items;
     }
 
 -- ---- what the step makes
