@@ -21,7 +21,8 @@ use Rattle.station_parts.specs.Rows.{received_at, pushed_at}
 use Rattle.station_parts.proofs.Rows.{same_length}
 
 -- entries that tell what was popped of the ports' asks, and what the ports were told
-pub ports_step : (asks asks' : List (Consumer Ask Global AnyItems)) (tellings tellings' : List (Producer Told Global AnyItems)) (entries entries' one : List Entry)
+pub ports_step : (asks asks' : List (Consumer Ask Global AnyItems)) (tellings tellings' : List (Producer Told Global AnyItems))
+    (entries entries' one : List Entry)
     → map pops_from asks' ≡ map pops_from asks
     → map pushes_to tellings' ≡ map pushes_to tellings
     → PortsTell asks tellings entries
@@ -36,9 +37,11 @@ ports_step asks asks' tellings tellings' entries entries' one rings rings' h sou
     record {
       number = same_length pushes_to tellings tellings' rings' ∙ h.number ∙ sym number;
       asked = λ p l.
-          popped p ∙ ap (λ xs. xs ++ asks_of p one) (h.asked p (subst (λ n. p < n) number l)) ∙ sym (asks_of-append p entries one) ∙ ap (asks_of p) (sym is);
+          popped p ∙ ap (λ xs. xs ++ asks_of p one) (h.asked p (subst (λ n. p < n) number l)) ∙ sym (asks_of-append p entries one)
+          ∙ ap (asks_of p) (sym is);
       told = λ p l.
-          pushed p ∙ ap (λ xs. xs ++ told_of p one) (h.told p (subst (λ n. p < n) number l)) ∙ sym (told_of-append p entries one) ∙ ap (told_of p) (sym is);
+          pushed p ∙ ap (λ xs. xs ++ told_of p one) (h.told p (subst (λ n. p < n) number l)) ∙ sym (told_of-append p entries one)
+          ∙ ap (told_of p) (sym is);
       sources = ap₂ passes number is ∙ all;
     }
   where
@@ -46,7 +49,8 @@ ports_step asks asks' tellings tellings' entries entries' one rings rings' h sou
     passes n l = list_all (is_entry_of n) l
 
 -- nothing but looks
-pub ports_looked : (asks asks' : List (Consumer Ask Global AnyItems)) (tellings tellings' : List (Producer Told Global AnyItems)) (entries : List Entry)
+pub ports_looked : (asks asks' : List (Consumer Ask Global AnyItems)) (tellings tellings' : List (Producer Told Global AnyItems))
+    (entries : List Entry)
     → map pops_from asks' ≡ map pops_from asks
     → map pushes_to tellings' ≡ map pushes_to tellings
     → PortsTell asks tellings entries
@@ -59,7 +63,8 @@ ports_looked asks asks' tellings tellings' entries rings rings' h popped pushed 
     ports_step asks asks' tellings tellings' entries entries [] rings rings' h refl asked told (sym (append-nil entries))
 
 -- an entry of which no port hears
-pub ports_silent : (asks : List (Consumer Ask Global AnyItems)) (tellings : List (Producer Told Global AnyItems)) (entries entries' : List Entry) (source : Source) (event : Event) (answer : Answer)
+pub ports_silent : (asks : List (Consumer Ask Global AnyItems)) (tellings : List (Producer Told Global AnyItems))
+    (entries entries' : List Entry) (source : Source) (event : Event) (answer : Answer)
     → PortsTell asks tellings entries
     → is_event_of (length asks) source event ≡ true
     → ((p : ℕ) → asked_by p source event ≡ [])
@@ -69,4 +74,5 @@ pub ports_silent : (asks : List (Consumer Ask Global AnyItems)) (tellings : List
 ports_silent asks tellings entries entries' source event answer h sourced unasked untold is =
     let asked = λ (p : ℕ). sym (ap (λ l. received_at asks p ++ (l ++ [])) (unasked p) ∙ append-nil (received_at asks p)) in
     let told = λ (p : ℕ). sym (ap (λ l. pushed_at tellings p ++ (l ++ [])) (untold p) ∙ append-nil (pushed_at tellings p)) in
-    ports_step asks asks tellings tellings entries entries' (Step source event answer ∷ []) refl refl h (ap (λ t. t && true) sourced) asked told is
+    ports_step asks asks tellings tellings entries entries' (Step source event answer ∷ []) refl refl h (ap (λ t. t && true) sourced) asked
+    told is

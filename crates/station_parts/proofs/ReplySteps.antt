@@ -27,17 +27,23 @@ use Rattle.station_journal.proofs.Recording.{take_recorded}
 use Rattle.station_journal.proofs.Sides.{silent_step}
 
 -- the value that a view shows is what a take answers
-pub shown_taken : (c : Cache) (place tag : ℕ) (word : Word) → reply_view c place ≡ Some (answers.Value tag word) → (take_step c place).answer ≡ answers.Value tag word
+pub shown_taken : (c : Cache) (place tag : ℕ) (word : Word) → reply_view c place ≡ Some (answers.Value tag word)
+    → (take_step c place).answer ≡ answers.Value tag word
 unfolding take_step
 shown_taken c place tag word e = go (slice_get c.ready place) e
   where
-    go : (o : Option Reply) → option_map (λ (r : Reply). answers.Value r.tag r.word) o ≡ Some (answers.Value tag word) → (take_reply c place o).answer ≡ answers.Value tag word
+    go : (o : Option Reply) → option_map (λ (r : Reply). answers.Value r.tag r.word) o ≡ Some (answers.Value tag word)
+        → (take_reply c place o).answer ≡ answers.Value tag word
     go None e = cc
     go (Some r) e = cc
 
-pub side_replied : (u v : UnitState) (sent : ℕ → List Command) (popped : ℕ → List BankAnswer) (fault : Option SideFault) (entries entries' : List Entry) (place : ℕ) (answer : Answer) → fault ≡ None → SideTells u.sizes u.cache sent popped fault entries → v ≡ record u { cache = (take_step u.cache place).cache } → answer ≡ (take_step u.cache place).answer → entries' ≡ entries ++ Step (sources.Reply place) (Take place) answer ∷ [] → SideTells v.sizes v.cache sent popped fault entries'
+pub side_replied : (u v : UnitState) (sent : ℕ → List Command) (popped : ℕ → List BankAnswer) (fault : Option SideFault)
+    (entries entries' : List Entry) (place : ℕ) (answer : Answer) → fault ≡ None → SideTells u.sizes u.cache sent popped fault entries
+    → v ≡ record u { cache = (take_step u.cache place).cache } → answer ≡ (take_step u.cache place).answer
+    → entries' ≡ entries ++ Step (sources.Reply place) (Take place) answer ∷ [] → SideTells v.sizes v.cache sent popped fault entries'
 side_replied u v sent popped fault entries entries' place answer sound h v_is answer_is entries_is =
-    silent_step u v sent popped fault entries entries' (sources.Reply place) (Take place) (λ c. take_step c place) answer sound h (λ come s. take_recorded u.sizes (come_word come) s place) (take_silent u.cache place) v_is answer_is entries_is
+    silent_step u v sent popped fault entries entries' (sources.Reply place) (Take place) (λ c. take_step c place) answer sound h
+    (λ come s. take_recorded u.sizes (come_word come) s place) (take_silent u.cache place) v_is answer_is entries_is
 
 value_mine : (tag port : ℕ) (word : Word) → port ≡ tag / 256 → value_for port (answers.Value tag word) ≡ Value (tag % 256) word ∷ []
 value_mine tag port word e =
@@ -49,14 +55,17 @@ value_other tag port p word e d =
     ap (λ t. cond t (Value (tag - p * 256) word ∷ []) []) (ne_eqb (tag / 256) p (λ q. d (sym q ∙ sym e)))
 
 -- the entry of a value tells it to the port of its tag, and to no other
-pub only_value : (place tag port : ℕ) (word : Word) (answer : Answer) (told : Told) → port ≡ tag / 256 → answer ≡ answers.Value tag word → told ≡ Value (tag % 256) word → (p : ℕ) → only port (told ∷ []) p ≡ told_of p (Step (sources.Reply place) (Take place) answer ∷ [])
+pub only_value : (place tag port : ℕ) (word : Word) (answer : Answer) (told : Told) → port ≡ tag / 256 → answer ≡ answers.Value tag word
+    → told ≡ Value (tag % 256) word → (p : ℕ) → only port (told ∷ []) p ≡ told_of p (Step (sources.Reply place) (Take place) answer ∷ [])
 only_value place tag port word answer told port_is answer_is told_is =
     each_place (λ p. only port (told ∷ []) p ≡ value_for p answer ++ []) port here there
   where
     here : only port (told ∷ []) port ≡ value_for port answer ++ []
     here =
-        only-here port (told ∷ []) ∙ ap (λ t. t ∷ []) told_is ∙ sym (append-nil (value_for port answer) ∙ ap (value_for port) answer_is ∙ value_mine tag port word port_is)
+        only-here port (told ∷ []) ∙ ap (λ t. t ∷ []) told_is ∙ sym
+        (append-nil (value_for port answer) ∙ ap (value_for port) answer_is ∙ value_mine tag port word port_is)
 
     there : (p : ℕ) → p ≢ port → only port (told ∷ []) p ≡ value_for p answer ++ []
     there p ne =
-        only-there port p (told ∷ []) ne ∙ sym (append-nil (value_for p answer) ∙ ap (value_for p) answer_is ∙ value_other tag port p word port_is ne)
+        only-there port p (told ∷ []) ne ∙ sym (append-nil (value_for p answer) ∙ ap (value_for p) answer_is
+        ∙ value_other tag port p word port_is ne)

@@ -28,15 +28,20 @@ module _ (xs : List Line) (bank : ℕ) (x y : Line) (h : bank < length xs) (at :
 
   same_sent : sent y.ring ≡ sent x.ring → (b : ℕ) → sent_at ys b ≡ sent_at xs b
   same_sent same =
-      each_place (λ b. sent_at ys b ≡ sent_at xs b) bank (here_after (λ (l : Line). sent l.ring) xs bank y [] h ∙ same ∙ sym (here_before (λ (l : Line). sent l.ring) xs bank x [] h at)) (λ b ne. there_after (λ (l : Line). sent l.ring) xs bank b y [] ne)
+      each_place (λ b. sent_at ys b ≡ sent_at xs b) bank (here_after (λ (l : Line). sent l.ring) xs bank y [] h ∙ same
+      ∙ sym (here_before (λ (l : Line). sent l.ring) xs bank x [] h at))
+      (λ b ne. there_after (λ (l : Line). sent l.ring) xs bank b y [] ne)
 
   same_taken : y.taken ≡ x.taken → (b : ℕ) → taken_at ys b ≡ taken_at xs b
   same_taken same =
-      each_place (λ b. taken_at ys b ≡ taken_at xs b) bank (here_after (λ (l : Line). l.taken) xs bank y 0 h ∙ same ∙ sym (here_before (λ (l : Line). l.taken) xs bank x 0 h at)) (λ b ne. there_after (λ (l : Line). l.taken) xs bank b y 0 ne)
+      each_place (λ b. taken_at ys b ≡ taken_at xs b) bank (here_after (λ (l : Line). l.taken) xs bank y 0 h ∙ same
+      ∙ sym (here_before (λ (l : Line). l.taken) xs bank x 0 h at)) (λ b ne. there_after (λ (l : Line). l.taken) xs bank b y 0 ne)
 
   more_free : known_free x.ring ≤ known_free y.ring → (b : ℕ) → free_at xs b ≤ free_at ys b
   more_free more =
-      each_place (λ b. free_at xs b ≤ free_at ys b) bank (let before = here_before (λ (l : Line). known_free l.ring) xs bank x 0 h at in let after = here_after (λ (l : Line). known_free l.ring) xs bank y 0 h in omega arith) (λ b ne. let e = there_after (λ (l : Line). known_free l.ring) xs bank b y 0 ne in omega arith)
+      each_place (λ b. free_at xs b ≤ free_at ys b) bank (let before = here_before (λ (l : Line). known_free l.ring) xs bank x 0 h at in let
+      after = here_after (λ (l : Line). known_free l.ring) xs bank y 0 h in omega arith)
+      (λ b ne. let e = there_after (λ (l : Line). known_free l.ring) xs bank b y 0 ne in omega arith)
 
   -- it has sent
   pub line_sent : SameProducer x.ring y.ring → y.taken ≡ x.taken → OnlySent xs ys
@@ -57,8 +62,12 @@ module _ (xs : List Line) (bank : ℕ) (x y : Line) (h : bank < length xs) (at :
       record {
         rings = same_rings (ap pushes_to same);
         sent = same_sent (ap sent same);
-        free = each_place (λ b. free_at ys b ≡ free_at xs b) bank (here_after (λ (l : Line). known_free l.ring) xs bank y 0 h ∙ ap known_free same ∙ sym (here_before (λ (l : Line). known_free l.ring) xs bank x 0 h at)) (λ b ne. there_after (λ (l : Line). known_free l.ring) xs bank b y 0 ne);
-        here = here_after (λ (l : Line). l.taken) xs bank y 0 h ∙ taken ∙ ap (λ n. n + 1) (sym (here_before (λ (l : Line). l.taken) xs bank x 0 h at));
+        free = each_place (λ b. free_at ys b ≡ free_at xs b) bank
+            (here_after (λ (l : Line). known_free l.ring) xs bank y 0 h ∙ ap known_free same
+            ∙ sym (here_before (λ (l : Line). known_free l.ring) xs bank x 0 h at))
+            (λ b ne. there_after (λ (l : Line). known_free l.ring) xs bank b y 0 ne);
+        here = here_after (λ (l : Line). l.taken) xs bank y 0 h ∙ taken
+            ∙ ap (λ n. n + 1) (sym (here_before (λ (l : Line). l.taken) xs bank x 0 h at));
         others = λ b ne. there_after (λ (l : Line). l.taken) xs bank b y 0 ne;
       }
 

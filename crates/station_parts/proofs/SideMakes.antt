@@ -57,19 +57,23 @@ module _ (source : Source) (s t : SideState) (looked : Known) (looks : KnowsMore
       }
 
   -- there is work, and this comes of it
-  pub acts : (e : Effect) (result : Stepped) → has_work source s looked ≡ true → work_of source s looked ≡ e → result ≡ answer_of true e.fault → Makes e s looked t → EntriesForms s.sizes s.cache e.entries e → StepMakes source s t result
+  pub acts : (e : Effect) (result : Stepped) → has_work source s looked ≡ true → work_of source s looked ≡ e
+      → result ≡ answer_of true e.fault → Makes e s looked t → EntriesForms s.sizes s.cache e.entries e → StepMakes source s t result
   acts e result some work answer makes forms =
       let is : effect_of source s looked ≡ e = ap (λ w. cond w (work_of source s looked) (nothing s)) some ∙ work in
       record {
         looked = looked;
         looks = looks;
-        answer = answer ∙ ap (λ (d : Effect). answer_of true d.fault) (sym is) ∙ ap (λ w. answer_of w (effect_of source s looked).fault) (sym some);
+        answer = answer ∙ ap (λ (d : Effect). answer_of true d.fault) (sym is)
+            ∙ ap (λ w. answer_of w (effect_of source s looked).fault) (sym some);
         makes = subst (λ d. Makes d s looked t) (sym is) makes;
         forms = subst (λ (d : Effect). EntriesForms s.sizes s.cache d.entries d) (sym is) forms;
       }
 
 -- nothing but looks
-pub makes_nothing : (s t : SideState) → t.journal ≡ s.journal → t.cache ≡ s.cache → t.fault ≡ s.fault → ((p : ℕ) → t.asked p ≡ s.asked p) → ((p : ℕ) → t.told p ≡ s.told p) → ((b : ℕ) → t.commands b ≡ s.commands b) → ((b : ℕ) → t.words b ≡ s.words b) → Makes (nothing s) s t.known t
+pub makes_nothing : (s t : SideState) → t.journal ≡ s.journal → t.cache ≡ s.cache → t.fault ≡ s.fault → ((p : ℕ) → t.asked p ≡ s.asked p)
+    → ((p : ℕ) → t.told p ≡ s.told p) → ((b : ℕ) → t.commands b ≡ s.commands b) → ((b : ℕ) → t.words b ≡ s.words b)
+    → Makes (nothing s) s t.known t
 makes_nothing s t journal cache fault asked told commands words =
     record {
       journal = journal ∙ sym (append-nil s.journal);
@@ -86,7 +90,8 @@ makes_nothing s t journal cache fault asked told commands words =
     }
 
 -- more free places are known at the banks, or at the ports
-pub knows_lines : (k : Known) (places : ℕ → ℕ) → ((b : ℕ) → k.command_places b ≤ places b) → KnowsMore k (record k { command_places = places })
+pub knows_lines : (k : Known) (places : ℕ → ℕ) → ((b : ℕ) → k.command_places b ≤ places b)
+    → KnowsMore k (record k { command_places = places })
 knows_lines k places more =
     record {
       asks = λ p. ([], append-nil (k.asks p));
@@ -95,7 +100,8 @@ knows_lines k places more =
       command_places = more;
     }
 
-pub knows_tellings : (k : Known) (places : ℕ → ℕ) → ((p : ℕ) → k.telling_places p ≤ places p) → KnowsMore k (record k { telling_places = places })
+pub knows_tellings : (k : Known) (places : ℕ → ℕ) → ((p : ℕ) → k.telling_places p ≤ places p)
+    → KnowsMore k (record k { telling_places = places })
 knows_tellings k places more =
     record {
       asks = λ p. ([], append-nil (k.asks p));
@@ -105,7 +111,9 @@ knows_tellings k places more =
     }
 
 -- more asks, or more words of banks
-pub knows_asks : (k : Known) (asks : ℕ → List Ask) (tellings commands : ℕ → ℕ) → ((p : ℕ) → IsPrefix (k.asks p) (asks p)) → ((p : ℕ) → k.telling_places p ≤ tellings p) → ((b : ℕ) → k.command_places b ≤ commands b) → KnowsMore k (record { asks = asks; words = k.words; telling_places = tellings; command_places = commands })
+pub knows_asks : (k : Known) (asks : ℕ → List Ask) (tellings commands : ℕ → ℕ) → ((p : ℕ) → IsPrefix (k.asks p) (asks p))
+    → ((p : ℕ) → k.telling_places p ≤ tellings p) → ((b : ℕ) → k.command_places b ≤ commands b)
+    → KnowsMore k (record { asks = asks; words = k.words; telling_places = tellings; command_places = commands })
 knows_asks k asks tellings commands first more free =
     record {
       asks = first;
@@ -114,7 +122,8 @@ knows_asks k asks tellings commands first more free =
       command_places = free;
     }
 
-pub knows_words : (k : Known) (words : ℕ → List BankAnswer) → ((b : ℕ) → IsPrefix (k.words b) (words b)) → KnowsMore k (record k { words = words })
+pub knows_words : (k : Known) (words : ℕ → List BankAnswer) → ((b : ℕ) → IsPrefix (k.words b) (words b))
+    → KnowsMore k (record k { words = words })
 knows_words k words first =
     record {
       asks = λ p. ([], append-nil (k.asks p));
@@ -160,12 +169,18 @@ module _ {T : Type 0} (olds news : List (Consumer T Global AnyItems)) (place : �
 
 -- ---- entries
 
-pub answered_so : (entries entries' : List Entry) (source : Source) (event : Event) (answer answer' : Answer) → entries' ≡ entries ++ Step source event answer ∷ [] → answer ≡ answer' → entries' ≡ entries ++ Step source event answer' ∷ []
+pub answered_so : (entries entries' : List Entry) (source : Source) (event : Event) (answer answer' : Answer)
+    → entries' ≡ entries ++ Step source event answer ∷ [] → answer ≡ answer' → entries' ≡ entries ++ Step source event answer' ∷ []
 answered_so entries entries' source event answer answer' is same =
     is ∙ ap (λ a. entries ++ Step source event a ∷ []) same
 
 -- a step of the unit of which no port hears, and for which no word is popped
-pub makes_unit : (s t : SideState) (source : Source) (event : Event) (d : unit.Stepped) (answer : Answer) (places : ℕ → ℕ) → ((p : ℕ) → asked_by p source event ≡ []) → ((p : ℕ) → told_by p source d.answer ≡ []) → t.journal ≡ s.journal ++ Step source event answer ∷ [] → answer ≡ d.answer → t.cache ≡ d.cache → t.fault ≡ s.fault → t.asked ≡ s.asked → t.told ≡ s.told → t.words ≡ s.words → ((b : ℕ) → t.commands b ≡ s.commands b ++ commands_for b d.sent) → ((b : ℕ) → places b ≡ t.known.command_places b + length (commands_for b d.sent)) → Makes (noted s source event d no_words) s (record t.known { command_places = places }) t
+pub makes_unit : (s t : SideState) (source : Source) (event : Event) (d : unit.Stepped) (answer : Answer) (places : ℕ → ℕ)
+    → ((p : ℕ) → asked_by p source event ≡ []) → ((p : ℕ) → told_by p source d.answer ≡ [])
+    → t.journal ≡ s.journal ++ Step source event answer ∷ [] → answer ≡ d.answer → t.cache ≡ d.cache → t.fault ≡ s.fault → t.asked ≡ s.asked
+    → t.told ≡ s.told → t.words ≡ s.words → ((b : ℕ) → t.commands b ≡ s.commands b ++ commands_for b d.sent)
+    → ((b : ℕ) → places b ≡ t.known.command_places b + length (commands_for b d.sent))
+    → Makes (noted s source event d no_words) s (record t.known { command_places = places }) t
 makes_unit s t source event d answer places unasked untold journal answer_is cache fault asked told words commands free =
     record {
       journal = answered_so s.journal t.journal source event answer d.answer journal answer_is;
@@ -187,7 +202,8 @@ pub drains_none : (z : Sizes) (places : ℕ → ℕ) (queue : List Queued) → s
 drains_none z places [] e = refl
 drains_none z places (front ∷ rest) e = cc
 
-pub drains_first : (z : Sizes) (places : ℕ → ℕ) (queue : List Queued) (front : Queued) → slice_get queue 0 ≡ Some front → can_drain z places queue ≡ nat_lt 0 (places (front.at % z.banks))
+pub drains_first : (z : Sizes) (places : ℕ → ℕ) (queue : List Queued) (front : Queued) → slice_get queue 0 ≡ Some front
+    → can_drain z places queue ≡ nat_lt 0 (places (front.at % z.banks))
 drains_first z places [] front e = cc
 drains_first z places (first ∷ rest) front e =
     let same : first ≡ front = cc in ap (λ (q : Queued). nat_lt 0 (places (q.at % z.banks))) same
@@ -199,19 +215,25 @@ tells_none places c place e = go (slice_get c.ready place) e
     go None e = refl
     go (Some r) e = cc
 
-pub tells_first : (places : ℕ → ℕ) (c : Cache) (place tag : ℕ) (word : Word) → reply_view c place ≡ Some (Value tag word) → can_tell places (slice_get c.ready place) ≡ nat_lt 0 (places (tag / 256))
+pub tells_first : (places : ℕ → ℕ) (c : Cache) (place tag : ℕ) (word : Word) → reply_view c place ≡ Some (Value tag word)
+    → can_tell places (slice_get c.ready place) ≡ nat_lt 0 (places (tag / 256))
 tells_first places c place tag word e = go (slice_get c.ready place) e
   where
-    go : (o : Option Reply) → option_map (λ (r : Reply). Value r.tag r.word) o ≡ Some (Value tag word) → can_tell places o ≡ nat_lt 0 (places (tag / 256))
+    go : (o : Option Reply) → option_map (λ (r : Reply). Value r.tag r.word) o ≡ Some (Value tag word)
+        → can_tell places o ≡ nat_lt 0 (places (tag / 256))
     go None e = cc
     go (Some r) e = let same : r.tag ≡ tag = cc in ap (λ t. nat_lt 0 (places (t / 256))) same
 
-pub noted_so : (entries entries' : List Entry) (source : Source) (event event' : Event) (answer answer' : Answer) → entries' ≡ entries ++ Step source event answer ∷ [] → event ≡ event' → answer ≡ answer' → entries' ≡ entries ++ Step source event' answer' ∷ []
+pub noted_so : (entries entries' : List Entry) (source : Source) (event event' : Event) (answer answer' : Answer)
+    → entries' ≡ entries ++ Step source event answer ∷ [] → event ≡ event' → answer ≡ answer'
+    → entries' ≡ entries ++ Step source event' answer' ∷ []
 noted_so entries entries' source event event' answer answer' is same same' =
     is ∙ ap₂ (λ e a. entries ++ Step source e a ∷ []) same same'
 
 -- an ask that isn't Done is one for the unit
-pub asked_first : (s : SideState) (k : Known) (port : ℕ) (ask : Ask) (rest : List Ask) → ask ≢ Done → asked s k port (ask ∷ rest) ≡ noted s (sources.Ask port) (event_for port ask) (asked_step s.sizes k.command_places port s.cache ask) no_words
+pub asked_first : (s : SideState) (k : Known) (port : ℕ) (ask : Ask) (rest : List Ask) → ask ≢ Done
+    → asked s k port (ask ∷ rest) ≡ noted s (sources.Ask port) (event_for port ask) (asked_step s.sizes k.command_places port s.cache ask)
+    no_words
 asked_first s k port (Load tag at) rest n = refl
 asked_first s k port (Store at word lanes) rest n = refl
 asked_first s k port (Prefetch at) rest n = refl
@@ -235,7 +257,8 @@ module _ (s : SideState) (k l : Known) (more : KnowsMore k l) where
   work_stays : (source : Source) → has_work source s k ≡ true → has_work source s l ≡ true
   work_stays (sources.Ask port) e =
       let b = both_true (nat_lt 0 (k.telling_places port)) (not (is_empty (k.asks port))) e in
-      ap₂ (λ x y. x && y) (still_place (k.telling_places port) (l.telling_places port) (more.telling_places port) b.0) (still_some (k.asks port) (l.asks port) (more.asks port) b.1)
+      ap₂ (λ x y. x && y) (still_place (k.telling_places port) (l.telling_places port) (more.telling_places port) b.0)
+      (still_some (k.asks port) (l.asks port) (more.asks port) b.1)
   work_stays (sources.Word bank) e =
       let b = both_true (nat_lt (length s.cache.stack) s.sizes.depth) (not (is_empty (k.words bank))) e in
       ap₂ (λ x y. x && y) b.0 (still_some (k.words bank) (l.words bank) (more.words bank) b.1)
@@ -245,7 +268,8 @@ module _ (s : SideState) (k l : Known) (more : KnowsMore k l) where
       go : (queue : List Queued) → can_drain s.sizes k.command_places queue ≡ true → can_drain s.sizes l.command_places queue ≡ true
       go [] h = h
       go (q ∷ rest) h =
-          still_place (k.command_places (q.at % s.sizes.banks)) (l.command_places (q.at % s.sizes.banks)) (more.command_places (q.at % s.sizes.banks)) h
+          still_place (k.command_places (q.at % s.sizes.banks)) (l.command_places (q.at % s.sizes.banks))
+          (more.command_places (q.at % s.sizes.banks)) h
   work_stays (sources.Reply place) e = go (slice_get s.cache.ready place) e
     where
       go : (o : Option Reply) → can_tell k.telling_places o ≡ true → can_tell l.telling_places o ≡ true
@@ -258,13 +282,18 @@ not_idle None e = cc
 not_idle (Some fault) e = cc
 
 -- a step that knew of work before it looked isn't idle
-pub not_idle_at_work : (source : Source) (s t : SideState) (result : Stepped) → StepMakes source s t result → has_work source s s.known ≡ true → result ≢ Idle
+pub not_idle_at_work : (source : Source) (s t : SideState) (result : Stepped) → StepMakes source s t result
+    → has_work source s s.known ≡ true → result ≢ Idle
 not_idle_at_work source s t result m work e =
     let still = work_stays s s.known m.looked m.looks source work in
     not_idle (effect_of source s m.looked).fault (ap (λ w. answer_of w (effect_of source s m.looked).fault) (sym still) ∙ sym m.answer ∙ e)
 
 -- a word is lost, and the side is faulted
-pub makes_lost : (s t : SideState) (bank : ℕ) (a : BankAnswer) (fault : SideFault) (words : ℕ → List BankAnswer) → t.journal ≡ s.journal → t.cache ≡ s.cache → t.fault ≡ Some fault → t.asked ≡ s.asked → t.told ≡ s.told → t.commands ≡ s.commands → ((b : ℕ) → t.words b ≡ s.words b ++ only bank (a ∷ []) b) → ((b : ℕ) → words b ≡ only bank (a ∷ []) b ++ t.known.words b) → t.known.asks ≡ s.known.asks → t.known.telling_places ≡ s.known.telling_places → t.known.command_places ≡ s.known.command_places → Makes (arrives s bank a (Some fault)) s (record s.known { words = words }) t
+pub makes_lost : (s t : SideState) (bank : ℕ) (a : BankAnswer) (fault : SideFault) (words : ℕ → List BankAnswer) → t.journal ≡ s.journal
+    → t.cache ≡ s.cache → t.fault ≡ Some fault → t.asked ≡ s.asked → t.told ≡ s.told → t.commands ≡ s.commands
+    → ((b : ℕ) → t.words b ≡ s.words b ++ only bank (a ∷ []) b) → ((b : ℕ) → words b ≡ only bank (a ∷ []) b ++ t.known.words b)
+    → t.known.asks ≡ s.known.asks → t.known.telling_places ≡ s.known.telling_places → t.known.command_places ≡ s.known.command_places
+    → Makes (arrives s bank a (Some fault)) s (record s.known { words = words }) t
 makes_lost s t bank a fault words journal cache is asked told commands popped known asks tellings free =
     record {
       journal = journal ∙ sym (append-nil s.journal);

@@ -22,31 +22,44 @@ use Rattle.station_parts.specs.SideState.{SideState}
 use Rattle.station_parts.specs.SideSteps.{stray_fault, word_fault}
 
 -- the count of words is exact: it tells whether the word goes beyond the reads that were sent
-module _ (z : Sizes) (in_range : InRange z) (cache : Cache) (sent : ℕ → List Command) (popped popped' : ℕ → List BankAnswer) (entries : List Entry) (bank : ℕ) (a : BankAnswer) (here : bank < z.banks) (more : popped' bank ≡ popped bank ++ a ∷ []) (others : (b : ℕ) → b ≢ bank → popped' b ≡ popped b) (taken limit : ℕ) (counted : taken ≡ length (popped bank)) (within : length entries ≤ limit) (small : limit ≤ 1048576) (fault : Option SideFault) (sound : fault ≡ None) (faulted : SideTells z cache sent popped fault entries) where
-  pub counts_called : nat_lt taken (count_by is_read (sent bank) % 2 ^ 64) ≡ true → nat_lt (length (popped bank)) (count_by is_read (sent bank)) ≡ true
+module _ (z : Sizes) (in_range : InRange z) (cache : Cache) (sent : ℕ → List Command) (popped popped' : ℕ → List BankAnswer)
+    (entries : List Entry) (bank : ℕ) (a : BankAnswer) (here : bank < z.banks) (more : popped' bank ≡ popped bank ++ a ∷ [])
+    (others : (b : ℕ) → b ≢ bank → popped' b ≡ popped b) (taken limit : ℕ) (counted : taken ≡ length (popped bank))
+    (within : length entries ≤ limit) (small : limit ≤ 1048576) (fault : Option SideFault) (sound : fault ≡ None)
+    (faulted : SideTells z cache sent popped fault entries) where
+  pub counts_called : nat_lt taken (count_by is_read (sent bank) % 2 ^ 64) ≡ true
+      → nat_lt (length (popped bank)) (count_by is_read (sent bank)) ≡ true
   counts_called e =
-      lt-ltb (length (popped bank)) (count_by is_read (sent bank)) (called z in_range cache sent popped popped' entries bank a here more others taken limit counted within small fault sound faulted e)
+      lt-ltb (length (popped bank)) (count_by is_read (sent bank))
+      (called z in_range cache sent popped popped' entries bank a here more others taken limit counted within small fault sound faulted
+      e)
 
-  pub counts_uncalled : nat_lt taken (count_by is_read (sent bank) % 2 ^ 64) ≡ false → nat_lt (length (popped bank)) (count_by is_read (sent bank)) ≡ false
+  pub counts_uncalled : nat_lt taken (count_by is_read (sent bank) % 2 ^ 64) ≡ false
+      → nat_lt (length (popped bank)) (count_by is_read (sent bank)) ≡ false
   counts_uncalled e =
-      let t = uncalled z in_range cache sent popped popped' entries bank a here more others taken limit counted within small fault sound faulted e in
+      let t = uncalled z in_range cache sent popped popped' entries bank a here more others taken limit counted within small fault sound
+      faulted e in
       let lost = ap length t.all.1.is_lost.lost ∙ length-append (t.come bank) (t.all.1.word ∷ []) in
       let one = ap length more ∙ length-append (popped bank) (a ∷ []) in
       let beyond = t.all.1.beyond in
       le-ltb (length (popped bank)) (count_by is_read (sent bank)) (omega arith)
 
 module _ (s : SideState) (bank : ℕ) (a : BankAnswer) where
-  pub fault-uncalled : nat_lt (length (s.words bank)) (count_by is_read (s.commands bank)) ≡ false → word_fault s bank a ≡ Some (Uncalled bank)
+  pub fault-uncalled : nat_lt (length (s.words bank)) (count_by is_read (s.commands bank)) ≡ false
+      → word_fault s bank a ≡ Some (Uncalled bank)
   fault-uncalled e = ap (λ t. cond t (stray_fault bank a (arrive_cause s.sizes s.cache a.slot a.i)) (Some (Uncalled bank))) e
 
-  of_cause : nat_lt (length (s.words bank)) (count_by is_read (s.commands bank)) ≡ true → (cause : Option Cause) → arrive_cause s.sizes s.cache a.slot a.i ≡ cause → word_fault s bank a ≡ stray_fault bank a cause
+  of_cause : nat_lt (length (s.words bank)) (count_by is_read (s.commands bank)) ≡ true → (cause : Option Cause)
+      → arrive_cause s.sizes s.cache a.slot a.i ≡ cause → word_fault s bank a ≡ stray_fault bank a cause
   of_cause e cause is =
       ap (λ t. cond t (stray_fault bank a (arrive_cause s.sizes s.cache a.slot a.i)) (Some (Uncalled bank))) e ∙ ap (stray_fault bank a) is
 
-  pub fault-stray : nat_lt (length (s.words bank)) (count_by is_read (s.commands bank)) ≡ true → arrive_cause s.sizes s.cache a.slot a.i ≡ Some StrayWord → word_fault s bank a ≡ Some (Stray bank a.slot a.i)
+  pub fault-stray : nat_lt (length (s.words bank)) (count_by is_read (s.commands bank)) ≡ true
+      → arrive_cause s.sizes s.cache a.slot a.i ≡ Some StrayWord → word_fault s bank a ≡ Some (Stray bank a.slot a.i)
   fault-stray e is = of_cause e (Some StrayWord) is
 
-  pub fault-none : nat_lt (length (s.words bank)) (count_by is_read (s.commands bank)) ≡ true → (arrive_step s.sizes s.cache a.slot a.i a.word).answer ≡ Moved → word_fault s bank a ≡ None
+  pub fault-none : nat_lt (length (s.words bank)) (count_by is_read (s.commands bank)) ≡ true
+      → (arrive_step s.sizes s.cache a.slot a.i a.word).answer ≡ Moved → word_fault s bank a ≡ None
   unfolding arrive_step
   fault-none e moves = of_cause e None (go (arrive_cause s.sizes s.cache a.slot a.i) moves)
     where

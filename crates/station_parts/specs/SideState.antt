@@ -52,5 +52,11 @@ state_of side =
       told = told_at side;
       commands = commands_at side;
       words = words_at side;
-      known = record { asks = known_asks side; words = known_words side; telling_places = telling_places side; command_places = command_places side };
+      known = record {
+        asks = known_asks side;
+        words = known_words side;
+        telling_places = telling_places side;
+        command_places =
+            command_places side;
+      };
     }

@@ -12,7 +12,12 @@ returns-clause-looks g c =
     let end = c.index_mut-end.result.now in
     let there : c.args.place < length xs = omega arith in
     let looked = c.slots.ensures.looked in
-    let used : HasLooked end c.slots.new.self = record { ring = pushes_kept end c.slots.new.self looked.0; pushed = looked.1; places = looked.2 } in
+    let used : HasLooked end c.slots.new.self = record {
+      ring = pushes_kept end c.slots.new.self looked.0;
+      pushed = looked.1;
+      places =
+          looked.2;
+    } in
     looks_at xs c.args.place end c.slots.new.self there c.index_mut-end.ensures.value used
 
 pub returns-clause-room : goal.returns-clause-room

@@ -12,5 +12,6 @@ returns g c =
     let end = c.index_mut-end.result.now in
     let there = there_if known_free xs c.args.place c.requires in
     let pushed = c.push_reserved.ensures in
-    let used : HasPushed end c.push_reserved.new.self (c.args.item ∷ []) = record { ring = pushes_kept end c.push_reserved.new.self pushed.ring; pushed = pushed.sent.0; places = pushed.sent.1 } in
+    let used : HasPushed end c.push_reserved.new.self (c.args.item ∷ []) = record
+    { ring = pushes_kept end c.push_reserved.new.self pushed.ring; pushed = pushed.sent.0; places = pushed.sent.1 } in
     pushes_at xs c.args.place end c.push_reserved.new.self there c.index_mut-end.ensures.value _ used

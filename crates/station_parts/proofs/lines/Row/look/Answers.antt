@@ -9,7 +9,8 @@ pub returns-clause-looks : goal.returns-clause-looks
 returns-clause-looks c =
     let xs = c.args.self.now.lines.items in
     let there : c.args.bank < length xs = omega arith in
-    line_looks xs c.args.bank c.index_mut-line.result.now c.look.new.self there c.index_mut-line.ensures.value c.look.ensures.ring c.look.ensures.taken
+    line_looks xs c.args.bank c.index_mut-line.result.now c.look.new.self there c.index_mut-line.ensures.value c.look.ensures.ring
+    c.look.ensures.taken
 
 pub returns-clause-room : goal.returns-clause-room
 returns-clause-room c =

@@ -36,7 +36,8 @@ invariant_of-self g c =
       tells = s.tells;
       counted = s.counted;
       few_ports = s.few_ports;
-      ports = ports_looked s.asks.items s.asks.items s.tellings.items c.look_at.new.ends.items s.journal.items refl c.look_at.ensures.looks.rings s.ports (λ p. refl) c.look_at.ensures.looks.pushed;
+      ports = ports_looked s.asks.items s.asks.items s.tellings.items c.look_at.new.ends.items s.journal.items refl
+          c.look_at.ensures.looks.rings s.ports (λ p. refl) c.look_at.ensures.looks.pushed;
     }
 
 pub invariant_of-self-in_default : goal.invariant_of-self-in_default
@@ -52,8 +53,11 @@ invariant_of-self-in_default g c =
       reserved = s.reserved;
       tells = s.tells;
       counted = s.counted;
-      few_ports = subst (λ n. n ≤ 16) (sym (same_length pops_from s.asks.items c.pop_at.new.ends.items c.in_default.ensures.pops.rings)) s.few_ports;
-      ports = ports_looked s.asks.items c.pop_at.new.ends.items s.tellings.items c.look_at.new.ends.items s.journal.items c.in_default.ensures.pops.rings c.look_at.ensures.looks.rings s.ports (popped_none s.asks.items c.pop_at.new.ends.items c.args.port c.in_default.ensures.pops) c.look_at.ensures.looks.pushed;
+      few_ports = subst (λ n. n ≤ 16) (sym (same_length pops_from s.asks.items c.pop_at.new.ends.items c.in_default.ensures.pops.rings))
+          s.few_ports;
+      ports = ports_looked s.asks.items c.pop_at.new.ends.items s.tellings.items c.look_at.new.ends.items s.journal.items
+          c.in_default.ensures.pops.rings c.look_at.ensures.looks.rings s.ports
+          (popped_none s.asks.items c.pop_at.new.ends.items c.args.port c.in_default.ensures.pops) c.look_at.ensures.looks.pushed;
     }
 
 pub invariant_of-self-in-Done : goal.invariant_of-self-in-Done
@@ -63,7 +67,8 @@ invariant_of-self-in-Done g c =
     let room = c.requires.room in
     let pops = c.in-Some.ensures.pops in
     let there = there_popped s.asks.items c.pop_at.new.ends.items c.args.port c.in-Some.ask pops in
-    let asks = λ (p : ℕ). pops.popped p ∙ ap (λ l. received_at s.asks.items p ++ l) (ap (λ a. only c.args.port (a ∷ []) p) c.in-Done.is ∙ only_ended c.args.port p) in
+    let asks = λ (p : ℕ). pops.popped p ∙ ap (λ l. received_at s.asks.items p ++ l)
+    (ap (λ a. only c.args.port (a ∷ []) p) c.in-Done.is ∙ only_ended c.args.port p) in
     let tellings = λ (p : ℕ). c.look_at.ensures.looks.pushed p ∙ sym (append-nil (pushed_at s.tellings.items p)) in
     record {
       shaped = s.shaped;
@@ -73,16 +78,21 @@ invariant_of-self-in-Done g c =
       small = s.small;
       within = omega arith;
       reserved = omega (arith, s.reserved, c.push_reserved.ensures.capacity);
-      tells = ∥∥₁_map s.tells (side_ended s.unit (sent_at s.row.lines.items) (popped_at s.answers.items) s.fault s.journal.items c.push_reserved.new.self.items c.args.port c.push_reserved.ensures.items);
+      tells = ∥∥₁_map s.tells (side_ended s.unit (sent_at s.row.lines.items) (popped_at s.answers.items) s.fault s.journal.items
+          c.push_reserved.new.self.items c.args.port c.push_reserved.ensures.items);
       counted = s.counted;
-      few_ports = subst (λ n. n ≤ 16) (sym (same_length pops_from s.asks.items c.pop_at.new.ends.items c.in-Some.ensures.pops.rings)) s.few_ports;
-      ports = ports_step s.asks.items c.pop_at.new.ends.items s.tellings.items c.look_at.new.ends.items s.journal.items c.push_reserved.new.self.items (Ended c.args.port ∷ []) pops.rings c.look_at.ensures.looks.rings s.ports (ap (λ t. t && true) (lt-ltb c.args.port (length s.asks.items) there)) asks tellings c.push_reserved.ensures.items;
+      few_ports = subst (λ n. n ≤ 16) (sym (same_length pops_from s.asks.items c.pop_at.new.ends.items c.in-Some.ensures.pops.rings))
+          s.few_ports;
+      ports = ports_step s.asks.items c.pop_at.new.ends.items s.tellings.items c.look_at.new.ends.items s.journal.items
+          c.push_reserved.new.self.items (Ended c.args.port ∷ []) pops.rings c.look_at.ensures.looks.rings s.ports
+          (ap (λ t. t && true) (lt-ltb c.args.port (length s.asks.items) there)) asks tellings c.push_reserved.ensures.items;
     }
 
 pub verdict_of-requires : goal.verdict_of-requires
 verdict_of-requires g c =
     let s = c.args.self.now in
-    subst IsVerdict (sym c.answer_ask-answer.ensures.answer) (asked_verdict s.unit.sizes (free_at c.look_all.new.self.lines.items) c.args.port s.unit.cache c.in-Some.ask c.in_default-ask.not-Done)
+    subst IsVerdict (sym c.answer_ask-answer.ensures.answer) (asked_verdict s.unit.sizes (free_at c.look_all.new.self.lines.items)
+    c.args.port s.unit.cache c.in-Some.ask c.in_default-ask.not-Done)
 
 pub invariant_of-self-2 : goal.invariant_of-self-2
 invariant_of-self-2 g c =
@@ -94,20 +104,32 @@ invariant_of-self-2 g c =
     let room = c.requires.room in
     let pops = c.in-Some.ensures.pops in
     let there = there_popped s.asks.items c.pop_at.new.ends.items c.args.port c.in-Some.ask pops in
-    let asks = λ (p : ℕ). pops.popped p ∙ ap (λ l. received_at s.asks.items p ++ l) (only_asked c.args.port c.in-Some.ask c.event_for.result c.answer_ask-answer.result c.in_default-ask.not-Done c.event_for.ensures.event p) in
-    let tellings = λ (p : ℕ). c.push_at.ensures.pushed p ∙ ap₂ (λ l m. l ++ m) (c.look_at.ensures.looks.pushed p) (only_told c.args.port c.event_for.result c.answer_ask-answer.result c.verdict_of.result c.verdict_of.ensures p) in
+    let asks = λ (p : ℕ). pops.popped p ∙ ap (λ l. received_at s.asks.items p ++ l)
+    (only_asked c.args.port c.in-Some.ask c.event_for.result c.answer_ask-answer.result c.in_default-ask.not-Done
+    c.event_for.ensures.event p) in
+    let tellings = λ (p : ℕ). c.push_at.ensures.pushed p ∙ ap₂ (λ l m. l ++ m) (c.look_at.ensures.looks.pushed p)
+    (only_told c.args.port c.event_for.result c.answer_ask-answer.result c.verdict_of.result c.verdict_of.ensures p) in
     record {
       shaped = sizes ∙ s.shaped;
       in_range = subst InRange (sym sizes) s.in_range;
-      lines = same_length (λ (l : Line). pushes_to l.ring) _ _ (c.answer_ask-answer.ensures.same.rings ∙ c.look_all.ensures.kept.rings) ∙ s.lines ∙ banks;
+      lines = same_length (λ (l : Line). pushes_to l.ring) _ _ (c.answer_ask-answer.ensures.same.rings ∙ c.look_all.ensures.kept.rings)
+          ∙ s.lines ∙ banks;
       ends = s.ends ∙ banks;
       small = s.small;
       within = omega arith;
       reserved = omega (arith, s.reserved, c.push_reserved-2.ensures.capacity);
-      tells = ∥∥₁_map s.tells (λ h. side_asked s.unit c.answer_ask-answer.new.unit (sent_at s.row.lines.items) (sent_at c.look_all.new.self.lines.items) (sent_at c.answer_ask-answer.new.row.lines.items) (popped_at s.answers.items) s.fault s.journal.items c.push_reserved-2.new.self.items (free_at c.look_all.new.self.lines.items) c.args.port c.in-Some.ask c.event_for.result c.answer_ask-answer.result c.in_default-ask.not-Done c.requires.sound c.event_for.ensures.event h unit c.answer_ask-answer.ensures.answer c.look_all.ensures.sent c.answer_ask-answer.ensures.sent c.push_reserved-2.ensures.items);
+      tells = ∥∥₁_map s.tells (λ h. side_asked s.unit c.answer_ask-answer.new.unit (sent_at s.row.lines.items)
+          (sent_at c.look_all.new.self.lines.items) (sent_at c.answer_ask-answer.new.row.lines.items) (popped_at s.answers.items) s.fault
+          s.journal.items c.push_reserved-2.new.self.items (free_at c.look_all.new.self.lines.items) c.args.port c.in-Some.ask
+          c.event_for.result c.answer_ask-answer.result c.in_default-ask.not-Done c.requires.sound c.event_for.ensures.event h unit
+          c.answer_ask-answer.ensures.answer c.look_all.ensures.sent c.answer_ask-answer.ensures.sent c.push_reserved-2.ensures.items);
       counted = λ sound b. c.answer_ask-answer.ensures.same.taken b ∙ c.look_all.ensures.kept.taken b ∙ s.counted sound b;
-      few_ports = subst (λ n. n ≤ 16) (sym (same_length pops_from s.asks.items c.pop_at.new.ends.items c.in-Some.ensures.pops.rings)) s.few_ports;
-      ports = ports_step s.asks.items c.pop_at.new.ends.items s.tellings.items c.push_at.new.ends.items s.journal.items c.push_reserved-2.new.self.items (Step (sources.Ask c.args.port) c.event_for.result c.answer_ask-answer.result ∷ []) pops.rings (c.push_at.ensures.rings ∙ c.look_at.ensures.looks.rings) s.ports (ap (λ t. t && true) (c.event_for.ensures.sourced (length s.asks.items) there)) asks tellings c.push_reserved-2.ensures.items;
+      few_ports = subst (λ n. n ≤ 16) (sym (same_length pops_from s.asks.items c.pop_at.new.ends.items c.in-Some.ensures.pops.rings))
+          s.few_ports;
+      ports = ports_step s.asks.items c.pop_at.new.ends.items s.tellings.items c.push_at.new.ends.items s.journal.items
+          c.push_reserved-2.new.self.items (Step (sources.Ask c.args.port) c.event_for.result c.answer_ask-answer.result ∷ []) pops.rings
+          (c.push_at.ensures.rings ∙ c.look_at.ensures.looks.rings) s.ports
+          (ap (λ t. t && true) (c.event_for.ensures.sourced (length s.asks.items) there)) asks tellings c.push_reserved-2.ensures.items;
     }
 
 -- ---- what the step makes
@@ -118,7 +140,9 @@ returns-then-look_at-eq0-clause-makes g c =
     let looks = c.look_at.ensures.looks in
     let places = room_at c.look_at.new.ends.items in
     let none = le-ltb 0 (places c.args.port) (omega (arith, c.look_at.ensures.room)) in
-    idles (sources.Ask c.args.port) s _ (record s.known { telling_places = places }) (knows_tellings s.known places looks.places) (ap (λ t. t && not (is_empty (s.known.asks c.args.port))) none) (makes_nothing s _ refl refl refl (λ p. refl) looks.pushed (λ b. refl) (λ b. refl))
+    idles (sources.Ask c.args.port) s _ (record s.known { telling_places = places }) (knows_tellings s.known places looks.places)
+    (ap (λ t. t && not (is_empty (s.known.asks c.args.port))) none)
+    (makes_nothing s _ refl refl refl (λ p. refl) looks.pushed (λ b. refl) (λ b. refl))
 
 pub returns-in_default-clause-makes : goal.returns-in_default-clause-makes
 returns-in_default-clause-makes g c =
@@ -129,8 +153,11 @@ returns-in_default-clause-makes g c =
     let places = room_at c.look_at.new.ends.items in
     let pops = c.in_default.ensures.pops in
     let looked = record s.known { asks = known_at news; telling_places = places } in
-    let none = ap (λ l. nat_lt 0 (places c.args.port) && not (is_empty l)) c.in_default.ensures.none ∙ and-false (nat_lt 0 (places c.args.port)) in
-    idles (sources.Ask c.args.port) s _ looked (knows_asks s.known (known_at news) places s.known.command_places (known_more olds news c.args.port pops) looks.places (λ b. omega arith)) none (makes_nothing s _ refl refl refl (popped_none olds news c.args.port pops) looks.pushed (λ b. refl) (λ b. refl))
+    let none = ap (λ l. nat_lt 0 (places c.args.port) && not (is_empty l)) c.in_default.ensures.none
+    ∙ and-false (nat_lt 0 (places c.args.port)) in
+    idles (sources.Ask c.args.port) s _ looked (knows_asks s.known (known_at news) places s.known.command_places
+    (known_more olds news c.args.port pops) looks.places (λ b. omega arith)) none
+    (makes_nothing s _ refl refl refl (popped_none olds news c.args.port pops) looks.pushed (λ b. refl) (λ b. refl))
 
 pub returns-in-Done-clause-makes : goal.returns-in-Done-clause-makes
 returns-in-Done-clause-makes g c =
@@ -162,7 +189,8 @@ returns-in-Done-clause-makes g c =
       telling_places = λ p. sym (add-zero (places p));
       command_places = λ b. sym (add-zero (s.known.command_places b));
     } in
-    acts (sources.Ask port) s _ looked (knows_asks s.known asks places s.known.command_places pops.known looks.places (λ b. omega arith)) e Did some work (ap (answer_of true) (sym c.requires.sound)) makes tt
+    acts (sources.Ask port) s _ looked (knows_asks s.known asks places s.known.command_places pops.known looks.places (λ b. omega arith)) e
+    Did some work (ap (answer_of true) (sym c.requires.sound)) makes tt
 
 pub answer_ask-answer-requires : goal.answer_ask-answer-requires
 answer_ask-answer-requires g c =
@@ -200,7 +228,8 @@ returns-clause-makes g c =
     let mine = only_asked port ask event d.answer not_done refl in
     let told = only_told port event d.answer c.verdict_of.result (ap verdict (sym unit.answer) ∙ c.verdict_of.ensures) in
     let makes : Makes _ s looked _ = record {
-      journal = noted_so s.journal c.push_reserved-2.new.self.items (sources.Ask port) c.event_for.result event c.answer_ask-answer.result d.answer c.push_reserved-2.ensures.items c.event_for.ensures.event unit.answer;
+      journal = noted_so s.journal c.push_reserved-2.new.self.items (sources.Ask port) c.event_for.result event c.answer_ask-answer.result
+          d.answer c.push_reserved-2.ensures.items c.event_for.ensures.event unit.answer;
       cache = cache;
       fault = refl;
       asked = λ p. pops.popped p ∙ ap (λ l. s.asked p ++ l) (mine p);
@@ -213,11 +242,20 @@ returns-clause-makes g c =
       command_places = λ b. sym (unit.rooms b);
     } in
     let forms = subst₂ (λ a k. EventForms s.sizes s.cache event [] a k) unit.answer cache unit.forms in
-    acts (sources.Ask port) s _ looked (knows_asks s.known asks places free pops.known looks.places c.look_all.ensures.free) (noted s (sources.Ask port) event d no_words) Did some work (ap (answer_of true) (sym c.requires.sound)) makes (forms, tt)
+    acts (sources.Ask port) s _ looked (knows_asks s.known asks places free pops.known looks.places c.look_all.ensures.free)
+    (noted s (sources.Ask port) event d no_words) Did some work (ap (answer_of true) (sym c.requires.sound)) makes (forms, tt)
 
 pub returns-clause-same : goal.returns-clause-same
 returns-clause-same g c =
     let told = c.push_at.ensures.rings ∙ c.look_at.ensures.looks.rings in
     let lines = c.answer_ask-answer.ensures.same.rings ∙ c.look_all.ensures.kept.rings in
     let sizes = ap (λ (u : UnitState). u.sizes) c.answer_ask-answer.ensures.unit in
-    λ i. record { asks = c.in-Some.ensures.pops.rings i; told = told i; commands = lines i; answers = map pops_from c.args.self.now.answers.items; sizes = sizes i; limit = c.args.self.now.limit }
+    λ i. record {
+      asks = c.in-Some.ensures.pops.rings i;
+      told = told i;
+      commands = lines i;
+      answers = map pops_from
+          c.args.self.now.answers.items;
+      sizes = sizes i;
+      limit = c.args.self.now.limit;
+    }

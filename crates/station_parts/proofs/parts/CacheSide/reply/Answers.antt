@@ -34,7 +34,8 @@ invariant_of-self g c =
       tells = s.tells;
       counted = s.counted;
       few_ports = s.few_ports;
-      ports = ports_looked s.asks.items s.asks.items s.tellings.items c.look_at.new.ends.items s.journal.items refl c.look_at.ensures.looks.rings s.ports (λ p. refl) c.look_at.ensures.looks.pushed;
+      ports = ports_looked s.asks.items s.asks.items s.tellings.items c.look_at.new.ends.items s.journal.items refl
+          c.look_at.ensures.looks.rings s.ports (λ p. refl) c.look_at.ensures.looks.pushed;
     }
 
 pub invariant_of-self-2 : goal.invariant_of-self-2
@@ -47,7 +48,8 @@ invariant_of-self-2 g c =
     let longer = c.push_reserved.ensures.len in
     let room = c.requires.room in
     let shown = shown_taken s.unit.cache c.args.place v.tag v.word (sym c.reply.ensures ∙ v.is ∙ ap Some v.field-0-is) in
-    let told = only_value c.args.place v.tag c.from-port.result v.word c.take-answer.result c.value_told.result c.from-port.ensures (c.take-answer.ensures.answer ∙ shown) c.value_told.ensures in
+    let told = only_value c.args.place v.tag c.from-port.result v.word c.take-answer.result c.value_told.result c.from-port.ensures
+    (c.take-answer.ensures.answer ∙ shown) c.value_told.ensures in
     let tellings = λ (p : ℕ). c.push_at.ensures.pushed p ∙ ap₂ (λ l m. l ++ m) (c.look_at.ensures.looks.pushed p) (told p) in
     record {
       shaped = sizes ∙ s.shaped;
@@ -57,10 +59,15 @@ invariant_of-self-2 g c =
       small = s.small;
       within = omega arith;
       reserved = omega (arith, s.reserved, c.push_reserved.ensures.capacity);
-      tells = ∥∥₁_map s.tells (λ h. side_replied s.unit c.take-answer.new.self (sent_at s.row.lines.items) (popped_at s.answers.items) s.fault s.journal.items c.push_reserved.new.self.items c.args.place c.take-answer.result c.requires.sound h unit c.take-answer.ensures.answer c.push_reserved.ensures.items);
+      tells = ∥∥₁_map s.tells (λ h. side_replied s.unit c.take-answer.new.self (sent_at s.row.lines.items) (popped_at s.answers.items)
+          s.fault s.journal.items c.push_reserved.new.self.items c.args.place c.take-answer.result c.requires.sound h unit
+          c.take-answer.ensures.answer c.push_reserved.ensures.items);
       counted = s.counted;
       few_ports = s.few_ports;
-      ports = ports_step s.asks.items s.asks.items s.tellings.items c.push_at.new.ends.items s.journal.items c.push_reserved.new.self.items (Step (sources.Reply c.args.place) (Take c.args.place) c.take-answer.result ∷ []) refl (c.push_at.ensures.rings ∙ c.look_at.ensures.looks.rings) s.ports (ap (λ t. t && true) (eq-eqb c.args.place c.args.place refl)) (λ p. sym (append-nil (received_at s.asks.items p))) tellings c.push_reserved.ensures.items;
+      ports = ports_step s.asks.items s.asks.items s.tellings.items c.push_at.new.ends.items s.journal.items c.push_reserved.new.self.items
+          (Step (sources.Reply c.args.place) (Take c.args.place) c.take-answer.result ∷ []) refl
+          (c.push_at.ensures.rings ∙ c.look_at.ensures.looks.rings) s.ports (ap (λ t. t && true) (eq-eqb c.args.place c.args.place refl))
+          (λ p. sym (append-nil (received_at s.asks.items p))) tellings c.push_reserved.ensures.items;
     }
 
 -- ---- what the step makes
@@ -69,7 +76,8 @@ pub returns-in_default-2-clause-makes : goal.returns-in_default-2-clause-makes
 returns-in_default-2-clause-makes g c =
     let s = state_of c.args.self.now in
     let none = tells_none s.known.telling_places s.cache c.args.place (sym c.reply.ensures ∙ c.in_default.is) in
-    idles (sources.Reply c.args.place) s s s.known (knows_same s.known) none (makes_nothing s s refl refl refl (λ p. refl) (λ p. refl) (λ b. refl) (λ b. refl))
+    idles (sources.Reply c.args.place) s s s.known (knows_same s.known) none
+    (makes_nothing s s refl refl refl (λ p. refl) (λ p. refl) (λ b. refl) (λ b. refl))
 
 pub returns-then-look_at-eq0-clause-makes : goal.returns-then-look_at-eq0-clause-makes
 returns-then-look_at-eq0-clause-makes g c =
@@ -78,8 +86,10 @@ returns-then-look_at-eq0-clause-makes g c =
     let looks = c.look_at.ensures.looks in
     let places = room_at c.look_at.new.ends.items in
     let full = le-ltb 0 (places c.from-port.result) (omega (arith, c.look_at.ensures.room)) in
-    let none = tells_first places s.cache c.args.place v.tag v.word (sym c.reply.ensures ∙ v.is ∙ ap Some v.field-0-is) ∙ ap (λ p. nat_lt 0 (places p)) (sym c.from-port.ensures) ∙ full in
-    idles (sources.Reply c.args.place) s _ (record s.known { telling_places = places }) (knows_tellings s.known places looks.places) none (makes_nothing s _ refl refl refl (λ p. refl) looks.pushed (λ b. refl) (λ b. refl))
+    let none = tells_first places s.cache c.args.place v.tag v.word (sym c.reply.ensures ∙ v.is ∙ ap Some v.field-0-is)
+    ∙ ap (λ p. nat_lt 0 (places p)) (sym c.from-port.ensures) ∙ full in
+    idles (sources.Reply c.args.place) s _ (record s.known { telling_places = places }) (knows_tellings s.known places looks.places) none
+    (makes_nothing s _ refl refl refl (λ p. refl) looks.pushed (λ b. refl) (λ b. refl))
 
 pub returns-clause-makes : goal.returns-clause-makes
 returns-clause-makes g c =
@@ -91,14 +101,17 @@ returns-clause-makes g c =
     let looked = record s.known { telling_places = places } in
     let value = sym c.reply.ensures ∙ v.is ∙ ap Some v.field-0-is in
     let room = lt-ltb 0 (places c.from-port.result) (omega (arith, c.look_at.ensures.room)) in
-    let some = tells_first places s.cache c.args.place v.tag v.word value ∙ ap (λ p. nat_lt 0 (places p)) (sym c.from-port.ensures) ∙ room in
+    let some = tells_first places s.cache c.args.place v.tag v.word value ∙ ap (λ p. nat_lt 0 (places p)) (sym c.from-port.ensures)
+    ∙ room in
     let d = take_step s.cache c.args.place in
     let unit = c.take-answer.ensures in
     let cache = ap (λ (u : UnitState). u.cache) unit.unit in
     let silent = take_silent s.cache c.args.place in
-    let told = only_value c.args.place v.tag c.from-port.result v.word d.answer c.value_told.result c.from-port.ensures (shown_taken s.cache c.args.place v.tag v.word value) c.value_told.ensures in
+    let told = only_value c.args.place v.tag c.from-port.result v.word d.answer c.value_told.result c.from-port.ensures
+    (shown_taken s.cache c.args.place v.tag v.word value) c.value_told.ensures in
     let makes : Makes _ s looked _ = record {
-      journal = answered_so s.journal c.push_reserved.new.self.items source (Take c.args.place) c.take-answer.result d.answer c.push_reserved.ensures.items unit.answer;
+      journal = answered_so s.journal c.push_reserved.new.self.items source (Take c.args.place) c.take-answer.result d.answer
+          c.push_reserved.ensures.items unit.answer;
       cache = cache;
       fault = refl;
       asked = λ p. sym (append-nil (s.asked p));
@@ -108,10 +121,12 @@ returns-clause-makes g c =
       known_asks = λ p. refl;
       known_words = λ b. refl;
       telling_places = λ p. c.push_at.ensures.places p ∙ ap (λ l. room_at c.push_at.new.ends.items p + length l) (told p);
-      command_places = λ b. sym (ap (λ l. s.known.command_places b + length (commands_for b l)) silent ∙ add-zero (s.known.command_places b));
+      command_places = λ b. sym (ap (λ l. s.known.command_places b + length (commands_for b l)) silent
+          ∙ add-zero (s.known.command_places b));
     } in
     let forms = subst₂ (λ a k. TakenForms s.sizes s.cache a k) unit.answer cache unit.forms in
-    acts source s _ looked (knows_tellings s.known places looks.places) (noted s source (Take c.args.place) d no_words) Did some refl (ap (answer_of true) (sym c.requires.sound)) makes (forms, tt)
+    acts source s _ looked (knows_tellings s.known places looks.places) (noted s source (Take c.args.place) d no_words) Did some refl
+    (ap (answer_of true) (sym c.requires.sound)) makes (forms, tt)
 
 pub returns-clause-same : goal.returns-clause-same
 returns-clause-same g c =
