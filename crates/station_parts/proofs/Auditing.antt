@@ -26,22 +26,24 @@ use Rattle.station_journal.specs.declared.journal.Entry.{Entry}
 use Rattle.station_journal.specs.declared.journal.SideFault.{SideFault}
 use Rattle.station_journal.specs.Journal.{Stand, opening_stand, true_stand, true_word, zeros, zeros_in, IsBankTrue}
 use Rattle.station_journal.specs.Law.{IsFlatJournal, TakesABlock, IsPaid, bank_after}
-use Rattle.station_journal.specs.Parts.{asks_of, told_of}
+use Rattle.station_journal.specs.Parts.{asks_of, told_of, IsOfPorts}
 use Rattle.station_journal.proofs.FlatFrom.{some_same}
 use Rattle.station_journal.specs.Side.{SideTells, ComesOf}
 use Rattle.station_journal.proofs.Walking.{fit_prop, journal_is_flat}
+use Rattle.station_journal.proofs.Answering.{asks_are_judged}
 use Rattle.station_journal.proofs.Telling.{bank_true, stands_true, never_faulted}
 use Rattle.station_parts.specs.declared.port.Port.{Port}
 use Rattle.station_parts.specs.declared.bank.BankSide.{BankSide}
 use Rattle.station_parts.specs.declared.parts.CacheSide.{CacheSide}
-use Rattle.station_parts.specs.Ids.{PortId, BankId, port_id, bank_id, pops_from}
+use Rattle.station_parts.specs.Rings.{pops_from}
+use Rattle.station_parts.specs.Ids.{PortId, BankId, port_id, bank_id}
 use Rattle.station_parts.specs.Rows.{sent_at, popped_at, come_to}
 use Rattle.station_parts.specs.Words.{taken, told_in_all, known_tellings, received_by, sent_by, words_of, known_commands, commanded}
 use Rattle.station_parts.specs.Station.{AreOneStation}
 use Rattle.station_parts.specs.Audited.{IsSeen, holds_item, first_ring, first_left, finding, audit_of}
 use Rattle.station_parts.specs.declared.parts.Ring.{Ring}
 use Rattle.station_parts.specs.declared.parts.Audit.TheVariants.{Faulted, Clean}
-use Rattle.station_parts.specs.Promises.{offered_by, taken_by, words_by, ArePrefixes, AreWhole, IsFlatRun, PaysLoads, HoldFlat}
+use Rattle.station_parts.specs.Promises.{AreJudged, offered_by, taken_by, words_by, ArePrefixes, AreWhole, IsFlatRun, PaysLoads, HoldFlat}
 use Rattle.station_parts.proofs.Rows.{here_before}
 
 -- ---- a bank's share of zeros
@@ -190,6 +192,14 @@ module _ {W B R D : ℕ} (cache : CacheSide W B R D) (ports : List Port) (banks 
 
   pub run_here : IsFlatRun cache.unit.sizes cache.journal.items
   run_here = record { flat = flat_here.flat; runs = flat_here.runs }
+
+  pub sources_here : IsOfPorts (length ports) cache.journal.items
+  sources_here = subst (λ n. IsOfPorts n cache.journal.items) ask_number cache.ports.sources
+
+  pub judged_here : AreJudged cache.journal.items
+  judged_here before rest p e =
+      asks_are_judged cache.unit.sizes before rest (length ports) p law cache.in_range.enough_commands (subst (IsBankTrue cache.unit.sizes) e bank_true_here)
+        (subst (IsOfPorts (length ports)) e sources_here)
 
   -- ---- what ports offered and took
 

@@ -12,9 +12,10 @@ use Rattle.station_journal.specs.declared.asks.Ask.{Ask}
 use Rattle.station_journal.specs.declared.asks.Told.{Told}
 use Rattle.station_journal.specs.declared.journal.Entry.{Entry}
 use Rattle.station_journal.specs.declared.journal.SideFault.{SideFault}
+use Rattle.station_journal.specs.Parts.{IsOfPorts}
 use Rattle.station_journal.specs.Side.{SideTells}
 use Rattle.station_parts.specs.declared.row.Line.{Line}
-use Rattle.station_parts.specs.Ids.{pops_from, pushes_to}
+use Rattle.station_parts.specs.Rings.{pops_from, pushes_to}
 use Rattle.station_parts.specs.Ports.{PortsTell}
 use Rattle.station_parts.specs.Rows.{sent_over, brought_by, sent_at, popped_at, taken_at}
 use Rattle.std.proofs.lemmas.List.{map-set, length-map, get_or-map}
@@ -71,4 +72,5 @@ ports_looked asks asks' tellings tellings' entries ring ring' popped pushed h =
       number = row_length pushes_to tellings tellings' ring' ∙ h.number ∙ sym n;
       asked = λ p l. ap (λ xs. slice_index_or xs p []) popped ∙ h.asked p (subst (λ k. p < k) n l);
       told = λ p l. ap (λ xs. slice_index_or xs p []) pushed ∙ h.told p (subst (λ k. p < k) n l);
+      sources = subst (λ k. IsOfPorts k entries) (sym n) h.sources;
     }

@@ -36,7 +36,8 @@ use Rattle.station_parts.specs.Rows.{sent_at, free_at, taken_at, popped_at, rece
 use Rattle.station_parts.specs.Ports.{PortsTell}
 use Rattle.station_parts.specs.declared.parts.CacheSide.{CacheSide}
 use Rattle.station_parts.specs.Station.{AreOneStation, words_by_bank}
-use Rattle.station_parts.specs.Ids.{PortId, BankId, pushes_to, pops_from, line_ring, port_id, bank_id}
+use Rattle.station_parts.specs.Rings.{RingId, pushes_to, pops_from}
+use Rattle.station_parts.specs.Ids.{PortId, BankId, line_ring, port_id, bank_id}
 use Rattle.station_parts.specs.New.{bad_field, IsNewPort, IsNewBank, IsNewPopper, IsNewPusher, IsNewLine, IsNewCache, IsNewStation, AreNewPorts, AreNewBanks}
 
 -- the two ends of a ring belong to it
@@ -178,7 +179,7 @@ module _ (s : Shape) (z : Sizes) (count : ℕ) (ports : List Port) (asks : List 
 
   pub new_ports : PortsTell asks tellings []
   new_ports =
-      record { number = tellings_number ∙ sym asks_number; asked = λ p l. none_asked p; told = λ p l. none_told p }
+      record { number = tellings_number ∙ sym asks_number; asked = λ p l. none_asked p; told = λ p l. none_told p; sources = refl }
 
   module _ {W B R D : ℕ} (c : CacheSide W B R D) (entries : ℕ) (words_same : s.words ≡ z.words) (banks_same : s.banks ≡ z.banks) (queue_same : s.bank_queue ≡ z.bank_queue) (asks_is : c.asks.items ≡ asks) (tellings_is : c.tellings.items ≡ tellings) (lines_is : c.row.lines.items ≡ lines) (answers_is : c.answers.items ≡ answers) (unit_is : c.unit ≡ record { sizes = z; cache = opening_cache z }) (empty : c.journal.items ≡ []) (limit_is : c.limit ≡ entries) (sound : c.fault ≡ None) where
     shares : map (λ (b : BankId). b.words) (map bank_id banks) ≡ words_by_bank z

@@ -1,7 +1,8 @@
 use Rattle.std.proofs.Common.{◌≡◌, ◌<◌, length, map, sym, ap, ◌∙◌, arith}
 use Rattle.std.proofs.Math.Seq.{map-set_same}
 use Rattle.rtrb.specs.Ring.{received}
-use Rattle.station_parts.specs.Ids.{BankId, bank_id, pops_from}
+use Rattle.station_parts.specs.Rings.{pops_from}
+use Rattle.station_parts.specs.Ids.{BankId, bank_id}
 use Rattle.station_parts.specs.Rows.{come_to}
 use Rattle.station_parts.specs.Words.{received_by, sent_by, words_of, commanded}
 use Rattle.station_parts.specs.declared.bank.BankSide.{BankSide}

@@ -1,6 +1,7 @@
 use Rattle.std.proofs.Common.{◌∙◌, arith}
 use Rattle.std.proofs.Math.Logic.{∥∥₁_map}
-use Rattle.station_parts.specs.Ids.{pops_from, line_ring}
+use Rattle.station_parts.specs.Rings.{pops_from}
+use Rattle.station_parts.specs.Ids.{line_ring}
 use Rattle.station_parts.proofs.Looking.{row_length, tells_looked, ports_looked, counted_looked}
 use Rattle.station_parts.proofs.inspect.look_everywhere.Goals as goal
 

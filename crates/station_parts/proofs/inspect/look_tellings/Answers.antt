@@ -1,7 +1,8 @@
 use Rattle.std.proofs.Common.{◌≡◌, ◌<◌, length, map, sym, ap, ◌∙◌, arith}
 use Rattle.std.proofs.Math.Seq.{map-set_same}
 use Rattle.rtrb.specs.Ring.{sent}
-use Rattle.station_parts.specs.Ids.{PortId, port_id, pushes_to}
+use Rattle.station_parts.specs.Rings.{pushes_to}
+use Rattle.station_parts.specs.Ids.{PortId, port_id}
 use Rattle.station_parts.specs.Words.{offered, taken, told_in_all}
 use Rattle.station_parts.specs.declared.port.Port.{Port}
 use Rattle.station_parts.proofs.Moves.{moved}
