@@ -1,4 +1,6 @@
 pub mod Rows
+pub mod Moves
+pub mod Making
 pub mod Rowing
 pub mod Porting
 pub mod Turning

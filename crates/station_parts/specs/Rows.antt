@@ -3,7 +3,7 @@ use Rattle.std.specs.Prelude.{◌≡◌, ℕ, ◌<◌, List, [], length, map, sl
 use Rattle.std.proofs.Common.{◌∙◌, subst, sym}
 use Rattle.std.proofs.lemmas.List.{get_or_default}
 use Rattle.std.specs.declared.alloc.Global.{Global}
-use Rattle.rtrb.specs.Ring.{sent, received, known_free, SameProducer}
+use Rattle.rtrb.specs.Ring.{sent, received, known_free, known_items, SameProducer}
 use Rattle.rtrb.specs.declared.producer.Producer.{Producer}
 use Rattle.rtrb.specs.declared.consumer.Consumer.{Consumer}
 use Rattle.rtrb.specs.declared.AnyItems.{AnyItems}
@@ -70,3 +70,7 @@ pushed_at ends p = slice_index_or (map sent ends) p []
 -- how many more items are known to have room there
 abbrev pub room_at : {T : Type 0} → List (Producer T Global AnyItems) → ℕ → ℕ
 room_at ends p = slice_index_or (map known_free ends) p 0
+
+-- the items that are known at a place, and not popped
+abbrev pub known_at : {T : Type 0} → List (Consumer T Global AnyItems) → ℕ → List T
+known_at ends p = slice_index_or (map known_items ends) p []

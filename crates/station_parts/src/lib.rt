@@ -8,6 +8,7 @@ mod asking;
 mod bank;
 mod ends;
 mod lines;
+mod make;
 mod parts;
 mod port;
 mod raw;
@@ -16,7 +17,8 @@ mod side;
 mod views;
 
 pub use bank::BankSide;
-pub use parts::{CacheSide, Stepped};
-pub use port::Port;
+pub use make::{MAX_ENTRIES, MAX_PORTS, station};
+pub use parts::{Audit, CacheSide, Ring, Station, Stepped};
+pub use port::{ASK_PLACES, Port, TELLING_PLACES};
 pub use raw::RawBank;
 pub use station_journal::{Ask, Entry, SideFault, Source, Told};

@@ -6,7 +6,9 @@ ghost use Rattle.station_parts.specs.Rows.{sent_at, popped_at, taken_at};
 ghost use Rattle.station_journal.specs.Side.{SideTells};
 ghost use Rattle.station_parts.specs.Ports.{PortsTell};
 
+use crate::bank::BankSide;
 use crate::lines::Row;
+use crate::port::Port;
 use cache_unit::CacheUnit;
 use flat_model::Shape;
 use memory_banks::BankAnswer;
@@ -51,4 +53,48 @@ pub struct CacheSide<const WAYS: usize, const WORDS: usize, const REGS: usize, c
         ≡ length (popped_at answers.items b) },
     ghost few_ports: { length asks.items ≤ 16 },
     ghost ports: { PortsTell asks.items tellings.items journal.items },
+}
+
+/// A cache side with its ports and its banks, each in the order of their numbers.
+#[derive(Drop)]
+pub struct Station<const WAYS: usize, const WORDS: usize, const REGS: usize, const DEPTH: usize> {
+    /// The side on which the cache is.
+    pub cache: CacheSide<WAYS, WORDS, REGS, DEPTH>,
+    /// Those who ask it.
+    pub ports: Vec<Port>,
+    /// The banks of its memory.
+    pub banks: Vec<BankSide>,
+}
+
+/// A ring of a station, by its kind and the number of its port or bank.
+#[derive(Clone, Copy, PartialEq, Eq, Debug)]
+pub enum Ring {
+    /// From a port to the cache side.
+    Asks(u32),
+    /// From the cache side to a port.
+    Told(u32),
+    /// From the cache side to a bank.
+    Commands(u32),
+    /// From a bank to the cache side.
+    Answers(u32),
+}
+
+/// What an audit finds.
+#[derive(Clone, Copy, PartialEq, Eq, Debug)]
+pub enum Audit {
+    /// The cache side got a word that it hadn't asked for.
+    Faulted,
+    /// Items are left in a ring: the first one in the order asks by port, tellings by port, commands
+    /// by bank, answers by bank.
+    Left {
+        /// The ring.
+        ring: Ring,
+    },
+    /// No ring holds an item, and the cache side owes values of accepted loads.
+    Owed {
+        /// How many loads wait for their values or have them ready.
+        count: u32,
+    },
+    /// No ring holds an item, and nothing is owed.
+    Clean,
 }

@@ -1,0 +1,64 @@
+-- What a part keeps whatever it does: the rings that its ends belong to, and its sizes.
+use Rattle.std.specs.Prelude.{ℕ, List, map, length}
+use denote.RawPtr.{Ptr}
+use Rattle.std.specs.declared.alloc.Global.{Global}
+use Rattle.rtrb.specs.Shared.{Names}
+use Rattle.rtrb.specs.declared.producer.Producer.{Producer}
+use Rattle.rtrb.specs.declared.consumer.Consumer.{Consumer}
+use Rattle.rtrb.specs.declared.AnyItems.{AnyItems}
+use Rattle.cache_unit.specs.State.{Sizes}
+use Rattle.station_parts.specs.declared.port.Port.{Port}
+use Rattle.station_parts.specs.declared.bank.BankSide.{BankSide}
+use Rattle.station_parts.specs.declared.parts.CacheSide.{CacheSide}
+
+-- a ring: where it lies, and the names by which its two ends know each other
+pub record RingId : Type 0 where
+  pub words : Ptr
+  pub slots : Ptr
+  pub names : Names
+  pub heap : Global
+
+-- the ring that an end pushes to
+abbrev pub pushes_to : {T : Type 0} → Producer T Global AnyItems → RingId
+pushes_to p = record { words = p.end.words; slots = p.end.slots; names = p.end.names; heap = p.end.heap }
+
+-- the ring that an end pops from
+abbrev pub pops_from : {T : Type 0} → Consumer T Global AnyItems → RingId
+pops_from c = record { words = c.end.words; slots = c.end.slots; names = c.end.names; heap = c.end.heap }
+
+-- the rings of a port
+pub record PortId : Type 0 where
+  pub asks : RingId
+  pub told : RingId
+
+abbrev pub port_id : Port → PortId
+port_id p = record { asks = pushes_to p.asks; told = pops_from p.tellings }
+
+-- the rings of a bank, and how many words it has
+pub record BankId : Type 0 where
+  pub commands : RingId
+  pub answers : RingId
+  pub words : ℕ
+
+abbrev pub bank_id : BankSide → BankId
+bank_id b = record { commands = pops_from b.commands; answers = pushes_to b.answers; words = length b.words.items }
+
+-- the cache side's rings, by the numbers of ports and banks, its sizes, and how long its journal may get
+pub record CacheId : Type 0 where
+  pub asks : List RingId
+  pub told : List RingId
+  pub commands : List RingId
+  pub answers : List RingId
+  pub sizes : Sizes
+  pub limit : ℕ
+
+abbrev pub cache_id : {W B R D : ℕ} → CacheSide W B R D → CacheId
+cache_id c =
+    record {
+      asks = map pops_from c.asks.items;
+      told = map pushes_to c.tellings.items;
+      commands = map (λ l. pushes_to l.ring) c.row.lines.items;
+      answers = map pops_from c.answers.items;
+      sizes = c.unit.sizes;
+      limit = c.limit;
+    }
