@@ -40,7 +40,8 @@ pub record AreWhole (entries : List Entry) (ports : List Port) : Type 0 where
 -- up to each entry each ask but Done has one verdict: the k-th verdict is on the k-th ask
 abbrev pub AreJudged : List Entry → Type 0
 AreJudged entries =
-    (before rest : List Entry) (p : ℕ) → entries ≡ before ++ rest → length (verdicts_in (told_of p before)) ≡ length (requests_in (asks_of p before))
+    (before rest : List Entry) (p : ℕ) → entries ≡ before ++ rest
+    → length (verdicts_in (told_of p before)) ≡ length (requests_in (asks_of p before))
 
 -- the journal's events and answers are a run of flat memory from zeros, and leave this state
 abbrev pub LeavesFlat : Sizes → List Entry → Flat → Type 0
@@ -58,4 +59,5 @@ PaysLoads z entries = (flat : Flat) → LeavesFlat z entries flat → IsPaid fla
 -- each word of memory stands in its bank as the run leaves it
 abbrev pub HoldFlat : Sizes → List Entry → List BankSide → Type 0
 HoldFlat z entries banks =
-    (flat : Flat) → LeavesFlat z entries flat → (at : ℕ) → at < z.words → slice_get (words_by banks (at % z.banks)) (at / z.banks) ≡ Some (word_at flat.mem at)
+    (flat : Flat) → LeavesFlat z entries flat → (at : ℕ) → at < z.words
+    → slice_get (words_by banks (at % z.banks)) (at / z.banks) ≡ Some (word_at flat.mem at)
