@@ -1,19 +1,17 @@
 -- Where every port has had its whole conversation, no telling is left and nothing is owed.
-use Rattle.std.proofs.Common.{◌≡◌, ℕ, suc, ◌+◌, ◌/◌, ◌<◌, ◌≤◌, Bool, true, false, cond, not, ◌&&◌, ◌==◌, nat_lt, List, [], ◌∷◌, ◌++◌, length, Option, Some, None, refl, sym, ap, ap₂, ◌∙◌, subst, arith, append-nil, length-append}
-use Rattle.std.specs.List.{filter, count_by, list_all}
+use Rattle.std.proofs.Common.{◌≡◌, ℕ, suc, ◌+◌, ◌/◌, ◌<◌, ◌≤◌, Bool, true, false, cond, not, ◌&&◌, ◌==◌, nat_lt, List, [], ◌∷◌, ◌++◌, length, None, refl, sym, ap, ap₂, ◌∙◌, arith, append-nil, length-append}
+use Rattle.std.specs.List.{filter, list_all}
 use Rattle.std.proofs.lemmas.Bool.{ltb-true, ltb-false}
 use Rattle.std.proofs.lemmas.List.{nil_from_length}
 use Rattle.std.proofs.lemmas.List.Elements.{filter-append}
 use Rattle.std.proofs.lemmas.List.Folds.{list_all-append}
 use Rattle.miss_registers.proofs.Tags.{count_by-append}
-use Rattle.flat_model.specs.declared.Word.{Word}
 use Rattle.flat_model.specs.declared.Event.{Event}
 use Rattle.flat_model.specs.declared.Event.TheVariants as events
 use Rattle.flat_model.specs.declared.Answer.{Answer}
 use Rattle.flat_model.specs.declared.Answer.TheVariants as answers
-use Rattle.flat_model.specs.Flat.{Flat, opening, flat_run}
-use Rattle.cache_unit.specs.State.{Sizes, Cache, tags}
-use Rattle.machine_core.specs.Law.{IsLawful}
+use Rattle.flat_model.specs.Flat.{Flat, opening}
+use Rattle.cache_unit.specs.State.{Sizes}
 use Rattle.station_journal.specs.declared.journal.Source.{Source}
 use Rattle.station_journal.specs.declared.journal.Source.TheVariants as sources
 use Rattle.station_journal.specs.declared.journal.Entry.{Entry}
@@ -22,14 +20,14 @@ use Rattle.station_journal.specs.declared.asks.Ask.{Ask}
 use Rattle.station_journal.specs.declared.asks.Ask.TheVariants.{Done}
 use Rattle.station_journal.specs.declared.asks.Told.{Told}
 use Rattle.station_journal.specs.declared.asks.Told.TheVariants.{Accepted, Refused, Value}
-use Rattle.station_journal.specs.Journal.{Stand, Brings, AllFit, IsBankTrue, true_stand, true_word, opening_stand, after_entry, is_full, zeros, events_of, answers_of}
+use Rattle.station_journal.specs.Journal.{Stand, Brings, AllFit, true_stand, true_word, opening_stand, after_entry, is_full, zeros}
 use Rattle.station_journal.specs.Parts.{asks_of, told_of, is_event_of, is_entry_of, IsOfPorts}
-use Rattle.station_journal.specs.Conversation.{is_value, verdicts_in, value_count, is_request, requests_in, is_final, accepted_loads, Follows, Converses}
-use Rattle.station_journal.specs.Law.{TakesABlock, IsFlatJournal, AsksAreJudged, IsHeard, IsAnswered, RunIsAnswered}
+use Rattle.station_journal.specs.Conversation.{is_value, verdicts_in, value_count, is_request, requests_in, is_final, accepted_loads, Follows}
+use Rattle.station_journal.specs.Law.{IsFlatJournal, AsksAreJudged, IsHeard, RunIsAnswered}
 use Rattle.station_journal.proofs.Stepping.{eqb_true}
 use Rattle.station_journal.proofs.Walking.{journal_is_flat}
 use Rattle.station_journal.proofs.Owed.{no_tags}
-use Rattle.station_journal.proofs.OpenTags.{one_if, load_by, loads_in, values_in, tally, AreOpen, Balance, run_balance, none_open, none_left}
+use Rattle.station_journal.proofs.OpenTags.{one_if, load_by, loads_in, values_in, tally, Balance, run_balance, none_open, none_left}
 use Rattle.station_journal.proofs.Judging.{is_of, Tallies, journal_tallies, first_of, rest_of}
 
 -- ---- as many verdicts as asks, up to each entry
@@ -47,7 +45,9 @@ and_left false b e = cc
 pub asks_are_judged : AsksAreJudged
 asks_are_judged z before rest ports p lawful takes true_of_banks of =
     let flat = journal_is_flat z before lawful takes (fit-first z (true_word z) before rest (opening_stand z) true_of_banks) in
-    let mine = and_left (list_all (is_entry_of ports) before) (list_all (is_entry_of ports) rest) (sym (list_all-append (is_entry_of ports) before rest) ∙ of) in
+    let mine =
+    and_left (list_all (is_entry_of ports) before) (list_all (is_entry_of ports) rest)
+    (sym (list_all-append (is_entry_of ports) before rest) ∙ of) in
     (journal_tallies p ports before (opening (zeros z)) flat.flat mine flat.runs).judged
 
 -- ---- lists
@@ -64,7 +64,8 @@ filter-full : {X : Type 0} (q : X → Bool) (xs : List X) → length (filter q x
 filter-full q [] e = refl
 filter-full q (x ∷ xs) e = go (q x) e (λ h. filter-full q xs h)
   where
-    go : (t : Bool) → length (cond t (x ∷ filter q xs) (filter q xs)) ≡ suc (length xs) → (length (filter q xs) ≡ length xs → filter q xs ≡ xs) → cond t (x ∷ filter q xs) (filter q xs) ≡ x ∷ xs
+    go : (t : Bool) → length (cond t (x ∷ filter q xs) (filter q xs)) ≡ suc (length xs)
+        → (length (filter q xs) ≡ length xs → filter q xs ≡ xs) → cond t (x ∷ filter q xs) (filter q xs) ≡ x ∷ xs
     go true e same = ap (λ l. x ∷ l) (same (omega arith))
     go false e same = absurd (let few = filter-few q xs in omega arith)
 
@@ -76,7 +77,8 @@ nothing_told (Refused cause ∷ rest) e v = absurd (omega arith)
 nothing_told (Value tag word ∷ rest) e v =
     absurd (let both = count_by-append is_value (Value tag word ∷ []) rest in omega arith)
 
-follows-length : (script asked : List Ask) (verdicts : List Told) (left : List Ask) → Follows script asked verdicts left → length asked ≡ length verdicts
+follows-length : (script asked : List Ask) (verdicts : List Told) (left : List Ask) → Follows script asked verdicts left
+    → length asked ≡ length verdicts
 follows-length script [] [] left h = refl
 follows-length (first ∷ script) (offer ∷ asked) (v ∷ verdicts) left h =
     ap suc (follows-length (cond (is_final v) script (first ∷ script)) asked verdicts left h.1)
@@ -99,16 +101,24 @@ same_front xs ys zs e few =
     let same = ap length e in
     nil_from_length ys (omega arith)
 
-port_quiet : (p : ℕ) (script offered : List Ask) (taken : List Told) (entries : List Entry) (loads values : ℕ) → Tallies (asks_of p entries) (told_of p entries) loads values → values ≤ loads → IsHeard p script offered taken entries → Quiet taken (told_of p entries) loads values
+port_quiet : (p : ℕ) (script offered : List Ask) (taken : List Told) (entries : List Entry) (loads values : ℕ)
+    → Tallies (asks_of p entries) (told_of p entries) loads values → values ≤ loads → IsHeard p script offered taken entries
+    → Quiet taken (told_of p entries) loads values
 port_quiet p script offered taken entries loads values tallies few heard =
     let talk = heard.conversation in
     let asked = talk.asked in
     let asks = asks_of p entries in
     let told = told_of p entries in
     let as_many = follows-length script asked (verdicts_in taken) [] talk.follows in
-    let requests : requests_in asks ++ requests_in heard.unasked ≡ requests_in asked = sym (filter-append is_request asks heard.unasked) ∙ ap requests_in (heard.asks ∙ talk.offered_is) ∙ filter-append is_request asked (Done ∷ []) ∙ append-nil (requests_in asked) in
-    let verdicts : verdicts_in taken ++ verdicts_in heard.untaken ≡ verdicts_in told = sym (filter-append (λ (t : Told). not (is_value t)) taken heard.untaken) ∙ ap verdicts_in heard.tellings in
-    let values_told : value_count taken + value_count heard.untaken ≡ value_count told = sym (count_by-append is_value taken heard.untaken) ∙ ap value_count heard.tellings in
+    let requests : requests_in asks ++ requests_in heard.unasked ≡ requests_in asked =
+    sym (filter-append is_request asks heard.unasked)
+    ∙ ap requests_in (heard.asks ∙ talk.offered_is)
+    ∙ filter-append is_request asked (Done ∷ [])
+    ∙ append-nil (requests_in asked) in
+    let verdicts : verdicts_in taken ++ verdicts_in heard.untaken ≡ verdicts_in told =
+    sym (filter-append (λ (t : Told). not (is_value t)) taken heard.untaken) ∙ ap verdicts_in heard.tellings in
+    let values_told : value_count taken + value_count heard.untaken ≡ value_count told =
+    sym (count_by-append is_value taken heard.untaken) ∙ ap value_count heard.tellings in
     let requests_number = ap length requests in
     let requests_whole = length-append (requests_in asks) (requests_in heard.unasked) in
     let verdicts_number = ap length verdicts in
@@ -118,8 +128,15 @@ port_quiet p script offered taken entries loads values tallies few heard =
     let none_untaken : length (verdicts_in heard.untaken) ≡ 0 = omega arith in
     let all_requests : length (requests_in asked) ≡ length asked = omega arith in
     let none_unasked : length (requests_in heard.unasked) ≡ 0 = omega arith in
-    let same_asks : requests_in asks ≡ asked = sym (append-nil (requests_in asks)) ∙ ap (λ l. requests_in asks ++ l) (sym (nil_from_length (requests_in heard.unasked) none_unasked)) ∙ requests ∙ filter-full is_request asked all_requests in
-    let same_verdicts : verdicts_in told ≡ verdicts_in taken = sym verdicts ∙ ap (λ l. verdicts_in taken ++ l) (nil_from_length (verdicts_in heard.untaken) none_untaken) ∙ append-nil (verdicts_in taken) in
+    let same_asks : requests_in asks ≡ asked =
+    sym (append-nil (requests_in asks))
+    ∙ ap (λ l. requests_in asks ++ l) (sym (nil_from_length (requests_in heard.unasked) none_unasked))
+    ∙ requests
+    ∙ filter-full is_request asked all_requests in
+    let same_verdicts : verdicts_in told ≡ verdicts_in taken =
+    sym verdicts
+    ∙ ap (λ l. verdicts_in taken ++ l) (nil_from_length (verdicts_in heard.untaken) none_untaken)
+    ∙ append-nil (verdicts_in taken) in
     let loads_are : loads ≡ value_count taken = sym tallies.accepted ∙ ap₂ accepted_loads same_asks same_verdicts ∙ sym talk.answered in
     let values_are = tallies.valued in
     let no_values : value_count heard.untaken ≡ 0 = omega arith in
@@ -134,14 +151,17 @@ port_quiet p script offered taken entries loads values tallies few heard =
 load_outside : (p ports port tag : ℕ) → ports ≤ p → (nat_lt port ports && (tag / 256 == port)) ≡ true → one_if (is_of p tag) ≡ 0
 load_outside p ports port tag outside of = go (nat_lt port ports) refl (tag / 256 == port) refl (tag / 256 == p) refl of
   where
-    go : (a : Bool) → nat_lt port ports ≡ a → (b : Bool) → (tag / 256 == port) ≡ b → (t : Bool) → (tag / 256 == p) ≡ t → (a && b) ≡ true → one_if t ≡ 0
+    go : (a : Bool) → nat_lt port ports ≡ a → (b : Bool) → (tag / 256 == port) ≡ b → (t : Bool) → (tag / 256 == p) ≡ t → (a && b) ≡ true
+        → one_if t ≡ 0
     go a ea b eb false et both = refl
     go true ea true eb true et both =
-        absurd (let inside = ltb-true port ports ea in let here = eqb_true (tag / 256) port eb in let there = eqb_true (tag / 256) p et in omega arith)
+        absurd (let inside = ltb-true port ports ea in let here = eqb_true (tag / 256) port eb in let there = eqb_true (tag / 256) p et
+        in omega arith)
     go true ea false eb true et both = cc
     go false ea b eb true et both = cc
 
-event_outside : (p ports : ℕ) (source : Source) (event : Event) (answer : Answer) → ports ≤ p → is_event_of ports source event ≡ true → load_by (is_of p) event answer ≡ 0
+event_outside : (p ports : ℕ) (source : Source) (event : Event) (answer : Answer) → ports ≤ p → is_event_of ports source event ≡ true
+    → load_by (is_of p) event answer ≡ 0
 event_outside p ports (sources.Ask port) (events.Load tag at) answers.Accepted outside of = load_outside p ports port tag outside of
 event_outside p ports (sources.Word bank) (events.Load tag at) answers.Accepted outside of = cc
 event_outside p ports (sources.Stack place) (events.Load tag at) answers.Accepted outside of = cc
@@ -162,7 +182,11 @@ loads_outside p ports (Step source event answer ∷ rest) outside of =
 
 pub run_is_answered : RunIsAnswered
 run_is_answered z entries ports script offered taken lawful takes true_of_banks of heard =
-    record { all_taken = λ p l. (quiet p l).all; none_owed = no_tags (true_stand z entries).cache (λ tag. flat.owes_no_less tag (none_due tag)) }
+    record {
+      all_taken = λ p l. (quiet p l).all;
+      none_owed = no_tags (true_stand z entries).cache
+          (λ tag. flat.owes_no_less tag (none_due tag));
+    }
   where
     flat : IsFlatJournal z entries (true_stand z entries)
     flat = journal_is_flat z entries lawful takes true_of_banks
@@ -176,7 +200,8 @@ run_is_answered z entries ports script offered taken lawful takes true_of_banks 
     quiet : (p : ℕ) → p < ports → Quiet (taken p) (told_of p entries) (loads_in (is_of p) entries) (values_in (is_of p) entries)
     quiet p l =
         let even = balance.balance (is_of p) in
-        port_quiet p (script p) (offered p) (taken p) entries _ _ (journal_tallies p ports entries first flat.flat of flat.runs) (omega arith) (heard p l)
+        port_quiet p (script p) (offered p) (taken p) entries _ _ (journal_tallies p ports entries first flat.flat of flat.runs)
+        (omega arith) (heard p l)
 
     none_of : (p : ℕ) → tally (is_of p) balance.left ≡ 0
     none_of p = go (nat_lt p ports) refl

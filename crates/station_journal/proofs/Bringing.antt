@@ -25,12 +25,16 @@ use Rattle.station_journal.proofs.Counting.{reads_few}
 use Rattle.station_journal.proofs.Telling.{tells_word}
 
 -- all banks' words, where one bank's are the same and the others' are
-pub all_same : (popped popped' : ℕ → List BankAnswer) (bank : ℕ) → popped' bank ≡ popped bank → ((b : ℕ) → b ≢ bank → popped' b ≡ popped b) → (b : ℕ) → popped' b ≡ popped b
+pub all_same : (popped popped' : ℕ → List BankAnswer) (bank : ℕ) → popped' bank ≡ popped bank
+    → ((b : ℕ) → b ≢ bank → popped' b ≡ popped b) → (b : ℕ) → popped' b ≡ popped b
 all_same popped popped' bank here others b =
     ⊎_elim (λ e. ap popped' e ∙ here ∙ ap popped (sym e)) (others b) (cases_eq b bank)
 
 -- no word was popped
-pub none_popped : (u : UnitState) (sent : ℕ → List Command) (popped popped' : ℕ → List BankAnswer) (fault : Option SideFault) (entries : List Entry) → ((b : ℕ) → popped' b ≡ popped b) → SideTells u.sizes u.cache sent popped fault entries → SideTells u.sizes u.cache sent popped' fault entries
+pub none_popped : (u : UnitState) (sent : ℕ → List Command) (popped popped' : ℕ → List BankAnswer) (fault : Option SideFault)
+    (entries : List Entry)
+    → ((b : ℕ) → popped' b ≡ popped b) → SideTells u.sizes u.cache sent popped fault entries
+    → SideTells u.sizes u.cache sent popped' fault entries
 none_popped u sent popped popped' fault entries same h =
     subst (λ xs. SideTells u.sizes u.cache sent xs fault entries) (λ i b. sym (same b) i) h
 
@@ -41,18 +45,26 @@ pub record IsRefused (z : Sizes) (c : Cache) (a : BankAnswer) : Type 0 where
   pub cause : arrive_cause z c a.slot a.i ≡ Some StrayWord
   pub same : (arrive_step z c a.slot a.i a.word).cache ≡ c
 
-pub refused : (z : Sizes) (c : Cache) (a : BankAnswer) → length c.stack < z.depth → (arrive_step z c a.slot a.i a.word).answer ≢ Moved → IsRefused z c a
+pub refused : (z : Sizes) (c : Cache) (a : BankAnswer) → length c.stack < z.depth → (arrive_step z c a.slot a.i a.word).answer ≢ Moved
+    → IsRefused z c a
 unfolding arrive_cause arrive_step
 refused z c a room not_moved =
     let r = go (is_stray z c a.slot a.i) (nat_le z.depth (length c.stack)) (lt-leb z.depth (length c.stack) room) not_moved in
     record { cause = r.0; same = r.1 }
   where
-    go : (s : Bool) (f : Bool) → f ≡ false → (unless (first_cause ((s, StrayWord) ∷ (f, StackFull) ∷ [])) c (moved (arrived c a.slot a.i a.word))).answer ≢ Moved → (first_cause ((s, StrayWord) ∷ (f, StackFull) ∷ []) ≡ Some StrayWord) × ((unless (first_cause ((s, StrayWord) ∷ (f, StackFull) ∷ [])) c (moved (arrived c a.slot a.i a.word))).cache ≡ c)
+    go : (s : Bool) (f : Bool) → f ≡ false
+        → (unless (first_cause ((s, StrayWord) ∷ (f, StackFull) ∷ [])) c (moved (arrived c a.slot a.i a.word))).answer ≢ Moved
+        → (first_cause ((s, StrayWord) ∷ (f, StackFull) ∷ []) ≡ Some StrayWord) ×
+        ((unless (first_cause ((s, StrayWord) ∷ (f, StackFull) ∷ [])) c (moved (arrived c a.slot a.i a.word))).cache ≡ c)
     go true f e n = (refl, refl)
     go false true e n = cc
     go false false e n = absurd (n refl)
 
-module _ (z : Sizes) (in_range : InRange z) (cache : Cache) (sent : ℕ → List Command) (popped popped' : ℕ → List BankAnswer) (entries : List Entry) (bank : ℕ) (a : BankAnswer) (here : bank < z.banks) (more : popped' bank ≡ popped bank ++ a ∷ []) (others : (b : ℕ) → b ≢ bank → popped' b ≡ popped b) (taken limit : ℕ) (counted : taken ≡ length (popped bank)) (within : length entries ≤ limit) (small : limit ≤ 1048576) (fault : Option SideFault) (sound : fault ≡ None) (faulted : SideTells z cache sent popped fault entries) where
+module _ (z : Sizes) (in_range : InRange z) (cache : Cache) (sent : ℕ → List Command) (popped popped' : ℕ → List BankAnswer)
+    (entries : List Entry) (bank : ℕ) (a : BankAnswer) (here : bank < z.banks) (more : popped' bank ≡ popped bank ++ a ∷ [])
+    (others : (b : ℕ) → b ≢ bank → popped' b ≡ popped b) (taken limit : ℕ) (counted : taken ≡ length (popped bank))
+    (within : length entries ≤ limit) (small : limit ≤ 1048576) (fault : Option SideFault) (sound : fault ≡ None)
+    (faulted : SideTells z cache sent popped fault entries) where
   h : SideTells z cache sent popped None entries
   h = subst (λ f. SideTells z cache sent popped f entries) sound faulted
 
@@ -69,7 +81,8 @@ module _ (z : Sizes) (in_range : InRange z) (cache : Cache) (sent : ℕ → List
       let bound : count_by is_read (sent bank) < 2 ^ 64 = omega arith in
       mod-eq_of_lt bound
 
-  pub uncalled : nat_lt taken (count_by is_read (sent bank) % 2 ^ 64) ≡ false → SideTells z cache sent popped' (Some (Uncalled bank)) entries
+  pub uncalled : nat_lt taken (count_by is_read (sent bank) % 2 ^ 64) ≡ false
+      → SideTells z cache sent popped' (Some (Uncalled bank)) entries
   uncalled e =
       let beyond = ltb-false taken (count_by is_read (sent bank)) (ap (nat_lt taken) (sym exact) ∙ e) in
       let same = ap length (h.all bank) in
@@ -88,7 +101,8 @@ module _ (z : Sizes) (in_range : InRange z) (cache : Cache) (sent : ℕ → List
       let below = ltb-true taken (count_by is_read (sent bank)) (ap (nat_lt taken) (sym exact) ∙ e) in
       omega arith
 
-  pub stray : nat_lt taken (count_by is_read (sent bank) % 2 ^ 64) ≡ true → arrive_cause z cache a.slot a.i ≡ Some StrayWord → SideTells z cache sent popped' (Some (Stray bank a.slot a.i)) entries
+  pub stray : nat_lt taken (count_by is_read (sent bank) % 2 ^ 64) ≡ true → arrive_cause z cache a.slot a.i ≡ Some StrayWord
+      → SideTells z cache sent popped' (Some (Stray bank a.slot a.i)) entries
   stray e r =
       let below = called e in
       let same = ap length (h.all bank) in
@@ -105,22 +119,39 @@ module _ (z : Sizes) (in_range : InRange z) (cache : Cache) (sent : ℕ → List
 -- ---- the cache side's facts, by what the step has done
 
 -- the unit refused the word
-pub side_stray : (u v : UnitState) (sent : ℕ → List Command) (popped' : ℕ → List BankAnswer) (fault : Option SideFault) (entries : List Entry) (a : BankAnswer) → IsRefused u.sizes u.cache a → v ≡ record u { cache = (arrive_step u.sizes u.cache a.slot a.i a.word).cache } → SideTells u.sizes u.cache sent popped' fault entries → SideTells v.sizes v.cache sent popped' fault entries
+pub side_stray : (u v : UnitState) (sent : ℕ → List Command) (popped' : ℕ → List BankAnswer) (fault : Option SideFault)
+    (entries : List Entry) (a : BankAnswer)
+    → IsRefused u.sizes u.cache a → v ≡ record u { cache = (arrive_step u.sizes u.cache a.slot a.i a.word).cache }
+    → SideTells u.sizes u.cache sent popped' fault entries → SideTells v.sizes v.cache sent popped' fault entries
 side_stray u v sent popped' fault entries a r v_is h =
     let same : v ≡ u = v_is ∙ ap (λ c. record u { cache = c }) r.same in
     subst (λ (x : UnitState). SideTells x.sizes x.cache sent popped' fault entries) (sym same) h
 
 -- it took it
-pub side_word : (u v : UnitState) (sent sent' : ℕ → List Command) (popped popped' : ℕ → List BankAnswer) (fault : Option SideFault) (entries entries' : List Entry) (bank : ℕ) (a : BankAnswer) (answer : Answer) → fault ≡ None → bank < u.sizes.banks → length (popped bank) < count_by is_read (sent bank) → popped' bank ≡ popped bank ++ a ∷ [] → ((b : ℕ) → b ≢ bank → popped' b ≡ popped b) → ((b : ℕ) → sent' b ≡ sent b) → answer ≡ (arrive_step u.sizes u.cache a.slot a.i a.word).answer → answer ≡ Moved → v ≡ record u { cache = (arrive_step u.sizes u.cache a.slot a.i a.word).cache } → entries' ≡ entries ++ Step (Word bank) (Arrive bank 0) Moved ∷ [] → SideTells u.sizes u.cache sent popped fault entries → SideTells v.sizes v.cache sent' popped' fault entries'
-side_word u v sent sent' popped popped' fault entries entries' bank a answer sound here called more others still answer_is moves v_is entries_is h =
+pub side_word : (u v : UnitState) (sent sent' : ℕ → List Command) (popped popped' : ℕ → List BankAnswer) (fault : Option SideFault)
+    (entries entries' : List Entry) (bank : ℕ) (a : BankAnswer) (answer : Answer)
+    → fault ≡ None → bank < u.sizes.banks → length (popped bank) < count_by is_read (sent bank) → popped' bank ≡ popped bank ++ a ∷ []
+    → ((b : ℕ) → b ≢ bank → popped' b ≡ popped b) → ((b : ℕ) → sent' b ≡ sent b)
+    → answer ≡ (arrive_step u.sizes u.cache a.slot a.i a.word).answer → answer ≡ Moved
+    → v ≡ record u { cache = (arrive_step u.sizes u.cache a.slot a.i a.word).cache }
+    → entries' ≡ entries ++ Step (Word bank) (Arrive bank 0) Moved ∷ [] → SideTells u.sizes u.cache sent popped fault entries
+    → SideTells v.sizes v.cache sent' popped' fault entries'
+side_word u v sent sent' popped popped' fault entries entries' bank a answer sound here called more others still answer_is moves v_is
+    entries_is h =
     let h' = subst (λ f. SideTells u.sizes u.cache sent popped f entries) sound h in
-    let done = tells_word u.sizes u.cache sent popped entries h' (Word bank) bank a (arrive_step u.sizes u.cache a.slot a.i a.word).cache popped' Moved here called more others (sym moves ∙ answer_is) refl refl in
+    let done =
+    tells_word u.sizes u.cache sent popped entries h' (Word bank) bank a (arrive_step u.sizes u.cache a.slot a.i a.word).cache popped'
+    Moved here called more others (sym moves ∙ answer_is) refl refl in
     let there = subst (SideTells u.sizes (arrive_step u.sizes u.cache a.slot a.i a.word).cache sent popped' None) (sym entries_is) done in
-    let faultless = subst (λ f. SideTells u.sizes (arrive_step u.sizes u.cache a.slot a.i a.word).cache sent popped' f entries') (sym sound) there in
-    subst (λ xs. SideTells v.sizes v.cache xs popped' fault entries') (λ i b. sym (still b) i) (subst (λ (x : UnitState). SideTells x.sizes x.cache sent popped' fault entries') (sym v_is) faultless)
+    let faultless =
+    subst (λ f. SideTells u.sizes (arrive_step u.sizes u.cache a.slot a.i a.word).cache sent popped' f entries') (sym sound) there in
+    subst (λ xs. SideTells v.sizes v.cache xs popped' fault entries') (λ i b. sym (still b) i)
+    (subst (λ (x : UnitState). SideTells x.sizes x.cache sent popped' fault entries') (sym v_is) faultless)
 
 -- one word more of one bank is counted
-pub counts : (taken taken' : ℕ → ℕ) (popped popped' : ℕ → List BankAnswer) (bank : ℕ) (a : BankAnswer) → ((b : ℕ) → taken b ≡ length (popped b)) → popped' bank ≡ popped bank ++ a ∷ [] → ((b : ℕ) → b ≢ bank → popped' b ≡ popped b) → taken' bank ≡ taken bank + 1 → ((b : ℕ) → b ≢ bank → taken' b ≡ taken b) → (b : ℕ) → taken' b ≡ length (popped' b)
+pub counts : (taken taken' : ℕ → ℕ) (popped popped' : ℕ → List BankAnswer) (bank : ℕ) (a : BankAnswer)
+    → ((b : ℕ) → taken b ≡ length (popped b)) → popped' bank ≡ popped bank ++ a ∷ [] → ((b : ℕ) → b ≢ bank → popped' b ≡ popped b)
+    → taken' bank ≡ taken bank + 1 → ((b : ℕ) → b ≢ bank → taken' b ≡ taken b) → (b : ℕ) → taken' b ≡ length (popped' b)
 counts taken taken' popped popped' bank a counted more others one rest b = ⊎_elim here there (cases_eq b bank)
   where
     here : b ≡ bank → taken' b ≡ length (popped' b)

@@ -27,7 +27,8 @@ for_few : (b : ℕ) (sent : List (ℕ × Command)) → length (commands_for b se
 for_few b [] = omega arith
 for_few b (c ∷ rest) = go (c.0 == b) (for_few b rest)
   where
-    go : (t : Bool) → length (commands_for b rest) ≤ length rest → length (cond t (c.1 ∷ commands_for b rest) (commands_for b rest)) ≤ suc (length rest)
+    go : (t : Bool) → length (commands_for b rest) ≤ length rest
+        → length (cond t (c.1 ∷ commands_for b rest) (commands_for b rest)) ≤ suc (length rest)
     go true h = omega arith
     go false h = omega arith
 
@@ -39,7 +40,9 @@ module _ (z : Sizes) (some : 0 < z.block_words) where
       slots : (o : Option ℕ) → length (reads z block o) ≤ z.block_words
       slots None = omega arith
       slots (Some slot) =
-          let n : length (reads z block (Some slot)) ≡ z.block_words = length-map-range_with_len (λ at. (at % z.banks, Read slot (at % z.block_words) (at / z.banks))) (address z block 0) z.block_words in
+          let n : length (reads z block (Some slot)) ≡ z.block_words =
+          length-map-range_with_len (λ at. (at % z.banks, Read slot (at % z.block_words) (at / z.banks))) (address z block 0)
+          z.block_words in
           omega arith
 
       go : (t : Bool) (o : Option ℕ) → length (cond t [] (reads z block o)) ≤ z.block_words
@@ -62,7 +65,13 @@ module _ (z : Sizes) (some : 0 < z.block_words) where
       go [] = omega arith
       go (q ∷ rest) = by_room (nat_lt 0 (ample z (q.at % z.banks)))
         where
-          by_room : (t : Bool) → length (cond {A = Stepped} t (record { answer = Moved; cache = record s.cache { queue = rest }; sent = (q.at % z.banks, Write (q.at / z.banks) q.word q.lanes) ∷ [] }) (record { answer = Refused BankFull; cache = s.cache; sent = [] })).sent ≤ z.block_words
+          by_room : (t : Bool)
+              → length (cond {A = Stepped} t (record {
+                answer = Moved;
+                cache = record s.cache { queue = rest };
+                sent = (q.at % z.banks, Write (q.at / z.banks) q.word q.lanes) ∷ [];
+              })
+              (record { answer = Refused BankFull; cache = s.cache; sent = [] })).sent ≤ z.block_words
           by_room true = omega arith
           by_room false = omega arith
   step_few brings s (Serve bank) = omega arith
@@ -74,7 +83,8 @@ module _ (z : Sizes) (some : 0 < z.block_words) where
   step_few brings s (Process place) = let e = ap length (process_silent s.cache place) in omega arith
   step_few brings s (Take place) = let e = ap length (take_silent s.cache place) in omega arith
 
-  entry_few : (brings : Brings) (s : Stand) (event : Event) (t : Bool) (b : ℕ) → count_by is_read ((after_entry z brings s event t).sent b) ≤ count_by is_read (s.sent b) + z.block_words
+  entry_few : (brings : Brings) (s : Stand) (event : Event) (t : Bool) (b : ℕ)
+      → count_by is_read ((after_entry z brings s event t).sent b) ≤ count_by is_read (s.sent b) + z.block_words
   entry_few brings s event true b = omega arith
   entry_few brings s event false b =
       let d = step z brings s event in
@@ -84,7 +94,8 @@ module _ (z : Sizes) (some : 0 < z.block_words) where
       let all = step_few brings s event in
       omega arith
 
-  pub reads_few : (brings : Brings) (entries : List Entry) (s e : Stand) → Walks z brings s entries e → (b : ℕ) → count_by is_read (e.sent b) ≤ count_by is_read (s.sent b) + length entries * z.block_words
+  pub reads_few : (brings : Brings) (entries : List Entry) (s e : Stand) → Walks z brings s entries e → (b : ℕ)
+      → count_by is_read (e.sent b) ≤ count_by is_read (s.sent b) + length entries * z.block_words
   reads_few brings [] s e same b = let q = ap (λ (x : Stand). count_by is_read (x.sent b)) same in omega arith
   reads_few brings (Ended port ∷ rest) s e walk b =
       let r = reads_few brings rest s e walk b in

@@ -1,11 +1,10 @@
 -- What a port asked and was told by a journal, counted: each ask but Done has one verdict, and values
 -- go to the ports of their loads.
-use Rattle.std.proofs.Common.{◌≡◌, ℕ, suc, ◌+◌, ◌-◌, ◌*◌, ◌/◌, ◌<◌, ◌≤◌, Bool, true, false, cond, not, ◌&&◌, ◌==◌, nat_lt, List, [], ◌∷◌, ◌++◌, length, Option, Some, None, refl, sym, ap, ap₂, ◌∙◌, subst, arith, length-append}
-use Rattle.std.specs.List.{filter, list_all}
+use Rattle.std.proofs.Common.{◌≡◌, ℕ, ◌+◌, ◌-◌, ◌*◌, ◌/◌, Bool, true, false, cond, not, ◌&&◌, ◌==◌, nat_lt, List, [], ◌∷◌, ◌++◌, length, Some, refl, sym, ap, ap₂, ◌∙◌, arith, length-append}
+use Rattle.std.specs.List.{list_all}
 use Rattle.std.proofs.lemmas.List.Elements.{filter-append}
 use Rattle.miss_registers.proofs.Tags.{count_by-append}
 use Rattle.flat_model.specs.declared.Word.{Word}
-use Rattle.flat_model.specs.declared.Cause.{Cause}
 use Rattle.flat_model.specs.declared.Event.{Event}
 use Rattle.flat_model.specs.declared.Event.TheVariants as events
 use Rattle.flat_model.specs.declared.Answer.{Answer}
@@ -18,12 +17,12 @@ use Rattle.station_journal.specs.declared.journal.Entry.TheVariants.{Step, Ended
 use Rattle.station_journal.specs.declared.asks.Ask.{Ask}
 use Rattle.station_journal.specs.declared.asks.Ask.TheVariants.{Load, Store, Prefetch, Evict, Done}
 use Rattle.station_journal.specs.declared.asks.Told.{Told}
-use Rattle.station_journal.specs.declared.asks.Told.TheVariants.{Accepted, Refused, Value}
+use Rattle.station_journal.specs.declared.asks.Told.TheVariants.{Value}
 use Rattle.station_journal.specs.Journal.{events_of, answers_of}
-use Rattle.station_journal.specs.Parts.{ask_of, asked_by, asks_of, verdict, value_for, told_by, told_of, is_event_of, is_entry_of, IsOfPorts}
-use Rattle.station_journal.specs.Conversation.{is_value, verdicts_in, value_count, is_request, requests_in, accepted_load, accepted_loads}
+use Rattle.station_journal.specs.Parts.{asked_by, asks_of, verdict, value_for, told_by, told_of, is_event_of, is_entry_of, IsOfPorts}
+use Rattle.station_journal.specs.Conversation.{is_value, verdicts_in, value_count, is_request, requests_in, accepted_loads}
 use Rattle.station_journal.proofs.Stepping.{eqb_true}
-use Rattle.station_journal.proofs.Paying.{Then, first_of_run}
+use Rattle.station_journal.proofs.Paying.{first_of_run}
 use Rattle.station_journal.proofs.OpenTags.{one_if, load_by, value_by, loads_in, values_in}
 
 -- the tags of a port
@@ -42,18 +41,22 @@ no_tallies = record { judged = refl; accepted = refl; valued = refl }
 
 -- ---- one behind the other
 
-accepted-append : (xs ys : List Ask) (us vs : List Told) → length us ≡ length xs → accepted_loads (xs ++ ys) (us ++ vs) ≡ accepted_loads xs us + accepted_loads ys vs
+accepted-append : (xs ys : List Ask) (us vs : List Told) → length us ≡ length xs
+    → accepted_loads (xs ++ ys) (us ++ vs) ≡ accepted_loads xs us + accepted_loads ys vs
 accepted-append [] ys [] vs e = omega arith
 accepted-append [] ys (u ∷ us) vs e = absurd (omega arith)
 accepted-append (x ∷ xs) ys [] vs e = absurd (omega arith)
 accepted-append (x ∷ xs) ys (u ∷ us) vs e = let r = accepted-append xs ys us vs (omega arith) in omega arith
 
-tallies-append : (xs ys : List Ask) (us vs : List Told) (a b c d : ℕ) → Tallies xs us a b → Tallies ys vs c d → Tallies (xs ++ ys) (us ++ vs) (a + c) (b + d)
+tallies-append : (xs ys : List Ask) (us vs : List Told) (a b c d : ℕ) → Tallies xs us a b → Tallies ys vs c d
+    → Tallies (xs ++ ys) (us ++ vs) (a + c) (b + d)
 tallies-append xs ys us vs a b c d h k =
     let asks : requests_in (xs ++ ys) ≡ requests_in xs ++ requests_in ys = filter-append is_request xs ys in
     let verdicts : verdicts_in (us ++ vs) ≡ verdicts_in us ++ verdicts_in vs = filter-append (λ (t : Told). not (is_value t)) us vs in
-    let whole : length (requests_in xs ++ requests_in ys) ≡ length (requests_in xs) + length (requests_in ys) = length-append (requests_in xs) (requests_in ys) in
-    let told : length (verdicts_in us ++ verdicts_in vs) ≡ length (verdicts_in us) + length (verdicts_in vs) = length-append (verdicts_in us) (verdicts_in vs) in
+    let whole : length (requests_in xs ++ requests_in ys) ≡ length (requests_in xs) + length (requests_in ys) =
+    length-append (requests_in xs) (requests_in ys) in
+    let told : length (verdicts_in us ++ verdicts_in vs) ≡ length (verdicts_in us) + length (verdicts_in vs) =
+    length-append (verdicts_in us) (verdicts_in vs) in
     let left : length (verdicts_in (us ++ vs)) ≡ length (verdicts_in us ++ verdicts_in vs) = ap length verdicts in
     let right : length (requests_in (xs ++ ys)) ≡ length (requests_in xs ++ requests_in ys) = ap length asks in
     let loads = accepted-append (requests_in xs) (requests_in ys) (verdicts_in us) (verdicts_in vs) h.judged in
@@ -87,7 +90,9 @@ and_right true b e = e
 and_right false b e = cc
 
 -- what a load of a port's ring adds to port p
-load_tallies : (p port tag at : ℕ) (answer : Answer) (f : Flat) → (tag / 256 == port) ≡ true → may_answer f (events.Load tag at) answer ≡ true → (t : Bool) → (port == p) ≡ t → Tallies (cond t (Load (tag - p * 256) at ∷ []) []) (cond t (verdict answer) []) (load_by (is_of p) (events.Load tag at) answer) 0
+load_tallies : (p port tag at : ℕ) (answer : Answer) (f : Flat) → (tag / 256 == port) ≡ true
+    → may_answer f (events.Load tag at) answer ≡ true → (t : Bool) → (port == p) ≡ t
+    → Tallies (cond t (Load (tag - p * 256) at ∷ []) []) (cond t (verdict answer) []) (load_by (is_of p) (events.Load tag at) answer) 0
 load_tallies p port tag at answers.Accepted f same may true e =
     record { judged = refl; accepted = ap (λ b. one_if b) (sym (same_port p port tag e same)); valued = refl }
 load_tallies p port tag at answers.Accepted f same may false e =
@@ -100,7 +105,8 @@ load_tallies p port tag at (answers.Value v w) f same may t e = cc
 load_tallies p port tag at answers.Nothing f same may t e = cc
 
 -- what another ask adds
-store_tallies : (f : Flat) (at : ℕ) (word : Word) (lanes : _) (answer : Answer) → may_answer f (events.Store at word lanes) answer ≡ true → (t : Bool) → Tallies (cond t (Store at word lanes ∷ []) []) (cond t (verdict answer) []) 0 0
+store_tallies : (f : Flat) (at : ℕ) (word : Word) (lanes : _) (answer : Answer) → may_answer f (events.Store at word lanes) answer ≡ true
+    → (t : Bool) → Tallies (cond t (Store at word lanes ∷ []) []) (cond t (verdict answer) []) 0 0
 store_tallies f at word lanes answer may false = no_tallies
 store_tallies f at word lanes answers.Accepted may true = record { judged = refl; accepted = refl; valued = refl }
 store_tallies f at word lanes (answers.Refused cause) may true = record { judged = refl; accepted = refl; valued = refl }
@@ -108,7 +114,8 @@ store_tallies f at word lanes answers.Moved may true = cc
 store_tallies f at word lanes (answers.Value v w) may true = cc
 store_tallies f at word lanes answers.Nothing may true = cc
 
-prefetch_tallies : (f : Flat) (at : ℕ) (answer : Answer) → may_answer f (events.Prefetch at) answer ≡ true → (t : Bool) → Tallies (cond t (Prefetch at ∷ []) []) (cond t (verdict answer) []) 0 0
+prefetch_tallies : (f : Flat) (at : ℕ) (answer : Answer) → may_answer f (events.Prefetch at) answer ≡ true → (t : Bool)
+    → Tallies (cond t (Prefetch at ∷ []) []) (cond t (verdict answer) []) 0 0
 prefetch_tallies f at answer may false = no_tallies
 prefetch_tallies f at answers.Accepted may true = record { judged = refl; accepted = refl; valued = refl }
 prefetch_tallies f at (answers.Refused cause) may true = record { judged = refl; accepted = refl; valued = refl }
@@ -116,7 +123,8 @@ prefetch_tallies f at answers.Moved may true = cc
 prefetch_tallies f at (answers.Value v w) may true = cc
 prefetch_tallies f at answers.Nothing may true = cc
 
-evict_tallies : (f : Flat) (block : ℕ) (answer : Answer) → may_answer f (events.Evict block) answer ≡ true → (t : Bool) → Tallies (cond t (Evict block ∷ []) []) (cond t (verdict answer) []) 0 0
+evict_tallies : (f : Flat) (block : ℕ) (answer : Answer) → may_answer f (events.Evict block) answer ≡ true → (t : Bool)
+    → Tallies (cond t (Evict block ∷ []) []) (cond t (verdict answer) []) 0 0
 evict_tallies f block answer may false = no_tallies
 evict_tallies f block answers.Accepted may true = record { judged = refl; accepted = refl; valued = refl }
 evict_tallies f block (answers.Refused cause) may true = record { judged = refl; accepted = refl; valued = refl }
@@ -133,7 +141,9 @@ value_tallies p place (answers.Value tag word) = go (is_of p tag)
     go false = no_tallies
 value_tallies p place answer = no_tallies
 
-entry_tallies : (p ports : ℕ) (source : Source) (event : Event) (answer : Answer) (f : Flat) → is_event_of ports source event ≡ true → may_answer f event answer ≡ true → Tallies (asked_by p source event) (told_by p source answer) (load_by (is_of p) event answer) (value_by (is_of p) event answer)
+entry_tallies : (p ports : ℕ) (source : Source) (event : Event) (answer : Answer) (f : Flat) → is_event_of ports source event ≡ true
+    → may_answer f event answer ≡ true
+    → Tallies (asked_by p source event) (told_by p source answer) (load_by (is_of p) event answer) (value_by (is_of p) event answer)
 entry_tallies p ports (sources.Ask port) (events.Load tag at) answer f of may =
     load_tallies p port tag at answer f (and_right (nat_lt port ports) (tag / 256 == port) of) may (port == p) refl
 entry_tallies p ports (sources.Ask port) (events.Store at word lanes) answer f of may = store_tallies f at word lanes answer may (port == p)
@@ -167,7 +177,9 @@ ended_tallies p port = go (port == p)
     go true = record { judged = refl; accepted = refl; valued = refl }
     go false = no_tallies
 
-pub journal_tallies : (p ports : ℕ) (entries : List Entry) (f g : Flat) → IsOfPorts ports entries → flat_run f (events_of entries) (answers_of entries) ≡ Some g → Tallies (asks_of p entries) (told_of p entries) (loads_in (is_of p) entries) (values_in (is_of p) entries)
+pub journal_tallies : (p ports : ℕ) (entries : List Entry) (f g : Flat) → IsOfPorts ports entries
+    → flat_run f (events_of entries) (answers_of entries) ≡ Some g
+    → Tallies (asks_of p entries) (told_of p entries) (loads_in (is_of p) entries) (values_in (is_of p) entries)
 journal_tallies p ports [] f g of run = no_tallies
 journal_tallies p ports (Ended port ∷ rest) f g of run =
     let more = journal_tallies p ports rest f g (rest_of ports (Ended port) rest of) run in

@@ -24,7 +24,8 @@ use Rattle.station_journal.proofs.Standing.{answers_to-append}
 
 -- ---- one journal behind another
 
-pub walks-append : (z : Sizes) (brings : Brings) (xs ys : List Entry) (s e f : Stand) → Walks z brings s xs e → Walks z brings e ys f → Walks z brings s (xs ++ ys) f
+pub walks-append : (z : Sizes) (brings : Brings) (xs ys : List Entry) (s e f : Stand) → Walks z brings s xs e → Walks z brings e ys f
+    → Walks z brings s (xs ++ ys) f
 walks-append z brings [] ys s e f same walk = subst (λ x. Walks z brings x ys f) (sym same) walk
 walks-append z brings (Ended port ∷ xs) ys s e f w walk = walks-append z brings xs ys s e f w walk
 walks-append z brings (Step source event answer ∷ xs) ys s e f w walk =
@@ -35,7 +36,8 @@ walks-append z brings (Step source event answer ∷ xs) ys s e f w walk =
 abbrev pub Begins : List Command → List Command → Type 0
 Begins xs ys = (rest : List Command) × (xs ++ rest ≡ ys)
 
-sent_by : (z : Sizes) (brings : Brings) (s : Stand) (event : Event) (t : Bool) (b : ℕ) → Begins (s.sent b) ((after_entry z brings s event t).sent b)
+sent_by : (z : Sizes) (brings : Brings) (s : Stand) (event : Event) (t : Bool) (b : ℕ)
+    → Begins (s.sent b) ((after_entry z brings s event t).sent b)
 sent_by z brings s event true b = ([], append-nil (s.sent b))
 sent_by z brings s event false b = (commands_for b (step z brings s event).sent, refl)
 
@@ -43,28 +45,35 @@ begins_steps : (xs ys zs : List Command) → Begins xs ys → Begins ys zs → B
 begins_steps xs ys zs p q =
     (p.0 ++ q.0, sym (append_assoc xs p.0 q.0) ∙ ap (λ l. l ++ q.0) p.1 ∙ q.1)
 
-pub sent_stays : (z : Sizes) (brings : Brings) (entries : List Entry) (s e : Stand) → Walks z brings s entries e → (b : ℕ) → Begins (s.sent b) (e.sent b)
+pub sent_stays : (z : Sizes) (brings : Brings) (entries : List Entry) (s e : Stand) → Walks z brings s entries e → (b : ℕ)
+    → Begins (s.sent b) (e.sent b)
 sent_stays z brings [] s e same b = ([], append-nil (s.sent b) ∙ ap (λ (x : Stand). x.sent b) same)
 sent_stays z brings (Ended port ∷ rest) s e walk b = sent_stays z brings rest s e walk b
 sent_stays z brings (Step source event answer ∷ rest) s e walk b =
-    begins_steps (s.sent b) _ (e.sent b) (sent_by z brings s event (is_full answer) b) (sent_stays z brings rest (after_entry z brings s event (is_full answer)) e walk.1 b)
+    begins_steps (s.sent b) _ (e.sent b) (sent_by z brings s event (is_full answer) b)
+    (sent_stays z brings rest (after_entry z brings s event (is_full answer)) e walk.1 b)
 
 -- ---- another source of words that agrees
 
 -- each word that one brings, the other brings too, as far as these commands have been sent
 abbrev pub Agree : Sizes → Brings → Brings → (ℕ → List Command) → Type 0
 Agree z f g sent =
-    (b k : ℕ) (commands : List Command) (a : BankAnswer) → b < z.banks → Begins commands (sent b) → f b k commands ≡ Some a → g b k commands ≡ Some a
+    (b k : ℕ) (commands : List Command) (a : BankAnswer) → b < z.banks → Begins commands (sent b) → f b k commands ≡ Some a
+    → g b k commands ≡ Some a
 
 module _ (z : Sizes) (f g : Brings) where
-  word_same : (s : Stand) (sent : ℕ → List Command) → Agree z f g sent → ((b : ℕ) → Begins (s.sent b) (sent b)) → (bank place : ℕ) → IsTrue (is_some (next_word z f s bank place)) → next_word z f s bank place ≡ next_word z g s bank place
+  word_same : (s : Stand) (sent : ℕ → List Command) → Agree z f g sent → ((b : ℕ) → Begins (s.sent b) (sent b)) → (bank place : ℕ)
+      → IsTrue (is_some (next_word z f s bank place)) → next_word z f s bank place ≡ next_word z g s bank place
   word_same s sent agree begins bank place some = go (nat_lt bank z.banks) refl (place == 0) some
     where
-      word : (o : Option BankAnswer) → f bank (s.arrived bank) (s.sent bank) ≡ o → bank < z.banks → IsTrue (is_some o) → f bank (s.arrived bank) (s.sent bank) ≡ g bank (s.arrived bank) (s.sent bank)
+      word : (o : Option BankAnswer) → f bank (s.arrived bank) (s.sent bank) ≡ o → bank < z.banks → IsTrue (is_some o)
+          → f bank (s.arrived bank) (s.sent bank) ≡ g bank (s.arrived bank) (s.sent bank)
       word None e here h = cc
       word (Some a) e here h = e ∙ sym (agree bank (s.arrived bank) (s.sent bank) a here (begins bank) e)
 
-      go : (t : Bool) → nat_lt bank z.banks ≡ t → (u : Bool) → IsTrue (is_some (cond (t && u) (f bank (s.arrived bank) (s.sent bank)) None)) → cond (t && u) (f bank (s.arrived bank) (s.sent bank)) None ≡ cond (t && u) (g bank (s.arrived bank) (s.sent bank)) None
+      go : (t : Bool) → nat_lt bank z.banks ≡ t → (u : Bool)
+          → IsTrue (is_some (cond (t && u) (f bank (s.arrived bank) (s.sent bank)) None))
+          → cond (t && u) (f bank (s.arrived bank) (s.sent bank)) None ≡ cond (t && u) (g bank (s.arrived bank) (s.sent bank)) None
       go false e u h = refl
       go true e false h = refl
       go true e true h = word (f bank (s.arrived bank) (s.sent bank)) refl (omega (arith, ltb-true bank z.banks e)) h
@@ -74,7 +83,8 @@ module _ (z : Sizes) (f g : Brings) where
     stepped : step z f s event ≡ step z g s event
     stands : IsTrue (may_stand z g s event)
 
-  step_same : (s : Stand) (sent : ℕ → List Command) → Agree z f g sent → ((b : ℕ) → Begins (s.sent b) (sent b)) → (event : Event) → IsTrue (may_stand z f s event) → SameStep s event
+  step_same : (s : Stand) (sent : ℕ → List Command) → Agree z f g sent → ((b : ℕ) → Begins (s.sent b) (sent b)) → (event : Event)
+      → IsTrue (may_stand z f s event) → SameStep s event
   step_same s sent agree begins (Load tag at) h = record { stepped = refl; stands = h }
   step_same s sent agree begins (Store at word lanes) h = record { stepped = refl; stands = h }
   step_same s sent agree begins (Prefetch at) h = record { stepped = refl; stands = h }
@@ -92,7 +102,8 @@ module _ (z : Sizes) (f g : Brings) where
     fits : Fits z g s event answer t
     led : after_entry z f s event t ≡ after_entry z g s event t
 
-  entry_same : (s : Stand) (sent : ℕ → List Command) → Agree z f g sent → ((b : ℕ) → Begins (s.sent b) (sent b)) → (event : Event) (answer : Answer) (t : Bool) → Fits z f s event answer t → SameEntry s event answer t
+  entry_same : (s : Stand) (sent : ℕ → List Command) → Agree z f g sent → ((b : ℕ) → Begins (s.sent b) (sent b))
+      → (event : Event) (answer : Answer) (t : Bool) → Fits z f s event answer t → SameEntry s event answer t
   entry_same s sent agree begins event answer true h = record { fits = h; led = refl }
   entry_same s sent agree begins event answer false h =
       let same = step_same s sent agree begins event h.0 in
@@ -116,7 +127,8 @@ slice_get-more [] ys k a e = cc
 slice_get-more (x ∷ xs) ys zero a e = e
 slice_get-more (x ∷ xs) ys (suc k) a e = slice_get-more xs ys k a e
 
-pub come-more : (z : Sizes) (come more : ℕ → List BankAnswer) (sent : ℕ → List Command) → ((b : ℕ) → b < z.banks → (rest : List BankAnswer) × (come b ++ rest ≡ more b)) → Agree z (come_word come) (come_word more) sent
+pub come-more : (z : Sizes) (come more : ℕ → List BankAnswer) (sent : ℕ → List Command)
+    → ((b : ℕ) → b < z.banks → (rest : List BankAnswer) × (come b ++ rest ≡ more b)) → Agree z (come_word come) (come_word more) sent
 come-more z come more sent h b k commands a here begins e = go (nat_lt k (count_by is_read commands)) e
   where
     go : (t : Bool) → cond t (slice_get (come b) k) None ≡ Some a → cond t (slice_get (more b) k) None ≡ Some a
@@ -138,17 +150,25 @@ slice_get-front [] ys k l = absurd (omega arith)
 slice_get-front (x ∷ xs) ys zero l = refl
 slice_get-front (x ∷ xs) ys (suc k) l = slice_get-front xs ys k (omega arith)
 
-pub come-true : (z : Sizes) (come : ℕ → List BankAnswer) (sent : ℕ → List Command) → ((b : ℕ) → b < z.banks → ComesOf (zeros_in z b) (sent b) (come b)) → Agree z (come_word come) (true_word z) sent
+pub come-true : (z : Sizes) (come : ℕ → List BankAnswer) (sent : ℕ → List Command)
+    → ((b : ℕ) → b < z.banks → ComesOf (zeros_in z b) (sent b) (come b)) → Agree z (come_word come) (true_word z) sent
 come-true z come sent h b k commands a here begins e = go (nat_lt k (count_by is_read commands)) refl e
   where
-    go : (t : Bool) → nat_lt k (count_by is_read commands) ≡ t → cond t (slice_get (come b) k) None ≡ Some a → slice_get (answers_to (zeros_in z b) commands) k ≡ Some a
+    go : (t : Bool) → nat_lt k (count_by is_read commands) ≡ t → cond t (slice_get (come b) k) None ≡ Some a
+        → slice_get (answers_to (zeros_in z b) commands) k ≡ Some a
     go false l e = cc
     go true l e =
         let words = zeros_in z b in
         let part = h b here in
-        let few : k < length (answers_to words commands) = omega (arith, answers_to-length words commands, ltb-true k (count_by is_read commands) l) in
-        let whole : answers_to words (sent b) ≡ answers_to words commands ++ answers_to (after words commands) begins.0 = ap (answers_to words) (sym begins.1) ∙ answers_to-append words commands begins.0 in
-        let came : answers_to words (sent b) ≡ come b ++ (part.on_its_way ++ answers_to (after words part.served) part.left) = ap (answers_to words) (sym part.commands) ∙ answers_to-append words part.served part.left ∙ ap (λ l. l ++ answers_to (after words part.served) part.left) (sym part.answers) ∙ append_assoc (come b) part.on_its_way _ in
+        let few : k < length (answers_to words commands) =
+        omega (arith, answers_to-length words commands, ltb-true k (count_by is_read commands) l) in
+        let whole : answers_to words (sent b) ≡ answers_to words commands ++ answers_to (after words commands) begins.0 =
+        ap (answers_to words) (sym begins.1) ∙ answers_to-append words commands begins.0 in
+        let came : answers_to words (sent b) ≡ come b ++ (part.on_its_way ++ answers_to (after words part.served) part.left) =
+        ap (answers_to words) (sym part.commands)
+        ∙ answers_to-append words part.served part.left
+        ∙ ap (λ l. l ++ answers_to (after words part.served) part.left) (sym part.answers)
+        ∙ append_assoc (come b) part.on_its_way _ in
         sym (slice_get-front (answers_to words commands) (answers_to (after words commands) begins.0) k few)
         ∙ ap (λ l. slice_get l k) (sym whole ∙ came)
         ∙ slice_get-more (come b) _ k a e

@@ -1,7 +1,5 @@
 -- The tags that flat memory owes a value, counted along a run.
-use Rattle.std.proofs.Common.{◌≡◌, ℕ, ◌+◌, ◌/◌, ◌≤◌, Bool, true, false, cond, ◌&&◌, ◌==◌, nat_lt, List, [], ◌∷◌, length, Option, Some, None, is_some, is_none, refl, sym, ap, ap₂, ◌∙◌, subst, arith, eq-eqb}
-use Rattle.std.specs.List.{count_by}
-use Rattle.std.specs.Option.{option_and_then}
+use Rattle.std.proofs.Common.{◌≡◌, ℕ, ◌+◌, ◌/◌, ◌≤◌, Bool, true, false, cond, ◌&&◌, ◌==◌, nat_lt, List, [], ◌∷◌, length, Option, Some, None, is_some, is_none, refl, sym, ap, ◌∙◌, arith, eq-eqb}
 use Rattle.flat_model.specs.declared.Word.{Word}
 use Rattle.flat_model.specs.declared.Event.{Event}
 use Rattle.flat_model.specs.declared.Event.TheVariants.{Load, Store, Prefetch, Evict, Drain, Serve, Arrive, Process, Take}
@@ -13,7 +11,7 @@ use Rattle.station_journal.specs.declared.journal.Entry.TheVariants.{Step, Ended
 use Rattle.station_journal.specs.Journal.{events_of, answers_of}
 use Rattle.station_journal.proofs.FlatFrom.{some_same}
 use Rattle.station_journal.proofs.Stepping.{eqb_true}
-use Rattle.station_journal.proofs.Paying.{Then, first_of_run}
+use Rattle.station_journal.proofs.Paying.{first_of_run}
 
 -- ---- loads accepted and values taken, by their tags
 
@@ -49,12 +47,15 @@ without : ℕ → List ℕ → List ℕ
 without tag [] = []
 without tag (x ∷ xs) = cond (x == tag) xs (x ∷ without tag xs)
 
-tally-without : (q : ℕ → Bool) (tag : ℕ) (xs : List ℕ) → 1 ≤ tally (λ x. x == tag) xs → tally q (without tag xs) + one_if (q tag) ≡ tally q xs
+tally-without : (q : ℕ → Bool) (tag : ℕ) (xs : List ℕ) → 1 ≤ tally (λ x. x == tag) xs
+    → tally q (without tag xs) + one_if (q tag) ≡ tally q xs
 unfolding without
 tally-without q tag [] some = absurd (omega arith)
 tally-without q tag (x ∷ xs) some = go (x == tag) refl some (λ h. tally-without q tag xs h)
   where
-    go : (t : Bool) → (x == tag) ≡ t → 1 ≤ one_if t + tally (λ y. y == tag) xs → (1 ≤ tally (λ y. y == tag) xs → tally q (without tag xs) + one_if (q tag) ≡ tally q xs) → tally q (cond t xs (x ∷ without tag xs)) + one_if (q tag) ≡ one_if (q x) + tally q xs
+    go : (t : Bool) → (x == tag) ≡ t → 1 ≤ one_if t + tally (λ y. y == tag) xs
+        → (1 ≤ tally (λ y. y == tag) xs → tally q (without tag xs) + one_if (q tag) ≡ tally q xs)
+        → tally q (cond t xs (x ∷ without tag xs)) + one_if (q tag) ≡ one_if (q x) + tally q xs
     go true e some rest = let same = ap (λ y. one_if (q y)) (eqb_true x tag e) in omega arith
     go false e some rest = let r = rest (omega arith) in omega arith
 
@@ -80,14 +81,16 @@ and_right true b e = e
 and_right false b e = cc
 
 -- a tag that is owed nothing is owed a value
-opened : (f : Flat) (tags : List ℕ) (tag at : ℕ) → AreOpen f tags → is_none (f.due tag) ≡ true → AreOpen (flat_after f (Load tag at) Accepted) (tag ∷ tags)
+opened : (f : Flat) (tags : List ℕ) (tag at : ℕ) → AreOpen f tags → is_none (f.due tag) ≡ true
+    → AreOpen (flat_after f (Load tag at) Accepted) (tag ∷ tags)
 opened f tags tag at h none = record { once = once }
   where
     unowed : (o : Option Word) → is_none o ≡ true → one_if (is_some o) ≡ 0
     unowed None e = refl
     unowed (Some w) e = cc
 
-    go : (t : ℕ) (a b : Bool) → (tag == t) ≡ a → (t == tag) ≡ b → one_if a + tally (λ x. x == t) tags ≡ one_if (is_some (cond b (Some (word_at f.mem at)) (f.due t)))
+    go : (t : ℕ) (a b : Bool) → (tag == t) ≡ a → (t == tag) ≡ b
+        → one_if a + tally (λ x. x == t) tags ≡ one_if (is_some (cond b (Some (word_at f.mem at)) (f.due t)))
     go t true true e g =
         let before = h.once t in
         let same : f.due t ≡ f.due tag = ap f.due (eqb_true t tag g) in
@@ -101,13 +104,16 @@ opened f tags tag at h none = record { once = once }
     once t = go t (tag == t) (t == tag) refl refl
 
 -- a tag whose value is taken is owed nothing more
-closed : (f : Flat) (tags : List ℕ) (tag place : ℕ) (word : Word) → AreOpen f tags → one_if (is_some (f.due tag)) ≡ 1 → AreOpen (flat_after f (Take place) (Value tag word)) (without tag tags)
+closed : (f : Flat) (tags : List ℕ) (tag place : ℕ) (word : Word) → AreOpen f tags → one_if (is_some (f.due tag)) ≡ 1
+    → AreOpen (flat_after f (Take place) (Value tag word)) (without tag tags)
 closed f tags tag place word h one = record { once = once }
   where
     some : 1 ≤ tally (λ x. x == tag) tags
     some = let here = h.once tag in omega arith
 
-    go : (t : ℕ) (a b : Bool) → (tag == t) ≡ a → (t == tag) ≡ b → tally (λ x. x == t) (without tag tags) + one_if a ≡ tally (λ x. x == t) tags → tally (λ x. x == t) (without tag tags) ≡ one_if (is_some (cond b None (f.due t)))
+    go : (t : ℕ) (a b : Bool) → (tag == t) ≡ a → (t == tag) ≡ b
+        → tally (λ x. x == t) (without tag tags) + one_if a ≡ tally (λ x. x == t) tags
+        → tally (λ x. x == t) (without tag tags) ≡ one_if (is_some (cond b None (f.due t)))
     go t true true e g less =
         let before = h.once t in
         let same = ap (λ k. one_if (is_some (f.due k))) (eqb_true t tag g) in
@@ -131,7 +137,8 @@ same_open f g tags h e =
       balance = λ q. refl;
     }
 
-step_balance : (f : Flat) (event : Event) (answer : Answer) (tags : List ℕ) → AreOpen f tags → may_answer f event answer ≡ true → Balance tags (λ q. load_by q event answer) (λ q. value_by q event answer) (flat_after f event answer)
+step_balance : (f : Flat) (event : Event) (answer : Answer) (tags : List ℕ) → AreOpen f tags → may_answer f event answer ≡ true
+    → Balance tags (λ q. load_by q event answer) (λ q. value_by q event answer) (flat_after f event answer)
 step_balance f (Load t at) Accepted tags h may =
     record {
       left = t ∷ tags;
@@ -165,7 +172,8 @@ step_balance f (Take place) answer tags h may = same_open f f tags h refl
 
 -- ---- a run
 
-pub run_balance : (entries : List Entry) (f g : Flat) (tags : List ℕ) → AreOpen f tags → flat_run f (events_of entries) (answers_of entries) ≡ Some g → Balance tags (λ q. loads_in q entries) (λ q. values_in q entries) g
+pub run_balance : (entries : List Entry) (f g : Flat) (tags : List ℕ) → AreOpen f tags
+    → flat_run f (events_of entries) (answers_of entries) ≡ Some g → Balance tags (λ q. loads_in q entries) (λ q. values_in q entries) g
 run_balance [] f g tags h run = same_open f g tags h (ap (λ (x : Flat). x.due) (some_same f g run))
 run_balance (Ended port ∷ rest) f g tags h run =
     let more = run_balance rest f g tags h run in

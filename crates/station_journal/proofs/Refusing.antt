@@ -20,15 +20,18 @@ use Rattle.station_journal.specs.Journal.{Stand, ample, true_word, step, may_be_
 load_full : (f g : Flat) (tag at : ℕ) → flat_step f (Load tag at) Accepted ≡ Some g → flat_step f (Load tag at) (Refused BankFull) ≡ Some f
 load_full f g tag at e = go (nat_lt at (length f.mem)) (is_none (f.due tag)) e
   where
-    go : (t u : Bool) → cond (t && u) (Some (flat_after f (Load tag at) Accepted)) None ≡ Some g → cond (load_refusals t (not u) BankFull) (Some f) None ≡ Some f
+    go : (t u : Bool) → cond (t && u) (Some (flat_after f (Load tag at) Accepted)) None ≡ Some g
+        → cond (load_refusals t (not u) BankFull) (Some f) None ≡ Some f
     go true true e = refl
     go true false e = cc
     go false u e = cc
 
-store_full : (f g : Flat) (at : ℕ) (word : Word) (lanes : Lanes) → flat_step f (Store at word lanes) Accepted ≡ Some g → flat_step f (Store at word lanes) (Refused BankFull) ≡ Some f
+store_full : (f g : Flat) (at : ℕ) (word : Word) (lanes : Lanes) → flat_step f (Store at word lanes) Accepted ≡ Some g
+    → flat_step f (Store at word lanes) (Refused BankFull) ≡ Some f
 store_full f g at word lanes e = go (nat_lt at (length f.mem)) (has_any lanes) e
   where
-    go : (t u : Bool) → cond (t && u) (Some (flat_after f (Store at word lanes) Accepted)) None ≡ Some g → cond (store_refusals t u BankFull) (Some f) None ≡ Some f
+    go : (t u : Bool) → cond (t && u) (Some (flat_after f (Store at word lanes) Accepted)) None ≡ Some g
+        → cond (store_refusals t u BankFull) (Some f) None ≡ Some f
     go true true e = refl
     go true false e = cc
     go false u e = cc
@@ -61,7 +64,8 @@ module _ (z : Sizes) (s : Stand) where
         sent = fetches z s.cache (block_of z at);
       })).answer) e
 
-  store_accepted : (at : ℕ) (word : Word) (lanes : Lanes) → store_cause z (ample z) s.cache at lanes ≡ None → (store_step z (ample z) s.cache at word lanes).answer ≡ Accepted
+  store_accepted : (at : ℕ) (word : Word) (lanes : Lanes) → store_cause z (ample z) s.cache at lanes ≡ None
+      → (store_step z (ample z) s.cache at word lanes).answer ≡ Accepted
   unfolding store_step
   store_accepted at word lanes e =
       ap (λ o. (unless o s.cache (record {
@@ -73,10 +77,16 @@ module _ (z : Sizes) (s : Stand) where
   prefetch_accepted : (at : ℕ) → prefetch_cause z (ample z) s.cache at ≡ None → (prefetch_step z (ample z) s.cache at).answer ≡ Accepted
   unfolding prefetch_step
   prefetch_accepted at e =
-      ap (λ o. (unless o s.cache (record { answer = Accepted; cache = fetched z s.cache (block_of z at); sent = fetches z s.cache (block_of z at) })).answer) e
+      ap (λ o. (unless o s.cache (record {
+        answer = Accepted;
+        cache = fetched z s.cache (block_of z at);
+        sent = fetches z s.cache
+            (block_of z at);
+      })).answer) e
 
   -- where the step is a step of flat memory, so is the refusal
-  pub full_ok : (f g : Flat) (event : Event) → IsTrue (may_be_full z s.cache event) → flat_step f event (step z (true_word z) s event).answer ≡ Some g → flat_step f event (Refused BankFull) ≡ Some f
+  pub full_ok : (f g : Flat) (event : Event) → IsTrue (may_be_full z s.cache event)
+      → flat_step f event (step z (true_word z) s event).answer ≡ Some g → flat_step f event (Refused BankFull) ≡ Some f
   full_ok f g (Load tag at) may run =
       let none = no_cause _ (and_right (not (is_present s.cache (block_of z at))) _ may) in
       load_full f g tag at (subst (λ a. flat_step f (Load tag at) a ≡ Some g) (load_accepted tag at none) run)

@@ -43,14 +43,17 @@ ample-suffices z block = any_false _ 0 z.banks each
         le-ltb z.block_words (length (filter (λ at. at % z.banks == b) (addresses z block))) (omega arith)
 
 -- the rooms of banks in which nothing waits
-pub idle-suffices : (z : Sizes) (banks : List Bank) → z.block_words ≤ z.bank_queue * z.banks → length banks ≡ z.banks → ((b : ℕ) → b < z.banks → (bank_at banks b).queue ≡ []) → Suffices z (room_in z.bank_queue banks)
+pub idle-suffices : (z : Sizes) (banks : List Bank) → z.block_words ≤ z.bank_queue * z.banks → length banks ≡ z.banks
+    → ((b : ℕ) → b < z.banks → (bank_at banks b).queue ≡ []) → Suffices z (room_in z.bank_queue banks)
 idle-suffices z banks takes n idle block = any_false _ 0 z.banks each
   where
-    each : (b : ℕ) → 0 ≤ b → b < 0 + z.banks → nat_lt (room_in z.bank_queue banks b) (length (filter (λ at. at % z.banks == b) (addresses z block))) ≡ false
+    each : (b : ℕ) → 0 ≤ b → b < 0 + z.banks
+        → nat_lt (room_in z.bank_queue banks b) (length (filter (λ at. at % z.banks == b) (addresses z block))) ≡ false
     each b lo hi =
         let there : b < length banks = omega arith in
         let none = ap length (idle b (omega arith)) in
-        let room : room_in z.bank_queue banks b ≡ z.bank_queue - length (bank_at banks b).queue = ap (λ t. cond t (z.bank_queue - length (bank_at banks b).queue) 0) (lt-ltb b (length banks) there) in
+        let room : room_in z.bank_queue banks b ≡ z.bank_queue - length (bank_at banks b).queue =
+        ap (λ t. cond t (z.bank_queue - length (bank_at banks b).queue) 0) (lt-ltb b (length banks) there) in
         let few = spread_evenly z.banks b (address z block 0) z.block_words z.bank_queue (omega arith) takes in
         le-ltb (room_in z.bank_queue banks b) (length (filter (λ at. at % z.banks == b) (addresses z block))) (omega arith)
 
@@ -65,23 +68,33 @@ module _ (z : Sizes) (r s : ℕ → ℕ) (c : Cache) where
   unfolding load_cause
   load_cause-alike tag at e =
       ap (λ t. first_cause
-      ((not (nat_lt at z.words), OutOfRange) ∷ (is_in_use c tag, TagInUse) ∷ (nat_le z.replies (length (tags c)), RepliesFull) ∷ (cond (is_present c (block_of z at))
+      ((not (nat_lt at z.words), OutOfRange) ∷ (is_in_use c tag, TagInUse) ∷ (nat_le z.replies (length (tags c)), RepliesFull) ∷ (cond
+      (is_present c (block_of z at))
       ((targets_full c (place_in z at) (found c (block_of z at) (place_in z at)), TargetsFull) ∷ [])
-      ((length (filter (λ r. r.valid) c.registers) == z.regs, NoRegister) ∷ (list_all (is_pending c) (ways_of z (block_of z at)), SetPending) ∷ (lacks_places z c (choose z c (block_of z at)), QueueFull) ∷ (t, BankFull) ∷ [])))) e
+      ((length (filter (λ r. r.valid) c.registers) == z.regs, NoRegister) ∷ (
+        list_all (is_pending c) (ways_of z (block_of z at)),
+        SetPending,
+      ) ∷ (lacks_places z c (choose z c (block_of z at)), QueueFull) ∷ (t, BankFull) ∷ [])))) e
 
   pub store_cause-alike : (at : ℕ) (lanes : Lanes) → Alike (block_of z at) → store_cause z r c at lanes ≡ store_cause z s c at lanes
   unfolding store_cause
   store_cause-alike at lanes e =
       ap (λ t. first_cause
       ((not (nat_lt at z.words), OutOfRange) ∷ (not (has_any lanes), NoLanes) ∷ (cond (is_present c (block_of z at)) []
-      ((length (filter (λ r. r.valid) c.registers) == z.regs, NoRegister) ∷ (list_all (is_pending c) (ways_of z (block_of z at)), SetPending) ∷ (lacks_places z c (choose z c (block_of z at)), QueueFull) ∷ (t, BankFull) ∷ [])))) e
+      ((length (filter (λ r. r.valid) c.registers) == z.regs, NoRegister) ∷ (
+        list_all (is_pending c) (ways_of z (block_of z at)),
+        SetPending,
+      ) ∷ (lacks_places z c (choose z c (block_of z at)), QueueFull) ∷ (t, BankFull) ∷ [])))) e
 
   pub prefetch_cause-alike : (at : ℕ) → Alike (block_of z at) → prefetch_cause z r c at ≡ prefetch_cause z s c at
   unfolding prefetch_cause
   prefetch_cause-alike at e =
       ap (λ t. first_cause
       ((not (nat_lt at z.words), OutOfRange) ∷ (cond (is_present c (block_of z at)) []
-      ((length (filter (λ r. r.valid) c.registers) == z.regs, NoRegister) ∷ (list_all (is_pending c) (ways_of z (block_of z at)), SetPending) ∷ (lacks_places z c (choose z c (block_of z at)), QueueFull) ∷ (t, BankFull) ∷ [])))) e
+      ((length (filter (λ r. r.valid) c.registers) == z.regs, NoRegister) ∷ (
+        list_all (is_pending c) (ways_of z (block_of z at)),
+        SetPending,
+      ) ∷ (lacks_places z c (choose z c (block_of z at)), QueueFull) ∷ (t, BankFull) ∷ [])))) e
 
   pub load_step-alike : (tag at : ℕ) → Alike (block_of z at) → load_step z r c tag at ≡ load_step z s c tag at
   unfolding load_step
@@ -93,7 +106,8 @@ module _ (z : Sizes) (r s : ℕ → ℕ) (c : Cache) where
         sent = fetches z c (block_of z at);
       })) (load_cause-alike tag at e)
 
-  pub store_step-alike : (at : ℕ) (word : Word) (lanes : Lanes) → Alike (block_of z at) → store_step z r c at word lanes ≡ store_step z s c at word lanes
+  pub store_step-alike : (at : ℕ) (word : Word) (lanes : Lanes) → Alike (block_of z at)
+      → store_step z r c at word lanes ≡ store_step z s c at word lanes
   unfolding store_step
   store_step-alike at word lanes e = ap (λ o. unless o c (record {
     answer = Accepted;
@@ -117,4 +131,9 @@ module _ (z : Sizes) (r s : ℕ → ℕ) (c : Cache) where
       go : (queue : List Queued) → drain_first z r c queue ≡ drain_first z s c queue
       go [] = refl
       go (q ∷ rest) =
-          ap (λ t. cond t (record { answer = Moved; cache = record c { queue = rest }; sent = (q.at % z.banks, Write (q.at / z.banks) q.word q.lanes) ∷ [] }) (record { answer = Refused BankFull; cache = c; sent = [] })) (e (q.at % z.banks) (mod-lt q.at some))
+          ap (λ t. cond t (record {
+            answer = Moved;
+            cache = record c { queue = rest };
+            sent = (q.at % z.banks, Write (q.at / z.banks) q.word q.lanes) ∷ [];
+          })
+          (record { answer = Refused BankFull; cache = c; sent = [] })) (e (q.at % z.banks) (mod-lt q.at some))

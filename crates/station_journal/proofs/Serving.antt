@@ -19,11 +19,14 @@ finished b = record { words = words_after b; queue = []; answers = pending b }
 idle-finished : (b : Bank) → b.queue ≡ [] → b ≡ finished b
 idle-finished b e = go b.words b.queue b.answers e
   where
-    go : (words : _) (queue : List Command) (answers : _) → queue ≡ [] → record { words = words; queue = queue; answers = answers } ≡ finished (record { words = words; queue = queue; answers = answers })
+    go : (words : _) (queue : List Command) (answers : _) → queue ≡ []
+        → record { words = words; queue = queue; answers = answers } ≡ finished
+        (record { words = words; queue = queue; answers = answers })
     go words [] answers e = ap (λ l. record { words = words; queue = []; answers = l }) (sym (append-nil answers))
     go words (x ∷ xs) answers e = cc
 
-served-after : (b : Bank) (first : Command) (rest : List Command) → b.queue ≡ first ∷ rest → words_after (served b first rest) ≡ words_after b
+served-after : (b : Bank) (first : Command) (rest : List Command) → b.queue ≡ first ∷ rest
+    → words_after (served b first rest) ≡ words_after b
 unfolding served
 served-after b first rest e = go first ∙ ap (after b.words) (sym e)
   where
@@ -55,7 +58,8 @@ pub record Finished (z : Sizes) (m : Machine) (b : ℕ) (n : Machine) : Type 0 w
 abbrev turned : Machine → ℕ → Command → List Command → Machine
 turned m b first rest = record m { banks = set m.banks b (served (bank_at m.banks b) first rest) }
 
-module _ (z : Sizes) (m : Machine) (b : ℕ) (first : Command) (rest : List Command) (h : FlatFrom z m) (e : (bank_at m.banks b).queue ≡ first ∷ rest) where
+module _ (z : Sizes) (m : Machine) (b : ℕ) (first : Command) (rest : List Command) (h : FlatFrom z m)
+    (e : (bank_at m.banks b).queue ≡ first ∷ rest) where
   turn : (apply z m (Serve b)).machine ≡ turned m b first rest
   turn = ap (λ q. (serve_from m b q).machine) e
 
@@ -64,11 +68,15 @@ module _ (z : Sizes) (m : Machine) (b : ℕ) (first : Command) (rest : List Comm
 
   pub turn_flat : flat_of z (turned m b first rest) ≡ flat_of z m
   turn_flat =
-      let step : flat_step (flat_of z m) (Serve b) (serve_from m b (first ∷ rest)).answer ≡ Some (flat_of z (serve_from m b (first ∷ rest)).machine) = subst (λ q. flat_step (flat_of z m) (Serve b) (serve_from m b q).answer ≡ Some (flat_of z (serve_from m b q).machine)) e (flat_event z m h (Serve b)) in
+      let step : flat_step (flat_of z m) (Serve b) (serve_from m b (first ∷ rest)).answer ≡ Some
+      (flat_of z (serve_from m b (first ∷ rest)).machine) =
+      subst (λ q. flat_step (flat_of z m) (Serve b) (serve_from m b q).answer ≡ Some (flat_of z (serve_from m b q).machine)) e
+      (flat_event z m h (Serve b)) in
       some_same (flat_of z (turned m b first rest)) (flat_of z m) (sym step)
 
 -- the rest is served after the first
-finish_then : (z : Sizes) (m : Machine) (b : ℕ) (first : Command) (rest : List Command) → FlatFrom z m → b < length m.banks → (bank_at m.banks b).queue ≡ first ∷ rest → (n : Machine) → Finished z (turned m b first rest) b n → Finished z m b n
+finish_then : (z : Sizes) (m : Machine) (b : ℕ) (first : Command) (rest : List Command) → FlatFrom z m → b < length m.banks
+    → (bank_at m.banks b).queue ≡ first ∷ rest → (n : Machine) → Finished z (turned m b first rest) b n → Finished z m b n
 finish_then z m b first rest h there e n done =
     record {
       cache = done.cache;
@@ -85,14 +93,16 @@ finish_then z m b first rest h there e n done =
     is : bank_at (set m.banks b bank) b ≡ bank
     is = get_or-set_same m.banks b bank no_bank there
 
-pub finish : (z : Sizes) (m : Machine) (b : ℕ) (queue : List Command) → FlatFrom z m → b < length m.banks → (bank_at m.banks b).queue ≡ queue → (n : Machine) × Finished z m b n
+pub finish : (z : Sizes) (m : Machine) (b : ℕ) (queue : List Command) → FlatFrom z m → b < length m.banks
+    → (bank_at m.banks b).queue ≡ queue → (n : Machine) × Finished z m b n
 finish z m b [] h there e =
     (m, record { cache = refl; number = refl; here = idle-finished (bank_at m.banks b) e; others = λ k d. refl; flat = refl; from = h })
 finish z m b (first ∷ rest) h there e =
     let bank = served (bank_at m.banks b) first rest in
     let is : bank_at (set m.banks b bank) b ≡ bank = get_or-set_same m.banks b bank no_bank there in
     let still : b < length (set m.banks b bank) = subst (λ n. b < n) (sym (length-set m.banks b bank)) there in
-    let queue : (bank_at (set m.banks b bank) b).queue ≡ rest = ap (λ (x : Bank). x.queue) is ∙ served-queue (bank_at m.banks b) first rest in
+    let queue : (bank_at (set m.banks b bank) b).queue ≡ rest =
+    ap (λ (x : Bank). x.queue) is ∙ served-queue (bank_at m.banks b) first rest in
     let done = finish z (turned m b first rest) b rest (turn_from z m b first rest h e) still queue in
     (done.0, finish_then z m b first rest h there e done.0 done.1)
 
@@ -106,7 +116,8 @@ pub record AllFinished (z : Sizes) (m : Machine) (count : ℕ) (n : Machine) : T
   pub flat : flat_of z n ≡ flat_of z m
   pub from : FlatFrom z n
 
-one_more : (z : Sizes) (m : Machine) (count : ℕ) (k n : Machine) → AllFinished z m count k → Finished z k count n → AllFinished z m (suc count) n
+one_more : (z : Sizes) (m : Machine) (count : ℕ) (k n : Machine) → AllFinished z m count k → Finished z k count n
+    → AllFinished z m (suc count) n
 one_more z m count k n some last =
     record {
       cache = last.cache ∙ some.cache;
@@ -118,7 +129,11 @@ one_more z m count k n some last =
     }
   where
     each : (b : ℕ) → b < suc count → (b ≡ count) ⊎ (b ≢ count) → bank_at n.banks b ≡ finished (bank_at m.banks b)
-    each b l (inl e) = ap (λ k. bank_at n.banks k) e ∙ last.here ∙ ap finished (some.left count (omega arith)) ∙ ap (λ k. finished (bank_at m.banks k)) (sym e)
+    each b l (inl e) =
+        ap (λ k. bank_at n.banks k) e
+        ∙ last.here
+        ∙ ap finished (some.left count (omega arith))
+        ∙ ap (λ k. finished (bank_at m.banks k)) (sym e)
     each b l (inr d) = last.others b d ∙ some.done b (omega arith)
 
 pub finish_all : (z : Sizes) (m : Machine) (count : ℕ) → FlatFrom z m → count ≤ length m.banks → (n : Machine) × AllFinished z m count n

@@ -26,9 +26,11 @@ after-append words [] ys = refl
 after-append words (Read slot i place ∷ xs) ys = after-append words xs ys
 after-append words (Write place word lanes ∷ xs) ys = after-append (stored words place word lanes) xs ys
 
-pub answers_to-append : (words : List Word) (xs ys : List Command) → answers_to words (xs ++ ys) ≡ answers_to words xs ++ answers_to (after words xs) ys
+pub answers_to-append : (words : List Word) (xs ys : List Command)
+    → answers_to words (xs ++ ys) ≡ answers_to words xs ++ answers_to (after words xs) ys
 answers_to-append words [] ys = refl
-answers_to-append words (Read slot i place ∷ xs) ys = ap (λ l. record { slot = slot; i = i; word = word_at words place } ∷ l) (answers_to-append words xs ys)
+answers_to-append words (Read slot i place ∷ xs) ys =
+    ap (λ l. record { slot = slot; i = i; word = word_at words place } ∷ l) (answers_to-append words xs ys)
 answers_to-append words (Write place word lanes ∷ xs) ys = answers_to-append (stored words place word lanes) xs ys
 
 -- ---- stands
@@ -59,10 +61,14 @@ opening_stands z =
 
 -- ---- commands are sent, and served
 
-stood-sent : (words : List Word) (commands more : List Command) (taken : ℕ) → taken ≤ length (answers_to words commands) → finished (extended (stood words commands taken) more) ≡ stood words (commands ++ more) taken
+stood-sent : (words : List Word) (commands more : List Command) (taken : ℕ) → taken ≤ length (answers_to words commands)
+    → finished (extended (stood words commands taken) more) ≡ stood words (commands ++ more) taken
 stood-sent words commands more taken few =
     let w : after (after words commands) more ≡ after words (commands ++ more) = sym (after-append words commands more) in
-    let a : drop taken (answers_to words commands) ++ answers_to (after words commands) more ≡ drop taken (answers_to words (commands ++ more)) = sym (drop-append-le taken (answers_to words commands) (answers_to (after words commands) more) few) ∙ ap (drop taken) (sym (answers_to-append words commands more)) in
+    let a : drop taken (answers_to words commands) ++ answers_to (after words commands) more ≡ drop taken
+    (answers_to words (commands ++ more)) =
+    sym (drop-append-le taken (answers_to words commands) (answers_to (after words commands) more) few)
+    ∙ ap (drop taken) (sym (answers_to-append words commands more)) in
     λ i. record { words = w i; queue = []; answers = a i }
 
 -- a stand after a step of the unit in which no word arrives
@@ -75,7 +81,10 @@ pub record Next (z : Sizes) (s : Stand) (event : Event) (answer : Answer) (m n :
   pub from : FlatFrom z n
   pub run : flat_step (flat_of z m) event answer ≡ Some (flat_of z n)
 
-pub sent_ok : (z : Sizes) (s : Stand) (m : Machine) (event : Event) (d : Stepped) → Stands z s m → FlatFrom z (joined_with m.banks d).machine → flat_step (flat_of z m) event d.answer ≡ Some (flat_of z (joined_with m.banks d).machine) → (n : Machine) × Next z (moved s d) event d.answer m n
+pub sent_ok : (z : Sizes) (s : Stand) (m : Machine) (event : Event) (d : Stepped) → Stands z s m
+    → FlatFrom z (joined_with m.banks d).machine
+    → flat_step (flat_of z m) event d.answer ≡ Some (flat_of z (joined_with m.banks d).machine)
+    → (n : Machine) × Next z (moved s d) event d.answer m n
 sent_ok z s m event d h from run = (
   all.0,
   record {
@@ -85,7 +94,8 @@ sent_ok z s m event d h from run = (
       bank = bank;
       few = λ b l.
           let few = h.few b l in
-          let more = length-append (answers_to (zeros_in z b) (s.sent b)) (answers_to (after (zeros_in z b) (s.sent b)) (commands_for b d.sent)) in
+          let more =
+          length-append (answers_to (zeros_in z b) (s.sent b)) (answers_to (after (zeros_in z b) (s.sent b)) (commands_for b d.sent)) in
           let whole = ap length (answers_to-append (zeros_in z b) (s.sent b) (commands_for b d.sent)) in
           omega arith;
     };
@@ -105,7 +115,10 @@ sent_ok z s m event d h from run = (
         let number = h.number in
         let there : b < length m.banks = omega arith in
         let still : b < length then.banks = subst (λ n. b < n) (sym (all_sent-length m.banks d.sent)) there in
-        all.1.done b still ∙ ap finished (all_sent-at m.banks d.sent b there) ∙ ap (λ (x : Bank). finished (extended x (commands_for b d.sent))) (h.bank b l) ∙ stood-sent (zeros_in z b) (s.sent b) (commands_for b d.sent) (s.arrived b) (h.few b l)
+        all.1.done b still
+        ∙ ap finished (all_sent-at m.banks d.sent b there)
+        ∙ ap (λ (x : Bank). finished (extended x (commands_for b d.sent))) (h.bank b l)
+        ∙ stood-sent (zeros_in z b) (s.sent b) (commands_for b d.sent) (s.arrived b) (h.few b l)
 
 -- ---- a word arrives
 
@@ -127,7 +140,9 @@ abbrev pub one_taken : Stand → ℕ → Cache → Stand
 one_taken s bank cache =
     record { cache = cache; sent = λ b. s.sent b ++ []; arrived = λ b. cond (b == bank) (s.arrived b + 1) (s.arrived b) }
 
-pub taken_stands : (z : Sizes) (s : Stand) (m : Machine) (bank : ℕ) (cache cache' : Cache) → Stands z s m → bank < z.banks → s.arrived bank < length (answers_to (zeros_in z bank) (s.sent bank)) → cache' ≡ cache → Stands z (one_taken s bank cache) (record { cache = cache'; banks = set m.banks bank (without_answer (bank_at m.banks bank) 0) })
+pub taken_stands : (z : Sizes) (s : Stand) (m : Machine) (bank : ℕ) (cache cache' : Cache) → Stands z s m → bank < z.banks
+    → s.arrived bank < length (answers_to (zeros_in z bank) (s.sent bank)) → cache' ≡ cache
+    → Stands z (one_taken s bank cache) (record { cache = cache'; banks = set m.banks bank (without_answer (bank_at m.banks bank) 0) })
 taken_stands z s m bank cache cache' h here some same =
     record {
       cache = same;
@@ -144,9 +159,13 @@ taken_stands z s m bank cache cache' h here some same =
 
     taken : without_answer (bank_at m.banks bank) 0 ≡ stood (zeros_in z bank) (s.sent bank) (s.arrived bank + 1)
     taken =
-        ap (λ (x : Bank). without_answer x 0) (h.bank bank here) ∙ ap (λ l. record { words = after (zeros_in z bank) (s.sent bank); queue = []; answers = l }) (one_dropped (s.arrived bank) (answers_to (zeros_in z bank) (s.sent bank)))
+        ap (λ (x : Bank). without_answer x 0) (h.bank bank here)
+        ∙ ap (λ l. record { words = after (zeros_in z bank) (s.sent bank); queue = []; answers = l })
+        (one_dropped (s.arrived bank) (answers_to (zeros_in z bank) (s.sent bank)))
 
-    each : (b : ℕ) → b < z.banks → (b ≡ bank) ⊎ (b ≢ bank) → bank_at (set m.banks bank (without_answer (bank_at m.banks bank) 0)) b ≡ stood (zeros_in z b) (s.sent b ++ []) (cond (b == bank) (s.arrived b + 1) (s.arrived b))
+    each : (b : ℕ) → b < z.banks → (b ≡ bank) ⊎ (b ≢ bank)
+        → bank_at (set m.banks bank (without_answer (bank_at m.banks bank) 0)) b ≡ stood (zeros_in z b) (s.sent b ++ [])
+        (cond (b == bank) (s.arrived b + 1) (s.arrived b))
     each b l (inl e) =
         ap (bank_at (set m.banks bank (without_answer (bank_at m.banks bank) 0))) e
         ∙ get_or-set_same m.banks bank (without_answer (bank_at m.banks bank) 0) no_bank there
@@ -160,10 +179,12 @@ taken_stands z s m bank cache cache' h here some same =
         ∙ nil b (s.arrived b)
         ∙ ap (λ t. stood (zeros_in z b) (s.sent b ++ []) (cond t (s.arrived b + 1) (s.arrived b))) (sym (ne_eqb b bank d))
 
-    few : (b : ℕ) → b < z.banks → (b ≡ bank) ⊎ (b ≢ bank) → cond (b == bank) (s.arrived b + 1) (s.arrived b) ≤ length (answers_to (zeros_in z b) (s.sent b ++ []))
+    few : (b : ℕ) → b < z.banks → (b ≡ bank) ⊎ (b ≢ bank)
+        → cond (b == bank) (s.arrived b + 1) (s.arrived b) ≤ length (answers_to (zeros_in z b) (s.sent b ++ []))
     few b l (inl e) =
         let is = ap (λ t. cond t (s.arrived b + 1) (s.arrived b)) (eq-eqb b bank e) in
-        let more : s.arrived b < length (answers_to (zeros_in z b) (s.sent b)) = subst (λ k. s.arrived k < length (answers_to (zeros_in z k) (s.sent k))) (sym e) some in
+        let more : s.arrived b < length (answers_to (zeros_in z b) (s.sent b)) =
+        subst (λ k. s.arrived k < length (answers_to (zeros_in z k) (s.sent k))) (sym e) some in
         let same = ap (λ l. length (answers_to (zeros_in z b) l)) (append-nil (s.sent b)) in
         omega arith
     few b l (inr d) =

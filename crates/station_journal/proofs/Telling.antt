@@ -44,7 +44,9 @@ tells_nothing z =
 -- ---- a step
 
 -- a port said that it ends
-pub tells_ended : (z : Sizes) (cache : Cache) (sent : ℕ → List Command) (popped : ℕ → List BankAnswer) (fault : Option SideFault) (entries : List Entry) (port : ℕ) → SideTells z cache sent popped fault entries → SideTells z cache sent popped fault (entries ++ Ended port ∷ [])
+pub tells_ended : (z : Sizes) (cache : Cache) (sent : ℕ → List Command) (popped : ℕ → List BankAnswer) (fault : Option SideFault)
+    (entries : List Entry) (port : ℕ)
+    → SideTells z cache sent popped fault entries → SideTells z cache sent popped fault (entries ++ Ended port ∷ [])
 tells_ended z cache sent popped fault entries port h =
     record {
       stand = h.stand;
@@ -56,9 +58,14 @@ tells_ended z cache sent popped fault entries port h =
       all = h.all;
     }
 
-module _ (z : Sizes) (cache : Cache) (sent : ℕ → List Command) (popped : ℕ → List BankAnswer) (entries : List Entry) (h : SideTells z cache sent popped None entries) where
+module _ (z : Sizes) (cache : Cache) (sent : ℕ → List Command) (popped : ℕ → List BankAnswer) (entries : List Entry)
+    (h : SideTells z cache sent popped None entries) where
   -- an event by which no word comes: the unit's step may stand in a journal wherever the unit stands
-  pub tells_step : (source : Source) (event : Event) (step : Cache → Stepped) (cache' : Cache) (sent' : ℕ → List Command) (answer : Answer) → ((s : Stand) → Recorded z (come_word h.come) s event (step s.cache)) → cache' ≡ (step cache).cache → answer ≡ (step cache).answer → ((b : ℕ) → b < z.banks → sent' b ≡ sent b ++ commands_for b (step cache).sent) → SideTells z cache' sent' popped None (entries ++ Step source event answer ∷ [])
+  pub tells_step : (source : Source) (event : Event) (step : Cache → Stepped) (cache' : Cache) (sent' : ℕ → List Command)
+      (answer : Answer)
+      → ((s : Stand) → Recorded z (come_word h.come) s event (step s.cache)) → cache' ≡ (step cache).cache → answer ≡ (step cache).answer
+      → ((b : ℕ) → b < z.banks → sent' b ≡ sent b ++ commands_for b (step cache).sent)
+      → SideTells z cache' sent' popped None (entries ++ Step source event answer ∷ [])
   tells_step source event step cache' sent' answer record_of cache_is answer_is sent_is =
       let s = h.stand in
       let d = step s.cache in
@@ -70,7 +77,9 @@ module _ (z : Sizes) (cache : Cache) (sent : ℕ → List Command) (popped : ℕ
       record {
         stand = after;
         come = h.come;
-        walks = subst (λ a. Walks z (come_word h.come) (opening_stand z) (entries ++ Step source event a ∷ []) after) (sym told) (walks-append z (come_word h.come) entries (Step source event d.answer ∷ []) (opening_stand z) s after h.walks one);
+        walks =
+            subst (λ a. Walks z (come_word h.come) (opening_stand z) (entries ++ Step source event a ∷ []) after) (sym told)
+            (walks-append z (come_word h.come) entries (Step source event d.answer ∷ []) (opening_stand z) s after h.walks one);
         unit = r.cache ∙ ap (λ (x : Stepped). x.cache) (sym is) ∙ sym cache_is;
         commands = λ b l.
             r.sent b ∙ ap₂ (λ xs (x : Stepped). xs ++ commands_for b x.sent) (h.commands b l) (sym is) ∙ sym (sent_is b l);
@@ -79,7 +88,11 @@ module _ (z : Sizes) (cache : Cache) (sent : ℕ → List Command) (popped : ℕ
       }
 
   -- a word that came of a bank
-  pub tells_word : (source : Source) (bank : ℕ) (a : BankAnswer) (cache' : Cache) (popped' : ℕ → List BankAnswer) (answer : Answer) → bank < z.banks → length (popped bank) < count_by is_read (sent bank) → popped' bank ≡ popped bank ++ a ∷ [] → ((b : ℕ) → b ≢ bank → popped' b ≡ popped b) → answer ≡ (arrive_step z cache a.slot a.i a.word).answer → answer ≡ Moved → cache' ≡ (arrive_step z cache a.slot a.i a.word).cache → SideTells z cache' sent popped' None (entries ++ Step source (Arrive bank 0) answer ∷ [])
+  pub tells_word : (source : Source) (bank : ℕ) (a : BankAnswer) (cache' : Cache) (popped' : ℕ → List BankAnswer) (answer : Answer)
+      → bank < z.banks → length (popped bank) < count_by is_read (sent bank) → popped' bank ≡ popped bank ++ a ∷ []
+      → ((b : ℕ) → b ≢ bank → popped' b ≡ popped b) → answer ≡ (arrive_step z cache a.slot a.i a.word).answer → answer ≡ Moved
+      → cache' ≡ (arrive_step z cache a.slot a.i a.word).cache
+      → SideTells z cache' sent popped' None (entries ++ Step source (Arrive bank 0) answer ∷ [])
   tells_word source bank a cache' popped' answer here called more others answer_is moves cache_is =
       let s = h.stand in
       let d = arrive_step z s.cache a.slot a.i a.word in
@@ -88,11 +101,16 @@ module _ (z : Sizes) (cache : Cache) (sent : ℕ → List Command) (popped : ℕ
       let r = arrive_recorded z (come_word popped') s bank a here brings (sym told ∙ moves) in
       let after = after_entry z (come_word popped') s (Arrive bank 0) (is_full d.answer) in
       let one : Walks z (come_word popped') s (Step source (Arrive bank 0) d.answer ∷ []) after = (r.fits, refl) in
-      let before = walks_same z (come_word h.come) (come_word popped') entries (opening_stand z) s (come-more z h.come popped' s.sent (λ b l. begins b (cases_eq b bank))) h.walks in
+      let before =
+      walks_same z (come_word h.come) (come_word popped') entries (opening_stand z) s
+      (come-more z h.come popped' s.sent (λ b l. begins b (cases_eq b bank))) h.walks in
       record {
         stand = after;
         come = popped';
-        walks = subst (λ x. Walks z (come_word popped') (opening_stand z) (entries ++ Step source (Arrive bank 0) x ∷ []) after) (sym told) (walks-append z (come_word popped') entries (Step source (Arrive bank 0) d.answer ∷ []) (opening_stand z) s after before one);
+        walks =
+            subst (λ x. Walks z (come_word popped') (opening_stand z) (entries ++ Step source (Arrive bank 0) x ∷ []) after) (sym told)
+            (walks-append z (come_word popped') entries (Step source (Arrive bank 0) d.answer ∷ []) (opening_stand z) s after before
+            one);
         unit = r.cache ∙ ap (λ (x : Stepped). x.cache) (sym is) ∙ sym cache_is;
         commands = λ b l. r.sent b ∙ h.commands b l;
         words = λ b l. r.arrived b ∙ counts b l (cases_eq b bank);
@@ -115,23 +133,36 @@ module _ (z : Sizes) (cache : Cache) (sent : ℕ → List Command) (popped : ℕ
 
       brings : come_word popped' bank (h.stand.arrived bank) (h.stand.sent bank) ≡ Some a
       brings =
-          let in_reach : h.stand.arrived bank < count_by is_read (h.stand.sent bank) = let e = arrived in subst (λ l. h.stand.arrived bank < count_by is_read l) (sym (h.commands bank here)) (omega arith) in
-          ap (λ t. cond t (slice_get (popped' bank) (h.stand.arrived bank)) None) (lt-ltb (h.stand.arrived bank) (count_by is_read (h.stand.sent bank)) in_reach) ∙ ap (λ l. slice_get l (h.stand.arrived bank)) more ∙ last (popped bank) (h.stand.arrived bank) arrived
+          let in_reach : h.stand.arrived bank < count_by is_read (h.stand.sent bank) =
+          let e = arrived in subst (λ l. h.stand.arrived bank < count_by is_read l) (sym (h.commands bank here)) (omega arith) in
+          ap (λ t. cond t (slice_get (popped' bank) (h.stand.arrived bank)) None)
+          (lt-ltb (h.stand.arrived bank) (count_by is_read (h.stand.sent bank)) in_reach)
+          ∙ ap (λ l. slice_get l (h.stand.arrived bank)) more
+          ∙ last (popped bank) (h.stand.arrived bank) arrived
 
-      counts : (b : ℕ) → b < z.banks → (b ≡ bank) ⊎ (b ≢ bank) → cond (b == bank) (h.stand.arrived b + 1) (h.stand.arrived b) ≡ length (popped' b)
+      counts : (b : ℕ) → b < z.banks → (b ≡ bank) ⊎ (b ≢ bank)
+          → cond (b == bank) (h.stand.arrived b + 1) (h.stand.arrived b) ≡ length (popped' b)
       counts b l (inl e) =
           let longer = length-append (popped bank) (a ∷ []) in
           let one = ap length more in
           let is : h.stand.arrived bank + 1 ≡ length (popped' bank) = let q = arrived in omega arith in
-          ap (λ t. cond t (h.stand.arrived b + 1) (h.stand.arrived b)) (eq-eqb b bank e) ∙ ap (λ k. h.stand.arrived k + 1) e ∙ is ∙ ap (λ k. length (popped' k)) (sym e)
+          ap (λ t. cond t (h.stand.arrived b + 1) (h.stand.arrived b)) (eq-eqb b bank e)
+          ∙ ap (λ k. h.stand.arrived k + 1) e
+          ∙ is
+          ∙ ap (λ k. length (popped' k)) (sym e)
       counts b l (inr d) =
-          ap (λ t. cond t (h.stand.arrived b + 1) (h.stand.arrived b)) (ne_eqb b bank d) ∙ h.words b l ∙ ap length (sym (h.all b) ∙ sym (others b d))
+          ap (λ t. cond t (h.stand.arrived b + 1) (h.stand.arrived b)) (ne_eqb b bank d)
+          ∙ h.words b l
+          ∙ ap length (sym (h.all b) ∙ sym (others b d))
 
 -- ---- all banks at hand
 
-module _ (z : Sizes) (lawful : IsLawful z) (takes : TakesABlock z) (cache : Cache) (sent : ℕ → List Command) (popped : ℕ → List BankAnswer) (fault : Option SideFault) (entries : List Entry) (h : SideTells z cache sent popped fault entries) (banks : (b : ℕ) → b < z.banks → ComesOf (zeros_in z b) (sent b) (popped b)) where
+module _ (z : Sizes) (lawful : IsLawful z) (takes : TakesABlock z) (cache : Cache) (sent : ℕ → List Command)
+    (popped : ℕ → List BankAnswer) (fault : Option SideFault) (entries : List Entry) (h : SideTells z cache sent popped fault entries)
+    (banks : (b : ℕ) → b < z.banks → ComesOf (zeros_in z b) (sent b) (popped b)) where
   -- the words in the journal are a first part of those popped
-  come-first : (fault : Option SideFault) → Popped z cache sent h.come popped fault → (b : ℕ) → (rest : List BankAnswer) × (h.come b ++ rest ≡ popped b)
+  come-first : (fault : Option SideFault) → Popped z cache sent h.come popped fault → (b : ℕ)
+      → (rest : List BankAnswer) × (h.come b ++ rest ≡ popped b)
   come-first None all b = ([], append-nil (h.come b) ∙ sym (all b))
   come-first (Some (Uncalled bank)) all b = go (cases_eq b bank)
     where
@@ -153,7 +184,10 @@ module _ (z : Sizes) (lawful : IsLawful z) (takes : TakesABlock z) (cache : Cach
         left = part.left;
         on_its_way = first.0 ++ part.on_its_way;
         commands = part.commands ∙ sym (h.commands b l);
-        answers = sym (Rattle.std.proofs.Common.append_assoc (h.come b) first.0 part.on_its_way) ∙ ap (λ xs. xs ++ part.on_its_way) first.1 ∙ part.answers;
+        answers =
+            sym (Rattle.std.proofs.Common.append_assoc (h.come b) first.0 part.on_its_way)
+            ∙ ap (λ xs. xs ++ part.on_its_way) first.1
+            ∙ part.answers;
       }
 
   walks_true : Walks z (true_word z) (opening_stand z) entries h.stand
@@ -173,15 +207,26 @@ module _ (z : Sizes) (lawful : IsLawful z) (takes : TakesABlock z) (cache : Cach
       let few = length-append (popped b) part.on_its_way in
       let whole = ap length part.answers in
       let more = ap length (answers_to-append (zeros_in z b) part.served part.left) in
-      let sum = length-append (answers_to (zeros_in z b) part.served) (answers_to (Rattle.memory_banks.specs.Banks.after (zeros_in z b) part.served) part.left) in
+      let sum =
+      length-append (answers_to (zeros_in z b) part.served)
+      (answers_to (Rattle.memory_banks.specs.Banks.after (zeros_in z b) part.served) part.left) in
       let all = ap (λ xs. length (answers_to (zeros_in z b) xs)) part.commands in
       let reads = answers_to-length (zeros_in z b) (sent b) in
       omega arith
 
-  popped-next : (b : ℕ) → b < z.banks → (a : BankAnswer) → popped b ≡ h.come b ++ a ∷ [] → true_word z b (h.stand.arrived b) (h.stand.sent b) ≡ Some a
+  popped-next : (b : ℕ) → b < z.banks → (a : BankAnswer) → popped b ≡ h.come b ++ a ∷ []
+      → true_word z b (h.stand.arrived b) (h.stand.sent b) ≡ Some a
   popped-next b l a e =
       let part = banks b l in
-      let whole : answers_to (zeros_in z b) (h.stand.sent b) ≡ (h.come b ++ a ∷ []) ++ (part.on_its_way ++ answers_to (Rattle.memory_banks.specs.Banks.after (zeros_in z b) part.served) part.left) = ap (answers_to (zeros_in z b)) (h.commands b l ∙ sym part.commands) ∙ answers_to-append (zeros_in z b) part.served part.left ∙ ap (λ xs. xs ++ answers_to (Rattle.memory_banks.specs.Banks.after (zeros_in z b) part.served) part.left) (sym part.answers) ∙ ap (λ xs. (xs ++ part.on_its_way) ++ answers_to (Rattle.memory_banks.specs.Banks.after (zeros_in z b) part.served) part.left) e ∙ Rattle.std.proofs.Common.append_assoc (h.come b ++ a ∷ []) part.on_its_way _ in
+      let whole : answers_to (zeros_in z b) (h.stand.sent b) ≡ (h.come b ++ a ∷ []) ++ (part.on_its_way ++ answers_to
+      (Rattle.memory_banks.specs.Banks.after (zeros_in z b) part.served) part.left) =
+      ap (answers_to (zeros_in z b)) (h.commands b l ∙ sym part.commands)
+      ∙ answers_to-append (zeros_in z b) part.served part.left
+      ∙ ap (λ xs. xs ++ answers_to (Rattle.memory_banks.specs.Banks.after (zeros_in z b) part.served) part.left)
+      (sym part.answers)
+      ∙ ap (λ xs. (xs ++ part.on_its_way) ++ answers_to (Rattle.memory_banks.specs.Banks.after (zeros_in z b) part.served)
+      part.left) e
+      ∙ Rattle.std.proofs.Common.append_assoc (h.come b ++ a ∷ []) part.on_its_way _ in
       ap (λ xs. slice_get xs (h.stand.arrived b)) whole ∙ at (h.come b) _ (h.stand.arrived b) (h.words b l)
     where
       at : (xs ys : List BankAnswer) (k : ℕ) → k ≡ length xs → slice_get ((xs ++ a ∷ []) ++ ys) k ≡ Some a
@@ -203,7 +248,8 @@ module _ (z : Sizes) (lawful : IsLawful z) (takes : TakesABlock z) (cache : Cach
       go (Some (Stray bank slot i)) all =
           let flat = walk_is_flat z entries h.stand lawful takes walks_true in
           let next = popped-next bank all.0 all.1.word all.1.is_lost.lost in
-          absurd (flat.none_stray bank all.1.word all.0 next (ap (λ c. Rattle.cache_unit.specs.Causes.arrive_cause z c all.1.word.slot all.1.word.i) h.unit ∙ all.1.refused))
+          absurd (flat.none_stray bank all.1.word all.0 next (ap
+          (λ c. Rattle.cache_unit.specs.Causes.arrive_cause z c all.1.word.slot all.1.word.i) h.unit ∙ all.1.refused))
 
 pub side_is_true : SideIsTrue
 side_is_true z cache sent popped fault entries lawful takes h banks = (

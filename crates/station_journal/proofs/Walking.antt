@@ -40,7 +40,8 @@ record Led (z : Sizes) (m : Machine) (entries : List Entry) (e : Stand) (n : Mac
   runs : flat_run (flat_of z m) (events_of entries) (answers_of entries) ≡ Some (flat_of z n)
 
 module _ (z : Sizes) (lawful : IsLawful z) (takes : TakesABlock z) where
-  entry_ok : (s : Stand) (m : Machine) → Stands z s m → FlatFrom z m → (event : Event) (answer : Answer) (t : Bool) → is_full answer ≡ t → Fits z (true_word z) s event answer t → (n : Machine) × Next z (after_entry z (true_word z) s event t) event answer m n
+  entry_ok : (s : Stand) (m : Machine) → Stands z s m → FlatFrom z m → (event : Event) (answer : Answer) (t : Bool) → is_full answer ≡ t
+      → Fits z (true_word z) s event answer t → (n : Machine) × Next z (after_entry z (true_word z) s event t) event answer m n
   entry_ok s m h from event answer true e may =
       let made = event_ok z lawful takes s m h from event in
       let run = full_ok z s (flat_of z m) (flat_of z made.0) event may made.1.run in (
@@ -55,7 +56,8 @@ module _ (z : Sizes) (lawful : IsLawful z) (takes : TakesABlock z) where
       let made = event_ok z lawful takes s m h from event in
       subst (λ a. (n : Machine) × Next z (moved_on s event (step z (true_word z) s event)) event a m n) (sym fits.1) made
 
-  walk_ok : (entries : List Entry) (s e : Stand) (m : Machine) → Stands z s m → FlatFrom z m → Walks z (true_word z) s entries e → (n : Machine) × Led z m entries e n
+  walk_ok : (entries : List Entry) (s e : Stand) (m : Machine) → Stands z s m → FlatFrom z m → Walks z (true_word z) s entries e
+      → (n : Machine) × Led z m entries e n
   walk_ok [] s e m h from same =
       (m, record { stands = subst (λ x. Stands z x m) same h; from = from; runs = refl })
   walk_ok (Ended port ∷ rest) s e m h from walk =
@@ -77,13 +79,15 @@ all_of p d [] h = refl
 all_of p d (x ∷ xs) h =
     ap₂ (λ a b. a && b) (h zero (omega arith)) (all_of p d xs (λ k l. h (suc k) (omega arith)))
 
-arrive_answer : (z : Sizes) (c : Cache) (a : BankAnswer) (cause : Cause) → arrive_cause z c a.slot a.i ≡ Some cause → (arrive_step z c a.slot a.i a.word).answer ≡ Refused cause
+arrive_answer : (z : Sizes) (c : Cache) (a : BankAnswer) (cause : Cause) → arrive_cause z c a.slot a.i ≡ Some cause
+    → (arrive_step z c a.slot a.i a.word).answer ≡ Refused cause
 unfolding arrive_step
 arrive_answer z c a cause e = ap (λ o. (unless o c (moved (arrived c a.slot a.i a.word))).answer) e
 
 -- entries that all fit lead to where they lead, and the converse
 
-pub walks_as : (z : Sizes) (brings : Brings) (entries : List Entry) (s : Stand) → AllFit z brings s entries → Walks z brings s entries (stand_after z brings s entries)
+pub walks_as : (z : Sizes) (brings : Brings) (entries : List Entry) (s : Stand) → AllFit z brings s entries
+    → Walks z brings s entries (stand_after z brings s entries)
 walks_as z brings [] s h = refl
 walks_as z brings (Ended port ∷ rest) s h = walks_as z brings rest s h
 walks_as z brings (Step source event answer ∷ rest) s h =
@@ -95,7 +99,8 @@ fit_as z brings (Ended port ∷ rest) s e h = fit_as z brings rest s e h
 fit_as z brings (Step source event answer ∷ rest) s e h =
     (h.0, fit_as z brings rest (after_entry z brings s event (is_full answer)) e h.1)
 
-pub led_as : (z : Sizes) (brings : Brings) (entries : List Entry) (s e : Stand) → Walks z brings s entries e → stand_after z brings s entries ≡ e
+pub led_as : (z : Sizes) (brings : Brings) (entries : List Entry) (s e : Stand) → Walks z brings s entries e
+    → stand_after z brings s entries ≡ e
 led_as z brings [] s e h = h
 led_as z brings (Ended port ∷ rest) s e h = led_as z brings rest s e h
 led_as z brings (Step source event answer ∷ rest) s e h =
@@ -110,11 +115,17 @@ pub fit_prop : (z : Sizes) (brings : Brings) (entries : List Entry) (s : Stand) 
 fit_prop z brings [] s = hlevel props
 fit_prop z brings (Ended port ∷ rest) s = fit_prop z brings rest s
 fit_prop z brings (Step source event answer ∷ rest) s =
-    hlevel (props, fits_prop z brings s event answer (is_full answer), fit_prop z brings rest (after_entry z brings s event (is_full answer)))
+    hlevel (
+      props,
+      fits_prop z brings s event answer (is_full answer),
+      fit_prop z brings rest
+          (after_entry z brings s event (is_full answer)),
+    )
 
 -- the law of a journal
 
-pub walk_is_flat : (z : Sizes) (entries : List Entry) (e : Stand) → IsLawful z → TakesABlock z → Walks z (true_word z) (opening_stand z) entries e → IsFlatJournal z entries e
+pub walk_is_flat : (z : Sizes) (entries : List Entry) (e : Stand) → IsLawful z → TakesABlock z
+    → Walks z (true_word z) (opening_stand z) entries e → IsFlatJournal z entries e
 walk_is_flat z entries e lawful takes true_of_banks =
     record {
       flat = flat_of z last.0;
@@ -136,7 +147,8 @@ walk_is_flat z entries e lawful takes true_of_banks =
 
     last : (n : Machine) × Led z (opening z (zeros z)) entries e n
     last =
-        walk_ok z lawful takes entries (opening_stand z) e (opening z (zeros z)) (opening_stands z) (flat_from_opening z lawful (zeros z) fits) true_of_banks
+        walk_ok z lawful takes entries (opening_stand z) e (opening z (zeros z)) (opening_stands z)
+        (flat_from_opening z lawful (zeros z) fits) true_of_banks
 
     runs : flat_run (flat_opening (zeros z)) (events_of entries) (answers_of entries) ≡ Some (flat_of z last.0)
     runs =
@@ -150,17 +162,22 @@ walk_is_flat z entries e lawful takes true_of_banks =
 
     idle : list_all (λ (b : Bank). is_empty b.queue) last.0.banks ≡ true
     idle =
-        all_of (λ (b : Bank). is_empty b.queue) no_bank last.0.banks (λ k l. let n = last.1.stands.number in ap (λ (x : Bank). is_empty x.queue) (last.1.stands.bank k (omega arith)))
+        all_of (λ (b : Bank). is_empty b.queue) no_bank last.0.banks
+        (λ k l. let n = last.1.stands.number in ap (λ (x : Bank). is_empty x.queue) (last.1.stands.bank k (omega arith)))
 
     is_settled : IsTrue (is_clean e.cache) → settled last.0 ≡ true
     is_settled clean = ap₂ (λ a b. a && b) (ap is_clean last.1.stands.cache ∙ clean) idle
 
-    stray_never : (bank : ℕ) (a : BankAnswer) → bank < z.banks → true_word z bank (e.arrived bank) (e.sent bank) ≡ Some a → arrive_cause z e.cache a.slot a.i ≡ Some StrayWord → ⊥
+    stray_never : (bank : ℕ) (a : BankAnswer) → bank < z.banks → true_word z bank (e.arrived bank) (e.sent bank) ≡ Some a
+        → arrive_cause z e.cache a.slot a.i ≡ Some StrayWord → ⊥
     stray_never bank a here word stray =
         let made = event_ok z lawful takes e last.0 last.1.stands last.1.from (Arrive bank 0) in
-        let next : next_word z (true_word z) e bank 0 ≡ Some a = ap (λ t. cond (t && true) (true_word z bank (e.arrived bank) (e.sent bank)) None) (lt-ltb bank z.banks here) ∙ word in
-        let answer : (step z (true_word z) e (Arrive bank 0)).answer ≡ Refused StrayWord = ap (λ o. (brought z e.cache o).answer) next ∙ arrive_answer z e.cache a StrayWord stray in
-        let run : flat_step (flat_of z last.0) (Arrive bank 0) (Refused StrayWord) ≡ Some (flat_of z made.0) = subst (λ x. flat_step (flat_of z last.0) (Arrive bank 0) x ≡ Some (flat_of z made.0)) answer made.1.run in
+        let next : next_word z (true_word z) e bank 0 ≡ Some a =
+        ap (λ t. cond (t && true) (true_word z bank (e.arrived bank) (e.sent bank)) None) (lt-ltb bank z.banks here) ∙ word in
+        let answer : (step z (true_word z) e (Arrive bank 0)).answer ≡ Refused StrayWord =
+        ap (λ o. (brought z e.cache o).answer) next ∙ arrive_answer z e.cache a StrayWord stray in
+        let run : flat_step (flat_of z last.0) (Arrive bank 0) (Refused StrayWord) ≡ Some (flat_of z made.0) =
+        subst (λ x. flat_step (flat_of z last.0) (Arrive bank 0) x ≡ Some (flat_of z made.0)) answer made.1.run in
         cc
 
 pub journal_is_flat : (z : Sizes) (entries : List Entry) → JournalIsFlat z entries

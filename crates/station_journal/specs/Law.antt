@@ -42,9 +42,11 @@ pub record IsFlatJournal (z : Sizes) (entries : List Entry) (e : Stand) : Type 0
   -- where no tag is awaited or ready, each load is paid
   pub ends : length (tags e.cache) ≡ 0 → IsPaid flat entries
   -- and where the unit is clean, the banks hold it once they have served what they were sent
-  pub settles : IsTrue (is_clean e.cache) → (at : ℕ) → at < z.words → word_at (bank_after z e (at % z.banks)) (at / z.banks) ≡ word_at flat.mem at
+  pub settles : IsTrue (is_clean e.cache) → (at : ℕ) → at < z.words
+      → word_at (bank_after z e (at % z.banks)) (at / z.banks) ≡ word_at flat.mem at
   -- and no register fails to wait for a bank's next word
-  pub none_stray : (bank : ℕ) (a : BankAnswer) → bank < z.banks → true_word z bank (e.arrived bank) (e.sent bank) ≡ Some a → arrive_cause z e.cache a.slot a.i ≢ Some StrayWord
+  pub none_stray : (bank : ℕ) (a : BankAnswer) → bank < z.banks → true_word z bank (e.arrived bank) (e.sent bank) ≡ Some a
+      → arrive_cause z e.cache a.slot a.i ≢ Some StrayWord
 
 -- a bank's queue takes the words of a block that lie in the bank
 abbrev pub TakesABlock : Sizes → Type 0
@@ -67,7 +69,8 @@ SideIsTrue =
 -- a run that ends with nothing owed has paid each load
 abbrev pub RunIsTaken : Type 0
 RunIsTaken =
-    (entries : List Entry) (f g : Flat) → flat_run f (events_of entries) (answers_of entries) ≡ Some g → ((tag : ℕ) → g.due tag ≡ None) → LoadsAreTaken entries
+    (entries : List Entry) (f g : Flat) → flat_run f (events_of entries) (answers_of entries) ≡ Some g → ((tag : ℕ) → g.due tag ≡ None)
+    → LoadsAreTaken entries
 
 -- ---- what ports ask and are told
 

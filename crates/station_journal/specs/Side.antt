@@ -26,13 +26,14 @@ pub record IsUncalled (sent : ℕ → List Command) (come popped : ℕ → List 
   pub beyond : count_by is_read (sent bank) ≤ length (come bank)
 
 -- or no register waits for it
-pub record IsStray (z : Sizes) (cache : Cache) (sent : ℕ → List Command) (come popped : ℕ → List BankAnswer) (bank slot i : ℕ) : Type 0 where
-  pub word : BankAnswer
-  pub is_lost : IsLost come popped bank word
-  pub within : length (come bank) < count_by is_read (sent bank)
-  pub slot_is : word.slot ≡ slot
-  pub i_is : word.i ≡ i
-  pub refused : arrive_cause z cache word.slot word.i ≡ Some StrayWord
+pub record IsStray (z : Sizes) (cache : Cache) (sent : ℕ → List Command) (come popped : ℕ → List BankAnswer) (bank slot i : ℕ) : Type 0
+  where
+    pub word : BankAnswer
+    pub is_lost : IsLost come popped bank word
+    pub within : length (come bank) < count_by is_read (sent bank)
+    pub slot_is : word.slot ≡ slot
+    pub i_is : word.i ≡ i
+    pub refused : arrive_cause z cache word.slot word.i ≡ Some StrayWord
 
 -- the words that stand in the journal are those that were popped, but for the one that made the side faulted
 abbrev pub Popped : Sizes → Cache → (ℕ → List Command) → (ℕ → List BankAnswer) → (ℕ → List BankAnswer) → Option SideFault → Type 0
@@ -40,7 +41,8 @@ Popped z cache sent come popped None = (b : ℕ) → popped b ≡ come b
 Popped z cache sent come popped (Some (Uncalled bank)) = (bank < z.banks) × IsUncalled sent come popped bank
 Popped z cache sent come popped (Some (Stray bank slot i)) = (bank < z.banks) × IsStray z cache sent come popped bank slot i
 
-pub record SideTells (z : Sizes) (cache : Cache) (sent : ℕ → List Command) (popped : ℕ → List BankAnswer) (fault : Option SideFault) (entries : List Entry) : Type 0 where
+pub record SideTells (z : Sizes) (cache : Cache) (sent : ℕ → List Command) (popped : ℕ → List BankAnswer) (fault : Option SideFault)
+    (entries : List Entry) : Type 0 where
   pub stand : Stand
   pub come : ℕ → List BankAnswer
   pub walks : Walks z (come_word come) (opening_stand z) entries stand

@@ -10,7 +10,7 @@ use Rattle.flat_model.specs.declared.Event.{Event}
 use Rattle.flat_model.specs.declared.Answer.{Answer}
 use Rattle.station_journal.specs.declared.journal.Source.{Source}
 use Rattle.station_journal.specs.declared.journal.Entry.{Entry}
-use Rattle.station_journal.specs.declared.journal.Entry.TheVariants.{Step, Ended}
+use Rattle.station_journal.specs.declared.journal.Entry.TheVariants.{Step}
 use Rattle.station_journal.specs.declared.asks.Ask.{Ask}
 use Rattle.station_journal.specs.declared.asks.Told.{Told}
 use Rattle.station_journal.specs.Parts.{asked_by, told_by, asks_of, told_of, is_event_of, is_entry_of, IsOfPorts}

@@ -2,9 +2,14 @@
 use Rattle.std.specs.Prelude.{ℕ, List, map, length}
 use Rattle.cache_unit.specs.State.{Sizes}
 use Rattle.station_parts.specs.declared.port.Port.{Port}
+use Rattle.station_parts.specs.declared.row.Line.{Line}
 use Rattle.station_parts.specs.declared.bank.BankSide.{BankSide}
 use Rattle.station_parts.specs.declared.parts.CacheSide.{CacheSide}
 use Rattle.station_parts.specs.Rings.{RingId, pushes_to, pops_from}
+
+-- the ring of a line
+abbrev pub line_ring : Line → RingId
+line_ring line = pushes_to line.ring
 
 -- the rings of a port
 pub record PortId : Type 0 where
@@ -37,7 +42,7 @@ cache_id c =
     record {
       asks = map pops_from c.asks.items;
       told = map pushes_to c.tellings.items;
-      commands = map (λ l. pushes_to l.ring) c.row.lines.items;
+      commands = map line_ring c.row.lines.items;
       answers = map pops_from c.answers.items;
       sizes = c.unit.sizes;
       limit = c.limit;

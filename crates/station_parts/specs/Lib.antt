@@ -2,7 +2,7 @@ pub mod Rings
 pub mod Rows
 pub mod Ports
 pub mod Asking
-pub mod Seen
+pub mod Promises
 pub mod Ids
 pub mod Station
 pub mod Words
@@ -10,3 +10,4 @@ pub mod Serving
 pub mod SideState
 pub mod SideSteps
 pub mod New
+pub mod Audited

@@ -12,7 +12,8 @@ use Rattle.station_journal.specs.declared.asks.Told.{Told}
 use Rattle.station_journal.specs.Parts.{asks_of, told_of, IsOfPorts}
 
 -- the journal has what was popped of each port's asks, and what was pushed to it
-pub record PortsTell (asks : List (Consumer Ask Global AnyItems)) (tellings : List (Producer Told Global AnyItems)) (journal : List Entry) : Type 0 where
+pub record PortsTell (asks : List (Consumer Ask Global AnyItems)) (tellings : List (Producer Told Global AnyItems))
+    (journal : List Entry) : Type 0 where
   pub number : length tellings ≡ length asks
   pub asked : (p : ℕ) → p < length asks → slice_index_or (map received asks) p [] ≡ asks_of p journal
   pub told : (p : ℕ) → p < length asks → slice_index_or (map sent tellings) p [] ≡ told_of p journal

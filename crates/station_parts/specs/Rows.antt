@@ -103,3 +103,14 @@ pub record LinesLook (xs ys : List Line) : Type 0 where
   pub kept : OnlySent xs ys
   pub sent : (b : ℕ) → sent_at ys b ≡ sent_at xs b
   pub free : (b : ℕ) → free_at xs b ≤ free_at ys b
+
+-- every item that has come to an end: what it popped, and then what it knows of
+abbrev pub come_to : {T : Type 0} → Consumer T Global AnyItems → List T
+come_to end = received end ++ known_items end
+
+-- what was sent over a line, and how many words it has brought back
+abbrev pub sent_over : Line → List Command
+sent_over line = sent line.ring
+
+abbrev pub brought_by : Line → ℕ
+brought_by line = line.taken
