@@ -1,10 +1,9 @@
 //! What the cache side does for an ask.
-ghost use Rattle.std.specs.Prelude.{◌≡◌, ◌≢◌, ◌<◌, ◌+◌, ◌*◌, ◌%◌, ℕ, ◌++◌, ◌∷◌, [], length, true};
-ghost use Rattle.memory_banks.specs.Banks.{commands_for};
-ghost use Rattle.station_parts.specs.Rows.{sent_at, free_at, OnlySent};
+ghost use Rattle.std.specs.Prelude.{◌≡◌, ◌≢◌, ◌<◌, ◌+◌, ◌*◌, ◌%◌, ℕ, ◌∷◌, [], true};
+ghost use Rattle.station_parts.specs.Rows.{free_at};
 ghost use Rattle.station_journal.specs.Parts.{verdict, is_event_of, IsVerdict};
 ghost use Rattle.station_journal.specs.declared.asks.Told.TheVariants.{Value};
-ghost use Rattle.station_parts.specs.Asking.{event_for, asked_step};
+ghost use Rattle.station_parts.specs.Asking.{event_for, asked_step, MakesStep};
 ghost use Rattle.station_parts.specs.SideSteps.{EventForms};
 
 use crate::lines::Row;
@@ -39,7 +38,7 @@ pub(crate) fn event_for(port: u32, ask: Ask) -> Event
     }
 }
 
-/// Asks the unit.
+/// Asks the unit, which sends over the row what it reads.
 pub(crate) fn answer_ask<
     const WAYS: usize,
     const WORDS: usize,
@@ -48,24 +47,11 @@ pub(crate) fn answer_ask<
 >(unit: &mut CacheUnit<WAYS, WORDS, REGS, DEPTH>, row: &mut Row, port: u32, ask: Ask) -> Answer
     requires few_ports { port < 16 }
     requires not_done { ask ≢ Ask.Done }
-    ensures answer { result
-        ≡ (asked_step unit.old.sizes (free_at row.old.lines.items) port unit.old.cache ask).answer }
-    ensures unit { unit.new
-        ≡ record unit.old {
-          cache =
-              (asked_step unit.old.sizes
-              (free_at row.old.lines.items) port unit.old.cache ask).cache;
-        } }
+    ensures steps { MakesStep
+        (asked_step unit.old.sizes (free_at row.old.lines.items) port unit.old.cache ask)
+        unit.old unit.new row.old.lines.items row.new.lines.items result }
     ensures forms { EventForms unit.old.sizes unit.old.cache (event_for port ask) [] result
         unit.new.cache }
-    ensures same { OnlySent row.old.lines.items row.new.lines.items }
-    ensures sent { (b : ℕ) → sent_at row.new.lines.items b
-        ≡ sent_at row.old.lines.items b ++ commands_for b
-        (asked_step unit.old.sizes
-        (free_at row.old.lines.items) port unit.old.cache ask).sent }
-    ensures rooms { (b : ℕ) → free_at row.new.lines.items b + length (commands_for b
-        (asked_step unit.old.sizes
-        (free_at row.old.lines.items) port unit.old.cache ask).sent) ≡ free_at row.old.lines.items b }
 {
     match ask {
         Ask::Load { tag, at } => unit.request(

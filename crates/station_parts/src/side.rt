@@ -29,7 +29,9 @@ impl<const WAYS: usize, const WORDS: usize, const REGS: usize, const DEPTH: usiz
     /// - `Faulted` if the word of a bank goes beyond the reads sent to the bank, or else if no register
     ///   waits for it. The word is lost, [`CacheSide::fault`] says which it was, and nothing else
     ///   changes: the side is faulted for good;
-    /// - else `Did`.
+    /// - else `Did`: an ask is told its verdict, and a ready value goes to the port that its tag names.
+    ///   A refusal with `BankFull` says that the room known at a bank was too small. `Done` is noted as
+    ///   [`Entry::Ended`], and told nothing.
     pub fn step(&mut self, source: Source) -> Stepped
         ensures refused { IfSome (refusal_of (state_of self.old))
             (λ refusal. (result ≡ refusal) × (self.new ≡ self.old)) }

@@ -91,13 +91,13 @@ invariant_of-self-in-Done g c =
 pub verdict_of-requires : goal.verdict_of-requires
 verdict_of-requires g c =
     let s = c.args.self.now in
-    subst IsVerdict (sym c.answer_ask-answer.ensures.answer) (asked_verdict s.unit.sizes (free_at c.look_all.new.self.lines.items)
+    subst IsVerdict (sym c.answer_ask-answer.ensures.steps.answer_is) (asked_verdict s.unit.sizes (free_at c.look_all.new.self.lines.items)
     c.args.port s.unit.cache c.in-Some.ask c.in_default-ask.not-Done)
 
 pub invariant_of-self-2 : goal.invariant_of-self-2
 invariant_of-self-2 g c =
     let s = c.args.self.now in
-    let unit = c.answer_ask-answer.ensures.unit in
+    let unit = c.answer_ask-answer.ensures.steps.unit in
     let sizes = ap (λ (u : UnitState). u.sizes) unit in
     let banks = ap (λ (z : Sizes). z.banks) (sym sizes) in
     let longer = c.push_reserved-2.ensures.len in
@@ -112,7 +112,7 @@ invariant_of-self-2 g c =
     record {
       shaped = sizes ∙ s.shaped;
       in_range = subst InRange (sym sizes) s.in_range;
-      lines = same_length (λ (l : Line). pushes_to l.ring) _ _ (c.answer_ask-answer.ensures.same.rings ∙ c.look_all.ensures.kept.rings)
+      lines = same_length (λ (l : Line). pushes_to l.ring) _ _ (c.answer_ask-answer.ensures.steps.kept.rings ∙ c.look_all.ensures.kept.rings)
           ∙ s.lines ∙ banks;
       ends = s.ends ∙ banks;
       small = s.small;
@@ -122,8 +122,8 @@ invariant_of-self-2 g c =
           (sent_at c.look_all.new.self.lines.items) (sent_at c.answer_ask-answer.new.row.lines.items) (popped_at s.answers.items) s.fault
           s.journal.items c.push_reserved-2.new.self.items (free_at c.look_all.new.self.lines.items) c.args.port c.in-Some.ask
           c.event_for.result c.answer_ask-answer.result c.in_default-ask.not-Done c.requires.sound c.event_for.ensures.event h unit
-          c.answer_ask-answer.ensures.answer c.look_all.ensures.sent c.answer_ask-answer.ensures.sent c.push_reserved-2.ensures.items);
-      counted = λ sound b. c.answer_ask-answer.ensures.same.taken b ∙ c.look_all.ensures.kept.taken b ∙ s.counted sound b;
+          c.answer_ask-answer.ensures.steps.answer_is c.look_all.ensures.sent c.answer_ask-answer.ensures.steps.sent c.push_reserved-2.ensures.items);
+      counted = λ sound b. c.answer_ask-answer.ensures.steps.kept.taken b ∙ c.look_all.ensures.kept.taken b ∙ s.counted sound b;
       few_ports = subst (λ n. n ≤ 16) (sym (same_length pops_from s.asks.items c.pop_at.new.ends.items c.in-Some.ensures.pops.rings))
           s.few_ports;
       ports = ports_step s.asks.items c.pop_at.new.ends.items s.tellings.items c.push_at.new.ends.items s.journal.items
@@ -223,13 +223,13 @@ returns-clause-makes g c =
     let work = ap (asked s looked port) first ∙ asked_first s looked port ask (known_at news port) not_done in
     let event = event_for port ask in
     let d = asked_step s.sizes free port s.cache ask in
-    let unit = c.answer_ask-answer.ensures in
+    let unit = c.answer_ask-answer.ensures.steps in
     let cache = ap (λ (u : UnitState). u.cache) unit.unit in
     let mine = only_asked port ask event d.answer not_done refl in
-    let told = only_told port event d.answer c.verdict_of.result (ap verdict (sym unit.answer) ∙ c.verdict_of.ensures) in
+    let told = only_told port event d.answer c.verdict_of.result (ap verdict (sym unit.answer_is) ∙ c.verdict_of.ensures) in
     let makes : Makes _ s looked _ = record {
       journal = noted_so s.journal c.push_reserved-2.new.self.items (sources.Ask port) c.event_for.result event c.answer_ask-answer.result
-          d.answer c.push_reserved-2.ensures.items c.event_for.ensures.event unit.answer;
+          d.answer c.push_reserved-2.ensures.items c.event_for.ensures.event unit.answer_is;
       cache = cache;
       fault = refl;
       asked = λ p. pops.popped p ∙ ap (λ l. s.asked p ++ l) (mine p);
@@ -241,15 +241,15 @@ returns-clause-makes g c =
       telling_places = λ p. c.push_at.ensures.places p ∙ ap (λ l. room_at c.push_at.new.ends.items p + length l) (told p);
       command_places = λ b. sym (unit.rooms b);
     } in
-    let forms = subst₂ (λ a k. EventForms s.sizes s.cache event [] a k) unit.answer cache unit.forms in
+    let forms = subst₂ (λ a k. EventForms s.sizes s.cache event [] a k) unit.answer_is cache c.answer_ask-answer.ensures.forms in
     acts (sources.Ask port) s _ looked (knows_asks s.known asks places free pops.known looks.places c.look_all.ensures.free)
     (noted s (sources.Ask port) event d no_words) Did some work (ap (answer_of true) (sym c.requires.sound)) makes (forms, tt)
 
 pub returns-clause-same : goal.returns-clause-same
 returns-clause-same g c =
     let told = c.push_at.ensures.rings ∙ c.look_at.ensures.looks.rings in
-    let lines = c.answer_ask-answer.ensures.same.rings ∙ c.look_all.ensures.kept.rings in
-    let sizes = ap (λ (u : UnitState). u.sizes) c.answer_ask-answer.ensures.unit in
+    let lines = c.answer_ask-answer.ensures.steps.kept.rings ∙ c.look_all.ensures.kept.rings in
+    let sizes = ap (λ (u : UnitState). u.sizes) c.answer_ask-answer.ensures.steps.unit in
     λ i. record {
       asks = c.in-Some.ensures.pops.rings i;
       told = told i;
