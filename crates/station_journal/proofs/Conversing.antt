@@ -1,0 +1,119 @@
+-- A conversation, step by step.
+use Rattle.std.proofs.Common.{◌≡◌, ℕ, ◌+◌, Bool, true, false, cond, not, List, [], ◌∷◌, ◌++◌, refl, sym, ap, ◌∙◌, subst, arith, append-nil}
+use Rattle.std.proofs.lemmas.List.Elements.{filter-append}
+use Rattle.miss_registers.proofs.Tags.{count_by-append}
+use Rattle.station_journal.specs.declared.asks.Ask.{Ask}
+use Rattle.station_journal.specs.declared.asks.Ask.TheVariants.{Done}
+use Rattle.station_journal.specs.declared.asks.Told.{Told}
+use Rattle.station_journal.specs.Conversation.{is_value, verdicts_in, value_count, is_final, accepted_load, accepted_loads, Follows, IsUnderWay, Converses}
+
+-- ---- one verdict more
+
+follows-next : (script asked : List Ask) (verdicts : List Told) (ask : Ask) (more : List Ask) (verdict : Told)
+    → Follows script asked verdicts (ask ∷ more)
+    → Follows script (asked ++ ask ∷ []) (verdicts ++ verdict ∷ []) (cond (is_final verdict) more (ask ∷ more))
+follows-next script [] [] ask more verdict h =
+    subst (λ s. Follows s (ask ∷ []) (verdict ∷ []) (cond (is_final verdict) more (ask ∷ more))) (sym h) (refl, refl)
+follows-next (first ∷ script) (offer ∷ asked) (v ∷ verdicts) ask more verdict h =
+    (h.0, follows-next (cond (is_final v) script (first ∷ script)) asked verdicts ask more verdict h.1)
+follows-next [] [] (v ∷ verdicts) ask more verdict h = absurd h
+follows-next (first ∷ script) [] (v ∷ verdicts) ask more verdict h = absurd h
+follows-next [] (offer ∷ asked) [] ask more verdict h = absurd h
+follows-next [] (offer ∷ asked) (v ∷ verdicts) ask more verdict h = absurd h
+follows-next (first ∷ script) (offer ∷ asked) [] ask more verdict h = absurd h
+
+loads-next : (script asked : List Ask) (verdicts : List Told) (left : List Ask) (ask : Ask) (verdict : Told)
+    → Follows script asked verdicts left
+    → accepted_loads (asked ++ ask ∷ []) (verdicts ++ verdict ∷ []) ≡ accepted_loads asked verdicts + accepted_load ask verdict
+loads-next script [] [] left ask verdict h = omega arith
+loads-next (first ∷ script) (offer ∷ asked) (v ∷ verdicts) left ask verdict h =
+    let e = loads-next (cond (is_final v) script (first ∷ script)) asked verdicts left ask verdict h.1 in omega arith
+loads-next [] [] (v ∷ verdicts) left ask verdict h = absurd h
+loads-next (first ∷ script) [] (v ∷ verdicts) left ask verdict h = absurd h
+loads-next [] (offer ∷ asked) [] left ask verdict h = absurd h
+loads-next [] (offer ∷ asked) (v ∷ verdicts) left ask verdict h = absurd h
+loads-next (first ∷ script) (offer ∷ asked) [] left ask verdict h = absurd h
+
+verdicts-next : (taken : List Told) (told : Told) → is_value told ≡ false
+    → verdicts_in (taken ++ told ∷ []) ≡ verdicts_in taken ++ told ∷ []
+verdicts-next taken told none =
+    filter-append (λ (t : Told). not (is_value t)) taken (told ∷ []) ∙ ap (λ b. verdicts_in taken ++ cond (not b) (told ∷ []) []) none
+
+verdicts-same : (taken : List Told) (told : Told) → is_value told ≡ true → verdicts_in (taken ++ told ∷ []) ≡ verdicts_in taken
+verdicts-same taken told one =
+    filter-append (λ (t : Told). not (is_value t)) taken (told ∷ [])
+    ∙ ap (λ b. verdicts_in taken ++ cond (not b) (told ∷ []) []) one
+    ∙ append-nil (verdicts_in taken)
+
+value-one : (told : Told) → value_count (told ∷ []) ≡ cond {A = ℕ} (is_value told) 1 0
+value-one told = go (is_value told)
+  where
+    go : (b : Bool) → 0 + cond {A = ℕ} b 1 0 ≡ cond {A = ℕ} b 1 0
+    go true = refl
+    go false = refl
+
+values-next : (taken : List Told) (told : Told) → value_count (taken ++ told ∷ []) ≡ value_count taken + cond {A = ℕ} (is_value told) 1 0
+values-next taken told = count_by-append is_value taken (told ∷ []) ∙ ap (λ n. value_count taken + n) (value-one told)
+
+-- ---- the steps of a port
+
+-- it has offered nothing and was told nothing
+pub under_way_at_first : (script : List Ask) → IsUnderWay script script [] 0 0 [] []
+under_way_at_first script =
+    record { asked = []; offered_is = refl; follows = refl; loads_are = refl; values_are = refl }
+
+-- it offers an ask, where none is unjudged
+pub under_way_offered : (script left : List Ask) (loads values : ℕ) (offered : List Ask) (taken : List Told) (ask : Ask)
+    → IsUnderWay script left [] loads values offered taken → IsUnderWay script left (ask ∷ []) loads values (offered ++ ask ∷ []) taken
+under_way_offered script left loads values offered taken ask h =
+    record {
+      asked = h.asked;
+      offered_is = ap (λ l. l ++ ask ∷ []) (h.offered_is ∙ append-nil h.asked);
+      follows = h.follows;
+      loads_are = h.loads_are;
+      values_are = h.values_are;
+    }
+
+-- it is told a verdict on its ask
+pub under_way_judged : (script more : List Ask) (ask : Ask) (loads values : ℕ) (offered : List Ask) (taken : List Told) (verdict : Told)
+    → is_value verdict ≡ false → IsUnderWay script (ask ∷ more) (ask ∷ []) loads values offered taken
+    → IsUnderWay script (cond (is_final verdict) more (ask ∷ more)) [] (loads + accepted_load ask verdict) values offered
+    (taken ++ verdict ∷ [])
+under_way_judged script more ask loads values offered taken verdict none h =
+    let verdicts = verdicts-next taken verdict none in
+    let follows = follows-next script h.asked (verdicts_in taken) ask more verdict h.follows in
+    let more_loads = loads-next script h.asked (verdicts_in taken) (ask ∷ more) ask verdict h.follows in
+    let more_values = values-next taken verdict ∙ ap (λ b. value_count taken + cond {A = ℕ} b 1 0) none in
+    record {
+      asked = h.asked ++ ask ∷ [];
+      offered_is = h.offered_is ∙ sym (append-nil (h.asked ++ ask ∷ []));
+      follows = subst (λ v. Follows script (h.asked ++ ask ∷ []) v (cond (is_final verdict) more (ask ∷ more))) (sym verdicts) follows;
+      loads_are = ap (accepted_loads (h.asked ++ ask ∷ [])) verdicts ∙ more_loads ∙ ap (λ n. n + accepted_load ask verdict) h.loads_are;
+      values_are = omega (arith, h.values_are);
+    }
+
+-- it is told a value
+pub under_way_valued : (script left unjudged : List Ask) (loads values : ℕ) (offered : List Ask) (taken : List Told) (told : Told)
+    → is_value told ≡ true → IsUnderWay script left unjudged loads values offered taken
+    → IsUnderWay script left unjudged loads (values + 1) offered (taken ++ told ∷ [])
+under_way_valued script left unjudged loads values offered taken told one h =
+    let verdicts = verdicts-same taken told one in
+    let more_values = values-next taken told ∙ ap (λ b. value_count taken + cond {A = ℕ} b 1 0) one in
+    record {
+      asked = h.asked;
+      offered_is = h.offered_is;
+      follows = subst (λ v. Follows script h.asked v left) (sym verdicts) h.follows;
+      loads_are = ap (accepted_loads h.asked) verdicts ∙ h.loads_are;
+      values_are = omega (arith, h.values_are);
+    }
+
+-- its script is through, it has offered Done, and it was told as many values as loads were accepted
+pub under_way_ended : (script : List Ask) (loads values : ℕ) (offered : List Ask) (taken : List Told) → loads ≡ values
+    → IsUnderWay script [] (Done ∷ []) loads values offered taken → Converses script offered taken
+under_way_ended script loads values offered taken same h =
+    record {
+      asked = h.asked;
+      offered_is = h.offered_is;
+      follows = h.follows;
+      answered = h.values_are ∙ sym same ∙ sym h.loads_are;
+    }

@@ -1,0 +1,204 @@
+-- The tags that flat memory owes a value, counted along a run.
+use Rattle.std.proofs.Common.{◌≡◌, ℕ, ◌+◌, ◌/◌, ◌≤◌, Bool, true, false, cond, ◌&&◌, ◌==◌, nat_lt, List, [], ◌∷◌, length, Option, Some, None, is_some, is_none, refl, sym, ap, ◌∙◌, arith, eq-eqb}
+use Rattle.flat_model.specs.declared.Word.{Word}
+use Rattle.flat_model.specs.declared.Event.{Event}
+use Rattle.flat_model.specs.declared.Event.TheVariants.{Load, Store, Prefetch, Evict, Drain, Serve, Arrive, Process, Take}
+use Rattle.flat_model.specs.declared.Answer.{Answer}
+use Rattle.flat_model.specs.declared.Answer.TheVariants.{Accepted, Moved, Value, Nothing, Refused}
+use Rattle.flat_model.specs.Flat.{Flat, may_answer, flat_after, flat_run, is_owed, word_at}
+use Rattle.station_journal.specs.declared.journal.Entry.{Entry}
+use Rattle.station_journal.specs.declared.journal.Entry.TheVariants.{Step, Ended}
+use Rattle.station_journal.specs.Journal.{events_of, answers_of}
+use Rattle.station_journal.proofs.FlatFrom.{some_same}
+use Rattle.station_journal.proofs.Stepping.{eqb_true}
+use Rattle.station_journal.proofs.Paying.{first_of_run}
+
+-- ---- loads accepted and values taken, by their tags
+
+abbrev pub one_if : Bool → ℕ
+one_if true = 1
+one_if false = 0
+
+abbrev pub load_by : (ℕ → Bool) → Event → Answer → ℕ
+load_by q (Load tag at) Accepted = one_if (q tag)
+load_by q event answer = 0
+
+abbrev pub value_by : (ℕ → Bool) → Event → Answer → ℕ
+value_by q (Take place) (Value tag word) = one_if (q tag)
+value_by q event answer = 0
+
+abbrev pub loads_in : (ℕ → Bool) → List Entry → ℕ
+loads_in q [] = 0
+loads_in q (Ended port ∷ rest) = loads_in q rest
+loads_in q (Step source event answer ∷ rest) = load_by q event answer + loads_in q rest
+
+abbrev pub values_in : (ℕ → Bool) → List Entry → ℕ
+values_in q [] = 0
+values_in q (Ended port ∷ rest) = values_in q rest
+values_in q (Step source event answer ∷ rest) = value_by q event answer + values_in q rest
+
+-- ---- lists of tags
+
+abbrev pub tally : (ℕ → Bool) → List ℕ → ℕ
+tally q [] = 0
+tally q (x ∷ xs) = one_if (q x) + tally q xs
+
+without : ℕ → List ℕ → List ℕ
+without tag [] = []
+without tag (x ∷ xs) = cond (x == tag) xs (x ∷ without tag xs)
+
+tally-without : (q : ℕ → Bool) (tag : ℕ) (xs : List ℕ) → 1 ≤ tally (λ x. x == tag) xs
+    → tally q (without tag xs) + one_if (q tag) ≡ tally q xs
+unfolding without
+tally-without q tag [] some = absurd (omega arith)
+tally-without q tag (x ∷ xs) some = go (x == tag) refl some (λ h. tally-without q tag xs h)
+  where
+    go : (t : Bool) → (x == tag) ≡ t → 1 ≤ one_if t + tally (λ y. y == tag) xs
+        → (1 ≤ tally (λ y. y == tag) xs → tally q (without tag xs) + one_if (q tag) ≡ tally q xs)
+        → tally q (cond t xs (x ∷ without tag xs)) + one_if (q tag) ≡ one_if (q x) + tally q xs
+    go true e some rest = let same = ap (λ y. one_if (q y)) (eqb_true x tag e) in omega arith
+    go false e some rest = let r = rest (omega arith) in omega arith
+
+-- these are the tags that are owed, each once
+pub record AreOpen (f : Flat) (tags : List ℕ) : Type 0 where
+  pub once : (tag : ℕ) → tally (λ x. x == tag) tags ≡ one_if (is_some (f.due tag))
+
+-- the tags that are owed after some steps, with as many more as loads were accepted, less those of
+-- which a value was taken
+pub record Balance (tags : List ℕ) (loads values : (ℕ → Bool) → ℕ) (g : Flat) : Type 0 where
+  pub left : List ℕ
+  pub are_open : AreOpen g left
+  pub balance : (q : ℕ → Bool) → tally q tags + loads q ≡ tally q left + values q
+
+-- ---- one step
+
+and_left : (a b : Bool) → (a && b) ≡ true → a ≡ true
+and_left true b e = refl
+and_left false b e = cc
+
+and_right : (a b : Bool) → (a && b) ≡ true → b ≡ true
+and_right true b e = e
+and_right false b e = cc
+
+-- a tag that is owed nothing is owed a value
+opened : (f : Flat) (tags : List ℕ) (tag at : ℕ) → AreOpen f tags → is_none (f.due tag) ≡ true
+    → AreOpen (flat_after f (Load tag at) Accepted) (tag ∷ tags)
+opened f tags tag at h none = record { once = once }
+  where
+    unowed : (o : Option Word) → is_none o ≡ true → one_if (is_some o) ≡ 0
+    unowed None e = refl
+    unowed (Some w) e = cc
+
+    go : (t : ℕ) (a b : Bool) → (tag == t) ≡ a → (t == tag) ≡ b
+        → one_if a + tally (λ x. x == t) tags ≡ one_if (is_some (cond b (Some (word_at f.mem at)) (f.due t)))
+    go t true true e g =
+        let before = h.once t in
+        let same : f.due t ≡ f.due tag = ap f.due (eqb_true t tag g) in
+        let none' = ap (λ o. one_if (is_some o)) same ∙ unowed (f.due tag) none in
+        omega arith
+    go t false false e g = let before = h.once t in omega arith
+    go t true false e g = absurd (let back = eq-eqb t tag (sym (eqb_true tag t e)) in let clash : true ≡ false = sym back ∙ g in cc)
+    go t false true e g = absurd (let back = eq-eqb tag t (sym (eqb_true t tag g)) in let clash : true ≡ false = sym back ∙ e in cc)
+
+    once : (t : ℕ) → tally (λ x. x == t) (tag ∷ tags) ≡ one_if (is_some ((flat_after f (Load tag at) Accepted).due t))
+    once t = go t (tag == t) (t == tag) refl refl
+
+-- a tag whose value is taken is owed nothing more
+closed : (f : Flat) (tags : List ℕ) (tag place : ℕ) (word : Word) → AreOpen f tags → one_if (is_some (f.due tag)) ≡ 1
+    → AreOpen (flat_after f (Take place) (Value tag word)) (without tag tags)
+closed f tags tag place word h one = record { once = once }
+  where
+    some : 1 ≤ tally (λ x. x == tag) tags
+    some = let here = h.once tag in omega arith
+
+    go : (t : ℕ) (a b : Bool) → (tag == t) ≡ a → (t == tag) ≡ b
+        → tally (λ x. x == t) (without tag tags) + one_if a ≡ tally (λ x. x == t) tags
+        → tally (λ x. x == t) (without tag tags) ≡ one_if (is_some (cond b None (f.due t)))
+    go t true true e g less =
+        let before = h.once t in
+        let same = ap (λ k. one_if (is_some (f.due k))) (eqb_true t tag g) in
+        omega arith
+    go t false false e g less = let before = h.once t in omega arith
+    go t true false e g less = absurd (let back = eq-eqb t tag (sym (eqb_true tag t e)) in let clash : true ≡ false = sym back ∙ g in cc)
+    go t false true e g less = absurd (let back = eq-eqb tag t (sym (eqb_true t tag g)) in let clash : true ≡ false = sym back ∙ e in cc)
+
+    once : (t : ℕ) → tally (λ x. x == t) (without tag tags) ≡ one_if (is_some ((flat_after f (Take place) (Value tag word)).due t))
+    once t = go t (tag == t) (t == tag) refl refl (tally-without (λ x. x == t) tag tags some)
+
+owed_one : (o : Option Word) (w : Word) → is_owed o w ≡ true → one_if (is_some o) ≡ 1
+owed_one None w e = cc
+owed_one (Some v) w e = refl
+
+same_open : (f g : Flat) (tags : List ℕ) → AreOpen f tags → f.due ≡ g.due → Balance tags (λ q. 0) (λ q. 0) g
+same_open f g tags h e =
+    record {
+      left = tags;
+      are_open = record { once = λ t. h.once t ∙ ap (λ (d : ℕ → Option Word). one_if (is_some (d t))) e };
+      balance = λ q. refl;
+    }
+
+step_balance : (f : Flat) (event : Event) (answer : Answer) (tags : List ℕ) → AreOpen f tags → may_answer f event answer ≡ true
+    → Balance tags (λ q. load_by q event answer) (λ q. value_by q event answer) (flat_after f event answer)
+step_balance f (Load t at) Accepted tags h may =
+    record {
+      left = t ∷ tags;
+      are_open = opened f tags t at h (and_right (nat_lt at (length f.mem)) (is_none (f.due t)) may);
+      balance = λ q. omega arith;
+    }
+step_balance f (Load t at) Moved tags h may = cc
+step_balance f (Load t at) (Value v w) tags h may = cc
+step_balance f (Load t at) Nothing tags h may = cc
+step_balance f (Load t at) (Refused cause) tags h may = same_open f f tags h refl
+step_balance f (Store at word lanes) Accepted tags h may =
+    same_open f (flat_after f (Store at word lanes) Accepted) tags h refl
+step_balance f (Store at word lanes) answer tags h may = same_open f f tags h refl
+step_balance f (Prefetch at) answer tags h may = same_open f f tags h refl
+step_balance f (Evict block) answer tags h may = same_open f f tags h refl
+step_balance f Drain answer tags h may = same_open f f tags h refl
+step_balance f (Serve bank) answer tags h may = same_open f f tags h refl
+step_balance f (Arrive bank place) answer tags h may = same_open f f tags h refl
+step_balance f (Process place) answer tags h may = same_open f f tags h refl
+step_balance f (Take place) (Value t w) tags h may =
+    record {
+      left = without t tags;
+      are_open = closed f tags t place w h (owed_one (f.due t) w may);
+      balance = λ q.
+          let here = h.once t in
+          let one = owed_one (f.due t) w may in
+          let less = tally-without q t tags (omega arith) in
+          omega arith;
+    }
+step_balance f (Take place) answer tags h may = same_open f f tags h refl
+
+-- ---- a run
+
+pub run_balance : (entries : List Entry) (f g : Flat) (tags : List ℕ) → AreOpen f tags
+    → flat_run f (events_of entries) (answers_of entries) ≡ Some g → Balance tags (λ q. loads_in q entries) (λ q. values_in q entries) g
+run_balance [] f g tags h run = same_open f g tags h (ap (λ (x : Flat). x.due) (some_same f g run))
+run_balance (Ended port ∷ rest) f g tags h run =
+    let more = run_balance rest f g tags h run in
+    record { left = more.left; are_open = more.are_open; balance = more.balance }
+run_balance (Step source event answer ∷ rest) f g tags h run =
+    let first = first_of_run f g event answer rest run in
+    let one = step_balance f event answer tags h first.may in
+    let more = run_balance rest (flat_after f event answer) g one.left one.are_open first.runs in
+    record {
+      left = more.left;
+      are_open = more.are_open;
+      balance = λ q. let a = one.balance q in let b = more.balance q in omega arith;
+    }
+
+-- ---- nothing open
+
+pub none_open : (f : Flat) → ((tag : ℕ) → f.due tag ≡ None) → AreOpen f []
+none_open f none = record { once = λ t. sym (ap (λ o. one_if (is_some o)) (none t)) }
+
+-- where no tag of a list passes any of these tests, and each passes one, there is none
+pub none_left : (f : Flat) (tags : List ℕ) → AreOpen f tags → ((p : ℕ) → tally (λ t. t / 256 == p) tags ≡ 0) → (tag : ℕ) → f.due tag ≡ None
+none_left f [] h none tag = unowed (f.due tag) (sym (h.once tag))
+  where
+    unowed : (o : Option Word) → one_if (is_some o) ≡ 0 → o ≡ None
+    unowed None e = refl
+    unowed (Some w) e = cc
+none_left f (x ∷ xs) h none tag =
+    absurd (let some = none (x / 256) in let one = ap one_if (eq-eqb (x / 256) (x / 256) refl) in omega arith)

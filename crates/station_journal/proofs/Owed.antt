@@ -1,0 +1,45 @@
+-- What a unit owes, and its tags.
+use Rattle.std.proofs.Common.{◌≡◌, ℕ, true, false, ◌||◌, ◌==◌, not, List, [], ◌∷◌, length, Option, Some, None, option_map, is_none, refl, sym, ap, ◌∙◌, eq-eqb}
+use Rattle.std.specs.List.{list_any}
+use Rattle.std.proofs.lemmas.List.{nil_from_length}
+use Rattle.flat_model.specs.declared.Word.{Word}
+use Rattle.memory_banks.specs.Banks.{all_pending}
+use Rattle.cache_unit.specs.State.{Cache, tags}
+use Rattle.cache_unit.specs.Forms.{Form, owed, filled_by}
+use Rattle.machine_core.specs.Machine.{Machine}
+use Rattle.machine_core.proofs.Requests.{flat_in_use}
+
+pub unmapped : {X Y : Type 0} (f : X → Y) (o : Option X) → option_map f o ≡ None → o ≡ None
+unmapped f None e = refl
+unmapped f (Some x) e = cc
+
+-- a machine with this unit
+with_unit : Cache → Machine
+with_unit c = record { cache = c; banks = [] }
+
+-- a unit without tags owes nothing
+pub none_owed : (c : Cache) → length (tags c) ≡ 0 → (tag : ℕ) → owed c tag ≡ None
+unfolding with_unit
+none_owed c few tag =
+    let none : list_any (λ t. t == tag) (tags c) ≡ false = ap (list_any (λ t. t == tag)) (nil_from_length (tags c) few) in
+    go (filled_by (all_pending (with_unit c).banks)) (owed c tag) (flat_in_use (with_unit c) tag ∙ none)
+  where
+    go : (f : Form → Word) (o : Option Form) → not (is_none (option_map f o)) ≡ false → o ≡ None
+    go f None e = refl
+    go f (Some x) e = cc
+
+-- and one that owes nothing has none
+pub no_tags : (c : Cache) → ((tag : ℕ) → owed c tag ≡ None) → length (tags c) ≡ 0
+unfolding with_unit
+no_tags c none = go (tags c) used
+  where
+    used : (tag : ℕ) → list_any (λ t. t == tag) (tags c) ≡ false
+    used tag =
+        sym (flat_in_use (with_unit c) tag)
+        ∙ ap (λ (o : Option Form). not (is_none (option_map (filled_by (all_pending (with_unit c).banks)) o))) (none tag)
+
+    go : (ts : List ℕ) → ((tag : ℕ) → list_any (λ t. t == tag) ts ≡ false) → length ts ≡ 0
+    go [] h = refl
+    go (t ∷ ts) h =
+        absurd (let one : (t == t) ≡ true = eq-eqb t t refl in let all = ap (λ b. b || list_any (λ x. x == t) ts) one
+        in let clash : true ≡ false = sym all ∙ h t in cc)

@@ -1,0 +1,139 @@
+-- Rooms decide nothing but cause 10.
+use Rattle.std.proofs.Common.{◌≡◌, ℕ, zero, suc, ◌+◌, ◌-◌, ◌*◌, ◌/◌, ◌%◌, ◌<◌, ◌≤◌, Bool, true, false, cond, not, ◌==◌, nat_lt, nat_le, List, [], ◌∷◌, length, refl, ap, arith, le-ltb, lt-ltb, mod-lt}
+use Rattle.std.specs.List.{filter, list_all, range_with_len}
+use Rattle.flat_model.specs.declared.Word.{Word}
+use Rattle.flat_model.specs.declared.Lanes.{Lanes}
+use Rattle.flat_model.specs.declared.Cause.TheVariants.{OutOfRange, NoLanes, TagInUse, RepliesFull, TargetsFull, NoRegister, SetPending, QueueFull, BankFull}
+use Rattle.flat_model.specs.declared.Answer.TheVariants.{Accepted, Moved, Refused}
+use Rattle.flat_model.specs.Words.{has_any}
+use Rattle.memory_banks.specs.declared.Command.TheVariants.{Write}
+use Rattle.memory_banks.specs.Banks.{Bank, bank_at, room_in}
+use Rattle.write_queue.specs.declared.Queued.{Queued}
+use Rattle.cache_unit.specs.State.{Sizes, Cache, is_present, is_pending, block_of, place_in, address, tags, cell_of}
+use Rattle.cache_unit.specs.Causes.{first_cause, is_in_use, found, targets_full, ways_of, choose, lacks_places, addresses, lacks_room, load_cause, store_cause, prefetch_cause}
+use Rattle.cache_unit.specs.Steps.{load_step, store_step, prefetch_step, drain_step, drain_first, unless, loaded, written, fetched, fetches}
+use Rattle.machine_core.proofs.Resting.{spread_evenly, any_false}
+use Rattle.station_journal.specs.Journal.{ample}
+
+-- ---- rooms in which no block is too large
+
+abbrev pub Suffices : Sizes → (ℕ → ℕ) → Type 0
+Suffices z room = (block : ℕ) → lacks_room z room block ≡ false
+
+-- a list has at least as many elements as pass a test
+filter_few : (p : ℕ → Bool) (xs : List ℕ) → length (filter p xs) ≤ length xs
+filter_few p [] = omega arith
+filter_few p (x ∷ xs) = go (p x) (filter_few p xs)
+  where
+    go : (t : Bool) → length (filter p xs) ≤ length xs → length (cond t (x ∷ filter p xs) (filter p xs)) ≤ suc (length xs)
+    go true h = omega arith
+    go false h = omega arith
+
+range_length : (a n : ℕ) → length (range_with_len a n) ≡ n
+range_length a zero = refl
+range_length a (suc n) = let r = range_length (a + 1) n in omega arith
+
+pub ample-suffices : (z : Sizes) → Suffices z (ample z)
+ample-suffices z block = any_false _ 0 z.banks each
+  where
+    each : (b : ℕ) → 0 ≤ b → b < 0 + z.banks → nat_lt z.block_words (length (filter (λ at. at % z.banks == b) (addresses z block))) ≡ false
+    each b lo hi =
+        let few = filter_few (λ at. at % z.banks == b) (addresses z block) in
+        let all = range_length (address z block 0) z.block_words in
+        le-ltb z.block_words (length (filter (λ at. at % z.banks == b) (addresses z block))) (omega arith)
+
+-- the rooms of banks in which nothing waits
+pub idle-suffices : (z : Sizes) (banks : List Bank) → z.block_words ≤ z.bank_queue * z.banks → length banks ≡ z.banks
+    → ((b : ℕ) → b < z.banks → (bank_at banks b).queue ≡ []) → Suffices z (room_in z.bank_queue banks)
+idle-suffices z banks takes n idle block = any_false _ 0 z.banks each
+  where
+    each : (b : ℕ) → 0 ≤ b → b < 0 + z.banks
+        → nat_lt (room_in z.bank_queue banks b) (length (filter (λ at. at % z.banks == b) (addresses z block))) ≡ false
+    each b lo hi =
+        let there : b < length banks = omega arith in
+        let none = ap length (idle b (omega arith)) in
+        let room : room_in z.bank_queue banks b ≡ z.bank_queue - length (bank_at banks b).queue =
+        ap (λ t. cond t (z.bank_queue - length (bank_at banks b).queue) 0) (lt-ltb b (length banks) there) in
+        let few = spread_evenly z.banks b (address z block 0) z.block_words z.bank_queue (omega arith) takes in
+        le-ltb (room_in z.bank_queue banks b) (length (filter (λ at. at % z.banks == b) (addresses z block))) (omega arith)
+
+-- ---- causes and steps in such rooms are the same
+
+module _ (z : Sizes) (r s : ℕ → ℕ) (c : Cache) where
+  -- the rooms are as good as one another for a block
+  abbrev Alike : ℕ → Type 0
+  Alike block = lacks_room z r block ≡ lacks_room z s block
+
+  pub load_cause-alike : (tag at : ℕ) → Alike (block_of z at) → load_cause z r c tag at ≡ load_cause z s c tag at
+  unfolding load_cause
+  load_cause-alike tag at e =
+      ap (λ t. first_cause
+      ((not (nat_lt at z.words), OutOfRange) ∷ (is_in_use c tag, TagInUse) ∷ (nat_le z.replies (length (tags c)), RepliesFull) ∷ (cond
+      (is_present c (block_of z at))
+      ((targets_full c (place_in z at) (found c (block_of z at) (place_in z at)), TargetsFull) ∷ [])
+      ((length (filter (λ r. r.valid) c.registers) == z.regs, NoRegister) ∷ (
+        list_all (is_pending c) (ways_of z (block_of z at)),
+        SetPending,
+      ) ∷ (lacks_places z c (choose z c (block_of z at)), QueueFull) ∷ (t, BankFull) ∷ [])))) e
+
+  pub store_cause-alike : (at : ℕ) (lanes : Lanes) → Alike (block_of z at) → store_cause z r c at lanes ≡ store_cause z s c at lanes
+  unfolding store_cause
+  store_cause-alike at lanes e =
+      ap (λ t. first_cause
+      ((not (nat_lt at z.words), OutOfRange) ∷ (not (has_any lanes), NoLanes) ∷ (cond (is_present c (block_of z at)) []
+      ((length (filter (λ r. r.valid) c.registers) == z.regs, NoRegister) ∷ (
+        list_all (is_pending c) (ways_of z (block_of z at)),
+        SetPending,
+      ) ∷ (lacks_places z c (choose z c (block_of z at)), QueueFull) ∷ (t, BankFull) ∷ [])))) e
+
+  pub prefetch_cause-alike : (at : ℕ) → Alike (block_of z at) → prefetch_cause z r c at ≡ prefetch_cause z s c at
+  unfolding prefetch_cause
+  prefetch_cause-alike at e =
+      ap (λ t. first_cause
+      ((not (nat_lt at z.words), OutOfRange) ∷ (cond (is_present c (block_of z at)) []
+      ((length (filter (λ r. r.valid) c.registers) == z.regs, NoRegister) ∷ (
+        list_all (is_pending c) (ways_of z (block_of z at)),
+        SetPending,
+      ) ∷ (lacks_places z c (choose z c (block_of z at)), QueueFull) ∷ (t, BankFull) ∷ [])))) e
+
+  pub load_step-alike : (tag at : ℕ) → Alike (block_of z at) → load_step z r c tag at ≡ load_step z s c tag at
+  unfolding load_step
+  load_step-alike tag at e =
+      let d = fetched z c (block_of z at) in
+      ap (λ o. unless o c (record {
+        answer = Accepted;
+        cache = loaded d tag (place_in z at) (cell_of d (block_of z at) (place_in z at)).word (found d (block_of z at) (place_in z at));
+        sent = fetches z c (block_of z at);
+      })) (load_cause-alike tag at e)
+
+  pub store_step-alike : (at : ℕ) (word : Word) (lanes : Lanes) → Alike (block_of z at)
+      → store_step z r c at word lanes ≡ store_step z s c at word lanes
+  unfolding store_step
+  store_step-alike at word lanes e = ap (λ o. unless o c (record {
+    answer = Accepted;
+    cache = written (fetched z c (block_of z at)) (block_of z at) (place_in z at) word lanes;
+    sent = fetches z c (block_of z at);
+  })) (store_cause-alike at lanes e)
+
+  pub prefetch_step-alike : (at : ℕ) → Alike (block_of z at) → prefetch_step z r c at ≡ prefetch_step z s c at
+  unfolding prefetch_step
+  prefetch_step-alike at e = ap (λ o. unless o c (record {
+    answer = Accepted;
+    cache = fetched z c (block_of z at);
+    sent = fetches z c (block_of z at);
+  })) (prefetch_cause-alike at e)
+
+  -- a drain needs one place at a bank that is there
+  pub drain_step-alike : 0 < z.banks → ((b : ℕ) → b < z.banks → nat_lt 0 (r b) ≡ nat_lt 0 (s b)) → drain_step z r c ≡ drain_step z s c
+  unfolding drain_step
+  drain_step-alike some e = go c.queue
+    where
+      go : (queue : List Queued) → drain_first z r c queue ≡ drain_first z s c queue
+      go [] = refl
+      go (q ∷ rest) =
+          ap (λ t. cond t (record {
+            answer = Moved;
+            cache = record c { queue = rest };
+            sent = (q.at % z.banks, Write (q.at / z.banks) q.word q.lanes) ∷ [];
+          })
+          (record { answer = Refused BankFull; cache = c; sent = [] })) (e (q.at % z.banks) (mod-lt q.at some))

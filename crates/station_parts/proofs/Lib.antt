@@ -1,0 +1,13 @@
+pub mod Rows
+pub mod Moves
+pub mod Making
+pub mod Looking
+pub mod Rowing
+pub mod Porting
+pub mod Turning
+pub mod UsedEnds
+pub mod SideMakes
+pub mod WordFaults
+pub mod AskSteps
+pub mod ReplySteps
+pub mod Auditing

@@ -1,0 +1,13 @@
+pub mod Rings
+pub mod Rows
+pub mod Ports
+pub mod Asking
+pub mod Promises
+pub mod Ids
+pub mod Station
+pub mod Words
+pub mod Serving
+pub mod SideState
+pub mod SideSteps
+pub mod New
+pub mod Audited

@@ -1,0 +1,90 @@
+//! What the cache side does for an ask.
+ghost use Rattle.std.specs.Prelude.{◌≡◌, ◌≢◌, ◌<◌, ◌+◌, ◌*◌, ◌%◌, ℕ, ◌∷◌, [], true};
+ghost use Rattle.station_parts.specs.Rows.{free_at};
+ghost use Rattle.station_journal.specs.Parts.{verdict, is_event_of, IsVerdict};
+ghost use Rattle.station_journal.specs.declared.asks.Told.TheVariants.{Value};
+ghost use Rattle.station_parts.specs.Asking.{event_for, asked_step, MakesStep};
+ghost use Rattle.station_parts.specs.SideSteps.{EventForms};
+
+use crate::lines::Row;
+use cache_unit::{CacheUnit, Request};
+use flat_model::{Answer, Event, Word};
+use station_journal::{Ask, Source, Told};
+
+// The tag under which the core knows a port's load.
+fn core_tag(port: u32, tag: u8) -> u16
+    requires { port < 16 }
+    ensures { result ≡ port * 256 + tag }
+{
+    port as u16 * 256 + u16::from(tag)
+}
+
+/// The event that an ask is. Done is none.
+pub(crate) fn event_for(port: u32, ask: Ask) -> Event
+    requires few_ports { port < 16 }
+    requires not_done { ask ≢ Ask.Done }
+    ensures event { result ≡ event_for port ask }
+    ensures sourced { (ports : ℕ) → port < ports → is_event_of ports (Source.Ask port) result ≡ true }
+{
+    match ask {
+        Ask::Load { tag, at } => Event::Load {
+            tag: core_tag(port, tag),
+            at,
+        },
+        Ask::Store { at, word, lanes } => Event::Store { at, word, lanes },
+        Ask::Prefetch { at } => Event::Prefetch { at },
+        Ask::Evict { block } => Event::Evict { block },
+        Ask::Done => unreachable!(),
+    }
+}
+
+/// Asks the unit, which sends over the row what it reads.
+pub(crate) fn answer_ask<
+    const WAYS: usize,
+    const WORDS: usize,
+    const REGS: usize,
+    const DEPTH: usize,
+>(unit: &mut CacheUnit<WAYS, WORDS, REGS, DEPTH>, row: &mut Row, port: u32, ask: Ask) -> Answer
+    requires few_ports { port < 16 }
+    requires not_done { ask ≢ Ask.Done }
+    ensures steps { MakesStep
+        (asked_step unit.old.sizes (free_at row.old.lines.items) port unit.old.cache ask)
+        unit.old unit.new row.old.lines.items row.new.lines.items result }
+    ensures forms { EventForms unit.old.sizes unit.old.cache (event_for port ask) [] result
+        unit.new.cache }
+{
+    match ask {
+        Ask::Load { tag, at } => unit.request(
+            Request::Load {
+                tag: core_tag(port, tag),
+                at,
+            },
+            row,
+        ),
+        Ask::Store { at, word, lanes } => unit.request(Request::Store { at, word, lanes }, row),
+        Ask::Prefetch { at } => unit.request(Request::Prefetch { at }, row),
+        Ask::Evict { block } => unit.evict(block),
+        Ask::Done => unreachable!(),
+    }
+}
+
+/// What a port is told of the answer to its ask.
+pub(crate) fn verdict_of(answer: Answer) -> Told
+    requires { IsVerdict answer }
+    ensures { verdict answer ≡ result ∷ [] }
+{
+    match answer {
+        Answer::Refused(cause) => Told::Refused(cause),
+        _ => Told::Accepted,
+    }
+}
+
+/// What a port is told of a value.
+pub(crate) fn value_told(tag: u16, word: Word) -> Told
+    ensures { result ≡ Value (tag % 256) word }
+{
+    Told::Value {
+        tag: (tag % 256) as u8,
+        word,
+    }
+}

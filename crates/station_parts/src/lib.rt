@@ -1,0 +1,29 @@
+//! The parts of a station: ports, the cache side and bank sides, joined by rings.
+//!
+//! The cache side keeps a journal of what it did. A station whose parts are all in hand may be
+//! audited, and after that its journal is known to be a run of flat memory.
+#![tactic(auto)]
+
+mod asking;
+mod bank;
+mod ends;
+mod inspect;
+mod lines;
+mod make;
+mod parts;
+mod port;
+mod raw;
+mod row;
+mod side;
+mod views;
+
+pub use bank::BankSide;
+pub use inspect::audit;
+pub use make::{MAX_ENTRIES, MAX_PORTS, station};
+pub use parts::{Audit, CacheSide, Ring, Station, Stepped};
+pub use port::{ASK_PLACES, Port, TELLING_PLACES};
+pub use raw::RawBank;
+pub use station_journal::{Ask, Entry, SideFault, Source, Told};
+
+#[cfg(test)]
+mod tests;

@@ -1,0 +1,202 @@
+//! How a station is made.
+ghost use Rattle.std.specs.Prelude.{◌≡◌, ◌<◌, ◌≤◌, ◌+◌, length, IfOk, IfErr, OnOk, None};
+ghost use Rattle.memory_banks.specs.Memory.{fault_of};
+ghost use Rattle.flat_model.specs.declared.MakeFault.TheVariants.{OutOfMemory};
+ghost use Rattle.cache_unit.specs.Limits as limits;
+ghost use Rattle.cache_unit.specs.Shown.{sizes_of};
+ghost use Rattle.cache_unit.specs.State.{opening_cache};
+ghost use Rattle.station_parts.specs.New.{bad_field, IsNewStation, AreNewPorts, AreNewBanks};
+
+use crate::bank::BankSide;
+use crate::lines::Row;
+use crate::parts::{CacheSide, Station};
+use crate::port::{ASK_PLACES, Port, TELLING_PLACES};
+use crate::row::Line;
+use cache_unit::CacheUnit;
+use flat_model::{MakeFault, Shape, ShapeField, Word};
+use memory_banks::BankAnswer;
+use rtrb::{Consumer, Producer, RingBuffer};
+use station_journal::{Ask, Told};
+use std::alloc::{AllocError, Global};
+
+/// How many ports a station has at most.
+pub const MAX_PORTS: u32 = 16;
+
+/// How many entries a journal takes at most.
+pub const MAX_ENTRIES: u32 = 1_048_576;
+
+/// A station of this shape, over a memory of zeros: so many ports (1 to 16), a bank side for each
+/// bank, and a cache side whose journal takes so many entries (1 to 1,048,576).
+///
+/// `BadShape` names the first number that is out of its range, before any memory is asked for: the
+/// numbers of the shape in their order, then `Ports`, then `Journal`. `OutOfMemory` says that there
+/// was too little memory. After either nothing is made.
+pub fn station<const WAYS: usize, const WORDS: usize, const REGS: usize, const DEPTH: usize>(
+    alloc: Global,
+    shape: Shape,
+    ports: u32,
+    journal: u32,
+) -> Result<Station<WAYS, WORDS, REGS, DEPTH>, MakeFault>
+    ensures ok { IfOk result
+        (λ s. IsNewStation (sizes_of WAYS WORDS REGS DEPTH shape) ports journal
+        s.cache s.ports.items s.banks.items) }
+    ensures in_range { OnOk result
+        (bad_field (sizes_of WAYS WORDS REGS DEPTH shape) ports journal ≡ None) }
+    ensures fault { IfErr result
+        (λ e. e ≡ fault_of (bad_field (sizes_of WAYS WORDS REGS DEPTH shape) ports journal)) }
+{
+    if let Some(field) = bad_field::<WAYS, WORDS, REGS, DEPTH>(&shape, ports, journal) {
+        return Err(MakeFault::BadShape(field));
+    }
+    let unit = make_unit(alloc, &shape)?;
+    let ports = make_ports(alloc, ports)?;
+    let banks = make_banks(alloc, &shape)?;
+    let entries = Vec::with_capacity(alloc, journal as usize)?;
+    Ok(Station {
+        cache: CacheSide {
+            shape,
+            unit,
+            asks: ports.asks,
+            tellings: ports.tellings,
+            row: Row { lines: banks.lines },
+            answers: banks.answers,
+            journal: entries,
+            limit: journal,
+            fault: None,
+        },
+        ports: ports.ports,
+        banks: banks.banks,
+    })
+}
+
+// The first number that is out of its range.
+fn bad_field<const WAYS: usize, const WORDS: usize, const REGS: usize, const DEPTH: usize>(
+    shape: &Shape,
+    ports: u32,
+    journal: u32,
+) -> Option<ShapeField>
+    ensures { result ≡ bad_field (sizes_of WAYS WORDS REGS DEPTH shape.now) ports journal }
+{
+    if let Some(field) = cache_unit::bad_field::<WAYS, WORDS, REGS, DEPTH>(shape) {
+        return Some(field);
+    }
+    if ports < 1 || ports > MAX_PORTS {
+        Some(ShapeField::Ports)
+    } else if journal < 1 || journal > MAX_ENTRIES {
+        Some(ShapeField::Journal)
+    } else {
+        None
+    }
+}
+
+// The unit of a shape whose numbers are in their ranges.
+fn make_unit<const WAYS: usize, const WORDS: usize, const REGS: usize, const DEPTH: usize>(
+    alloc: Global,
+    shape: &Shape,
+) -> Result<CacheUnit<WAYS, WORDS, REGS, DEPTH>, MakeFault>
+    requires { limits.bad_field (sizes_of WAYS WORDS REGS DEPTH shape.now) ≡ None }
+    ensures ok { IfOk result
+        (λ u. u ≡ record {
+          sizes = sizes_of WAYS WORDS REGS DEPTH shape.now;
+          cache = opening_cache (sizes_of WAYS WORDS REGS DEPTH shape.now);
+        }) }
+    ensures fault { IfErr result (λ e. e ≡ OutOfMemory) }
+{
+    CacheUnit::new(alloc, shape)
+}
+
+// Ports, and the cache side's ends of their rings.
+#[derive(Drop)]
+struct PortEnds {
+    ports: Vec<Port>,
+    asks: Vec<Consumer<Ask>>,
+    tellings: Vec<Producer<Told>>,
+}
+
+fn make_ports(alloc: Global, count: u32) -> Result<PortEnds, AllocError>
+    ensures new { IfOk result (λ e. AreNewPorts e.ports.items e.asks.items e.tellings.items) }
+    ensures number { IfOk result (λ e. length e.ports.items ≡ count) }
+{
+    let mut ends = PortEnds {
+        ports: Vec::with_capacity(alloc, count as usize)?,
+        asks: Vec::with_capacity(alloc, count as usize)?,
+        tellings: Vec::with_capacity(alloc, count as usize)?,
+    };
+    for _ in 0..count {
+        add_port(alloc, &mut ends)?;
+    }
+    Ok(ends)
+}
+
+// Makes the two rings of one more port.
+fn add_port(alloc: Global, ends: &mut PortEnds) -> Result<(), AllocError>
+    requires { AreNewPorts ends.old.ports.items ends.old.asks.items ends.old.tellings.items }
+    ensures new { OnOk result
+        (AreNewPorts ends.new.ports.items ends.new.asks.items ends.new.tellings.items) }
+    ensures number { OnOk result
+        (length ends.new.ports.items ≡ length ends.old.ports.items + 1) }
+{
+    let (asks, from_port) = RingBuffer::new(alloc, ASK_PLACES)?;
+    let (to_port, tellings) = RingBuffer::new(alloc, TELLING_PLACES)?;
+    ends.asks.push(from_port)?;
+    ends.tellings.push(to_port)?;
+    ends.ports.push(Port {
+        asks,
+        tellings,
+        ended: false,
+    })?;
+    Ok(())
+}
+
+// Banks, and the cache side's ends of their rings.
+#[derive(Drop)]
+struct BankEnds {
+    banks: Vec<BankSide>,
+    lines: Vec<Line>,
+    answers: Vec<Consumer<BankAnswer>>,
+}
+
+fn make_banks(alloc: Global, shape: &Shape) -> Result<BankEnds, AllocError>
+    requires words { shape.now.words ≤ 1048576 }
+    requires banks { shape.now.banks ≤ 16 }
+    requires queue { shape.now.bank_queue ≤ 64 }
+    ensures new { IfOk result
+        (λ e. AreNewBanks shape.now e.banks.items e.lines.items e.answers.items) }
+    ensures number { IfOk result (λ e. length e.banks.items ≡ shape.now.banks) }
+{
+    let mut ends = BankEnds {
+        banks: Vec::with_capacity(alloc, shape.banks as usize)?,
+        lines: Vec::with_capacity(alloc, shape.banks as usize)?,
+        answers: Vec::with_capacity(alloc, shape.banks as usize)?,
+    };
+    for bank in 0..shape.banks {
+        add_bank(alloc, &mut ends, shape, bank)?;
+    }
+    Ok(ends)
+}
+
+// Makes the two rings of one more bank, and its words.
+fn add_bank(alloc: Global, ends: &mut BankEnds, shape: &Shape, bank: u32) -> Result<(), AllocError>
+    requires words { shape.now.words ≤ 1048576 }
+    requires there { bank < shape.now.banks }
+    requires few { shape.now.banks ≤ 16 }
+    requires queue { shape.now.bank_queue ≤ 64 }
+    requires new { AreNewBanks shape.now ends.old.banks.items ends.old.lines.items ends.old.answers.items }
+    requires next { length ends.old.banks.items ≡ bank }
+    ensures new { OnOk result
+        (AreNewBanks shape.now ends.new.banks.items ends.new.lines.items ends.new.answers.items) }
+    ensures number { OnOk result (length ends.new.banks.items ≡ bank + 1) }
+{
+    let count = (shape.words + (shape.banks - 1 - bank)) / shape.banks;
+    let words = vec![in alloc; Word::default(); count as usize]?;
+    let (to_bank, commands) = RingBuffer::new(alloc, shape.bank_queue as usize)?;
+    let (answers, from_bank) = RingBuffer::new(alloc, shape.bank_queue as usize)?;
+    ends.lines.push(Line::new(to_bank))?;
+    ends.answers.push(from_bank)?;
+    ends.banks.push(BankSide {
+        commands,
+        answers,
+        words,
+    })?;
+    Ok(())
+}

@@ -1,0 +1,100 @@
+//! The parts of a station.
+ghost use Rattle.std.specs.Prelude.{◌≡◌, ◌≤◌, ℕ, length, vec_capacity, None};
+ghost use Rattle.cache_unit.specs.Shown.{sizes_of};
+ghost use Rattle.cache_unit.specs.Sound.{InRange};
+ghost use Rattle.station_parts.specs.Rows.{sent_at, popped_at, taken_at};
+ghost use Rattle.station_journal.specs.Side.{SideTells};
+ghost use Rattle.station_parts.specs.Ports.{PortsTell};
+
+use crate::bank::BankSide;
+use crate::lines::Row;
+use crate::port::Port;
+use cache_unit::CacheUnit;
+use flat_model::Shape;
+use memory_banks::BankAnswer;
+use rtrb::{Consumer, Producer};
+use station_journal::{Ask, Entry, SideFault, Told};
+
+/// What a step did.
+#[derive(Clone, Copy, PartialEq, Eq, Debug)]
+pub enum Stepped {
+    /// One thing was done.
+    Did,
+    /// There is nothing to do, or no room for what it makes.
+    Idle,
+    /// The journal has no room for a step.
+    JournalFull,
+    /// The side got a word that it hadn't asked for, and does nothing more.
+    Faulted,
+}
+
+/// The side of a station on which the cache is.
+#[derive(Drop)]
+pub struct CacheSide<const WAYS: usize, const WORDS: usize, const REGS: usize, const DEPTH: usize> {
+    pub(crate) shape: Shape,
+    pub(crate) unit: CacheUnit<WAYS, WORDS, REGS, DEPTH>,
+    pub(crate) asks: Vec<Consumer<Ask>>,
+    pub(crate) tellings: Vec<Producer<Told>>,
+    pub(crate) row: Row,
+    pub(crate) answers: Vec<Consumer<BankAnswer>>,
+    pub(crate) journal: Vec<Entry>,
+    pub(crate) limit: u32,
+    pub(crate) fault: Option<SideFault>,
+    ghost shaped: { unit.sizes ≡ sizes_of WAYS WORDS REGS DEPTH shape },
+    ghost in_range: { InRange unit.sizes },
+    ghost lines: { length row.lines.items ≡ unit.sizes.banks },
+    ghost ends: { length answers.items ≡ unit.sizes.banks },
+    ghost small: { limit ≤ 1048576 },
+    ghost within: { length journal.items ≤ limit },
+    ghost reserved: { limit ≤ vec_capacity journal },
+    ghost tells: { ∥ SideTells unit.sizes unit.cache (sent_at row.lines.items)
+        (popped_at answers.items) fault journal.items ∥₁ },
+    ghost counted: { fault ≡ None → (b : ℕ) → taken_at row.lines.items b
+        ≡ length (popped_at answers.items b) },
+    ghost few_ports: { length asks.items ≤ 16 },
+    ghost ports: { PortsTell asks.items tellings.items journal.items },
+}
+
+/// A cache side with its ports and its banks, each in the order of their numbers.
+#[derive(Drop)]
+pub struct Station<const WAYS: usize, const WORDS: usize, const REGS: usize, const DEPTH: usize> {
+    /// The side on which the cache is.
+    pub cache: CacheSide<WAYS, WORDS, REGS, DEPTH>,
+    /// Those who ask it.
+    pub ports: Vec<Port>,
+    /// The banks of its memory.
+    pub banks: Vec<BankSide>,
+}
+
+/// A ring of a station, by its kind and the number of its port or bank.
+#[derive(Clone, Copy, PartialEq, Eq, Debug)]
+pub enum Ring {
+    /// From a port to the cache side.
+    Asks(u32),
+    /// From the cache side to a port.
+    Told(u32),
+    /// From the cache side to a bank.
+    Commands(u32),
+    /// From a bank to the cache side.
+    Answers(u32),
+}
+
+/// What an audit finds.
+#[derive(Clone, Copy, PartialEq, Eq, Debug)]
+pub enum Audit {
+    /// The cache side got a word that it hadn't asked for.
+    Faulted,
+    /// Items are left in a ring: the first one in the order asks by port, tellings by port, commands
+    /// by bank, answers by bank.
+    Left {
+        /// The ring.
+        ring: Ring,
+    },
+    /// No ring holds an item, and the cache side owes values of accepted loads.
+    Owed {
+        /// How many loads wait for their values or have them ready.
+        count: u32,
+    },
+    /// No ring holds an item, and nothing is owed.
+    Clean,
+}

@@ -1,0 +1,76 @@
+//! A port.
+ghost use Rattle.std.specs.Prelude.{◌≡◌};
+ghost use Rattle.std.specs.List.{list_any};
+ghost use Rattle.rtrb.specs.Ring.{sent};
+ghost use Rattle.station_parts.specs.Ports.{is_done};
+
+use rtrb::{Consumer, Producer};
+use station_journal::{Ask, Told};
+
+/// How many asks stand at most between a port and the cache side.
+pub const ASK_PLACES: usize = 16;
+
+/// How many tellings stand at most between the cache side and a port.
+pub const TELLING_PLACES: usize = 64;
+
+/// One who asks the cache: its asks go over one ring, and what it is told comes over another.
+#[derive(Drop)]
+pub struct Port {
+    pub(crate) asks: Producer<Ask>,
+    pub(crate) tellings: Consumer<Told>,
+    pub(crate) ended: bool,
+    ghost ended_is: { ended ≡ list_any is_done (sent asks) },
+}
+
+impl Port {
+    ghost use Rattle.std.specs.Prelude.{◌≡◌, ◌<◌, ◌≤◌, ◌+◌, ◌++◌, ◌∷◌, [], true, false, length, OnOk, OnErr, IfErr, IsOk, IsErr, IfSome, IfNone, IsSome};
+    ghost use mathlib.Core.List.{IsPrefix};
+    ghost use Rattle.station_parts.specs.Ids.{port_id};
+    ghost use Rattle.station_parts.specs.Words.{offered, taken, has_ended, known_places, known_tellings};
+
+    /// Offers an ask to the cache side, after a look at how many free places the ring has.
+    ///
+    /// The ask comes back, and nothing was offered, if no free place is known, or if the port has
+    /// offered `Done` before.
+    pub fn offer(&mut self, ask: Ask) -> Result<(), Ask>
+        ensures same { port_id self.new ≡ port_id self.old }
+        ensures offered { OnOk result (offered self.new ≡ offered self.old ++ ask ∷ []) }
+        ensures back { IfErr result (λ given. given ≡ ask) }
+        ensures kept { OnErr result (offered self.new ≡ offered self.old) }
+
+        // The ask comes back for these two reasons, and for no other.
+        ensures full { OnErr result (has_ended self.old ≡ false → known_places self.new ≡ 0) }
+        ensures ended { has_ended self.old ≡ true → IsErr result }
+        ensures goes { has_ended self.old ≡ false → 0 < known_places self.old → IsOk result }
+
+        ensures places { known_places self.old ≤ known_places self.new + 1 }
+        ensures taken { taken self.new ≡ taken self.old }
+        ensures tellings { known_tellings self.new ≡ known_tellings self.old }
+    {
+        if self.ended || self.asks.slots() == 0 {
+            return Err(ask);
+        }
+        self.asks.push_reserved(ask);
+        if let Ask::Done = ask {
+            self.ended = true;
+        }
+        Ok(())
+    }
+
+    /// Takes the first telling that is known, after a look at the ring. `None` says that none is
+    /// known.
+    pub fn take(&mut self) -> Option<Told>
+        ensures same { port_id self.new ≡ port_id self.old }
+        ensures taken { IfSome result (λ told. taken self.new ≡ taken self.old ++ told ∷ []) }
+        ensures first { IfSome result
+            (λ told. IsPrefix (known_tellings self.old) (told ∷ known_tellings self.new)) }
+        ensures kept { IfNone result (taken self.new ≡ taken self.old) }
+        ensures none { IfNone result (known_tellings self.new ≡ []) }
+        ensures comes { 0 < length (known_tellings self.old) → IsSome result }
+        ensures offered { offered self.new ≡ offered self.old }
+        ensures places { known_places self.new ≡ known_places self.old }
+    {
+        self.tellings.slots();
+        self.tellings.pop().ok()
+    }
+}

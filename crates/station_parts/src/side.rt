@@ -1,0 +1,185 @@
+//! The steps of the cache side.
+ghost use Rattle.std.specs.Prelude.{◌≡◌, ◌≢◌, ◌<◌, length, None, IfSome, IfNone, IsTrue};
+ghost use Rattle.station_parts.specs.Ids.{cache_id};
+ghost use Rattle.station_parts.specs.SideState.{state_of};
+ghost use Rattle.station_parts.specs.SideSteps.{has_work, refusal_of, StepMakes};
+
+use crate::asking::{answer_ask, event_for, value_told, verdict_of};
+use crate::ends::{look_at, pop_at, push_at};
+use crate::parts::{CacheSide, Stepped};
+use flat_model::{Answer, Event};
+use station_journal::{Ask, Entry, SideFault, Source};
+
+impl<const WAYS: usize, const WORDS: usize, const REGS: usize, const DEPTH: usize> CacheSide<
+    WAYS,
+    WORDS,
+    REGS,
+    DEPTH,
+> {
+    /// Looks at the far ends of the rings that a source needs, and makes one step with the source's
+    /// first item, or the one at its place. The journal notes it, with what the unit answered.
+    ///
+    /// In this order:
+    /// - `Faulted` if the side is faulted, and then nothing changes;
+    /// - `JournalFull` if the journal has no room for an entry, and then nothing changes;
+    /// - `Idle` if there is no such source, no item of it is known, the stack has no room for a word,
+    ///   no word waits for its bank or the bank isn't known to have room for it, or the port isn't known
+    ///   to have room for what it would be told (its verdict, its value; for `Done` too). Nothing
+    ///   changes, but that more may be known of the far ends;
+    /// - `Faulted` if the word of a bank goes beyond the reads sent to the bank, or else if no register
+    ///   waits for it. The word is lost, [`CacheSide::fault`] says which it was, and nothing else
+    ///   changes: the side is faulted for good;
+    /// - else `Did`: an ask is told its verdict, and a ready value goes to the port that its tag names.
+    ///   A refusal with `BankFull` says that the room known at a bank was too small. `Done` is noted as
+    ///   [`Entry::Ended`], and told nothing.
+    pub fn step(&mut self, source: Source) -> Stepped
+        ensures refused { IfSome (refusal_of (state_of self.old))
+            (λ refusal. (result ≡ refusal) × (self.new ≡ self.old)) }
+        ensures makes { IfNone (refusal_of (state_of self.old))
+            (StepMakes source (state_of self.old) (state_of self.new) result) }
+        ensures busy { IsTrue (has_work source (state_of self.old) (state_of self.old).known)
+            → result ≢ Stepped.Idle }
+        ensures same { cache_id self.new ≡ cache_id self.old }
+    {
+        if self.fault.is_some() {
+            return Stepped::Faulted;
+        }
+        if self.journal.len() >= self.limit as usize {
+            return Stepped::JournalFull;
+        }
+        match source {
+            Source::Ask(port) => self.ask(port),
+            Source::Word(bank) => self.bring(bank),
+            Source::Stack(place) => self.process(place),
+            Source::Drain => self.drain(),
+            Source::Reply(place) => self.reply(place),
+        }
+    }
+
+    // Processes the word at a place of the input stack.
+    fn process(&mut self, place: u32) -> Stepped
+        requires sound { self.old.fault ≡ None }
+        requires room { length self.old.journal.items < self.old.limit }
+        ensures makes { StepMakes (Source.Stack place) (state_of self.old) (state_of self.new) result }
+        ensures same { cache_id self.new ≡ cache_id self.old }
+    {
+        if place >= self.unit.stack_len() {
+            return Stepped::Idle;
+        }
+        let answer = self.unit.process(place);
+        self.journal.push_reserved(Entry::Step {
+            source: Source::Stack(place),
+            event: Event::Process { place },
+            answer,
+        });
+        Stepped::Did
+    }
+
+    // Sends the front of the write queue to its bank.
+    fn drain(&mut self) -> Stepped
+        requires sound { self.old.fault ≡ None }
+        requires room { length self.old.journal.items < self.old.limit }
+        ensures makes { StepMakes Source.Drain (state_of self.old) (state_of self.new) result }
+        ensures same { cache_id self.new ≡ cache_id self.old }
+    {
+        let Some(front) = self.unit.queue_entry(0) else {
+            return Stepped::Idle;
+        };
+        if self.row.look(front.at % self.shape.banks) == 0 {
+            return Stepped::Idle;
+        }
+        let answer = self.unit.drain(&mut self.row);
+        self.journal.push_reserved(Entry::Step {
+            source: Source::Drain,
+            event: Event::Drain,
+            answer,
+        });
+        Stepped::Did
+    }
+
+    // Takes the first ask that is known of a port, and tells the port what the unit answers.
+    fn ask(&mut self, port: u32) -> Stepped
+        requires sound { self.old.fault ≡ None }
+        requires room { length self.old.journal.items < self.old.limit }
+        ensures makes { StepMakes (Source.Ask port) (state_of self.old) (state_of self.new) result }
+        ensures same { cache_id self.new ≡ cache_id self.old }
+    {
+        if look_at(&mut self.tellings, port) == 0 {
+            return Stepped::Idle;
+        }
+        let Some(ask) = pop_at(&mut self.asks, port) else {
+            return Stepped::Idle;
+        };
+        if let Ask::Done = ask {
+            self.journal.push_reserved(Entry::Ended { port });
+            return Stepped::Did;
+        }
+        self.row.look_all(self.shape.banks);
+        let answer = answer_ask(&mut self.unit, &mut self.row, port, ask);
+        push_at(&mut self.tellings, port, verdict_of(answer));
+        self.journal.push_reserved(Entry::Step {
+            source: Source::Ask(port),
+            event: event_for(port, ask),
+            answer,
+        });
+        Stepped::Did
+    }
+
+    // Takes the ready value at a place, and tells it to the port whose load it answers.
+    fn reply(&mut self, place: u32) -> Stepped
+        requires sound { self.old.fault ≡ None }
+        requires room { length self.old.journal.items < self.old.limit }
+        ensures makes { StepMakes (Source.Reply place) (state_of self.old) (state_of self.new) result }
+        ensures same { cache_id self.new ≡ cache_id self.old }
+    {
+        let Some(Answer::Value { tag, word }) = self.unit.reply(place) else {
+            return Stepped::Idle;
+        };
+        let port = u32::from(tag / 256);
+        if look_at(&mut self.tellings, port) == 0 {
+            return Stepped::Idle;
+        }
+        let answer = self.unit.take(place);
+        push_at(&mut self.tellings, port, value_told(tag, word));
+        self.journal.push_reserved(Entry::Step {
+            source: Source::Reply(place),
+            event: Event::Take { place },
+            answer,
+        });
+        Stepped::Did
+    }
+
+    // Takes the first word that is known of a bank.
+    fn bring(&mut self, bank: u32) -> Stepped
+        requires sound { self.old.fault ≡ None }
+        requires room { length self.old.journal.items < self.old.limit }
+        ensures makes { StepMakes (Source.Word bank) (state_of self.old) (state_of self.new) result }
+        ensures same { cache_id self.new ≡ cache_id self.old }
+    {
+        if self.unit.stack_len() as usize >= DEPTH {
+            return Stepped::Idle;
+        }
+        let Some(word) = pop_at(&mut self.answers, bank) else {
+            return Stepped::Idle;
+        };
+        if !self.row.is_called(bank) {
+            self.fault = Some(SideFault::Uncalled { bank });
+            return Stepped::Faulted;
+        }
+        let Answer::Moved = self.unit.arrive(word.slot, word.i, word.word) else {
+            self.fault = Some(SideFault::Stray {
+                bank,
+                slot: word.slot,
+                i: word.i,
+            });
+            return Stepped::Faulted;
+        };
+        self.row.note_word(bank);
+        self.journal.push_reserved(Entry::Step {
+            source: Source::Word(bank),
+            event: Event::Arrive { bank, place: 0 },
+            answer: Answer::Moved,
+        });
+        Stepped::Did
+    }
+}

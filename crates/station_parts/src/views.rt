@@ -1,0 +1,44 @@
+//! What the cache side shows.
+ghost use Rattle.std.specs.Prelude.{◌≡◌, length, slice_get};
+ghost use Rattle.cache_unit.specs.Views.{is_clean};
+ghost use Rattle.station_parts.specs.Words.{journal_of, fault_in, cache_in};
+
+use crate::parts::CacheSide;
+use station_journal::{Entry, SideFault};
+
+impl<const WAYS: usize, const WORDS: usize, const REGS: usize, const DEPTH: usize> CacheSide<
+    WAYS,
+    WORDS,
+    REGS,
+    DEPTH,
+> {
+    /// How many entries the journal has.
+    pub fn entries(&self) -> u32
+        ensures { result ≡ length (journal_of self.now) }
+    {
+        self.journal.len() as u32
+    }
+
+    /// The entry of the journal at `place`, oldest first; `None` if there is none.
+    pub fn entry(&self, place: u32) -> Option<Entry>
+        ensures { result ≡ slice_get (journal_of self.now) place }
+    {
+        self.journal.get(place as usize).copied()
+    }
+
+    /// Why the side does nothing more: the first fault, which stays. `None` exactly while the side isn't
+    /// faulted.
+    pub fn fault(&self) -> Option<SideFault>
+        ensures { result ≡ fault_in self.now }
+    {
+        self.fault
+    }
+
+    /// Whether the unit is clean: no register is valid, no lane is dirty, and the write queue is empty.
+    /// If an audit is `Clean` too, the rings are empty, and the banks hold flat memory.
+    pub fn settled(&self) -> bool
+        ensures { result ≡ is_clean (cache_in self.now) }
+    {
+        self.unit.clean()
+    }
+}
