@@ -1,6 +1,6 @@
 //! Stations that are stepped by hand on one thread, each to its last answer.
 use super::*;
-use flat_model::{Cause, Lanes, MakeFault, Shape, ShapeField, Word};
+use flat_model::{Cause, MakeFault, Shape, ShapeField, Word};
 use memory_banks::{BankAnswer, Command};
 use std::alloc::Global;
 use std::process::Abort;
@@ -15,16 +15,14 @@ mod refusals;
 type CacheOfFour = CacheSide<1, 4, 2, 2>;
 
 // A memory of 32 words in blocks of four, in two banks, behind a cache of two frames.
-fn shape() -> Shape {
-    Shape {
-        words: 32,
-        sets: 2,
-        banks: 2,
-        bank_queue: 4,
-        write_queue: 4,
-        replies: 4,
-    }
-}
+const SHAPE: Shape = Shape {
+    words: 32,
+    sets: 2,
+    banks: 2,
+    bank_queue: 4,
+    write_queue: 4,
+    replies: 4,
+};
 
 fn zeros() -> Word {
     Word::default()

@@ -91,7 +91,7 @@ fn value_is_told(rt: &impl Abort, station: &mut Station<1, 4, 2, 2>)
 
 #[test]
 fn station_by_hand(rt: HostRuntime) -> Result<(), Fail> {
-    let mut station = station::<1, 4, 2, 2>(rt.alloc(), shape(), 1, 100)?;
+    let mut station = station::<1, 4, 2, 2>(rt.alloc(), SHAPE, 1, 100)?;
     load_is_asked(&rt, &mut station);
     value_is_told(&rt, &mut station);
     let told = Told::Value {

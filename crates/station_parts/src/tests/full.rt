@@ -5,7 +5,7 @@ use super::*;
 
 #[test]
 fn journal_full(rt: HostRuntime) -> Result<(), Fail> {
-    let mut station = station::<1, 4, 2, 2>(rt.alloc(), shape(), 1, 1)?;
+    let mut station = station::<1, 4, 2, 2>(rt.alloc(), SHAPE, 1, 1)?;
     let Station { cache, ports, .. } = &mut station;
     assert_eq!(rt; ports[0].offer(Ask::Prefetch { at: 0 }), Ok(()));
     assert_eq!(rt; ports[0].offer(Ask::Prefetch { at: 4 }), Ok(()));
@@ -19,7 +19,7 @@ fn journal_full(rt: HostRuntime) -> Result<(), Fail> {
 // As many prefetches out of memory as the port's ring takes.
 #[test]
 fn full_ring_of_asks(rt: HostRuntime) -> Result<(), Fail> {
-    let mut station = station::<1, 4, 2, 2>(rt.alloc(), shape(), 1, 100)?;
+    let mut station = station::<1, 4, 2, 2>(rt.alloc(), SHAPE, 1, 100)?;
     let port = &mut station.ports[0];
     for _ in 0..16 {
         assert_eq!(rt; port.offer(Ask::Prefetch { at: 32 }), Ok(()));
@@ -34,7 +34,7 @@ fn full_ring_of_asks(rt: HostRuntime) -> Result<(), Fail> {
 // As many verdicts as the ring back to the port takes.
 #[test]
 fn full_rings(rt: HostRuntime) -> Result<(), Fail> {
-    let mut station = station::<1, 4, 2, 2>(rt.alloc(), shape(), 1, 100)?;
+    let mut station = station::<1, 4, 2, 2>(rt.alloc(), SHAPE, 1, 100)?;
     let port = &mut station.ports[0];
     for _ in 0..64 {
         assert_eq!(rt; port.offer(Ask::Prefetch { at: 32 }), Ok(()));

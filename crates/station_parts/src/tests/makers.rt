@@ -3,7 +3,7 @@ use super::*;
 
 // What a station's maker says of these numbers of ports and of entries.
 fn fault_of(alloc: Global, ports: u32, journal: u32) -> Option<MakeFault> {
-    station::<1, 4, 2, 2>(alloc, shape(), ports, journal).err()
+    station::<1, 4, 2, 2>(alloc, SHAPE, ports, journal).err()
 }
 
 #[test]

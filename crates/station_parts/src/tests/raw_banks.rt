@@ -16,7 +16,7 @@ fn uncalled_word(rt: HostRuntime) -> Result<(), Fail> {
         mut cache,
         ports: _,
         mut banks,
-    } = station::<1, 4, 2, 2>(rt.alloc(), shape(), 1, 8)?;
+    } = station::<1, 4, 2, 2>(rt.alloc(), SHAPE, 1, 8)?;
     let mut bank = banks.remove(0).into_raw();
     assert_eq!(rt; bank.push(uncalled()), Ok(()));
     assert_eq!(rt; cache.step(Source::Word(0)), Stepped::Faulted);
@@ -32,7 +32,7 @@ fn too_many_answers(rt: HostRuntime) -> Result<(), Fail> {
         mut cache,
         ports: _,
         mut banks,
-    } = station::<1, 4, 2, 2>(rt.alloc(), shape(), 1, 8)?;
+    } = station::<1, 4, 2, 2>(rt.alloc(), SHAPE, 1, 8)?;
     let mut bank = banks.remove(0).into_raw();
     for _ in 0..4 {
         assert_eq!(rt; bank.push(uncalled()), Ok(()));
@@ -75,7 +75,7 @@ fn raw_bank(rt: HostRuntime) -> Result<(), Fail> {
         mut cache,
         mut ports,
         mut banks,
-    } = station::<1, 4, 2, 2>(rt.alloc(), shape(), 1, 100)?;
+    } = station::<1, 4, 2, 2>(rt.alloc(), SHAPE, 1, 100)?;
     let mut bank = banks.remove(1).into_raw();
     let port = &mut ports[0];
     assert_eq!(rt; port.offer(Ask::Load { tag: 1, at: 5 }), Ok(()));
