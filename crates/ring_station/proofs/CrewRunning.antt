@@ -11,7 +11,8 @@ use Rattle.station_parts.specs.Words.{taken}
 use Rattle.ring_station.specs.Crew.{RanScript, EachRanScript, EachIsSame}
 
 -- the same of runs that are equal to those
-pub ran_alike : (script : List Ask) (old old' new new' : PortRun) → old ≡ old' → new ≡ new' → RanScript script old new → RanScript script old' new'
+pub ran_alike : (script : List Ask) (old old' new new' : PortRun) → old ≡ old' → new ≡ new' → RanScript script old new
+    → RanScript script old' new'
 ran_alike script old old' new new' o n h = rw (← o, ← n) h
 
 on_ok_of_err : {A E : Type 0} (r : Result A E) (P : Type 0) → IsErr r → OnOk r P
@@ -19,7 +20,8 @@ on_ok_of_err (Ok x) P h = cc
 on_ok_of_err (Err e) P h = tt
 
 -- runs that haven't begun: nothing was taken, and none has come to its end
-pub not_begun : (scripts : List (Vec Ask)) (old new : List PortRun) → EachIsSame old new → All (λ r. r.list.items ≡ []) old → All (λ r. IsErr r.end) old → EachRanScript scripts old new
+pub not_begun : (scripts : List (Vec Ask)) (old new : List PortRun) → EachIsSame old new → All (λ r. r.list.items ≡ []) old
+    → All (λ r. IsErr r.end) old → EachRanScript scripts old new
 not_begun scripts old new same empty unended = record {
   number = same.number;
   each = λ p s d less.
@@ -34,7 +36,8 @@ not_begun scripts old new same empty unended = record {
 }
 
 -- from runs with more room in their lists on
-pub begun_after : (scripts : List (Vec Ask)) (old reserved new : List PortRun) → EachIsSame old reserved → EachRanScript scripts reserved new → EachRanScript scripts old new
+pub begun_after : (scripts : List (Vec Ask)) (old reserved new : List PortRun) → EachIsSame old reserved
+    → EachRanScript scripts reserved new → EachRanScript scripts old new
 begun_after scripts old reserved new same ran = record {
   number = ran.number ∙ same.number;
   each = λ p s d less.
@@ -49,6 +52,7 @@ begun_after scripts old reserved new same ran = record {
       };
 }
 
-pub reserved_empty : (old reserved : List PortRun) → EachIsSame old reserved → All (λ r. r.list.items ≡ []) old → All (λ r. r.list.items ≡ []) reserved
+pub reserved_empty : (old reserved : List PortRun) → EachIsSame old reserved → All (λ r. r.list.items ≡ []) old
+    → All (λ r. r.list.items ≡ []) reserved
 reserved_empty old reserved same empty =
     λ p d less. let there = subst (λ n. p < n) same.number less in (same.each p d there).list ∙ empty p d there

@@ -10,7 +10,8 @@ use Rattle.ring_station.specs.Scripts.{HasTalked}
 use Rattle.ring_station.specs.PortRuns.{IsOnItsWay, HasRun}
 
 -- before the first turn
-pub on_its_way_at_first : (script : List Ask) (talk : Talk) (port : Port) (list : List Told) → list ≡ [] → HasTalked script talk.phase talk.next talk.owed [] [] → IsOnItsWay script talk port port list
+pub on_its_way_at_first : (script : List Ask) (talk : Talk) (port : Port) (list : List Told) → list ≡ []
+    → HasTalked script talk.phase talk.next talk.owed [] [] → IsOnItsWay script talk port port list
 on_its_way_at_first script talk port list empty talked =
     record {
       same = refl;
@@ -21,7 +22,10 @@ on_its_way_at_first script talk port list empty talked =
     }
 
 -- where its talk is over, it has run
-pub has_run : (script : List Ask) (talk : Talk) (first port : Port) (list : List Told) → IsOnItsWay script talk first port list → ((script offered : List Ask) (taken : List Told) → HasTalked script talk.phase talk.next talk.owed offered taken → Converses script offered taken) → HasRun script first port list
+pub has_run : (script : List Ask) (talk : Talk) (first port : Port) (list : List Told) → IsOnItsWay script talk first port list
+    → ((script offered : List Ask)
+    (taken : List Told) → HasTalked script talk.phase talk.next talk.owed offered taken → Converses script offered taken)
+    → HasRun script first port list
 has_run script talk first port list on over =
     record {
       said = on.said;

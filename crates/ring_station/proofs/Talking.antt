@@ -22,11 +22,14 @@ verdict-if-not-value (Value tag word) not_value = absurd (not_value tag word ref
 left_at : (script : List Ask) (next : ℕ) → next < length script → drop next script ≡ ask_at script next ∷ drop (next + 1) script
 left_at script next less = subst (λ n. drop next script ≡ ask_at script next ∷ drop n script) (sym (add-one next)) (drop-cons script next Done less)
 
-left_behind : (final : Bool) (script : List Ask) (next : ℕ) → next < length script → cond final (drop (next + 1) script) (ask_at script next ∷ drop (next + 1) script) ≡ drop (cond final (next + 1) next) script
+left_behind : (final : Bool) (script : List Ask) (next : ℕ) → next < length script
+    → cond final (drop (next + 1) script) (ask_at script next ∷ drop (next + 1) script) ≡ drop (cond final (next + 1) next) script
 left_behind true script next less = refl
 left_behind false script next less = sym (left_at script next less)
 
-owed_at : (script left unjudged : List Ask) (loads values owed : ℕ) (offered : List Ask) (taken : List Told) → IsUnderWay script left unjudged loads values offered taken → loads ≡ values + owed → IsOwed script left unjudged owed offered taken
+owed_at : (script left unjudged : List Ask) (loads values owed : ℕ) (offered : List Ask) (taken : List Told)
+    → IsUnderWay script left unjudged loads values offered taken → loads ≡ values + owed
+    → IsOwed script left unjudged owed offered taken
 owed_at script left unjudged loads values owed offered taken h e =
     let values_are : value_count taken ≡ values = h.values_are in
     record {
@@ -38,7 +41,10 @@ owed_at script left unjudged loads values owed offered taken h e =
     }
 
 -- the ask that waits for its verdict is told it
-pub talked_judged : (script : List Ask) (next owed : ℕ) (offered : List Ask) (taken : List Told) (verdict : Told) → is_value verdict ≡ false → HasTalked script Awaiting next owed offered taken → HasTalked script Offering (cond (is_final verdict) (next + 1) next) (owed + accepted_load (ask_at script next) verdict) offered (taken ++ verdict ∷ [])
+pub talked_judged : (script : List Ask) (next owed : ℕ) (offered : List Ask) (taken : List Told) (verdict : Told)
+    → is_value verdict ≡ false → HasTalked script Awaiting next owed offered taken
+    → HasTalked script Offering (cond (is_final verdict) (next + 1) next)
+    (owed + accepted_load (ask_at script next) verdict) offered (taken ++ verdict ∷ [])
 talked_judged script next owed offered taken verdict none h =
     let ask = ask_at script next in
     let more = drop (next + 1) script in
@@ -60,7 +66,11 @@ at_most_one_load (Evict block) verdict = omega arith
 at_most_one_load Done verdict = omega arith
 
 -- the same over the phases and numbers of the code
-pub judged : (script : List Ask) (old new : Phase) (next next' owed owed' : ℕ) (ask : Ask) (verdict : Told) → old ≡ Awaiting → new ≡ Offering → is_value verdict ≡ false → next < length script → ask ≡ ask_at script next → next' ≡ cond (is_final verdict) (next + 1) next → owed' ≡ owed + accepted_load ask verdict → record { talked : (offered : List Ask) (taken : List Told) → HasTalked script old next owed offered taken → HasTalked script new next' owed' offered (taken ++ verdict ∷ []); owed : owed' ≤ owed + 1; placed : new ≡ Awaiting → next' < length script }
+pub judged : (script : List Ask) (old new : Phase) (next next' owed owed' : ℕ) (ask : Ask) (verdict : Told) → old ≡ Awaiting
+    → new ≡ Offering → is_value verdict ≡ false → next < length script → ask ≡ ask_at script next
+    → next' ≡ cond (is_final verdict) (next + 1) next → owed' ≡ owed + accepted_load ask verdict
+    → record { talked : (offered : List Ask)
+    (taken : List Told) → HasTalked script old next owed offered taken → HasTalked script new next' owed' offered (taken ++ verdict ∷ []); owed : owed' ≤ owed + 1; placed : new ≡ Awaiting → next' < length script }
 judged script old new next next' owed owed' ask verdict o n none less a e f = record {
   talked = λ offered taken h.
       let there = talked_judged script next owed offered taken verdict none (subst (λ p. HasTalked script p next owed offered taken) o h) in
