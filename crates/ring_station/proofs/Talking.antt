@@ -69,8 +69,12 @@ at_most_one_load Done verdict = omega arith
 pub judged : (script : List Ask) (old new : Phase) (next next' owed owed' : ℕ) (ask : Ask) (verdict : Told) → old ≡ Awaiting
     → new ≡ Offering → is_value verdict ≡ false → next < length script → ask ≡ ask_at script next
     → next' ≡ cond (is_final verdict) (next + 1) next → owed' ≡ owed + accepted_load ask verdict
-    → record { talked : (offered : List Ask)
-    (taken : List Told) → HasTalked script old next owed offered taken → HasTalked script new next' owed' offered (taken ++ verdict ∷ []); owed : owed' ≤ owed + 1; placed : new ≡ Awaiting → next' < length script }
+    → record {
+      talked : (offered : List Ask)
+          (taken : List Told) → HasTalked script old next owed offered taken → HasTalked script new next' owed' offered (taken ++ verdict ∷ []);
+      owed : owed' ≤ owed + 1;
+      placed : new ≡ Awaiting → next' < length script;
+    }
 judged script old new next next' owed owed' ask verdict o n none less a e f = record {
   talked = λ offered taken h.
       let there = talked_judged script next owed offered taken verdict none (subst (λ p. HasTalked script p next owed offered taken) o h) in

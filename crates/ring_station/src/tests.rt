@@ -1,5 +1,5 @@
 //! Runs of stations on threads of their own.
-ghost use Rattle.std.specs.Prelude.{◌≡◌, length, vec_len, IfOk};
+ghost use Rattle.std.specs.Prelude.{◌≡◌, vec_len, IfOk};
 
 use super::*;
 use flat_model::{Cause, Lanes, MakeFault, Shape, Word};
@@ -45,14 +45,22 @@ impl Gate for OpenGate {
     fn told(&self, _port: u32, _told: &Told) {}
 }
 
-// The scripts of as many ports.
-fn scripts_of(alloc: Global, asks: &[&[Ask]]) -> Result<Vec<Vec<Ask>>, AllocError>
-    ensures { IfOk result (λ scripts. vec_len scripts ≡ length asks.now) }
+// A script for the one port of a station.
+fn one_script(alloc: Global, asks: &[Ask]) -> Result<Vec<Vec<Ask>>, AllocError>
+    ensures { IfOk result (λ scripts. vec_len scripts ≡ 1) }
 {
-    let mut scripts = Vec::with_capacity(alloc, asks.len())?;
-    for script in asks {
-        scripts.push_reserved(script.to_vec(alloc)?);
-    }
+    let mut scripts = Vec::new(alloc);
+    scripts.push(asks.to_vec(alloc)?)?;
+    Ok(scripts)
+}
+
+// A script for each of two ports.
+fn scripts_of_two(alloc: Global, first: &[Ask], second: &[Ask]) -> Result<Vec<Vec<Ask>>, AllocError>
+    ensures { IfOk result (λ scripts. vec_len scripts ≡ 2) }
+{
+    let mut scripts = Vec::new(alloc);
+    scripts.push(first.to_vec(alloc)?)?;
+    scripts.push(second.to_vec(alloc)?)?;
     Ok(scripts)
 }
 

@@ -67,7 +67,7 @@ impl Gate for Meeting {
 fn empty_scripts_on_threads(rt: HostRuntime) -> Result<(), Fail> {
     let alloc = rt.alloc();
     let mut all: Tested = station(alloc, shape(), 1, 100)?;
-    let scripts = scripts_of(alloc, &[[].as_slice()])?;
+    let scripts = one_script(alloc, &[])?;
     let lists = run_threads(&rt, alloc, &mut all, &scripts, TURNS, &OpenGate)?;
     assert_eq!(rt; lists.len(), 1);
     assert!(rt; lists[0].is_empty());
@@ -82,7 +82,7 @@ fn empty_scripts_on_threads(rt: HostRuntime) -> Result<(), Fail> {
 fn all_five_actors_at_once(rt: HostRuntime) -> Result<(), Fail> {
     let alloc = rt.alloc();
     let mut all: Tested = station(alloc, shape(), 2, 100)?;
-    let scripts = scripts_of(alloc, &[[].as_slice(), [].as_slice()])?;
+    let scripts = scripts_of_two(alloc, &[], &[])?;
     let meeting = Meeting::new();
     let lists = run_threads(&rt, alloc, &mut all, &scripts, TURNS, &meeting)?;
     assert_eq!(rt; lists.len(), 2);

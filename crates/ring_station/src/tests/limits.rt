@@ -17,7 +17,7 @@ impl Gate for SilentBank {
 fn turn_limit(rt: HostRuntime) -> Result<(), Fail> {
     let alloc = rt.alloc();
     let mut all: Tested = station(alloc, shape(), 1, 100)?;
-    let scripts = scripts_of(alloc, &[[load(1, 0)].as_slice()])?;
+    let scripts = one_script(alloc, &[load(1, 0)])?;
     let ended = run_threads(&rt, alloc, &mut all, &scripts, 100_000, &SilentBank);
     assert!(rt; matches!(ended, Err(RunFault::TurnLimit)));
     let found = audit(&mut all.cache, &mut all.ports, &mut all.banks);
@@ -29,7 +29,7 @@ fn turn_limit(rt: HostRuntime) -> Result<(), Fail> {
 fn no_turns(rt: HostRuntime) -> Result<(), Fail> {
     let alloc = rt.alloc();
     let mut all: Tested = station(alloc, shape(), 1, 100)?;
-    let scripts = scripts_of(alloc, &[[].as_slice()])?;
+    let scripts = one_script(alloc, &[])?;
     let ended = run_threads(&rt, alloc, &mut all, &scripts, 0, &OpenGate);
     assert!(rt; matches!(ended, Err(RunFault::TurnLimit)));
     assert_eq!(rt; all.cache.entries(), 0);
@@ -42,7 +42,7 @@ fn no_turns(rt: HostRuntime) -> Result<(), Fail> {
 fn full_journal(rt: HostRuntime) -> Result<(), Fail> {
     let alloc = rt.alloc();
     let mut all: Tested = station(alloc, shape(), 1, 1)?;
-    let scripts = scripts_of(alloc, &[[Ask::Prefetch { at: 0 }].as_slice()])?;
+    let scripts = one_script(alloc, &[Ask::Prefetch { at: 0 }])?;
     let ended = run_threads(&rt, alloc, &mut all, &scripts, 100_000, &OpenGate);
     assert!(rt; matches!(ended, Err(RunFault::TurnLimit)));
     assert!(rt; all.cache.entries() <= 1);
@@ -54,7 +54,7 @@ fn full_journal(rt: HostRuntime) -> Result<(), Fail> {
 fn done_in_a_script(rt: HostRuntime) -> Result<(), Fail> {
     let alloc = rt.alloc();
     let mut all: Tested = station(alloc, shape(), 1, 100)?;
-    let scripts = scripts_of(alloc, &[[Ask::Done, load(1, 0)].as_slice()])?;
+    let scripts = one_script(alloc, &[Ask::Done, load(1, 0)])?;
     let ended = run_threads(&rt, alloc, &mut all, &scripts, 1_000, &OpenGate);
     assert!(rt; matches!(ended, Err(RunFault::TurnLimit)));
     assert_ne!(rt;
