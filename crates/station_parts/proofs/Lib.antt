@@ -11,3 +11,4 @@ pub mod WordFaults
 pub mod AskSteps
 pub mod ReplySteps
 pub mod Auditing
+pub mod FreeSlots

@@ -11,3 +11,4 @@ pub mod SideState
 pub mod SideSteps
 pub mod New
 pub mod Audited
+pub mod Rest

@@ -13,6 +13,7 @@ mod make;
 mod parts;
 mod port;
 mod raw;
+mod rest;
 mod row;
 mod side;
 mod views;

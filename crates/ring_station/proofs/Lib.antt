@@ -1,0 +1,5 @@
+pub mod Talking
+pub mod PortRunning
+pub mod Enlisting
+pub mod CrewRunning
+pub mod StationRunning

@@ -1,0 +1,3 @@
+pub mod Scripts
+pub mod PortRuns
+pub mod Crew

@@ -1,0 +1,79 @@
+//! The cache side's thread.
+ghost use Rattle.std.specs.Prelude.{◌≡◌};
+ghost use Rattle.station_parts.specs.Ids.{cache_id};
+
+use crate::fault::RunFault;
+use crate::gate::{Actor, Gate};
+use crate::idle::Idling;
+use crate::round::Round;
+use station_parts::{CacheSide, Entry, Source, Stepped};
+use std::sync::atomic::{AtomicBool, Ordering};
+
+/// Goes round the sources, a step a turn, until every port is done and the unit is at rest; then it
+/// sets the flag. It must not set it in another case: banks end by it.
+pub(crate) fn run_cache<
+    G: Gate,
+    const WAYS: usize,
+    const WORDS: usize,
+    const REGS: usize,
+    const DEPTH: usize,
+>(
+    gate: &G,
+    ports: u32,
+    banks: u32,
+    turns: u64,
+    done: &AtomicBool,
+    cache: &mut CacheSide<WAYS, WORDS, REGS, DEPTH>,
+) -> Result<(), RunFault>
+    ensures { cache_id cache.new ≡ cache_id cache.old }
+{
+    let mut round = Round::new(ports, banks);
+    let mut open_ports = ports;
+    let mut idling = Idling::new();
+    for _turn in 0..turns {
+        let moved = take_turn(gate, &mut round, &mut open_ports, cache);
+        if open_ports == 0 && cache.is_at_rest() {
+            done.store(true, Ordering::SeqCst);
+            return Ok(());
+        }
+        idling.end_turn(moved);
+    }
+    Err(RunFault::TurnLimit)
+}
+
+// Makes a step on the next source, if the gate allows it, and notes whether that ended a port. Says
+// whether something was done.
+fn take_turn<G: Gate, const WAYS: usize, const WORDS: usize, const REGS: usize, const DEPTH: usize>(
+    gate: &G,
+    round: &mut Round,
+    open_ports: &mut u32,
+    cache: &mut CacheSide<WAYS, WORDS, REGS, DEPTH>,
+) -> bool
+    ensures { cache_id cache.new ≡ cache_id cache.old }
+{
+    if !gate.may(Actor::Cache) {
+        return false;
+    }
+    let source = round.next();
+    if cache.step(source) != Stepped::Did {
+        return false;
+    }
+    if is_ask(source) && has_just_ended(cache) {
+        *open_ports = open_ports.saturating_sub(1);
+    }
+    true
+}
+
+fn is_ask(source: Source) -> bool {
+    matches!(source, Source::Ask(_))
+}
+
+// Whether the last entry of the journal ends a port.
+fn has_just_ended<const WAYS: usize, const WORDS: usize, const REGS: usize, const DEPTH: usize>(
+    cache: &CacheSide<WAYS, WORDS, REGS, DEPTH>,
+) -> bool {
+    match cache.entries().checked_sub(1) {
+        Some(last) => matches!(cache.entry(last), Some(Entry::Ended { .. })),
+        None => false,
+    }
+}

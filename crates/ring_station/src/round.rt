@@ -1,0 +1,47 @@
+//! The round of the cache side: its sources, one after the other.
+ghost use Rattle.std.specs.Prelude.{◌<◌, ◌+◌};
+
+use station_parts::Source;
+
+// The stack, the write queue and the replies.
+const OTHER_SOURCES: u64 = 3;
+
+/// Where the next step takes its work from: each port, each bank, the stack, the write queue and the
+/// replies, and then again from the first port on.
+#[derive(Drop)]
+pub(crate) struct Round {
+    ports: u32,
+    banks: u32,
+    place: u64,
+    ghost within: { place < ports + banks + 3 },
+}
+
+impl Round {
+    /// A round that begins with the first of so many ports.
+    pub(crate) fn new(ports: u32, banks: u32) -> Round {
+        Round {
+            ports,
+            banks,
+            place: 0,
+        }
+    }
+
+    /// The next source.
+    pub(crate) fn next(&mut self) -> Source {
+        let place = self.place;
+        let ports = u64::from(self.ports);
+        let banks = u64::from(self.banks);
+        self.place = (place + 1) % (ports + banks + OTHER_SOURCES);
+        if place < ports {
+            return Source::Ask(place as u32);
+        }
+        if place - ports < banks {
+            return Source::Word((place - ports) as u32);
+        }
+        match place - ports - banks {
+            0 => Source::Stack(0),
+            1 => Source::Drain,
+            _ => Source::Reply(0),
+        }
+    }
+}

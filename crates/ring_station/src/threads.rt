@@ -1,0 +1,144 @@
+//! The threads of a run: one for the cache side, one for each port, and one for each bank.
+ghost use Rattle.std.specs.Prelude.{◌≡◌, ◌<◌, ◌≤◌, ◌++◌, ℕ, [], length, slice_index_or, vec_len, OnOk};
+ghost use Rattle.std.specs.List.{All};
+ghost use Rattle.std.specs.Global.{Vec};
+ghost use Rattle.std.specs.Thread.{IsSync};
+ghost use Rattle.station_journal.specs.declared.asks.Ask.{Ask};
+ghost use Rattle.station_parts.specs.Ids.{cache_id, bank_id};
+ghost use Rattle.ring_station.specs.Crew.{RanScript, EachRanScript, EachServed};
+
+use crate::bank_thread::run_bank;
+use crate::cache_thread::run_cache;
+use crate::crew::{BankRun, PortRun};
+use crate::fault::RunFault;
+use crate::gate::Gate;
+use crate::port_thread::run_port;
+use station_parts::{Ask, CacheSide};
+use std::sync::atomic::AtomicBool;
+use std::thread::{Threads, for_each_mut, join_mut};
+
+/// Runs the cache side, each port and each bank in a thread of its own, and joins them all. The
+/// result is how the run of the cache side ended; the ports and the banks note their own.
+pub(crate) fn run_all<
+    R: Threads + Sync,
+    G: Gate,
+    const WAYS: usize,
+    const WORDS: usize,
+    const REGS: usize,
+    const DEPTH: usize,
+>(
+    rt: &R,
+    gate: &G,
+    scripts: &[Vec<Ask>],
+    turns: u64,
+    cache: &mut CacheSide<WAYS, WORDS, REGS, DEPTH>,
+    ports: &mut Vec<PortRun>,
+    banks: &mut Vec<BankRun>,
+) -> Result<(), RunFault>
+    requires scripts { length scripts.now ≡ vec_len ports.old }
+    requires few_ports { vec_len ports.old ≤ 16 }
+    requires few_banks { vec_len banks.old ≤ 16 }
+    requires lists { All (λ r. r.list.items ≡ []) ports.old.items }
+    ensures cache { cache_id cache.new ≡ cache_id cache.old }
+    ensures ports { EachRanScript scripts.now ports.old.items ports.new.items }
+    ensures banks { EachServed banks.old.items banks.new.items }
+{
+    let done = AtomicBool::new(false);
+    let port_count = ports.len() as u32;
+    let bank_count = banks.len() as u32;
+    let (cache_end, ()) = join_mut(
+        rt,
+        &mut || -> Result<(), RunFault>
+            ensures { cache_id cache.exit.now ≡ cache_id cache.entry.now }
+        { run_cache(gate, port_count, bank_count, turns, &done, cache) },
+        &mut ||
+            requires { IsSync R.row × (length scripts.now ≡ vec_len ports.now) × (vec_len ports.now ≤ 16) × (vec_len banks.now ≤ 16) × All (λ r. r.list.items ≡ []) ports.now.items }
+            ensures ports { EachRanScript scripts.entry.now ports.entry.now.items ports.exit.now.items }
+            ensures banks { EachServed banks.entry.now.items banks.exit.now.items }
+        { run_sides(rt, gate, scripts, turns, &done, ports, banks) },
+    );
+    cache_end
+}
+
+// Runs the ports and the banks.
+fn run_sides<R: Threads + Sync, G: Gate>(
+    rt: &R,
+    gate: &G,
+    scripts: &[Vec<Ask>],
+    turns: u64,
+    done: &AtomicBool,
+    ports: &mut Vec<PortRun>,
+    banks: &mut Vec<BankRun>,
+)
+    requires scripts { length scripts.now ≡ vec_len ports.old }
+    requires few_ports { vec_len ports.old ≤ 16 }
+    requires few_banks { vec_len banks.old ≤ 16 }
+    requires lists { All (λ r. r.list.items ≡ []) ports.old.items }
+    ensures ports { EachRanScript scripts.now ports.old.items ports.new.items }
+    ensures banks { EachServed banks.old.items banks.new.items }
+{
+    join_mut(
+        rt,
+        &mut ||
+            requires { IsSync R.row × (length scripts.now ≡ vec_len ports.now) × (vec_len ports.now ≤ 16) × All (λ r. r.list.items ≡ []) ports.now.items }
+            ensures { EachRanScript scripts.entry.now ports.entry.now.items ports.exit.now.items }
+        { run_ports(rt, gate, scripts, turns, ports) },
+        &mut ||
+            requires { IsSync R.row × (vec_len banks.now ≤ 16) }
+            ensures { EachServed banks.entry.now.items banks.exit.now.items }
+        { run_banks(rt, gate, turns, done, banks) },
+    );
+}
+
+fn run_ports<R: Threads + Sync, G: Gate>(
+    rt: &R,
+    gate: &G,
+    scripts: &[Vec<Ask>],
+    turns: u64,
+    ports: &mut [PortRun],
+)
+    requires scripts { length scripts.now ≡ length ports.old }
+    requires few { length ports.old ≤ 16 }
+    requires lists { All (λ r. r.list.items ≡ []) ports.old }
+    ensures { EachRanScript scripts.now ports.old ports.new }
+{
+    let threads = ports.len().max(1);
+    for_each_mut(
+        rt,
+        ports,
+        threads,
+        &|p: usize, run: &mut PortRun|
+            requires { (p < length scripts.now) × (length scripts.now ≤ 16) × (run.old.list.items ≡ []) }
+            ensures { (s : Vec Ask) → RanScript (slice_index_or scripts.entry.now p s).items run.old run.new }
+        { run_one(gate, p as u32, scripts[p].as_slice(), turns, run) },
+    );
+}
+
+fn run_one<G: Gate>(gate: &G, number: u32, script: &[Ask], turns: u64, run: &mut PortRun)
+    requires { run.old.list.items ≡ [] }
+    ensures { RanScript script.now run.old run.new }
+{
+    run.end = run_port(gate, number, script, turns, &mut run.port, &mut run.list);
+}
+
+fn run_banks<R: Threads + Sync, G: Gate>(
+    rt: &R,
+    gate: &G,
+    turns: u64,
+    done: &AtomicBool,
+    banks: &mut [BankRun],
+)
+    requires { length banks.old ≤ 16 }
+    ensures { EachServed banks.old banks.new }
+{
+    let threads = banks.len().max(1);
+    for_each_mut(
+        rt,
+        banks,
+        threads,
+        &|b: usize, run: &mut BankRun|
+            requires { b < 16 }
+            ensures { bank_id run.new.bank ≡ bank_id run.old.bank }
+        { run.end = run_bank(gate, b as u32, turns, done, &mut run.bank) },
+    );
+}

@@ -1,0 +1,53 @@
+//! Whether anything is under way.
+ghost use Rattle.std.specs.Prelude.{◌≡◌, ◌≤◌, length, not};
+ghost use Rattle.std.specs.List.{list_all};
+ghost use Rattle.cache_unit.specs.State.{register_at};
+ghost use Rattle.station_parts.specs.Rest.{is_at_rest};
+ghost use Rattle.station_parts.specs.Words.{cache_in};
+
+use crate::parts::CacheSide;
+use cache_unit::CacheUnit;
+
+impl<const WAYS: usize, const WORDS: usize, const REGS: usize, const DEPTH: usize> CacheSide<
+    WAYS,
+    WORDS,
+    REGS,
+    DEPTH,
+> {
+    /// Whether nothing is under way in the unit: no accepted load waits for its value or has it ready, no
+    /// register is valid, and the write queue is empty. Dirty lanes may remain.
+    pub fn is_at_rest(&self) -> bool
+        ensures { result ≡ is_at_rest (cache_in self.now) }
+    {
+        self.unit.owed() == 0 && self.unit.queue_len() == 0 && are_free(&self.unit)
+    }
+}
+
+// Whether no register is valid.
+fn are_free<const WAYS: usize, const WORDS: usize, const REGS: usize, const DEPTH: usize>(
+    unit: &CacheUnit<WAYS, WORDS, REGS, DEPTH>,
+) -> bool
+    requires number { length unit.now.cache.registers ≡ REGS }
+    requires few { REGS ≤ 16 }
+    ensures { result ≡ list_all (λ r. not r.valid) unit.now.cache.registers }
+{
+    for slot in 0..REGS as u32 {
+        if is_valid(unit, slot) {
+            return false;
+        }
+    }
+    true
+}
+
+// Whether the register in `slot` is valid.
+fn is_valid<const WAYS: usize, const WORDS: usize, const REGS: usize, const DEPTH: usize>(
+    unit: &CacheUnit<WAYS, WORDS, REGS, DEPTH>,
+    slot: u32,
+) -> bool
+    ensures { result ≡ (register_at unit.now.cache slot).valid }
+{
+    match unit.register(slot) {
+        Some(shown) => shown.valid,
+        None => false,
+    }
+}
