@@ -32,6 +32,18 @@ pub struct Reply {
     pub word: Word,
 }
 
+/// What a request for a word finds.
+#[derive(Clone, Copy, PartialEq, Eq, Debug)]
+pub enum Lookup {
+    /// The word is at hand: a load of it is answered at once, and a store changes the buffer.
+    Hit,
+    /// A register waits for the word: a load waits with it, and a store's bytes are kept from the
+    /// word that comes.
+    Join,
+    /// No frame holds the block: it would be asked for, in a register of its own.
+    Miss,
+}
+
 // The frame and the register that a miss takes.
 #[derive(Clone, Copy)]
 struct Places {

@@ -3,3 +3,4 @@ pub mod Places
 pub mod Ranges
 pub mod Flat
 pub mod Memory
+pub mod Texts

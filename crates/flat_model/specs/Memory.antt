@@ -1,13 +1,16 @@
 -- What a `FlatMemory` shows, and what the faults of a replay say.
-use Rattle.std.specs.Prelude.{ℕ, ⊤, ◌≡◌, ◌≢◌, Bool, true, false, if◌then◌else◌, List, length, Some, None, nat_eq}
+use Rattle.std.specs.Prelude.{ℕ, ⊤, ◌≡◌, ◌≢◌, Bool, true, false, List, length, Some, None, IsSome, nat_eq}
 use Rattle.std.specs.HashMap.{get}
 use Rattle.flat_model.specs.declared.Event.{Event}
 use Rattle.flat_model.specs.declared.Event.TheVariants.{Load, Store, Prefetch, Take}
 use Rattle.flat_model.specs.declared.Answer.{Answer}
+use Rattle.flat_model.specs.declared.Answer.TheVariants.{Accepted}
 use Rattle.flat_model.specs.declared.memory.FlatMemory.{FlatMemory}
 use Rattle.flat_model.specs.declared.memory.ReplayFault.{ReplayFault}
 use Rattle.flat_model.specs.declared.memory.ReplayFault.TheVariants.{Lengths, Mismatch, OutOfMemory}
-use Rattle.flat_model.specs.Flat.{Flat, first_fault, flat_run}
+use Rattle.flat_model.specs.declared.memory.StepFault.{StepFault}
+use Rattle.flat_model.specs.declared.memory.StepFault.TheVariants as step
+use Rattle.flat_model.specs.Flat.{Flat, first_fault, flat_run, flat_step}
 
 -- the flat memory that it stands for
 unfoldable pub shown : FlatMemory → Flat
@@ -26,12 +29,18 @@ abbrev pub is_load : Event → Bool
 is_load (Load tag at) = true
 is_load event = false
 
--- how many tags more may be owed a word after an event
-abbrev pub more_owed : Event → ℕ
-more_owed event = if is_load event then 1 else 0
+-- how many tags more are owed a word after a pair, at most
+abbrev pub more_owed : Event → Answer → ℕ
+more_owed (Load tag at) Accepted = 1
+more_owed event answer = 0
 
 -- what each fault says of the run that was replayed
 abbrev pub FaultIs : Flat → List Event → List Answer → ReplayFault → Type 0
 FaultIs s events answers Lengths = (length events ≢ length answers) × (flat_run s events answers ≡ None)
 FaultIs s events answers (Mismatch place) = (first_fault s events answers ≡ Some place) × (length events ≡ length answers) × (flat_run s events answers ≡ None)
 FaultIs s events answers OutOfMemory = length events ≡ length answers
+
+-- what each fault says of the step that was asked for: it is none, or a load was owed a word
+abbrev pub StepFaultIs : Flat → Event → Answer → StepFault → Type 0
+StepFaultIs s event answer step.Mismatch = flat_step s event answer ≡ None
+StepFaultIs s event answer step.OutOfMemory = (more_owed event answer ≡ 1) × IsSome (flat_step s event answer)

@@ -9,15 +9,17 @@ ghost use Rattle.std.specs.Prelude.{⊤, ◌≡◌, ◌==◌, [], ◌∷◌, cod
 ghost use Rattle.flat_model.specs.Flat.{number};
 ghost use Rattle.flat_model.specs.Words.{no_lanes, merged, joined, has_any, has_all};
 
+mod display;
 mod memory;
 mod operators;
 
 use bitflags::{Flag, Flags};
-pub use memory::{FlatMemory, ReplayFault};
+pub use memory::{FlatMemory, ReplayFault, StepFault};
 use std::alloc::AllocError;
 use thiserror::Error;
 
-/// A word of memory: four bytes in memory order, byte 0 first.
+/// A word of memory: four bytes in memory order, byte 0 first. C has it as four bytes too.
+#[repr(C)]
 #[derive(Clone, Copy, PartialEq, Eq, Debug, Default)]
 pub struct Word {
     /// Byte 0, the first in memory.

@@ -3,10 +3,10 @@
 ghost use Rattle.std.specs.Prelude.{◌≡◌, ◌≢◌, Err, ◌+◌, true, length, None, Some, nat_lt, slice_get, IfOk, IfErr, OnOk, OnErr, ◌<◌, ◌≤◌};
 ghost use Rattle.std.specs.List.{count_by};
 ghost use Rattle.std.specs.HashMap.{spare};
-ghost use Rattle.flat_model.specs.Flat.{Flat, opening, word_at, stored, with_due, may_answer, flat_after, flat_run, number, load_refusals, store_refusals, prefetch_refusals, is_owed};
+ghost use Rattle.flat_model.specs.Flat.{Flat, opening, word_at, stored, with_due, may_answer, flat_after, flat_run, number, flat_step, load_refusals, store_refusals, prefetch_refusals, is_owed};
 ghost use Rattle.flat_model.specs.Ranges.{is_between};
 ghost use Rattle.flat_model.specs.declared.memory.ReplayFault.TheVariants.{Lengths};
-ghost use Rattle.flat_model.specs.Memory.{shown, FaultIs, MovesOnly, is_load, more_owed};
+ghost use Rattle.flat_model.specs.Memory.{shown, FaultIs, StepFaultIs, MovesOnly, is_load, more_owed};
 
 use crate::{Answer, Cause, Event, Lanes, Word, merge};
 use std::alloc::{AllocError, Global};
@@ -36,6 +36,28 @@ impl From<AllocError> for ReplayFault {
 
     fn from(_fault: AllocError) -> ReplayFault {
         ReplayFault::OutOfMemory
+    }
+}
+
+/// Why a step couldn't be made. After each of these the memory is as it was.
+#[derive(Clone, Copy, PartialEq, Eq, Debug, Error)]
+pub enum StepFault {
+    /// Flat memory doesn't give this answer to the event.
+    #[error("the answer is not one of flat memory")]
+    Mismatch,
+    /// There was too little memory for the word that a load is owed.
+    #[error("out of memory")]
+    OutOfMemory,
+}
+
+impl From<AllocError> for StepFault {
+    ghost use Rattle.std.specs.Prelude.{◌≡◌};
+    ghost use Rattle.flat_model.specs.declared.memory.StepFault.TheVariants.{OutOfMemory};
+
+    ghost from_gives = { λ e f. f ≡ OutOfMemory };
+
+    fn from(_fault: AllocError) -> StepFault {
+        StepFault::OutOfMemory
     }
 }
 
@@ -71,6 +93,29 @@ impl FlatMemory {
         ensures { result ≡ (shown self.now).due tag }
     {
         self.due.get(&tag).copied()
+    }
+
+    /// Makes one step of a run: an event and the answer that it got.
+    ///
+    /// It is `Ok` exactly where the answer is one that flat memory may give to the event, and the
+    /// memory is then as that pair leaves it. [`StepFault::Mismatch`] says that it is none. Only an
+    /// accepted load may need more memory, for the word that its tag is owed from now on:
+    /// [`StepFault::OutOfMemory`] says that there was too little. After both the memory is as it was.
+    ///
+    /// So a run that isn't kept in lists is judged as it goes, as [`FlatMemory::replay`] judges a
+    /// whole one.
+    pub fn step(&mut self, event: Event, answer: Answer) -> Result<(), StepFault>
+        ensures ok { OnOk result
+            (flat_step (shown self.old) event answer ≡ Some (shown self.new)) }
+        ensures fault { IfErr result (StepFaultIs (shown self.old) event answer) }
+        ensures unchanged { OnErr result (shown self.new ≡ shown self.old) }
+    {
+        if !self.may_answer(event, answer) {
+            return Err(StepFault::Mismatch);
+        }
+        self.make_room(event, answer)?;
+        self.change(event, answer);
+        Ok(())
     }
 
     /// Goes through a run of events and answers, pair by pair, from this memory on.
@@ -114,9 +159,21 @@ impl FlatMemory {
             if !self.may_answer(event, answer) {
                 return Err(ReplayFault::Mismatch { place });
             }
-            self.step(event, answer);
+            self.change(event, answer);
         }
         Ok(())
+    }
+
+    // Makes room for the tag that a pair adds to those that are owed a word, if it adds one.
+    fn make_room(&mut self, event: Event, answer: Answer) -> Result<(), AllocError>
+        ensures same { shown self.new ≡ shown self.old }
+        ensures room { OnOk result (more_owed event answer ≤ spare self.new.due) }
+        ensures needed { OnErr result (more_owed event answer ≡ 1) }
+    {
+        match (event, answer) {
+            (Event::Load { .. }, Answer::Accepted) => self.due.reserve(1),
+            _ => Ok(()),
+        }
     }
 
     // A copy with room for so many tags more.
@@ -199,11 +256,11 @@ impl FlatMemory {
     }
 
     // The change that a pair of flat memory makes.
-    fn step(&mut self, event: Event, answer: Answer)
+    fn change(&mut self, event: Event, answer: Answer)
         requires may { may_answer (shown self.old) event answer ≡ true }
-        requires room { more_owed event ≤ spare self.old.due }
+        requires room { more_owed event answer ≤ spare self.old.due }
         ensures shown { shown self.new ≡ flat_after (shown self.old) event answer }
-        ensures room { spare self.old.due ≤ spare self.new.due + more_owed event }
+        ensures room { spare self.old.due ≤ spare self.new.due + more_owed event answer }
     {
         match (event, answer) {
             (Event::Load { tag, at }, Answer::Accepted) => self.owe(tag, at),

@@ -4,3 +4,4 @@ pub mod Sound
 pub mod Law
 pub mod Examples
 pub mod Whole
+pub mod AnyMachine

@@ -1,11 +1,13 @@
 //! The machine: a cache unit and the banks of its memory.
-ghost use Rattle.std.specs.Prelude.{◌≡◌, ◌≢◌, ℕ, ◌+◌, ◌*◌, ◌<◌, ◌≤◌, ◌↔◌, [], length, IfOk, IfErr, IfSome, OnOk, OnErr, IsTrue, IsNone, None, Some};
+ghost use Rattle.std.specs.Prelude.{◌≡◌, ◌≢◌, ℕ, ◌+◌, ◌*◌, ◌<◌, ◌≤◌, ◌↔◌, [], length, IfOk, IfErr, IfSome, OnOk, OnErr, IsTrue, IsNone, None, Some, slice_get};
 ghost use Rattle.std.specs.Option.{option_map};
 ghost use Rattle.flat_model.specs.Flat.{flat_step, flat_run, word_at};
 ghost use Rattle.flat_model.specs.declared.Cause.TheVariants.{StrayWord};
 ghost use Rattle.memory_banks.specs.Memory.{fault_of};
 ghost use Rattle.cache_unit.specs.Shown.{sizes_of};
 ghost use Rattle.cache_unit.specs.Views as views;
+ghost use Rattle.cache_unit.specs.Lookups.{lookup};
+ghost use Rattle.memory_banks.specs.Banks.{bank_at};
 ghost use Rattle.machine_core.specs.Machine as machine;
 ghost use Rattle.machine_core.specs.Pump as driver;
 ghost use Rattle.machine_core.specs.Law.{most_weight, IsKept, IsServed};
@@ -14,12 +16,14 @@ ghost use Rattle.machine_core.specs.Whole.{bad_field, bank_word_view, with_answe
 use crate::drive::{all_served, next_event};
 use crate::step::{step, walk};
 use crate::weigh::{weight_of_banks, weight_of_registers};
-use cache_unit::CacheUnit;
-use flat_model::{Answer, Event, MakeFault, Shape, ShapeField, Word};
+use cache_unit::{CacheUnit, Lookup};
+use flat_model::{Answer, Event, Lanes, MakeFault, Shape, ShapeField, Word};
+use input_stack::Entry;
 use memory_banks::Banks;
 use miss_registers::{FieldView, Owed, RegisterView};
 use std::alloc::{AllocError, Global};
 use std::marker::Model;
+use write_queue::Queued;
 
 /// A cache unit over the banks of its memory: `WAYS` (1 to 8) ways a set, `WORDS` (1 to 16) words a
 /// block, `REGS` (1 to 16) registers and `DEPTH` (1 to 16) places in the input stack.
@@ -198,6 +202,104 @@ impl<const WAYS: usize, const WORDS: usize, const REGS: usize, const DEPTH: usiz
         ensures { result ≡ views.target_view self.now.machine.cache slot i place }
     {
         self.unit.target(slot, i, place)
+    }
+
+    /// The numbers that the machine was made with.
+    pub fn shape(&self) -> Shape
+        ensures { sizes_of WAYS WORDS REGS DEPTH result ≡ self.now.sizes }
+    {
+        self.shape
+    }
+
+    /// What a request for the word at `at` would find now: a hit, a miss that is under way already,
+    /// or a miss. `None` says that memory has no such word. Nothing changes.
+    pub fn find(&self, at: u32) -> Option<Lookup>
+        ensures { result ≡ lookup self.now.sizes self.now.machine.cache at }
+    {
+        self.unit.find(at)
+    }
+
+    /// How many answers stand in a bank, which may arrive: 0 for a bank that isn't there.
+    pub fn answers(&self, bank: u32) -> u32
+        ensures { result ≡ length (bank_at self.now.machine.banks bank).answers }
+    {
+        self.banks.answers(bank)
+    }
+
+    /// How many commands wait at a bank to be served: 0 for a bank that isn't there.
+    pub fn commands(&self, bank: u32) -> u32
+        ensures { result ≡ length (bank_at self.now.machine.banks bank).queue }
+    {
+        self.banks.queued(bank)
+    }
+
+    /// How many words stand in the input stack.
+    pub fn stack_len(&self) -> u32
+        ensures { result ≡ length self.now.machine.cache.stack }
+    {
+        self.unit.stack_len()
+    }
+
+    /// The entry of the input stack at `place`, the one that came first at 0; `None` where there is
+    /// none.
+    pub fn stack_entry(&self, place: u32) -> Option<Entry>
+        ensures { result ≡ slice_get self.now.machine.cache.stack place }
+    {
+        self.unit.stack_entry(place)
+    }
+
+    /// How many words stand in the write queue.
+    pub fn queue_len(&self) -> u32
+        ensures { result ≡ length self.now.machine.cache.queue }
+    {
+        self.unit.queue_len()
+    }
+
+    /// The entry of the write queue at `place`, the one that is drained next at 0; `None` where
+    /// there is none.
+    pub fn queue_entry(&self, place: u32) -> Option<Queued>
+        ensures { result ≡ slice_get self.now.machine.cache.queue place }
+    {
+        self.unit.queue_entry(place)
+    }
+
+    /// How many replies stand ready.
+    pub fn replies_len(&self) -> u32
+        ensures { result ≡ length self.now.machine.cache.ready }
+    {
+        self.unit.replies_len()
+    }
+
+    /// The value that a take at `place` would be answered; `None` where no reply stands there.
+    pub fn reply(&self, place: u32) -> Option<Answer>
+        ensures { result ≡ views.reply_view self.now.machine.cache place }
+    {
+        self.unit.reply(place)
+    }
+
+    /// The block that a frame holds; `None` where it is free or there is no such frame. Set `s` has
+    /// the frames from `s * WAYS` on.
+    pub fn frame_block(&self, frame: u32) -> Option<u32>
+        ensures { result ≡ views.frame_view self.now.machine.cache frame }
+    {
+        self.unit.frame_block(frame)
+    }
+
+    /// The buffer's word `i` of the block that a frame holds; `None` where it holds none or blocks
+    /// have no such word. Of a word that is still on its way only the lanes of its register's code
+    /// have come to the buffer.
+    pub fn buffer_word(&self, frame: u32, i: u32) -> Option<Word>
+        ensures { result ≡ views.word_view self.now.machine.cache frame i }
+    {
+        self.unit.buffer_word(frame, i)
+    }
+
+    /// The lanes of that word that were stored since the frame took the block, and that memory
+    /// doesn't have yet; `None` where the frame holds no block or blocks have no such word.
+    pub fn dirty(&self, frame: u32, i: u32) -> Option<Lanes>
+        ensures { result ≡ views.dirty_view self.now.machine.cache frame i }
+    {
+        self.unit.dirty(frame, i)
     }
 }
 

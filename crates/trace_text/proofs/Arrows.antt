@@ -66,7 +66,7 @@ no_dash_in (b ∷ bs) e =
 number_dashless : (n : ℕ) → n ≤ 4294967295 → NoDash (decimal n)
 number_dashless n le = high_dashless (decimal n) (number_high n le)
 
-dashless_line : (l : Line) → IsFit l → NoDash (line_text l)
+pub dashless_line : (l : Line) → IsFit l → NoDash (line_text l)
 dashless_line (line.Event (Load tag at)) fit =
     dashless_then (codes "load ") (decimal tag ++ 32 ∷ decimal at) (no_dash_in (codes "load ") refl)
     (dashless_then (decimal tag) (32 ∷ decimal at) (number_dashless tag (omega (arith, fit.0))) (λ is. omega (arith, is), number_dashless at fit.1))
@@ -97,7 +97,7 @@ second_is x y rest ne =
     let test : nat_eq 45 y ≡ false = grind (arith, nat_tests) in
     and_none (nat_eq 32 x) (nat_eq 45 y) _ test
 
-arrow_behind_line : (text reply : List ℕ) → NoDash text → arrow_in (text ++ (codes " -> " ++ reply)) ≡ Some (length text)
+pub arrow_behind_line : (text reply : List ℕ) → NoDash text → arrow_in (text ++ (codes " -> " ++ reply)) ≡ Some (length text)
 arrow_behind_line [] reply none = refl
 arrow_behind_line (x ∷ []) reply none =
     let test : starts_with nat_eq (x ∷ (codes " -> " ++ reply)) (codes " -> ") ≡ false = second_is x 32 (45 ∷ 62 ∷ 32 ∷ reply) (λ is. omega (arith, is)) in

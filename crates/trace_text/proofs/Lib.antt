@@ -12,3 +12,4 @@ pub mod Held
 pub mod Cuts
 pub mod Written
 pub mod AnswerTexts
+pub mod Recorded

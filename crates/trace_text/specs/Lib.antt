@@ -10,3 +10,4 @@ pub mod Reading
 pub mod Requests
 pub mod Checks
 pub mod Written
+pub mod Recorded

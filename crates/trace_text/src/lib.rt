@@ -24,6 +24,7 @@ mod requests;
 mod serve;
 mod streams;
 mod text;
+mod writers;
 
 pub use check::{CheckEnd, check_text};
 pub use known::serve_known;
@@ -33,3 +34,4 @@ pub use requests::read_requests;
 pub use serve::{Counts, TraceFault, serve_text};
 pub use streams::{Sink, Source};
 pub use text::{LineText, answer_text, register_text};
+pub use writers::{recorded_pairs, written_line, written_pair};

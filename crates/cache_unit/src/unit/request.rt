@@ -5,11 +5,12 @@ ghost use Rattle.cache_unit.specs.State.{is_present, block_of, place_in, tags};
 ghost use Rattle.cache_unit.specs.Causes.{found, targets_full};
 ghost use Rattle.cache_unit.specs.SoundCache.{IsSoundCache};
 ghost use Rattle.cache_unit.specs.FormLaws.{RequestForms};
+ghost use Rattle.cache_unit.specs.Lookups.{lookup, lookup_of};
 ghost use Rattle.cache_unit.specs.Requests.{absence_cause, is_full_for};
 ghost use Rattle.cache_unit.specs.Steps.{fetched, fetches, load_step, store_step, prefetch_step, request_step};
 
 use crate::unit::present::Finding;
-use crate::{CacheUnit, Request};
+use crate::{CacheUnit, Lookup, Request};
 use flat_model::{Answer, Cause, Lanes, Word};
 use memory_banks::Lines;
 
@@ -42,6 +43,34 @@ impl<const WAYS: usize, const WORDS: usize, const REGS: usize, const DEPTH: usiz
             Request::Load { tag, at } => self.load(tag, at, lines),
             Request::Store { at, word, lanes } => self.store(at, word, lanes, lines),
             Request::Prefetch { at } => self.prefetch(at, lines),
+        }
+    }
+
+    /// What a request for the word at `at` would find now: a hit, a miss that is under way already,
+    /// or a miss. `None` says that memory has no such word. A request may still be refused for want
+    /// of a place; a lookup changes nothing, and counts nothing.
+    pub fn find(&self, at: u32) -> Option<Lookup>
+        ensures { result ≡ lookup self.now.sizes self.now.cache at }
+    {
+        if self.is_outside(at) {
+            return None;
+        }
+        let block = self.block_of(at);
+        let i = self.place_in(at);
+        Some(self.find_in(block, i))
+    }
+
+    // What a request for the word of a block would find.
+    fn find_in(&self, block: u32, i: u32) -> Lookup
+        requires { i < self.now.sizes.block_words }
+        ensures { result ≡ lookup_of self.now.cache block i }
+    {
+        if self.directory.look(block).is_none() {
+            return Lookup::Miss;
+        }
+        match self.find_word(block, i) {
+            Finding::Here(_) => Lookup::Hit,
+            Finding::Coming { .. } => Lookup::Join,
         }
     }
 

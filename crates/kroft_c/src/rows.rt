@@ -1,0 +1,113 @@
+//! Events and answers as rows of plain numbers.
+ghost use Rattle.std.specs.Prelude.{◌≡◌};
+ghost use Rattle.kroft_c.specs.Rows.{event_of, answer_of, cause_of};
+
+use flat_model::{Answer, Cause, Event, Lanes, Word};
+
+/// An event as plain numbers: its kind (0 load, 1 store, 2 prefetch, 3 evict, 4 drain, 5 serve,
+/// 6 arrive, 7 process, 8 take), and what an event of this kind carries. The other numbers are not
+/// looked at.
+#[repr(C)]
+#[derive(Clone, Copy, PartialEq, Eq, Debug)]
+pub struct EventRow {
+    /// 0 to 8.
+    pub kind: u32,
+    /// The tag of a load.
+    pub tag: u16,
+    /// The lanes of a store: bit `k` is byte `k`, and bits past the fourth name no lane.
+    pub lanes: u8,
+    /// The word of a load, a store or a prefetch; the block of an eviction; the bank that serves or
+    /// whose answer arrives.
+    pub at: u32,
+    /// The place of what arrives, is processed or is taken.
+    pub place: u32,
+    /// The word of a store.
+    pub word: Word,
+}
+
+/// An answer as plain numbers: its kind (0 accepted, 1 moved, 2 value, 3 nothing, 4 refused), and
+/// what an answer of this kind carries. The other numbers are not looked at.
+#[repr(C)]
+#[derive(Clone, Copy, PartialEq, Eq, Debug)]
+pub struct AnswerRow {
+    /// 0 to 4.
+    pub kind: u32,
+    /// The number of a refusal's cause: 1 to 13.
+    pub cause: u32,
+    /// The tag of a value.
+    pub tag: u16,
+    /// The word of a value.
+    pub word: Word,
+}
+
+impl EventRow {
+    /// The event that the row says; `None` for a kind past the last.
+    pub fn event(&self) -> Option<Event>
+        ensures { result ≡ event_of self.now }
+    {
+        match self.kind {
+            0 => Some(Event::Load {
+                tag: self.tag,
+                at: self.at,
+            }),
+            1 => Some(Event::Store {
+                at: self.at,
+                word: self.word,
+                lanes: Lanes(self.lanes),
+            }),
+            2 => Some(Event::Prefetch { at: self.at }),
+            3 => Some(Event::Evict { block: self.at }),
+            4 => Some(Event::Drain),
+            5 => Some(Event::Serve { bank: self.at }),
+            6 => Some(Event::Arrive {
+                bank: self.at,
+                place: self.place,
+            }),
+            7 => Some(Event::Process { place: self.place }),
+            8 => Some(Event::Take { place: self.place }),
+            _ => None,
+        }
+    }
+}
+
+impl AnswerRow {
+    /// The answer that the row says; `None` for a kind past the last, and for a refusal whose cause
+    /// isn't 1 to 13.
+    pub fn answer(&self) -> Option<Answer>
+        ensures { result ≡ answer_of self.now }
+    {
+        match self.kind {
+            0 => Some(Answer::Accepted),
+            1 => Some(Answer::Moved),
+            2 => Some(Answer::Value {
+                tag: self.tag,
+                word: self.word,
+            }),
+            3 => Some(Answer::Nothing),
+            4 => Some(Answer::Refused(cause_with(self.cause)?)),
+            _ => None,
+        }
+    }
+}
+
+// The cause with a number.
+fn cause_with(number: u32) -> Option<Cause>
+    ensures { result ≡ cause_of number }
+{
+    match number {
+        1 => Some(Cause::OutOfRange),
+        2 => Some(Cause::NoLanes),
+        3 => Some(Cause::TagInUse),
+        4 => Some(Cause::RepliesFull),
+        5 => Some(Cause::TargetsFull),
+        6 => Some(Cause::BlockQueued),
+        7 => Some(Cause::NoRegister),
+        8 => Some(Cause::SetPending),
+        9 => Some(Cause::QueueFull),
+        10 => Some(Cause::BankFull),
+        11 => Some(Cause::NotPresent),
+        12 => Some(Cause::StackFull),
+        13 => Some(Cause::StrayWord),
+        _ => None,
+    }
+}
