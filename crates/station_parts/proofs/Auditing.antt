@@ -1,29 +1,48 @@
--- Where all banks are at hand, the cache side's journal is true of them.
-use Rattle.std.proofs.Common.{◌≡◌, ℕ, zero, suc, ◌+◌, ◌*◌, ◌-◌, ◌/◌, ◌<◌, List, [], ◌∷◌, ◌++◌, map, length, replicate, slice_index_or, None, refl, sym, ap, ap₂, ◌∙◌, arith}
+-- Where all parts are at hand, the cache side's journal is true of the banks, and what follows from it.
+use Rattle.std.proofs.Common.{◌≡◌, ℕ, zero, suc, ◌+◌, ◌*◌, ◌-◌, ◌/◌, ◌<◌, Bool, true, false, cond, nat_lt, List, [], ◌∷◌, ◌++◌, map, length, replicate, position, slice_index_or, Option, Some, None, refl, sym, ap, ap₂, ◌∙◌, ◌≢◌, ◌≤◌, ◌%◌, subst, arith, zero-add, lt-ltb, append-nil, mod-lt, div-add-mod', IsTrue}
 use Rattle.std.proofs.Props.{props}
 use Rattle.std.proofs.Math.Logic.{∥∥₁_elim}
-use Rattle.std.specs.List.{range_with_len}
-use Rattle.std.proofs.lemmas.List.{get_or_default, length-replicate}
+use Rattle.std.specs.List.{range_with_len, position_from}
+use Rattle.std.proofs.lemmas.List.{get_or_default, length-replicate, length-map}
+use Rattle.std.proofs.lemmas.List.FromFn.{length-map-range_with_len, get_or-map-range_with_len}
+use Rattle.std.proofs.lemmas.Iterator.Adapters.{position_from-zero}
+use Rattle.std.proofs.lemmas.Nat.{le-div}
+use Rattle.std.proofs.lemmas.Option.{slice_get-get_or}
 use Rattle.std.specs.declared.alloc.Global.{Global}
-use Rattle.rtrb.specs.Ring.{sent, received, known_items}
+use Rattle.rtrb.specs.Ring.{received, known_items}
 use Rattle.rtrb.specs.declared.consumer.Consumer.{Consumer}
 use Rattle.rtrb.specs.declared.AnyItems.{AnyItems}
 use Rattle.flat_model.specs.Words.{zero_word}
-use Rattle.flat_model.specs.Flat.{word_at}
+use Rattle.flat_model.specs.Flat.{Flat, word_at}
+use Rattle.memory_banks.specs.declared.Command.{Command}
 use Rattle.memory_banks.specs.declared.BankAnswer.{BankAnswer}
-use Rattle.memory_banks.specs.Banks.{answers_to}
-use Rattle.cache_unit.specs.State.{Sizes}
+use Rattle.memory_banks.specs.Banks.{after, answers_to}
+use Rattle.cache_unit.specs.State.{Sizes, Cache, tags}
+use Rattle.cache_unit.specs.Views.{is_clean}
+use Rattle.machine_core.specs.Law.{IsLawful}
 use Rattle.machine_core.proofs.Whole.{lawful}
-use Rattle.station_parts.specs.declared.row.Line.{Line}
+use Rattle.station_journal.specs.declared.asks.Ask.{Ask}
+use Rattle.station_journal.specs.declared.journal.Entry.{Entry}
+use Rattle.station_journal.specs.declared.journal.SideFault.{SideFault}
+use Rattle.station_journal.specs.Journal.{Stand, opening_stand, true_stand, true_word, zeros, zeros_in, IsBankTrue}
+use Rattle.station_journal.specs.Law.{IsFlatJournal, TakesABlock, IsPaid, bank_after}
+use Rattle.station_journal.specs.Parts.{asks_of, told_of}
+use Rattle.station_journal.proofs.FlatFrom.{some_same}
+use Rattle.station_journal.specs.Side.{SideTells, ComesOf}
+use Rattle.station_journal.proofs.Walking.{fit_prop, journal_is_flat}
+use Rattle.station_journal.proofs.Telling.{bank_true, stands_true, never_faulted}
+use Rattle.station_parts.specs.declared.port.Port.{Port}
 use Rattle.station_parts.specs.declared.bank.BankSide.{BankSide}
 use Rattle.station_parts.specs.declared.parts.CacheSide.{CacheSide}
-use Rattle.station_journal.specs.Journal.{opening_stand, true_word, zeros, zeros_in, IsBankTrue}
-use Rattle.station_parts.specs.Rows.{sent_at, popped_at}
-use Rattle.station_parts.specs.Seen.{AreBanksSeen}
-use Rattle.station_journal.specs.Side.{ComesOf}
+use Rattle.station_parts.specs.Ids.{PortId, BankId, port_id, bank_id, pops_from}
+use Rattle.station_parts.specs.Rows.{sent_at, popped_at, come_to}
+use Rattle.station_parts.specs.Words.{taken, told_in_all, known_tellings, received_by, sent_by, words_of, known_commands, commanded}
+use Rattle.station_parts.specs.Station.{AreOneStation}
+use Rattle.station_parts.specs.Audited.{IsSeen, holds_item, first_ring, first_left, finding, audit_of}
+use Rattle.station_parts.specs.declared.parts.Ring.{Ring}
+use Rattle.station_parts.specs.declared.parts.Audit.TheVariants.{Faulted, Clean}
+use Rattle.station_parts.specs.Promises.{offered_by, taken_by, words_by, ArePrefixes, AreWhole, IsFlatRun, PaysLoads, HoldFlat}
 use Rattle.station_parts.proofs.Rows.{here_before}
-use Rattle.station_journal.proofs.Walking.{fit_prop}
-use Rattle.station_journal.proofs.Telling.{bank_true, never_faulted}
 
 -- ---- a bank's share of zeros
 
@@ -42,47 +61,247 @@ zeros_are z b =
     let is = all_zero z.banks 0 count b z.words in
     is ∙ ap (λ n. replicate n zero_word) (sym (length-replicate count zero_word) ∙ ap length (sym is))
 
--- ---- an element of a row
+-- ---- rows
 
 some_of : {X : Type 0} (xs : List X) (b : ℕ) → b < length xs → X
 some_of [] b h = absurd (omega arith)
 some_of (x ∷ xs) b h = x
 
-at_row : {X Y : Type 0} (f : X → List Y) (xs : List X) (b : ℕ) (d : X) → b < length xs → slice_index_or (map f xs) b [] ≡ f (slice_index_or xs b d)
-at_row f xs b d h =
-    here_before f xs b (slice_index_or xs b d) [] h (get_or_default xs b d (slice_index_or xs b d) h)
+at_row : {X Y : Type 0} (f : X → Y) (e : Y) (xs : List X) (b : ℕ) (d : X) → b < length xs → slice_index_or (map f xs) b e ≡ f (slice_index_or xs b d)
+at_row f e xs b d h =
+    here_before f xs b (slice_index_or xs b d) e h (get_or_default xs b d (slice_index_or xs b d) h)
+
+-- what two rows have at a place is the same
+at_both : {X Y Z : Type 0} (f : X → Z) (g : Y → Z) (xs : List X) (ys : List Y) (b : ℕ) (d : X) (e : Y) → map f xs ≡ map g ys → b < length xs → f (slice_index_or xs b d) ≡ g (slice_index_or ys b e)
+at_both f g xs ys b d e same h =
+    let there : b < length ys = subst (λ n. b < n) (sym (length-map xs f) ∙ ap length same ∙ length-map ys g) h in
+    sym (at_row f (f (slice_index_or xs b d)) xs b d h) ∙ ap (λ zs. slice_index_or zs b (f (slice_index_or xs b d))) same ∙ at_row g (f (slice_index_or xs b d)) ys b e there
+
+-- no place passes a test
+none_from : {X : Type 0} (p : X → Bool) (k : ℕ) (xs : List X) → position_from p k xs ≡ None → (i : ℕ) (d : X) → i < length xs → p (slice_index_or xs i d) ≡ false
+none_from p k [] e i d h = absurd (omega arith)
+none_from p k (x ∷ xs) e zero d h = none_here (p x) e
+  where
+    none_here : (t : Bool) → cond t (Some k) (position_from p (k + 1) xs) ≡ None → t ≡ false
+    none_here true q = cc
+    none_here false q = refl
+none_from p k (x ∷ xs) e (suc i) d h = none_from p (k + 1) xs (none_there (p x) e) i d (omega arith)
+  where
+    none_there : (t : Bool) → cond t (Some k) (position_from p (k + 1) xs) ≡ None → position_from p (k + 1) xs ≡ None
+    none_there true q = cc
+    none_there false q = q
+
+none_at : {X : Type 0} (p : X → Bool) (xs : List X) → position p xs ≡ None → (i : ℕ) (d : X) → i < length xs → p (slice_index_or xs i d) ≡ false
+none_at p xs e = none_from p 0 xs (sym (position_from-zero p xs) ∙ e)
+
+empty_if : {X : Type 0} (xs : List X) → holds_item xs ≡ false → xs ≡ []
+empty_if [] e = refl
+empty_if (x ∷ xs) e =
+    let some : nat_lt 0 (length (x ∷ xs)) ≡ true = lt-ltb 0 (length (x ∷ xs)) (omega arith) in
+    let clash : true ≡ false = sym some ∙ e in
+    cc
+
+-- ---- what a cache side knows, once its unit, its sends and the words that came are known
+
+pub record EndsAs (z : Sizes) (entries : List Entry) (cache : Cache) (commands : ℕ → List Command) : Type 0 where
+  pub owed : length (tags (true_stand z entries).cache) ≡ length (tags cache)
+  pub clean : is_clean (true_stand z entries).cache ≡ is_clean cache
+  pub sent : (b : ℕ) → b < z.banks → (true_stand z entries).sent b ≡ commands b
+
+ends_as : (z : Sizes) → IsLawful z → TakesABlock z → (cache : Cache) (sent : ℕ → List Command) (popped : ℕ → List BankAnswer) (fault : Option SideFault) (entries : List Entry) → SideTells z cache sent popped fault entries → ((b : ℕ) → b < z.banks → ComesOf (zeros_in z b) (sent b) (popped b)) → EndsAs z entries cache sent
+ends_as z law takes cache sent popped fault entries h banks =
+    let stands = stands_true z law takes cache sent popped fault entries h banks in
+    let same = ap (λ (s : Stand). s.cache) stands ∙ h.unit in
+    record {
+      owed = ap (λ c. length (tags c)) same;
+      clean = ap is_clean same;
+      sent = λ b l. ap (λ (s : Stand). s.sent b) stands ∙ h.commands b l;
+    }
+
+one_more_time : (q n : ℕ) → (q + 1) * n ≡ q * n + n
+one_more_time q n = grind arith
 
 -- ---- the audit
 
-module _ (z : Sizes) (lines : List Line) (ends : List (Consumer BankAnswer Global AnyItems)) (banks : List BankSide) (few : length lines ≡ z.banks) (as_many : length ends ≡ z.banks) (seen : AreBanksSeen z lines ends banks) where
-  pub comes_of : (b : ℕ) → b < z.banks → ComesOf (zeros_in z b) (sent_at lines b) (popped_at ends b)
+module _ {W B R D : ℕ} (cache : CacheSide W B R D) (ports : List Port) (banks : List BankSide) (one : AreOneStation cache ports banks) (seen : IsSeen cache ports banks) where
+  abbrev z : Sizes
+  z = cache.unit.sizes
+
+  abbrev entries : List Entry
+  entries = cache.journal.items
+
+  bank_number : length banks ≡ cache.unit.sizes.banks
+  bank_number =
+      sym (length-map banks bank_id) ∙ sym (length-map (map bank_id banks) (λ (x : BankId). x.words)) ∙ ap length one.words ∙ length-map-range_with_len (λ b. length (zeros_in cache.unit.sizes b)) 0 cache.unit.sizes.banks
+
+  ask_number : length cache.asks.items ≡ length ports
+  ask_number =
+      sym (length-map cache.asks.items pops_from) ∙ sym (ap length one.asks) ∙ length-map (map port_id ports) (λ (x : PortId). x.asks) ∙ length-map ports port_id
+
+  -- each bank has its share of the words
+  share : (b : ℕ) (d : BankSide) → b < cache.unit.sizes.banks → length (slice_index_or banks b d).words.items ≡ length (zeros_in cache.unit.sizes b)
+  share b d l =
+      let in_banks : b < length banks = subst (λ n. b < n) (sym bank_number) l in
+      let in_ids : b < length (map bank_id banks) = subst (λ n. b < n) (sym (length-map banks bank_id)) in_banks in
+      let here = at_row (λ (x : BankId). x.words) 0 (map bank_id banks) b (bank_id d) in_ids ∙ ap (λ (x : BankId). x.words) (at_row bank_id (bank_id d) banks b d in_banks) in
+      sym here ∙ ap (λ ns. slice_index_or ns b 0) one.words ∙ get_or-map-range_with_len (λ k. length (zeros_in cache.unit.sizes k)) 0 cache.unit.sizes.banks b b 0 l (zero-add b)
+
+  comes_of : (b : ℕ) → b < cache.unit.sizes.banks → ComesOf (zeros_in cache.unit.sizes b) (sent_at cache.row.lines.items b) (popped_at cache.answers.items b)
   comes_of b l =
-      let in_lines : b < length lines = omega arith in
-      let in_ends : b < length ends = omega arith in
-      let in_banks : b < length banks = let n = seen.number in omega arith in
-      let line = some_of lines b in_lines in
-      let end = some_of ends b in_ends in
+      let in_ends : b < length cache.answers.items = let n = cache.ends in omega arith in
+      let in_banks : b < length banks = subst (λ n. b < n) (sym bank_number) l in
+      let end = some_of cache.answers.items b in_ends in
       let bank = some_of banks b in_banks in
       let here = slice_index_or banks b bank in
-      let rings = seen.seen b line end bank l in
-      let share : replicate (length here.words.items) zero_word ≡ zeros_in z b = ap (λ n. replicate n zero_word) (seen.words b bank l) ∙ sym (zeros_are z b) in
+      let its_end = slice_index_or cache.answers.items b end in
+      let zeros_same : replicate (length here.words.items) zero_word ≡ zeros_in cache.unit.sizes b = ap (λ n. replicate n zero_word) (share b bank l) ∙ sym (zeros_are cache.unit.sizes b) in
       record {
         served = received here.commands;
         left = known_items here.commands;
-        on_its_way = known_items (slice_index_or ends b end);
-        commands = rings.commands ∙ sym (at_row (λ (x : Line). sent x.ring) lines b line in_lines);
-        answers = ap (λ xs. xs ++ known_items (slice_index_or ends b end)) (at_row received ends b end in_ends) ∙ rings.answers ∙ here.answered ∙ ap (λ ws. answers_to ws (received here.commands)) share;
+        on_its_way = known_items its_end;
+        commands = sym (at_row commanded [] banks b bank in_banks) ∙ ap (λ xs. slice_index_or xs b []) seen.commands;
+        answers =
+            ap (λ xs. xs ++ known_items its_end) (at_row received [] cache.answers.items b end in_ends)
+            ∙ at_both come_to sent_by cache.answers.items banks b end bank seen.answers in_ends
+            ∙ here.answered
+            ∙ ap (λ ws. answers_to ws (received here.commands)) zeros_same;
       }
 
--- the journal is true of the banks, and the side isn't faulted
-pub audited : {W B R D : ℕ} (cache : CacheSide W B R D) (banks : List BankSide) → AreBanksSeen cache.unit.sizes cache.row.lines.items cache.answers.items banks → IsBankTrue cache.unit.sizes cache.journal.items × (cache.fault ≡ None)
-audited cache banks seen =
-    let z = cache.unit.sizes in
-    let sent = sent_at cache.row.lines.items in
-    let popped = popped_at cache.answers.items in
-    let law = lawful z cache.in_range in
-    let takes = cache.in_range.enough_commands in
-    let comes = comes_of z cache.row.lines.items cache.answers.items banks cache.lines cache.ends seen in (
-      ∥∥₁_elim cache.tells (fit_prop z (true_word z) cache.journal.items (opening_stand z)) (λ h. bank_true z law takes cache.unit.cache sent popped cache.fault cache.journal.items h comes),
-      ∥∥₁_elim cache.tells (hlevel props) (λ h. never_faulted z law takes cache.unit.cache sent popped cache.fault cache.journal.items h comes),
-    )
+  law : IsLawful cache.unit.sizes
+  law = lawful cache.unit.sizes cache.in_range
+
+  pub bank_true_here : IsBankTrue cache.unit.sizes cache.journal.items
+  bank_true_here =
+      ∥∥₁_elim cache.tells (fit_prop z (true_word z) entries (opening_stand z)) (λ h. bank_true z law cache.in_range.enough_commands cache.unit.cache (sent_at cache.row.lines.items) (popped_at cache.answers.items) cache.fault entries h comes_of)
+
+  pub sound_here : cache.fault ≡ None
+  sound_here =
+      ∥∥₁_elim cache.tells (hlevel props) (λ h. never_faulted z law cache.in_range.enough_commands cache.unit.cache (sent_at cache.row.lines.items) (popped_at cache.answers.items) cache.fault entries h comes_of)
+
+  ends_prop : IsProp (EndsAs cache.unit.sizes cache.journal.items cache.unit.cache (sent_at cache.row.lines.items))
+  ends_prop = hlevel props
+
+  ends_here : EndsAs cache.unit.sizes cache.journal.items cache.unit.cache (sent_at cache.row.lines.items)
+  ends_here =
+      ∥∥₁_elim cache.tells ends_prop (λ h. ends_as z law cache.in_range.enough_commands cache.unit.cache (sent_at cache.row.lines.items) (popped_at cache.answers.items) cache.fault entries h comes_of)
+
+  flat_here : IsFlatJournal cache.unit.sizes cache.journal.items (true_stand cache.unit.sizes cache.journal.items)
+  flat_here = journal_is_flat z entries law cache.in_range.enough_commands bank_true_here
+
+  pub run_here : IsFlatRun cache.unit.sizes cache.journal.items
+  run_here = record { flat = flat_here.flat; runs = flat_here.runs }
+
+  -- ---- what ports offered and took
+
+  ask_there : (p : ℕ) → p < length ports → p < length cache.asks.items
+  ask_there p l = subst (λ n. p < n) (sym ask_number) l
+
+  -- a port's asks in the journal, and those that are left in its ring
+  asks_and_left : (p : ℕ) (l : p < length ports) (end : Consumer Ask Global AnyItems) → asks_of p cache.journal.items ++ known_items (slice_index_or cache.asks.items p end) ≡ offered_by ports p
+  asks_and_left p l end =
+      let here = ask_there p l in
+      let its_end = slice_index_or cache.asks.items p end in
+      ap (λ xs. xs ++ known_items its_end) (sym (cache.ports.asked p here) ∙ at_row received [] cache.asks.items p end here)
+      ∙ sym (at_row come_to [] cache.asks.items p end here)
+      ∙ ap (λ zs. slice_index_or zs p []) seen.asks
+
+  -- what a port took, and what is left in the ring to it
+  taken_and_left : (p : ℕ) (l : p < length ports) (port : Port) → taken_by ports p ++ known_tellings (slice_index_or ports p port) ≡ told_of p cache.journal.items
+  taken_and_left p l port =
+      ap (λ xs. xs ++ known_tellings (slice_index_or ports p port)) (at_row taken [] ports p port l)
+      ∙ sym (at_row told_in_all [] ports p port l)
+      ∙ ap (λ zs. slice_index_or zs p []) seen.told
+      ∙ cache.ports.told p (ask_there p l)
+
+  pub prefixes_here : ArePrefixes cache.journal.items ports
+  prefixes_here =
+      record {
+        asks = λ p l. let end = some_of cache.asks.items p (ask_there p l) in (known_items (slice_index_or cache.asks.items p end), asks_and_left p l end);
+        told = λ p l. let port = some_of ports p l in (known_tellings (slice_index_or ports p port), taken_and_left p l port);
+      }
+
+  -- ---- a clean audit
+
+  pub never_here : finding cache.fault (first_left cache ports banks) (length (tags cache.unit.cache)) ≢ Faulted
+  never_here = go cache.fault sound_here (first_left cache ports banks) (length (tags cache.unit.cache))
+    where
+      go : (f : Option SideFault) → f ≡ None → (r : Option Ring) (n : ℕ) → finding f r n ≢ Faulted
+      go (Some fault) e r n = let clash : ⊥ = cc in absurd clash
+      go None e (Some ring) n = λ q. cc
+      go None e None zero = λ q. cc
+      go None e None (suc n) = λ q. cc
+
+  module _ (clean : audit_of cache ports banks ≡ Clean) where
+    clean_parts : (f : Option SideFault) (r : Option Ring) (n : ℕ) → finding f r n ≡ Clean → (r ≡ None) × (n ≡ 0)
+    clean_parts (Some fault) r n e = cc
+    clean_parts None (Some ring) n e = cc
+    clean_parts None None zero e = (refl, refl)
+    clean_parts None None (suc n) e = cc
+
+    found_none : (a b c d : Option ℕ) → first_ring a b c d ≡ None → (a ≡ None) × (b ≡ None) × (c ≡ None) × (d ≡ None)
+    found_none (Some a) b c d e = cc
+    found_none None (Some b) c d e = cc
+    found_none None None (Some c) d e = cc
+    found_none None None None (Some d) e = cc
+    found_none None None None None e = (refl, refl, refl, refl)
+
+    parts : (first_left cache ports banks ≡ None) × (length (tags cache.unit.cache) ≡ 0)
+    parts = clean_parts cache.fault (first_left cache ports banks) (length (tags cache.unit.cache)) clean
+
+    none : (position (λ c. holds_item (known_items c)) cache.asks.items ≡ None) × (position (λ p. holds_item (known_tellings p)) ports ≡ None) × (position (λ b. holds_item (known_commands b)) banks ≡ None) × (position (λ c. holds_item (known_items c)) cache.answers.items ≡ None)
+    none = found_none _ _ _ _ parts.0
+
+    pub whole_here : AreWhole cache.journal.items ports
+    whole_here =
+        record {
+          asks = λ p l.
+              let end = some_of cache.asks.items p (ask_there p l) in
+              let empty = empty_if (known_items (slice_index_or cache.asks.items p end)) (none_at (λ c. holds_item (known_items c)) cache.asks.items none.0 p end (ask_there p l)) in
+              sym (append-nil (asks_of p cache.journal.items)) ∙ ap (λ xs. asks_of p cache.journal.items ++ xs) (sym empty) ∙ asks_and_left p l end;
+          told = λ p l.
+              let port = some_of ports p l in
+              let empty = empty_if (known_tellings (slice_index_or ports p port)) (none_at (λ x. holds_item (known_tellings x)) ports none.1 p port l) in
+              sym (append-nil (taken_by ports p)) ∙ ap (λ xs. taken_by ports p ++ xs) (sym empty) ∙ taken_and_left p l port;
+        }
+
+    pub paid_here : PaysLoads cache.unit.sizes cache.journal.items
+    paid_here flat runs =
+        subst (λ f. IsPaid f cache.journal.items) (some_same flat_here.flat flat (sym flat_here.runs ∙ runs)) (flat_here.ends (ends_here.owed ∙ parts.1))
+
+    -- a bank has served all that it was sent
+    bank_holds : (b : ℕ) → b < cache.unit.sizes.banks → words_by banks b ≡ bank_after cache.unit.sizes (true_stand cache.unit.sizes cache.journal.items) b
+    bank_holds b l =
+        let in_banks : b < length banks = subst (λ n. b < n) (sym bank_number) l in
+        let bank = some_of banks b in_banks in
+        let here = slice_index_or banks b bank in
+        let empty = empty_if (known_commands here) (none_at (λ x. holds_item (known_commands x)) banks none.2 b bank in_banks) in
+        let served : received_by here ≡ sent_at cache.row.lines.items b = sym (append-nil (received_by here)) ∙ ap (λ xs. received_by here ++ xs) (sym empty) ∙ sym (at_row commanded [] banks b bank in_banks) ∙ ap (λ xs. slice_index_or xs b []) seen.commands in
+        let zeros_same : replicate (length here.words.items) zero_word ≡ zeros_in cache.unit.sizes b = ap (λ n. replicate n zero_word) (share b bank l) ∙ sym (zeros_are cache.unit.sizes b) in
+        at_row words_of [] banks b bank in_banks ∙ here.stored ∙ ap₂ after zeros_same (served ∙ sym (ends_here.sent b l))
+
+    -- and it has a word for each address of its own
+    word_there : (at : ℕ) → at < cache.unit.sizes.words → at / cache.unit.sizes.banks < length (words_by banks (at % cache.unit.sizes.banks))
+    word_there at l =
+        let n = cache.unit.sizes.banks in
+        let some = cache.in_range.some_banks in
+        let b = at % n in
+        let low : b < n = mod-lt at some in
+        let in_banks : b < length banks = subst (λ k. b < k) (sym bank_number) low in
+        let bank = some_of banks b in_banks in
+        let whole = div-add-mod' at n in
+        let next : (at / n + 1) * n ≡ at / n * n + n = one_more_time (at / n) n in
+        let enough : (at / n + 1) * n ≤ cache.unit.sizes.words + n - 1 - b = omega arith in
+        let count = length-map-range_with_len (λ k. word_at (zeros cache.unit.sizes) (k * n + b)) 0 ((length (zeros cache.unit.sizes) + n - 1 - b) / n) ∙ ap (λ w. (w + n - 1 - b) / n) (length-replicate cache.unit.sizes.words zero_word) in
+        let long : length (words_by banks b) ≡ (cache.unit.sizes.words + n - 1 - b) / n = ap length (at_row words_of [] banks b bank in_banks) ∙ share b bank low ∙ count in
+        let most = le-div (at / n + 1) (cache.unit.sizes.words + n - 1 - b) n some enough in
+        omega arith
+
+    pub held_here : IsTrue (is_clean cache.unit.cache) → HoldFlat cache.unit.sizes cache.journal.items banks
+    held_here settled flat runs at l =
+        let n = cache.unit.sizes.banks in
+        let b = at % n in
+        let settled' = subst IsTrue (sym ends_here.clean) settled in
+        let mem = ap (λ (f : Flat). word_at f.mem at) (some_same flat_here.flat flat (sym flat_here.runs ∙ runs)) in
+        slice_get-get_or (words_by banks b) (at / n) zero_word (word_there at l)
+        ∙ ap (λ ws. Some (word_at ws (at / n))) (bank_holds b (mod-lt at cache.in_range.some_banks))
+        ∙ ap Some (flat_here.settles settled' at l ∙ mem)

@@ -1,6 +1,7 @@
 pub mod Rows
 pub mod Moves
 pub mod Making
+pub mod Looking
 pub mod Rowing
 pub mod Porting
 pub mod Turning

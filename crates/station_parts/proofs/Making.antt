@@ -36,7 +36,7 @@ use Rattle.station_parts.specs.Rows.{sent_at, free_at, taken_at, popped_at, rece
 use Rattle.station_parts.specs.Ports.{PortsTell}
 use Rattle.station_parts.specs.declared.parts.CacheSide.{CacheSide}
 use Rattle.station_parts.specs.Station.{AreOneStation, words_by_bank}
-use Rattle.station_parts.specs.Ids.{RingId, PortId, BankId, pushes_to, pops_from, port_id, bank_id}
+use Rattle.station_parts.specs.Ids.{PortId, BankId, pushes_to, pops_from, line_ring, port_id, bank_id}
 use Rattle.station_parts.specs.New.{bad_field, IsNewPort, IsNewBank, IsNewPopper, IsNewPusher, IsNewLine, IsNewCache, IsNewStation, AreNewPorts, AreNewBanks}
 
 -- the two ends of a ring belong to it
@@ -73,7 +73,7 @@ share_count s b =
 pub one_more_bank : (s : Shape) (banks : List BankSide) (lines : List Line) (answers : List (Consumer BankAnswer Global AnyItems)) (b : BankSide) (l : Line) (a : Consumer BankAnswer Global AnyItems) → AreNewBanks s banks lines answers → IsPair l.ring b.commands → IsPair b.answers a → IsNewBank s.bank_queue b → IsNewLine s.bank_queue l → IsNewPopper a → length b.words.items ≡ (s.words + s.banks - 1 - length banks) / s.banks → AreNewBanks s (banks ++ b ∷ []) (lines ++ l ∷ []) (answers ++ a ∷ [])
 one_more_bank s banks lines answers b l a h command_pair answer_pair bank line popper count =
     record {
-      command_rings = matched_more (λ (x : BankId). x.commands) bank_id (λ (x : Line). pushes_to x.ring) banks lines b l h.command_rings (ring_of_pair l.ring b.commands command_pair);
+      command_rings = matched_more (λ (x : BankId). x.commands) bank_id line_ring banks lines b l h.command_rings (ring_of_pair l.ring b.commands command_pair);
       answer_rings = matched_more (λ (x : BankId). x.answers) bank_id pops_from banks answers b a h.answer_rings (sym (ring_of_pair b.answers a answer_pair));
       words = words;
       each_bank = All-push (IsNewBank s.bank_queue) banks b h.each_bank bank;
@@ -121,7 +121,7 @@ module _ (s : Shape) (z : Sizes) (count : ℕ) (ports : List Port) (asks : List 
 
   pub lines_number : length lines ≡ z.banks
   lines_number =
-      lengths_match (λ (x : BankId). x.commands) bank_id (λ (x : Line). pushes_to x.ring) banks lines made.command_rings ∙ bank_number
+      lengths_match (λ (x : BankId). x.commands) bank_id line_ring banks lines made.command_rings ∙ bank_number
 
   pub answers_number : length answers ≡ z.banks
   answers_number =
@@ -192,7 +192,7 @@ module _ (s : Shape) (z : Sizes) (count : ℕ) (ports : List Port) (asks : List 
         record {
           asks = new.ask_rings ∙ sym (ap (map pops_from) asks_is);
           told = new.told_rings ∙ sym (ap (map pushes_to) tellings_is);
-          commands = made.command_rings ∙ sym (ap (map (λ (l : Line). pushes_to l.ring)) lines_is);
+          commands = made.command_rings ∙ sym (ap (map line_ring) lines_is);
           answers = made.answer_rings ∙ sym (ap (map pops_from) answers_is);
           words = shares ∙ sym (ap (λ (u : UnitState). words_by_bank u.sizes) unit_is);
         }

@@ -1,5 +1,5 @@
 -- One more entry, as the ports see it.
-use Rattle.std.proofs.Common.{◌≡◌, ℕ, ◌==◌, cond, List, [], ◌∷◌, ◌++◌, refl, sym, ap, ◌∙◌, append_assoc, append-nil}
+use Rattle.std.proofs.Common.{◌≡◌, ℕ, List, [], ◌∷◌, ◌++◌, sym, ap, ◌∙◌, append-nil}
 use Rattle.std.specs.declared.alloc.Global.{Global}
 use Rattle.rtrb.specs.declared.consumer.Consumer.{Consumer}
 use Rattle.rtrb.specs.declared.producer.Producer.{Producer}
@@ -8,9 +8,8 @@ use Rattle.flat_model.specs.declared.Event.{Event}
 use Rattle.flat_model.specs.declared.Answer.{Answer}
 use Rattle.station_journal.specs.declared.journal.Source.{Source}
 use Rattle.station_journal.specs.declared.journal.Entry.{Entry}
-use Rattle.station_journal.specs.declared.journal.Entry.TheVariants.{Step, Ended}
+use Rattle.station_journal.specs.declared.journal.Entry.TheVariants.{Step}
 use Rattle.station_journal.specs.declared.asks.Ask.{Ask}
-use Rattle.station_journal.specs.declared.asks.Ask.TheVariants.{Done}
 use Rattle.station_journal.specs.declared.asks.Told.{Told}
 use Rattle.station_journal.specs.Parts.{asked_by, told_by, asks_of, told_of}
 use Rattle.station_journal.proofs.Parting.{asks_of-append, told_of-append}

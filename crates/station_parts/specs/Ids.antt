@@ -8,6 +8,7 @@ use Rattle.rtrb.specs.declared.consumer.Consumer.{Consumer}
 use Rattle.rtrb.specs.declared.AnyItems.{AnyItems}
 use Rattle.cache_unit.specs.State.{Sizes}
 use Rattle.station_parts.specs.declared.port.Port.{Port}
+use Rattle.station_parts.specs.declared.row.Line.{Line}
 use Rattle.station_parts.specs.declared.bank.BankSide.{BankSide}
 use Rattle.station_parts.specs.declared.parts.CacheSide.{CacheSide}
 
@@ -25,6 +26,10 @@ pushes_to p = record { words = p.end.words; slots = p.end.slots; names = p.end.n
 -- the ring that an end pops from
 abbrev pub pops_from : {T : Type 0} → Consumer T Global AnyItems → RingId
 pops_from c = record { words = c.end.words; slots = c.end.slots; names = c.end.names; heap = c.end.heap }
+
+-- the ring of a line
+abbrev pub line_ring : Line → RingId
+line_ring line = pushes_to line.ring
 
 -- the rings of a port
 pub record PortId : Type 0 where
@@ -57,7 +62,7 @@ cache_id c =
     record {
       asks = map pops_from c.asks.items;
       told = map pushes_to c.tellings.items;
-      commands = map (λ l. pushes_to l.ring) c.row.lines.items;
+      commands = map line_ring c.row.lines.items;
       answers = map pops_from c.answers.items;
       sizes = c.unit.sizes;
       limit = c.limit;

@@ -1,9 +1,10 @@
 pub mod Rows
 pub mod Ports
 pub mod Asking
-pub mod Seen
+pub mod Promises
 pub mod Ids
 pub mod Station
 pub mod Words
 pub mod Serving
 pub mod New
+pub mod Audited

@@ -24,7 +24,7 @@ use Rattle.station_parts.specs.declared.port.Port.{Port}
 use Rattle.station_parts.specs.declared.row.Line.{Line}
 use Rattle.station_parts.specs.declared.bank.BankSide.{BankSide}
 use Rattle.station_parts.specs.declared.parts.CacheSide.{CacheSide}
-use Rattle.station_parts.specs.Ids.{PortId, BankId, pushes_to, pops_from, port_id, bank_id}
+use Rattle.station_parts.specs.Ids.{PortId, BankId, pushes_to, pops_from, line_ring, port_id, bank_id}
 use Rattle.station_parts.specs.Station.{AreOneStation}
 use Rattle.station_parts.specs.Words.{offered, taken, known_places, known_tellings, received_by, sent_by, words_of, known_commands, answer_places, journal_of, journal_limit, fault_in, sizes_in, cache_in, ports_in, asked_at, told_at, known_asks, telling_places, commands_at, words_at, known_words, command_places}
 
@@ -95,7 +95,7 @@ pub record IsNewLine (places : ℕ) (l : Line) : Type 0 where
 
 -- so far these banks, and the cache side's ends of their rings
 pub record AreNewBanks (s : Shape) (banks : List BankSide) (lines : List Line) (answers : List (Consumer BankAnswer Global AnyItems)) : Type 0 where
-  pub command_rings : map (λ (b : BankId). b.commands) (map bank_id banks) ≡ map (λ l. pushes_to l.ring) lines
+  pub command_rings : map (λ (b : BankId). b.commands) (map bank_id banks) ≡ map line_ring lines
   pub answer_rings : map (λ (b : BankId). b.answers) (map bank_id banks) ≡ map pops_from answers
   pub words : map (λ (b : BankId). b.words) (map bank_id banks) ≡ map (λ b. length (share_of (replicate s.words zero_word) s.banks b)) (range_with_len 0 (length banks))
   pub each_bank : All (IsNewBank s.bank_queue) banks

@@ -1,5 +1,5 @@
 -- Rows of ends of rings, one for each port or bank.
-use Rattle.std.specs.Prelude.{◌≡◌, ℕ, ◌<◌, List, [], length, map, slice_index_or, refl}
+use Rattle.std.specs.Prelude.{◌≡◌, ℕ, ◌<◌, List, [], ◌++◌, length, map, slice_index_or, refl}
 use Rattle.std.proofs.Common.{◌∙◌, subst, sym}
 use Rattle.std.proofs.lemmas.List.{get_or_default}
 use Rattle.std.specs.declared.alloc.Global.{Global}
@@ -74,3 +74,14 @@ room_at ends p = slice_index_or (map known_free ends) p 0
 -- the items that are known at a place, and not popped
 abbrev pub known_at : {T : Type 0} → List (Consumer T Global AnyItems) → ℕ → List T
 known_at ends p = slice_index_or (map known_items ends) p []
+
+-- every item that has come to an end: what it popped, and then what it knows of
+abbrev pub come_to : {T : Type 0} → Consumer T Global AnyItems → List T
+come_to end = received end ++ known_items end
+
+-- what was sent over a line, and how many words it has brought back
+abbrev pub sent_over : Line → List Command
+sent_over line = sent line.ring
+
+abbrev pub brought_by : Line → ℕ
+brought_by line = line.taken

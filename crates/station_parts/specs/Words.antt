@@ -1,7 +1,6 @@
 -- What a user says of the parts of a station: the lists of what went over their rings, and what their ends know.
-use Rattle.std.specs.Prelude.{ℕ, Bool, List, Option, length}
+use Rattle.std.specs.Prelude.{ℕ, Bool, List, ◌++◌, Option, length}
 use Rattle.std.specs.List.{list_any}
-use Rattle.std.specs.declared.alloc.Global.{Global}
 use Rattle.rtrb.specs.Ring.{sent, received, known_free, known_items}
 use Rattle.flat_model.specs.declared.Word.{Word}
 use Rattle.memory_banks.specs.declared.Command.{Command}
@@ -40,6 +39,10 @@ known_places p = known_free p.asks
 abbrev pub known_tellings : Port → List Told
 known_tellings p = known_items p.tellings
 
+-- all that it has been told so far: what it took, and then what it knows of
+abbrev pub told_in_all : Port → List Told
+told_in_all p = taken p ++ known_tellings p
+
 -- ---- a bank
 
 -- every command that the bank has served, oldest first
@@ -57,6 +60,10 @@ words_of b = b.words.items
 -- the commands that it knows of and hasn't served
 abbrev pub known_commands : BankSide → List Command
 known_commands b = known_items b.commands
+
+-- every command that has come to it
+abbrev pub commanded : BankSide → List Command
+commanded b = received_by b ++ known_commands b
 
 -- for how many more answers it knows a free place
 abbrev pub answer_places : BankSide → ℕ

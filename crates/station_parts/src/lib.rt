@@ -7,6 +7,7 @@
 mod asking;
 mod bank;
 mod ends;
+mod inspect;
 mod lines;
 mod make;
 mod parts;
@@ -17,8 +18,12 @@ mod side;
 mod views;
 
 pub use bank::BankSide;
+pub use inspect::audit;
 pub use make::{MAX_ENTRIES, MAX_PORTS, station};
 pub use parts::{Audit, CacheSide, Ring, Station, Stepped};
 pub use port::{ASK_PLACES, Port, TELLING_PLACES};
 pub use raw::RawBank;
 pub use station_journal::{Ask, Entry, SideFault, Source, Told};
+
+#[cfg(test)]
+mod tests;

@@ -1,4 +1,3 @@
-use Rattle.std.proofs.Common.{◌≡◌}
 use Rattle.station_parts.proofs.Making.{one_more_port}
 use Rattle.station_parts.proofs.make.add_port.Goals as goal
 

@@ -1,0 +1,52 @@
+use Rattle.std.proofs.Common.{◌≢◌, subst, sym, ◌∙◌}
+use Rattle.station_parts.specs.declared.parts.Audit.{Audit}
+use Rattle.station_parts.specs.declared.parts.Audit.TheVariants.{Faulted}
+use Rattle.station_parts.proofs.Moves.{still_one}
+use Rattle.station_parts.proofs.Auditing.{prefixes_here, bank_true_here, run_here, never_here, whole_here, paid_here, held_here}
+use Rattle.station_parts.proofs.inspect.audit.Goals as goal
+
+pub returns-clause-never : goal.returns-clause-never
+returns-clause-never g c =
+    let n = c.look_everywhere.new in
+    let e = c.look_everywhere.ensures in
+    let one = still_one _ _ _ _ _ _ e.same_cache e.same_ports e.same_banks c.requires in
+    subst (λ (r : Audit). r ≢ Faulted) (sym c.found.ensures) (never_here n.cache n.ports n.banks one e.seen)
+
+pub returns-clause-prefixes : goal.returns-clause-prefixes
+returns-clause-prefixes g c =
+    let n = c.look_everywhere.new in
+    let e = c.look_everywhere.ensures in
+    prefixes_here n.cache n.ports n.banks (still_one _ _ _ _ _ _ e.same_cache e.same_ports e.same_banks c.requires) e.seen
+
+pub returns-clause-bank_true : goal.returns-clause-bank_true
+returns-clause-bank_true g c =
+    let n = c.look_everywhere.new in
+    let e = c.look_everywhere.ensures in
+    bank_true_here n.cache n.ports n.banks (still_one _ _ _ _ _ _ e.same_cache e.same_ports e.same_banks c.requires) e.seen
+
+pub returns-clause-flat : goal.returns-clause-flat
+returns-clause-flat g c =
+    let n = c.look_everywhere.new in
+    let e = c.look_everywhere.ensures in
+    run_here n.cache n.ports n.banks (still_one _ _ _ _ _ _ e.same_cache e.same_ports e.same_banks c.requires) e.seen
+
+pub returns-clause-whole : goal.returns-clause-whole
+returns-clause-whole g c clean =
+    let n = c.look_everywhere.new in
+    let e = c.look_everywhere.ensures in
+    let one = still_one _ _ _ _ _ _ e.same_cache e.same_ports e.same_banks c.requires in
+    whole_here n.cache n.ports n.banks one e.seen (sym c.found.ensures ∙ clean)
+
+pub returns-clause-paid : goal.returns-clause-paid
+returns-clause-paid g c clean =
+    let n = c.look_everywhere.new in
+    let e = c.look_everywhere.ensures in
+    let one = still_one _ _ _ _ _ _ e.same_cache e.same_ports e.same_banks c.requires in
+    paid_here n.cache n.ports n.banks one e.seen (sym c.found.ensures ∙ clean)
+
+pub returns-clause-settled : goal.returns-clause-settled
+returns-clause-settled g c clean =
+    let n = c.look_everywhere.new in
+    let e = c.look_everywhere.ensures in
+    let one = still_one _ _ _ _ _ _ e.same_cache e.same_ports e.same_banks c.requires in
+    held_here n.cache n.ports n.banks one e.seen (sym c.found.ensures ∙ clean)

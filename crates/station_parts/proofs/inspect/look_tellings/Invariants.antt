@@ -1,0 +1,16 @@
+use Rattle.std.proofs.Common.{◌≡◌, map, take}
+use Rattle.rtrb.specs.Ring.{sent}
+use Rattle.station_parts.specs.Ids.{port_id, pushes_to}
+use Rattle.station_parts.specs.Words.{offered, taken, told_in_all}
+use Rattle.station_parts.proofs.inspect.look_tellings.Given as goal
+
+abbrev pub invariant-loop-p : goal.invariant-loop-p
+invariant-loop-p l =
+    record {
+      same_ids : map port_id l.ports ≡ map port_id l.fn.ports;
+      same_offered : map offered l.ports ≡ map offered l.fn.ports;
+      same_taken : map taken l.ports ≡ map taken l.fn.ports;
+      same_rings : map pushes_to l.tellings.items ≡ map pushes_to l.fn.tellings.items;
+      same_sent : map sent l.tellings.items ≡ map sent l.fn.tellings.items;
+      seen : take l.p (map told_in_all l.ports) ≡ take l.p (map sent l.tellings.items);
+    }

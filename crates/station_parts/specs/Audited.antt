@@ -1,0 +1,72 @@
+-- What an audit finds, and what it leaves as it was.
+use Rattle.std.specs.Prelude.{◌≡◌, ℕ, zero, suc, Bool, nat_lt, List, length, map, position, Option, Some, None}
+use Rattle.rtrb.specs.Ring.{sent, known_items}
+use Rattle.cache_unit.specs.State.{tags}
+use Rattle.station_journal.specs.declared.journal.SideFault.{SideFault}
+use Rattle.station_parts.specs.declared.port.Port.{Port}
+use Rattle.station_parts.specs.declared.bank.BankSide.{BankSide}
+use Rattle.station_parts.specs.declared.parts.CacheSide.{CacheSide}
+use Rattle.station_parts.specs.declared.parts.Ring.{Ring}
+use Rattle.station_parts.specs.declared.parts.Ring.TheVariants.{Asks, Told, Commands, Answers}
+use Rattle.station_parts.specs.declared.parts.Audit.{Audit}
+use Rattle.station_parts.specs.declared.parts.Audit.TheVariants.{Faulted, Left, Owed, Clean}
+use Rattle.station_parts.specs.Rows.{come_to, sent_over}
+use Rattle.station_parts.specs.Words.{told_in_all, commanded, offered, taken, known_tellings, received_by, sent_by, words_of, known_commands, journal_of, fault_in, cache_in, asked_at, told_at, commands_at, words_at}
+
+-- ---- at each ring, what was received and then what is known is what was sent
+
+pub record IsSeen {W B R D : ℕ} (cache : CacheSide W B R D) (ports : List Port) (banks : List BankSide) : Type 0 where
+  pub asks : map come_to cache.asks.items ≡ map offered ports
+  pub told : map told_in_all ports ≡ map sent cache.tellings.items
+  pub commands : map commanded banks ≡ map sent_over cache.row.lines.items
+  pub answers : map come_to cache.answers.items ≡ map sent_by banks
+
+-- ---- nothing was pushed or popped, and nothing else changed
+
+pub record LeavesCache {W B R D : ℕ} (old new : CacheSide W B R D) : Type 0 where
+  pub journal : journal_of new ≡ journal_of old
+  pub fault : fault_in new ≡ fault_in old
+  pub cache : cache_in new ≡ cache_in old
+  pub asked : (p : ℕ) → asked_at new p ≡ asked_at old p
+  pub told : (p : ℕ) → told_at new p ≡ told_at old p
+  pub commands : (b : ℕ) → commands_at new b ≡ commands_at old b
+  pub words : (b : ℕ) → words_at new b ≡ words_at old b
+
+pub record LeavesPorts (old new : List Port) : Type 0 where
+  pub offered : map offered new ≡ map offered old
+  pub taken : map taken new ≡ map taken old
+
+pub record LeavesBanks (old new : List BankSide) : Type 0 where
+  pub received : map received_by new ≡ map received_by old
+  pub sent : map sent_by new ≡ map sent_by old
+  pub words : map words_of new ≡ map words_of old
+
+-- ---- the answer
+
+abbrev pub holds_item : {T : Type 0} → List T → Bool
+holds_item xs = nat_lt 0 (length xs)
+
+-- the first of the rings that hold an item, the first one of each kind given by its place
+abbrev pub first_ring : Option ℕ → Option ℕ → Option ℕ → Option ℕ → Option Ring
+first_ring (Some port) told commands answers = Some (Asks port)
+first_ring None (Some port) commands answers = Some (Told port)
+first_ring None None (Some bank) answers = Some (Commands bank)
+first_ring None None None (Some bank) = Some (Answers bank)
+first_ring None None None None = None
+
+-- the first ring that is known to hold an item: asks by port, tellings by port, commands by bank, answers by bank
+abbrev pub first_left : {W B R D : ℕ} → CacheSide W B R D → List Port → List BankSide → Option Ring
+first_left cache ports banks =
+    first_ring (position (λ c. holds_item (known_items c)) cache.asks.items) (position (λ p. holds_item (known_tellings p)) ports)
+    (position (λ b. holds_item (known_commands b)) banks) (position (λ c. holds_item (known_items c)) cache.answers.items)
+
+-- what is found of a cache side by its fault, the first ring that holds an item, and how many values it owes
+abbrev pub finding : Option SideFault → Option Ring → ℕ → Audit
+finding (Some fault) left count = Faulted
+finding None (Some ring) count = Left ring
+finding None None zero = Clean
+finding None None (suc count) = Owed (suc count)
+
+abbrev pub audit_of : {W B R D : ℕ} → CacheSide W B R D → List Port → List BankSide → Audit
+audit_of cache ports banks =
+    finding (fault_in cache) (first_left cache ports banks) (length (tags (cache_in cache)))
