@@ -26,22 +26,24 @@ use Rattle.station_journal.specs.declared.journal.Entry.{Entry}
 use Rattle.station_journal.specs.declared.journal.SideFault.{SideFault}
 use Rattle.station_journal.specs.Journal.{Stand, opening_stand, true_stand, true_word, zeros, zeros_in, IsBankTrue}
 use Rattle.station_journal.specs.Law.{IsFlatJournal, TakesABlock, IsPaid, bank_after}
-use Rattle.station_journal.specs.Parts.{asks_of, told_of}
+use Rattle.station_journal.specs.Parts.{asks_of, told_of, IsOfPorts}
 use Rattle.station_journal.proofs.FlatFrom.{some_same}
 use Rattle.station_journal.specs.Side.{SideTells, ComesOf}
 use Rattle.station_journal.proofs.Walking.{fit_prop, journal_is_flat}
+use Rattle.station_journal.proofs.Answering.{asks_are_judged}
 use Rattle.station_journal.proofs.Telling.{bank_true, stands_true, never_faulted}
 use Rattle.station_parts.specs.declared.port.Port.{Port}
 use Rattle.station_parts.specs.declared.bank.BankSide.{BankSide}
 use Rattle.station_parts.specs.declared.parts.CacheSide.{CacheSide}
-use Rattle.station_parts.specs.Ids.{PortId, BankId, port_id, bank_id, pops_from}
+use Rattle.station_parts.specs.Rings.{pops_from}
+use Rattle.station_parts.specs.Ids.{PortId, BankId, port_id, bank_id}
 use Rattle.station_parts.specs.Rows.{sent_at, popped_at, come_to}
 use Rattle.station_parts.specs.Words.{taken, told_in_all, known_tellings, received_by, sent_by, words_of, known_commands, commanded}
 use Rattle.station_parts.specs.Station.{AreOneStation}
 use Rattle.station_parts.specs.Audited.{IsSeen, holds_item, first_ring, first_left, finding, audit_of}
 use Rattle.station_parts.specs.declared.parts.Ring.{Ring}
 use Rattle.station_parts.specs.declared.parts.Audit.TheVariants.{Faulted, Clean}
-use Rattle.station_parts.specs.Promises.{offered_by, taken_by, words_by, ArePrefixes, AreWhole, IsFlatRun, PaysLoads, HoldFlat}
+use Rattle.station_parts.specs.Promises.{AreJudged, offered_by, taken_by, words_by, ArePrefixes, AreWhole, IsFlatRun, PaysLoads, HoldFlat}
 use Rattle.station_parts.proofs.Rows.{here_before}
 
 -- ---- a bank's share of zeros
@@ -51,7 +53,8 @@ zero_at zero k = refl
 zero_at (suc n) zero = refl
 zero_at (suc n) (suc k) = zero_at n k
 
-all_zero : (n a count b : ℕ) (words : ℕ) → map (λ k. word_at (replicate words zero_word) (k * n + b)) (range_with_len a count) ≡ replicate count zero_word
+all_zero : (n a count b : ℕ) (words : ℕ)
+    → map (λ k. word_at (replicate words zero_word) (k * n + b)) (range_with_len a count) ≡ replicate count zero_word
 all_zero n a zero b words = refl
 all_zero n a (suc count) b words = ap₂ (λ x xs. x ∷ xs) (zero_at words (a * n + b)) (all_zero n (a + 1) count b words)
 
@@ -67,18 +70,22 @@ some_of : {X : Type 0} (xs : List X) (b : ℕ) → b < length xs → X
 some_of [] b h = absurd (omega arith)
 some_of (x ∷ xs) b h = x
 
-at_row : {X Y : Type 0} (f : X → Y) (e : Y) (xs : List X) (b : ℕ) (d : X) → b < length xs → slice_index_or (map f xs) b e ≡ f (slice_index_or xs b d)
+at_row : {X Y : Type 0} (f : X → Y) (e : Y) (xs : List X) (b : ℕ) (d : X) → b < length xs
+    → slice_index_or (map f xs) b e ≡ f (slice_index_or xs b d)
 at_row f e xs b d h =
     here_before f xs b (slice_index_or xs b d) e h (get_or_default xs b d (slice_index_or xs b d) h)
 
 -- what two rows have at a place is the same
-at_both : {X Y Z : Type 0} (f : X → Z) (g : Y → Z) (xs : List X) (ys : List Y) (b : ℕ) (d : X) (e : Y) → map f xs ≡ map g ys → b < length xs → f (slice_index_or xs b d) ≡ g (slice_index_or ys b e)
+at_both : {X Y Z : Type 0} (f : X → Z) (g : Y → Z) (xs : List X) (ys : List Y) (b : ℕ) (d : X) (e : Y) → map f xs ≡ map g ys
+    → b < length xs → f (slice_index_or xs b d) ≡ g (slice_index_or ys b e)
 at_both f g xs ys b d e same h =
     let there : b < length ys = subst (λ n. b < n) (sym (length-map xs f) ∙ ap length same ∙ length-map ys g) h in
-    sym (at_row f (f (slice_index_or xs b d)) xs b d h) ∙ ap (λ zs. slice_index_or zs b (f (slice_index_or xs b d))) same ∙ at_row g (f (slice_index_or xs b d)) ys b e there
+    sym (at_row f (f (slice_index_or xs b d)) xs b d h) ∙ ap (λ zs. slice_index_or zs b (f (slice_index_or xs b d))) same
+    ∙ at_row g (f (slice_index_or xs b d)) ys b e there
 
 -- no place passes a test
-none_from : {X : Type 0} (p : X → Bool) (k : ℕ) (xs : List X) → position_from p k xs ≡ None → (i : ℕ) (d : X) → i < length xs → p (slice_index_or xs i d) ≡ false
+none_from : {X : Type 0} (p : X → Bool) (k : ℕ) (xs : List X) → position_from p k xs ≡ None → (i : ℕ) (d : X) → i < length xs
+    → p (slice_index_or xs i d) ≡ false
 none_from p k [] e i d h = absurd (omega arith)
 none_from p k (x ∷ xs) e zero d h = none_here (p x) e
   where
@@ -91,7 +98,8 @@ none_from p k (x ∷ xs) e (suc i) d h = none_from p (k + 1) xs (none_there (p x
     none_there true q = cc
     none_there false q = q
 
-none_at : {X : Type 0} (p : X → Bool) (xs : List X) → position p xs ≡ None → (i : ℕ) (d : X) → i < length xs → p (slice_index_or xs i d) ≡ false
+none_at : {X : Type 0} (p : X → Bool) (xs : List X) → position p xs ≡ None → (i : ℕ) (d : X) → i < length xs
+    → p (slice_index_or xs i d) ≡ false
 none_at p xs e = none_from p 0 xs (sym (position_from-zero p xs) ∙ e)
 
 empty_if : {X : Type 0} (xs : List X) → holds_item xs ≡ false → xs ≡ []
@@ -108,7 +116,10 @@ pub record EndsAs (z : Sizes) (entries : List Entry) (cache : Cache) (commands :
   pub clean : is_clean (true_stand z entries).cache ≡ is_clean cache
   pub sent : (b : ℕ) → b < z.banks → (true_stand z entries).sent b ≡ commands b
 
-ends_as : (z : Sizes) → IsLawful z → TakesABlock z → (cache : Cache) (sent : ℕ → List Command) (popped : ℕ → List BankAnswer) (fault : Option SideFault) (entries : List Entry) → SideTells z cache sent popped fault entries → ((b : ℕ) → b < z.banks → ComesOf (zeros_in z b) (sent b) (popped b)) → EndsAs z entries cache sent
+ends_as : (z : Sizes) → IsLawful z → TakesABlock z
+    → (cache : Cache) (sent : ℕ → List Command) (popped : ℕ → List BankAnswer) (fault : Option SideFault) (entries : List Entry)
+    → SideTells z cache sent popped fault entries → ((b : ℕ) → b < z.banks → ComesOf (zeros_in z b) (sent b) (popped b))
+    → EndsAs z entries cache sent
 ends_as z law takes cache sent popped fault entries h banks =
     let stands = stands_true z law takes cache sent popped fault entries h banks in
     let same = ap (λ (s : Stand). s.cache) stands ∙ h.unit in
@@ -123,7 +134,8 @@ one_more_time q n = grind arith
 
 -- ---- the audit
 
-module _ {W B R D : ℕ} (cache : CacheSide W B R D) (ports : List Port) (banks : List BankSide) (one : AreOneStation cache ports banks) (seen : IsSeen cache ports banks) where
+module _ {W B R D : ℕ} (cache : CacheSide W B R D) (ports : List Port) (banks : List BankSide) (one : AreOneStation cache ports banks)
+    (seen : IsSeen cache ports banks) where
   abbrev z : Sizes
   z = cache.unit.sizes
 
@@ -132,21 +144,27 @@ module _ {W B R D : ℕ} (cache : CacheSide W B R D) (ports : List Port) (banks 
 
   bank_number : length banks ≡ cache.unit.sizes.banks
   bank_number =
-      sym (length-map banks bank_id) ∙ sym (length-map (map bank_id banks) (λ (x : BankId). x.words)) ∙ ap length one.words ∙ length-map-range_with_len (λ b. length (zeros_in cache.unit.sizes b)) 0 cache.unit.sizes.banks
+      sym (length-map banks bank_id) ∙ sym (length-map (map bank_id banks) (λ (x : BankId). x.words)) ∙ ap length one.words
+      ∙ length-map-range_with_len (λ b. length (zeros_in cache.unit.sizes b)) 0 cache.unit.sizes.banks
 
   ask_number : length cache.asks.items ≡ length ports
   ask_number =
-      sym (length-map cache.asks.items pops_from) ∙ sym (ap length one.asks) ∙ length-map (map port_id ports) (λ (x : PortId). x.asks) ∙ length-map ports port_id
+      sym (length-map cache.asks.items pops_from) ∙ sym (ap length one.asks) ∙ length-map (map port_id ports) (λ (x : PortId). x.asks)
+      ∙ length-map ports port_id
 
   -- each bank has its share of the words
-  share : (b : ℕ) (d : BankSide) → b < cache.unit.sizes.banks → length (slice_index_or banks b d).words.items ≡ length (zeros_in cache.unit.sizes b)
+  share : (b : ℕ) (d : BankSide) → b < cache.unit.sizes.banks
+      → length (slice_index_or banks b d).words.items ≡ length (zeros_in cache.unit.sizes b)
   share b d l =
       let in_banks : b < length banks = subst (λ n. b < n) (sym bank_number) l in
       let in_ids : b < length (map bank_id banks) = subst (λ n. b < n) (sym (length-map banks bank_id)) in_banks in
-      let here = at_row (λ (x : BankId). x.words) 0 (map bank_id banks) b (bank_id d) in_ids ∙ ap (λ (x : BankId). x.words) (at_row bank_id (bank_id d) banks b d in_banks) in
-      sym here ∙ ap (λ ns. slice_index_or ns b 0) one.words ∙ get_or-map-range_with_len (λ k. length (zeros_in cache.unit.sizes k)) 0 cache.unit.sizes.banks b b 0 l (zero-add b)
+      let here = at_row (λ (x : BankId). x.words) 0 (map bank_id banks) b (bank_id d) in_ids
+      ∙ ap (λ (x : BankId). x.words) (at_row bank_id (bank_id d) banks b d in_banks) in
+      sym here ∙ ap (λ ns. slice_index_or ns b 0) one.words
+      ∙ get_or-map-range_with_len (λ k. length (zeros_in cache.unit.sizes k)) 0 cache.unit.sizes.banks b b 0 l (zero-add b)
 
-  comes_of : (b : ℕ) → b < cache.unit.sizes.banks → ComesOf (zeros_in cache.unit.sizes b) (sent_at cache.row.lines.items b) (popped_at cache.answers.items b)
+  comes_of : (b : ℕ) → b < cache.unit.sizes.banks
+      → ComesOf (zeros_in cache.unit.sizes b) (sent_at cache.row.lines.items b) (popped_at cache.answers.items b)
   comes_of b l =
       let in_ends : b < length cache.answers.items = let n = cache.ends in omega arith in
       let in_banks : b < length banks = subst (λ n. b < n) (sym bank_number) l in
@@ -154,7 +172,8 @@ module _ {W B R D : ℕ} (cache : CacheSide W B R D) (ports : List Port) (banks 
       let bank = some_of banks b in_banks in
       let here = slice_index_or banks b bank in
       let its_end = slice_index_or cache.answers.items b end in
-      let zeros_same : replicate (length here.words.items) zero_word ≡ zeros_in cache.unit.sizes b = ap (λ n. replicate n zero_word) (share b bank l) ∙ sym (zeros_are cache.unit.sizes b) in
+      let zeros_same : replicate (length here.words.items) zero_word ≡ zeros_in cache.unit.sizes b =
+      ap (λ n. replicate n zero_word) (share b bank l) ∙ sym (zeros_are cache.unit.sizes b) in
       record {
         served = received here.commands;
         left = known_items here.commands;
@@ -172,18 +191,24 @@ module _ {W B R D : ℕ} (cache : CacheSide W B R D) (ports : List Port) (banks 
 
   pub bank_true_here : IsBankTrue cache.unit.sizes cache.journal.items
   bank_true_here =
-      ∥∥₁_elim cache.tells (fit_prop z (true_word z) entries (opening_stand z)) (λ h. bank_true z law cache.in_range.enough_commands cache.unit.cache (sent_at cache.row.lines.items) (popped_at cache.answers.items) cache.fault entries h comes_of)
+      ∥∥₁_elim cache.tells (fit_prop z (true_word z) entries (opening_stand z))
+      (λ h. bank_true z law cache.in_range.enough_commands cache.unit.cache (sent_at cache.row.lines.items)
+      (popped_at cache.answers.items) cache.fault entries h comes_of)
 
   pub sound_here : cache.fault ≡ None
   sound_here =
-      ∥∥₁_elim cache.tells (hlevel props) (λ h. never_faulted z law cache.in_range.enough_commands cache.unit.cache (sent_at cache.row.lines.items) (popped_at cache.answers.items) cache.fault entries h comes_of)
+      ∥∥₁_elim cache.tells (hlevel props)
+      (λ h. never_faulted z law cache.in_range.enough_commands cache.unit.cache (sent_at cache.row.lines.items)
+      (popped_at cache.answers.items) cache.fault entries h comes_of)
 
   ends_prop : IsProp (EndsAs cache.unit.sizes cache.journal.items cache.unit.cache (sent_at cache.row.lines.items))
   ends_prop = hlevel props
 
   ends_here : EndsAs cache.unit.sizes cache.journal.items cache.unit.cache (sent_at cache.row.lines.items)
   ends_here =
-      ∥∥₁_elim cache.tells ends_prop (λ h. ends_as z law cache.in_range.enough_commands cache.unit.cache (sent_at cache.row.lines.items) (popped_at cache.answers.items) cache.fault entries h comes_of)
+      ∥∥₁_elim cache.tells ends_prop
+      (λ h. ends_as z law cache.in_range.enough_commands cache.unit.cache (sent_at cache.row.lines.items)
+      (popped_at cache.answers.items) cache.fault entries h comes_of)
 
   flat_here : IsFlatJournal cache.unit.sizes cache.journal.items (true_stand cache.unit.sizes cache.journal.items)
   flat_here = journal_is_flat z entries law cache.in_range.enough_commands bank_true_here
@@ -191,13 +216,23 @@ module _ {W B R D : ℕ} (cache : CacheSide W B R D) (ports : List Port) (banks 
   pub run_here : IsFlatRun cache.unit.sizes cache.journal.items
   run_here = record { flat = flat_here.flat; runs = flat_here.runs }
 
+  pub sources_here : IsOfPorts (length ports) cache.journal.items
+  sources_here = subst (λ n. IsOfPorts n cache.journal.items) ask_number cache.ports.sources
+
+  pub judged_here : AreJudged cache.journal.items
+  judged_here before rest p e =
+      asks_are_judged cache.unit.sizes before rest (length ports) p law cache.in_range.enough_commands
+      (subst (IsBankTrue cache.unit.sizes) e bank_true_here)
+      (subst (IsOfPorts (length ports)) e sources_here)
+
   -- ---- what ports offered and took
 
   ask_there : (p : ℕ) → p < length ports → p < length cache.asks.items
   ask_there p l = subst (λ n. p < n) (sym ask_number) l
 
   -- a port's asks in the journal, and those that are left in its ring
-  asks_and_left : (p : ℕ) (l : p < length ports) (end : Consumer Ask Global AnyItems) → asks_of p cache.journal.items ++ known_items (slice_index_or cache.asks.items p end) ≡ offered_by ports p
+  asks_and_left : (p : ℕ) (l : p < length ports) (end : Consumer Ask Global AnyItems)
+      → asks_of p cache.journal.items ++ known_items (slice_index_or cache.asks.items p end) ≡ offered_by ports p
   asks_and_left p l end =
       let here = ask_there p l in
       let its_end = slice_index_or cache.asks.items p end in
@@ -206,7 +241,8 @@ module _ {W B R D : ℕ} (cache : CacheSide W B R D) (ports : List Port) (banks 
       ∙ ap (λ zs. slice_index_or zs p []) seen.asks
 
   -- what a port took, and what is left in the ring to it
-  taken_and_left : (p : ℕ) (l : p < length ports) (port : Port) → taken_by ports p ++ known_tellings (slice_index_or ports p port) ≡ told_of p cache.journal.items
+  taken_and_left : (p : ℕ) (l : p < length ports) (port : Port)
+      → taken_by ports p ++ known_tellings (slice_index_or ports p port) ≡ told_of p cache.journal.items
   taken_and_left p l port =
       ap (λ xs. xs ++ known_tellings (slice_index_or ports p port)) (at_row taken [] ports p port l)
       ∙ sym (at_row told_in_all [] ports p port l)
@@ -216,7 +252,8 @@ module _ {W B R D : ℕ} (cache : CacheSide W B R D) (ports : List Port) (banks 
   pub prefixes_here : ArePrefixes cache.journal.items ports
   prefixes_here =
       record {
-        asks = λ p l. let end = some_of cache.asks.items p (ask_there p l) in (known_items (slice_index_or cache.asks.items p end), asks_and_left p l end);
+        asks = λ p l. let end = some_of cache.asks.items p (ask_there p l) in
+            (known_items (slice_index_or cache.asks.items p end), asks_and_left p l end);
         told = λ p l. let port = some_of ports p l in (known_tellings (slice_index_or ports p port), taken_and_left p l port);
       }
 
@@ -248,7 +285,9 @@ module _ {W B R D : ℕ} (cache : CacheSide W B R D) (ports : List Port) (banks 
     parts : (first_left cache ports banks ≡ None) × (length (tags cache.unit.cache) ≡ 0)
     parts = clean_parts cache.fault (first_left cache ports banks) (length (tags cache.unit.cache)) clean
 
-    none : (position (λ c. holds_item (known_items c)) cache.asks.items ≡ None) × (position (λ p. holds_item (known_tellings p)) ports ≡ None) × (position (λ b. holds_item (known_commands b)) banks ≡ None) × (position (λ c. holds_item (known_items c)) cache.answers.items ≡ None)
+    none : (position (λ c. holds_item (known_items c)) cache.asks.items ≡ None) ×
+        (position (λ p. holds_item (known_tellings p)) ports ≡ None) × (position (λ b. holds_item (known_commands b)) banks ≡ None) ×
+        (position (λ c. holds_item (known_items c)) cache.answers.items ≡ None)
     none = found_none _ _ _ _ parts.0
 
     pub whole_here : AreWhole cache.journal.items ports
@@ -256,31 +295,40 @@ module _ {W B R D : ℕ} (cache : CacheSide W B R D) (ports : List Port) (banks 
         record {
           asks = λ p l.
               let end = some_of cache.asks.items p (ask_there p l) in
-              let empty = empty_if (known_items (slice_index_or cache.asks.items p end)) (none_at (λ c. holds_item (known_items c)) cache.asks.items none.0 p end (ask_there p l)) in
-              sym (append-nil (asks_of p cache.journal.items)) ∙ ap (λ xs. asks_of p cache.journal.items ++ xs) (sym empty) ∙ asks_and_left p l end;
+              let empty = empty_if (known_items (slice_index_or cache.asks.items p end))
+              (none_at (λ c. holds_item (known_items c)) cache.asks.items none.0 p end (ask_there p l)) in
+              sym (append-nil (asks_of p cache.journal.items)) ∙ ap (λ xs. asks_of p cache.journal.items ++ xs) (sym empty)
+              ∙ asks_and_left p l end;
           told = λ p l.
               let port = some_of ports p l in
-              let empty = empty_if (known_tellings (slice_index_or ports p port)) (none_at (λ x. holds_item (known_tellings x)) ports none.1 p port l) in
+              let empty = empty_if (known_tellings (slice_index_or ports p port))
+              (none_at (λ x. holds_item (known_tellings x)) ports none.1 p port l) in
               sym (append-nil (taken_by ports p)) ∙ ap (λ xs. taken_by ports p ++ xs) (sym empty) ∙ taken_and_left p l port;
         }
 
     pub paid_here : PaysLoads cache.unit.sizes cache.journal.items
     paid_here flat runs =
-        subst (λ f. IsPaid f cache.journal.items) (some_same flat_here.flat flat (sym flat_here.runs ∙ runs)) (flat_here.ends (ends_here.owed ∙ parts.1))
+        subst (λ f. IsPaid f cache.journal.items) (some_same flat_here.flat flat (sym flat_here.runs ∙ runs))
+        (flat_here.ends (ends_here.owed ∙ parts.1))
 
     -- a bank has served all that it was sent
-    bank_holds : (b : ℕ) → b < cache.unit.sizes.banks → words_by banks b ≡ bank_after cache.unit.sizes (true_stand cache.unit.sizes cache.journal.items) b
+    bank_holds : (b : ℕ) → b < cache.unit.sizes.banks
+        → words_by banks b ≡ bank_after cache.unit.sizes (true_stand cache.unit.sizes cache.journal.items) b
     bank_holds b l =
         let in_banks : b < length banks = subst (λ n. b < n) (sym bank_number) l in
         let bank = some_of banks b in_banks in
         let here = slice_index_or banks b bank in
         let empty = empty_if (known_commands here) (none_at (λ x. holds_item (known_commands x)) banks none.2 b bank in_banks) in
-        let served : received_by here ≡ sent_at cache.row.lines.items b = sym (append-nil (received_by here)) ∙ ap (λ xs. received_by here ++ xs) (sym empty) ∙ sym (at_row commanded [] banks b bank in_banks) ∙ ap (λ xs. slice_index_or xs b []) seen.commands in
-        let zeros_same : replicate (length here.words.items) zero_word ≡ zeros_in cache.unit.sizes b = ap (λ n. replicate n zero_word) (share b bank l) ∙ sym (zeros_are cache.unit.sizes b) in
+        let served : received_by here ≡ sent_at cache.row.lines.items b = sym (append-nil (received_by here))
+        ∙ ap (λ xs. received_by here ++ xs) (sym empty) ∙ sym (at_row commanded [] banks b bank in_banks)
+        ∙ ap (λ xs. slice_index_or xs b []) seen.commands in
+        let zeros_same : replicate (length here.words.items) zero_word ≡ zeros_in cache.unit.sizes b =
+        ap (λ n. replicate n zero_word) (share b bank l) ∙ sym (zeros_are cache.unit.sizes b) in
         at_row words_of [] banks b bank in_banks ∙ here.stored ∙ ap₂ after zeros_same (served ∙ sym (ends_here.sent b l))
 
     -- and it has a word for each address of its own
-    word_there : (at : ℕ) → at < cache.unit.sizes.words → at / cache.unit.sizes.banks < length (words_by banks (at % cache.unit.sizes.banks))
+    word_there : (at : ℕ) → at < cache.unit.sizes.words
+        → at / cache.unit.sizes.banks < length (words_by banks (at % cache.unit.sizes.banks))
     word_there at l =
         let n = cache.unit.sizes.banks in
         let some = cache.in_range.some_banks in
@@ -291,8 +339,11 @@ module _ {W B R D : ℕ} (cache : CacheSide W B R D) (ports : List Port) (banks 
         let whole = div-add-mod' at n in
         let next : (at / n + 1) * n ≡ at / n * n + n = one_more_time (at / n) n in
         let enough : (at / n + 1) * n ≤ cache.unit.sizes.words + n - 1 - b = omega arith in
-        let count = length-map-range_with_len (λ k. word_at (zeros cache.unit.sizes) (k * n + b)) 0 ((length (zeros cache.unit.sizes) + n - 1 - b) / n) ∙ ap (λ w. (w + n - 1 - b) / n) (length-replicate cache.unit.sizes.words zero_word) in
-        let long : length (words_by banks b) ≡ (cache.unit.sizes.words + n - 1 - b) / n = ap length (at_row words_of [] banks b bank in_banks) ∙ share b bank low ∙ count in
+        let count = length-map-range_with_len (λ k. word_at (zeros cache.unit.sizes) (k * n + b)) 0
+        ((length (zeros cache.unit.sizes) + n - 1 - b) / n)
+        ∙ ap (λ w. (w + n - 1 - b) / n) (length-replicate cache.unit.sizes.words zero_word) in
+        let long : length (words_by banks b) ≡ (cache.unit.sizes.words + n - 1 - b) / n =
+        ap length (at_row words_of [] banks b bank in_banks) ∙ share b bank low ∙ count in
         let most = le-div (at / n + 1) (cache.unit.sizes.words + n - 1 - b) n some enough in
         omega arith
 

@@ -6,6 +6,8 @@ pub mod Rowing
 pub mod Porting
 pub mod Turning
 pub mod UsedEnds
+pub mod SideMakes
+pub mod WordFaults
 pub mod AskSteps
 pub mod ReplySteps
 pub mod Auditing

@@ -12,9 +12,10 @@ use Rattle.station_journal.specs.declared.asks.Ask.{Ask}
 use Rattle.station_journal.specs.declared.asks.Told.{Told}
 use Rattle.station_journal.specs.declared.journal.Entry.{Entry}
 use Rattle.station_journal.specs.declared.journal.SideFault.{SideFault}
+use Rattle.station_journal.specs.Parts.{IsOfPorts}
 use Rattle.station_journal.specs.Side.{SideTells}
 use Rattle.station_parts.specs.declared.row.Line.{Line}
-use Rattle.station_parts.specs.Ids.{pops_from, pushes_to}
+use Rattle.station_parts.specs.Rings.{pops_from, pushes_to}
 use Rattle.station_parts.specs.Ports.{PortsTell}
 use Rattle.station_parts.specs.Rows.{sent_over, brought_by, sent_at, popped_at, taken_at}
 use Rattle.std.proofs.lemmas.List.{map-set, length-map, get_or-map}
@@ -22,19 +23,24 @@ use Rattle.std.proofs.lemmas.Grind.{take-set_at}
 use Rattle.std.proofs.Math.Seq.{take-length}
 
 -- the rows match at each place
-pub matched_at : {X Y Z W : Type 0} (f : Y → Z) (g : X → Y) (h : W → Z) (xs : List X) (ys : List W) (i : ℕ) (x : X) (y : W) → map f (map g xs) ≡ map h ys → i < length xs → i < length ys → x ≡ slice_index_or xs i x → y ≡ slice_index_or ys i y → f (g x) ≡ h y
+pub matched_at : {X Y Z W : Type 0} (f : Y → Z) (g : X → Y) (h : W → Z) (xs : List X) (ys : List W) (i : ℕ) (x : X) (y : W)
+    → map f (map g xs) ≡ map h ys → i < length xs → i < length ys → x ≡ slice_index_or xs i x → y ≡ slice_index_or ys i y → f (g x) ≡ h y
 matched_at f g h xs ys i x y e l m at at' =
     let in_map : i < length (map g xs) = subst (λ n. i < n) (sym (length-map xs g)) l in
-    let here : slice_index_or (map f (map g xs)) i (f (g x)) ≡ f (g x) = get_or-map f (map g xs) i (g x) (f (g x)) in_map ∙ ap f (get_or-map g xs i x (g x) l ∙ ap g (sym at)) in
+    let here : slice_index_or (map f (map g xs)) i (f (g x)) ≡ f (g x) = get_or-map f (map g xs) i (g x) (f (g x)) in_map
+    ∙ ap f (get_or-map g xs i x (g x) l ∙ ap g (sym at)) in
     let there : slice_index_or (map h ys) i (f (g x)) ≡ h y = get_or-map h ys i y (f (g x)) m ∙ ap h (sym at') in
     sym here ∙ ap (λ zs. slice_index_or zs i (f (g x))) e ∙ there
 
 -- the rows are as long
-pub as_long : {X Y Z W : Type 0} (f : Y → Z) (g : X → Y) (h : W → Z) (xs : List X) (ys : List W) → map f (map g xs) ≡ map h ys → length xs ≡ length ys
+pub as_long : {X Y Z W : Type 0} (f : Y → Z) (g : X → Y) (h : W → Z) (xs : List X) (ys : List W) → map f (map g xs) ≡ map h ys
+    → length xs ≡ length ys
 as_long f g h xs ys e = sym (length-map xs g) ∙ sym (length-map (map g xs) f) ∙ ap length e ∙ length-map ys h
 
 -- one place more agrees
-pub seen_more : {X Y Z : Type 0} (f : X → Z) (g : Y → Z) (xs : List X) (ys : List Y) (i : ℕ) (x : X) (y : Y) → take i (map f xs) ≡ take i (map g ys) → i < length xs → i < length ys → f x ≡ g y → take (i + 1) (map f (slice_set xs i x)) ≡ take (i + 1) (map g (slice_set ys i y))
+pub seen_more : {X Y Z : Type 0} (f : X → Z) (g : Y → Z) (xs : List X) (ys : List Y) (i : ℕ) (x : X) (y : Y)
+    → take i (map f xs) ≡ take i (map g ys) → i < length xs → i < length ys → f x ≡ g y
+    → take (i + 1) (map f (slice_set xs i x)) ≡ take (i + 1) (map g (slice_set ys i y))
 seen_more f g xs ys i x y so_far l m here =
     ap (take (i + 1)) (map-set f xs i x)
     ∙ take-set_at (map f xs) i (i + 1) (f x) refl (subst (λ n. i < n) (sym (length-map xs f)) l)
@@ -43,7 +49,8 @@ seen_more f g xs ys i x y so_far l m here =
     ∙ sym (ap (take (i + 1)) (map-set g ys i y))
 
 -- all places agree
-pub seen_all : {X Y Z : Type 0} (f : X → Z) (g : Y → Z) (xs : List X) (ys : List Y) (n : ℕ) → take n (map f xs) ≡ take n (map g ys) → n ≡ length xs → n ≡ length ys → map f xs ≡ map g ys
+pub seen_all : {X Y Z : Type 0} (f : X → Z) (g : Y → Z) (xs : List X) (ys : List Y) (n : ℕ) → take n (map f xs) ≡ take n (map g ys)
+    → n ≡ length xs → n ≡ length ys → map f xs ≡ map g ys
 seen_all f g xs ys n e l m =
     let all = subst (λ k. take k (map f xs) ≡ map f xs) (length-map xs f ∙ sym l) (take-length (map f xs)) in
     let all' = subst (λ k. take k (map g ys) ≡ map g ys) (length-map ys g ∙ sym m) (take-length (map g ys)) in
@@ -55,20 +62,29 @@ pub row_length : {X Y : Type 0} (f : X → Y) (xs ys : List X) → map f ys ≡ 
 row_length f xs ys e = sym (length-map ys f) ∙ ap length e ∙ length-map xs f
 
 module _ (olds news : List Line) (ends ends' : List (Consumer BankAnswer Global AnyItems)) where
-  pub tells_looked : (u : UnitState) (fault : Option SideFault) (entries : List Entry) → map sent_over news ≡ map sent_over olds → map received ends' ≡ map received ends → SideTells u.sizes u.cache (sent_at olds) (popped_at ends) fault entries → SideTells u.sizes u.cache (sent_at news) (popped_at ends') fault entries
+  pub tells_looked : (u : UnitState) (fault : Option SideFault) (entries : List Entry) → map sent_over news ≡ map sent_over olds
+      → map received ends' ≡ map received ends → SideTells u.sizes u.cache (sent_at olds) (popped_at ends) fault entries
+      → SideTells u.sizes u.cache (sent_at news) (popped_at ends') fault entries
   tells_looked u fault entries sent_same popped_same h =
-      subst (λ (p : List (List BankAnswer)). SideTells u.sizes u.cache (sent_at news) (λ b. slice_index_or p b []) fault entries) (sym popped_same)
-      (subst (λ (s : List (List Command)). SideTells u.sizes u.cache (λ b. slice_index_or s b []) (popped_at ends) fault entries) (sym sent_same) h)
+      subst (λ (p : List (List BankAnswer)). SideTells u.sizes u.cache (sent_at news) (λ b. slice_index_or p b []) fault entries)
+      (sym popped_same)
+      (subst (λ (s : List (List Command)). SideTells u.sizes u.cache (λ b. slice_index_or s b []) (popped_at ends) fault entries)
+      (sym sent_same) h)
 
-  pub counted_looked : map brought_by news ≡ map brought_by olds → map received ends' ≡ map received ends → ((b : ℕ) → taken_at olds b ≡ length (popped_at ends b)) → (b : ℕ) → taken_at news b ≡ length (popped_at ends' b)
+  pub counted_looked : map brought_by news ≡ map brought_by olds → map received ends' ≡ map received ends
+      → ((b : ℕ) → taken_at olds b ≡ length (popped_at ends b)) → (b : ℕ) → taken_at news b ≡ length (popped_at ends' b)
   counted_looked brought popped h b =
       ap (λ ns. slice_index_or ns b 0) brought ∙ h b ∙ sym (ap (λ ps. length (slice_index_or ps b [])) popped)
 
-pub ports_looked : (asks asks' : List (Consumer Ask Global AnyItems)) (tellings tellings' : List (Producer Told Global AnyItems)) (entries : List Entry) → map pops_from asks' ≡ map pops_from asks → map pushes_to tellings' ≡ map pushes_to tellings → map received asks' ≡ map received asks → map sent tellings' ≡ map sent tellings → PortsTell asks tellings entries → PortsTell asks' tellings' entries
+pub ports_looked : (asks asks' : List (Consumer Ask Global AnyItems)) (tellings tellings' : List (Producer Told Global AnyItems))
+    (entries : List Entry) → map pops_from asks' ≡ map pops_from asks → map pushes_to tellings' ≡ map pushes_to tellings
+    → map received asks' ≡ map received asks → map sent tellings' ≡ map sent tellings → PortsTell asks tellings entries
+    → PortsTell asks' tellings' entries
 ports_looked asks asks' tellings tellings' entries ring ring' popped pushed h =
     let n = row_length pops_from asks asks' ring in
     record {
       number = row_length pushes_to tellings tellings' ring' ∙ h.number ∙ sym n;
       asked = λ p l. ap (λ xs. slice_index_or xs p []) popped ∙ h.asked p (subst (λ k. p < k) n l);
       told = λ p l. ap (λ xs. slice_index_or xs p []) pushed ∙ h.told p (subst (λ k. p < k) n l);
+      sources = subst (λ k. IsOfPorts k entries) (sym n) h.sources;
     }

@@ -36,7 +36,8 @@ use Rattle.station_parts.specs.Rows.{sent_at, free_at, taken_at, popped_at, rece
 use Rattle.station_parts.specs.Ports.{PortsTell}
 use Rattle.station_parts.specs.declared.parts.CacheSide.{CacheSide}
 use Rattle.station_parts.specs.Station.{AreOneStation, words_by_bank}
-use Rattle.station_parts.specs.Ids.{PortId, BankId, pushes_to, pops_from, line_ring, port_id, bank_id}
+use Rattle.station_parts.specs.Rings.{RingId, pushes_to, pops_from}
+use Rattle.station_parts.specs.Ids.{PortId, BankId, line_ring, port_id, bank_id}
 use Rattle.station_parts.specs.New.{bad_field, IsNewPort, IsNewBank, IsNewPopper, IsNewPusher, IsNewLine, IsNewCache, IsNewStation, AreNewPorts, AreNewBanks}
 
 -- the two ends of a ring belong to it
@@ -45,20 +46,27 @@ ring_of_pair p c h = cc
 
 -- ---- rows that grow
 
-pub map_more : {X Y Z : Type 0} (f : Y → Z) (g : X → Y) (xs : List X) (x : X) → map f (map g (xs ++ x ∷ [])) ≡ map f (map g xs) ++ f (g x) ∷ []
+pub map_more : {X Y Z : Type 0} (f : Y → Z) (g : X → Y) (xs : List X) (x : X)
+    → map f (map g (xs ++ x ∷ [])) ≡ map f (map g xs) ++ f (g x) ∷ []
 map_more f g xs x = ap (map f) (map-append g xs (x ∷ [])) ∙ map-append f (map g xs) (g x ∷ [])
 
-matched_more : {X Y Z W : Type 0} (f : Y → Z) (g : X → Y) (h : W → Z) (xs : List X) (ys : List W) (x : X) (y : W) → map f (map g xs) ≡ map h ys → f (g x) ≡ h y → map f (map g (xs ++ x ∷ [])) ≡ map h (ys ++ y ∷ [])
+matched_more : {X Y Z W : Type 0} (f : Y → Z) (g : X → Y) (h : W → Z) (xs : List X) (ys : List W) (x : X) (y : W)
+    → map f (map g xs) ≡ map h ys → f (g x) ≡ h y → map f (map g (xs ++ x ∷ [])) ≡ map h (ys ++ y ∷ [])
 matched_more f g h xs ys x y so_far e =
     map_more f g xs x ∙ ap₂ (λ l z. l ++ z ∷ []) so_far e ∙ sym (map-append h ys (y ∷ []))
 
 -- ---- a port
 
-pub one_more_port : (ports : List Port) (asks : List (Consumer Ask Global AnyItems)) (tellings : List (Producer Told Global AnyItems)) (p : Port) (a : Consumer Ask Global AnyItems) (t : Producer Told Global AnyItems) → AreNewPorts ports asks tellings → IsPair p.asks a → IsPair t p.tellings → IsNewPort p → IsNewPopper a → IsNewPusher TELLING_PLACES t → AreNewPorts (ports ++ p ∷ []) (asks ++ a ∷ []) (tellings ++ t ∷ [])
+pub one_more_port : (ports : List Port) (asks : List (Consumer Ask Global AnyItems)) (tellings : List (Producer Told Global AnyItems))
+    (p : Port) (a : Consumer Ask Global AnyItems) (t : Producer Told Global AnyItems) → AreNewPorts ports asks tellings → IsPair p.asks a
+    → IsPair t p.tellings → IsNewPort p → IsNewPopper a → IsNewPusher TELLING_PLACES t
+    → AreNewPorts (ports ++ p ∷ []) (asks ++ a ∷ []) (tellings ++ t ∷ [])
 one_more_port ports asks tellings p a t h asks_pair told_pair port popper pusher =
     record {
-      ask_rings = matched_more (λ (x : PortId). x.asks) port_id pops_from ports asks p a h.ask_rings (sym (ring_of_pair p.asks a asks_pair));
-      told_rings = matched_more (λ (x : PortId). x.told) port_id pushes_to ports tellings p t h.told_rings (ring_of_pair t p.tellings told_pair);
+      ask_rings = matched_more (λ (x : PortId). x.asks) port_id pops_from ports asks p a h.ask_rings
+          (sym (ring_of_pair p.asks a asks_pair));
+      told_rings = matched_more (λ (x : PortId). x.told) port_id pushes_to ports tellings p t h.told_rings
+          (ring_of_pair t p.tellings told_pair);
       each_port = All-push IsNewPort ports p h.each_port port;
       each_asks = All-push IsNewPopper asks a h.each_asks popper;
       each_tellings = All-push (IsNewPusher TELLING_PLACES) tellings t h.each_tellings pusher;
@@ -68,13 +76,20 @@ one_more_port ports asks tellings p a t h asks_pair told_pair port popper pusher
 
 pub share_count : (s : Shape) (b : ℕ) → length (share_of (replicate s.words zero_word) s.banks b) ≡ (s.words + s.banks - 1 - b) / s.banks
 share_count s b =
-    length-map-range_with_len (λ k. word_at (replicate s.words zero_word) (k * s.banks + b)) 0 _ ∙ ap (λ n. (n + s.banks - 1 - b) / s.banks) (length-replicate s.words zero_word)
+    length-map-range_with_len (λ k. word_at (replicate s.words zero_word) (k * s.banks + b)) 0 _
+    ∙ ap (λ n. (n + s.banks - 1 - b) / s.banks) (length-replicate s.words zero_word)
 
-pub one_more_bank : (s : Shape) (banks : List BankSide) (lines : List Line) (answers : List (Consumer BankAnswer Global AnyItems)) (b : BankSide) (l : Line) (a : Consumer BankAnswer Global AnyItems) → AreNewBanks s banks lines answers → IsPair l.ring b.commands → IsPair b.answers a → IsNewBank s.bank_queue b → IsNewLine s.bank_queue l → IsNewPopper a → length b.words.items ≡ (s.words + s.banks - 1 - length banks) / s.banks → AreNewBanks s (banks ++ b ∷ []) (lines ++ l ∷ []) (answers ++ a ∷ [])
+pub one_more_bank : (s : Shape) (banks : List BankSide) (lines : List Line) (answers : List (Consumer BankAnswer Global AnyItems))
+    (b : BankSide) (l : Line) (a : Consumer BankAnswer Global AnyItems) → AreNewBanks s banks lines answers → IsPair l.ring b.commands
+    → IsPair b.answers a → IsNewBank s.bank_queue b → IsNewLine s.bank_queue l → IsNewPopper a
+    → length b.words.items ≡ (s.words + s.banks - 1 - length banks) / s.banks
+    → AreNewBanks s (banks ++ b ∷ []) (lines ++ l ∷ []) (answers ++ a ∷ [])
 one_more_bank s banks lines answers b l a h command_pair answer_pair bank line popper count =
     record {
-      command_rings = matched_more (λ (x : BankId). x.commands) bank_id line_ring banks lines b l h.command_rings (ring_of_pair l.ring b.commands command_pair);
-      answer_rings = matched_more (λ (x : BankId). x.answers) bank_id pops_from banks answers b a h.answer_rings (sym (ring_of_pair b.answers a answer_pair));
+      command_rings = matched_more (λ (x : BankId). x.commands) bank_id line_ring banks lines b l h.command_rings
+          (ring_of_pair l.ring b.commands command_pair);
+      answer_rings = matched_more (λ (x : BankId). x.answers) bank_id pops_from banks answers b a h.answer_rings
+          (sym (ring_of_pair b.answers a answer_pair));
       words = words;
       each_bank = All-push (IsNewBank s.bank_queue) banks b h.each_bank bank;
       each_line = All-push (IsNewLine s.bank_queue) lines l h.each_line line;
@@ -96,7 +111,8 @@ zero_words ws n e = e ∙ ap (λ k. replicate k zero_word) (sym (ap length e ∙
 
 -- ---- the cache side
 
-lengths_match : {X Y Z W : Type 0} (f : Y → Z) (g : X → Y) (h : W → Z) (xs : List X) (ys : List W) → map f (map g xs) ≡ map h ys → length ys ≡ length xs
+lengths_match : {X Y Z W : Type 0} (f : Y → Z) (g : X → Y) (h : W → Z) (xs : List X) (ys : List W) → map f (map g xs) ≡ map h ys
+    → length ys ≡ length xs
 lengths_match f g h xs ys e =
     sym (length-map ys h) ∙ ap length (sym e) ∙ length-map (map g xs) f ∙ length-map xs g
 
@@ -107,12 +123,16 @@ at_all f d (x ∷ xs) zero h = All-head (λ x. f x ≡ d) x xs h
 at_all f d (x ∷ xs) (suc p) h = at_all f d xs p (All-tail (λ x. f x ≡ d) x xs h)
 
 -- what each element has
-at_each : {X Y : Type 0} (f : X → Y) (v d : Y) (xs : List X) (p : ℕ) → p < length xs → All (λ x. f x ≡ v) xs → slice_index_or (map f xs) p d ≡ v
+at_each : {X Y : Type 0} (f : X → Y) (v d : Y) (xs : List X) (p : ℕ) → p < length xs → All (λ x. f x ≡ v) xs
+    → slice_index_or (map f xs) p d ≡ v
 at_each f v d [] p l h = absurd (omega arith)
 at_each f v d (x ∷ xs) zero l h = All-head (λ x. f x ≡ v) x xs h
 at_each f v d (x ∷ xs) (suc p) l h = at_each f v d xs p (omega arith) (All-tail (λ x. f x ≡ v) x xs h)
 
-module _ (s : Shape) (z : Sizes) (count : ℕ) (ports : List Port) (asks : List (Consumer Ask Global AnyItems)) (tellings : List (Producer Told Global AnyItems)) (banks : List BankSide) (lines : List Line) (answers : List (Consumer BankAnswer Global AnyItems)) (new : AreNewPorts ports asks tellings) (number : length ports ≡ count) (made : AreNewBanks s banks lines answers) (bank_number : length banks ≡ z.banks) where
+module _ (s : Shape) (z : Sizes) (count : ℕ) (ports : List Port) (asks : List (Consumer Ask Global AnyItems))
+    (tellings : List (Producer Told Global AnyItems)) (banks : List BankSide) (lines : List Line)
+    (answers : List (Consumer BankAnswer Global AnyItems)) (new : AreNewPorts ports asks tellings) (number : length ports ≡ count)
+    (made : AreNewBanks s banks lines answers) (bank_number : length banks ≡ z.banks) where
   pub asks_number : length asks ≡ count
   asks_number = lengths_match (λ (x : PortId). x.asks) port_id pops_from ports asks new.ask_rings ∙ number
 
@@ -138,7 +158,8 @@ module _ (s : Shape) (z : Sizes) (count : ℕ) (ports : List Port) (asks : List 
 
   pub free_tellings : (p : ℕ) → p < count → room_at tellings p ≡ TELLING_PLACES
   free_tellings p l =
-      at_each known_free TELLING_PLACES 0 tellings p (subst (λ n. p < n) (sym tellings_number) l) (All-weaker (IsNewPusher TELLING_PLACES) _ (λ x h. h.1) tellings new.each_tellings)
+      at_each known_free TELLING_PLACES 0 tellings p (subst (λ n. p < n) (sym tellings_number) l)
+      (All-weaker (IsNewPusher TELLING_PLACES) _ (λ x h. h.1) tellings new.each_tellings)
 
   pub none_sent : (b : ℕ) → sent_at lines b ≡ []
   none_sent b =
@@ -146,7 +167,8 @@ module _ (s : Shape) (z : Sizes) (count : ℕ) (ports : List Port) (asks : List 
 
   pub free_commands : (b : ℕ) → b < z.banks → free_at lines b ≡ s.bank_queue
   free_commands b l =
-      at_each (λ (x : Line). known_free x.ring) s.bank_queue 0 lines b (subst (λ n. b < n) (sym lines_number) l) (All-weaker (IsNewLine s.bank_queue) _ (λ x h. h.ring.1) lines made.each_line)
+      at_each (λ (x : Line). known_free x.ring) s.bank_queue 0 lines b (subst (λ n. b < n) (sym lines_number) l)
+      (All-weaker (IsNewLine s.bank_queue) _ (λ x h. h.ring.1) lines made.each_line)
 
   none_taken : (b : ℕ) → taken_at lines b ≡ 0
   none_taken b =
@@ -161,7 +183,8 @@ module _ (s : Shape) (z : Sizes) (count : ℕ) (ports : List Port) (asks : List 
   pub new_counted : (b : ℕ) → taken_at lines b ≡ length (popped_at answers b)
   new_counted b = none_taken b ∙ sym (ap length (none_popped b))
 
-  pub new_tells : (u : UnitState) → u ≡ record { sizes = z; cache = opening_cache z } → SideTells u.sizes u.cache (sent_at lines) (popped_at answers) None []
+  pub new_tells : (u : UnitState) → u ≡ record { sizes = z; cache = opening_cache z }
+      → SideTells u.sizes u.cache (sent_at lines) (popped_at answers) None []
   new_tells u is = rw is opens
     where
       opens : SideTells z (opening_cache z) (sent_at lines) (popped_at answers) None []
@@ -178,9 +201,13 @@ module _ (s : Shape) (z : Sizes) (count : ℕ) (ports : List Port) (asks : List 
 
   pub new_ports : PortsTell asks tellings []
   new_ports =
-      record { number = tellings_number ∙ sym asks_number; asked = λ p l. none_asked p; told = λ p l. none_told p }
+      record { number = tellings_number ∙ sym asks_number; asked = λ p l. none_asked p; told = λ p l. none_told p; sources = refl }
 
-  module _ {W B R D : ℕ} (c : CacheSide W B R D) (entries : ℕ) (words_same : s.words ≡ z.words) (banks_same : s.banks ≡ z.banks) (queue_same : s.bank_queue ≡ z.bank_queue) (asks_is : c.asks.items ≡ asks) (tellings_is : c.tellings.items ≡ tellings) (lines_is : c.row.lines.items ≡ lines) (answers_is : c.answers.items ≡ answers) (unit_is : c.unit ≡ record { sizes = z; cache = opening_cache z }) (empty : c.journal.items ≡ []) (limit_is : c.limit ≡ entries) (sound : c.fault ≡ None) where
+  module _ {W B R D : ℕ} (c : CacheSide W B R D) (entries : ℕ) (words_same : s.words ≡ z.words) (banks_same : s.banks ≡ z.banks)
+      (queue_same : s.bank_queue ≡ z.bank_queue) (asks_is : c.asks.items ≡ asks) (tellings_is : c.tellings.items ≡ tellings)
+      (lines_is : c.row.lines.items ≡ lines) (answers_is : c.answers.items ≡ answers)
+      (unit_is : c.unit ≡ record { sizes = z; cache = opening_cache z }) (empty : c.journal.items ≡ []) (limit_is : c.limit ≡ entries)
+      (sound : c.fault ≡ None) where
     shares : map (λ (b : BankId). b.words) (map bank_id banks) ≡ words_by_bank z
     shares =
         made.words
@@ -239,7 +266,9 @@ pub record AreInRange (z : Sizes) (ports journal : ℕ) : Type 0 where
 pub are_in_range : (z : Sizes) (ports journal : ℕ) → bad_field z ports journal ≡ None → AreInRange z ports journal
 are_in_range z ports journal e = go (limits.bad_field z) refl (is_between ports 1 16) refl (is_between journal 1 1048576) refl e
   where
-    go : (o : Option ShapeField) → limits.bad_field z ≡ o → (p : Bool) → is_between ports 1 16 ≡ p → (j : Bool) → is_between journal 1 1048576 ≡ j → option_or o (cond (not p) (Some Ports) (cond (not j) (Some Journal) None)) ≡ None → AreInRange z ports journal
+    go : (o : Option ShapeField) → limits.bad_field z ≡ o → (p : Bool) → is_between ports 1 16 ≡ p → (j : Bool)
+        → is_between journal 1 1048576 ≡ j → option_or o (cond (not p) (Some Ports) (cond (not j) (Some Journal) None)) ≡ None
+        → AreInRange z ports journal
     go (Some field) u p q j r h = cc
     go None u false q j r h = cc
     go None u true q false r h = cc

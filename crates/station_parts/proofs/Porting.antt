@@ -1,5 +1,7 @@
 -- One more entry, as the ports see it.
-use Rattle.std.proofs.Common.{◌≡◌, ℕ, List, [], ◌∷◌, ◌++◌, sym, ap, ◌∙◌, append-nil}
+use Rattle.std.proofs.Common.{◌≡◌, ℕ, ◌<◌, Bool, true, ◌&&◌, List, [], ◌∷◌, ◌++◌, length, map, refl, sym, ap, ap₂, ◌∙◌, subst, append-nil}
+use Rattle.std.specs.List.{list_all}
+use Rattle.std.proofs.lemmas.List.Folds.{list_all-append}
 use Rattle.std.specs.declared.alloc.Global.{Global}
 use Rattle.rtrb.specs.declared.consumer.Consumer.{Consumer}
 use Rattle.rtrb.specs.declared.producer.Producer.{Producer}
@@ -11,15 +13,66 @@ use Rattle.station_journal.specs.declared.journal.Entry.{Entry}
 use Rattle.station_journal.specs.declared.journal.Entry.TheVariants.{Step}
 use Rattle.station_journal.specs.declared.asks.Ask.{Ask}
 use Rattle.station_journal.specs.declared.asks.Told.{Told}
-use Rattle.station_journal.specs.Parts.{asked_by, told_by, asks_of, told_of}
+use Rattle.station_journal.specs.Parts.{asked_by, told_by, asks_of, told_of, is_event_of, is_entry_of, IsOfPorts}
 use Rattle.station_journal.proofs.Parting.{asks_of-append, told_of-append}
 use Rattle.station_parts.specs.Ports.{PortsTell}
+use Rattle.station_parts.specs.Rings.{pops_from, pushes_to}
+use Rattle.station_parts.specs.Rows.{received_at, pushed_at}
+use Rattle.station_parts.proofs.Rows.{same_length}
+
+-- entries that tell what was popped of the ports' asks, and what the ports were told
+pub ports_step : (asks asks' : List (Consumer Ask Global AnyItems)) (tellings tellings' : List (Producer Told Global AnyItems))
+    (entries entries' one : List Entry)
+    → map pops_from asks' ≡ map pops_from asks
+    → map pushes_to tellings' ≡ map pushes_to tellings
+    → PortsTell asks tellings entries
+    → IsOfPorts (length asks) one
+    → ((p : ℕ) → received_at asks' p ≡ received_at asks p ++ asks_of p one)
+    → ((p : ℕ) → pushed_at tellings' p ≡ pushed_at tellings p ++ told_of p one)
+    → entries' ≡ entries ++ one
+    → PortsTell asks' tellings' entries'
+ports_step asks asks' tellings tellings' entries entries' one rings rings' h sourced popped pushed is =
+    let number = same_length pops_from asks asks' rings in
+    let all = list_all-append (is_entry_of (length asks)) entries one ∙ ap₂ (λ a b. a && b) h.sources sourced in
+    record {
+      number = same_length pushes_to tellings tellings' rings' ∙ h.number ∙ sym number;
+      asked = λ p l.
+          popped p ∙ ap (λ xs. xs ++ asks_of p one) (h.asked p (subst (λ n. p < n) number l)) ∙ sym (asks_of-append p entries one)
+          ∙ ap (asks_of p) (sym is);
+      told = λ p l.
+          pushed p ∙ ap (λ xs. xs ++ told_of p one) (h.told p (subst (λ n. p < n) number l)) ∙ sym (told_of-append p entries one)
+          ∙ ap (told_of p) (sym is);
+      sources = ap₂ passes number is ∙ all;
+    }
+  where
+    passes : ℕ → List Entry → Bool
+    passes n l = list_all (is_entry_of n) l
+
+-- nothing but looks
+pub ports_looked : (asks asks' : List (Consumer Ask Global AnyItems)) (tellings tellings' : List (Producer Told Global AnyItems))
+    (entries : List Entry)
+    → map pops_from asks' ≡ map pops_from asks
+    → map pushes_to tellings' ≡ map pushes_to tellings
+    → PortsTell asks tellings entries
+    → ((p : ℕ) → received_at asks' p ≡ received_at asks p)
+    → ((p : ℕ) → pushed_at tellings' p ≡ pushed_at tellings p)
+    → PortsTell asks' tellings' entries
+ports_looked asks asks' tellings tellings' entries rings rings' h popped pushed =
+    let asked = λ (p : ℕ). popped p ∙ sym (append-nil (received_at asks p)) in
+    let told = λ (p : ℕ). pushed p ∙ sym (append-nil (pushed_at tellings p)) in
+    ports_step asks asks' tellings tellings' entries entries [] rings rings' h refl asked told (sym (append-nil entries))
 
 -- an entry of which no port hears
-pub ports_silent : (asks : List (Consumer Ask Global AnyItems)) (tellings : List (Producer Told Global AnyItems)) (entries entries' : List Entry) (source : Source) (event : Event) (answer : Answer) → PortsTell asks tellings entries → ((p : ℕ) → asked_by p source event ≡ []) → ((p : ℕ) → told_by p source answer ≡ []) → entries' ≡ entries ++ Step source event answer ∷ [] → PortsTell asks tellings entries'
-ports_silent asks tellings entries entries' source event answer h unasked untold is =
-    record {
-      number = h.number;
-      asked = λ p l. h.asked p l ∙ sym (append-nil (asks_of p entries)) ∙ ap (λ xs. asks_of p entries ++ xs) (sym (append-nil (asked_by p source event) ∙ unasked p)) ∙ sym (asks_of-append p entries (Step source event answer ∷ [])) ∙ ap (asks_of p) (sym is);
-      told = λ p l. h.told p l ∙ sym (append-nil (told_of p entries)) ∙ ap (λ xs. told_of p entries ++ xs) (sym (append-nil (told_by p source answer) ∙ untold p)) ∙ sym (told_of-append p entries (Step source event answer ∷ [])) ∙ ap (told_of p) (sym is);
-    }
+pub ports_silent : (asks : List (Consumer Ask Global AnyItems)) (tellings : List (Producer Told Global AnyItems))
+    (entries entries' : List Entry) (source : Source) (event : Event) (answer : Answer)
+    → PortsTell asks tellings entries
+    → is_event_of (length asks) source event ≡ true
+    → ((p : ℕ) → asked_by p source event ≡ [])
+    → ((p : ℕ) → told_by p source answer ≡ [])
+    → entries' ≡ entries ++ Step source event answer ∷ []
+    → PortsTell asks tellings entries'
+ports_silent asks tellings entries entries' source event answer h sourced unasked untold is =
+    let asked = λ (p : ℕ). sym (ap (λ l. received_at asks p ++ (l ++ [])) (unasked p) ∙ append-nil (received_at asks p)) in
+    let told = λ (p : ℕ). sym (ap (λ l. pushed_at tellings p ++ (l ++ [])) (untold p) ∙ append-nil (pushed_at tellings p)) in
+    ports_step asks asks tellings tellings entries entries' (Step source event answer ∷ []) refl refl h (ap (λ t. t && true) sourced) asked
+    told is

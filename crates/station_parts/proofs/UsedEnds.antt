@@ -1,40 +1,115 @@
 -- Rows of rings' ends, of which one was used.
-use Rattle.std.proofs.Common.{◌≡◌, ◌≢◌, ℕ, ◌<◌, List, [], ◌∷◌, ◌++◌, length, slice_index_or, slice_set, Option, Some, None, IfSome, IfNone, sym, ap, ◌∙◌, ⊎_elim}
-use Rattle.std.proofs.lemmas.Bool.{cases_eq}
+use Rattle.std.proofs.Common.{◌≡◌, ◌≢◌, ℕ, ◌+◌, ◌<◌, ◌≤◌, List, [], ◌++◌, length, map, slice_index_or, slice_set, Option, Some, None, IfNone, refl, sym, ap, ap₂, ◌∙◌, subst, append-nil, arith}
+use Rattle.std.proofs.Math.Seq.{map-set_same}
+use mathlib.Core.List.{IsPrefix}
 use Rattle.std.specs.declared.alloc.Global.{Global}
-use Rattle.rtrb.specs.Ring.{received, sent, known_free}
+use Rattle.rtrb.specs.Ring.{received, sent, known_free, known_items}
 use Rattle.rtrb.specs.declared.consumer.Consumer.{Consumer}
 use Rattle.rtrb.specs.declared.producer.Producer.{Producer}
 use Rattle.rtrb.specs.declared.AnyItems.{AnyItems}
-use Rattle.station_parts.specs.Rows.{received_at, pushed_at, room_at}
-use Rattle.station_parts.proofs.Rows.{here_after, there_after, here_before}
+use Rattle.station_parts.specs.Rings.{pops_from, pushes_to, HasPopped, HasLooked, HasPushed}
+use Rattle.station_parts.specs.Rows.{received_at, known_at, pushed_at, room_at, only, PopsAt, LooksAt, PushesAt}
+use Rattle.station_parts.proofs.Rows.{here_after, there_after, here_before, each_place, only-here, only-there, only-none}
 
-module _ {T : Type 0} (xs : List (Consumer T Global AnyItems)) (place : ℕ) (x y : Consumer T Global AnyItems) (h : place < length xs) (at : x ≡ slice_index_or xs place x) where
-  pub popped_some : (r : Option T) → IfSome r (λ a. received y ≡ received x ++ a ∷ []) → IfSome r (λ a. received_at (slice_set xs place y) place ≡ received_at xs place ++ a ∷ [])
-  popped_some None e = e
-  popped_some (Some a) e =
-      here_after received xs place y [] h ∙ e ∙ ap (λ l. l ++ a ∷ []) (sym (here_before received xs place x [] h at))
+module _ {T : Type 0} (xs : List (Consumer T Global AnyItems)) (place : ℕ) where
+  -- nothing was popped, and nobody looked
+  pub pops_nothing : PopsAt xs xs place []
+  pops_nothing =
+      record {
+        rings = refl;
+        popped = λ p. sym (ap (λ l. received_at xs p ++ l) (only-none place p) ∙ append-nil (received_at xs p));
+        known = λ p. ([], append-nil (known_at xs p) ∙ ap (λ l. l ++ known_at xs p) (sym (only-none place p)));
+      }
 
-  pub popped_none : (r : Option T) → IfNone r (received y ≡ received x) → IfNone r (received_at (slice_set xs place y) place ≡ received_at xs place)
-  popped_none None e =
-      here_after received xs place y [] h ∙ e ∙ sym (here_before received xs place x [] h at)
-  popped_none (Some a) e = e
+module _ {T : Type 0} (xs : List (Consumer T Global AnyItems)) (place : ℕ) (x y : Consumer T Global AnyItems) (h : place < length xs)
+    (at : x ≡ slice_index_or xs place x) (items : List T) (used : HasPopped x y items) where
+  abbrev ys : List (Consumer T Global AnyItems)
+  ys = slice_set xs place y
 
-  pub popped_others : (p : ℕ) → p ≢ place → received_at (slice_set xs place y) p ≡ received_at xs p
-  popped_others p ne = there_after received xs place p y [] ne
+  abbrev IsKnown : ℕ → Type 0
+  IsKnown p = IsPrefix (known_at xs p) (only place items p ++ known_at ys p)
 
-module _ {T : Type 0} (xs : List (Producer T Global AnyItems)) (place : ℕ) (x y : Producer T Global AnyItems) (h : place < length xs) (at : x ≡ slice_index_or xs place x) where
-  pub looked_room : room_at (slice_set xs place y) place ≡ known_free y
-  looked_room = here_after known_free xs place y 0 h
+  pub pops_at : PopsAt xs ys place items
+  pops_at =
+      record {
+        rings = map-set_same pops_from xs place y x (used.ring ∙ ap pops_from at);
+        popped = each_place (λ p. received_at ys p ≡ received_at xs p ++ only place items p) place popped_here popped_there;
+        known = each_place IsKnown place known_here known_there;
+      }
+    where
+      popped_here : received_at ys place ≡ received_at xs place ++ only place items place
+      popped_here =
+          here_after received xs place y [] h ∙ used.popped ∙ ap₂ (λ l m. l ++ m) (sym (here_before received xs place x [] h at))
+          (sym (only-here place items))
 
-  pub looked_pushed : sent y ≡ sent x → (p : ℕ) → pushed_at (slice_set xs place y) p ≡ pushed_at xs p
-  looked_pushed e p =
-      let here = here_after sent xs place y [] h ∙ e ∙ sym (here_before sent xs place x [] h at) in
-      ⊎_elim (λ q. ap (pushed_at (slice_set xs place y)) q ∙ here ∙ ap (pushed_at xs) (sym q)) (λ ne. there_after sent xs place p y [] ne) (cases_eq p place)
+      popped_there : (p : ℕ) → p ≢ place → received_at ys p ≡ received_at xs p ++ only place items p
+      popped_there p ne =
+          there_after received xs place p y [] ne ∙ sym (ap (λ l. received_at xs p ++ l) (only-there place p items ne)
+          ∙ append-nil (received_at xs p))
 
-  pub pushed_here : (a : T) → sent y ≡ sent x ++ a ∷ [] → pushed_at (slice_set xs place y) place ≡ pushed_at xs place ++ a ∷ []
-  pushed_here a e =
-      here_after sent xs place y [] h ∙ e ∙ ap (λ l. l ++ a ∷ []) (sym (here_before sent xs place x [] h at))
+      known_here : IsKnown place
+      known_here =
+          let before : known_at xs place ≡ _ = here_before known_items xs place x [] h at in
+          let after : only place items place ++ known_at ys place ≡ _ = ap₂ (λ l m. l ++ m) (only-here place items)
+          (here_after known_items xs place y [] h) in
+          subst (λ l. IsPrefix l (only place items place ++ known_at ys place)) (sym before)
+          (subst (λ m. IsPrefix (known_items x) m) (sym after) used.known)
 
-  pub pushed_others : (p : ℕ) → p ≢ place → pushed_at (slice_set xs place y) p ≡ pushed_at xs p
-  pushed_others p ne = there_after sent xs place p y [] ne
+      known_there : (p : ℕ) → p ≢ place → IsKnown p
+      known_there p ne = (
+        [],
+        append-nil (known_at xs p) ∙ sym (ap (λ l. l ++ known_at ys p) (only-there place p items ne)
+            ∙ there_after known_items xs place p y [] ne),
+      )
+
+module _ {T : Type 0} (xs : List (Producer T Global AnyItems)) (place : ℕ) (x y : Producer T Global AnyItems) (h : place < length xs)
+    (at : x ≡ slice_index_or xs place x) where
+  abbrev zs : List (Producer T Global AnyItems)
+  zs = slice_set xs place y
+
+  pub looks_at : HasLooked x y → LooksAt xs zs
+  looks_at used =
+      record {
+        rings = map-set_same pushes_to xs place y x (used.ring ∙ ap pushes_to at);
+        pushed = each_place (λ p. pushed_at zs p ≡ pushed_at xs p) place
+            (here_after sent xs place y [] h ∙ used.pushed ∙ sym (here_before sent xs place x [] h at))
+            (λ p ne. there_after sent xs place p y [] ne);
+        places = each_place (λ p. room_at xs p ≤ room_at zs p) place
+            (let before = here_before known_free xs place x 0 h at in let after = here_after known_free xs place y 0 h in let more =
+            used.places in omega arith) (λ p ne. let e = there_after known_free xs place p y 0 ne in omega arith);
+      }
+
+  pub pushes_at : (items : List T) → HasPushed x y items → PushesAt xs zs place items
+  pushes_at items used =
+      record {
+        rings = map-set_same pushes_to xs place y x (used.ring ∙ ap pushes_to at);
+        pushed = each_place (λ p. pushed_at zs p ≡ pushed_at xs p ++ only place items p) place pushed_here pushed_there;
+        places = each_place (λ p. room_at xs p ≡ room_at zs p + length (only place items p)) place places_here places_there;
+      }
+    where
+      pushed_here : pushed_at zs place ≡ pushed_at xs place ++ only place items place
+      pushed_here =
+          here_after sent xs place y [] h ∙ used.pushed ∙ ap₂ (λ l m. l ++ m) (sym (here_before sent xs place x [] h at))
+          (sym (only-here place items))
+
+      pushed_there : (p : ℕ) → p ≢ place → pushed_at zs p ≡ pushed_at xs p ++ only place items p
+      pushed_there p ne =
+          there_after sent xs place p y [] ne ∙ sym (ap (λ l. pushed_at xs p ++ l) (only-there place p items ne)
+          ∙ append-nil (pushed_at xs p))
+
+      places_here : room_at xs place ≡ room_at zs place + length (only place items place)
+      places_here =
+          here_before known_free xs place x 0 h at ∙ used.places
+          ∙ ap₂ (λ m l. m + length l) (sym (here_after known_free xs place y 0 h)) (sym (only-here place items))
+
+      places_there : (p : ℕ) → p ≢ place → room_at xs p ≡ room_at zs p + length (only place items p)
+      places_there p ne =
+          let e = there_after known_free xs place p y 0 ne in
+          let none = ap length (only-there place p items ne) in
+          omega arith
+
+-- nothing is known at a place whose end knows nothing
+pub known_none : {T : Type 0} (xs : List (Consumer T Global AnyItems)) (place : ℕ) (y : Consumer T Global AnyItems) → place < length xs
+    → (r : Option T) → IfNone r (known_items y ≡ []) → IfNone r (known_at (slice_set xs place y) place ≡ [])
+known_none xs place y h None e = here_after known_items xs place y [] h ∙ e
+known_none xs place y h (Some a) e = e

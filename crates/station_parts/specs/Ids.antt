@@ -1,31 +1,11 @@
 -- What a part keeps whatever it does: the rings that its ends belong to, and its sizes.
 use Rattle.std.specs.Prelude.{ℕ, List, map, length}
-use denote.RawPtr.{Ptr}
-use Rattle.std.specs.declared.alloc.Global.{Global}
-use Rattle.rtrb.specs.Shared.{Names}
-use Rattle.rtrb.specs.declared.producer.Producer.{Producer}
-use Rattle.rtrb.specs.declared.consumer.Consumer.{Consumer}
-use Rattle.rtrb.specs.declared.AnyItems.{AnyItems}
 use Rattle.cache_unit.specs.State.{Sizes}
 use Rattle.station_parts.specs.declared.port.Port.{Port}
 use Rattle.station_parts.specs.declared.row.Line.{Line}
 use Rattle.station_parts.specs.declared.bank.BankSide.{BankSide}
 use Rattle.station_parts.specs.declared.parts.CacheSide.{CacheSide}
-
--- a ring: where it lies, and the names by which its two ends know each other
-pub record RingId : Type 0 where
-  pub words : Ptr
-  pub slots : Ptr
-  pub names : Names
-  pub heap : Global
-
--- the ring that an end pushes to
-abbrev pub pushes_to : {T : Type 0} → Producer T Global AnyItems → RingId
-pushes_to p = record { words = p.end.words; slots = p.end.slots; names = p.end.names; heap = p.end.heap }
-
--- the ring that an end pops from
-abbrev pub pops_from : {T : Type 0} → Consumer T Global AnyItems → RingId
-pops_from c = record { words = c.end.words; slots = c.end.slots; names = c.end.names; heap = c.end.heap }
+use Rattle.station_parts.specs.Rings.{RingId, pushes_to, pops_from}
 
 -- the ring of a line
 abbrev pub line_ring : Line → RingId

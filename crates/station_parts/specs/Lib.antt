@@ -1,3 +1,4 @@
+pub mod Rings
 pub mod Rows
 pub mod Ports
 pub mod Asking
@@ -6,5 +7,7 @@ pub mod Ids
 pub mod Station
 pub mod Words
 pub mod Serving
+pub mod SideState
+pub mod SideSteps
 pub mod New
 pub mod Audited

@@ -24,7 +24,8 @@ use Rattle.station_parts.specs.declared.port.Port.{Port}
 use Rattle.station_parts.specs.declared.row.Line.{Line}
 use Rattle.station_parts.specs.declared.bank.BankSide.{BankSide}
 use Rattle.station_parts.specs.declared.parts.CacheSide.{CacheSide}
-use Rattle.station_parts.specs.Ids.{PortId, BankId, pushes_to, pops_from, line_ring, port_id, bank_id}
+use Rattle.station_parts.specs.Rings.{pushes_to, pops_from}
+use Rattle.station_parts.specs.Ids.{PortId, BankId, line_ring, port_id, bank_id}
 use Rattle.station_parts.specs.Station.{AreOneStation}
 use Rattle.station_parts.specs.Words.{offered, taken, known_places, known_tellings, received_by, sent_by, words_of, known_commands, answer_places, journal_of, journal_limit, fault_in, sizes_in, cache_in, ports_in, asked_at, told_at, known_asks, telling_places, commands_at, words_at, known_words, command_places}
 
@@ -64,7 +65,8 @@ pub record IsNewCache {W B R D : ℕ} (z : Sizes) (count entries : ℕ) (c : Cac
   pub command_places : (b : ℕ) → b < z.banks → command_places c b ≡ z.bank_queue
 
 -- the parts of a station with so many ports and so many places in its journal, as it was made
-pub record IsNewStation {W B R D : ℕ} (z : Sizes) (count entries : ℕ) (c : CacheSide W B R D) (ps : List Port) (bs : List BankSide) : Type 0 where
+pub record IsNewStation {W B R D : ℕ} (z : Sizes) (count entries : ℕ) (c : CacheSide W B R D) (ps : List Port)
+    (bs : List BankSide) : Type 0 where
   pub one : AreOneStation c ps bs
   pub number : length ps ≡ count
   pub bank_number : length bs ≡ z.banks
@@ -81,7 +83,8 @@ abbrev pub IsNewPusher : {T : Type 0} → ℕ → Producer T Global AnyItems →
 IsNewPusher places p = (sent p ≡ []) × (known_free p ≡ places)
 
 -- so far these ports, and the cache side's ends of their rings
-pub record AreNewPorts (ports : List Port) (asks : List (Consumer Ask Global AnyItems)) (tellings : List (Producer Told Global AnyItems)) : Type 0 where
+pub record AreNewPorts (ports : List Port) (asks : List (Consumer Ask Global AnyItems))
+    (tellings : List (Producer Told Global AnyItems)) : Type 0 where
   pub ask_rings : map (λ (p : PortId). p.asks) (map port_id ports) ≡ map pops_from asks
   pub told_rings : map (λ (p : PortId). p.told) (map port_id ports) ≡ map pushes_to tellings
   pub each_port : All IsNewPort ports
@@ -94,10 +97,12 @@ pub record IsNewLine (places : ℕ) (l : Line) : Type 0 where
   pub taken : l.taken ≡ 0
 
 -- so far these banks, and the cache side's ends of their rings
-pub record AreNewBanks (s : Shape) (banks : List BankSide) (lines : List Line) (answers : List (Consumer BankAnswer Global AnyItems)) : Type 0 where
+pub record AreNewBanks (s : Shape) (banks : List BankSide) (lines : List Line)
+    (answers : List (Consumer BankAnswer Global AnyItems)) : Type 0 where
   pub command_rings : map (λ (b : BankId). b.commands) (map bank_id banks) ≡ map line_ring lines
   pub answer_rings : map (λ (b : BankId). b.answers) (map bank_id banks) ≡ map pops_from answers
-  pub words : map (λ (b : BankId). b.words) (map bank_id banks) ≡ map (λ b. length (share_of (replicate s.words zero_word) s.banks b)) (range_with_len 0 (length banks))
+  pub words : map (λ (b : BankId). b.words) (map bank_id banks) ≡ map (λ b. length (share_of (replicate s.words zero_word) s.banks b))
+      (range_with_len 0 (length banks))
   pub each_bank : All (IsNewBank s.bank_queue) banks
   pub each_line : All (IsNewLine s.bank_queue) lines
   pub each_answers : All IsNewPopper answers

@@ -9,13 +9,16 @@ use Rattle.station_journal.specs.declared.journal.Entry.{Entry}
 use Rattle.station_journal.specs.declared.asks.Ask.{Ask}
 use Rattle.station_journal.specs.declared.asks.Ask.TheVariants.{Done}
 use Rattle.station_journal.specs.declared.asks.Told.{Told}
-use Rattle.station_journal.specs.Parts.{asks_of, told_of}
+use Rattle.station_journal.specs.Parts.{asks_of, told_of, IsOfPorts}
 
 -- the journal has what was popped of each port's asks, and what was pushed to it
-pub record PortsTell (asks : List (Consumer Ask Global AnyItems)) (tellings : List (Producer Told Global AnyItems)) (journal : List Entry) : Type 0 where
+pub record PortsTell (asks : List (Consumer Ask Global AnyItems)) (tellings : List (Producer Told Global AnyItems))
+    (journal : List Entry) : Type 0 where
   pub number : length tellings ≡ length asks
   pub asked : (p : ℕ) → p < length asks → slice_index_or (map received asks) p [] ≡ asks_of p journal
   pub told : (p : ℕ) → p < length asks → slice_index_or (map sent tellings) p [] ≡ told_of p journal
+  -- and each of its events is its source's
+  pub sources : IsOfPorts (length asks) journal
 
 -- the ask by which a port says that it asks nothing more
 abbrev pub is_done : Ask → Bool

@@ -1,5 +1,5 @@
 -- What an audit promises of a journal, beside what ports offered and took and what banks hold.
-use Rattle.std.specs.Prelude.{◌≡◌, ℕ, ◌<◌, ◌/◌, ◌%◌, List, [], length, map, slice_get, slice_index_or, Some}
+use Rattle.std.specs.Prelude.{◌≡◌, ℕ, ◌<◌, ◌/◌, ◌%◌, List, [], ◌++◌, length, map, slice_get, slice_index_or, Some}
 use mathlib.Core.List.{IsPrefix}
 use Rattle.flat_model.specs.declared.Word.{Word}
 use Rattle.flat_model.specs.Flat.{Flat, opening, word_at, flat_run}
@@ -9,6 +9,7 @@ use Rattle.station_journal.specs.declared.asks.Told.{Told}
 use Rattle.station_journal.specs.declared.journal.Entry.{Entry}
 use Rattle.station_journal.specs.Journal.{zeros, events_of, answers_of}
 use Rattle.station_journal.specs.Parts.{asks_of, told_of}
+use Rattle.station_journal.specs.Conversation.{verdicts_in, requests_in}
 use Rattle.station_journal.specs.Law.{IsPaid}
 use Rattle.station_parts.specs.declared.port.Port.{Port}
 use Rattle.station_parts.specs.declared.bank.BankSide.{BankSide}
@@ -36,6 +37,12 @@ pub record AreWhole (entries : List Entry) (ports : List Port) : Type 0 where
   pub asks : (p : ℕ) → p < length ports → asks_of p entries ≡ offered_by ports p
   pub told : (p : ℕ) → p < length ports → taken_by ports p ≡ told_of p entries
 
+-- up to each entry each ask but Done has one verdict: the k-th verdict is on the k-th ask
+abbrev pub AreJudged : List Entry → Type 0
+AreJudged entries =
+    (before rest : List Entry) (p : ℕ) → entries ≡ before ++ rest
+    → length (verdicts_in (told_of p before)) ≡ length (requests_in (asks_of p before))
+
 -- the journal's events and answers are a run of flat memory from zeros, and leave this state
 abbrev pub LeavesFlat : Sizes → List Entry → Flat → Type 0
 LeavesFlat z entries flat = flat_run (opening (zeros z)) (events_of entries) (answers_of entries) ≡ Some flat
@@ -52,4 +59,5 @@ PaysLoads z entries = (flat : Flat) → LeavesFlat z entries flat → IsPaid fla
 -- each word of memory stands in its bank as the run leaves it
 abbrev pub HoldFlat : Sizes → List Entry → List BankSide → Type 0
 HoldFlat z entries banks =
-    (flat : Flat) → LeavesFlat z entries flat → (at : ℕ) → at < z.words → slice_get (words_by banks (at % z.banks)) (at / z.banks) ≡ Some (word_at flat.mem at)
+    (flat : Flat) → LeavesFlat z entries flat → (at : ℕ) → at < z.words
+    → slice_get (words_by banks (at % z.banks)) (at / z.banks) ≡ Some (word_at flat.mem at)

@@ -1,15 +1,16 @@
 //! What the cache side does for an ask.
-ghost use Rattle.std.specs.Prelude.{◌≡◌, ◌<◌, ◌+◌, ◌*◌, ◌%◌, ℕ, ◌++◌, ◌∷◌, []};
+ghost use Rattle.std.specs.Prelude.{◌≡◌, ◌≢◌, ◌<◌, ◌+◌, ◌*◌, ◌%◌, ℕ, ◌++◌, ◌∷◌, [], length, true};
 ghost use Rattle.memory_banks.specs.Banks.{commands_for};
 ghost use Rattle.station_parts.specs.Rows.{sent_at, free_at, OnlySent};
-ghost use Rattle.station_journal.specs.Parts.{verdict, IsVerdict};
+ghost use Rattle.station_journal.specs.Parts.{verdict, is_event_of, IsVerdict};
 ghost use Rattle.station_journal.specs.declared.asks.Told.TheVariants.{Value};
 ghost use Rattle.station_parts.specs.Asking.{event_for, asked_step};
+ghost use Rattle.station_parts.specs.SideSteps.{EventForms};
 
 use crate::lines::Row;
 use cache_unit::{CacheUnit, Request};
 use flat_model::{Answer, Event, Word};
-use station_journal::{Ask, Told};
+use station_journal::{Ask, Source, Told};
 
 // The tag under which the core knows a port's load.
 fn core_tag(port: u32, tag: u8) -> u16
@@ -19,10 +20,12 @@ fn core_tag(port: u32, tag: u8) -> u16
     port as u16 * 256 + u16::from(tag)
 }
 
-/// The event that an ask is.
+/// The event that an ask is. Done is none.
 pub(crate) fn event_for(port: u32, ask: Ask) -> Event
-    requires { port < 16 }
-    ensures { result ≡ event_for port ask }
+    requires few_ports { port < 16 }
+    requires not_done { ask ≢ Ask.Done }
+    ensures event { result ≡ event_for port ask }
+    ensures sourced { (ports : ℕ) → port < ports → is_event_of ports (Source.Ask port) result ≡ true }
 {
     match ask {
         Ask::Load { tag, at } => Event::Load {
@@ -32,7 +35,7 @@ pub(crate) fn event_for(port: u32, ask: Ask) -> Event
         Ask::Store { at, word, lanes } => Event::Store { at, word, lanes },
         Ask::Prefetch { at } => Event::Prefetch { at },
         Ask::Evict { block } => Event::Evict { block },
-        Ask::Done => Event::Drain,
+        Ask::Done => unreachable!(),
     }
 }
 
@@ -43,7 +46,8 @@ pub(crate) fn answer_ask<
     const REGS: usize,
     const DEPTH: usize,
 >(unit: &mut CacheUnit<WAYS, WORDS, REGS, DEPTH>, row: &mut Row, port: u32, ask: Ask) -> Answer
-    requires { port < 16 }
+    requires few_ports { port < 16 }
+    requires not_done { ask ≢ Ask.Done }
     ensures answer { result
         ≡ (asked_step unit.old.sizes (free_at row.old.lines.items) port unit.old.cache ask).answer }
     ensures unit { unit.new
@@ -52,11 +56,16 @@ pub(crate) fn answer_ask<
               (asked_step unit.old.sizes
               (free_at row.old.lines.items) port unit.old.cache ask).cache;
         } }
+    ensures forms { EventForms unit.old.sizes unit.old.cache (event_for port ask) [] result
+        unit.new.cache }
     ensures same { OnlySent row.old.lines.items row.new.lines.items }
     ensures sent { (b : ℕ) → sent_at row.new.lines.items b
         ≡ sent_at row.old.lines.items b ++ commands_for b
         (asked_step unit.old.sizes
         (free_at row.old.lines.items) port unit.old.cache ask).sent }
+    ensures rooms { (b : ℕ) → free_at row.new.lines.items b + length (commands_for b
+        (asked_step unit.old.sizes
+        (free_at row.old.lines.items) port unit.old.cache ask).sent) ≡ free_at row.old.lines.items b }
 {
     match ask {
         Ask::Load { tag, at } => unit.request(
@@ -69,7 +78,7 @@ pub(crate) fn answer_ask<
         Ask::Store { at, word, lanes } => unit.request(Request::Store { at, word, lanes }, row),
         Ask::Prefetch { at } => unit.request(Request::Prefetch { at }, row),
         Ask::Evict { block } => unit.evict(block),
-        Ask::Done => Answer::Nothing,
+        Ask::Done => unreachable!(),
     }
 }
 

@@ -1,51 +1,51 @@
-//! Rows of rings' ends: one for each port or bank.
-ghost use Rattle.std.specs.Prelude.{◌≡◌, ◌≢◌, ◌<◌, ◌++◌, ◌∷◌, [], ℕ, length, IfSome, IfNone};
-ghost use Rattle.rtrb.specs.Ring.{received, sent, known_free};
-ghost use Rattle.station_parts.specs.Rows.{received_at, pushed_at, room_at};
+//! Rows of rings' ends: one for each port or bank. Of a place that isn't there nothing is known.
+ghost use Rattle.std.specs.Prelude.{◌≡◌, ◌<◌, ◌∷◌, [], IfNone};
+ghost use Rattle.rtrb.specs.Ring.{known_items};
+ghost use Rattle.station_parts.specs.Rings.{HasPopped};
+ghost use Rattle.station_parts.specs.Rows.{known_at, room_at, list_of, PopsAt, LooksAt, PushesAt};
 
 use rtrb::{Consumer, Producer};
 
-/// Pops the first item that is known at a place.
+/// Looks at the far end at a place, and pops the first item that is then known. `None` says that
+/// none is.
 pub(crate) fn pop_at<T: Drop>(ends: &mut Vec<Consumer<T>>, place: u32) -> Option<T>
-    requires { place < length ends.old.items }
-    ensures number { length ends.new.items ≡ length ends.old.items }
-    ensures some { IfSome result (λ a. received_at ends.new.items place
-        ≡ received_at ends.old.items place ++ a ∷ []) }
-    ensures none { IfNone result
-        (received_at ends.new.items place ≡ received_at ends.old.items place) }
-    ensures others { (p : ℕ) → p ≢ place
-        → received_at ends.new.items p ≡ received_at ends.old.items p }
+    ensures pops { PopsAt ends.old.items ends.new.items place (list_of result) }
+    ensures none { IfNone result (known_at ends.new.items place ≡ []) }
 {
+    if place as usize >= ends.len() {
+        return None;
+    }
     let end = &mut ends[place as usize];
     pop_one(end)
 }
 
-// Pops the first item that is known.
+// Looks at the far end, and pops the first item that is then known.
 fn pop_one<T: Drop>(end: &mut Consumer<T>) -> Option<T>
-    ensures some { IfSome result (λ a. received end.new ≡ received end.old ++ a ∷ []) }
-    ensures none { IfNone result (received end.new ≡ received end.old) }
+    ensures pops { HasPopped end.old end.new (list_of result) }
+    ensures none { IfNone result (known_items end.new ≡ []) }
 {
-    end.pop().ok()
+    if end.slots() == 0 {
+        return None;
+    }
+    Some(end.pop_known())
 }
 
-/// Looks at the far end at a place: how many more items have room there.
+/// Looks at the far end at a place: how many more items are then known to have room there.
 pub(crate) fn look_at<T>(ends: &mut Vec<Producer<T>>, place: u32) -> usize
-    requires { place < length ends.old.items }
-    ensures number { length ends.new.items ≡ length ends.old.items }
+    ensures looks { LooksAt ends.old.items ends.new.items }
     ensures room { result ≡ room_at ends.new.items place }
-    ensures pushed { (p : ℕ) → pushed_at ends.new.items p ≡ pushed_at ends.old.items p }
 {
+    if place as usize >= ends.len() {
+        return 0;
+    }
     let end = &mut ends[place as usize];
     end.slots()
 }
 
-/// Pushes an item at a place that has room for it.
+/// Pushes an item at a place that is known to have room for it.
 pub(crate) fn push_at<T: Drop>(ends: &mut Vec<Producer<T>>, place: u32, item: T)
     requires { 0 < room_at ends.old.items place }
-    ensures number { length ends.new.items ≡ length ends.old.items }
-    ensures here { pushed_at ends.new.items place ≡ pushed_at ends.old.items place ++ item ∷ [] }
-    ensures others { (p : ℕ) → p ≢ place
-        → pushed_at ends.new.items p ≡ pushed_at ends.old.items p }
+    ensures { PushesAt ends.old.items ends.new.items place (item ∷ []) }
 {
     let end = &mut ends[place as usize];
     end.push_reserved(item);

@@ -4,9 +4,11 @@ ghost use Rattle.std.specs.Option.{ForSome};
 ghost use Rattle.rtrb.specs.Ring.{received, sent, known_items};
 ghost use Rattle.cache_unit.specs.Views.{is_clean};
 ghost use Rattle.station_journal.specs.Journal.{IsBankTrue};
+ghost use Rattle.station_journal.specs.Parts.{IsOfPorts};
 ghost use Rattle.station_parts.specs.declared.parts.Audit.TheVariants.{Faulted, Clean};
-ghost use Rattle.station_parts.specs.Promises.{ArePrefixes, IsFlatRun, AreWhole, PaysLoads, HoldFlat};
-ghost use Rattle.station_parts.specs.Ids.{PortId, BankId, port_id, bank_id, cache_id, pushes_to, pops_from, line_ring};
+ghost use Rattle.station_parts.specs.Promises.{ArePrefixes, AreJudged, IsFlatRun, AreWhole, PaysLoads, HoldFlat};
+ghost use Rattle.station_parts.specs.Rings.{pushes_to, pops_from};
+ghost use Rattle.station_parts.specs.Ids.{PortId, BankId, port_id, bank_id, cache_id, line_ring};
 ghost use Rattle.station_parts.specs.Station.{AreOneStation};
 ghost use Rattle.station_parts.specs.Rows.{come_to, sent_over, brought_by};
 ghost use Rattle.station_parts.specs.Words.{journal_of, sizes_in, cache_in, told_in_all, commanded, offered, taken, known_tellings, received_by, sent_by, words_of, known_commands};
@@ -52,6 +54,8 @@ pub fn audit<const WAYS: usize, const WORDS: usize, const REGS: usize, const DEP
     ensures prefixes { ArePrefixes (journal_of cache.new) ports.new }
     ensures bank_true { IsBankTrue (sizes_in cache.new) (journal_of cache.new) }
     ensures flat { IsFlatRun (sizes_in cache.new) (journal_of cache.new) }
+    ensures sources { IsOfPorts (length ports.new) (journal_of cache.new) }
+    ensures judged { AreJudged (journal_of cache.new) }
 
     // Nothing is left and nothing is owed.
     ensures whole { result ≡ Clean → AreWhole (journal_of cache.new) ports.new }

@@ -12,16 +12,14 @@ pub struct Row {
 }
 
 impl Row {
-    ghost use Rattle.std.specs.Prelude.{◌≡◌, ◌≢◌, ℕ};
-    ghost use Rattle.station_parts.specs.Rows.{AreSame, taken_at};
+    ghost use Rattle.std.specs.Prelude.{◌≡◌};
+    ghost use Rattle.station_parts.specs.Rows.{LinesLook};
 
-    /// Looks at the far end of a bank's line, and tells how many commands it takes: 0 where there is
-    /// no such bank.
+    /// Looks at the far end of a bank's line, and tells how many commands it is then known to take:
+    /// 0 if there is no such bank.
     pub(crate) fn look(&mut self, bank: u32) -> u32
-        ensures same { AreSame self.old.lines.items self.new.lines.items }
-        ensures sent { (b : ℕ) → sent_at self.new.lines.items b ≡ sent_at self.old.lines.items b }
+        ensures looks { LinesLook self.old.lines.items self.new.lines.items }
         ensures room { result ≡ free_at self.new.lines.items bank }
-        ensures taken { (b : ℕ) → taken_at self.new.lines.items b ≡ taken_at self.old.lines.items b }
     {
         if bank as usize >= self.lines.len() {
             return 0;
@@ -32,9 +30,7 @@ impl Row {
 
     /// Looks at the far ends of all lines.
     pub(crate) fn look_all(&mut self, banks: u32)
-        ensures same { AreSame self.old.lines.items self.new.lines.items }
-        ensures sent { (b : ℕ) → sent_at self.new.lines.items b ≡ sent_at self.old.lines.items b }
-        ensures taken { (b : ℕ) → taken_at self.new.lines.items b ≡ taken_at self.old.lines.items b }
+        ensures { LinesLook self.old.lines.items self.new.lines.items }
     {
         for bank in 0..banks {
             self.look(bank);
@@ -43,10 +39,10 @@ impl Row {
 }
 
 impl Row {
-    ghost use Rattle.std.specs.Prelude.{◌≡◌, ◌≢◌, ◌<◌, ◌+◌, ◌-◌, ◌^◌, ◌%◌, ℕ, nat_lt};
+    ghost use Rattle.std.specs.Prelude.{◌≡◌, ◌<◌, ◌-◌, ◌^◌, ◌%◌, nat_lt};
     ghost use Rattle.std.specs.List.{count_by};
     ghost use Rattle.memory_banks.specs.Memory.{is_read};
-    ghost use Rattle.station_parts.specs.Rows.{AreSame, taken_at};
+    ghost use Rattle.station_parts.specs.Rows.{taken_at, IsCounted};
 
     /// Whether a word of the bank has been asked for that hasn't come.
     pub(crate) fn is_called(&self, bank: u32) -> bool
@@ -58,15 +54,11 @@ impl Row {
         line.is_called()
     }
 
-    /// One word more of the bank has come.
+    /// Counts one word more of the bank.
     pub(crate) fn note_word(&mut self, bank: u32)
         requires there { bank < length self.old.lines.items }
         requires fits { taken_at self.old.lines.items bank < 2 ^ 64 - 1 }
-        ensures same { AreSame self.old.lines.items self.new.lines.items }
-        ensures sent { (b : ℕ) → sent_at self.new.lines.items b ≡ sent_at self.old.lines.items b }
-        ensures here { taken_at self.new.lines.items bank ≡ taken_at self.old.lines.items bank + 1 }
-        ensures others { (b : ℕ) → b ≢ bank
-            → taken_at self.new.lines.items b ≡ taken_at self.old.lines.items b }
+        ensures { IsCounted self.old.lines.items self.new.lines.items bank }
     {
         let line = &mut self.lines[bank as usize];
         line.note_word();

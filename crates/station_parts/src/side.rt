@@ -1,15 +1,13 @@
 //! The steps of the cache side.
-ghost use Rattle.std.specs.Prelude.{◌≡◌, ◌≢◌, ◌<◌, ◌++◌, ◌∷◌, [], ℕ, length, None, IfSome, IfNone, IsSome, IsNone};
-ghost use Rattle.station_parts.specs.declared.parts.Stepped.TheVariants.{Faulted, JournalFull};
-ghost use Rattle.rtrb.specs.Ring.{received};
-ghost use Rattle.station_parts.specs.Rows.{popped_at};
+ghost use Rattle.std.specs.Prelude.{◌≡◌, ◌≢◌, ◌<◌, length, None, IfSome, IfNone, IsTrue};
+ghost use Rattle.station_parts.specs.Ids.{cache_id};
+ghost use Rattle.station_parts.specs.SideState.{state_of};
+ghost use Rattle.station_parts.specs.SideSteps.{has_work, refusal_of, StepMakes};
 
 use crate::asking::{answer_ask, event_for, value_told, verdict_of};
 use crate::ends::{look_at, pop_at, push_at};
 use crate::parts::{CacheSide, Stepped};
 use flat_model::{Answer, Event};
-use memory_banks::BankAnswer;
-use rtrb::Consumer;
 use station_journal::{Ask, Entry, SideFault, Source};
 
 impl<const WAYS: usize, const WORDS: usize, const REGS: usize, const DEPTH: usize> CacheSide<
@@ -18,13 +16,28 @@ impl<const WAYS: usize, const WORDS: usize, const REGS: usize, const DEPTH: usiz
     REGS,
     DEPTH,
 > {
-    /// Makes one step, with work from a source. `Faulted` says that the side has got a word that it
-    /// hadn't asked for, and does nothing more; `JournalFull` that the journal has no room for a
-    /// step; and `Idle` that there is nothing to do, or no room for what it makes.
+    /// Looks at the far ends of the rings that a source needs, and makes one step with the source's
+    /// first item, or the one at its place. The journal notes it, with what the unit answered.
+    ///
+    /// In this order:
+    /// - `Faulted` if the side is faulted, and then nothing changes;
+    /// - `JournalFull` if the journal has no room for an entry, and then nothing changes;
+    /// - `Idle` if there is no such source, no item of it is known, the stack has no room for a word,
+    ///   no word waits for its bank or the bank isn't known to have room for it, or the port isn't known
+    ///   to have room for what it would be told (its verdict, its value; for `Done` too). Nothing
+    ///   changes, but that more may be known of the far ends;
+    /// - `Faulted` if the word of a bank goes beyond the reads sent to the bank, or else if no register
+    ///   waits for it. The word is lost, [`CacheSide::fault`] says which it was, and nothing else
+    ///   changes: the side is faulted for good;
+    /// - else `Did`.
     pub fn step(&mut self, source: Source) -> Stepped
-        ensures faulted { IsSome self.old.fault → (result ≡ Faulted) × (self.new ≡ self.old) }
-        ensures full { IsNone self.old.fault → length self.old.journal.items ≡ self.old.limit
-            → (result ≡ JournalFull) × (self.new ≡ self.old) }
+        ensures refused { IfSome (refusal_of (state_of self.old))
+            (λ refusal. (result ≡ refusal) × (self.new ≡ self.old)) }
+        ensures makes { IfNone (refusal_of (state_of self.old))
+            (StepMakes source (state_of self.old) (state_of self.new) result) }
+        ensures busy { IsTrue (has_work source (state_of self.old) (state_of self.old).known)
+            → result ≢ Stepped.Idle }
+        ensures same { cache_id self.new ≡ cache_id self.old }
     {
         if self.fault.is_some() {
             return Stepped::Faulted;
@@ -45,6 +58,8 @@ impl<const WAYS: usize, const WORDS: usize, const REGS: usize, const DEPTH: usiz
     fn process(&mut self, place: u32) -> Stepped
         requires sound { self.old.fault ≡ None }
         requires room { length self.old.journal.items < self.old.limit }
+        ensures makes { StepMakes (Source.Stack place) (state_of self.old) (state_of self.new) result }
+        ensures same { cache_id self.new ≡ cache_id self.old }
     {
         if place >= self.unit.stack_len() {
             return Stepped::Idle;
@@ -62,6 +77,8 @@ impl<const WAYS: usize, const WORDS: usize, const REGS: usize, const DEPTH: usiz
     fn drain(&mut self) -> Stepped
         requires sound { self.old.fault ≡ None }
         requires room { length self.old.journal.items < self.old.limit }
+        ensures makes { StepMakes Source.Drain (state_of self.old) (state_of self.new) result }
+        ensures same { cache_id self.new ≡ cache_id self.old }
     {
         let Some(front) = self.unit.queue_entry(0) else {
             return Stepped::Idle;
@@ -82,10 +99,9 @@ impl<const WAYS: usize, const WORDS: usize, const REGS: usize, const DEPTH: usiz
     fn ask(&mut self, port: u32) -> Stepped
         requires sound { self.old.fault ≡ None }
         requires room { length self.old.journal.items < self.old.limit }
+        ensures makes { StepMakes (Source.Ask port) (state_of self.old) (state_of self.new) result }
+        ensures same { cache_id self.new ≡ cache_id self.old }
     {
-        if port as usize >= self.asks.len() {
-            return Stepped::Idle;
-        }
         if look_at(&mut self.tellings, port) == 0 {
             return Stepped::Idle;
         }
@@ -111,14 +127,13 @@ impl<const WAYS: usize, const WORDS: usize, const REGS: usize, const DEPTH: usiz
     fn reply(&mut self, place: u32) -> Stepped
         requires sound { self.old.fault ≡ None }
         requires room { length self.old.journal.items < self.old.limit }
+        ensures makes { StepMakes (Source.Reply place) (state_of self.old) (state_of self.new) result }
+        ensures same { cache_id self.new ≡ cache_id self.old }
     {
         let Some(Answer::Value { tag, word }) = self.unit.reply(place) else {
             return Stepped::Idle;
         };
         let port = u32::from(tag / 256);
-        if port as usize >= self.tellings.len() {
-            return Stepped::Idle;
-        }
         if look_at(&mut self.tellings, port) == 0 {
             return Stepped::Idle;
         }
@@ -136,11 +151,13 @@ impl<const WAYS: usize, const WORDS: usize, const REGS: usize, const DEPTH: usiz
     fn bring(&mut self, bank: u32) -> Stepped
         requires sound { self.old.fault ≡ None }
         requires room { length self.old.journal.items < self.old.limit }
+        ensures makes { StepMakes (Source.Word bank) (state_of self.old) (state_of self.new) result }
+        ensures same { cache_id self.new ≡ cache_id self.old }
     {
-        if bank as usize >= self.answers.len() || self.unit.stack_len() as usize >= DEPTH {
+        if self.unit.stack_len() as usize >= DEPTH {
             return Stepped::Idle;
         }
-        let Some(word) = pop_word(&mut self.answers, bank) else {
+        let Some(word) = pop_at(&mut self.answers, bank) else {
             return Stepped::Idle;
         };
         if !self.row.is_called(bank) {
@@ -163,27 +180,4 @@ impl<const WAYS: usize, const WORDS: usize, const REGS: usize, const DEPTH: usiz
         });
         Stepped::Did
     }
-}
-
-// Pops the first word that is known of a bank.
-fn pop_word(answers: &mut Vec<Consumer<BankAnswer>>, bank: u32) -> Option<BankAnswer>
-    requires { bank < length answers.old.items }
-    ensures number { length answers.new.items ≡ length answers.old.items }
-    ensures some { IfSome result (λ a. popped_at answers.new.items bank
-        ≡ popped_at answers.old.items bank ++ a ∷ []) }
-    ensures none { IfNone result
-        (popped_at answers.new.items bank ≡ popped_at answers.old.items bank) }
-    ensures others { (b : ℕ) → b ≢ bank
-        → popped_at answers.new.items b ≡ popped_at answers.old.items b }
-{
-    let end = &mut answers[bank as usize];
-    pop_one(end)
-}
-
-// Pops the first item that is known.
-fn pop_one<T: Drop>(end: &mut Consumer<T>) -> Option<T>
-    ensures some { IfSome result (λ a. received end.new ≡ received end.old ++ a ∷ []) }
-    ensures none { IfNone result (received end.new ≡ received end.old) }
-{
-    end.pop().ok()
 }

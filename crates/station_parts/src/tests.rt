@@ -10,6 +10,7 @@ mod by_hand;
 mod full;
 mod makers;
 mod raw_banks;
+mod refusals;
 
 type CacheOfFour = CacheSide<1, 4, 2, 2>;
 

@@ -1,11 +1,27 @@
-use Rattle.std.proofs.Common.{sym, ◌∙◌}
-use Rattle.station_parts.proofs.UsedEnds.{looked_room, looked_pushed}
+use Rattle.std.proofs.Common.{◌<◌, length, sym, ◌∙◌, arith}
+use Rattle.rtrb.specs.Ring.{known_free}
+use Rattle.station_parts.proofs.Rows.{here_after}
+use Rattle.station_parts.specs.Rings.{HasLooked}
+use Rattle.station_parts.proofs.Rowing.{pushes_kept}
+use Rattle.station_parts.proofs.UsedEnds.{looks_at}
 use Rattle.station_parts.proofs.ends.look_at.Goals as goal
+
+pub returns-clause-looks : goal.returns-clause-looks
+returns-clause-looks g c =
+    let xs = c.args.ends.now.items in
+    let end = c.index_mut-end.result.now in
+    let there : c.args.place < length xs = omega arith in
+    let looked = c.slots.ensures.looked in
+    let used : HasLooked end c.slots.new.self = record {
+      ring = pushes_kept end c.slots.new.self looked.0;
+      pushed = looked.1;
+      places =
+          looked.2;
+    } in
+    looks_at xs c.args.place end c.slots.new.self there c.index_mut-end.ensures.value used
 
 pub returns-clause-room : goal.returns-clause-room
 returns-clause-room g c =
-    c.slots.ensures.value ∙ sym (looked_room c.args.ends.now.items c.args.place c.index_mut-end.result.now c.slots.new.self c.requires c.index_mut-end.ensures.value)
-
-pub returns-clause-pushed : goal.returns-clause-pushed
-returns-clause-pushed g c p =
-    looked_pushed c.args.ends.now.items c.args.place c.index_mut-end.result.now c.slots.new.self c.requires c.index_mut-end.ensures.value c.slots.ensures.looked.1 p
+    let xs = c.args.ends.now.items in
+    let there : c.args.place < length xs = omega arith in
+    c.slots.ensures.value ∙ sym (here_after known_free xs c.args.place c.slots.new.self 0 there)

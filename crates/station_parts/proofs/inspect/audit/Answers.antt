@@ -2,7 +2,7 @@ use Rattle.std.proofs.Common.{◌≢◌, subst, sym, ◌∙◌}
 use Rattle.station_parts.specs.declared.parts.Audit.{Audit}
 use Rattle.station_parts.specs.declared.parts.Audit.TheVariants.{Faulted}
 use Rattle.station_parts.proofs.Moves.{still_one}
-use Rattle.station_parts.proofs.Auditing.{prefixes_here, bank_true_here, run_here, never_here, whole_here, paid_here, held_here}
+use Rattle.station_parts.proofs.Auditing.{prefixes_here, bank_true_here, run_here, sources_here, judged_here, never_here, whole_here, paid_here, held_here}
 use Rattle.station_parts.proofs.inspect.audit.Goals as goal
 
 pub returns-clause-never : goal.returns-clause-never
@@ -50,3 +50,15 @@ returns-clause-settled g c clean =
     let e = c.look_everywhere.ensures in
     let one = still_one _ _ _ _ _ _ e.same_cache e.same_ports e.same_banks c.requires in
     held_here n.cache n.ports n.banks one e.seen (sym c.found.ensures ∙ clean)
+
+pub returns-clause-sources : goal.returns-clause-sources
+returns-clause-sources g c =
+    let n = c.look_everywhere.new in
+    let e = c.look_everywhere.ensures in
+    sources_here n.cache n.ports n.banks (still_one _ _ _ _ _ _ e.same_cache e.same_ports e.same_banks c.requires) e.seen
+
+pub returns-clause-judged : goal.returns-clause-judged
+returns-clause-judged g c =
+    let n = c.look_everywhere.new in
+    let e = c.look_everywhere.ensures in
+    judged_here n.cache n.ports n.banks (still_one _ _ _ _ _ _ e.same_cache e.same_ports e.same_banks c.requires) e.seen

@@ -1,6 +1,7 @@
 use Rattle.std.proofs.Common.{◌≡◌, map, take}
 use Rattle.rtrb.specs.Ring.{received}
-use Rattle.station_parts.specs.Ids.{bank_id, pops_from}
+use Rattle.station_parts.specs.Rings.{pops_from}
+use Rattle.station_parts.specs.Ids.{bank_id}
 use Rattle.station_parts.specs.Rows.{come_to}
 use Rattle.station_parts.specs.Words.{received_by, sent_by, words_of, commanded}
 use Rattle.station_parts.proofs.inspect.look_answers.Given as goal

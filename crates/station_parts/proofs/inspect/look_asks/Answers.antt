@@ -1,7 +1,8 @@
 use Rattle.std.proofs.Common.{◌≡◌, ◌<◌, length, map, sym, ap, ◌∙◌, arith}
 use Rattle.std.proofs.Math.Seq.{map-set_same}
 use Rattle.rtrb.specs.Ring.{received}
-use Rattle.station_parts.specs.Ids.{PortId, port_id, pops_from}
+use Rattle.station_parts.specs.Rings.{pops_from}
+use Rattle.station_parts.specs.Ids.{PortId, port_id}
 use Rattle.station_parts.specs.Rows.{come_to}
 use Rattle.station_parts.specs.Words.{offered, taken}
 use Rattle.station_parts.specs.declared.port.Port.{Port}
@@ -14,9 +15,11 @@ look_ask-requires c =
     let i = c.loop-p.invariant in
     let rings = ap (map (λ (x : PortId). x.asks)) i.same_ids ∙ c.requires ∙ sym i.same_rings in
     let there : c.loop-p.p < length c.loop-p.ports = let n = c.loop-p.auto.ports in omega arith in
-    let beside : c.loop-p.p < length c.loop-p.asks.items = let n = as_long (λ (x : PortId). x.asks) port_id pops_from c.loop-p.ports c.loop-p.asks.items rings in omega arith in
+    let beside : c.loop-p.p < length c.loop-p.asks.items = let n =
+    as_long (λ (x : PortId). x.asks) port_id pops_from c.loop-p.ports c.loop-p.asks.items rings in omega arith in
     sym (ap (λ (x : Port). (port_id x).asks) c.index-ports-p.is)
-    ∙ matched_at (λ (x : PortId). x.asks) port_id pops_from c.loop-p.ports c.loop-p.asks.items c.loop-p.p c.index-ports-p.result c.index_mut.result.now rings there beside c.index-ports-p.is c.index_mut.ensures.value
+    ∙ matched_at (λ (x : PortId). x.asks) port_id pops_from c.loop-p.ports c.loop-p.asks.items c.loop-p.p c.index-ports-p.result
+    c.index_mut.result.now rings there beside c.index-ports-p.is c.index_mut.ensures.value
 
 pub loop-p-preserved : goal.loop-p-preserved
 loop-p-preserved c =
@@ -24,14 +27,18 @@ loop-p-preserved c =
     let e = c.look_ask.ensures in
     let rings = ap (map (λ (x : PortId). x.asks)) i.same_ids ∙ c.requires ∙ sym i.same_rings in
     let there : c.loop-p.p < length c.loop-p.ports = let n = c.loop-p.auto.ports in omega arith in
-    let beside : c.loop-p.p < length c.loop-p.asks.items = let n = as_long (λ (x : PortId). x.asks) port_id pops_from c.loop-p.ports c.loop-p.asks.items rings in omega arith in
+    let beside : c.loop-p.p < length c.loop-p.asks.items = let n =
+    as_long (λ (x : PortId). x.asks) port_id pops_from c.loop-p.ports c.loop-p.asks.items rings in omega arith in
     record {
       same_ids = map-set_same port_id c.loop-p.ports c.loop-p.p c.look_ask.new.port c.index-ports-p.result e.same ∙ i.same_ids;
       same_offered = map-set_same offered c.loop-p.ports c.loop-p.p c.look_ask.new.port c.index-ports-p.result e.offered ∙ i.same_offered;
       same_taken = map-set_same taken c.loop-p.ports c.loop-p.p c.look_ask.new.port c.index-ports-p.result e.taken ∙ i.same_taken;
-      same_rings = moved pops_from c.loop-p.asks.items c.loop-p.p c.index_mut.result.now c.look_ask.new.asks c.index_mut.ensures.value e.ring ∙ i.same_rings;
-      same_received = moved received c.loop-p.asks.items c.loop-p.p c.index_mut.result.now c.look_ask.new.asks c.index_mut.ensures.value e.received ∙ i.same_received;
-      seen = seen_more come_to offered c.loop-p.asks.items c.loop-p.ports c.loop-p.p c.look_ask.new.asks c.look_ask.new.port i.seen beside there e.seen;
+      same_rings = moved pops_from c.loop-p.asks.items c.loop-p.p c.index_mut.result.now c.look_ask.new.asks c.index_mut.ensures.value
+          e.ring ∙ i.same_rings;
+      same_received = moved received c.loop-p.asks.items c.loop-p.p c.index_mut.result.now c.look_ask.new.asks c.index_mut.ensures.value
+          e.received ∙ i.same_received;
+      seen = seen_more come_to offered c.loop-p.asks.items c.loop-p.ports c.loop-p.p c.look_ask.new.asks c.look_ask.new.port i.seen beside
+          there e.seen;
     }
 
 pub returns-clause-seen : goal.returns-clause-seen
@@ -39,5 +46,6 @@ returns-clause-seen c =
     let i = c.loop-p.invariant in
     let rings = ap (map (λ (x : PortId). x.asks)) i.same_ids ∙ c.requires ∙ sym i.same_rings in
     let same = as_long (λ (x : PortId). x.asks) port_id pops_from c.loop-p.ports c.loop-p.asks.items rings in
-    let all : c.loop-p.p ≡ length c.loop-p.ports = let n = c.loop-p.auto.ports in let m = c.loop-p.auto.p-end in let f = c.loop-p-test.false in omega arith in
+    let all : c.loop-p.p ≡ length c.loop-p.ports = let n = c.loop-p.auto.ports in let m = c.loop-p.auto.p-end in
+    let f = c.loop-p-test.false in omega arith in
     seen_all come_to offered c.loop-p.asks.items c.loop-p.ports c.loop-p.p i.seen (all ∙ same) all

@@ -1,6 +1,7 @@
 use Rattle.std.proofs.Common.{◌≡◌, map, take}
 use Rattle.rtrb.specs.Ring.{received}
-use Rattle.station_parts.specs.Ids.{port_id, pops_from}
+use Rattle.station_parts.specs.Rings.{pops_from}
+use Rattle.station_parts.specs.Ids.{port_id}
 use Rattle.station_parts.specs.Rows.{come_to}
 use Rattle.station_parts.specs.Words.{offered, taken}
 use Rattle.station_parts.proofs.inspect.look_asks.Given as goal

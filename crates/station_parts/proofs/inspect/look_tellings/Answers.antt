@@ -1,7 +1,8 @@
 use Rattle.std.proofs.Common.{◌≡◌, ◌<◌, length, map, sym, ap, ◌∙◌, arith}
 use Rattle.std.proofs.Math.Seq.{map-set_same}
 use Rattle.rtrb.specs.Ring.{sent}
-use Rattle.station_parts.specs.Ids.{PortId, port_id, pushes_to}
+use Rattle.station_parts.specs.Rings.{pushes_to}
+use Rattle.station_parts.specs.Ids.{PortId, port_id}
 use Rattle.station_parts.specs.Words.{offered, taken, told_in_all}
 use Rattle.station_parts.specs.declared.port.Port.{Port}
 use Rattle.station_parts.proofs.Moves.{moved}
@@ -13,9 +14,11 @@ look_telling-requires c =
     let i = c.loop-p.invariant in
     let rings = ap (map (λ (x : PortId). x.told)) i.same_ids ∙ c.requires ∙ sym i.same_rings in
     let there : c.loop-p.p < length c.loop-p.ports = let n = c.loop-p.auto.ports in omega arith in
-    let beside : c.loop-p.p < length c.loop-p.tellings.items = let n = as_long (λ (x : PortId). x.told) port_id pushes_to c.loop-p.ports c.loop-p.tellings.items rings in omega arith in
+    let beside : c.loop-p.p < length c.loop-p.tellings.items = let n =
+    as_long (λ (x : PortId). x.told) port_id pushes_to c.loop-p.ports c.loop-p.tellings.items rings in omega arith in
     sym (ap (λ (x : Port). (port_id x).told) c.index-ports-p.is)
-    ∙ matched_at (λ (x : PortId). x.told) port_id pushes_to c.loop-p.ports c.loop-p.tellings.items c.loop-p.p c.index-ports-p.result c.index_mut.result.now rings there beside c.index-ports-p.is c.index_mut.ensures.value
+    ∙ matched_at (λ (x : PortId). x.told) port_id pushes_to c.loop-p.ports c.loop-p.tellings.items c.loop-p.p c.index-ports-p.result
+    c.index_mut.result.now rings there beside c.index-ports-p.is c.index_mut.ensures.value
 
 pub loop-p-preserved : goal.loop-p-preserved
 loop-p-preserved c =
@@ -23,14 +26,19 @@ loop-p-preserved c =
     let e = c.look_telling.ensures in
     let rings = ap (map (λ (x : PortId). x.told)) i.same_ids ∙ c.requires ∙ sym i.same_rings in
     let there : c.loop-p.p < length c.loop-p.ports = let n = c.loop-p.auto.ports in omega arith in
-    let beside : c.loop-p.p < length c.loop-p.tellings.items = let n = as_long (λ (x : PortId). x.told) port_id pushes_to c.loop-p.ports c.loop-p.tellings.items rings in omega arith in
+    let beside : c.loop-p.p < length c.loop-p.tellings.items = let n =
+    as_long (λ (x : PortId). x.told) port_id pushes_to c.loop-p.ports c.loop-p.tellings.items rings in omega arith in
     record {
       same_ids = map-set_same port_id c.loop-p.ports c.loop-p.p c.look_telling.new.port c.index-ports-p.result e.same ∙ i.same_ids;
-      same_offered = map-set_same offered c.loop-p.ports c.loop-p.p c.look_telling.new.port c.index-ports-p.result e.offered ∙ i.same_offered;
+      same_offered = map-set_same offered c.loop-p.ports c.loop-p.p c.look_telling.new.port c.index-ports-p.result e.offered
+          ∙ i.same_offered;
       same_taken = map-set_same taken c.loop-p.ports c.loop-p.p c.look_telling.new.port c.index-ports-p.result e.taken ∙ i.same_taken;
-      same_rings = moved pushes_to c.loop-p.tellings.items c.loop-p.p c.index_mut.result.now c.look_telling.new.tellings c.index_mut.ensures.value e.ring ∙ i.same_rings;
-      same_sent = moved sent c.loop-p.tellings.items c.loop-p.p c.index_mut.result.now c.look_telling.new.tellings c.index_mut.ensures.value e.sent ∙ i.same_sent;
-      seen = seen_more told_in_all sent c.loop-p.ports c.loop-p.tellings.items c.loop-p.p c.look_telling.new.port c.look_telling.new.tellings i.seen there beside e.seen;
+      same_rings = moved pushes_to c.loop-p.tellings.items c.loop-p.p c.index_mut.result.now c.look_telling.new.tellings
+          c.index_mut.ensures.value e.ring ∙ i.same_rings;
+      same_sent = moved sent c.loop-p.tellings.items c.loop-p.p c.index_mut.result.now c.look_telling.new.tellings
+          c.index_mut.ensures.value e.sent ∙ i.same_sent;
+      seen = seen_more told_in_all sent c.loop-p.ports c.loop-p.tellings.items c.loop-p.p c.look_telling.new.port
+          c.look_telling.new.tellings i.seen there beside e.seen;
     }
 
 pub returns-clause-seen : goal.returns-clause-seen
@@ -38,5 +46,6 @@ returns-clause-seen c =
     let i = c.loop-p.invariant in
     let rings = ap (map (λ (x : PortId). x.told)) i.same_ids ∙ c.requires ∙ sym i.same_rings in
     let same = as_long (λ (x : PortId). x.told) port_id pushes_to c.loop-p.ports c.loop-p.tellings.items rings in
-    let all : c.loop-p.p ≡ length c.loop-p.ports = let n = c.loop-p.auto.ports in let m = c.loop-p.auto.p-end in let f = c.loop-p-test.false in omega arith in
+    let all : c.loop-p.p ≡ length c.loop-p.ports = let n = c.loop-p.auto.ports in let m = c.loop-p.auto.p-end in
+    let f = c.loop-p-test.false in omega arith in
     seen_all told_in_all sent c.loop-p.ports c.loop-p.tellings.items c.loop-p.p i.seen all (all ∙ same)

@@ -1,6 +1,7 @@
 use Rattle.std.proofs.Common.{◌≡◌, map, take}
 use Rattle.rtrb.specs.Ring.{sent}
-use Rattle.station_parts.specs.Ids.{port_id, pushes_to}
+use Rattle.station_parts.specs.Rings.{pushes_to}
+use Rattle.station_parts.specs.Ids.{port_id}
 use Rattle.station_parts.specs.Words.{offered, taken, told_in_all}
 use Rattle.station_parts.proofs.inspect.look_tellings.Given as goal
 

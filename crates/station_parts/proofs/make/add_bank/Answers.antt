@@ -12,7 +12,8 @@ returns-clause-new c =
     let from = c.in_ok-answers.ensures in
     let count = (s.words + (s.banks - 1 - c.args.bank)) / s.banks in
     let zeros : c.in_ok-words.words.items ≡ replicate count zero_word = search rules in
-    let same : s.words + (s.banks - 1 - c.args.bank) ≡ s.words + s.banks - 1 - length c.args.ends.now.banks.items = let n = c.requires.next in omega arith in
+    let same : s.words + (s.banks - 1 - c.args.bank) ≡ s.words + s.banks - 1 - length c.args.ends.now.banks.items = let n =
+    c.requires.next in omega arith in
     let number : length c.in_ok-words.words.items ≡ (s.words + s.banks - 1 - length c.args.ends.now.banks.items) / s.banks =
     ap length zeros ∙ length-replicate count zero_word ∙ ap (λ n. n / s.banks) same in
     let pair : IsPair c.new-3.result.ring c.in_ok-to_bank.commands = rw c.new-3.ensures.ring to.pair in

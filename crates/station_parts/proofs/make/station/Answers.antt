@@ -26,19 +26,30 @@ invariant_of-result g c =
     let pn = c.in_ok-ports.ensures in
     let bn = c.in_ok-banks.ensures in
     let empty = c.in_ok-entries.ensures.items in
-    let many = asks_number s z c.args.ports p.ports.items p.asks.items p.tellings.items b.banks.items b.lines.items b.answers.items pn.new pn.number bn.new bn.number in
+    let many = asks_number s z c.args.ports p.ports.items p.asks.items p.tellings.items b.banks.items b.lines.items b.answers.items pn.new
+    pn.number bn.new bn.number in
     record {
       shaped = sizes;
       in_range = subst InRange (sym sizes) fits.range;
-      lines = lines_number s z c.args.ports p.ports.items p.asks.items p.tellings.items b.banks.items b.lines.items b.answers.items pn.new pn.number bn.new bn.number ∙ sym (ap (λ (x : UnitState). x.sizes.banks) is);
-      ends = answers_number s z c.args.ports p.ports.items p.asks.items p.tellings.items b.banks.items b.lines.items b.answers.items pn.new pn.number bn.new bn.number ∙ sym (ap (λ (x : UnitState). x.sizes.banks) is);
+      lines = lines_number s z c.args.ports p.ports.items p.asks.items p.tellings.items b.banks.items b.lines.items b.answers.items pn.new
+          pn.number bn.new bn.number ∙ sym (ap (λ (x : UnitState). x.sizes.banks) is);
+      ends = answers_number s z c.args.ports p.ports.items p.asks.items p.tellings.items b.banks.items b.lines.items b.answers.items
+          pn.new pn.number bn.new bn.number ∙ sym (ap (λ (x : UnitState). x.sizes.banks) is);
       small = fits.few_entries;
       within = rw empty (omega arith);
       reserved = c.in_ok-entries.ensures.capacity;
-      tells = rw empty (merely (new_tells s z c.args.ports p.ports.items p.asks.items p.tellings.items b.banks.items b.lines.items b.answers.items pn.new pn.number bn.new bn.number u is));
-      counted = λ _. new_counted s z c.args.ports p.ports.items p.asks.items p.tellings.items b.banks.items b.lines.items b.answers.items pn.new pn.number bn.new bn.number;
+      tells =
+          rw empty
+          (merely
+          (new_tells s z c.args.ports p.ports.items p.asks.items p.tellings.items b.banks.items b.lines.items b.answers.items pn.new
+          pn.number bn.new bn.number u is));
+      counted = λ _. new_counted s z c.args.ports p.ports.items p.asks.items p.tellings.items b.banks.items b.lines.items b.answers.items
+          pn.new pn.number bn.new bn.number;
       few_ports = let few = fits.few_ports in omega arith;
-      ports = rw empty (new_ports s z c.args.ports p.ports.items p.asks.items p.tellings.items b.banks.items b.lines.items b.answers.items pn.new pn.number bn.new bn.number);
+      ports =
+          rw empty
+          (new_ports s z c.args.ports p.ports.items p.asks.items p.tellings.items b.banks.items b.lines.items b.answers.items pn.new
+          pn.number bn.new bn.number);
     }
 
 pub returns-clause-ok : goal.returns-clause-ok
@@ -48,5 +59,6 @@ returns-clause-ok g c =
     let b = c.in_ok-banks.banks in
     let pn = c.in_ok-ports.ensures in
     let bn = c.in_ok-banks.ensures in
-    new_station c.args.shape z c.args.ports p.ports.items p.asks.items p.tellings.items b.banks.items b.lines.items b.answers.items pn.new pn.number bn.new bn.number
+    new_station c.args.shape z c.args.ports p.ports.items p.asks.items p.tellings.items b.banks.items b.lines.items b.answers.items pn.new
+    pn.number bn.new bn.number
     _ c.args.journal refl refl refl refl refl refl refl c.in_ok-unit.ensures.ok c.in_ok-entries.ensures.items refl refl
