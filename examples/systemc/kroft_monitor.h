@@ -1,0 +1,134 @@
+// A TLM-2.0 pass-through that judges each word that goes by, loosely timed (b_transport).
+//
+// Bind `in` to an initiator and `out` to the memory side. Addresses are bytes, from `base` on; a
+// transaction may have any length and byte enables. A read of n bytes is a load of each of its words,
+// accepted as the transaction passes on, and a take of each value as it comes back; a write is a store of
+// each of its words in the lanes that it enables. What flat memory can't explain is an error of the report
+// handler under the id "kroft", with the word, what it was owed, what came, and when. It offers no direct
+// memory access and no debug transport, so that nothing passes it by.
+#pragma once
+
+#include "kroft.h"
+
+#include <cstdio>
+#include <string>
+#include <systemc>
+#include <tlm>
+#include <tlm_utils/simple_initiator_socket.h>
+#include <tlm_utils/simple_target_socket.h>
+#include <vector>
+
+class kroft_monitor : public sc_core::sc_module {
+public:
+    tlm_utils::simple_target_socket<kroft_monitor> in{"in"};
+    tlm_utils::simple_initiator_socket<kroft_monitor> out{"out"};
+
+    // Over so many words, all zero, from the byte address `base` on.
+    kroft_monitor(sc_core::sc_module_name name, uint64_t base, size_t words)
+        : sc_module(name), base(base), words(words), due(KROFT_TAGS) {
+        in.register_b_transport(this, &kroft_monitor::pass);
+    }
+
+    uint64_t steps = 0;
+    uint64_t errors = 0;
+
+private:
+    static constexpr uint64_t WORD = 4;
+    uint64_t base;
+    std::vector<kroft_word> words;
+    std::vector<kroft_due> due;
+    uint16_t next_tag = 0;
+
+    // The bytes of one transaction, as words and lanes.
+    struct Span {
+        const tlm::tlm_generic_payload &payload;
+        uint64_t begin; // the first byte, from the base on
+        uint64_t first() const { return begin / WORD; }
+        uint64_t last() const { return (begin + payload.get_data_length() - 1) / WORD; }
+
+        // Which byte of the data is byte `lane` of a word: none outside the transaction, and where it isn't enabled.
+        bool has(uint64_t word, unsigned lane, uint64_t &byte) const {
+            uint64_t at = word * WORD + lane;
+            byte = at - begin;
+            if (at < begin || byte >= payload.get_data_length()) return false;
+            const uint8_t *enable = payload.get_byte_enable_ptr();
+            return !enable || enable[byte % payload.get_byte_enable_length()] == TLM_BYTE_ENABLED;
+        }
+    };
+
+    void pass(tlm::tlm_generic_payload &payload, sc_core::sc_time &delay) {
+        Span span{payload, payload.get_address() - base};
+        bool any = payload.get_data_length() > 0 && (payload.is_read() || payload.is_write());
+        bool inside = any && payload.get_address() >= base && span.last() < words.size();
+        uint16_t first_tag = next_tag;
+        if (inside && payload.is_read()) loads(span);
+        out->b_transport(payload, delay);
+        if (inside && payload.is_read()) values(span, first_tag, payload.is_response_ok());
+        if (inside && payload.is_write() && payload.is_response_ok()) stores(span);
+        if (any && !inside && payload.is_response_ok()) fail("an answer from outside memory");
+    }
+
+    void loads(const Span &span) {
+        for (uint64_t word = span.first(); word <= span.last(); word++) {
+            kroft_event event{};
+            event.kind = KROFT_LOAD;
+            event.tag = next_tag++;
+            event.at = uint32_t(word);
+            judge(event, {});
+        }
+    }
+
+    // Bytes that the read leaves out are as owed; so is all of a read that failed.
+    void values(const Span &span, uint16_t tag, bool ok) {
+        for (uint64_t word = span.first(); word <= span.last(); word++, tag++) {
+            kroft_event event{};
+            event.kind = KROFT_TAKE;
+            event.at = uint32_t(word);
+            kroft_answer answer{};
+            answer.kind = KROFT_VALUE;
+            answer.tag = tag;
+            kroft_flat_owed(due.data(), due.size(), tag, &answer.word);
+            uint64_t byte;
+            for (unsigned lane = 0; ok && lane < WORD; lane++)
+                if (span.has(word, lane, byte)) answer.word.b[lane] = span.payload.get_data_ptr()[byte];
+            judge(event, answer);
+        }
+    }
+
+    void stores(const Span &span) {
+        for (uint64_t word = span.first(); word <= span.last(); word++) {
+            kroft_event event{};
+            event.kind = KROFT_STORE;
+            event.at = uint32_t(word);
+            uint64_t byte;
+            for (unsigned lane = 0; lane < WORD; lane++)
+                if (span.has(word, lane, byte)) {
+                    event.lanes |= uint8_t(1u << lane);
+                    event.word.b[lane] = span.payload.get_data_ptr()[byte];
+                }
+            if (event.lanes) judge(event, {});
+        }
+    }
+
+    void judge(const kroft_event &event, const kroft_answer &answer) {
+        steps++;
+        if (kroft_flat_step(words.data(), words.size(), due.data(), due.size(), &event, &answer) == KROFT_FLAT) return;
+        std::string text = "word " + std::to_string(event.at);
+        kroft_word owed{};
+        if (answer.kind == KROFT_VALUE && kroft_flat_owed(due.data(), due.size(), answer.tag, &owed))
+            text += ": owed " + hex(owed) + ", got " + hex(answer.word);
+        else text += ": flat memory never answers so";
+        fail(text);
+    }
+
+    void fail(const std::string &text) {
+        errors++;
+        SC_REPORT_ERROR("kroft", (text + ", at " + sc_core::sc_time_stamp().to_string()).c_str());
+    }
+
+    static std::string hex(const kroft_word &word) {
+        char text[9];
+        snprintf(text, sizeof text, "%02x%02x%02x%02x", word.b[0], word.b[1], word.b[2], word.b[3]);
+        return text;
+    }
+};
