@@ -9,7 +9,8 @@ use Rattle.flat_model.specs.declared.Event.TheVariants.{Load, Store, Prefetch, E
 use Rattle.machine_core.specs.Machine.{MachineState}
 use Rattle.trace_text.specs.Fields.{lanes_text, word_text}
 use Rattle.trace_text.specs.Lines.{line_of}
-use Rattle.trace_text.specs.Texts.{answered, reply_text}
+use Rattle.machine_core.specs.AnyMachine.{answered}
+use Rattle.trace_text.specs.Texts.{reply_text}
 use Rattle.trace_text.specs.Serving.{answer_to}
 use Rattle.trace_text.specs.Pairs.{arrow_in, answered_pair, pair_with, pair_from, pair_cut, pair_of}
 use Rattle.trace_text.specs.Written.{line_text, IsFit, IsFitReply}

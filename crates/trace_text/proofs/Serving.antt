@@ -6,7 +6,8 @@ use Rattle.flat_model.specs.declared.Event.{Event}
 use Rattle.flat_model.specs.declared.Answer.{Answer}
 use Rattle.flat_model.specs.Flat.{Flat, flat_step, flat_run}
 use Rattle.machine_core.specs.Machine.{MachineState}
-use Rattle.trace_text.specs.Texts.{flat, after_line}
+use Rattle.machine_core.specs.AnyMachine.{flat}
+use Rattle.trace_text.specs.Texts.{after_line}
 use Rattle.trace_text.specs.declared.lines.Line.{Line}
 use Rattle.trace_text.specs.declared.serve.Counts.{Counts}
 use Rattle.trace_text.specs.Streams.{Moves, Partly}

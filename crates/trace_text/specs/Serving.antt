@@ -9,7 +9,8 @@ use Rattle.flat_model.specs.Flat.{flat_run}
 use Rattle.machine_core.specs.Machine.{MachineState}
 use Rattle.trace_text.specs.Codes.{line_feed, most_lines}
 use Rattle.trace_text.specs.Lines.{line_of}
-use Rattle.trace_text.specs.Texts.{answered, flat, reply_text, after_line}
+use Rattle.machine_core.specs.AnyMachine.{answered, flat}
+use Rattle.trace_text.specs.Texts.{reply_text, after_line}
 use Rattle.trace_text.specs.Streams.{Moves, Stopped}
 use Rattle.trace_text.specs.Reading.{fault_of, FirstLine, ReadSoFar, ReadInto, ReadWhole, ReadStops}
 use Rattle.trace_text.specs.declared.lines.Line.{Line}

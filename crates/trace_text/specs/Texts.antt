@@ -1,46 +1,18 @@
 -- What is written for a line.
-use Rattle.std.specs.Prelude.{ℕ, Bool, if◌then◌else◌, nat_lt, Option, Some, None, List, [], ◌∷◌, ◌++◌, codes, decimal}
+use Rattle.std.specs.Prelude.{ℕ, Bool, if◌then◌else◌, Option, Some, None, List, [], ◌∷◌, ◌++◌, codes, decimal}
 use Rattle.std.specs.List.{flat_map, range_with_len}
 use Rattle.flat_model.specs.declared.Word.{Word}
-use Rattle.flat_model.specs.declared.Event.{Event}
 use Rattle.flat_model.specs.declared.Answer.{Answer}
 use Rattle.flat_model.specs.declared.Answer.TheVariants.{Accepted, Moved, Value, Nothing, Refused}
-use Rattle.flat_model.specs.Flat.{number, Flat}
+use Rattle.flat_model.specs.Flat.{number}
 use Rattle.miss_registers.specs.declared.RegisterView.{RegisterView}
 use Rattle.miss_registers.specs.declared.FieldView.{FieldView}
-use Rattle.cache_unit.specs.Views.{register_view, field_view}
-use Rattle.machine_core.specs.Machine.{MachineState, apply, bank_word, settled, flat_of}
+use Rattle.machine_core.specs.Machine.{MachineState}
+use Rattle.machine_core.specs.AnyMachine.{answered, after_event, register_shown, field_shown, bank_shown, is_settled}
 use Rattle.trace_text.specs.Codes.{space, hyphen, closing_bracket, letter_I, letter_O, letter_P, letter_V}
 use Rattle.trace_text.specs.Fields.{padded, lanes_text, word_text}
 use Rattle.trace_text.specs.declared.lines.Line.{Line}
 use Rattle.trace_text.specs.declared.lines.Line.TheVariants as line
-
--- ---- what a machine answers and shows
-
--- the answer to an event
-unfoldable pub answered : MachineState → Event → Answer
-answered s event = (apply s.sizes s.machine event).answer
-
--- the machine after an event
-unfoldable pub after_event : MachineState → Event → MachineState
-after_event s event = record { sizes = s.sizes; machine = (apply s.sizes s.machine event).machine }
-
--- the flat memory that a machine stands for
-unfoldable pub flat : MachineState → Flat
-flat s = flat_of s.sizes s.machine
-
-unfoldable pub register_shown : MachineState → ℕ → Option RegisterView
-register_shown s slot = register_view s.machine.cache slot
-
-unfoldable pub field_shown : MachineState → ℕ → ℕ → Option FieldView
-field_shown s slot i = field_view s.sizes s.machine.cache slot i
-
--- the word at an address of memory, as it stands in its bank
-unfoldable pub bank_shown : MachineState → ℕ → Option Word
-bank_shown s at = if nat_lt at s.sizes.words then Some (bank_word s.sizes s.machine at) else None
-
-unfoldable pub is_settled : MachineState → Bool
-is_settled s = settled s.machine
 
 -- ---- an answer
 

@@ -91,10 +91,7 @@ impl Collector for Checking {
     ghost holds_same = { λ s t. Unit {0} };
 
     fn collect(&mut self, number: u64, text: &[u8]) -> Result<(), Uncollected> {
-        let pair = match pair_said(text) {
-            Ok(pair) => pair,
-            Err(fault) => return Err(Uncollected::Fault(fault)),
-        };
+        let pair = pair_said(text)?;
         match step_in(pair) {
             None => Ok(()),
             Some(step) => self.judge(number, step),

@@ -16,7 +16,6 @@ mod fault;
 mod fields;
 pub mod laws;
 mod lines;
-mod machine;
 mod pairs;
 mod pieces;
 mod reading;

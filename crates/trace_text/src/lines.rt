@@ -78,22 +78,21 @@ pub fn cut(text: &[u8]) -> (&[u8], Option<&[u8]>)
 fn named_command(name: &[u8]) -> Option<Command>
     ensures { result ≡ command_named name.now }
 {
-    let (command, rest, wanted) = match name {
-        [b'l', rest @ ..] => (Command::Load, rest, b"oad".as_slice()),
-        [b't', rest @ ..] => (Command::Take, rest, b"ake".as_slice()),
-        [b'a', rest @ ..] => (Command::Arrive, rest, b"rrive".as_slice()),
-        [b's', b't', rest @ ..] => (Command::Store, rest, b"ore".as_slice()),
-        [b's', b'e', b'r', rest @ ..] => (Command::Serve, rest, b"ve".as_slice()),
-        [b's', rest @ ..] => (Command::Settled, rest, b"ettled".as_slice()),
-        [b'p', b'r', b'o', rest @ ..] => (Command::Process, rest, b"cess".as_slice()),
-        [b'p', rest @ ..] => (Command::Prefetch, rest, b"refetch".as_slice()),
-        [b'd', rest @ ..] => (Command::Drain, rest, b"rain".as_slice()),
-        [b'e', rest @ ..] => (Command::Evict, rest, b"vict".as_slice()),
-        [b'r', rest @ ..] => (Command::Register, rest, b"eg".as_slice()),
-        [b'b', rest @ ..] => (Command::Bank, rest, b"ank".as_slice()),
-        _ => return None,
-    };
-    if rest == wanted { Some(command) } else { None }
+    match name {
+        b"load" => Some(Command::Load),
+        b"store" => Some(Command::Store),
+        b"prefetch" => Some(Command::Prefetch),
+        b"evict" => Some(Command::Evict),
+        b"drain" => Some(Command::Drain),
+        b"serve" => Some(Command::Serve),
+        b"arrive" => Some(Command::Arrive),
+        b"process" => Some(Command::Process),
+        b"take" => Some(Command::Take),
+        b"reg" => Some(Command::Register),
+        b"bank" => Some(Command::Bank),
+        b"settled" => Some(Command::Settled),
+        _ => None,
+    }
 }
 
 // The one number that stands behind the command.

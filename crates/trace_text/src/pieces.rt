@@ -6,10 +6,20 @@ ghost use Rattle.trace_text.specs.Collecting.{Filled, BegunFault};
 use crate::fault::{MAX_LINES, TraceFault};
 use crate::lines::LineFault;
 use crate::streams::Source;
+use memchr::memchr;
+use std::io;
 
 // A write or a flush was refused, or a read failed.
 #[derive(Clone, Copy)]
 pub struct Failed;
+
+impl From<io::Error> for Failed {
+    ghost from_gives = { λ _error failed. Unit {0} };
+
+    fn from(_error: io::Error) -> Failed {
+        Failed
+    }
+}
 
 // The place of the first LF.
 pub fn end_of_line(bytes: &[u8]) -> Option<usize>
@@ -17,12 +27,7 @@ pub fn end_of_line(bytes: &[u8]) -> Option<usize>
         × ((k : ℕ) → k < at → slice_index bytes.now k ≢ 10)) }
     ensures none { IfNone result (HasNoEnd bytes.now) }
 {
-    for (i, byte) in bytes.iter().enumerate() {
-        if *byte == b'\n' {
-            return Some(i);
-        }
-    }
-    None
+    memchr(b'\n', bytes)
 }
 
 // The fault of the line that the last `left` bytes begin, whatever comes behind them: it is one line
@@ -51,9 +56,7 @@ pub fn keep_end(bytes: &mut [u8], from: usize, to: usize)
     requires to { to ≤ length bytes.old }
     ensures { take (to - from) bytes.new ≡ drop from (take to bytes.old) }
 {
-    for i in 0..to - from {
-        bytes[i] = bytes[from + i];
-    }
+    bytes.copy_within(from..to, 0);
 }
 
 // One read, behind the bytes that stand at the buffer's front.
@@ -62,8 +65,6 @@ pub fn fill<R: Source>(reader: &mut R, buffer: &mut [u8], filled: usize) -> Resu
     ensures ok { IfOk result (Filled R.gave reader.old reader.new buffer.old buffer.new filled) }
     ensures err { OnErr result (R.failed reader.old reader.new) }
 {
-    match reader.read_some(&mut buffer[filled..]) {
-        Ok(given) => Ok(given),
-        Err(_) => Err(Failed),
-    }
+    let given = reader.read_some(&mut buffer[filled..])?;
+    Ok(given)
 }

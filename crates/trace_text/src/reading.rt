@@ -15,6 +15,26 @@ pub enum Uncollected {
     Halted,
 }
 
+impl From<LineFault> for Uncollected {
+    ghost use Rattle.trace_text.specs.declared.reading.Uncollected.TheVariants.{Fault};
+
+    ghost from_gives = { λ fault miss. miss ≡ Fault fault };
+
+    fn from(fault: LineFault) -> Uncollected {
+        Uncollected::Fault(fault)
+    }
+}
+
+impl From<Failed> for Uncollected {
+    ghost use Rattle.trace_text.specs.declared.reading.Uncollected.TheVariants.{Halted};
+
+    ghost from_gives = { λ _failed miss. miss ≡ Halted };
+
+    fn from(_failed: Failed) -> Uncollected {
+        Uncollected::Halted
+    }
+}
+
 // Why a text wasn't read to its end: a fault of the text or its reader, or the collector stopped.
 #[derive(Clone, Copy)]
 pub enum Stop {

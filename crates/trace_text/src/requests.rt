@@ -64,10 +64,7 @@ impl Collector for Requests {
     ghost holds_same = { λ s t. Unit {0} };
 
     fn collect(&mut self, _number: u64, text: &[u8]) -> Result<(), Uncollected> {
-        let line = match line_said(text) {
-            Ok(line) => line,
-            Err(fault) => return Err(Uncollected::Fault(fault)),
-        };
+        let line = line_said(text)?;
         keep(&mut self.events, request(line))
     }
 

@@ -1,23 +1,21 @@
 //! A trace is served: each line is applied, and its answer written, before the next.
 ghost use Rattle.std.specs.Prelude.{◌≡◌, ℕ, [], ◌+◌, ◌<◌, ◌≤◌, ◌++◌, length, Ok, OnOk, OnErr, Some};
 ghost use Rattle.std.specs.Option.{option_to_list};
-ghost use Rattle.arrayvec.specs.ArrayVec.{array_vec_len};
 ghost use Rattle.flat_model.specs.Flat.{flat_run};
 ghost use Rattle.trace_text.specs.Streams.{Moves, Stopped};
 ghost use Rattle.trace_text.specs.Lines.{line_of};
-ghost use Rattle.trace_text.specs.Texts.{flat, reply_text, after_line};
+ghost use Rattle.machine_core.specs.AnyMachine.{flat};
+ghost use Rattle.trace_text.specs.Texts.{reply_text, after_line};
 ghost use Rattle.trace_text.specs.Serving.{IsWithin, LineServed, Applied, Broken, Ends, no_counts, counted_reply, event_in, answer_to, trace_fault};
 
 use crate::fault::{BUFFER_LEN, MAX_LINE, TraceFault};
 use crate::lines::{Line, line_said};
-use crate::machine::Core;
 use crate::pieces::Failed;
 use crate::reading::{Collector, Uncollected, read_lines};
 use crate::streams::{Sink, Source};
-use crate::text::{push_answer, push_bank, push_register, push_settled};
-use arrayvec::ArrayVec;
+use crate::text::LineText;
 use flat_model::Answer;
-use machine_core::Machine;
+use machine_core::AnyMachine;
 use std::alloc::Global;
 
 /// What was served: every line counts once, and the answer to an event once more, by its kind.
@@ -52,165 +50,134 @@ fn write_whole<W: Sink>(writer: &mut W, bytes: &[u8]) -> Result<(), Failed>
     Ok(())
 }
 
-// Counts a line, and its answer where it has one.
-fn count(counts: &mut Counts, answer: Option<Answer>)
-    requires within { IsWithin counts.old }
-    requires more { counts.old.lines < 16777216 }
-    ensures counts { counts.new ≡ counted_reply counts.old answer }
-    ensures within { IsWithin counts.new }
-    ensures number { counts.new.lines ≡ counts.old.lines + 1 }
-{
-    counts.lines += 1;
-    match answer {
-        None => {}
-        Some(Answer::Accepted) => counts.accepted += 1,
-        Some(Answer::Moved) => counts.moved += 1,
-        Some(Answer::Value { .. }) => counts.values += 1,
-        Some(Answer::Nothing) => counts.nothing += 1,
-        Some(Answer::Refused(_)) => counts.refused += 1,
-    }
-}
-
-// Applies a line and adds its answer's text at the end.
-#[tactic(auto, unfolding(crate::specs::Texts::reply_text, crate::specs::Texts::after_line))]
-fn push_reply<C: Core>(out: &mut ArrayVec<u8, 768>, core: &mut C, line: Line) -> Option<Answer>
-    requires { array_vec_len out.old + 675 ≤ 768 }
-    ensures answer { result ≡ answer_to (C.state core.old) line }
-    ensures text { out.new.items ≡ out.old.items ++ reply_text (C.state core.old) line }
-    ensures len { array_vec_len out.new ≤ array_vec_len out.old + 675 }
-    ensures after { C.state core.new ≡ after_line (C.state core.old) line }
-    ensures runs { flat_run (flat (C.state core.old)) (option_to_list (event_in line))
-        (option_to_list (answer_to (C.state core.old) line)) ≡ Some (flat (C.state core.new)) }
-{
-    match line {
-        Line::Event(event) => {
-            let answer = core.apply(event);
-            push_answer(out, answer);
-            return Some(answer);
+impl Counts {
+    // Counts a line, and its answer where it has one.
+    fn count(&mut self, answer: Option<Answer>)
+        requires within { IsWithin self.old }
+        requires more { self.old.lines < 16777216 }
+        ensures counts { self.new ≡ counted_reply self.old answer }
+        ensures within { IsWithin self.new }
+        ensures number { self.new.lines ≡ self.old.lines + 1 }
+    {
+        self.lines += 1;
+        match answer {
+            None => {}
+            Some(Answer::Accepted) => self.accepted += 1,
+            Some(Answer::Moved) => self.moved += 1,
+            Some(Answer::Value { .. }) => self.values += 1,
+            Some(Answer::Nothing) => self.nothing += 1,
+            Some(Answer::Refused(_)) => self.refused += 1,
         }
-        Line::Register(slot) => push_register(out, core, slot),
-        Line::Bank(at) => push_bank(out, core.bank_word(at)),
-        Line::Settled => push_settled(out, core.is_settled()),
     }
-    None
 }
 
-// Applies a line, and then writes it with its answer.
-fn serve_line<W: Sink, C: Core>(
-    writer: &mut W,
-    core: &mut C,
-    out: &mut ArrayVec<u8, 768>,
-    counts: &mut Counts,
-    text: &[u8],
-    line: Line,
-) -> Result<(), Failed>
-    requires short { length text.now ≤ 64 }
-    requires said { line_of text.now ≡ Ok line }
-    requires within { IsWithin counts.old }
-    requires more { counts.old.lines < 16777216 }
-    ensures ok { OnOk result
-        (LineServed W.took writer.old (C.state core.old) counts.old text.now writer.new
-        (C.state core.new) counts.new) }
-    ensures err { OnErr result
-        (Broken W.took W.refused writer.old (C.state core.old) text.now writer.new
-        (C.state core.new)) }
-{
-    out.clear();
-    let _ = out.try_extend_from_slice(text);
-    let _ = out.try_extend_from_slice(b" -> ");
-    let answer = push_reply(out, core, line);
-    count(counts, answer);
-    out.push(b'\n');
-    write_whole(writer, out.as_slice())
+impl LineText {
+    // Applies a line and adds its answer's text at the end.
+    #[tactic(auto, unfolding(crate::specs::Texts::reply_text, crate::specs::Texts::after_line))]
+    fn push_reply<M: AnyMachine>(&mut self, machine: &mut M, line: Line) -> Option<Answer>
+        requires { length self.old + 675 ≤ 768 }
+        ensures answer { result ≡ answer_to (M.state machine.old) line }
+        ensures text { self.new ≡ self.old ++ reply_text (M.state machine.old) line }
+        ensures len { length self.new ≤ length self.old + 675 }
+        ensures after { M.state machine.new ≡ after_line (M.state machine.old) line }
+        ensures runs { flat_run (flat (M.state machine.old)) (option_to_list (event_in line))
+            (option_to_list (answer_to (M.state machine.old) line))
+            ≡ Some (flat (M.state machine.new)) }
+    {
+        match line {
+            Line::Event(event) => {
+                let answer = machine.apply(event);
+                self.push_answer(answer);
+                return Some(answer);
+            }
+            Line::Register(slot) => self.push_register(machine, slot),
+            Line::Bank(at) => self.push_bank(machine.bank_word(at)),
+            Line::Settled => self.push_settled(machine.settled()),
+        }
+        None
+    }
 }
 
 // A machine and a writer that serve the lines of a trace.
 #[derive(Drop)]
-pub struct Serving<'a, W, C> {
+pub struct Serving<'a, W, M> {
     pub writer: &'a mut W,
-    pub core: &'a mut C,
-    pub out: ArrayVec<u8, 768>,
+    pub machine: &'a mut M,
+    pub out: LineText,
     pub counts: Counts,
 }
 
-impl<'a, W: Sink, C: Core> Collector for Serving<'a, W, C> {
+impl<'a, W: Sink, M: AnyMachine> Serving<'a, W, M> {
+    // Applies a line, and then writes it with its answer.
+    fn serve(&mut self, text: &[u8], line: Line) -> Result<(), Failed>
+        requires short { length text.now ≤ 64 }
+        requires said { line_of text.now ≡ Ok line }
+        requires within { IsWithin self.old.counts }
+        requires more { self.old.counts.lines < 16777216 }
+        ensures ok { OnOk result
+            (LineServed W.took self.old.writer.now (M.state self.old.machine.now) self.old.counts text.now
+            self.new.writer.now (M.state self.new.machine.now) self.new.counts) }
+        ensures err { OnErr result
+            (Broken W.took W.refused self.old.writer.now (M.state self.old.machine.now) text.now
+            self.new.writer.now (M.state self.new.machine.now)) }
+        ensures same_writer { self.new.writer.ghost_name ≡ self.old.writer.ghost_name }
+        ensures same_machine { self.new.machine.ghost_name ≡ self.old.machine.ghost_name }
+    {
+        self.out.clear();
+        self.out.push_bytes(text);
+        self.out.push_bytes(b" -> ");
+        let answer = self.out.push_reply(self.machine, line);
+        self.counts.count(answer);
+        self.out.push(b'\n');
+        write_whole(self.writer, self.out.as_bytes())
+    }
+}
+
+impl<'a, W: Sink, M: AnyMachine> Collector for Serving<'a, W, M> {
     ghost fault_in = { trace_fault };
 
     ghost longest = { 64 };
 
-    ghost went = { λ s texts t. Applied W.took s.writer.now (C.state s.core.now) texts t.writer.now (C.state t.core.now) t.counts };
+    ghost went = { λ s texts t. Applied W.took s.writer.now (M.state s.machine.now) texts t.writer.now (M.state t.machine.now) t.counts };
 
-    ghost stopped = { λ s text t. Broken W.took W.refused s.writer.now (C.state s.core.now) text t.writer.now (C.state t.core.now) };
+    ghost stopped = { λ s text t. Broken W.took W.refused s.writer.now (M.state s.machine.now) text t.writer.now (M.state t.machine.now) };
 
-    ghost paused = { λ s t. W.took s.writer.now [] t.writer.now × (C.state t.core.now ≡ C.state s.core.now) × (t.counts ≡ s.counts) };
+    ghost paused = { λ s t. W.took s.writer.now [] t.writer.now × (M.state t.machine.now ≡ M.state s.machine.now) × (t.counts ≡ s.counts) };
 
-    ghost unpaused = { λ s t. W.unflushed s.writer.now t.writer.now × (C.state t.core.now ≡ C.state s.core.now) };
+    ghost unpaused = { λ s t. W.unflushed s.writer.now t.writer.now × (M.state t.machine.now ≡ M.state s.machine.now) };
 
-    ghost holds_same = { λ s t. (t.writer.ghost_name ≡ s.writer.ghost_name) × (t.core.ghost_name ≡ s.core.ghost_name) };
+    ghost holds_same = { λ s t. (t.writer.ghost_name ≡ s.writer.ghost_name) × (t.machine.ghost_name ≡ s.machine.ghost_name) };
 
     fn collect(&mut self, _number: u64, text: &[u8]) -> Result<(), Uncollected> {
-        let line = match line_said(text) {
-            Ok(line) => line,
-            Err(fault) => return Err(Uncollected::Fault(fault)),
-        };
-        match serve_line(
-            self.writer,
-            self.core,
-            &mut self.out,
-            &mut self.counts,
-            text,
-            line,
-        ) {
-            Ok(()) => Ok(()),
-            Err(_) => Err(Uncollected::Halted),
-        }
+        let line = line_said(text)?;
+        self.serve(text, line)?;
+        Ok(())
     }
 
     fn pause(&mut self) -> Result<(), Failed> {
-        match self.writer.flush_all() {
-            Ok(()) => Ok(()),
-            Err(_) => Err(Failed),
-        }
+        self.writer.flush_all()?;
+        Ok(())
     }
 }
 
 // Serves a trace to its end, through a buffer.
-fn serve_through<R: Source, W: Sink, C: Core>(
+fn serve_through<R: Source, W: Sink, M: AnyMachine>(
     reader: &mut R,
-    serving: &mut Serving<W, C>,
+    serving: &mut Serving<W, M>,
     buffer: &mut [u8],
 ) -> Result<Counts, TraceFault>
     requires room { length buffer.old ≡ 4096 }
     requires fresh { serving.old.counts ≡ no_counts }
     ensures ends { Ends R.gave R.failed W.took W.refused W.unflushed reader.old reader.new
-        serving.old.writer.now serving.new.writer.now (C.state serving.old.core.now)
-        (C.state serving.new.core.now) result }
+        serving.old.writer.now serving.new.writer.now (M.state serving.old.machine.now)
+        (M.state serving.new.machine.now) result }
     ensures same_writer { serving.new.writer.ghost_name ≡ serving.old.writer.ghost_name }
-    ensures same_core { serving.new.core.ghost_name ≡ serving.old.core.ghost_name }
+    ensures same_core { serving.new.machine.ghost_name ≡ serving.old.machine.ghost_name }
 {
     match read_lines(reader, serving, MAX_LINE, buffer) {
         Ok(()) => Ok(serving.counts),
         Err(stop) => Err(stop.fault_or(TraceFault::Write)),
     }
-}
-
-fn serve<R: Source, W: Sink, C: Core>(
-    alloc: Global,
-    reader: &mut R,
-    writer: &mut W,
-    core: &mut C,
-) -> Result<Counts, TraceFault>
-    ensures { Ends R.gave R.failed W.took W.refused W.unflushed reader.old reader.new writer.old writer.new
-        (C.state core.old) (C.state core.new) result }
-{
-    let mut buffer = vec![in alloc; 0u8; BUFFER_LEN]?;
-    let mut serving = Serving {
-        writer,
-        core,
-        out: ArrayVec::new(),
-        counts: Counts::default(),
-    };
-    serve_through(reader, &mut serving, &mut buffer)
 }
 
 /// Serves a trace: each line is applied to the machine, and its text written, before the next line
@@ -230,21 +197,21 @@ fn serve<R: Source, W: Sink, C: Core>(
 /// One buffer of 4,096 bytes is all the memory that is taken, before the first read. The writer is
 /// flushed before each read and at the end, so all that was written is out before a fault is
 /// answered; a flush that is refused is answered as `Write` in its place.
-pub fn serve_text<
-    R: Source,
-    W: Sink,
-    const WAYS: usize,
-    const WORDS: usize,
-    const REGS: usize,
-    const DEPTH: usize,
->(
+pub fn serve_text<R: Source, W: Sink, M: AnyMachine>(
     alloc: Global,
     reader: &mut R,
     writer: &mut W,
-    machine: &mut Machine<WAYS, WORDS, REGS, DEPTH>,
+    machine: &mut M,
 ) -> Result<Counts, TraceFault>
     ensures { Ends R.gave R.failed W.took W.refused W.unflushed reader.old reader.new writer.old writer.new
-        machine.old machine.new result }
+        (M.state machine.old) (M.state machine.new) result }
 {
-    serve(alloc, reader, writer, machine)
+    let mut buffer = vec![in alloc; 0u8; BUFFER_LEN]?;
+    let mut serving = Serving {
+        writer,
+        machine,
+        out: LineText::new(),
+        counts: Counts::default(),
+    };
+    serve_through(reader, &mut serving, &mut buffer)
 }

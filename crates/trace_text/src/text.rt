@@ -1,15 +1,11 @@
 //! The texts of answers and registers.
-ghost use Rattle.std.specs.Prelude.{◌≡◌, ℕ, ◌+◌, ◌≤◌, ◌++◌, ◌∷◌, [], List, Option, length};
-ghost use Rattle.arrayvec.specs.ArrayVec.{array_vec_len};
-ghost use Rattle.trace_text.specs.Texts.{answer_text as text_of_answer, mark_text, marks_text, held_text, field_text, head_text, register_text as text_of_register, bank_text, settled_text, reply_text, after_line, waiting_text, field_text_at};
+ghost use Rattle.std.specs.Prelude.{◌≡◌, ℕ, ◌+◌, ◌≤◌, ◌<◌, ◌++◌, ◌∷◌, [], List, Option, length};
 ghost use Rattle.std.specs.List.{flat_map, range_with_len};
+ghost use Rattle.trace_text.specs.Texts.{answer_text as text_of_answer, mark_text, marks_text, held_text, field_text, head_text, register_text as text_of_register, bank_text, settled_text, waiting_text, field_text_at};
 
-use crate::digits::{push_decimal, push_lanes, push_padded, push_tag, push_word};
-use crate::lines::Line;
-use crate::machine::Core;
 use arrayvec::ArrayVec;
 use flat_model::{Answer, Word};
-use machine_core::Machine;
+use machine_core::AnyMachine;
 use miss_registers::{FieldView, RegisterView};
 use std::marker::Model;
 
@@ -33,35 +29,186 @@ impl LineText {
     {
         self.bytes.as_slice()
     }
-}
 
-// An answer's text, at the end.
-#[tactic(auto, unfolding(crate::specs::Texts::answer_text))]
-pub fn push_answer(out: &mut ArrayVec<u8, 768>, answer: Answer)
-    requires { array_vec_len out.old + 25 ≤ 768 }
-    ensures text { out.new.items ≡ out.old.items ++ text_of_answer answer }
-    ensures len { array_vec_len out.new ≤ array_vec_len out.old + 25 }
-{
-    match answer {
-        Answer::Accepted => {
-            let _ = out.try_extend_from_slice(b"accepted");
+    pub(crate) fn new() -> LineText
+        ensures { result ≡ [] }
+    {
+        LineText {
+            bytes: ArrayVec::new(),
         }
-        Answer::Moved => {
-            let _ = out.try_extend_from_slice(b"moved");
+    }
+
+    pub(crate) fn clear(&mut self)
+        ensures { self.new ≡ [] }
+    {
+        self.bytes.clear();
+    }
+
+    pub(crate) fn push(&mut self, byte: u8)
+        requires { length self.old < 768 }
+        ensures text { self.new ≡ self.old ++ byte ∷ [] }
+        ensures len { length self.new ≡ length self.old + 1 }
+    {
+        self.bytes.push(byte);
+    }
+
+    pub(crate) fn push_bytes(&mut self, bytes: &[u8])
+        requires { length self.old + length bytes.now ≤ 768 }
+        ensures text { self.new ≡ self.old ++ bytes.now }
+        ensures len { length self.new ≡ length self.old + length bytes.now }
+    {
+        let _ = self.bytes.try_extend_from_slice(bytes);
+    }
+
+    // An answer's text, at the end.
+    #[tactic(auto, unfolding(crate::specs::Texts::answer_text))]
+    pub(crate) fn push_answer(&mut self, answer: Answer)
+        requires { length self.old + 25 ≤ 768 }
+        ensures text { self.new ≡ self.old ++ text_of_answer answer }
+        ensures len { length self.new ≤ length self.old + 25 }
+    {
+        match answer {
+            Answer::Accepted => self.push_bytes(b"accepted"),
+            Answer::Moved => self.push_bytes(b"moved"),
+            Answer::Value { tag, word } => {
+                self.push_bytes(b"value ");
+                self.push_decimal(u32::from(tag));
+                self.push(b' ');
+                self.push_word(word);
+            }
+            Answer::Nothing => self.push_bytes(b"nothing"),
+            Answer::Refused(cause) => {
+                self.push_bytes(b"refused ");
+                self.push_decimal(u32::from(cause.number()));
+            }
         }
-        Answer::Value { tag, word } => {
-            let _ = out.try_extend_from_slice(b"value ");
-            push_decimal(out, u32::from(tag));
-            out.push(b' ');
-            push_word(out, word);
+    }
+
+    fn push_waiting(&mut self, field: FieldView)
+        requires { length self.old + 10 ≤ 768 }
+        ensures text { self.new ≡ self.old ++ waiting_text field }
+        ensures len { length self.new ≤ length self.old + 10 }
+    {
+        if field.send {
+            self.push_decimal(field.targets);
+        } else {
+            self.push(b'-');
         }
-        Answer::Nothing => {
-            let _ = out.try_extend_from_slice(b"nothing");
+    }
+
+    #[tactic(auto, unfolding(crate::specs::Texts::marks_text))]
+    fn push_marks(&mut self, field: FieldView)
+        requires { length self.old + 12 ≤ 768 }
+        ensures text { self.new ≡ self.old ++ marks_text field }
+        ensures len { length self.new ≤ length self.old + 12 }
+    {
+        self.push_waiting(field);
+        self.push(mark(field.in_stack, b'I'));
+        self.push(mark(field.processed, b'P'));
+    }
+
+    #[tactic(auto, unfolding(crate::specs::Texts::held_text))]
+    fn push_held(&mut self, field: FieldView)
+        requires { length self.old + 19 ≤ 768 }
+        ensures text { self.new ≡ self.old ++ held_text field }
+        ensures len { length self.new ≤ length self.old + 19 }
+    {
+        self.push_tag(field.tag);
+        self.push(b' ');
+        self.push_lanes(field.held_lanes);
+        self.push(b' ');
+        self.push_word(field.held);
+    }
+
+    #[tactic(auto, unfolding(crate::specs::Texts::field_text))]
+    fn push_field(&mut self, field: FieldView)
+        requires { length self.old + 40 ≤ 768 }
+        ensures text { self.new ≡ self.old ++ field_text field }
+        ensures len { length self.new ≤ length self.old + 40 }
+    {
+        self.push_bytes(b" [");
+        self.push_marks(field);
+        self.push(b' ');
+        self.push_lanes(field.code);
+        self.push(b' ');
+        self.push_held(field);
+        self.push(b']');
+    }
+
+    #[tactic(auto, unfolding(crate::specs::Texts::head_text))]
+    fn push_head(&mut self, register: RegisterView)
+        requires { length self.old + 35 ≤ 768 }
+        ensures text { self.new ≡ self.old ++ head_text register }
+        ensures len { length self.new ≤ length self.old + 35 }
+    {
+        self.push(mark(register.valid, b'V'));
+        self.push(mark(register.obsolete, b'O'));
+        self.push(b' ');
+        self.push_padded(register.block, 7);
+        self.push(b' ');
+        self.push_padded(register.frame, 4);
+        self.push(b' ');
+        self.push_padded(register.processed, 2);
+    }
+
+    fn push_field_at<M: AnyMachine>(&mut self, machine: &M, slot: u32, i: u32)
+        requires { length self.old + 40 ≤ 768 }
+        ensures text { self.new ≡ self.old ++ field_text_at (M.state machine.now) slot i }
+        ensures len { length self.new ≤ length self.old + 40 }
+    {
+        if let Some(field) = machine.field(slot, i) {
+            self.push_field(field);
         }
-        Answer::Refused(cause) => {
-            let _ = out.try_extend_from_slice(b"refused ");
-            push_decimal(out, u32::from(cause.number()));
+    }
+
+    fn push_fields<M: AnyMachine>(&mut self, machine: &M, slot: u32)
+        requires { length self.old + 640 ≤ 768 }
+        ensures text { self.new
+            ≡ self.old ++ flat_map (field_text_at (M.state machine.now) slot) (range_with_len 0 16) }
+        ensures len { length self.new ≤ length self.old + 640 }
+    {
+        for i in 0..16 {
+            self.push_field_at(machine, slot, i);
         }
+    }
+
+    // A register's text, at the end.
+    #[tactic(auto, unfolding(crate::specs::Texts::register_text))]
+    pub(crate) fn push_register<M: AnyMachine>(&mut self, machine: &M, slot: u32)
+        requires { length self.old + 675 ≤ 768 }
+        ensures text { self.new ≡ self.old ++ text_of_register (M.state machine.now) slot }
+        ensures len { length self.new ≤ length self.old + 675 }
+    {
+        match machine.register(slot) {
+            None => self.push_bytes(b"none"),
+            Some(register) => {
+                self.push_head(register);
+                self.push_fields(machine, slot);
+            }
+        }
+    }
+
+    // A word's digits, or `none`, at the end.
+    #[tactic(auto, unfolding(crate::specs::Texts::bank_text))]
+    pub(crate) fn push_bank(&mut self, word: Option<Word>)
+        requires { length self.old + 8 ≤ 768 }
+        ensures text { self.new ≡ self.old ++ bank_text word }
+        ensures len { length self.new ≤ length self.old + 8 }
+    {
+        match word {
+            None => self.push_bytes(b"none"),
+            Some(word) => self.push_word(word),
+        }
+    }
+
+    // `yes` or `no`, at the end.
+    #[tactic(auto, unfolding(crate::specs::Texts::settled_text))]
+    pub(crate) fn push_settled(&mut self, is_settled: bool)
+        requires { length self.old + 3 ≤ 768 }
+        ensures text { self.new ≡ self.old ++ settled_text is_settled }
+        ensures len { length self.new ≤ length self.old + 3 }
+    {
+        self.push_bytes(if is_settled { b"yes".as_slice() } else { b"no" });
     }
 }
 
@@ -71,146 +218,14 @@ fn mark(stands: bool, letter: u8) -> u8
     if stands { letter } else { b'-' }
 }
 
-fn push_waiting(out: &mut ArrayVec<u8, 768>, field: FieldView)
-    requires { array_vec_len out.old + 10 ≤ 768 }
-    ensures text { out.new.items ≡ out.old.items ++ waiting_text field }
-    ensures len { array_vec_len out.new ≤ array_vec_len out.old + 10 }
-{
-    if field.send {
-        push_decimal(out, field.targets);
-    } else {
-        out.push(b'-');
-    }
-}
-
-#[tactic(auto, unfolding(crate::specs::Texts::marks_text))]
-fn push_marks(out: &mut ArrayVec<u8, 768>, field: FieldView)
-    requires { array_vec_len out.old + 12 ≤ 768 }
-    ensures text { out.new.items ≡ out.old.items ++ marks_text field }
-    ensures len { array_vec_len out.new ≤ array_vec_len out.old + 12 }
-{
-    push_waiting(out, field);
-    out.push(mark(field.in_stack, b'I'));
-    out.push(mark(field.processed, b'P'));
-}
-
-#[tactic(auto, unfolding(crate::specs::Texts::held_text))]
-fn push_held(out: &mut ArrayVec<u8, 768>, field: FieldView)
-    requires { array_vec_len out.old + 19 ≤ 768 }
-    ensures text { out.new.items ≡ out.old.items ++ held_text field }
-    ensures len { array_vec_len out.new ≤ array_vec_len out.old + 19 }
-{
-    push_tag(out, field.tag);
-    out.push(b' ');
-    push_lanes(out, field.held_lanes);
-    out.push(b' ');
-    push_word(out, field.held);
-}
-
-#[tactic(auto, unfolding(crate::specs::Texts::field_text))]
-fn push_field(out: &mut ArrayVec<u8, 768>, field: FieldView)
-    requires { array_vec_len out.old + 40 ≤ 768 }
-    ensures text { out.new.items ≡ out.old.items ++ field_text field }
-    ensures len { array_vec_len out.new ≤ array_vec_len out.old + 40 }
-{
-    let _ = out.try_extend_from_slice(b" [");
-    push_marks(out, field);
-    out.push(b' ');
-    push_lanes(out, field.code);
-    out.push(b' ');
-    push_held(out, field);
-    out.push(b']');
-}
-
-#[tactic(auto, unfolding(crate::specs::Texts::head_text))]
-fn push_head(out: &mut ArrayVec<u8, 768>, register: RegisterView)
-    requires { array_vec_len out.old + 35 ≤ 768 }
-    ensures text { out.new.items ≡ out.old.items ++ head_text register }
-    ensures len { array_vec_len out.new ≤ array_vec_len out.old + 35 }
-{
-    out.push(mark(register.valid, b'V'));
-    out.push(mark(register.obsolete, b'O'));
-    out.push(b' ');
-    push_padded(out, register.block, 7);
-    out.push(b' ');
-    push_padded(out, register.frame, 4);
-    out.push(b' ');
-    push_padded(out, register.processed, 2);
-}
-
-fn push_field_at<C: Core>(out: &mut ArrayVec<u8, 768>, core: &C, slot: u32, i: u32)
-    requires { array_vec_len out.old + 40 ≤ 768 }
-    ensures text { out.new.items ≡ out.old.items ++ field_text_at (C.state core.now) slot i }
-    ensures len { array_vec_len out.new ≤ array_vec_len out.old + 40 }
-{
-    if let Some(field) = core.field(slot, i) {
-        push_field(out, field);
-    }
-}
-
-fn push_fields<C: Core>(out: &mut ArrayVec<u8, 768>, core: &C, slot: u32)
-    requires { array_vec_len out.old + 640 ≤ 768 }
-    ensures text { out.new.items
-        ≡ out.old.items ++ flat_map (field_text_at (C.state core.now) slot) (range_with_len 0 16) }
-    ensures len { array_vec_len out.new ≤ array_vec_len out.old + 640 }
-{
-    for i in 0..16 {
-        push_field_at(out, core, slot, i);
-    }
-}
-
-// A register's text, at the end.
-#[tactic(auto, unfolding(crate::specs::Texts::register_text))]
-pub fn push_register<C: Core>(out: &mut ArrayVec<u8, 768>, core: &C, slot: u32)
-    requires { array_vec_len out.old + 675 ≤ 768 }
-    ensures text { out.new.items ≡ out.old.items ++ text_of_register (C.state core.now) slot }
-    ensures len { array_vec_len out.new ≤ array_vec_len out.old + 675 }
-{
-    match core.register(slot) {
-        None => {
-            let _ = out.try_extend_from_slice(b"none");
-        }
-        Some(register) => {
-            push_head(out, register);
-            push_fields(out, core, slot);
-        }
-    }
-}
-
-// A word's digits, or `none`, at the end.
-#[tactic(auto, unfolding(crate::specs::Texts::bank_text))]
-pub fn push_bank(out: &mut ArrayVec<u8, 768>, word: Option<Word>)
-    requires { array_vec_len out.old + 8 ≤ 768 }
-    ensures text { out.new.items ≡ out.old.items ++ bank_text word }
-    ensures len { array_vec_len out.new ≤ array_vec_len out.old + 8 }
-{
-    match word {
-        None => {
-            let _ = out.try_extend_from_slice(b"none");
-        }
-        Some(word) => push_word(out, word),
-    }
-}
-
-// `yes` or `no`, at the end.
-#[tactic(auto, unfolding(crate::specs::Texts::settled_text))]
-pub fn push_settled(out: &mut ArrayVec<u8, 768>, is_settled: bool)
-    requires { array_vec_len out.old + 3 ≤ 768 }
-    ensures text { out.new.items ≡ out.old.items ++ settled_text is_settled }
-    ensures len { array_vec_len out.new ≤ array_vec_len out.old + 3 }
-{
-    let text = if is_settled { "yes" } else { "no" };
-    let _ = out.try_extend_from_slice(text.as_bytes());
-}
-
 /// The text of an answer: `accepted`, `moved`, `nothing`, `refused` and the cause's number, or
 /// `value`, the tag and the word's eight digits.
 pub fn answer_text(answer: Answer) -> LineText
     ensures { result ≡ text_of_answer answer }
 {
-    let mut bytes = ArrayVec::new();
-    push_answer(&mut bytes, answer);
-    LineText { bytes }
+    let mut text = LineText::new();
+    text.push_answer(answer);
+    text
 }
 
 /// The text of a register: its marks, block, frame and count of processed words, and a part in
@@ -220,13 +235,10 @@ pub fn answer_text(answer: Answer) -> LineText
 /// word's part has how many loads wait for the word, or `-` for none, `I` where it stands in the
 /// input stack and `P` where it was processed, or `-`, then its code, and the tag, the held lanes
 /// and the held word of the first load that waits. What doesn't apply shows zeros.
-pub fn register_text<const WAYS: usize, const WORDS: usize, const REGS: usize, const DEPTH: usize>(
-    machine: &Machine<WAYS, WORDS, REGS, DEPTH>,
-    slot: u32,
-) -> LineText
-    ensures { result ≡ text_of_register machine.now slot }
+pub fn register_text<M: AnyMachine>(machine: &M, slot: u32) -> LineText
+    ensures { result ≡ text_of_register (M.state machine.now) slot }
 {
-    let mut bytes = ArrayVec::new();
-    push_register(&mut bytes, machine, slot);
-    LineText { bytes }
+    let mut text = LineText::new();
+    text.push_register(machine, slot);
+    text
 }
