@@ -3,12 +3,13 @@ use Rattle.std.proofs.Common.{◌≡◌, ℕ, zero, suc, ◌+◌, ◌*◌, ◌-�
 use Rattle.std.proofs.Props.{props}
 use Rattle.std.proofs.Math.Logic.{∥∥₁_elim}
 use Rattle.std.specs.List.{range_with_len, position_from}
-use Rattle.std.proofs.lemmas.List.{get_or_default, length-replicate, length-map}
+use Rattle.std.proofs.lemmas.List.{get_or_default, length-replicate, length-map, length-append, nil_from_length}
 use Rattle.std.proofs.lemmas.List.FromFn.{length-map-range_with_len, get_or-map-range_with_len}
 use Rattle.std.proofs.lemmas.Iterator.Adapters.{position_from-zero}
 use Rattle.std.proofs.lemmas.Nat.{le-div}
 use Rattle.std.proofs.lemmas.Option.{slice_get-get_or}
 use Rattle.std.specs.declared.alloc.Global.{Global}
+use Rattle.std.specs.Global.{Vec}
 use Rattle.rtrb.specs.Ring.{received, known_items}
 use Rattle.rtrb.specs.declared.consumer.Consumer.{Consumer}
 use Rattle.rtrb.specs.declared.AnyItems.{AnyItems}
@@ -22,15 +23,17 @@ use Rattle.cache_unit.specs.Views.{is_clean}
 use Rattle.machine_core.specs.Law.{IsLawful}
 use Rattle.machine_core.proofs.Whole.{lawful}
 use Rattle.station_journal.specs.declared.asks.Ask.{Ask}
+use Rattle.station_journal.specs.declared.asks.Told.{Told}
 use Rattle.station_journal.specs.declared.journal.Entry.{Entry}
 use Rattle.station_journal.specs.declared.journal.SideFault.{SideFault}
 use Rattle.station_journal.specs.Journal.{Stand, opening_stand, true_stand, true_word, zeros, zeros_in, IsBankTrue}
-use Rattle.station_journal.specs.Law.{IsFlatJournal, TakesABlock, IsPaid, bank_after}
+use Rattle.station_journal.specs.Law.{IsFlatJournal, TakesABlock, IsPaid, IsHeard, IsAnswered, bank_after}
 use Rattle.station_journal.specs.Parts.{asks_of, told_of, IsOfPorts}
+use Rattle.station_journal.specs.Conversation.{Converses}
 use Rattle.station_journal.proofs.FlatFrom.{some_same}
 use Rattle.station_journal.specs.Side.{SideTells, ComesOf}
 use Rattle.station_journal.proofs.Walking.{fit_prop, journal_is_flat}
-use Rattle.station_journal.proofs.Answering.{asks_are_judged}
+use Rattle.station_journal.proofs.Answering.{asks_are_judged, run_is_answered}
 use Rattle.station_journal.proofs.Telling.{bank_true, stands_true, never_faulted}
 use Rattle.station_parts.specs.declared.port.Port.{Port}
 use Rattle.station_parts.specs.declared.bank.BankSide.{BankSide}
@@ -38,12 +41,14 @@ use Rattle.station_parts.specs.declared.parts.CacheSide.{CacheSide}
 use Rattle.station_parts.specs.Rings.{pops_from}
 use Rattle.station_parts.specs.Ids.{PortId, BankId, port_id, bank_id}
 use Rattle.station_parts.specs.Rows.{sent_at, popped_at, come_to}
-use Rattle.station_parts.specs.Words.{taken, told_in_all, known_tellings, received_by, sent_by, words_of, known_commands, commanded}
+use Rattle.station_parts.specs.Words.{offered, taken, told_in_all, known_tellings, received_by, sent_by, words_of, known_commands, commanded}
 use Rattle.station_parts.specs.Station.{AreOneStation}
 use Rattle.station_parts.specs.Audited.{IsSeen, holds_item, first_ring, first_left, finding, audit_of}
 use Rattle.station_parts.specs.declared.parts.Ring.{Ring}
-use Rattle.station_parts.specs.declared.parts.Audit.TheVariants.{Faulted, Clean}
+use Rattle.station_parts.specs.declared.parts.Ring.TheVariants as rings
+use Rattle.station_parts.specs.declared.parts.Audit.TheVariants.{Faulted, Left, Owed, Clean}
 use Rattle.station_parts.specs.Promises.{AreJudged, offered_by, taken_by, words_by, ArePrefixes, AreWhole, IsFlatRun, PaysLoads, HoldFlat}
+use Rattle.station_parts.specs.Runs.{list_in, HaveConversed, AreAnswered}
 use Rattle.station_parts.proofs.Rows.{here_before}
 
 -- ---- a bank's share of zeros
@@ -101,6 +106,20 @@ none_from p k (x ∷ xs) e (suc i) d h = none_from p (k + 1) xs (none_there (p x
 none_at : {X : Type 0} (p : X → Bool) (xs : List X) → position p xs ≡ None → (i : ℕ) (d : X) → i < length xs
     → p (slice_index_or xs i d) ≡ false
 none_at p xs e = none_from p 0 xs (sym (position_from-zero p xs) ∙ e)
+
+-- where no place passes a test, none is found
+none_found : {X : Type 0} (p : X → Bool) (k : ℕ) (xs : List X)
+    → ((i : ℕ) (d : X) → i < length xs → p (slice_index_or xs i d) ≡ false) → position_from p k xs ≡ None
+none_found p k [] fails = refl
+none_found p k (x ∷ xs) fails =
+    go (p x) (fails 0 x (omega arith)) (none_found p (k + 1) xs (λ i d l. fails (suc i) d (omega arith)))
+  where
+    go : (t : Bool) → t ≡ false → position_from p (k + 1) xs ≡ None → cond t (Some k) (position_from p (k + 1) xs) ≡ None
+    go true e none = cc
+    go false e none = none
+
+nothing_behind : {X : Type 0} (xs ys : List X) → xs ++ ys ≡ xs → ys ≡ []
+nothing_behind xs ys e = let both = length-append xs ys in let same = ap length e in nil_from_length ys (omega arith)
 
 empty_if : {X : Type 0} (xs : List X) → holds_item xs ≡ false → xs ≡ []
 empty_if [] e = refl
@@ -257,6 +276,61 @@ module _ {W B R D : ℕ} (cache : CacheSide W B R D) (ports : List Port) (banks 
         told = λ p l. let port = some_of ports p l in (known_tellings (slice_index_or ports p port), taken_and_left p l port);
       }
 
+  -- ---- ports that have had their whole conversations
+
+  module _ (scripts : List (Vec Ask)) (lists : List (Vec Told)) (talked : HaveConversed scripts ports lists) where
+    heard : (p : ℕ) → p < length ports
+        → IsHeard p (list_in scripts p) (offered_by ports p) (list_in lists p) cache.journal.items
+    heard p l =
+        let end = some_of cache.asks.items p (ask_there p l) in
+        let port = some_of ports p l in
+        record {
+          conversation = talked.each p l;
+          unasked = known_items (slice_index_or cache.asks.items p end);
+          asks = asks_and_left p l end;
+          untaken = known_tellings (slice_index_or ports p port);
+          tellings = ap (λ xs. xs ++ known_tellings (slice_index_or ports p port)) (sym (talked.took p l)) ∙ taken_and_left p l port;
+        }
+
+    all_heard : IsAnswered (length ports) (list_in lists) cache.journal.items (true_stand cache.unit.sizes cache.journal.items).cache
+    all_heard =
+        run_is_answered z entries (length ports) (list_in scripts) (offered_by ports) (list_in lists) law cache.in_range.enough_commands
+        bank_true_here sources_here heard
+
+    none_told : position (λ p. holds_item (known_tellings p)) ports ≡ None
+    none_told =
+        position_from-zero (λ (p : Port). holds_item (known_tellings p)) ports
+        ∙ none_found (λ (p : Port). holds_item (known_tellings p)) 0 ports
+        (λ p port l.
+            let whole = ap (λ xs. xs ++ known_tellings (slice_index_or ports p port)) (sym (talked.took p l))
+            ∙ taken_and_left p l port ∙ sym (all_heard.all_taken p l) in
+            ap holds_item (nothing_behind (list_in lists p) (known_tellings (slice_index_or ports p port)) whole))
+
+    pub answered_here : AreAnswered (audit_of cache ports banks) cache.journal.items lists
+    answered_here =
+        record {
+          none_owed = λ count. not_owed cache.fault (first_left cache ports banks) (length (tags cache.unit.cache)) count
+              (sym ends_here.owed ∙ all_heard.none_owed);
+          none_left = λ port. not_told port cache.fault (length (tags cache.unit.cache)) _ _ _ _ none_told;
+          told = λ p l. all_heard.all_taken p (subst (λ n. p < n) talked.number l);
+        }
+      where
+        not_owed : (f : Option SideFault) (r : Option Ring) (n count : ℕ) → n ≡ 0 → finding f r n ≢ Owed count
+        not_owed (Some fault) r n count e = λ q. cc
+        not_owed None (Some ring) n count e = λ q. cc
+        not_owed None None zero count e = λ q. cc
+        not_owed None None (suc n) count e = absurd (omega arith)
+
+        not_told : (port : ℕ) (f : Option SideFault) (n : ℕ) (a b c d : Option ℕ) → b ≡ None
+            → finding f (first_ring a b c d) n ≢ Left (rings.Told port)
+        not_told port (Some fault) n a b c d e = λ q. cc
+        not_told port None n (Some i) b c d e = λ q. cc
+        not_told port None n None (Some i) c d e = let clash : ⊥ = cc in absurd clash
+        not_told port None n None None (Some i) d e = λ q. cc
+        not_told port None n None None None (Some i) e = λ q. cc
+        not_told port None zero None None None None e = λ q. cc
+        not_told port None (suc n) None None None None e = λ q. cc
+
   -- ---- a clean audit
 
   pub never_here : finding cache.fault (first_left cache ports banks) (length (tags cache.unit.cache)) ≢ Faulted
@@ -356,3 +430,20 @@ module _ {W B R D : ℕ} (cache : CacheSide W B R D) (ports : List Port) (banks 
         slice_get-get_or (words_by banks b) (at / n) zero_word (word_there at l)
         ∙ ap (λ ws. Some (word_at ws (at / n))) (bank_holds b (mod-lt at cache.in_range.some_banks))
         ∙ ap Some (flat_here.settles settled' at l ∙ mem)
+
+-- ---- what was offered and taken before an audit's looks
+
+pub conversed_still : (scripts : List (Vec Ask)) (old new : List Port) (lists : List (Vec Told)) → map port_id new ≡ map port_id old
+    → map offered new ≡ map offered old → map taken new ≡ map taken old → HaveConversed scripts old lists
+    → HaveConversed scripts new lists
+conversed_still scripts old new lists ids offers takes talked =
+    let count : length new ≡ length old = sym (length-map new port_id) ∙ ap length ids ∙ length-map old port_id in
+    record {
+      number = talked.number ∙ sym count;
+      each = λ p l.
+          let there = subst (λ n. p < n) count l in
+          subst (λ o. Converses (list_in scripts p) (slice_index_or o p []) (list_in lists p)) (sym offers) (talked.each p there);
+      took = λ p l.
+          let there = subst (λ n. p < n) count l in
+          ap (λ t. slice_index_or t p []) takes ∙ talked.took p there;
+    }

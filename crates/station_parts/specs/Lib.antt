@@ -3,6 +3,7 @@ pub mod Rows
 pub mod Ports
 pub mod Asking
 pub mod Promises
+pub mod Runs
 pub mod Ids
 pub mod Station
 pub mod Words

@@ -1,12 +1,16 @@
 //! The audit.
-ghost use Rattle.std.specs.Prelude.{◌≡◌, ◌≢◌, IsTrue, ◌++◌, ◌≤◌, ◌<◌, length, map, position, IfSome, ◌^◌};
+ghost use Rattle.std.specs.Prelude.{◌≡◌, ◌≢◌, IsTrue, List, ◌++◌, ◌≤◌, ◌<◌, length, map, position, IfSome, ◌^◌};
 ghost use Rattle.std.specs.Option.{ForSome};
+ghost use Rattle.std.specs.Global.{Vec};
 ghost use Rattle.rtrb.specs.Ring.{received, sent, known_items};
 ghost use Rattle.cache_unit.specs.Views.{is_clean};
 ghost use Rattle.station_journal.specs.Journal.{IsBankTrue};
 ghost use Rattle.station_journal.specs.Parts.{IsOfPorts};
+ghost use Rattle.station_journal.specs.declared.asks.Ask.{Ask};
+ghost use Rattle.station_journal.specs.declared.asks.Told.{Told};
 ghost use Rattle.station_parts.specs.declared.parts.Audit.TheVariants.{Faulted, Clean};
 ghost use Rattle.station_parts.specs.Promises.{ArePrefixes, AreJudged, IsFlatRun, AreWhole, PaysLoads, HoldFlat};
+ghost use Rattle.station_parts.specs.Runs.{HaveConversed, AreAnswered};
 ghost use Rattle.station_parts.specs.Rings.{pushes_to, pops_from};
 ghost use Rattle.station_parts.specs.Ids.{PortId, BankId, port_id, bank_id, cache_id, line_ring};
 ghost use Rattle.station_parts.specs.Station.{AreOneStation};
@@ -56,6 +60,12 @@ pub fn audit<const WAYS: usize, const WORDS: usize, const REGS: usize, const DEP
     ensures flat { IsFlatRun (sizes_in cache.new) (journal_of cache.new) }
     ensures sources { IsOfPorts (length ports.new) (journal_of cache.new) }
     ensures judged { AreJudged (journal_of cache.new) }
+
+    // Ports that have had their whole conversations, as after a run of the threads, have taken all
+    // that they were told, and nothing is owed.
+    ensures answered { (scripts : List (Vec Ask)) (lists : List (Vec Told))
+        → HaveConversed scripts ports.old lists
+        → AreAnswered result (journal_of cache.new) lists }
 
     // Nothing is left and nothing is owed.
     ensures whole { result ≡ Clean → AreWhole (journal_of cache.new) ports.new }

@@ -43,7 +43,8 @@ impl Port {
         ensures ended { has_ended self.old ≡ true → IsErr result }
         ensures goes { has_ended self.old ≡ false → 0 < known_places self.old → IsOk result }
 
-        ensures places { known_places self.old ≤ known_places self.new + 1 }
+        ensures places { OnOk result (known_places self.old ≤ known_places self.new + 1) }
+        ensures kept_places { OnErr result (known_places self.old ≤ known_places self.new) }
         ensures taken { taken self.new ≡ taken self.old }
         ensures tellings { known_tellings self.new ≡ known_tellings self.old }
     {
