@@ -12,7 +12,7 @@ use Rattle.memory_banks.specs.Banks.{Bank, bank_at, pending, all_pending, answer
 use Rattle.input_stack.specs.declared.Entry.{Entry}
 use Rattle.miss_registers.specs.declared.Owed.{Owed}
 use Rattle.cache_unit.specs.declared.Reply.{Reply}
-use Rattle.cache_unit.specs.State.{Sizes, Field, Register, Target, free_register, register_at, field_at, gathered, targets_of, targets_of_field, targets, tags}
+use Rattle.cache_unit.specs.State.{Sizes, Cache, Field, Register, Target, free_register, register_at, field_at, gathered, targets_of, targets_of_field, targets, tags}
 use Rattle.cache_unit.specs.Counts.{tally, bit}
 use Rattle.cache_unit.proofs.FormsParts.{in_range}
 use Rattle.machine_core.specs.Law.{most_weight}
@@ -120,14 +120,14 @@ banks_weigh most (b ∷ banks) h =
 abbrev target_at : ℕ → ℕ → Owed → Target
 target_at slot i w = record { slot = slot; i = i; load = w }
 
-field_weighs : (slot i : ℕ) (f : Field) → field_weight f ≤ length (targets_of_field slot i f)
+field_weighs : (slot i : ℕ) (f : Field) → field_weight f ≤ length (targets_of_field slot i f) - 1
 field_weighs slot i f = go f.processed
   where
-    go : (b : Bool) → cond b 0 (length f.waiting - 1) ≤ length (cond b [] (map (target_at slot i) f.waiting))
+    go : (b : Bool) → cond b 0 (length f.waiting - 1) ≤ length (cond b [] (map (target_at slot i) f.waiting)) - 1
     go true = omega arith
     go false = let n = length-map f.waiting (target_at slot i) in omega arith
 
-fields_weigh : (slot n : ℕ) (fields : List Field) → total field_weight fields ≤ length (gathered (targets_of_field slot) n fields)
+fields_weigh : (slot n : ℕ) (fields : List Field) → total field_weight fields ≤ length (gathered (targets_of_field slot) n fields) - 1
 fields_weigh slot n [] = omega arith
 fields_weigh slot n (f ∷ fields) =
     let ih = fields_weigh slot (suc n) fields in
@@ -135,14 +135,15 @@ fields_weigh slot n (f ∷ fields) =
     let k = length-append (targets_of_field slot n f) (gathered (targets_of_field slot) (suc n) fields) in
     omega arith
 
-register_weighs : (slot : ℕ) (r : Register) → register_weight r ≤ length (targets_of slot r)
+register_weighs : (slot : ℕ) (r : Register) → register_weight r ≤ length (targets_of slot r) - 1
 register_weighs slot r = go r.valid
   where
-    go : (b : Bool) → cond b (total field_weight r.fields) 0 ≤ length (cond b (gathered (targets_of_field slot) 0 r.fields) [])
+    go : (b : Bool) → cond b (total field_weight r.fields) 0 ≤ length (cond b (gathered (targets_of_field slot) 0 r.fields) []) - 1
     go true = fields_weigh slot 0 r.fields
     go false = omega arith
 
-registers_weigh : (n : ℕ) (registers : List Register) → total register_weight registers ≤ length (gathered targets_of n registers)
+-- a load weighs only behind another one
+registers_weigh : (n : ℕ) (registers : List Register) → total register_weight registers ≤ length (gathered targets_of n registers) - 1
 registers_weigh n [] = omega arith
 registers_weigh n (r ∷ registers) =
     let ih = registers_weigh (suc n) registers in
@@ -150,9 +151,17 @@ registers_weigh n (r ∷ registers) =
     let k = length-append (targets_of n r) (gathered targets_of (suc n) registers) in
     omega arith
 
-tags_count : (m : Machine) → length (tags m.cache) ≡ length m.cache.ready + length (targets m.cache.registers)
-tags_count m =
-    length-append (map (λ (r : Reply). r.tag) m.cache.ready) _ ∙ ap₂ (λ x y. x + y) (length-map m.cache.ready (λ (r : Reply). r.tag)) (length-map (targets m.cache.registers) (λ (t : Target). t.load.tag))
+tags_count : (c : Cache) → length (tags c) ≡ length c.ready + length (targets c.registers)
+tags_count c =
+    length-append (map (λ (r : Reply). r.tag) c.ready) _ ∙ ap₂ (λ x y. x + y) (length-map c.ready (λ (r : Reply). r.tag)) (length-map (targets c.registers) (λ (t : Target). t.load.tag))
+
+-- where one load waits at most, none weighs
+pub none_behind : (c : Cache) → length (tags c) - length c.ready < 2 → total register_weight c.registers ≡ 0
+unfolding targets
+none_behind c few =
+    let registers = registers_weigh 0 c.registers in
+    let n = tags_count c in
+    omega arith
 
 pub weight_bound : (z : Sizes) (m : Machine) → IsSound z m → IsBounded z m → weight m ≤ most_weight z
 unfolding targets
@@ -160,7 +169,7 @@ weight_bound z m sound bounded =
     let way = on_their_way z m sound in
     let banks = banks_weigh z.bank_queue m.banks bounded.few_commands in
     let registers = registers_weigh 0 m.cache.registers in
-    let n = tags_count m in
+    let n = tags_count m.cache in
     let t = bounded.few_tags in
     let q = bounded.few_queued in
     let b = sound.banks_are in

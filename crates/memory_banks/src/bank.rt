@@ -22,12 +22,17 @@ const MOST_ANSWERS: usize = 257;
 pub struct MemoryBank {
     words: Vec<Word>,
     queue: HeapCircularBuffer<Command>,
+    // How many of the commands in the queue are reads: counted as they come and go, since who asks
+    // for it asks often.
+    reads: u32,
     answers: Vec<BankAnswer>,
 }
 
 impl Model for MemoryBank {
     ghost use Rattle.std.specs.Prelude.{◌≡◌, ◌≤◌, length, vec_capacity};
+    ghost use Rattle.std.specs.List.{count_by};
     ghost use Rattle.memory_banks.specs.Banks.{Bank};
+    ghost use Rattle.memory_banks.specs.Memory.{is_read};
 
     ghost Value = { Bank };
 
@@ -36,6 +41,7 @@ impl Model for MemoryBank {
 
     ghost invariant = { λ a. (a.queue.capacity ≡ 64)
         × (length a.queue.items ≤ 64)
+        × (a.reads ≡ count_by is_read a.queue.items)
         × (vec_capacity a.answers ≡ 257)
         × (length a.answers.items ≤ 257) };
 }
@@ -61,6 +67,7 @@ impl MemoryBank {
         Ok(MemoryBank {
             words,
             queue,
+            reads: 0,
             answers,
         })
     }
@@ -77,8 +84,7 @@ impl MemoryBank {
     pub(crate) fn reads(&self) -> u32
         ensures { result ≡ count_by is_read self.now.queue }
     {
-        let reads = self.queue.iter().filter(|c| is_read(c)).count();
-        reads as u32
+        self.reads
     }
 
     /// How many answers stand.
@@ -107,6 +113,7 @@ impl MemoryBank {
         requires { length self.old.queue < 64 }
         ensures { self.new ≡ with_command self.old command }
     {
+        self.reads += u32::from(is_read(&command));
         let _ = self.queue.try_push_back(command);
     }
 
@@ -119,6 +126,7 @@ impl MemoryBank {
         match self.queue.pop_front() {
             None => false,
             Some(Command::Read { slot, i, place }) => {
+                self.reads -= 1;
                 let word = word_at(&self.words, place);
                 self.answers.push_reserved(BankAnswer { slot, i, word });
                 true

@@ -1,7 +1,8 @@
-use Rattle.std.proofs.Common.{◌+◌, ap, arith}
+use Rattle.std.proofs.Common.{◌+◌, ap, sym, arith}
 use Rattle.cache_unit.specs.State.{free_register}
 use Rattle.machine_core.specs.Pump.{register_weight}
 use Rattle.machine_core.proofs.Totals.{total_more}
+use Rattle.machine_core.proofs.Counting.{none_behind}
 use Rattle.machine_core.proofs.weigh.weight_of_registers.Goals as goal
 
 pub loop-slot-preserved : goal.loop-slot-preserved
@@ -11,3 +12,9 @@ loop-slot-preserved g c =
       counted = total_more register_weight c.args.unit.now.cache.registers c.loop-slot.slot free_register c.loop-slot.weight (c.loop-slot.weight + c.weight_of_register-weight.result) (omega arith) c.loop-slot.invariant.counted own;
       small = omega arith;
     }
+
+pub returns-then-owed-replies_len-lt2-clause-value : goal.returns-then-owed-replies_len-lt2-clause-value
+returns-then-owed-replies_len-lt2-clause-value g c =
+    let owed = c.owed.ensures.value in
+    let ready = c.replies_len.ensures in
+    sym (none_behind c.args.unit.now.cache (omega arith))
