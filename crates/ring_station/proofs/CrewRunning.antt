@@ -30,8 +30,10 @@ not_begun scripts old new same empty unended = record {
       let none : run.list.items ≡ [] = e.list ∙ empty p d less in
       record {
         same = ap port_id e.port;
-        took = ap taken e.port ∙ sym (append-nil (taken (slice_index_or old p d).port)) ∙ ap (λ l. taken (slice_index_or old p d).port ++ l) (sym none);
-        ran = on_ok_of_err run.end (HasRun (slice_index_or scripts p s).items (slice_index_or old p d).port run.port run.list.items) (subst (λ r. IsErr r) (sym e.end) (unended p d less));
+        took = ap taken e.port ∙ sym (append-nil (taken (slice_index_or old p d).port))
+            ∙ ap (λ l. taken (slice_index_or old p d).port ++ l) (sym none);
+        ran = on_ok_of_err run.end (HasRun (slice_index_or scripts p s).items (slice_index_or old p d).port run.port run.list.items)
+            (subst (λ r. IsErr r) (sym e.end) (unended p d less));
       };
 }
 

@@ -20,7 +20,8 @@ verdict-if-not-value (Value tag word) not_value = absurd (not_value tag word ref
 
 -- what is left of a script from one of its places on
 left_at : (script : List Ask) (next : ℕ) → next < length script → drop next script ≡ ask_at script next ∷ drop (next + 1) script
-left_at script next less = subst (λ n. drop next script ≡ ask_at script next ∷ drop n script) (sym (add-one next)) (drop-cons script next Done less)
+left_at script next less = subst (λ n. drop next script ≡ ask_at script next ∷ drop n script) (sym (add-one next))
+    (drop-cons script next Done less)
 
 left_behind : (final : Bool) (script : List Ask) (next : ℕ) → next < length script
     → cond final (drop (next + 1) script) (ask_at script next ∷ drop (next + 1) script) ≡ drop (cond final (next + 1) next) script
@@ -53,8 +54,10 @@ talked_judged script next owed offered taken verdict none h =
     subst (λ l. IsUnderWay script l (ask ∷ []) (values + owed) values offered taken) (left_at script next h.0) h.1 in
     let judged = under_way_judged script more ask (values + owed) values offered taken verdict none left in
     let there =
-    owed_at script (cond (is_final verdict) more (ask ∷ more)) [] (values + owed + accepted_load ask verdict) values (owed + accepted_load ask verdict) offered (taken ++ verdict ∷ []) judged (omega arith) in
-    subst (λ l. IsOwed script l [] (owed + accepted_load ask verdict) offered (taken ++ verdict ∷ [])) (left_behind (is_final verdict) script next h.0) there
+    owed_at script (cond (is_final verdict) more (ask ∷ more)) [] (values + owed + accepted_load ask verdict) values
+    (owed + accepted_load ask verdict) offered (taken ++ verdict ∷ []) judged (omega arith) in
+    subst (λ l. IsOwed script l [] (owed + accepted_load ask verdict) offered (taken ++ verdict ∷ []))
+    (left_behind (is_final verdict) script next h.0) there
 
 at_most_one_load : (ask : Ask) (verdict : Told) → accepted_load ask verdict ≤ 1
 at_most_one_load (Load tag at) Accepted = omega arith
@@ -71,7 +74,8 @@ pub judged : (script : List Ask) (old new : Phase) (next next' owed owed' : ℕ)
     → next' ≡ cond (is_final verdict) (next + 1) next → owed' ≡ owed + accepted_load ask verdict
     → record {
       talked : (offered : List Ask)
-          (taken : List Told) → HasTalked script old next owed offered taken → HasTalked script new next' owed' offered (taken ++ verdict ∷ []);
+          (taken : List Told) → HasTalked script old next owed offered taken
+          → HasTalked script new next' owed' offered (taken ++ verdict ∷ []);
       owed : owed' ≤ owed + 1;
       placed : new ≡ Awaiting → next' < length script;
     }
@@ -81,7 +85,8 @@ judged script old new next next' owed owed' ask verdict o n none less a e f = re
       let e' = sym e in
       let f' = sym (f ∙ ap (λ x. owed + accepted_load x verdict) a) in
       subst (λ p. HasTalked script p next' owed' offered (taken ++ verdict ∷ [])) (sym n)
-      (subst (λ m. HasTalked script Offering m owed' offered (taken ++ verdict ∷ [])) e' (subst (λ m. HasTalked script Offering (cond (is_final verdict) (next + 1) next) m offered (taken ++ verdict ∷ [])) f' there));
+      (subst (λ m. HasTalked script Offering m owed' offered (taken ++ verdict ∷ [])) e'
+      (subst (λ m. HasTalked script Offering (cond (is_final verdict) (next + 1) next) m offered (taken ++ verdict ∷ [])) f' there));
   owed = let l = at_most_one_load ask verdict in omega arith;
   placed = λ w. let b : Offering ≡ Awaiting = sym n ∙ w in cc;
 }

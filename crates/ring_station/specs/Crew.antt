@@ -18,7 +18,8 @@ pub record RanScript (script : List Ask) (old new : PortRun) : Type 0 where
 -- each port ran its script
 pub record EachRanScript (scripts : List (Vec Ask)) (old new : List PortRun) : Type 0 where
   pub number : length new ≡ length old
-  pub each : (p : ℕ) (s : Vec Ask) (d : PortRun) → p < length old → RanScript (slice_index_or scripts p s).items (slice_index_or old p d) (slice_index_or new p d)
+  pub each : (p : ℕ) (s : Vec Ask) (d : PortRun) → p < length old
+      → RanScript (slice_index_or scripts p s).items (slice_index_or old p d) (slice_index_or new p d)
 
 -- a run that hasn't begun, with more room in its list
 pub record IsSameRun (old new : PortRun) : Type 0 where

@@ -29,4 +29,5 @@ pub record HasRun (script : List Ask) (first port : Port) (list : List Told) : T
 -- the same of each port, with its script and its list
 pub record HaveRun (scripts : List (Vec Ask)) (old new : List Port) (lists : List (Vec Told)) : Type 0 where
   pub number : length lists ≡ length old
-  pub each : (p : ℕ) (s : Vec Ask) (d : Port) (l : Vec Told) → p < length old → HasRun (slice_index_or scripts p s).items (slice_index_or old p d) (slice_index_or new p d) (slice_index_or lists p l).items
+  pub each : (p : ℕ) (s : Vec Ask) (d : Port) (l : Vec Told) → p < length old
+      → HasRun (slice_index_or scripts p s).items (slice_index_or old p d) (slice_index_or new p d) (slice_index_or lists p l).items

@@ -1,5 +1,6 @@
 //! The round of the cache side: its sources, one after the other.
 ghost use Rattle.std.specs.Prelude.{◌<◌, ◌+◌};
+ghost use Rattle.ring_station.specs.declared.round.TheConstants.{OTHER_SOURCES};
 
 use station_parts::Source;
 
@@ -13,7 +14,7 @@ pub(crate) struct Round {
     ports: u32,
     banks: u32,
     place: u64,
-    ghost within: { place < ports + banks + 3 },
+    ghost within: { place < ports + banks + OTHER_SOURCES },
 }
 
 impl Round {

@@ -1,7 +1,9 @@
 //! Runs of a station on threads.
-ghost use Rattle.std.specs.Prelude.{◌≡◌, ◌<◌, ◌≤◌, [], length, vec_len, IfOk, OnOk, IsOk, IsErr};
+ghost use Rattle.std.specs.Prelude.{◌≡◌, ◌<◌, ◌≤◌, [], length, map, vec_len, IfOk, OnOk, IsOk, IsErr};
 ghost use Rattle.std.specs.List.{All};
-ghost use Rattle.station_parts.specs.Ids.{cache_id};
+ghost use Rattle.station_parts.specs.Ids.{port_id, bank_id, cache_id};
+ghost use Rattle.station_parts.specs.New.{IsNewPort};
+ghost use Rattle.station_parts.specs.Runs.{HaveConversed};
 ghost use Rattle.station_parts.specs.Station.{AreOneStation};
 ghost use Rattle.ring_station.specs.PortRuns.{HaveRun};
 ghost use Rattle.ring_station.specs.Crew.{EachRanScript, EachIsSame, EachServed};
@@ -48,9 +50,20 @@ pub fn run_threads<
 ) -> Result<Vec<Vec<Told>>, RunFault>
     requires one { AreOneStation station.old.cache station.old.ports.items station.old.banks.items }
     requires scripts { length scripts.now ≡ vec_len station.old.ports }
+
+    // They are the same parts, moved by their own calls.
+    ensures same_cache { cache_id station.new.cache ≡ cache_id station.old.cache }
+    ensures same_ports { map port_id station.new.ports.items ≡ map port_id station.old.ports.items }
+    ensures same_banks { map bank_id station.new.banks.items ≡ map bank_id station.old.banks.items }
     ensures kept { AreOneStation station.new.cache station.new.ports.items station.new.banks.items }
+
+    // In the run each port has offered its script and then Done, and its list is what it took. So an
+    // audit of a station that was new owes nothing, and leaves no telling.
     ensures lists { IfOk result
         (λ lists. HaveRun scripts.now station.old.ports.items station.new.ports.items lists.items) }
+    ensures conversed { IfOk result
+        (λ lists. All IsNewPort station.old.ports.items
+        → HaveConversed scripts.now station.new.ports.items lists.items) }
 {
     let Station {
         cache,

@@ -52,7 +52,9 @@ pub(crate) fn run_all<
             ensures { cache_id cache.exit.now ≡ cache_id cache.entry.now }
         { run_cache(gate, port_count, bank_count, turns, &done, cache) },
         &mut ||
-            requires { IsSync R.row × (length scripts.now ≡ vec_len ports.now) × (vec_len ports.now ≤ 16) × (vec_len banks.now ≤ 16) × All (λ r. r.list.items ≡ []) ports.now.items }
+            requires { IsSync R.row × (length scripts.now ≡ vec_len ports.now)
+                × (vec_len ports.now ≤ 16) × (vec_len banks.now ≤ 16)
+                × All (λ r. r.list.items ≡ []) ports.now.items }
             ensures ports { EachRanScript scripts.entry.now ports.entry.now.items ports.exit.now.items }
             ensures banks { EachServed banks.entry.now.items banks.exit.now.items }
         { run_sides(rt, gate, scripts, turns, &done, ports, banks) },
@@ -80,7 +82,8 @@ fn run_sides<R: Threads + Sync, G: Gate>(
     join_mut(
         rt,
         &mut ||
-            requires { IsSync R.row × (length scripts.now ≡ vec_len ports.now) × (vec_len ports.now ≤ 16) × All (λ r. r.list.items ≡ []) ports.now.items }
+            requires { IsSync R.row × (length scripts.now ≡ vec_len ports.now)
+                × (vec_len ports.now ≤ 16) × All (λ r. r.list.items ≡ []) ports.now.items }
             ensures { EachRanScript scripts.entry.now ports.entry.now.items ports.exit.now.items }
         { run_ports(rt, gate, scripts, turns, ports) },
         &mut ||
@@ -108,8 +111,10 @@ fn run_ports<R: Threads + Sync, G: Gate>(
         ports,
         threads,
         &|p: usize, run: &mut PortRun|
-            requires { (p < length scripts.now) × (length scripts.now ≤ 16) × (run.old.list.items ≡ []) }
-            ensures { (s : Vec Ask) → RanScript (slice_index_or scripts.entry.now p s).items run.old run.new }
+            requires { (p < length scripts.now) × (length scripts.now ≤ 16)
+                × (run.old.list.items ≡ []) }
+            ensures { (s : Vec Ask)
+                → RanScript (slice_index_or scripts.entry.now p s).items run.old run.new }
         { run_one(gate, p as u32, scripts[p].as_slice(), turns, run) },
     );
 }

@@ -302,9 +302,9 @@ module _ {W B R D : ℕ} (cache : CacheSide W B R D) (ports : List Port) (banks 
         position_from-zero (λ (p : Port). holds_item (known_tellings p)) ports
         ∙ none_found (λ (p : Port). holds_item (known_tellings p)) 0 ports
         (λ p port l.
-            let whole = ap (λ xs. xs ++ known_tellings (slice_index_or ports p port)) (sym (talked.took p l))
-            ∙ taken_and_left p l port ∙ sym (all_heard.all_taken p l) in
-            ap holds_item (nothing_behind (list_in lists p) (known_tellings (slice_index_or ports p port)) whole))
+        let whole = ap (λ xs. xs ++ known_tellings (slice_index_or ports p port)) (sym (talked.took p l))
+        ∙ taken_and_left p l port ∙ sym (all_heard.all_taken p l) in
+        ap holds_item (nothing_behind (list_in lists p) (known_tellings (slice_index_or ports p port)) whole))
 
     pub answered_here : AreAnswered (audit_of cache ports banks) cache.journal.items lists
     answered_here =

@@ -5,7 +5,8 @@ use Rattle.ring_station.proofs.port_thread.run_port.Goals as goal
 
 pub loop-turn-init : goal.loop-turn-init
 loop-turn-init g c = record {
-  on = on_its_way_at_first c.args.script.now c.new-talk.result c.args.port.now c.args.list.now.items c.requires (c.new-talk.ensures.talked c.args.script.now);
+  on = on_its_way_at_first c.args.script.now c.new-talk.result c.args.port.now c.args.list.now.items c.requires
+      (c.new-talk.ensures.talked c.args.script.now);
   owed = search rules;
   placed = λ w. let e : Offering ≡ Awaiting = sym c.new-talk.ensures.phase ∙ w in cc;
 }
