@@ -10,8 +10,6 @@ use Rattle.flat_model.specs.Words.{zero_word, merged, joined, has_all}
 use Rattle.cache_directory.specs.Frames as dir
 use Rattle.cache_directory.specs.declared.Cell.{Cell}
 use Rattle.miss_registers.specs.Registers as regs
-use Rattle.miss_registers.specs.Views as shows
-use Rattle.miss_registers.specs.declared.FieldView.{FieldView}
 use Rattle.miss_registers.specs.Whole.{IsWhole}
 use Rattle.miss_registers.specs.declared.Owed.{Owed}
 use Rattle.input_stack.specs.declared.Entry.{Entry}
@@ -270,48 +268,61 @@ zero_from w h = λ i. record { b0 = h.0 i; b1 = h.1.0 i; b2 = h.1.1.0 i; b3 = h.
 within : {n m : ℕ} → n < m → nat_lt n m ≡ true
 within {n} {m} h = grind (arith, nat_tests)
 
-pub view_there : (words : ℕ) (rs : List regs.Register) (slot i : ℕ) → slot < length rs → i < words → shows.field_view words rs slot i ≡ Some (shows.shown_field (regs.field_at rs slot i))
-view_there words rs slot i a b =
-    let show : Bool → Option FieldView = λ x. if x then Some (shows.shown_field (regs.field_at rs slot i)) else None in
-    ap show (ap₂ ◌&&◌ (within a) (within b))
+-- a word that has a code to show isn't processed, and that is its code
+pub missing_parts : (f : regs.Field) (code : Lanes) → regs.code_of_missing f ≡ Some code → (f.processed ≡ false) × (f.code ≡ code)
+missing_parts f code = go f.processed refl
+  where
+    go : (b : Bool) → f.processed ≡ b → (if b then None else Some f.code) ≡ Some code → (f.processed ≡ false) × (f.code ≡ code)
+    go true e h = cc
+    go false e h = (e, same_Some _ _ h)
 
-module _ (z : Sizes) (d : dir.Frames) (rs : List regs.Register) (st : List Entry) (q : Queue) (ready : List Reply) (block i slot : ℕ) (live : regs.live_for rs block ≡ Some slot) (there : i < z.block_words) (view : FieldView) (seen : Some view ≡ shows.field_view z.block_words rs slot i) where
-  abbrev now : Cache
-  now = as_cache d rs st q.entries ready
+pub none_missing : (f : regs.Field) → regs.code_of_missing f ≡ None → f.processed ≡ true
+none_missing f = go f.processed refl
+  where
+    go : (b : Bool) → f.processed ≡ b → (if b then None else Some f.code) ≡ None → f.processed ≡ true
+    go true e h = e
+    go false e h = cc
 
-  view_is : view ≡ shows.shown_field (regs.field_at rs slot i)
-  view_is = same_Some _ _ (seen ∙ view_there z.block_words rs slot i (live_for-some rs block slot live).0 there)
+module _ (d : dir.Frames) (rs : List regs.Register) (st : List Entry) (q : Queue) (ready : List Reply) (block i slot : ℕ) (live : regs.live_for rs block ≡ Some slot) where
+  abbrev kept : regs.Field
+  kept = regs.field_at rs slot i
 
   is_live_now : live_for (as_cache d rs st q.entries ready) block ≡ Some slot
   is_live_now = live_for-shown d rs st q.entries ready block ∙ live
 
-  field_now : field_at (as_cache d rs st q.entries ready) slot i ≡ as_field (regs.field_at rs slot i)
+  field_now : field_at (as_cache d rs st q.entries ready) slot i ≡ as_field kept
   field_now = field_at-shown d rs st q.entries ready slot i
 
-  processed_now : (field_at (as_cache d rs st q.entries ready) slot i).processed ≡ view.processed
-  processed_now = ap (λ (f : Field). f.processed) field_now ∙ ap (λ (v : FieldView). v.processed) (sym view_is)
+  test_now : ((field_at (as_cache d rs st q.entries ready) slot i).processed || has_all (field_at (as_cache d rs st q.entries ready) slot i).code) ≡ (kept.processed || has_all kept.code)
+  test_now = ap (λ (f : Field). f.processed || has_all f.code) field_now
 
-  code_now : (field_at (as_cache d rs st q.entries ready) slot i).code ≡ view.code
-  code_now = ap (λ (f : Field). f.code) field_now ∙ ap (λ (v : FieldView). v.code) (sym view_is)
+  pub finding-processed : regs.code_of_missing kept ≡ None → finding_of (as_cache d rs st q.entries ready) block i (found (as_cache d rs st q.entries ready) block i) ≡ finding.Here (cell_of (as_cache d rs st q.entries ready) block i).word
+  finding-processed h =
+      let test = ap (λ b. b || has_all kept.code) (none_missing kept h) in
+      ap (finding_of (as_cache d rs st q.entries ready) block i) (found_done (as_cache d rs st q.entries ready) block i slot is_live_now (test_now ∙ test))
 
-  targets_now : length (field_at (as_cache d rs st q.entries ready) slot i).waiting ≡ view.targets
-  targets_now = ap (λ (f : Field). length f.waiting) field_now ∙ ap (λ (v : FieldView). v.targets) (sym view_is)
+  module _ (code : Lanes) (missing : regs.code_of_missing kept ≡ Some code) where
+    code_now : (field_at (as_cache d rs st q.entries ready) slot i).code ≡ code
+    code_now = ap (λ (f : Field). f.code) field_now ∙ (missing_parts kept code missing).1
 
-  test_now : ((field_at (as_cache d rs st q.entries ready) slot i).processed || has_all (field_at (as_cache d rs st q.entries ready) slot i).code) ≡ (view.processed || has_all view.code)
-  test_now = ap₂ (λ a b. a || has_all b) processed_now code_now
+    test_code : (kept.processed || has_all kept.code) ≡ has_all code
+    test_code =
+        let p = missing_parts kept code missing in
+        ap₂ (λ a b. a || has_all b) p.0 p.1
 
-  pub finding-done : (view.processed || has_all view.code) ≡ true → finding_of (as_cache d rs st q.entries ready) block i (found (as_cache d rs st q.entries ready) block i) ≡ finding.Here (cell_of (as_cache d rs st q.entries ready) block i).word
-  finding-done h = ap (finding_of (as_cache d rs st q.entries ready) block i) (found_done (as_cache d rs st q.entries ready) block i slot is_live_now (test_now ∙ h))
+    pub finding-written : has_all code ≡ true → finding_of (as_cache d rs st q.entries ready) block i (found (as_cache d rs st q.entries ready) block i) ≡ finding.Here (cell_of (as_cache d rs st q.entries ready) block i).word
+    finding-written h = ap (finding_of (as_cache d rs st q.entries ready) block i) (found_done (as_cache d rs st q.entries ready) block i slot is_live_now (test_now ∙ test_code ∙ h))
 
-  pub finding-stacked : (w : Word) → (view.processed || has_all view.code) ≡ false → stack_word st slot i ≡ Some w → finding_of (as_cache d rs st q.entries ready) block i (found (as_cache d rs st q.entries ready) block i) ≡ finding.Here (merged w (cell_of (as_cache d rs st q.entries ready) block i).word view.code)
-  finding-stacked w h s =
-      ap (finding_of (as_cache d rs st q.entries ready) block i) (found_stacked (as_cache d rs st q.entries ready) block i slot w is_live_now (test_now ∙ h) s) ∙ ap (λ m. finding.Here (merged w (cell_of (as_cache d rs st q.entries ready) block i).word m)) code_now
+    pub finding-stacked : (w : Word) → has_all code ≡ false → stack_word st slot i ≡ Some w → finding_of (as_cache d rs st q.entries ready) block i (found (as_cache d rs st q.entries ready) block i) ≡ finding.Here (merged w (cell_of (as_cache d rs st q.entries ready) block i).word code)
+    finding-stacked w h s =
+        ap (finding_of (as_cache d rs st q.entries ready) block i) (found_stacked (as_cache d rs st q.entries ready) block i slot w is_live_now (test_now ∙ test_code ∙ h) s) ∙ ap (λ m. finding.Here (merged w (cell_of (as_cache d rs st q.entries ready) block i).word m)) code_now
 
-  pub finding-coming : (view.processed || has_all view.code) ≡ false → stack_word st slot i ≡ None → finding_of (as_cache d rs st q.entries ready) block i (found (as_cache d rs st q.entries ready) block i) ≡ finding.Coming slot (merged zero_word (cell_of (as_cache d rs st q.entries ready) block i).word view.code) view.code view.targets
-  finding-coming h s =
-      let buffer = (cell_of (as_cache d rs st q.entries ready) block i).word in
-      let made : Lanes → ℕ → Finding = λ m n. finding.Coming slot (merged zero_word buffer m) m n in
-      ap (finding_of (as_cache d rs st q.entries ready) block i) (found_coming (as_cache d rs st q.entries ready) block i slot is_live_now (test_now ∙ h) s) ∙ ap₂ made code_now targets_now
+    pub finding-coming : has_all code ≡ false → stack_word st slot i ≡ None → finding_of (as_cache d rs st q.entries ready) block i (found (as_cache d rs st q.entries ready) block i) ≡ finding.Coming slot (merged zero_word (cell_of (as_cache d rs st q.entries ready) block i).word code) code (length kept.waiting)
+    finding-coming h s =
+        let buffer = (cell_of (as_cache d rs st q.entries ready) block i).word in
+        let made : Lanes → ℕ → Finding = λ m n. finding.Coming slot (merged zero_word buffer m) m n in
+        let targets_now = ap (λ (f : Field). length f.waiting) field_now in
+        ap (finding_of (as_cache d rs st q.entries ready) block i) (found_coming (as_cache d rs st q.entries ready) block i slot is_live_now (test_now ∙ test_code ∙ h) s) ∙ ap₂ made code_now targets_now
 
 pub finding-resident : (z : Sizes) (d : dir.Frames) (rs : List regs.Register) (st : List Entry) (q : List Queued) (ready : List Reply) (block i : ℕ) → regs.live_for rs block ≡ None → finding_of (as_cache d rs st q ready) block i (found (as_cache d rs st q ready) block i) ≡ finding.Here (cell_of (as_cache d rs st q ready) block i).word
 finding-resident z d rs st q ready block i e =

@@ -1,5 +1,5 @@
 //! One register.
-ghost use Rattle.std.specs.Prelude.{◌≡◌, ◌<◌, ◌≤◌, ◌&&◌, ◌==◌, length, slice_set, slice_get, not, if◌then◌else◌, map, replicate, count_by};
+ghost use Rattle.std.specs.Prelude.{◌≡◌, ◌<◌, ◌≤◌, ◌&&◌, ◌==◌, length, slice_set, slice_get, not, if◌then◌else◌, map, replicate, count_by, None, Some};
 ghost use Rattle.std.specs.List.{list_all, list_any, filter};
 ghost use Rattle.miss_registers.specs.Registers as spec;
 ghost use Rattle.miss_registers.specs.Views as shows;
@@ -169,14 +169,6 @@ impl Slot {
         tag_among(self.targets.as_slice(), tag)
     }
 
-    /// How many loads wait for words of this register: 64 at most.
-    pub fn awaited(&self) -> u32
-        ensures count { result ≡ length (spec.tags_of self.now) }
-        ensures few { result ≤ 64 }
-    {
-        self.targets.len() as u32
-    }
-
     /// What the register shows of itself.
     pub fn view(&self) -> RegisterView
         ensures { result ≡ shows.shown_register self.now }
@@ -198,6 +190,20 @@ impl Slot {
             mark_of(self.marks.as_slice(), i),
             &waiting_for(self.targets.as_slice(), i),
         )
+    }
+
+    /// The code of word `i`, where it isn't processed.
+    pub fn missing_code(&self, i: u32) -> Option<Lanes>
+        ensures { result ≡ spec.code_of_missing (spec.field_of self.now i) }
+    {
+        code_of_missing(mark_of(self.marks.as_slice(), i))
+    }
+
+    /// How many loads wait for word `i`.
+    pub fn waiting(&self, i: u32) -> u32
+        ensures { result ≡ length (spec.field_of self.now i).waiting }
+    {
+        waiting_for(self.targets.as_slice(), i).len()
     }
 
     /// The load at a place among those that wait for word `i`.
@@ -326,6 +332,17 @@ fn mark_of(marks: &[Mark], i: u32) -> Mark
         marks[i as usize]
     } else {
         Mark::default()
+    }
+}
+
+// The code of a word with this mark, where it isn't processed.
+fn code_of_missing(mark: Mark) -> Option<Lanes>
+    ensures { result ≡ (if mark.processed then None else Some mark.code) }
+{
+    if mark.processed {
+        None
+    } else {
+        Some(mark.code)
     }
 }
 

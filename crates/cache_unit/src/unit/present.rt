@@ -63,19 +63,19 @@ impl<const WAYS: usize, const WORDS: usize, const REGS: usize, const DEPTH: usiz
         let Some(slot) = self.registers.live_for(block) else {
             return Finding::Here(buffer);
         };
-        let Some(field) = self.registers.field(slot, i) else {
+        let Some(code) = self.registers.missing_code(slot, i) else {
             return Finding::Here(buffer);
         };
-        if field.processed || field.code.has_all() {
+        if code.has_all() {
             return Finding::Here(buffer);
         }
         match self.stack.find(slot, i) {
-            Some(word) => Finding::Here(merge(word, buffer, field.code)),
+            Some(word) => Finding::Here(merge(word, buffer, code)),
             None => Finding::Coming {
                 slot,
-                held: merge(Word::default(), buffer, field.code),
-                code: field.code,
-                waiting: field.targets,
+                held: merge(Word::default(), buffer, code),
+                code,
+                waiting: self.registers.waiting(slot, i),
             },
         }
     }
@@ -148,10 +148,8 @@ fn note_code<const WORDS: usize, const REGS: usize>(
     let Some(slot) = registers.live_for(block) else {
         return;
     };
-    let Some(field) = registers.field(slot, i) else {
+    let Some(_code) = registers.missing_code(slot, i) else {
         return;
     };
-    if !field.processed {
-        registers.note_store(slot, i, lanes);
-    }
+    registers.note_store(slot, i, lanes);
 }

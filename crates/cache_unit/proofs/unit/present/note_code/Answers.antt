@@ -1,15 +1,19 @@
-use Rattle.std.proofs.Common.{◌≡◌, ◌<◌, ◌&&◌, not, Bool, true, false, length, ap, sym, ◌∙◌, arith, lit<, refl}
-use Rattle.std.proofs.lemmas.Bool.{false≢true, not-true}
-use Rattle.std.proofs.lemmas.Option.{same_Some}
+use Rattle.std.proofs.Common.{◌≡◌, ◌<◌, ◌&&◌, not, if◌then◌else◌, Bool, true, false, length, set, ap, sym, ◌∙◌, arith, lit<, refl}
+use Rattle.std.proofs.lemmas.Bool.{false≢true}
 use Rattle.miss_registers.specs.Registers as regs
-use Rattle.miss_registers.specs.declared.FieldView.{FieldView}
+use Rattle.cache_unit.specs.Parts.{noted_for}
 use Rattle.cache_unit.proofs.Same.{live_for-some}
-use Rattle.cache_unit.proofs.Present.{view_there}
+use Rattle.cache_unit.proofs.Present.{missing_parts, none_missing}
 use Rattle.cache_unit.proofs.unit.present.note_code.Goals as goal
 
 valid_by : (v o : Bool) → (v && not o) ≡ true → v ≡ true
 valid_by true o e = refl
 valid_by false o e = absurd (false≢true e)
+
+pub missing_code-requires : goal.missing_code-requires
+missing_code-requires g c =
+    let p = live_for-some c.args.registers.now c.args.block c.in-Some.slot (sym c.in-Some.ensures.answer) in
+    (lit< tt, p.0)
 
 pub note_store-requires : goal.note_store-requires
 note_store-requires g c =
@@ -18,6 +22,21 @@ note_store-requires g c =
     let v = valid_by (regs.register_at rs c.in-Some.slot).valid (regs.register_at rs c.in-Some.slot).obsolete p.1 in
     let n = (c.requires.whole.each c.in-Some.slot).fields_there v in
     let there : c.args.i < length (regs.register_at rs c.in-Some.slot).fields = omega (arith, c.requires.there) in
-    let e = same_Some _ _ (c.in-Some-field.ensures.answer ∙ view_there g.row.WORDS rs c.in-Some.slot c.args.i p.0 c.requires.there) in
-    let processed = sym (ap (λ (f : FieldView). f.processed) e) ∙ not-true c.in-Some-field.field.processed c.if-not-field.true in
-    (lit< tt, (p.0, (p.1, (there, processed))))
+    let e = missing_parts (regs.field_at rs c.in-Some.slot c.args.i) _ (sym c.in-Some-missing_code.ensures) in
+    (lit< tt, (p.0, (p.1, (there, e.0))))
+
+pub returns-in_default-missing_code-clause-noted : goal.returns-in_default-missing_code-clause-noted
+returns-in_default-missing_code-clause-noted g c =
+    let rs = c.args.registers.now in
+    let slot = c.in-Some.slot in
+    let done = none_missing (regs.field_at rs slot c.args.i) (sym c.missing_code.ensures ∙ c.in_default-missing_code.is) in
+    let noted = set rs slot (regs.noted (regs.register_at rs slot) c.args.i c.args.lanes) in
+    sym (ap (λ o. noted_for rs o c.args.i c.args.lanes) (sym c.in-Some.ensures.answer) ∙ ap (λ b. if b then rs else noted) done)
+
+pub returns-clause-noted : goal.returns-clause-noted
+returns-clause-noted g c =
+    let rs = c.args.registers.now in
+    let slot = c.in-Some.slot in
+    let e = missing_parts (regs.field_at rs slot c.args.i) _ (sym c.in-Some-missing_code.ensures) in
+    let noted = set rs slot (regs.noted (regs.register_at rs slot) c.args.i c.args.lanes) in
+    c.note_store.ensures.registers ∙ sym (ap (λ o. noted_for rs o c.args.i c.args.lanes) (sym c.in-Some.ensures.answer) ∙ ap (λ b. if b then rs else noted) e.0)
