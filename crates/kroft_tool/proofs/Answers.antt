@@ -1,12 +1,12 @@
 -- The answers about a shape file that are not for want of memory.
-use Rattle.std.proofs.Common.{◌≡◌, ◌≢◌, ℕ, ℤ, Bool, true, false, ◌&&◌, ◌==◌, nat_le, ◌+◌, ◌-◌, ◌/◌, ◌%◌, pos, negsuc, cond, Result, Ok, Err, Option, Some, None, refl, ap, codes}
+use Rattle.std.proofs.Common.{◌≡◌, ◌≢◌, ℕ, ℤ, Bool, true, false, cond, Result, Ok, Err, Option, Some, None, refl, ap, codes}
 use Rattle.flat_model.specs.declared.ShapeField.{ShapeField}
 use Rattle.flat_model.specs.declared.ShapeField.TheVariants.{Ways, Regs, Words, Sets, Banks, BankQueue, WriteQueue, Replies}
 use Rattle.toml.specs.Data.{Members, no_members}
 use Rattle.kroft_tool.specs.declared.shape_file.ShapeFault.{ShapeFault}
 use Rattle.kroft_tool.specs.declared.shape_file.ShapeFault.TheVariants.{NotToml, UnknownKey, NotWhole, BadShape, OutOfMemory}
 use Rattle.kroft_tool.specs.declared.shape_file.Numbers.{Numbers}
-use Rattle.kroft_tool.specs.ShapeFile.{and_then, integer_at, whole, numbers_of, ranged, kept, is_register_count, shape_of, has_other_key, table_says, default_shape}
+use Rattle.kroft_tool.specs.ShapeFile.{and_then, integer_at, whole, numbers_of, bad_field, shape_said, or_bad, shape_of, has_other_key, table_says, default_shape}
 
 -- whether an answer is not for want of memory
 abbrev pub has_room : {A : Type 0} → Result A ShapeFault → Bool
@@ -27,14 +27,6 @@ whole_room e n None = refl
 whole_room e n (Some (Some z)) = refl
 whole_room e n (Some None) = refl
 
-kept_room : (e : ShapeField) (good : Bool) (n : ℕ) → has_room (kept e good n) ≡ true
-kept_room e true n = refl
-kept_room e false n = refl
-
-ranged_room : (e : ShapeField) (z : ℤ) (low high : ℕ) → has_room (ranged e z low high) ≡ true
-ranged_room e (pos n) low high = kept_room e (nat_le low n && nat_le n high) n
-ranged_room e (negsuc n) low high = refl
-
 numbers_room : (ms : Members) → has_room (numbers_of ms) ≡ true
 numbers_room ms =
     then_room _ _ (whole_room Ways default_shape.ways (integer_at (codes "ways") ms)) (λ ways.
@@ -47,17 +39,11 @@ numbers_room ms =
     then_room _ _ (whole_room Replies default_shape.shape.replies (integer_at (codes "replies") ms)) (λ replies. refl))))))))
 
 shape_room : (n : Numbers) → has_room (shape_of n) ≡ true
-shape_room n =
-    then_room _ _ (ranged_room Ways n.ways 1 2) (λ ways.
-    then_room _ _ (ranged_room Regs n.regs 1 8) (λ number.
-    then_room _ _ (kept_room Regs (is_register_count number) number) (λ regs.
-    then_room _ _ (ranged_room Words n.words 1 1048576) (λ number.
-    then_room _ _ (kept_room Words (number % 4 == 0) number) (λ words.
-    then_room _ _ (ranged_room Sets n.sets 1 1024) (λ sets.
-    then_room _ _ (ranged_room Banks n.banks 1 16) (λ banks.
-    then_room _ _ (ranged_room BankQueue n.bank_queue ((4 + banks - 1) / banks) 64) (λ bank_queue.
-    then_room _ _ (ranged_room WriteQueue n.write_queue 4 256) (λ write_queue.
-    then_room _ _ (ranged_room Replies n.replies 1 64) (λ replies. refl))))))))))
+shape_room n = go (bad_field (shape_said n))
+  where
+    go : (o : Option ShapeField) → has_room (or_bad (shape_said n) o) ≡ true
+    go None = refl
+    go (Some field) = refl
 
 pub table_room : (ms : Members) → has_room (table_says ms) ≡ true
 table_room ms = go (has_other_key ms)

@@ -19,7 +19,7 @@ use Rattle.std.specs.List.{list_all}
 use Rattle.std.proofs.lemmas.Bool.{and_parts}
 use Rattle.machine_core.specs.Pump.{pumped, weight, when, first_event, has_items, lowest}
 use Rattle.machine_core.specs.Sound.{IsSound, IsBounded}
-use Rattle.machine_core.proofs.Contract.{sound_apply, bounded_apply, flat_apply, pumped_lowers, pumped_rests, bound_at_rest}
+use Rattle.machine_core.proofs.Contract.{sound_apply, bounded_apply, flat_apply, pumped_lowers, pumped_rests, pumped_at_rest, bound_at_rest}
 use Rattle.machine_core.proofs.Requests.{mem_length}
 use Rattle.kroft_tool.specs.declared.row.Row.{Row}
 use Rattle.kroft_tool.specs.Sweep.{Course, course, answered, after, after_some, pump_tells, pump_leaves, with_pump, with_pumped, pump_once, is_end, with_end, ask, ends, stall, pump_and_wait, ask_again, serve, serve_all, pump_times, run_dry, is_request, is_load, loads_between, accepted_loads, empty_row, row_from}
@@ -514,8 +514,8 @@ all_sizes : (events : List Event) (c : Course) → (serve_all events c).state.si
 all_sizes [] c = refl
 all_sizes (event ∷ events) c = all_sizes events (serve event c) ∙ serve_sizes event c
 
--- each request is counted once, and each accepted load has its value
-pub row_counts : (s : MachineState) (regs : ℕ) (events : List Event) → Good s → 0 < s.sizes.words → ((tag : ℕ) → is_some (due_of s tag) ≡ false) → list_all is_request events ≡ true → ((row_from s regs events).accepted + (row_from s regs events).denied ≡ length events) × ((row_from s regs events).values ≡ accepted_loads events (course s (empty_row regs)))
+-- each request is counted once, each accepted load has its value, and nothing is left to do
+pub row_counts : (s : MachineState) (regs : ℕ) (events : List Event) → Good s → 0 < s.sizes.words → ((tag : ℕ) → is_some (due_of s tag) ≡ false) → list_all is_request events ≡ true → ((row_from s regs events).accepted + (row_from s regs events).denied ≡ length events) × ((row_from s regs events).values ≡ accepted_loads events (course s (empty_row regs))) × (pump_tells (run_dry (serve_all events (course s (empty_row regs)))).state ≡ None)
 row_counts s regs events g words none r =
     let begin = course s (empty_row regs) in
     let nothing : Owing (due_of s) [] = record { apart = tt; owed = none } in
@@ -530,4 +530,7 @@ row_counts s regs events g words none r =
     let paid = all_paid (due_of last.state) k.tags k.owes (owes_nothing last.state k.good some dried.1) in
     let ends = k.ends in
     let values = k.paid in
-    (omega (arith, ends), omega (arith, paid, values))
+    let z = last.state.sizes in
+    let rests = pumped_at_rest z k.good.lawful k.good.roomy last.state.machine k.good.sound dried.1 in
+    let left : pump_tells last.state ≡ None = ap (option_map (λ event. (event, answered last.state event))) rests in
+    (omega (arith, ends), omega (arith, paid, values), left)

@@ -1,8 +1,8 @@
 -- A shape whose fields are in range makes a machine that keeps what machines keep.
-use Rattle.std.proofs.Common.{◌≡◌, ℕ, ◌+◌, ◌-◌, ◌/◌, ◌%◌, ◌*◌, ◌<◌, ◌≤◌, Bool, true, false, ◌&&◌, ◌==◌, not, cond, List, length, replicate, Option, Some, None, is_some, refl, sym, ap, ap₂, ◌∙◌, arith}
+use Rattle.std.proofs.Common.{◌≡◌, ℕ, ◌+◌, ◌-◌, ◌/◌, ◌%◌, ◌*◌, ◌<◌, ◌≤◌, Bool, true, false, ◌&&◌, ◌==◌, not, cond, List, length, map, get_or, replicate, Option, Some, None, is_some, Result, Ok, Err, IfOk, Vec, Global, refl, sym, ap, ap₂, subst, ◌∙◌, arith}
 use Rattle.std.specs.List.{list_all}
 use Rattle.std.proofs.lemmas.Grind.{common_steps}
-use Rattle.std.proofs.lemmas.List.{length-replicate}
+use Rattle.std.proofs.lemmas.List.{length-replicate, get_or-map}
 use Rattle.std.proofs.lemmas.Nat.{div-add-mod'}
 use Rattle.std.proofs.Math.Nat.{mod-lt, mul-le-mul_right}
 use Rattle.std.proofs.lemmas.Bool.{and_parts}
@@ -19,9 +19,12 @@ use Rattle.machine_core.specs.Machine.{MachineState, opening}
 use Rattle.machine_core.specs.Law.{IsLawful, HasRoom}
 use Rattle.machine_core.proofs.Contract.{sound_opening, bounded_opening, flat_opening}
 use Rattle.kroft_tool.specs.declared.shape_file.ToolShape.{ToolShape}
-use Rattle.kroft_tool.specs.ShapeFile.{is_register_count}
-use Rattle.kroft_tool.specs.Sweep.{sizes_of, new_machine, bad_field, row_of, CountsAll, is_request}
+use Rattle.kroft_tool.specs.declared.row.Row.{Row}
+use Rattle.kroft_tool.specs.declared.sweep.SweepFault.{SweepFault}
+use Rattle.kroft_tool.specs.ShapeFile.{is_register_count, sizes_of, bad_field}
+use Rattle.kroft_tool.specs.Sweep.{new_machine, row_of, CountsAll, EachCountsAll, is_request, bad_from}
 use Rattle.kroft_tool.proofs.Ending.{Good, row_counts}
+use Rattle.kroft_tool.proofs.Shapes.{good_shape}
 
 good : (b : Bool) (field : ShapeField) (rest : Option ShapeField) → cond (not b) (Some field) rest ≡ None → (b ≡ true) × (rest ≡ None)
 good true field rest h = (refl, h)
@@ -122,7 +125,14 @@ counts_all t events h r =
     let opened = flat_opening (sizes_of t) (lawful t range) (replicate t.shape.words zero_word) (zeros_fit t) in
     let words = range.words.0 in
     let counts = row_counts (new_machine t) t.regs events (good_machine t range) (omega (arith, words)) (λ tag. ap (λ f. is_some (f.due tag)) opened) r in
-    record { each_ends = counts.0; each_is_paid = counts.1 }
+    record { each_ends = counts.0; each_is_paid = counts.1; nothing_left = counts.2 }
+
+-- the rows of such shapes count all requests
+pub rows_count_all : (events : List Event) (ts : List ToolShape) (r : Result (Vec Row Global) SweepFault) → bad_from 0 ts ≡ None → IfOk r (λ rows. rows.items ≡ map (row_of events) ts) → IfOk r (λ rows. list_all is_request events ≡ true → EachCountsAll events ts rows.items)
+rows_count_all events ts (Err e) good said = tt
+rows_count_all events ts (Ok rows) good said = λ requests i t row inside.
+    let each = ap (λ xs. get_or xs i row) said ∙ get_or-map (row_of events) ts i t row inside in
+    subst (CountsAll events (get_or ts i t)) (sym each) (counts_all (get_or ts i t) events (good_shape ts 0 i t good inside) requests)
 
 -- a machine that is made over zeros is the new machine of its shape
 pub made : (t : ToolShape) (ways regs : ℕ) (image : List Word) (m : MachineState) → t.ways ≡ ways → t.regs ≡ regs → image ≡ replicate t.shape.words zero_word → m ≡ record { sizes = shown.sizes_of ways 4 regs 4 t.shape; machine = opening (shown.sizes_of ways 4 regs 4 t.shape) image } → m ≡ new_machine t

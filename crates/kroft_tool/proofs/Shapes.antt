@@ -8,7 +8,8 @@ use Rattle.kroft_tool.specs.declared.shape_file.ToolShape.{ToolShape}
 use Rattle.kroft_tool.specs.declared.row.Row.{Row}
 use Rattle.kroft_tool.specs.declared.sweep.Stop.{Stop}
 use Rattle.kroft_tool.specs.declared.sweep.SweepFault.{SweepFault}
-use Rattle.kroft_tool.specs.Sweep.{bad_field, bad_from, row_of}
+use Rattle.kroft_tool.specs.ShapeFile.{bad_field}
+use Rattle.kroft_tool.specs.Sweep.{bad_from, row_of}
 
 not_none : {X : Type 0} {x : X} → Some x ≡ None → ⊥
 not_none h = cc

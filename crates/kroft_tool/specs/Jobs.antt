@@ -1,5 +1,5 @@
 -- What the program does, and how it ends.
-use Rattle.std.specs.Prelude.{ℕ, List, [], ◌∷◌, ◌++◌, map, codes, decimal}
+use Rattle.std.specs.Prelude.{ℕ, Option, Some, None, List, [], ◌∷◌, ◌++◌, map, codes, decimal}
 use Rattle.trace_text.specs.declared.check.CheckEnd.{CheckEnd}
 use Rattle.trace_text.specs.declared.check.CheckEnd.TheVariants.{Flat, Mismatch}
 use Rattle.trace_text.specs.declared.fault.TraceFault.{TraceFault}
@@ -7,6 +7,7 @@ use Rattle.trace_text.specs.declared.fault.TraceFault.TheVariants as trace
 use Rattle.kroft_tool.specs.declared.shape_file.ToolShape.{ToolShape}
 use Rattle.kroft_tool.specs.declared.shape_file.ShapeFault.{ShapeFault}
 use Rattle.kroft_tool.specs.declared.shape_file.ShapeFault.TheVariants as shape
+use Rattle.kroft_tool.specs.ShapeFile.{fault_text as shape_text}
 use Rattle.kroft_tool.specs.declared.sweep.SweepFault.{SweepFault}
 use Rattle.kroft_tool.specs.declared.sweep.SweepFault.TheVariants as sweep
 use Rattle.kroft_tool.specs.declared.fault.ToolFault.{ToolFault}
@@ -37,6 +38,15 @@ status_of (Shape fault) = 3
 status_of (Trace fault) = 4
 status_of TurnLimit = 5
 status_of OutOfMemory = 5
+
+-- what is told of a fault, but for what clap and the fault of a trace say of themselves
+abbrev pub fault_text : ToolFault → Option (List ℕ)
+fault_text (CommandLine error) = None
+fault_text ShapeUnreadable = Some (codes "shape: file not readable")
+fault_text (Shape fault) = Some (shape_text fault)
+fault_text (Trace fault) = None
+fault_text TurnLimit = Some (codes "turn limit")
+fault_text OutOfMemory = Some (codes "out of memory")
 
 -- want of memory is told alike, wherever it was found
 abbrev pub of_shape : ShapeFault → ToolFault

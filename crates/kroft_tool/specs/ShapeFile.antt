@@ -1,13 +1,17 @@
 -- What a shape file says: the answer for every text that TOML's grammar takes.
-use Rattle.std.specs.Prelude.{ℕ, ℤ, pos, negsuc, Bool, false, ◌&&◌, ◌||◌, not, if◌then◌else◌, ◌==◌, ◌+◌, ◌-◌, ◌/◌, ◌%◌, nat_le, List, Option, Some, None, Result, Ok, Err, codes}
+use Rattle.std.specs.Prelude.{ℕ, ℤ, pos, negsuc, Bool, false, ◌||◌, not, if◌then◌else◌, ◌==◌, ◌-◌, ◌^◌, nat_lt, List, ◌++◌, Option, Some, None, Result, Ok, Err, codes}
 use Rattle.std.specs.Option.{option_map}
 use Rattle.std.specs.Str.{bytes_eq}
 use Rattle.toml.specs.Data.{Members, no_members, member, get_member, as_integer}
 use Rattle.flat_model.specs.declared.ShapeField.{ShapeField}
-use Rattle.flat_model.specs.declared.ShapeField.TheVariants.{Ways, Regs, Words, Sets, Banks, BankQueue, WriteQueue, Replies}
+use Rattle.flat_model.specs.declared.ShapeField.TheVariants.{Ways, Regs, Words, Sets, Banks, BankQueue, WriteQueue, Replies, BlockWords, Depth, Ports, Journal, Image}
+use Rattle.flat_model.specs.Ranges.{is_between}
+use Rattle.cache_unit.specs.State.{Sizes}
+use Rattle.cache_unit.specs.Shown as shown
+use Rattle.cache_unit.specs.Limits.{bad_number}
 use Rattle.kroft_tool.specs.declared.shape_file.ToolShape.{ToolShape}
 use Rattle.kroft_tool.specs.declared.shape_file.ShapeFault.{ShapeFault}
-use Rattle.kroft_tool.specs.declared.shape_file.ShapeFault.TheVariants.{NotToml, UnknownKey, NotWhole, BadShape}
+use Rattle.kroft_tool.specs.declared.shape_file.ShapeFault.TheVariants.{NotToml, UnknownKey, NotWhole, BadShape, OutOfMemory}
 use Rattle.kroft_tool.specs.declared.shape_file.Numbers.{Numbers}
 
 -- the shape of a file that names no key
@@ -52,33 +56,38 @@ numbers_of ms =
     and_then (whole Replies default_shape.shape.replies (integer_at (codes "replies") ms)) (λ replies.
     Ok (record { ways = ways; regs = regs; words = words; sets = sets; banks = banks; bank_queue = bank_queue; write_queue = write_queue; replies = replies })))))))))
 
--- a number between two others, these among them
-abbrev pub ranged : ShapeField → ℤ → ℕ → ℕ → Result ℕ ShapeFault
-ranged field (pos n) low high = if nat_le low n && nat_le n high then Ok n else Err (BadShape field)
-ranged field (negsuc n) low high = Err (BadShape field)
-
--- a number that is good where this holds
-abbrev pub kept : ShapeField → Bool → ℕ → Result ℕ ShapeFault
-kept field good n = if good then Ok n else Err (BadShape field)
-
 -- the numbers of registers that there may be
 abbrev pub is_register_count : ℕ → Bool
 is_register_count n = (n == 1) || (n == 2) || (n == 4) || (n == 8)
 
--- the shape of the numbers, in the order in which they are judged
+-- the sizes of the machine of a shape: blocks of 4 words, an input stack of 4
+abbrev pub sizes_of : ToolShape → Sizes
+sizes_of t = shown.sizes_of t.ways 4 t.regs 4 t.shape
+
+-- the first field that is out of its range
+abbrev pub bad_field : ToolShape → Option ShapeField
+bad_field t =
+    if not (is_between t.ways 1 2) then Some Ways
+    else (if not (is_register_count t.regs) then Some Regs else bad_number (sizes_of t))
+
+-- a number as 32 bits have it; one that they haven't is out of every range, as the largest is
+abbrev pub fitted : ℤ → ℕ
+fitted (pos n) = if nat_lt n (2 ^ 32) then n else 2 ^ 32 - 1
+fitted (negsuc n) = 2 ^ 32 - 1
+
+-- the shape that the numbers say
+abbrev pub shape_said : Numbers → ToolShape
+shape_said n =
+    record { shape = record { words = fitted n.words; sets = fitted n.sets; banks = fitted n.banks; bank_queue = fitted n.bank_queue; write_queue = fitted n.write_queue; replies = fitted n.replies }; ways = fitted n.ways; regs = fitted n.regs }
+
+-- a shape without a bad field
+abbrev pub or_bad : ToolShape → Option ShapeField → Result ToolShape ShapeFault
+or_bad t None = Ok t
+or_bad t (Some field) = Err (BadShape field)
+
+-- the shape of the numbers, where each is in its range
 abbrev pub shape_of : Numbers → Result ToolShape ShapeFault
-shape_of n =
-    and_then (ranged Ways n.ways 1 2) (λ ways.
-    and_then (ranged Regs n.regs 1 8) (λ regs.
-    and_then (kept Regs (is_register_count regs) regs) (λ regs.
-    and_then (ranged Words n.words 1 1048576) (λ words.
-    and_then (kept Words (words % 4 == 0) words) (λ words.
-    and_then (ranged Sets n.sets 1 1024) (λ sets.
-    and_then (ranged Banks n.banks 1 16) (λ banks.
-    and_then (ranged BankQueue n.bank_queue ((4 + banks - 1) / banks) 64) (λ bank_queue.
-    and_then (ranged WriteQueue n.write_queue 4 256) (λ write_queue.
-    and_then (ranged Replies n.replies 1 64) (λ replies.
-    Ok (record { shape = record { words = words; sets = sets; banks = banks; bank_queue = bank_queue; write_queue = write_queue; replies = replies }; ways = ways; regs = regs })))))))))))
+shape_of n = or_bad (shape_said n) (bad_field (shape_said n))
 
 -- what a table says
 abbrev pub table_says : Members → Result ToolShape ShapeFault
@@ -88,3 +97,28 @@ table_says ms = if has_other_key ms then Err UnknownKey else and_then (numbers_o
 abbrev pub text_says : Option Members → Result ToolShape ShapeFault
 text_says None = Err NotToml
 text_says (Some ms) = table_says ms
+
+-- ---- what is told of a fault
+
+-- the key of a field; the last five have none in a shape file
+abbrev pub key_of : ShapeField → List ℕ
+key_of Words = codes "words"
+key_of Sets = codes "sets"
+key_of Ways = codes "ways"
+key_of Regs = codes "regs"
+key_of Banks = codes "banks"
+key_of BankQueue = codes "bank_queue"
+key_of WriteQueue = codes "write_queue"
+key_of Replies = codes "replies"
+key_of BlockWords = codes "block_words"
+key_of Depth = codes "depth"
+key_of Ports = codes "ports"
+key_of Journal = codes "journal"
+key_of Image = codes "image"
+
+abbrev pub fault_text : ShapeFault → List ℕ
+fault_text NotToml = codes "shape: not TOML"
+fault_text UnknownKey = codes "shape: unknown key"
+fault_text (NotWhole field) = codes "shape: " ++ key_of field ++ codes " is not a whole number"
+fault_text (BadShape field) = codes "shape: " ++ key_of field ++ codes " out of range"
+fault_text OutOfMemory = codes "out of memory"

@@ -1,5 +1,5 @@
 -- What a sweep counts, over the walk of the machine.
-use Rattle.std.specs.Prelude.{⊤, ℕ, zero, suc, ◌≡◌, ◌+◌, ◌-◌, not, Bool, true, false, if◌then◌else◌, List, [], ◌∷◌, length, replicate, Option, Some, None}
+use Rattle.std.specs.Prelude.{⊤, ℕ, zero, suc, ◌≡◌, ◌<◌, ◌+◌, ◌-◌, Bool, true, false, if◌then◌else◌, List, [], ◌∷◌, ◌++◌, length, replicate, slice_index_or, codes, decimal, Option, Some, None}
 use Rattle.std.specs.Option.{option_map, option_or}
 use Rattle.flat_model.specs.declared.Cause.TheVariants.{OutOfRange, NoLanes, NotPresent}
 use Rattle.flat_model.specs.declared.Event.{Event}
@@ -7,19 +7,14 @@ use Rattle.flat_model.specs.declared.Event.TheVariants.{Load, Store, Prefetch, E
 use Rattle.flat_model.specs.declared.Answer.{Answer}
 use Rattle.flat_model.specs.declared.Answer.TheVariants.{Accepted, Value, Refused}
 use Rattle.flat_model.specs.declared.ShapeField.{ShapeField}
-use Rattle.flat_model.specs.declared.ShapeField.TheVariants.{Ways, Regs}
 use Rattle.flat_model.specs.Words.{zero_word}
-use Rattle.flat_model.specs.Ranges.{is_between}
-use Rattle.cache_unit.specs.State.{Sizes}
-use Rattle.cache_unit.specs.Shown as shown
-use Rattle.cache_unit.specs.Limits.{bad_number}
 use Rattle.machine_core.specs.Machine.{MachineState, apply, opening}
 use Rattle.machine_core.specs.Pump.{pumped, weight}
 use Rattle.kroft_tool.specs.declared.shape_file.ToolShape.{ToolShape}
 use Rattle.kroft_tool.specs.declared.row.Row.{Row}
 use Rattle.kroft_tool.specs.declared.sweep.SweepFault.{SweepFault}
 use Rattle.kroft_tool.specs.declared.sweep.SweepFault.TheVariants.{BadShape, TurnLimit, OutOfMemory}
-use Rattle.kroft_tool.specs.ShapeFile.{is_register_count}
+use Rattle.kroft_tool.specs.ShapeFile.{sizes_of, bad_field}
 
 -- ---- the machine, event by event
 
@@ -127,21 +122,12 @@ row_from s regs events = (run_dry (serve_all events (course s (empty_row regs)))
 
 -- ---- the row of a shape
 
-abbrev pub sizes_of : ToolShape → Sizes
-sizes_of t = shown.sizes_of t.ways 4 t.regs 4 t.shape
-
 -- a new machine of the shape, over zeros
 abbrev pub new_machine : ToolShape → MachineState
 new_machine t = record { sizes = sizes_of t; machine = opening (sizes_of t) (replicate t.shape.words zero_word) }
 
 abbrev pub row_of : List Event → ToolShape → Row
 row_of events t = row_from (new_machine t) t.regs events
-
--- the first field that is out of its range
-abbrev pub bad_field : ToolShape → Option ShapeField
-bad_field t =
-    if not (is_between t.ways 1 2) then Some Ways
-    else (if not (is_register_count t.regs) then Some Regs else bad_number (sizes_of t))
 
 -- ---- what a row counts
 
@@ -168,10 +154,36 @@ accepted_loads (event ∷ events) c = loads_between event c.row (serve event c).
 abbrev pub new_course : ToolShape → Course
 new_course t = course (new_machine t) (empty_row t.regs)
 
--- each request is counted once, as accepted or denied, and each accepted load has its value
+-- where the row of a shape ends
+abbrev pub end_of : List Event → ToolShape → Course
+end_of events t = run_dry (serve_all events (new_course t))
+
+-- each request is counted once, as accepted or denied, each accepted load has its value, and no pump
+-- finds anything left to do
 pub record CountsAll (events : List Event) (t : ToolShape) (row : Row) : Type 0 where
   pub each_ends : row.accepted + row.denied ≡ length events
   pub each_is_paid : row.values ≡ accepted_loads events (new_course t)
+  pub nothing_left : pump_tells (end_of events t).state ≡ None
+
+-- each row counts all requests of its shape
+abbrev pub EachCountsAll : List Event → List ToolShape → List Row → Type 0
+EachCountsAll events shapes rows =
+    (i : ℕ) (t : ToolShape) (row : Row) → i < length shapes → CountsAll events (slice_index_or shapes i t) (slice_index_or rows i row)
+
+-- a count behind its name
+abbrev pub count_text : List ℕ → ℕ → List ℕ
+count_text name n = codes " " ++ name ++ codes " " ++ decimal n
+
+abbrev pub requests_text : Row → List ℕ
+requests_text row = count_text (codes "accepted") row.accepted ++ count_text (codes "denied") row.denied ++ count_text (codes "stalled") row.stalled
+
+abbrev pub work_text : Row → List ℕ
+work_text row = count_text (codes "waited") row.waited ++ count_text (codes "pumps") row.pumps ++ count_text (codes "values") row.values
+
+-- a row as the program writes it
+abbrev pub row_text : Row → List ℕ
+row_text row =
+    codes "regs " ++ decimal row.regs ++ requests_text row ++ work_text row
 
 -- the first shape with a bad field, counted from a place on, and that field
 abbrev pub bad_from : ℕ → List ToolShape → Option (ℕ × ShapeField)

@@ -6,30 +6,44 @@ ghost use Rattle.kroft_tool.specs.Jobs.{status_of};
 use crate::shape_file::ShapeFault;
 use crate::sweep::SweepFault;
 use std::alloc::AllocError;
-use thiserror::Error;
+use std::error::Error;
+use std::fmt;
 use trace_text::TraceFault;
 
 /// Why the program ends without having done what it was asked for.
-#[derive(Debug, Drop, Error)]
+#[derive(Debug, Drop)]
 pub enum ToolFault {
     /// The words of the command line.
-    #[error("{0}")]
     CommandLine(clap::Error),
     /// The shape file can't be read, or isn't UTF-8.
-    #[error("shape: file not readable")]
     ShapeUnreadable,
     /// What the shape file says.
-    #[error("{0}")]
     Shape(ShapeFault),
     /// What the trace says, or a failed read or write.
-    #[error("{0}")]
     Trace(TraceFault),
     /// The thread of a sweep used up its turns.
-    #[error("turn limit")]
     TurnLimit,
     /// There was too little memory.
-    #[error("out of memory")]
     OutOfMemory,
+}
+
+impl Error for ToolFault {}
+
+impl fmt::Display for ToolFault {
+    ghost use Rattle.kroft_tool.specs.Jobs.{fault_text};
+
+    ghost output = { fault_text };
+
+    fn fmt<W: fmt::Write>(&self, f: &mut fmt::Formatter<W>) -> fmt::Result {
+        match self {
+            ToolFault::CommandLine(error) => write!(f, "{error}"),
+            ToolFault::ShapeUnreadable => f.write_str("shape: file not readable"),
+            ToolFault::Shape(fault) => write!(f, "{fault}"),
+            ToolFault::Trace(fault) => write!(f, "{fault}"),
+            ToolFault::TurnLimit => f.write_str("turn limit"),
+            ToolFault::OutOfMemory => f.write_str("out of memory"),
+        }
+    }
 }
 
 impl ToolFault {

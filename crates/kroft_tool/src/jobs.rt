@@ -1,26 +1,24 @@
 //! What the program does with a trace, for the shape that was read.
 
-ghost use Rattle.std.specs.Prelude.{◌≡◌, ◌≤◌, ℕ, List, None, Some, IfOk, IfErr, map, ◌++◌};
+ghost use Rattle.std.specs.Prelude.{⊤, ◌≡◌, ◌≤◌, ℕ, List, None, Some, IfOk, IfErr, map, ◌++◌};
 ghost use Rattle.machine_core.specs.Machine.{MachineState};
 ghost use Rattle.trace_text.specs.Reading.{ReadWhole, ReadFails};
 ghost use Rattle.trace_text.specs.Serving.{trace_fault, Ends};
 ghost use Rattle.trace_text.specs.Checks.{pair_fault, IsJudged};
 ghost use Rattle.trace_text.specs.Requests.{requests_of};
-ghost use Rattle.kroft_tool.specs.Sweep.{bad_field, new_machine, row_of};
+ghost use Rattle.kroft_tool.specs.ShapeFile.{bad_field};
+ghost use Rattle.kroft_tool.specs.Sweep.{new_machine, row_of};
 ghost use Rattle.kroft_tool.specs.Jobs.{swept, verdict_status, verdict_text};
 
+use crate::choice::{MachineJob, ServesText, with_machine};
 use crate::fault::ToolFault;
 use crate::row::Row;
 use crate::shape_file::ToolShape;
 use crate::sweep::{OpenGate, sweep};
-use flat_model::{MakeFault, Word};
-use machine_core::Machine;
 use std::alloc::Global;
 use std::fmt;
 use std::thread::Threads;
-use trace_text::{
-    CheckEnd, Counts, Sink, Source, TraceFault, check_text, read_requests, serve_text,
-};
+use trace_text::{CheckEnd, Counts, Sink, Source, TraceFault, check_text, read_requests};
 
 /// Turns of each thread of the program's sweep. Its gate is always open, so one is enough.
 pub const SWEEP_TURNS: u64 = 1_000_000;
@@ -38,38 +36,37 @@ pub fn serve<I: Source, O: Sink>(
         × Ends I.gave I.failed O.took O.refused O.unflushed input.old input.new output.old output.new
         (new_machine tool.now) after result }
 {
-    match (tool.ways, tool.regs) {
-        (1, 1) => serve_on::<1, 1, I, O>(alloc, tool, input, output),
-        (1, 2) => serve_on::<1, 2, I, O>(alloc, tool, input, output),
-        (1, 4) => serve_on::<1, 4, I, O>(alloc, tool, input, output),
-        (1, 8) => serve_on::<1, 8, I, O>(alloc, tool, input, output),
-        (2, 1) => serve_on::<2, 1, I, O>(alloc, tool, input, output),
-        (2, 2) => serve_on::<2, 2, I, O>(alloc, tool, input, output),
-        (2, 4) => serve_on::<2, 4, I, O>(alloc, tool, input, output),
-        (2, 8) => serve_on::<2, 8, I, O>(alloc, tool, input, output),
-        _ => unreachable!(),
-    }
+    let mut job = ServedTrace {
+        alloc,
+        input,
+        output,
+    };
+    with_machine(alloc, tool, &mut job)
 }
 
-// Serves a trace on a new machine with so many ways and registers.
-fn serve_on<const WAYS: usize, const REGS: usize, I: Source, O: Sink>(
+// The serving of a trace.
+#[derive(Drop)]
+struct ServedTrace<'a, I, O> {
     alloc: Global,
-    tool: &ToolShape,
-    input: &mut I,
-    output: &mut O,
-) -> Result<Counts, TraceFault>
-    requires shape { bad_field tool.now ≡ None }
-    requires ways { tool.now.ways ≡ WAYS }
-    requires regs { tool.now.regs ≡ REGS }
-    ensures { (after : MachineState)
-        × Ends I.gave I.failed O.took O.refused O.unflushed input.old input.new output.old output.new
-        (new_machine tool.now) after result }
-{
-    let image = vec![in alloc; Word::default(); tool.shape.words as usize]?;
-    match Machine::<WAYS, 4, REGS, 4>::new(alloc, tool.shape, image.as_slice()) {
-        Ok(mut machine) => serve_text(alloc, input, output, &mut machine),
-        Err(MakeFault::OutOfMemory) => Err(TraceFault::OutOfMemory),
-        Err(MakeFault::BadShape(_)) => unreachable!(),
+    input: &'a mut I,
+    output: &'a mut O,
+}
+
+impl<'a, I: Source, O: Sink> MachineJob for ServedTrace<'a, I, O> {
+    type Done = Result<Counts, TraceFault>;
+
+    ghost can = { λ s. ⊤ };
+
+    ghost done = { λ s machine t result. (after : MachineState) × Ends I.gave I.failed O.took O.refused O.unflushed s.input.now t.input.now s.output.now t.output.now machine after result };
+
+    ghost holds_same = { λ s t. (t.input.ghost_name ≡ s.input.ghost_name) × (t.output.ghost_name ≡ s.output.ghost_name) };
+
+    fn work<M: ServesText>(&mut self, machine: &mut M) -> Result<Counts, TraceFault> {
+        machine.serve_text(self.alloc, self.input, self.output)
+    }
+
+    fn give_up(&mut self) -> Result<Counts, TraceFault> {
+        Err(TraceFault::OutOfMemory)
     }
 }
 

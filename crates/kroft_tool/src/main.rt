@@ -1,8 +1,8 @@
 //! Reads a trace of a cache with several misses at a time, and writes what the machine answers.
 #![tactic(auto)]
 
+mod choice;
 mod command_line;
-mod driven;
 mod fault;
 mod jobs;
 mod row;
@@ -13,7 +13,7 @@ mod tests;
 mod tool;
 
 pub use row::Row;
-pub use shape_file::{BLOCK_WORDS, ShapeFault, ToolShape, read_shape, shape_of_table};
+pub use shape_file::{ShapeFault, ToolShape, read_shape, shape_of_table};
 use std::io::{BufWriter, Input, Print};
 use std::process::ExitCode;
 use std::rt::{Env, Files};

@@ -1,13 +1,14 @@
 //! One row of a sweep: a machine serves all requests, and what it took is counted.
 
-ghost use Rattle.std.specs.Prelude.{◌≡◌, ◌+◌, ◌*◌, ◌^◌, ◌<◌, ◌≤◌, length, true, List};
-ghost use Rattle.machine_core.specs.Machine.{MachineState};
+ghost use Rattle.std.specs.Prelude.{◌≡◌, ◌+◌, ◌*◌, ◌^◌, ◌<◌, ◌≤◌, length, true, Some};
+ghost use Rattle.std.specs.Fmt.{WritesOnOk};
 ghost use Rattle.machine_core.specs.Law.{most_weight};
 ghost use Rattle.machine_core.specs.Pump as driver;
 ghost use Rattle.kroft_tool.specs.Sweep as sweep;
 ghost use Rattle.kroft_tool.specs.Sweep.{course, total};
 
 use flat_model::{Answer, Cause, Event};
+use machine_core::AnyMachine;
 use std::fmt;
 
 /// What a sweep counted with one number of registers.
@@ -31,40 +32,41 @@ pub struct Row {
 }
 
 impl fmt::Display for Row {
+    ghost output = { λ row. Some (sweep.row_text row) };
+
     fn fmt<W: fmt::Write>(&self, f: &mut fmt::Formatter<W>) -> fmt::Result {
-        write!(
-            f,
-            "regs {} accepted {} denied {} stalled {} waited {} pumps {} values {}",
-            self.regs,
-            self.accepted,
-            self.denied,
-            self.stalled,
-            self.waited,
-            self.pumps,
-            self.values
-        )
+        write!(f, "regs {}", self.regs)?;
+        self.write_requests(f)?;
+        self.write_work(f)
     }
 }
 
-/// A machine that can be asked and pumped, whatever its numbers are.
-pub trait Driven {
-    // The state that it shows.
-    ghost state: { Self → MachineState };
-
-    fn apply(&mut self, event: Event) -> Answer
-        ensures answer { result ≡ sweep.answered (state self.old) event }
-        ensures after { state self.new ≡ sweep.after (state self.old) event };
-
-    fn pump(&mut self) -> Option<(Event, Answer)>
-        ensures told { result ≡ sweep.pump_tells (state self.old) }
-        ensures after { state self.new ≡ sweep.pump_leaves (state self.old) };
-
-    fn weight(&self) -> u64
-        ensures weight { result ≡ driver.weight (state self.now).machine }
-        ensures within { result ≤ most_weight (state self.now).sizes };
+// Writes a count behind its name.
+fn write_count<W: fmt::Write>(f: &mut fmt::Formatter<W>, name: &str, count: u64) -> fmt::Result
+    ensures { WritesOnOk W.write_str_gives f.old result (sweep.count_text name.now count) f.new }
+{
+    write!(f, " {name} {count}")
 }
 
 impl Row {
+    // Writes what became of the requests.
+    fn write_requests<W: fmt::Write>(&self, f: &mut fmt::Formatter<W>) -> fmt::Result
+        ensures { WritesOnOk W.write_str_gives f.old result (sweep.requests_text self.now) f.new }
+    {
+        write_count(f, "accepted", self.accepted)?;
+        write_count(f, "denied", self.denied)?;
+        write_count(f, "stalled", self.stalled)
+    }
+
+    // Writes what the machine did.
+    fn write_work<W: fmt::Write>(&self, f: &mut fmt::Formatter<W>) -> fmt::Result
+        ensures { WritesOnOk W.write_str_gives f.old result (sweep.work_text self.now) f.new }
+    {
+        write_count(f, "waited", self.waited)?;
+        write_count(f, "pumps", self.pumps)?;
+        write_count(f, "values", self.values)
+    }
+
     // Counts a pump by what it told.
     fn count_pump(&mut self, told: Option<(Event, Answer)>)
         requires { total self.old < 2 ^ 63 }
@@ -101,7 +103,8 @@ impl Row {
 }
 
 // Asks a request once, and says whether it ended.
-fn ask<M: Driven>(machine: &mut M, row: &mut Row, event: Event) -> bool
+#[tactic(auto, unfolding(machine_core::specs::AnyMachine::answered, machine_core::specs::AnyMachine::after_event))]
+fn ask<M: AnyMachine>(machine: &mut M, row: &mut Row, event: Event) -> bool
     requires { total row.old < 2 ^ 63 }
     ensures ends { result ≡ sweep.ends event (course (M.state machine.old) row.old) }
     ensures course { course (M.state machine.new) row.new
@@ -114,7 +117,8 @@ fn ask<M: Driven>(machine: &mut M, row: &mut Row, event: Event) -> bool
 }
 
 // Pumps once.
-fn pump_once<M: Driven>(machine: &mut M, row: &mut Row)
+#[tactic(auto, unfolding(machine_core::specs::AnyMachine::answered, machine_core::specs::AnyMachine::after_event, machine_core::specs::AnyMachine::pump_tells, machine_core::specs::AnyMachine::pump_leaves))]
+fn pump_once<M: AnyMachine>(machine: &mut M, row: &mut Row)
     requires { total row.old < 2 ^ 63 }
     ensures course { course (M.state machine.new) row.new
         ≡ sweep.pump_once (course (M.state machine.old) row.old) }
@@ -126,7 +130,7 @@ fn pump_once<M: Driven>(machine: &mut M, row: &mut Row)
 }
 
 // Asks a request again, after a pump each time, until it ends.
-fn ask_again<M: Driven>(machine: &mut M, row: &mut Row, event: Event)
+fn ask_again<M: AnyMachine>(machine: &mut M, row: &mut Row, event: Event)
     requires few { most_weight (M.state machine.old).sizes < 2 ^ 32 }
     requires room { total row.old < 2 ^ 62 }
     ensures sizes { (M.state machine.new).sizes ≡ (M.state machine.old).sizes }
@@ -145,7 +149,7 @@ fn ask_again<M: Driven>(machine: &mut M, row: &mut Row, event: Event)
 }
 
 // Serves a request to its end.
-fn serve<M: Driven>(machine: &mut M, row: &mut Row, event: Event)
+fn serve<M: AnyMachine>(machine: &mut M, row: &mut Row, event: Event)
     requires few { most_weight (M.state machine.old).sizes < 2 ^ 32 }
     requires room { total row.old < 2 ^ 61 }
     ensures sizes { (M.state machine.new).sizes ≡ (M.state machine.old).sizes }
@@ -160,7 +164,7 @@ fn serve<M: Driven>(machine: &mut M, row: &mut Row, event: Event)
 }
 
 // Pumps until there is nothing left to do.
-fn run_dry<M: Driven>(machine: &mut M, row: &mut Row)
+fn run_dry<M: AnyMachine>(machine: &mut M, row: &mut Row)
     requires few { most_weight (M.state machine.old).sizes < 2 ^ 32 }
     requires room { total row.old < 2 ^ 61 }
     ensures { course (M.state machine.new) row.new
@@ -172,7 +176,7 @@ fn run_dry<M: Driven>(machine: &mut M, row: &mut Row)
 }
 
 /// Serves all requests, and then pumps until there is nothing left to do.
-pub fn row_from<M: Driven>(machine: &mut M, regs: u32, events: &[Event]) -> Row
+pub fn row_from<M: AnyMachine>(machine: &mut M, regs: u32, events: &[Event]) -> Row
     requires few { most_weight (M.state machine.old).sizes < 2 ^ 32 }
     requires events { length events.now ≤ 16777216 }
     ensures { result ≡ sweep.row_from (M.state machine.old) regs events.now }

@@ -1,20 +1,18 @@
 //! The shape file: the numbers of a machine, as a TOML table.
 
-ghost use Rattle.std.specs.Prelude.{◌≡◌, ◌≢◌, ℕ, pos, ◌/◌, ◌+◌, ◌-◌, ◌<◌, ◌≤◌, Ok, Err, Some, option_map};
+ghost use Rattle.std.specs.Prelude.{◌≡◌, ◌≢◌, Err};
 ghost use Rattle.toml.specs.Data.{get_member};
 ghost use Rattle.toml.specs.Errors.{IsBlank};
 ghost use Rattle.toml.specs.Parse.{parse_document};
 ghost use Rattle.toml.specs.View.{table_view};
 ghost use Rattle.kroft_tool.specs.declared.shape_file.ShapeFault.TheVariants.{OutOfMemory};
-ghost use Rattle.kroft_tool.specs.ShapeFile.{is_key, has_other_key, integer_at, whole, numbers_of, ranged, kept, is_register_count, shape_of, table_says, text_says};
+ghost use Rattle.kroft_tool.specs.ShapeFile.{is_key, key_of, has_other_key, integer_at, whole, numbers_of, is_register_count, bad_field, fitted, shape_of, table_says, text_says};
 
 use flat_model::{Shape, ShapeField};
 use std::alloc::Global;
-use thiserror::Error;
+use std::error::Error;
+use std::fmt;
 use toml::Table;
-
-/// Words of a block in each machine of the program.
-pub const BLOCK_WORDS: u32 = 4;
 
 /// The shape of a machine that the program can make.
 #[derive(Clone, Copy, PartialEq, Eq, Debug)]
@@ -51,27 +49,45 @@ impl Default for ToolShape {
 }
 
 /// Why a shape file is refused.
-#[derive(Clone, Copy, PartialEq, Eq, Debug, Error)]
+#[derive(Clone, Copy, PartialEq, Eq, Debug)]
 pub enum ShapeFault {
     /// The text is no TOML.
-    #[error("shape: not TOML")]
     NotToml,
     /// The table has a key that no shape has.
-    #[error("shape: unknown key")]
     UnknownKey,
     /// What stands at the key is no whole number.
-    #[error("shape: {} is not a whole number", key_of(*.0))]
     NotWhole(ShapeField),
     /// The number at the key is out of its range.
-    #[error("shape: {} out of range", key_of(*.0))]
     BadShape(ShapeField),
     /// There was too little memory.
-    #[error("out of memory")]
     OutOfMemory,
 }
 
+impl Error for ShapeFault {}
+
+impl fmt::Display for ShapeFault {
+    ghost use Rattle.std.specs.Prelude.{Some};
+    ghost use Rattle.kroft_tool.specs.ShapeFile.{fault_text};
+
+    ghost output = { λ fault. Some (fault_text fault) };
+
+    fn fmt<W: fmt::Write>(&self, f: &mut fmt::Formatter<W>) -> fmt::Result {
+        match self {
+            ShapeFault::NotToml => f.write_str("shape: not TOML"),
+            ShapeFault::UnknownKey => f.write_str("shape: unknown key"),
+            ShapeFault::NotWhole(field) => {
+                write!(f, "shape: {} is not a whole number", key_of(*field))
+            }
+            ShapeFault::BadShape(field) => write!(f, "shape: {} out of range", key_of(*field)),
+            ShapeFault::OutOfMemory => f.write_str("out of memory"),
+        }
+    }
+}
+
 // The key of a number in a shape file. The last five have none there.
-fn key_of(field: ShapeField) -> &'static str {
+fn key_of(field: ShapeField) -> &'static str
+    ensures { result.now ≡ key_of field }
+{
     match field {
         ShapeField::Words => "words",
         ShapeField::Sets => "sets",
@@ -218,66 +234,58 @@ fn numbers_of(table: &Table) -> Result<Numbers, ShapeFault>
     })
 }
 
-// The number, where it lies between the first and the last, these among them.
-fn ranged(field: ShapeField, number: i64, first: u32, last: u32) -> Result<u32, ShapeFault>
-    ensures { result ≡ ranged field number first last }
-{
-    if (first as i64) <= number && number <= (last as i64) {
-        Ok(number as u32)
-    } else {
-        Err(ShapeFault::BadShape(field))
-    }
-}
-
-// The number, where it is good.
-fn kept(field: ShapeField, good: bool, number: u32) -> Result<u32, ShapeFault>
-    ensures { result ≡ kept field good number }
-{
-    if good {
-        Ok(number)
-    } else {
-        Err(ShapeFault::BadShape(field))
-    }
-}
-
 // Whether there may be so many registers.
-pub(crate) fn is_register_count(number: u32) -> bool
+fn is_register_count(number: u32) -> bool
     ensures { result ≡ is_register_count number }
 {
     number == 1 || number == 2 || number == 4 || number == 8
+}
+
+/// The first field of a shape that is out of its range: 1 or 2 ways, 1, 2, 4 or 8 registers, and
+/// the rest as every machine has them.
+pub(crate) fn bad_field(tool: &ToolShape) -> Option<ShapeField>
+    ensures { result ≡ bad_field tool.now }
+{
+    if tool.ways < 1 || tool.ways > 2 {
+        Some(ShapeField::Ways)
+    } else if !is_register_count(tool.regs) {
+        Some(ShapeField::Regs)
+    } else {
+        // The ranges of the rest depend on the words of a block alone.
+        cache_unit::bad_field::<1, 4, 1, 4>(&tool.shape)
+    }
+}
+
+// A number as 32 bits have it. One that they haven't is out of every range, as the largest is.
+fn fitted(number: i64) -> u32
+    ensures { result ≡ fitted number }
+{
+    if 0 <= number && number <= u32::MAX as i64 {
+        number as u32
+    } else {
+        u32::MAX
+    }
 }
 
 // The shape of these numbers. The first that is out of its range is refused.
 fn shape_of(numbers: &Numbers) -> Result<ToolShape, ShapeFault>
     ensures { result ≡ shape_of numbers.now }
 {
-    let ways = ranged(ShapeField::Ways, numbers.ways, 1, 2)?;
-    let regs = ranged(ShapeField::Regs, numbers.regs, 1, 8)?;
-    let regs = kept(ShapeField::Regs, is_register_count(regs), regs)?;
-    let words = ranged(ShapeField::Words, numbers.words, 1, 1_048_576)?;
-    let words = kept(ShapeField::Words, words % BLOCK_WORDS == 0, words)?;
-    let sets = ranged(ShapeField::Sets, numbers.sets, 1, 1024)?;
-    let banks = ranged(ShapeField::Banks, numbers.banks, 1, 16)?;
-    let bank_queue = ranged(
-        ShapeField::BankQueue,
-        numbers.bank_queue,
-        (BLOCK_WORDS + banks - 1) / banks,
-        64,
-    )?;
-    let write_queue = ranged(
-        ShapeField::WriteQueue,
-        numbers.write_queue,
-        BLOCK_WORDS,
-        256,
-    )?;
-    let replies = ranged(ShapeField::Replies, numbers.replies, 1, 64)?;
     let shape = Shape {
-        words,
-        sets,
-        banks,
-        bank_queue,
-        write_queue,
-        replies,
+        words: fitted(numbers.words),
+        sets: fitted(numbers.sets),
+        banks: fitted(numbers.banks),
+        bank_queue: fitted(numbers.bank_queue),
+        write_queue: fitted(numbers.write_queue),
+        replies: fitted(numbers.replies),
     };
-    Ok(ToolShape { shape, ways, regs })
+    let tool = ToolShape {
+        shape,
+        ways: fitted(numbers.ways),
+        regs: fitted(numbers.regs),
+    };
+    match bad_field(&tool) {
+        Some(field) => Err(ShapeFault::BadShape(field)),
+        None => Ok(tool),
+    }
 }

@@ -1,17 +1,19 @@
 //! Sweeps: one row for each shape, each by a thread of its own.
 
-ghost use Rattle.std.specs.Prelude.{◌≡◌, ◌≢◌, ◌∷◌, [], ℕ, ◌+◌, ◌≤◌, ◌<◌, length, map, Some, None, Result, Ok, Err, IfOk, IfErr, OnOk, OnErr, slice_index_or, true};
+ghost use Rattle.std.specs.Prelude.{⊤, ◌≡◌, ◌≢◌, ◌∷◌, [], ℕ, ◌+◌, ◌≤◌, ◌<◌, length, map, Some, None, Result, Ok, Err, IfOk, IfErr, OnOk, OnErr, slice_index_or, Contains, true};
 ghost use Rattle.std.specs.List.{list_all};
 ghost use Rattle.kroft_tool.specs.declared.row.Row.{Row};
 ghost use Rattle.kroft_tool.specs.declared.shape_file.ToolShape.{ToolShape};
 ghost use Rattle.kroft_tool.specs.declared.sweep.Stop.{Stop};
-ghost use Rattle.kroft_tool.specs.declared.sweep.SweepFault.TheVariants.{TurnLimit};
-ghost use Rattle.kroft_tool.specs.Sweep.{FaultSays, IsStop, CountsAll, is_request, bad_field, bad_from, row_of};
+ghost use Rattle.kroft_tool.specs.declared.sweep.Stop.TheVariants as stop;
+ghost use Rattle.kroft_tool.specs.declared.sweep.SweepFault.TheVariants.{TurnLimit, OutOfMemory};
+ghost use Rattle.kroft_tool.specs.ShapeFile.{bad_field};
+ghost use Rattle.kroft_tool.specs.Sweep.{FaultSays, IsStop, CountsAll, EachCountsAll, is_request, bad_from, row_from, row_of};
 
+use crate::choice::{MachineJob, ServesText, with_machine};
 use crate::row::{Row, row_from};
-use crate::shape_file::{BLOCK_WORDS, ToolShape, is_register_count};
-use flat_model::{Event, MakeFault, ShapeField, Word};
-use machine_core::Machine;
+use crate::shape_file::{ToolShape, bad_field};
+use flat_model::{Event, ShapeField};
 use std::alloc::{AllocError, Global};
 use std::thread;
 use std::thread::Threads;
@@ -64,20 +66,6 @@ impl SweepGate for OpenGate {
     fn ended(&self, _place: usize) {}
 }
 
-/// The first field of a shape that is out of its range.
-pub(crate) fn bad_field(tool: &ToolShape) -> Option<ShapeField>
-    ensures { result ≡ bad_field tool.now }
-{
-    if tool.ways < 1 || tool.ways > 2 {
-        Some(ShapeField::Ways)
-    } else if !is_register_count(tool.regs) {
-        Some(ShapeField::Regs)
-    } else {
-        // The ranges of the rest depend on the words of a block alone.
-        cache_unit::bad_field::<1, 4, 1, 4>(&tool.shape)
-    }
-}
-
 // The first shape with a bad field, and that field.
 fn first_bad(shapes: &[ToolShape]) -> Option<(usize, ShapeField)>
     ensures first { result ≡ bad_from 0 shapes.now }
@@ -98,36 +86,35 @@ fn row_of(alloc: Global, tool: &ToolShape, events: &[Event]) -> Result<Row, Allo
     requires shape { bad_field tool.now ≡ None }
     ensures { IfOk result (λ row. row ≡ row_of events.now tool.now) }
 {
-    match (tool.ways, tool.regs) {
-        (1, 1) => row_on::<1, 1>(alloc, tool, events),
-        (1, 2) => row_on::<1, 2>(alloc, tool, events),
-        (1, 4) => row_on::<1, 4>(alloc, tool, events),
-        (1, 8) => row_on::<1, 8>(alloc, tool, events),
-        (2, 1) => row_on::<2, 1>(alloc, tool, events),
-        (2, 2) => row_on::<2, 2>(alloc, tool, events),
-        (2, 4) => row_on::<2, 4>(alloc, tool, events),
-        (2, 8) => row_on::<2, 8>(alloc, tool, events),
-        _ => unreachable!(),
-    }
+    let mut job = CountedRow {
+        regs: tool.regs,
+        events,
+    };
+    with_machine(alloc, tool, &mut job)
 }
 
-// The row of a shape with so many ways and registers.
-fn row_on<const WAYS: usize, const REGS: usize>(
-    alloc: Global,
-    tool: &ToolShape,
-    events: &[Event],
-) -> Result<Row, AllocError>
-    requires events { length events.now ≤ 16777216 }
-    requires shape { bad_field tool.now ≡ None }
-    requires ways { tool.now.ways ≡ WAYS }
-    requires regs { tool.now.regs ≡ REGS }
-    ensures { IfOk result (λ row. row ≡ row_of events.now tool.now) }
-{
-    let image = vec![in alloc; Word::default(); tool.shape.words as usize]?;
-    match Machine::<WAYS, 4, REGS, 4>::new(alloc, tool.shape, image.as_slice()) {
-        Ok(mut machine) => Ok(row_from(&mut machine, tool.regs, events)),
-        Err(MakeFault::OutOfMemory) => Err(AllocError),
-        Err(MakeFault::BadShape(_)) => unreachable!(),
+// The row of these requests.
+#[derive(Clone, Copy)]
+struct CountedRow<'a> {
+    regs: u32,
+    events: &'a [Event],
+}
+
+impl MachineJob for CountedRow<'_> {
+    type Done = Result<Row, AllocError>;
+
+    ghost can = { λ s. length s.events.now ≤ 16777216 };
+
+    ghost done = { λ s machine t result. IfOk result (λ row. row ≡ row_from machine s.regs s.events.now) };
+
+    ghost holds_same = { λ s t. ⊤ };
+
+    fn work<M: ServesText>(&mut self, machine: &mut M) -> Result<Row, AllocError> {
+        Ok(row_from(machine, self.regs, self.events))
+    }
+
+    fn give_up(&mut self) -> Result<Row, AllocError> {
+        Err(AllocError)
     }
 }
 
@@ -172,7 +159,6 @@ fn row_in_turn<G: SweepGate>(
 /// evictions. `BadShape` names the first field that is out of its range, at place 0, before any
 /// memory is asked for; `OutOfMemory` says that there was too little memory for the machine.
 /// `TurnLimit` never comes: no thread waits here.
-#[tactic(auto, using(crate::proofs::Lawful::counts_all))]
 pub fn sweep_row(alloc: Global, shape: &ToolShape, events: &[Event]) -> Result<Row, SweepFault>
     requires { length events.now ≤ 16777216 }
     ensures row { IfOk result
@@ -192,6 +178,7 @@ pub fn sweep_row(alloc: Global, shape: &ToolShape, events: &[Event]) -> Result<R
 fn all_rows(alloc: Global, answers: &[Result<Row, Stop>]) -> Result<Vec<Row>, SweepFault>
     ensures rows { IfOk result (λ rows. map Ok rows.items ≡ answers.now) }
     ensures fault { IfErr result IsStop }
+    ensures memory { Contains answers.now (Err stop.OutOfMemory) → result ≡ Err OutOfMemory }
 {
     if answers.contains(&Err(Stop::OutOfMemory)) {
         return Err(SweepFault::OutOfMemory);
@@ -261,6 +248,8 @@ pub fn sweep<R: Threads + Sync, G: SweepGate>(
 ) -> Result<Vec<Row>, SweepFault>
     requires { length events.now ≤ 16777216 }
     ensures rows { IfOk result (λ rows. rows.items ≡ map (row_of events.now) shapes.now) }
+    ensures counts { IfOk result
+        (λ rows. list_all is_request events.now ≡ true → EachCountsAll events.now shapes.now rows.items) }
     ensures good { OnOk result (bad_from 0 shapes.now ≡ None) }
     ensures fault { IfErr result (FaultSays shapes.now) }
 {

@@ -6,5 +6,6 @@ mod program;
 mod refusals;
 mod shapes;
 mod sizes;
+mod stored;
 mod sweeps;
 mod turns;

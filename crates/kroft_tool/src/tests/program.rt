@@ -1,12 +1,12 @@
 //! The examples of the whole program, over texts.
 
+use super::stored::{STORED_INPUT, STORED_OUTPUT};
 use crate::tool::tool;
 use std::fs;
 use std::process::Abort;
 use std::rt::Files;
 use std::test::Fail;
 use std::thread::Threads;
-use worked_examples::{STORED_INPUT, STORED_OUTPUT};
 
 /// Asserts what the program writes and ends with, where these are its words and its input.
 fn ends<R: Abort + AllocGlobal + Files + Threads + Sync>(

@@ -2,6 +2,7 @@
 //! and nothing else, nothing has changed, and a second call gives the answer of its example. With
 //! memory, as in a whole run of the tests, the first call gives that answer.
 
+use super::stored::{STORED_INPUT, STORED_OUTPUT};
 use super::sweeps::{REQUESTS, row_of_three_loads, with_registers};
 use crate::shape_file::{ShapeFault, read_shape};
 use crate::sweep::{OpenGate, SweepFault, sweep, sweep_row};
@@ -9,7 +10,6 @@ use crate::tool::tool;
 use flat_model::ShapeField;
 use std::io::Cursor;
 use std::test::Fail;
-use worked_examples::{STORED_INPUT, STORED_OUTPUT};
 
 #[test]
 fn a_bad_shape_comes_before_memory(rt: HostRuntime) -> Result<(), Fail> {

@@ -1,29 +1,17 @@
-//! What the examples share: shapes, an image, and the machine of the small shape over it.
+//! What the examples share: a shape, an image, and the machine of the shape over it.
 
-use crate::SMALL_SHAPE;
 use flat_model::{MakeFault, Shape, Word};
 use machine_core::Machine;
 use std::alloc::{AllocError, Global};
-use trace_text::Counts;
 
-/// The program's own shape.
-pub const PROGRAM_SHAPE: Shape = Shape {
-    words: 64,
-    sets: 4,
-    banks: 4,
-    bank_queue: 8,
-    write_queue: 8,
-    replies: 8,
-};
-
-/// What serving the stored run counts.
-pub const STORED_COUNTS: Counts = Counts {
-    lines: 10,
-    accepted: 3,
-    moved: 3,
-    values: 2,
-    nothing: 0,
-    refused: 0,
+/// The shape of most examples: 32 words, 2 sets, 2 banks, and queues of 4.
+pub const SMALL_SHAPE: Shape = Shape {
+    words: 32,
+    sets: 2,
+    banks: 2,
+    bank_queue: 4,
+    write_queue: 4,
+    replies: 4,
 };
 
 /// Words whose first byte is their number.

@@ -1,8 +1,7 @@
 //! The examples of the machine, as the lines that it is told and answers.
 
-use super::fixture::{image, small_machine};
+use super::fixture::{SMALL_SHAPE, image, small_machine};
 use super::play::{ARRIVED, GOT, plays};
-use crate::SMALL_SHAPE;
 use flat_model::{Answer, Cause, Event, Lanes, Shape, Word};
 use machine_core::Machine;
 use std::alloc::{AllocError, Global};

@@ -1,7 +1,6 @@
 //! The examples of the parts: flat memory, the makers, and the cache unit over its banks.
 
-use super::fixture::{image, small_machine};
-use crate::SMALL_SHAPE;
+use super::fixture::{SMALL_SHAPE, image, small_machine};
 use cache_directory::{Choice, Directory};
 use cache_unit::{CacheUnit, Request};
 use flat_model::{

@@ -1,20 +1,22 @@
 use Rattle.std.proofs.Common.{◌<◌, ◌≤◌, sym, ap, ◌∙◌, arith}
+use Rattle.machine_core.specs.AnyMachine.{weight_of}
 use Rattle.kroft_tool.specs.Sweep.{course, ask_again}
 use Rattle.kroft_tool.proofs.Turns.{waited, turn_ends, turn_goes_on, no_turn_left}
 use Rattle.kroft_tool.proofs.row.ask_again.Goals as goal
 
 pub returns-then-ask-clause-course : goal.returns-then-ask-clause-course
+unfolding weight_of
 returns-then-ask-clause-course g c =
-    let here = course (g.M.Driven.state c.loop-turn.machine) c.loop-turn.row in
-    let pumped = waited (g.M.Driven.state c.loop-turn.machine) (g.M.Driven.state c.pump_once.new.machine) c.loop-turn.row c.pump_once.new.row c.pump_once.ensures.course in
+    let here = course (g.M.AnyMachine.state c.loop-turn.machine) c.loop-turn.row in
+    let pumped = waited (g.M.AnyMachine.state c.loop-turn.machine) (g.M.AnyMachine.state c.pump_once.new.machine) c.loop-turn.row c.pump_once.new.row c.pump_once.ensures.course in
     let turn : c.loop-turn._turn < c.weight-turn-end.result = c.loop-turn-test.true in
     let ended = turn_ends c.weight-turn-end.result c.loop-turn._turn c.args.event here _ _ pumped c.ask.ensures.course turn (sym c.ask.ensures.ends ∙ c.if-ask.true) in
-    sym ended ∙ sym c.loop-turn.invariant.0 ∙ ap (λ n. ask_again n c.args.event (course (g.M.Driven.state c.args.machine.now) c.args.row.now)) c.weight-turn-end.ensures.weight
+    sym ended ∙ sym c.loop-turn.invariant.0 ∙ ap (λ n. ask_again n c.args.event (course (g.M.AnyMachine.state c.args.machine.now) c.args.row.now)) c.weight-turn-end.ensures.weight
 
 pub loop-turn-preserved : goal.loop-turn-preserved
 loop-turn-preserved g c =
-    let here = course (g.M.Driven.state c.loop-turn.machine) c.loop-turn.row in
-    let pumped = waited (g.M.Driven.state c.loop-turn.machine) (g.M.Driven.state c.pump_once.new.machine) c.loop-turn.row c.pump_once.new.row c.pump_once.ensures.course in
+    let here = course (g.M.AnyMachine.state c.loop-turn.machine) c.loop-turn.row in
+    let pumped = waited (g.M.AnyMachine.state c.loop-turn.machine) (g.M.AnyMachine.state c.pump_once.new.machine) c.loop-turn.row c.pump_once.new.row c.pump_once.ensures.course in
     let turn : c.loop-turn._turn < c.weight-turn-end.result = c.loop-turn-test.true in
     let goes_on = turn_goes_on c.weight-turn-end.result c.loop-turn._turn c.args.event here _ _ pumped c.ask.ensures.course turn (sym c.ask.ensures.ends ∙ c.if-ask.false) in
     let before = c.loop-turn.invariant.1 in
@@ -23,7 +25,8 @@ loop-turn-preserved g c =
     (c.loop-turn.invariant.0 ∙ goes_on, omega (arith, before, pump, asked), c.ask.ensures.sizes ∙ c.pump_once.ensures.sizes ∙ c.loop-turn.invariant.2)
 
 pub returns-clause-course : goal.returns-clause-course
+unfolding weight_of
 returns-clause-course g c =
-    let here = course (g.M.Driven.state c.loop-turn.machine) c.loop-turn.row in
+    let here = course (g.M.AnyMachine.state c.loop-turn.machine) c.loop-turn.row in
     let over : c.weight-turn-end.result ≤ c.loop-turn._turn = omega (arith, c.loop-turn-test.false) in
-    sym (no_turn_left c.weight-turn-end.result c.loop-turn._turn c.args.event here over) ∙ sym c.loop-turn.invariant.0 ∙ ap (λ n. ask_again n c.args.event (course (g.M.Driven.state c.args.machine.now) c.args.row.now)) c.weight-turn-end.ensures.weight
+    sym (no_turn_left c.weight-turn-end.result c.loop-turn._turn c.args.event here over) ∙ sym c.loop-turn.invariant.0 ∙ ap (λ n. ask_again n c.args.event (course (g.M.AnyMachine.state c.args.machine.now) c.args.row.now)) c.weight-turn-end.ensures.weight

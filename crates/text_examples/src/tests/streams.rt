@@ -1,7 +1,6 @@
 //! The examples of lines, and of readers and writers that fail.
 
-use super::fixture::{PROGRAM_SHAPE, STORED_COUNTS};
-use crate::{STORED_INPUT, STORED_OUTPUT};
+use super::fixture::{STORED_COUNTS, STORED_INPUT, STORED_OUTPUT, default_machine};
 use flat_model::{Event, Lanes, Word};
 use machine_core::Machine;
 use std::alloc::Global;
@@ -12,12 +11,6 @@ use std::test::Fail;
 use trace_text::{
     CheckEnd, Line, LineFault, Pair, TraceFault, check_text, read_pair, read_requests, serve_text,
 };
-
-/// A machine of the program's default shape.
-pub fn default_machine(alloc: Global) -> Result<Machine<2, 4, 4, 4>, Fail> {
-    let image = vec![in alloc; Word::default(); 64]?;
-    Ok(Machine::new(alloc, PROGRAM_SHAPE, &image)?)
-}
 
 /// Gives its bytes, at most so many at a time, and then fails, or ends.
 #[derive(Drop)]

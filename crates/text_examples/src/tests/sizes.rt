@@ -1,6 +1,6 @@
 //! Each call that takes memory, once at its largest size, or over 200,000 items where it has none.
 
-use super::streams::default_machine;
+use super::fixture::default_machine;
 use cache_directory::Directory;
 use flat_model::{Answer, Event, FlatMemory, Shape, Word};
 use machine_core::Machine;

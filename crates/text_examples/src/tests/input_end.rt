@@ -1,6 +1,6 @@
 //! The first end of the input is the end, whatever a reader has behind it.
 
-use super::streams::default_machine;
+use super::fixture::default_machine;
 use std::io;
 use std::io::Read;
 use std::test::Fail;

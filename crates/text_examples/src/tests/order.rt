@@ -1,6 +1,6 @@
 //! The order in which a trace is read, and its answers are written and flushed.
 
-use super::streams::default_machine;
+use super::fixture::default_machine;
 use std::alloc::Global;
 use std::cell::RefCell;
 use std::io;

@@ -2,8 +2,7 @@
 //! answers want of memory and nothing else, nothing has changed, and a second call gives the answer of
 //! its example. With memory, as in a whole run of the tests, the first call gives that answer.
 
-use super::fixture::{PROGRAM_SHAPE, STORED_COUNTS};
-use crate::{SMALL_SHAPE, STORED_INPUT, STORED_OUTPUT};
+use super::fixture::{PROGRAM_SHAPE, SMALL_SHAPE, STORED_COUNTS, STORED_INPUT, STORED_OUTPUT};
 use cache_directory::Directory;
 use cache_unit::CacheUnit;
 use flat_model::{Answer, Event, FlatMemory, MakeFault, ReplayFault, ShapeField, Word};

@@ -1,0 +1,8 @@
+//! The examples, and what they share.
+
+mod fixture;
+mod input_end;
+mod order;
+mod refusals;
+mod sizes;
+mod streams;
