@@ -45,21 +45,6 @@ command_named name =
     else if same name (codes "settled") then Some command.Settled
     else None
 
--- the name of a command
-abbrev pub name_of : Command → List ℕ
-name_of command.Load = codes "load"
-name_of command.Store = codes "store"
-name_of command.Prefetch = codes "prefetch"
-name_of command.Evict = codes "evict"
-name_of command.Drain = codes "drain"
-name_of command.Serve = codes "serve"
-name_of command.Arrive = codes "arrive"
-name_of command.Process = codes "process"
-name_of command.Take = codes "take"
-name_of command.Register = codes "reg"
-name_of command.Bank = codes "bank"
-name_of command.Settled = codes "settled"
-
 -- ---- fields
 
 -- a number of 32 bits

@@ -1,8 +1,7 @@
 //! The lines of a trace.
-ghost use Rattle.std.specs.Prelude.{◌≡◌, ◌<◌, ◌++◌, ◌∷◌, length, ◌==◌, position, IfSome, IfErr};
+ghost use Rattle.std.specs.Prelude.{◌≡◌, ◌<◌, length, ◌==◌, position, IfSome, IfErr};
 ghost use Rattle.std.specs.Option.{option_map};
-ghost use Rattle.trace_text.specs.Codes.{space as space_code};
-ghost use Rattle.trace_text.specs.Lines.{IsSaid, name_of, or_field, line_of, ended_line_of, cut_of, command_named, one_number, bare as bare_line, load_of, store_of, arrive_of, line_from as line_made};
+ghost use Rattle.trace_text.specs.Lines.{IsSaid, line_of, ended_line_of, cut_of, command_named, one_number, bare as bare_line, load_of, store_of, arrive_of, line_from as line_made};
 
 use crate::fault::MAX_LINE;
 use crate::fields::{lanes, number, word};
@@ -177,45 +176,16 @@ fn line_from(command: Command, fields: Option<&[u8]>) -> Option<Line>
     }
 }
 
-// The command and the fields of a line that is told by its first bytes, as nearly every line of a
-// long trace is: that is faster than a search for the end of its name.
-fn frequent_command(text: &[u8]) -> Option<(Command, &[u8])>
-    ensures { IfSome result (λ found. text.now ≡ name_of found.0 ++ space_code ∷ found.1.now) }
-{
-    match text {
-        [b'l', b'o', b'a', b'd', b' ', fields @ ..] => Some((Command::Load, fields)),
-        [b's', b't', b'o', b'r', b'e', b' ', fields @ ..] => Some((Command::Store, fields)),
-        [b's', b'e', b'r', b'v', b'e', b' ', fields @ ..] => Some((Command::Serve, fields)),
-        [b'a', b'r', b'r', b'i', b'v', b'e', b' ', fields @ ..] => Some((Command::Arrive, fields)),
-        [b'p', b'r', b'o', b'c', b'e', b's', b's', b' ', fields @ ..] => {
-            Some((Command::Process, fields))
-        }
-        [b't', b'a', b'k', b'e', b' ', fields @ ..] => Some((Command::Take, fields)),
-        _ => None,
-    }
-}
-
-// What a line says that has this command and these fields.
-fn said_with(command: Command, fields: Option<&[u8]>) -> Result<Line, LineFault>
-    ensures said { result ≡ or_field (line_made command (option_map (λ rest. rest.now) fields.entry)) }
-    ensures fault { IfErr result IsSaid }
-{
-    line_from(command, fields).ok_or(LineFault::Field)
-}
-
 // What a line says, without its LF.
 #[tactic(auto, unfolding(crate::specs::Lines::line_of))]
 pub fn line_said(text: &[u8]) -> Result<Line, LineFault>
     ensures said { result ≡ line_of text.now }
     ensures fault { IfErr result IsSaid }
 {
-    if let Some(found) = frequent_command(text) {
-        return said_with(found.0, Some(found.1));
-    }
     let (name, fields) = cut(text);
     match named_command(name) {
         None => Err(LineFault::Unknown),
-        Some(command) => said_with(command, fields),
+        Some(command) => line_from(command, fields).ok_or(LineFault::Field),
     }
 }
 
