@@ -2,6 +2,7 @@
 ghost use Rattle.std.specs.Prelude.{◌≡◌, ◌≤◌, length, IfOk};
 ghost use Rattle.station_parts.specs.declared.parts.Audit.TheVariants.{Clean};
 ghost use Rattle.station_parts.specs.Promises.{IsFlatRun, PaysLoads};
+ghost use Rattle.station_parts.specs.Runs.{AreAnswered};
 ghost use Rattle.station_parts.specs.Words.{journal_of, sizes_in};
 
 use super::*;
@@ -15,8 +16,8 @@ struct Audited {
     found: Audit,
 }
 
-// Runs a new station and audits it. Its journal is a run of flat memory, and after a clean audit each
-// accepted load has its value there.
+// Runs a new station and audits it. Its journal is a run of flat memory, each list is what the
+// journal tells its port, and after a clean audit each accepted load has its value there.
 fn run_and_audit<R: Threads + Sync, G: Gate>(
     rt: &R,
     alloc: Global,
@@ -26,6 +27,8 @@ fn run_and_audit<R: Threads + Sync, G: Gate>(
     requires { length scripts.now ≡ 2 }
     ensures flat { IfOk result
         (λ run. IsFlatRun (sizes_in run.station.cache) (journal_of run.station.cache)) }
+    ensures answered { IfOk result
+        (λ run. AreAnswered run.found (journal_of run.station.cache) run.lists.items) }
     ensures paid { IfOk result (λ run. run.found ≡ Clean
         → PaysLoads (sizes_in run.station.cache) (journal_of run.station.cache)) }
 {
