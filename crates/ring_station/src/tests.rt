@@ -8,6 +8,7 @@ use std::process::Abort;
 use std::test::Fail;
 
 mod at_once;
+mod audited;
 mod limits;
 mod on_threads;
 mod refusals;

@@ -1,0 +1,64 @@
+//! What a caller knows of a run and the audit behind it, by their contracts alone.
+ghost use Rattle.std.specs.Prelude.{◌≡◌, ◌≤◌, length, IfOk};
+ghost use Rattle.station_parts.specs.declared.parts.Audit.TheVariants.{Clean};
+ghost use Rattle.station_parts.specs.Promises.{IsFlatRun, PaysLoads};
+ghost use Rattle.station_parts.specs.Runs.{AreAnswered};
+ghost use Rattle.station_parts.specs.Words.{journal_of, sizes_in};
+
+use super::*;
+use std::thread::Threads;
+
+// A station after a run, what its ports took, and what an audit then found.
+#[derive(Drop)]
+struct Audited {
+    station: Tested,
+    lists: Vec<Vec<Told>>,
+    found: Audit,
+}
+
+// Runs a new station and audits it. Its journal is a run of flat memory, each list is what the
+// journal tells its port, and after a clean audit each accepted load has its value there.
+fn run_and_audit<R: Threads + Sync, G: Gate>(
+    rt: &R,
+    alloc: Global,
+    scripts: &[Vec<Ask>],
+    gate: &G,
+) -> Result<Audited, Fail>
+    requires { length scripts.now ≡ 2 }
+    ensures flat { IfOk result
+        (λ run. IsFlatRun (sizes_in run.station.cache) (journal_of run.station.cache)) }
+    ensures answered { IfOk result
+        (λ run. AreAnswered run.found (journal_of run.station.cache) run.lists.items) }
+    ensures paid { IfOk result (λ run. run.found ≡ Clean
+        → PaysLoads (sizes_in run.station.cache) (journal_of run.station.cache)) }
+{
+    let mut all: Tested = station(alloc, shape(), 2, 1_000)?;
+    let lists = run_threads(rt, alloc, &mut all, scripts, TURNS, gate)?;
+    let found = audit(&mut all.cache, &mut all.ports, &mut all.banks);
+    Ok(Audited {
+        station: all,
+        lists,
+        found,
+    })
+}
+
+#[test]
+fn run_with_its_audit(rt: HostRuntime) -> Result<(), Fail> {
+    let alloc = rt.alloc();
+    let scripts = scripts_of_two(alloc, &[load(1, 5)], &[load(1, 5)])?;
+    let run = run_and_audit(&rt, alloc, &scripts, &OpenGate)?;
+    assert_eq!(rt; run.found, Audit::Clean);
+    let told = [
+        Told::Accepted,
+        Told::Value {
+            tag: 1,
+            word: Word::default(),
+        },
+    ];
+    assert_eq!(rt; run.lists.len(), 2);
+    assert_eq!(rt; run.lists[0].as_slice(), told.as_slice());
+    assert_eq!(rt; run.lists[1].as_slice(), told.as_slice());
+    // For each port an ask, a reply and its end, and four words that come and are processed.
+    assert_eq!(rt; run.station.cache.entries(), 14);
+    Ok(())
+}
