@@ -104,3 +104,47 @@ fn station_by_hand(rt: HostRuntime) -> Result<(), Fail> {
     assert!(rt; station.cache.settled());
     Ok(())
 }
+
+fn serves_two(rt: &impl Abort, bank: &mut BankSide) {
+    assert_eq!(rt; bank.step(), Stepped::Did);
+    assert_eq!(rt; bank.step(), Stepped::Did);
+}
+
+// The block of the word at `at` is asked for, and comes.
+fn block_comes(
+    rt: &impl Abort,
+    cache: &mut CacheOfFour,
+    port: &mut Port,
+    first: &mut BankSide,
+    second: &mut BankSide,
+    at: u32,
+) {
+    assert_eq!(rt; port.offer(Ask::Prefetch { at }), Ok(()));
+    assert_eq!(rt; cache.step(Source::Ask(0)), Stepped::Did);
+    assert_eq!(rt; port.take(), Some(Told::Accepted));
+    serves_two(rt, first);
+    serves_two(rt, second);
+    word_comes(rt, cache, 0);
+    word_comes(rt, cache, 0);
+    word_comes(rt, cache, 1);
+    word_comes(rt, cache, 1);
+}
+
+// A bank's ring takes four commands, and a miss sends it two: the third miss goes where the cache
+// side has looked at what the banks have served, with no audit in between.
+#[test]
+fn served_commands_make_room(rt: HostRuntime) -> Result<(), Fail> {
+    let Station {
+        mut cache,
+        mut ports,
+        mut banks,
+    } = station::<1, 4, 2, 2>(rt.alloc(), SHAPE, 1, 100)?;
+    let mut port = ports.pop().ok_or("no port")?;
+    let mut second = banks.pop().ok_or("no bank")?;
+    let mut first = banks.pop().ok_or("no bank")?;
+    block_comes(&rt, &mut cache, &mut port, &mut first, &mut second, 0);
+    block_comes(&rt, &mut cache, &mut port, &mut first, &mut second, 4);
+    block_comes(&rt, &mut cache, &mut port, &mut first, &mut second, 8);
+    assert!(rt; cache.settled());
+    Ok(())
+}
