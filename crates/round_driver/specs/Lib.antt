@@ -1,0 +1,4 @@
+pub mod Machines
+pub mod Rounds
+pub mod Tables
+pub mod Written
