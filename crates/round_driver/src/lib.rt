@@ -14,6 +14,7 @@
 
 mod driven;
 mod driving;
+pub mod laws;
 mod note;
 mod round;
 mod schedule;
