@@ -1,0 +1,143 @@
+-- Rounds, one after another.
+use Rattle.std.proofs.Common.{◌≡◌, ℕ, zero, suc, ◌+◌, ◌≤◌, Bool, true, false, cond, List, [], ◌∷◌, ◌++◌, append_assoc, append-nil, take, length, get_or, ◌<◌, refl, sym, ap, ap₂, subst, ◌∙◌, arith}
+use Rattle.std.proofs.lemmas.List.{take_more}
+use Rattle.flat_model.specs.declared.Event.{Event}
+use Rattle.machine_core.specs.Machine.{MachineState}
+use Rattle.trace_text.specs.Streams.{Moves, Stopped}
+use Rattle.trace_text.proofs.Serving.{moved_none, moved_then}
+use Rattle.trace_text.specs.declared.fault.TraceFault.{TraceFault}
+use Rattle.trace_text.specs.declared.fault.TraceFault.TheVariants.{Line, Read, Write, OutOfMemory, TooManyLines}
+use Rattle.round_driver.specs.declared.note.Note.{Note}
+use Rattle.round_driver.specs.declared.schedule.Schedule.{Schedule}
+use Rattle.round_driver.specs.Rounds.{Run, run_of, after_round, is_over, is_over_at, rounds_until_over, opening, start_of}
+use Rattle.round_driver.specs.Tables.{Counting, counted, counted_all, nothing}
+use Rattle.round_driver.specs.Written.{note_line, run_text, BreaksOff}
+
+once : (n : ℕ) (r : Run) → rounds_until_over (suc n) r ≡ cond (is_over r) r (rounds_until_over n (after_round r))
+unfolding rounds_until_over
+once n r = refl
+
+none : (r : Run) → rounds_until_over 0 r ≡ r
+unfolding rounds_until_over
+none r = refl
+
+stays : (n : ℕ) (r : Run) → is_over r ≡ true → rounds_until_over n r ≡ r
+stays zero r h = none r
+stays (suc n) r h = once n r ∙ ap (λ b. cond b r (rounds_until_over n (after_round r))) h
+
+goes : (n : ℕ) (r : Run) → is_over r ≡ false → rounds_until_over (suc n) r ≡ rounds_until_over n (after_round r)
+goes n r h = once n r ∙ ap (λ b. cond b r (rounds_until_over n (after_round r))) h
+
+no : true ≡ false → ⊥
+no e = cc
+
+-- one round more
+pub round_more : (n : ℕ) (r : Run) → is_over (rounds_until_over n r) ≡ false → rounds_until_over (n + 1) r ≡ after_round (rounds_until_over n r)
+round_more zero r h =
+    let going : is_over r ≡ false = sym (ap is_over (none r)) ∙ h in
+    goes 0 r going ∙ none (after_round r) ∙ ap after_round (sym (none r))
+round_more (suc n) r h = go (λ going. round_more n (after_round r) going) (is_over r) refl
+  where
+    next : suc n + 1 ≡ suc (n + 1)
+    next = omega arith
+
+    go : (is_over (rounds_until_over n (after_round r)) ≡ false → rounds_until_over (n + 1) (after_round r) ≡ after_round (rounds_until_over n (after_round r))) → (b : Bool) → is_over r ≡ b → rounds_until_over (suc n + 1) r ≡ after_round (rounds_until_over (suc n) r)
+    go later true e = absurd (no (sym e ∙ sym (ap is_over (stays (suc n) r e)) ∙ h))
+    go later false e =
+        let going : is_over (rounds_until_over n (after_round r)) ≡ false = sym (ap is_over (goes n r e)) ∙ h in
+        ap (λ k. rounds_until_over k r) next ∙ goes (n + 1) r e ∙ later going ∙ ap after_round (sym (goes n r e))
+
+-- behind the end there are no rounds
+pub round_over : (n m : ℕ) (r : Run) → n ≤ m → is_over (rounds_until_over n r) ≡ true → rounds_until_over m r ≡ rounds_until_over n r
+round_over zero m r le h = stays m r (sym (ap is_over (none r)) ∙ h) ∙ sym (none r)
+round_over (suc n) zero r le h = absurd (omega (arith, le))
+round_over (suc n) (suc m) r le h = go (λ fewer over. round_over n m (after_round r) fewer over) (is_over r) refl
+  where
+    go : (n ≤ m → is_over (rounds_until_over n (after_round r)) ≡ true → rounds_until_over m (after_round r) ≡ rounds_until_over n (after_round r)) → (b : Bool) → is_over r ≡ b → rounds_until_over (suc m) r ≡ rounds_until_over (suc n) r
+    go later true e = stays (suc m) r e ∙ sym (stays (suc n) r e)
+    go later false e =
+        let over : is_over (rounds_until_over n (after_round r)) ≡ true = sym (ap is_over (goes n r e)) ∙ h in
+        goes m r e ∙ later (omega (arith, le)) over ∙ sym (goes n r e)
+
+pub no_more : (n most rounds : ℕ) → rounds ≡ n → n ≡ most → rounds < most → ⊥
+no_more n most rounds p q h = omega arith
+
+-- ---- text
+
+pub text_then : (xs ys : List Note) → run_text (xs ++ ys) ≡ run_text xs ++ run_text ys
+text_then [] ys = refl
+text_then (x ∷ xs) ys = ap (λ t. note_line x ++ t) (text_then xs ys) ∙ sym (append_assoc (note_line x) (run_text xs) (run_text ys))
+
+-- one line more
+pub text_more : (xs : List Note) (i : ℕ) (d : Note) (before line after : List ℕ) → i < length xs → before ≡ run_text (take i xs) → line ≡ note_line (get_or xs i d) → after ≡ before ++ line → after ≡ run_text (take (i + 1) xs)
+text_more xs i d before line after h p q r =
+    let more = take_more xs i d h in
+    let last : run_text (get_or xs i d ∷ []) ≡ note_line (get_or xs i d) = append-nil (note_line (get_or xs i d)) in
+    r ∙ ap₂ (λ a b. a ++ b) p (q ∙ sym last) ∙ sym (text_then (take i xs) (get_or xs i d ∷ [])) ∙ ap run_text (sym more)
+
+stopped_then : {S : Type 0} {step : S → List ℕ → S → Type 0} {refused : S → S → Type 0} {r s t : S} {xs ys : List ℕ} → Moves step r xs s → Stopped step refused s ys t → Stopped step refused r (xs ++ ys) t
+stopped_then {xs = xs} p q = record {
+  front = xs ++ q.front;
+  back = q.back;
+  whole = ap (λ l. xs ++ l) q.whole ∙ sym (append_assoc xs q.front q.back);
+  last = q.last;
+  moved = moved_then p q.moved;
+  refusal = q.refusal;
+}
+
+-- ---- counts
+
+counted_then : (c : Counting) (xs ys : List Note) → counted_all c (xs ++ ys) ≡ counted_all (counted_all c xs) ys
+counted_then c [] ys = refl
+counted_then c (x ∷ xs) ys = counted_then (counted c x) xs ys
+
+-- ---- before the first round
+
+module _ (latency : ℕ) (s : MachineState) (requests : List Event) where
+  pub run_begins : (p : Schedule) → p ≡ opening latency → run_of s p requests (rounds_until_over 0 (start_of latency s requests)).told ≡ rounds_until_over 0 (start_of latency s requests)
+  unfolding rounds_until_over
+  run_begins p h = ap (λ p. run_of s p requests []) h
+
+  pub text_begins : {S : Type 0} (step : S → List ℕ → S → Type 0) (w : S) → Moves step w (run_text (rounds_until_over 0 (start_of latency s requests)).told) w
+  unfolding rounds_until_over
+  text_begins step w = moved_none w
+
+  pub counts_begin : (c : Counting) → c ≡ nothing → c ≡ counted_all nothing (rounds_until_over 0 (start_of latency s requests)).told
+  unfolding rounds_until_over
+  counts_begin c h = h
+
+-- ---- a turn of the loop: i rounds of a run, and one more
+
+module _ (i : ℕ) (start : Run) (s : MachineState) (p : Schedule) (left : List Event) (here : run_of s p left (rounds_until_over i start).told ≡ rounds_until_over i start) where
+  pub over_here : (n : ℕ) → i ≤ n → is_over_at s left ≡ true → run_of s p left (rounds_until_over i start).told ≡ rounds_until_over n start
+  over_here n le over = here ∙ sym (round_over i n start le (sym (ap is_over here) ∙ over))
+
+  module _ (s' : MachineState) (p' : Schedule) (left' : List Event) (notes : List Note) (made : (told : List Note) → run_of s' p' left' (told ++ notes) ≡ after_round (run_of s p left told)) (going : is_over_at s left ≡ false) where
+    behind : run_of s' p' left' ((rounds_until_over i start).told ++ notes) ≡ rounds_until_over (i + 1) start
+    behind = made (rounds_until_over i start).told ∙ ap after_round here ∙ sym (round_more i start (sym (ap is_over here) ∙ going))
+
+    pub told_next : (rounds_until_over (i + 1) start).told ≡ (rounds_until_over i start).told ++ notes
+    told_next = sym (ap (λ r. r.told) behind)
+
+    pub run_next : run_of s' p' left' (rounds_until_over (i + 1) start).told ≡ rounds_until_over (i + 1) start
+    run_next = ap (run_of s' p' left') told_next ∙ behind
+
+    text : run_text (rounds_until_over (i + 1) start).told ≡ run_text (rounds_until_over i start).told ++ run_text notes
+    text = ap run_text told_next ∙ text_then (rounds_until_over i start).told notes
+
+    pub text_next : {S : Type 0} (step : S → List ℕ → S → Type 0) (u v w : S) → Moves step u (run_text (rounds_until_over i start).told) v → Moves step v (run_text notes) w → Moves step u (run_text (rounds_until_over (i + 1) start).told) w
+    text_next step u v w a b = subst (λ t. Moves step u t w) (sym text) (moved_then a b)
+
+    text_stops : {S : Type 0} (step : S → List ℕ → S → Type 0) (refused : S → S → Type 0) (u v w : S) → Moves step u (run_text (rounds_until_over i start).told) v → Stopped step refused v (run_text notes) w → Stopped step refused u (run_text (rounds_until_over (i + 1) start).told) w
+    text_stops step refused u v w a b = subst (λ t. Stopped step refused u t w) (sym text) (stopped_then a b)
+
+    pub text_breaks : {S : Type 0} (step : S → List ℕ → S → Type 0) (refused : S → S → Type 0) (u v w : S) (e : TraceFault) → Moves step u (run_text (rounds_until_over i start).told) v → BreaksOff step refused v (run_text notes) w e → BreaksOff step refused u (run_text (rounds_until_over (i + 1) start).told) w e
+    text_breaks step refused u v w Write a b = text_stops step refused u v w a b
+    text_breaks step refused u v w OutOfMemory a b = text_next step u v w a b
+    text_breaks step refused u v w Read a b = absurd b
+    text_breaks step refused u v w TooManyLines a b = absurd b
+    text_breaks step refused u v w (Line n f) a b = absurd b
+
+    pub counts_next : (c d : Counting) → c ≡ counted_all nothing (rounds_until_over i start).told → d ≡ counted_all c notes → d ≡ counted_all nothing (rounds_until_over (i + 1) start).told
+    counts_next c d p q =
+        q ∙ ap (λ x. counted_all x notes) p ∙ sym (counted_then nothing (rounds_until_over i start).told notes) ∙ ap (counted_all nothing) (sym told_next)

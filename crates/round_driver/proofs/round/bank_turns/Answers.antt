@@ -1,0 +1,24 @@
+use Rattle.std.proofs.Common.{◌≡◌, ◌<◌, ◌≤◌, sym, ap, ◌∙◌, arith}
+use Rattle.round_driver.specs.Rounds.{course, bank_turns}
+use Rattle.round_driver.proofs.Turns.{bank_more, no_bank_left}
+use Rattle.round_driver.proofs.round.bank_turns.Goals as goal
+
+pub loop-bank-preserved : goal.loop-bank-preserved
+loop-bank-preserved g c =
+    let here = course (g.M.Driven.state c.loop-bank.machine) c.loop-bank.schedule c.loop-bank.notes.items in
+    let turn : c.loop-bank.bank < c.bank_count-bank-end.result = c.loop-bank-test.true in
+    let before = c.loop-bank.invariant.len in
+    let told = c.serve_due.ensures.len in
+    record {
+      same = c.loop-bank.invariant.same ∙ bank_more c.bank_count-bank-end.result c.loop-bank.bank here _ _ c.begin.ensures.course c.serve_due.ensures.course turn;
+      sizes = c.serve_due.ensures.sizes ∙ c.loop-bank.invariant.sizes;
+      len = omega (arith, before, told);
+      time = c.serve_due.ensures.time ∙ c.begin.ensures.time ∙ c.loop-bank.invariant.time;
+      next = c.serve_due.ensures.next ∙ c.begin.ensures.next ∙ c.loop-bank.invariant.next;
+    }
+
+pub returns-clause-course : goal.returns-clause-course
+returns-clause-course g c =
+    let here = course (g.M.Driven.state c.loop-bank.machine) c.loop-bank.schedule c.loop-bank.notes.items in
+    let over : c.bank_count-bank-end.result ≤ c.loop-bank.bank = omega (arith, c.loop-bank-test.false) in
+    sym (no_bank_left c.bank_count-bank-end.result c.loop-bank.bank here over) ∙ sym c.loop-bank.invariant.same ∙ ap (λ n. bank_turns n 0 (course (g.M.Driven.state c.args.machine.now) c.args.schedule.now c.args.notes.now.items)) c.bank_count-bank-end.ensures

@@ -1,0 +1,5 @@
+pub mod Machines
+pub mod Rounds
+pub mod Walks
+pub mod Tables
+pub mod Written

@@ -1,0 +1,60 @@
+-- What a machine that is driven answers and shows, by its state alone.
+use Rattle.std.specs.Prelude.{ℕ, zero, suc, ◌+◌, Bool, false, if◌then◌else◌, nat_lt, length, Option, Some, None}
+use Rattle.flat_model.specs.declared.Event.{Event}
+use Rattle.flat_model.specs.declared.Answer.{Answer}
+use Rattle.flat_model.specs.Flat.{Flat}
+use Rattle.memory_banks.specs.Banks.{bank_at}
+use Rattle.miss_registers.specs.declared.RegisterView.{RegisterView}
+use Rattle.cache_unit.specs.declared.Lookup.{Lookup}
+use Rattle.cache_unit.specs.Lookups.{lookup}
+use Rattle.cache_unit.specs.Views.{register_view}
+use Rattle.machine_core.specs.Machine.{MachineState, apply, flat_of}
+use Rattle.machine_core.specs.Pump.{weight, has_items}
+
+-- the answer to an event
+unfoldable pub answered : MachineState → Event → Answer
+answered s event = (apply s.sizes s.machine event).answer
+
+-- the machine after an event
+unfoldable pub after_event : MachineState → Event → MachineState
+after_event s event = record { sizes = s.sizes; machine = (apply s.sizes s.machine event).machine }
+
+-- the flat memory that a machine stands for
+unfoldable pub flat : MachineState → Flat
+flat s = flat_of s.sizes s.machine
+
+unfoldable pub weight_of : MachineState → ℕ
+weight_of s = weight s.machine
+
+-- whether a command waits at a bank
+unfoldable pub has_command : MachineState → ℕ → Bool
+has_command s b = has_items (bank_at s.machine.banks b).queue
+
+-- whether an answer stands in a bank
+unfoldable pub has_answer : MachineState → ℕ → Bool
+has_answer s b = has_items (bank_at s.machine.banks b).answers
+
+-- whether the input stack has room for a word
+unfoldable pub has_stack_room : MachineState → Bool
+has_stack_room s = nat_lt (length s.machine.cache.stack) s.sizes.depth
+
+-- what a request for a word would find
+unfoldable pub found_at : MachineState → ℕ → Option Lookup
+found_at s at = lookup s.sizes s.machine.cache at
+
+abbrev pub is_valid : Option RegisterView → Bool
+is_valid None = false
+is_valid (Some r) = r.valid
+
+-- 1 for a register in use, else 0
+unfoldable pub used_at : MachineState → ℕ → ℕ
+used_at s slot = if is_valid (register_view s.machine.cache slot) then 1 else 0
+
+-- how many of n registers are in use, from this one on
+unfoldable pub used_among : MachineState → ℕ → ℕ → ℕ
+used_among s zero slot = 0
+used_among s (suc n) slot = used_at s slot + used_among s n (slot + 1)
+
+-- how many registers are in use: a machine has at most 16
+unfoldable pub used_registers : MachineState → ℕ
+used_registers s = used_among s 16 0

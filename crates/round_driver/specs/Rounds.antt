@@ -1,0 +1,215 @@
+-- Rounds over a machine: what is made in each, and what is told of it.
+use Rattle.std.specs.Prelude.{◌≡◌, ◌<◌, ℕ, zero, suc, ◌+◌, ◌-◌, ◌*◌, Bool, true, false, not, ◌&&◌, if◌then◌else◌, nat_lt, ◌==◌, List, [], ◌∷◌, ◌++◌, map, length, replicate, Option, Some, None, is_none, is_some, slice_set, slice_index_or}
+use Rattle.std.specs.Option.{option_or}
+use Rattle.flat_model.specs.declared.Cause.TheVariants.{OutOfRange, NoLanes, NotPresent}
+use Rattle.flat_model.specs.declared.Event.{Event}
+use Rattle.flat_model.specs.declared.Event.TheVariants.{Load, Store, Prefetch, Evict, Drain, Serve, Arrive, Process, Take}
+use Rattle.flat_model.specs.declared.Answer.{Answer}
+use Rattle.flat_model.specs.declared.Answer.TheVariants.{Accepted, Moved, Value, Nothing, Refused}
+use Rattle.cache_unit.specs.declared.Lookup.{Lookup}
+use Rattle.cache_unit.specs.declared.Lookup.TheVariants.{Miss}
+use Rattle.machine_core.specs.Machine.{MachineState}
+use Rattle.round_driver.specs.Machines.{answered, after_event, weight_of, has_command, has_answer, has_stack_room, found_at, used_registers}
+use Rattle.round_driver.specs.declared.note.Note.{Note}
+use Rattle.round_driver.specs.declared.schedule.Schedule.{Schedule}
+
+-- ---- where a run stands
+
+-- the machine, the schedule, and what was told in this round
+pub record Course : Type 0 where
+  pub state : MachineState
+  pub schedule : Schedule
+  pub notes : List Note
+
+abbrev pub course : MachineState → Schedule → List Note → Course
+course s p notes = record { state = s; schedule = p; notes = notes }
+
+-- before the first round: no bank is busy
+abbrev pub opening : ℕ → Schedule
+opening latency = record { latency = latency; round = 0; begun = replicate 16 None; next = 0 }
+
+-- ---- one event
+
+-- whether an answer says that something was done
+abbrev pub is_done : Answer → Bool
+is_done Accepted = true
+is_done Moved = true
+is_done (Value tag word) = true
+is_done Nothing = false
+is_done (Refused cause) = false
+
+-- what is told of an event that is no request
+abbrev pub note_of : Course → Event → Note
+note_of c event = record { round = c.schedule.round; event = event; answer = answered c.state event; found = None; registers = 0 }
+
+-- an event is made, and told if it did something
+unfoldable pub attempt : Event → Course → Course
+attempt event c =
+    course (after_event c.state event) c.schedule (if is_done (answered c.state event) then c.notes ++ note_of c event ∷ [] else c.notes)
+
+-- ---- the banks
+
+abbrev pub begun_at : Schedule → ℕ → Option ℕ
+begun_at p b = slice_index_or p.begun b None
+
+abbrev pub with_begun : Schedule → ℕ → Option ℕ → Schedule
+with_begun p b begun = record p { begun = slice_set p.begun b begun }
+
+-- whether a bank has begun no command
+abbrev pub is_idle : Schedule → ℕ → Bool
+is_idle p b = is_none (begun_at p b)
+
+abbrev pub is_due_since : Schedule → Option ℕ → Bool
+is_due_since p None = false
+is_due_since p (Some begun) = not (nat_lt (p.round - begun) p.latency)
+
+-- whether a bank began its command as many rounds ago as it takes
+abbrev pub is_due : Schedule → ℕ → Bool
+is_due p b = is_due_since p (begun_at p b)
+
+abbrev pub scheduled : Schedule → Course → Course
+scheduled p c = course c.state p c.notes
+
+-- a bank that has a command and isn't busy begins it
+unfoldable pub begin : ℕ → Course → Course
+begin b c =
+    if is_idle c.schedule b && has_command c.state b then scheduled (with_begun c.schedule b (Some c.schedule.round)) c else c
+
+-- a command that was begun long enough ago is served
+unfoldable pub serve_due : ℕ → Course → Course
+serve_due b c = if is_due c.schedule b then attempt (Serve b) (scheduled (with_begun c.schedule b None) c) else c
+
+abbrev pub bank_turn : ℕ → Course → Course
+bank_turn b c = serve_due b (begin b c)
+
+-- the turns of n banks, from this one on
+unfoldable pub bank_turns : ℕ → ℕ → Course → Course
+bank_turns zero b c = c
+bank_turns (suc n) b c = bank_turns n (b + 1) (bank_turn b c)
+
+-- ---- one arrival
+
+-- the first of n banks with an answer, from this one on
+unfoldable pub first_with_answer : MachineState → ℕ → ℕ → Option ℕ
+first_with_answer s zero b = None
+first_with_answer s (suc n) b = if has_answer s b then Some b else first_with_answer s n (b + 1)
+
+-- the first bank with an answer, from the next one on and then from the first on
+abbrev pub next_with_answer : MachineState → ℕ → Option ℕ
+next_with_answer s next = option_or (first_with_answer s (s.sizes.banks - next) next) (first_with_answer s next 0)
+
+abbrev pub arrive_from : Option ℕ → Course → Course
+arrive_from None c = c
+arrive_from (Some b) c = attempt (Arrive b 0) (scheduled (record c.schedule { next = b + 1 }) c)
+
+-- its first answer arrives, if the stack has room
+unfoldable pub arrive : Course → Course
+arrive c = if has_stack_room c.state then arrive_from (next_with_answer c.state c.schedule.next) c else c
+
+-- ---- one request
+
+-- whether an answer ends a request: it was accepted, or refused for what no move changes
+abbrev pub is_end : Answer → Bool
+is_end Accepted = true
+is_end (Refused OutOfRange) = true
+is_end (Refused NoLanes) = true
+is_end (Refused NotPresent) = true
+is_end answer = false
+
+-- what a request finds, if it asks for a word
+abbrev pub finding : MachineState → Event → Option Lookup
+finding s (Load tag at) = found_at s at
+finding s (Store at word lanes) = found_at s at
+finding s (Prefetch at) = found_at s at
+finding s event = None
+
+-- the registers in use behind a miss that was accepted
+abbrev pub registers_behind : Answer → Option Lookup → MachineState → ℕ
+registers_behind Accepted (Some Miss) s = used_registers s
+registers_behind answer lookup s = 0
+
+-- what is told of a request
+abbrev pub request_note : Course → Event → Note
+request_note c event =
+    record {
+      round = c.schedule.round;
+      event = event;
+      answer = answered c.state event;
+      found = finding c.state event;
+      registers = registers_behind (answered c.state event) (finding c.state event) (after_event c.state event);
+    }
+
+-- a request is asked, and told whatever its answer
+unfoldable pub ask : Event → Course → Course
+ask event c = course (after_event c.state event) c.schedule (c.notes ++ request_note c event ∷ [])
+
+abbrev pub ends : Event → Course → Bool
+ends event c = is_end (answered c.state event)
+
+-- ---- a round
+
+-- what a round moves before it asks: each bank, one arrival, the stack's first word, the first reply, the queue's front
+unfoldable pub moves : Course → Course
+moves c =
+    attempt Drain (attempt (Take 0) (attempt (Process 0) (arrive (bank_turns c.state.sizes.banks 0 c))))
+
+-- a run: the machine, the schedule, the requests that are left, and what was told
+pub record Run : Type 0 where
+  pub state : MachineState
+  pub schedule : Schedule
+  pub left : List Event
+  pub told : List Note
+
+abbrev pub run_of : MachineState → Schedule → List Event → List Note → Run
+run_of s p left told = record { state = s; schedule = p; left = left; told = told }
+
+-- behind a round, in which one request was asked, if one is left
+abbrev pub asked : List Note → List Event → Course → Run
+asked told [] c = record { state = c.state; schedule = c.schedule; left = []; told = told ++ c.notes }
+asked told (event ∷ rest) c =
+    record {
+      state = (ask event c).state;
+      schedule = c.schedule;
+      left = if ends event c then rest else event ∷ rest;
+      told = told ++ (ask event c).notes;
+    }
+
+abbrev pub next_round : Schedule → Schedule
+next_round p = record p { round = p.round + 1 }
+
+unfoldable pub after_round : Run → Run
+after_round r = asked r.told r.left (moves (course r.state (next_round r.schedule) []))
+
+abbrev pub is_empty : List Event → Bool
+is_empty [] = true
+is_empty (event ∷ rest) = false
+
+-- the requests are used up, and nothing is on its way
+abbrev pub is_over_at : MachineState → List Event → Bool
+is_over_at s left = is_empty left && (weight_of s == 0)
+
+abbrev pub is_over : Run → Bool
+is_over r = is_over_at r.state r.left
+
+-- rounds until it is over, n at most
+unfoldable pub rounds_until_over : ℕ → Run → Run
+rounds_until_over zero r = r
+rounds_until_over (suc n) r = if is_over r then r else rounds_until_over n (after_round r)
+
+-- before the first round
+abbrev pub start_of : ℕ → MachineState → List Event → Run
+start_of latency s requests = record { state = s; schedule = opening latency; left = requests; told = [] }
+
+-- More rounds than a run takes. Nothing weighs more than 2,624 on its way, each move lowers the weight, and there is
+-- one in any latency + 1 rounds, or a request ends.
+abbrev pub most_rounds : ℕ → ℕ → ℕ
+most_rounds latency requests = (requests + 1) * (2625 * (latency + 1))
+
+-- the whole run of these requests
+abbrev pub whole_run : ℕ → MachineState → List Event → Run
+whole_run latency s requests = rounds_until_over (most_rounds latency (length requests)) (start_of latency s requests)
+
+-- a run that took fewer rounds than it may is over
+abbrev pub EndsInTime : ℕ → MachineState → List Event → Type 0
+EndsInTime latency s requests =
+    (whole_run latency s requests).schedule.round < most_rounds latency (length requests) → is_over (whole_run latency s requests) ≡ true

@@ -1,0 +1,41 @@
+-- What was told of a run, as the machine's walk and as the requests' ends.
+use Rattle.std.specs.Prelude.{◌≡◌, ℕ, Bool, true, false, ◌&&◌, if◌then◌else◌, List, [], ◌∷◌, ◌++◌, map}
+use Rattle.std.specs.List.{list_all}
+use Rattle.flat_model.specs.declared.Event.{Event}
+use Rattle.flat_model.specs.declared.Event.TheVariants.{Load, Store, Prefetch, Evict}
+use Rattle.flat_model.specs.declared.Answer.{Answer}
+use Rattle.machine_core.specs.Machine.{MachineState, walked, told}
+use Rattle.round_driver.specs.declared.note.Note.{Note}
+use Rattle.round_driver.specs.Rounds.{Run, is_end, start_of, rounds_until_over}
+
+abbrev pub events_of : List Note → List Event
+events_of notes = map (λ n. n.event) notes
+
+abbrev pub answers_of : List Note → List Answer
+answers_of notes = map (λ n. n.answer) notes
+
+-- these events with these answers are the machine's walk from the one state to the other
+pub record IsWalk (s : MachineState) (notes : List Note) (t : MachineState) : Type 0 where
+  pub ends : t ≡ record { sizes = s.sizes; machine = walked s.sizes s.machine (events_of notes) }
+  pub tells : told s.sizes s.machine (events_of notes) ≡ answers_of notes
+
+abbrev pub is_request : Event → Bool
+is_request (Load tag at) = true
+is_request (Store at word lanes) = true
+is_request (Prefetch at) = true
+is_request (Evict block) = true
+is_request event = false
+
+-- the requests that were accepted or denied, in this order
+abbrev pub ended : List Note → List Event
+ended [] = []
+ended (n ∷ ns) = if is_request n.event && is_end n.answer then n.event ∷ ended ns else ended ns
+
+-- wherever a run stands: what was told is the machine's walk, and each request that isn't left was accepted or denied
+-- once, in its order
+pub record IsTold (s : MachineState) (requests : List Event) (r : Run) : Type 0 where
+  pub walks : IsWalk s r.told r.state
+  pub in_order : list_all is_request requests ≡ true → ended r.told ++ r.left ≡ requests
+
+abbrev pub RunIsTold : ℕ → MachineState → List Event → ℕ → Type 0
+RunIsTold latency s requests n = IsTold s requests (rounds_until_over n (start_of latency s requests))

@@ -1,0 +1,223 @@
+//! One round.
+ghost use Rattle.std.specs.Prelude.{◌≡◌, ℕ, ◌<◌, ◌≤◌, ◌+◌, ◌-◌, ◌^◌, [], drop, length, List, Some, IfSome};
+ghost use Rattle.arrayvec.specs.ArrayVec.{array_vec_len};
+ghost use Rattle.round_driver.specs.Rounds.{course, Run};
+ghost use Rattle.round_driver.specs.Rounds as rounds;
+ghost use Rattle.round_driver.specs.Machines as machines;
+
+use crate::driven::Driven;
+use crate::note::Note;
+use crate::schedule::Schedule;
+use arrayvec::ArrayVec;
+use flat_model::{Answer, Cause, Event};
+use machine_core::Lookup;
+
+/// The most that is told of a round: of each bank, one arrival, the stack, the replies, the write
+/// queue, and one request.
+pub const MOST_NOTES: usize = 24;
+
+// What is told of a round.
+pub type Notes = ArrayVec<Note, MOST_NOTES>;
+
+// Whether an answer says that something was done.
+fn is_done(answer: Answer) -> bool
+    ensures { result ≡ rounds.is_done answer }
+{
+    match answer {
+        Answer::Accepted | Answer::Moved | Answer::Value { .. } => true,
+        Answer::Nothing | Answer::Refused(_) => false,
+    }
+}
+
+// Whether an answer ends a request.
+pub fn is_end(answer: Answer) -> bool
+    ensures { result ≡ rounds.is_end answer }
+{
+    matches!(
+        answer,
+        Answer::Accepted | Answer::Refused(Cause::OutOfRange | Cause::NoLanes | Cause::NotPresent)
+    )
+}
+
+// Makes an event, and tells it if it did something.
+#[tactic(auto, unfolding(crate::specs::Rounds::attempt, crate::specs::Machines::answered, crate::specs::Machines::after_event))]
+fn attempt<M: Driven>(machine: &mut M, schedule: &Schedule, notes: &mut Notes, event: Event)
+    requires room { array_vec_len notes.old < 24 }
+    ensures course { course (M.state machine.new) schedule.now notes.new.items
+        ≡ rounds.attempt event (course (M.state machine.old) schedule.now notes.old.items) }
+    ensures sizes { (M.state machine.new).sizes ≡ (M.state machine.old).sizes }
+    ensures len { array_vec_len notes.new ≤ array_vec_len notes.old + 1 }
+{
+    let answer = machine.apply(event);
+    if is_done(answer) {
+        notes.push(Note {
+            round: schedule.round,
+            event,
+            answer,
+            found: None,
+            registers: 0,
+        });
+    }
+}
+
+// A bank that has a command and isn't busy begins it.
+#[tactic(auto, unfolding(crate::specs::Rounds::begin))]
+fn begin<M: Driven>(machine: &M, schedule: &mut Schedule, notes: &Notes, bank: u32)
+    requires bank { bank < 16 }
+    ensures course { course (M.state machine.now) schedule.new notes.now.items
+        ≡ rounds.begin bank (course (M.state machine.now) schedule.old notes.now.items) }
+    ensures time { schedule.new.round ≡ schedule.old.round }
+    ensures next { schedule.new.next ≡ schedule.old.next }
+{
+    if schedule.is_idle(bank) && machine.has_command(bank) {
+        schedule.begin(bank);
+    }
+}
+
+// A bank serves its command if it was begun long enough ago.
+#[tactic(auto, unfolding(crate::specs::Rounds::serve_due))]
+fn serve_due<M: Driven>(machine: &mut M, schedule: &mut Schedule, notes: &mut Notes, bank: u32)
+    requires bank { bank < 16 }
+    requires room { array_vec_len notes.old < 24 }
+    ensures course { course (M.state machine.new) schedule.new notes.new.items
+        ≡ rounds.serve_due bank (course (M.state machine.old) schedule.old notes.old.items) }
+    ensures sizes { (M.state machine.new).sizes ≡ (M.state machine.old).sizes }
+    ensures len { array_vec_len notes.new ≤ array_vec_len notes.old + 1 }
+    ensures time { schedule.new.round ≡ schedule.old.round }
+    ensures next { schedule.new.next ≡ schedule.old.next }
+{
+    if schedule.is_due(bank) {
+        schedule.end(bank);
+        attempt(machine, schedule, notes, Event::Serve { bank });
+    }
+}
+
+// Each bank, by number, begins a command and serves one that is due.
+fn bank_turns<M: Driven>(machine: &mut M, schedule: &mut Schedule, notes: &mut Notes)
+    requires banks { (M.state machine.old).sizes.banks ≤ 16 }
+    requires room { array_vec_len notes.old ≡ 0 }
+    ensures course { course (M.state machine.new) schedule.new notes.new.items
+        ≡ rounds.bank_turns (M.state machine.old).sizes.banks 0
+        (course (M.state machine.old) schedule.old notes.old.items) }
+    ensures sizes { (M.state machine.new).sizes ≡ (M.state machine.old).sizes }
+    ensures len { array_vec_len notes.new ≤ 16 }
+    ensures time { schedule.new.round ≡ schedule.old.round }
+    ensures next { schedule.new.next ≡ schedule.old.next }
+{
+    for bank in 0..machine.bank_count() {
+        begin(machine, schedule, notes, bank);
+        serve_due(machine, schedule, notes, bank);
+    }
+}
+
+// The first of these banks with an answer.
+fn first_with_answer<M: Driven>(machine: &M, from: u32, to: u32) -> Option<u32>
+    ensures bank { result ≡ rounds.first_with_answer (M.state machine.now) (to - from) from }
+    ensures below { IfSome result (λ b. b < to) }
+{
+    for bank in from..to {
+        if machine.has_answer(bank) {
+            return Some(bank);
+        }
+    }
+    None
+}
+
+// The first bank with an answer, from the next one on and then from the first on.
+fn next_with_answer<M: Driven>(machine: &M, next: u32) -> Option<u32>
+    requires banks { (M.state machine.now).sizes.banks ≤ 16 }
+    requires next { next ≤ 16 }
+    ensures bank { result ≡ rounds.next_with_answer (M.state machine.now) next }
+    ensures below { IfSome result (λ b. b < 16) }
+{
+    match first_with_answer(machine, next, machine.bank_count()) {
+        Some(bank) => Some(bank),
+        None => first_with_answer(machine, 0, next),
+    }
+}
+
+// The next bank's first answer arrives, if the stack has room.
+#[tactic(auto, unfolding(crate::specs::Rounds::arrive))]
+fn arrive<M: Driven>(machine: &mut M, schedule: &mut Schedule, notes: &mut Notes)
+    requires banks { (M.state machine.old).sizes.banks ≤ 16 }
+    requires next { schedule.old.next ≤ 16 }
+    requires room { array_vec_len notes.old < 24 }
+    ensures course { course (M.state machine.new) schedule.new notes.new.items
+        ≡ rounds.arrive (course (M.state machine.old) schedule.old notes.old.items) }
+    ensures sizes { (M.state machine.new).sizes ≡ (M.state machine.old).sizes }
+    ensures len { array_vec_len notes.new ≤ array_vec_len notes.old + 1 }
+    ensures time { schedule.new.round ≡ schedule.old.round }
+    ensures next { schedule.new.next ≤ 16 }
+{
+    if !machine.has_stack_room() {
+        return;
+    }
+    if let Some(bank) = next_with_answer(machine, schedule.next) {
+        schedule.next = bank + 1;
+        attempt(machine, schedule, notes, Event::Arrive { bank, place: 0 });
+    }
+}
+
+// What a request finds, if it asks for a word.
+fn finding<M: Driven>(machine: &M, event: Event) -> Option<Lookup>
+    ensures { result ≡ rounds.finding (M.state machine.now) event }
+{
+    match event {
+        Event::Load { at, .. } | Event::Store { at, .. } | Event::Prefetch { at } => {
+            machine.find(at)
+        }
+        _ => None,
+    }
+}
+
+// The registers in use behind a miss that was accepted.
+fn registers_behind<M: Driven>(machine: &M, answer: Answer, found: Option<Lookup>) -> u32
+    ensures { result ≡ rounds.registers_behind answer found (M.state machine.now) }
+{
+    match (answer, found) {
+        (Answer::Accepted, Some(Lookup::Miss)) => machine.used_registers(),
+        _ => 0,
+    }
+}
+
+// Asks a request and tells it, and says whether that ended it.
+#[tactic(auto, unfolding(crate::specs::Rounds::ask, crate::specs::Machines::after_event))]
+pub fn ask<M: Driven>(machine: &mut M, schedule: &Schedule, notes: &mut Notes, event: Event) -> bool
+    requires room { array_vec_len notes.old < 24 }
+    ensures ends { result
+        ≡ rounds.ends event (course (M.state machine.old) schedule.now notes.old.items) }
+    ensures course { course (M.state machine.new) schedule.now notes.new.items
+        ≡ rounds.ask event (course (M.state machine.old) schedule.now notes.old.items) }
+    ensures sizes { (M.state machine.new).sizes ≡ (M.state machine.old).sizes }
+{
+    let found = finding(machine, event);
+    let answer = machine.apply(event);
+    notes.push(Note {
+        round: schedule.round,
+        event,
+        answer,
+        found,
+        registers: registers_behind(machine, answer, found),
+    });
+    is_end(answer)
+}
+
+// What a round moves before it asks.
+#[tactic(auto, unfolding(crate::specs::Rounds::moves))]
+pub fn moves<M: Driven>(machine: &mut M, schedule: &mut Schedule, notes: &mut Notes)
+    requires banks { (M.state machine.old).sizes.banks ≤ 16 }
+    requires next { schedule.old.next ≤ 16 }
+    requires room { array_vec_len notes.old ≡ 0 }
+    ensures course { course (M.state machine.new) schedule.new notes.new.items
+        ≡ rounds.moves (course (M.state machine.old) schedule.old notes.old.items) }
+    ensures sizes { (M.state machine.new).sizes ≡ (M.state machine.old).sizes }
+    ensures len { array_vec_len notes.new ≤ 20 }
+    ensures time { schedule.new.round ≡ schedule.old.round }
+    ensures next { schedule.new.next ≤ 16 }
+{
+    bank_turns(machine, schedule, notes);
+    arrive(machine, schedule, notes);
+    attempt(machine, schedule, notes, Event::Process { place: 0 });
+    attempt(machine, schedule, notes, Event::Take { place: 0 });
+    attempt(machine, schedule, notes, Event::Drain);
+}

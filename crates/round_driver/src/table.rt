@@ -1,0 +1,290 @@
+//! What a run of rounds counted.
+ghost use Rattle.std.specs.Prelude.{◌≡◌, ◌<◌, ◌≤◌, ◌+◌, ◌*◌, ◌^◌, length, IfOk};
+ghost use Rattle.round_driver.specs.Tables as tables;
+ghost use Rattle.round_driver.specs.Tables.{counting, total};
+
+use crate::note::Note;
+use flat_model::{Answer, Cause, Event};
+use machine_core::Lookup;
+use std::alloc::{AllocError, Global};
+use std::fmt;
+
+/// What a run of rounds counted. A round is a step of the schedule, and no time of any hardware.
+#[derive(Clone, Copy, PartialEq, Eq, Debug, Default)]
+pub struct Table {
+    /// Rounds, the last one counted, in which nothing moves.
+    pub rounds: u64,
+    /// Requests that were accepted.
+    pub accepted: u64,
+    /// Requests that were refused with 1, 2 or 11.
+    pub denied: u64,
+    /// Accepted requests whose word was at hand.
+    pub hits: u64,
+    /// Accepted requests whose word was on its way already.
+    pub joins: u64,
+    /// Accepted requests whose block was asked for.
+    pub misses: u64,
+    /// Requests that were refused with 3 to 10 in the round that first asked them.
+    pub stalled: u64,
+    /// Rounds in which the request at hand was refused, by the cause.
+    pub lost: LostRounds,
+    /// Loads that were answered.
+    pub values: u64,
+    /// Rounds from each answered load's acceptance to its answer, in all.
+    pub waited: u128,
+    /// The most of these for one load.
+    pub longest: u64,
+    /// The most registers in use at once.
+    pub registers: u32,
+    /// Words that were written back.
+    pub written: u64,
+}
+
+/// Rounds in which the request at hand was refused, by the cause.
+#[derive(Clone, Copy, PartialEq, Eq, Debug, Default)]
+pub struct LostRounds {
+    /// 3: the tag is in use.
+    pub tag_in_use: u64,
+    /// 4: as many loads are owed values as may be.
+    pub replies_full: u64,
+    /// 5: four loads wait for the word.
+    pub targets_full: u64,
+    /// 6: not answered by a machine of this repository.
+    pub block_queued: u64,
+    /// 7: no register is free.
+    pub no_register: u64,
+    /// 8: every way of the set waits for words.
+    pub set_pending: u64,
+    /// 9: the write queue has too few places.
+    pub queue_full: u64,
+    /// 10: a bank has too little room.
+    pub bank_full: u64,
+}
+
+impl LostRounds {
+    // Counts a round that a cause took, and says whether the cause is one that passes.
+    fn count(&mut self, cause: Cause) -> bool
+        requires { tables.lost_total self.old < 2 ^ 63 }
+        ensures passes { result ≡ tables.passes cause }
+        ensures lost { self.new ≡ tables.with_lost self.old cause }
+        ensures total { tables.lost_total self.new ≤ tables.lost_total self.old + 1 }
+    {
+        match cause {
+            Cause::TagInUse => self.tag_in_use += 1,
+            Cause::RepliesFull => self.replies_full += 1,
+            Cause::TargetsFull => self.targets_full += 1,
+            Cause::BlockQueued => self.block_queued += 1,
+            Cause::NoRegister => self.no_register += 1,
+            Cause::SetPending => self.set_pending += 1,
+            Cause::QueueFull => self.queue_full += 1,
+            Cause::BankFull => self.bank_full += 1,
+            _ => return false,
+        }
+        true
+    }
+}
+
+// How many tags there are.
+#[tactic(auto, unfolding(crate::specs::Tables::tag_count))]
+fn tag_count() -> usize
+    ensures tags { result ≡ tables.tag_count }
+    ensures many { 65536 ≤ result }
+{
+    65_536
+}
+
+// The counts so far, when each tag's load was accepted, and whether the request at hand has stalled.
+#[derive(Drop)]
+pub struct Counter {
+    pub table: Table,
+    pub since: Vec<u64>,
+    pub is_stalled: bool,
+}
+
+impl Counter {
+    // Nothing is counted.
+    pub fn new(alloc: Global) -> Result<Counter, AllocError>
+        ensures nothing { IfOk result (λ c. counting c ≡ tables.nothing) }
+        ensures tags { IfOk result (λ c. 65536 ≤ length c.since.items) }
+    {
+        let since = vec![in alloc; 0u64; tag_count()]?;
+        Ok(Counter {
+            table: Table::default(),
+            since,
+            is_stalled: false,
+        })
+    }
+
+    // Counts what an accepted request found, and the registers in use behind it.
+    fn count_found(&mut self, note: &Note)
+        requires { total self.old.table < 2 ^ 62 }
+        ensures found { counting self.new
+            ≡ tables.with_found (counting self.old) note.now.found note.now.registers }
+        ensures total { total self.new.table ≤ total self.old.table + 1 }
+        ensures waited { self.new.table.waited ≡ self.old.table.waited }
+    {
+        match note.found {
+            Some(Lookup::Hit) => self.table.hits += 1,
+            Some(Lookup::Join) => self.table.joins += 1,
+            Some(Lookup::Miss) => self.table.misses += 1,
+            None => {}
+        }
+        self.table.registers = self.table.registers.max(note.registers);
+    }
+
+    // Counts a request that was accepted.
+    fn count_accepted(&mut self, note: &Note)
+        requires room { total self.old.table < 2 ^ 61 }
+        requires tags { 65536 ≤ length self.old.since.items }
+        ensures accepted { counting self.new
+            ≡ tables.with_accepted (counting self.old) note.now }
+        ensures total { total self.new.table ≤ total self.old.table + 2 }
+        ensures waited { self.new.table.waited ≡ self.old.table.waited }
+        ensures tags { 65536 ≤ length self.new.since.items }
+    {
+        self.table.accepted += 1;
+        self.is_stalled = false;
+        if let Event::Load { tag, .. } = note.event {
+            self.since[tag as usize] = note.round;
+        }
+        self.count_found(note);
+    }
+
+    // Counts a request that was refused.
+    fn count_refused(&mut self, cause: Cause)
+        requires { total self.old.table < 2 ^ 61 }
+        ensures refused { counting self.new ≡ tables.with_refused (counting self.old) cause }
+        ensures total { total self.new.table ≤ total self.old.table + 2 }
+        ensures waited { self.new.table.waited ≡ self.old.table.waited }
+        ensures tags { self.new.since ≡ self.old.since }
+    {
+        if self.table.lost.count(cause) {
+            if !self.is_stalled {
+                self.table.stalled += 1;
+            }
+            self.is_stalled = true;
+        } else {
+            self.table.denied += 1;
+            self.is_stalled = false;
+        }
+    }
+
+    // Counts a load that was answered.
+    fn count_value(&mut self, tag: u16, round: u64)
+        requires room { total self.old.table < 2 ^ 61 }
+        requires waits { self.old.table.waited < 2 ^ 127 }
+        requires tags { 65536 ≤ length self.old.since.items }
+        ensures value { counting self.new ≡ tables.with_value (counting self.old) tag round }
+        ensures total { total self.new.table ≤ total self.old.table + 1 }
+        ensures waited { self.new.table.waited ≤ self.old.table.waited + 2 ^ 64 }
+        ensures tags { self.new.since ≡ self.old.since }
+    {
+        let wait = round.saturating_sub(self.since[tag as usize]);
+        self.table.values += 1;
+        self.table.waited += u128::from(wait);
+        self.table.longest = self.table.longest.max(wait);
+    }
+
+    // Counts an event with its answer.
+    #[tactic(auto, unfolding(crate::specs::Tables::counted))]
+    fn count(&mut self, note: &Note)
+        requires room { total self.old.table < 2 ^ 61 }
+        requires waits { self.old.table.waited < 2 ^ 127 }
+        requires tags { 65536 ≤ length self.old.since.items }
+        ensures counts { counting self.new ≡ tables.counted (counting self.old) note.now }
+        ensures total { total self.new.table ≤ total self.old.table + 2 }
+        ensures waited { self.new.table.waited ≤ self.old.table.waited + 2 ^ 64 }
+        ensures tags { 65536 ≤ length self.new.since.items }
+    {
+        match note.answer {
+            Answer::Accepted => self.count_accepted(note),
+            Answer::Value { tag, .. } => self.count_value(tag, note.round),
+            Answer::Refused(cause) => self.count_refused(cause),
+            Answer::Moved => {
+                if let Event::Drain = note.event {
+                    self.table.written += 1;
+                }
+            }
+            Answer::Nothing => {}
+        }
+    }
+
+    // Counts what was told of a round.
+    pub fn count_all(&mut self, notes: &[Note])
+        requires few { length notes.now ≤ 24 }
+        requires room { total self.old.table < 2 ^ 60 }
+        requires waits { self.old.table.waited < 2 ^ 126 }
+        requires tags { 65536 ≤ length self.old.since.items }
+        ensures counts { counting self.new
+            ≡ tables.counted_all (counting self.old) notes.now }
+        ensures total { total self.new.table ≤ total self.old.table + 48 }
+        ensures waited { self.new.table.waited ≤ self.old.table.waited + 24 * 2 ^ 64 }
+        ensures tags { 65536 ≤ length self.new.since.items }
+    {
+        for note in notes {
+            self.count(note);
+        }
+    }
+
+    // The table of a run of so many rounds.
+    pub fn table_after(&self, rounds: u64) -> Table
+        ensures { result ≡ tables.with_rounds (counting self.now) rounds }
+    {
+        Table {
+            rounds,
+            ..self.table
+        }
+    }
+}
+
+impl fmt::Display for LostRounds {
+    fn fmt<W: fmt::Write>(&self, f: &mut fmt::Formatter<W>) -> fmt::Result {
+        write!(
+            f,
+            "lost 3:{} 4:{} 5:{} 7:{} 8:{} 9:{} 10:{}",
+            self.tag_in_use,
+            self.replies_full,
+            self.targets_full,
+            self.no_register,
+            self.set_pending,
+            self.queue_full,
+            self.bank_full
+        )
+    }
+}
+
+impl Table {
+    /// The mean wait of an answered load in rounds: whole ones, and hundredths rounded down. Zeros if
+    /// no load was answered.
+    pub fn mean_wait(&self) -> (u128, u128) {
+        if self.values == 0 {
+            return (0, 0);
+        }
+        let values = u128::from(self.values);
+        let rest = self.waited % values;
+        (self.waited / values, rest * 100 / values)
+    }
+}
+
+impl fmt::Display for Table {
+    fn fmt<W: fmt::Write>(&self, f: &mut fmt::Formatter<W>) -> fmt::Result {
+        write!(
+            f,
+            "rounds {} accepted {} denied {} hits {} joins {} misses {} stalled {} {} ",
+            self.rounds,
+            self.accepted,
+            self.denied,
+            self.hits,
+            self.joins,
+            self.misses,
+            self.stalled,
+            self.lost
+        )?;
+        let (whole, hundredths) = self.mean_wait();
+        write!(
+            f,
+            "values {} mean {whole}.{hundredths:02} longest {} registers {} written {}",
+            self.values, self.longest, self.registers, self.written
+        )
+    }
+}
