@@ -1,0 +1,4 @@
+mod TagUses
+mod LineTexts
+mod LinesRead
+mod Endings

@@ -1,0 +1,97 @@
+-- What a step leaves of flat memory, stores and tags.
+use Rattle.std.proofs.Common.{◌≡◌, ◌≢◌, ℕ, ◌+◌, ◌<◌, Bool, true, false, cond, Option, Some, None, List, [], ◌∷◌, length, get_or, set, refl, sym, ◌∙◌, ap, subst, arith}
+use Rattle.std.specs.Prelude.{◌==◌, slice_set}
+use Rattle.std.proofs.Math.Path.{fun_ext}
+use Rattle.std.proofs.lemmas.Bool.{eqb-true}
+use Rattle.std.proofs.lemmas.Bool.Decides.{nat_tests}
+use Rattle.std.proofs.lemmas.List.{get_or-set_same, get_or-set_other, length-set}
+use Rattle.flat_model.specs.declared.Word.{Word}
+use Rattle.flat_model.specs.declared.Event.{Event}
+use Rattle.flat_model.specs.declared.Event.TheVariants.{Load, Store, Prefetch, Evict, Drain, Serve, Arrive, Process, Take}
+use Rattle.flat_model.specs.declared.Answer.{Answer}
+use Rattle.flat_model.specs.declared.Answer.TheVariants.{Accepted, Moved, Value, Nothing, Refused}
+use Rattle.flat_model.specs.Words.{merged}
+use Rattle.flat_model.specs.Flat.{Flat, word_at, may_answer, flat_after, flat_step}
+use Rattle.run_reasons.specs.declared.origins.Stores.{Stores}
+use Rattle.run_reasons.specs.declared.origins.TagUse.{TagUse}
+use Rattle.run_reasons.specs.declared.origins.TagUse.TheVariants.{Never}
+use Rattle.run_reasons.specs.Origins.{Origins, with_use, stores_after, tags_after, origins_after}
+use Rattle.run_reasons.specs.Shown.{uses_in}
+
+-- ---- tags
+
+use_at : (uses : List TagUse) (tag t : ℕ) (state : TagUse) (b : Bool) → tag < length uses → (t == tag) ≡ b
+    → get_or (set uses tag state) t Never ≡ cond b state (get_or uses t Never)
+use_at uses tag t state true lt e =
+    let same : t ≡ tag = eqb-true t tag e in
+    ap (λ k. get_or (set uses tag state) k Never) same ∙ get_or-set_same uses tag state Never lt
+use_at uses tag t state false lt e =
+    let other : t ≢ tag = grind (arith, nat_tests) in
+    get_or-set_other uses tag t state Never other
+
+-- one tag has become this
+pub uses_in-set : (uses : List TagUse) (tag : ℕ) (state : TagUse) → tag < length uses → uses_in (slice_set uses tag state) ≡ with_use (uses_in uses) tag state
+uses_in-set uses tag state lt = fun_ext (λ t. use_at uses tag t state (t == tag) lt refl)
+
+-- ---- steps
+
+len_after : (s : Flat) (event : Event) (answer : Answer) → length (flat_after s event answer).mem ≡ length s.mem
+len_after s (Store at word lanes) Accepted = length-set s.mem at (merged (word_at s.mem at) word lanes)
+len_after s (Store at word lanes) Moved = refl
+len_after s (Store at word lanes) (Value t w) = refl
+len_after s (Store at word lanes) Nothing = refl
+len_after s (Store at word lanes) (Refused c) = refl
+len_after s (Load tag at) Accepted = refl
+len_after s (Load tag at) Moved = refl
+len_after s (Load tag at) (Value t w) = refl
+len_after s (Load tag at) Nothing = refl
+len_after s (Load tag at) (Refused c) = refl
+len_after s (Take place) Accepted = refl
+len_after s (Take place) Moved = refl
+len_after s (Take place) (Value t w) = refl
+len_after s (Take place) Nothing = refl
+len_after s (Take place) (Refused c) = refl
+len_after s event answer = refl
+
+step_is : (s t : Flat) (b : Bool) → cond b (Some s) None ≡ Some t → (b ≡ true) × (t ≡ s)
+step_is s t true e = let q : t ≡ s = cc in (refl, q)
+step_is s t false e = cc
+
+pub step_may : (s t : Flat) (event : Event) (answer : Answer) → flat_step s event answer ≡ Some t → may_answer s event answer ≡ true
+step_may s t event answer e = (step_is (flat_after s event answer) t (may_answer s event answer) e).0
+
+pub step_after : (s t : Flat) (event : Event) (answer : Answer) → flat_step s event answer ≡ Some t → t ≡ flat_after s event answer
+step_after s t event answer e = (step_is (flat_after s event answer) t (may_answer s event answer) e).1
+
+-- a step keeps how many words memory has
+pub step_length : (s t : Flat) (event : Event) (answer : Answer) → flat_step s event answer ≡ Some t → length t.mem ≡ length s.mem
+step_length s t event answer e = ap (λ (x : Flat). length x.mem) (step_after s t event answer e) ∙ len_after s event answer
+
+-- a load leaves memory as it is, so its word may be read before or after
+tags_same : (o : Origins) (n : ℕ) (event : Event) (answer : Answer)
+    → tags_after (record { flat = flat_after o.flat event answer; stores = o.stores; tags = o.tags }) n event answer ≡ tags_after o n event answer
+tags_same o n (Load tag at) Accepted = refl
+tags_same o n (Load tag at) Moved = refl
+tags_same o n (Load tag at) (Value t w) = refl
+tags_same o n (Load tag at) Nothing = refl
+tags_same o n (Load tag at) (Refused c) = refl
+tags_same o n (Take place) Accepted = refl
+tags_same o n (Take place) Moved = refl
+tags_same o n (Take place) (Value t w) = refl
+tags_same o n (Take place) Nothing = refl
+tags_same o n (Take place) (Refused c) = refl
+tags_same o n event answer = refl
+
+-- flat memory made its step first, and then stores and tags were noted
+pub noted : (o m p : Origins) (n : ℕ) (event : Event) (answer : Answer)
+    → flat_step o.flat event answer ≡ Some m.flat → m.stores ≡ o.stores → m.tags ≡ o.tags
+    → p.flat ≡ m.flat → p.stores ≡ stores_after m.stores n event answer → p.tags ≡ tags_after m n event answer
+    → p ≡ origins_after o n event answer
+noted o m p n event answer step stores tags flat' stores' tags' =
+    let after = flat_after o.flat event answer in
+    let mk : Flat → List Stores → (ℕ → TagUse) → Origins = λ f s t. record { flat = f; stores = s; tags = t } in
+    let flat : m.flat ≡ after = step_after o.flat m.flat event answer step in
+    let middle : m ≡ mk after o.stores o.tags = ap (λ f. mk f m.stores m.tags) flat ∙ ap (λ s. mk after s m.tags) stores ∙ ap (λ t. mk after o.stores t) tags in
+    ap (λ f. mk f p.stores p.tags) (flat' ∙ flat)
+    ∙ ap (λ s. mk after s p.tags) (stores' ∙ ap (λ s. stores_after s n event answer) stores)
+    ∙ ap (λ t. mk after (stores_after o.stores n event answer) t) (tags' ∙ ap (λ (x : Origins). tags_after x n event answer) middle ∙ tags_same o n event answer)

@@ -1,0 +1,36 @@
+use Rattle.std.proofs.Common.{◌≡◌, ℕ, ◌<◌, ◌≤◌, Bool, true, false, List, length, get_or, replicate, ap, sym, ◌∙◌, refl, arith, rules}
+use Rattle.std.specs.Prelude.{nat_lt}
+use Rattle.std.proofs.Math.Path.{fun_ext}
+use Rattle.std.proofs.lemmas.List.{get_or-replicate, get_or_past, length-replicate}
+use Rattle.std.proofs.lemmas.Bool.Decides.{nat_tests}
+use Rattle.flat_model.specs.Flat.{Flat}
+use Rattle.flat_model.specs.Memory as memory
+use Rattle.trace_text.specs.Checks.{zeros}
+use Rattle.run_reasons.specs.declared.origins.Stores.{Stores}
+use Rattle.run_reasons.specs.declared.origins.TagUse.{TagUse}
+use Rattle.run_reasons.specs.declared.origins.TagUse.TheVariants.{Never}
+use Rattle.run_reasons.specs.Origins.{Origins, no_stores}
+use Rattle.run_reasons.specs.Shown.{shown, uses_in}
+use Rattle.run_reasons.proofs.explainer.Explainer.new.Goals as goal
+
+never_at : (n t : ℕ) (b : Bool) → nat_lt t n ≡ b → uses_in (replicate n Never) t ≡ Never
+never_at n t true e = let lt : t < n = grind (arith, nat_tests) in get_or-replicate n t Never Never lt
+never_at n t false e =
+    let past : n ≤ t = grind (arith, nat_tests) in
+    get_or_past (replicate n Never) t Never (omega (arith, past, length-replicate n Never))
+
+never_used : (n : ℕ) → uses_in (replicate n Never) ≡ (λ tag. Never)
+never_used n = fun_ext (λ t. never_at n t (nat_lt t n) refl)
+
+pub returns : goal.returns
+unfolding shown
+returns c =
+    let words = c.args.words in
+    let mk : Flat → List Stores → (ℕ → TagUse) → Origins = λ f s t. record { flat = f; stores = s; tags = t } in
+    let flat : memory.shown c.in_ok-flat.flat ≡ zeros words = c.in_ok-flat.ensures.zeros in
+    let stores : c.in_ok-stores.stores.items ≡ replicate words no_stores = c.in_ok-stores.ensures.items in
+    let tags : c.in_ok-tags.tags.items ≡ replicate 65536 Never = c.in_ok-tags.ensures.items in
+    ap (λ f. mk f c.in_ok-stores.stores.items (uses_in c.in_ok-tags.tags.items)) flat
+    ∙ ap (λ s. mk (zeros words) s (uses_in c.in_ok-tags.tags.items)) stores
+    ∙ ap (λ l. mk (zeros words) (replicate words no_stores) (uses_in l)) tags
+    ∙ ap (mk (zeros words) (replicate words no_stores)) (never_used 65536)

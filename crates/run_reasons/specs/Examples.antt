@@ -1,0 +1,66 @@
+-- Worked examples, each checked by computing.
+use Rattle.std.specs.Prelude.{◌≡◌, ℕ, ◌+◌, List, [], ◌∷◌}
+use Rattle.std.proofs.Common.{refl}
+use Rattle.flat_model.specs.declared.Word.{Word}
+use Rattle.flat_model.specs.declared.Lanes.{Lanes}
+use Rattle.flat_model.specs.declared.Cause.TheVariants.{OutOfRange, TagInUse, NoRegister, StackFull}
+use Rattle.flat_model.specs.declared.Event.{Event}
+use Rattle.flat_model.specs.declared.Event.TheVariants.{Load, Store, Drain, Take}
+use Rattle.flat_model.specs.declared.Answer.{Answer}
+use Rattle.flat_model.specs.declared.Answer.TheVariants.{Accepted, Moved, Value, Refused}
+use Rattle.flat_model.specs.Words.{has, merged}
+use Rattle.run_reasons.specs.Origins.{Origins, beginning, origins_after, stored_in}
+use Rattle.run_reasons.specs.Reasons.{reason_of}
+use Rattle.run_reasons.specs.declared.reason.Reason.TheVariants.{NeverAnswered, NeverRefused, Outside, Inside, TagInUse as InUse, NeverLoaded, Taken, WrongWord}
+
+abbrev word : ℕ → ℕ → ℕ → ℕ → Word
+word a b c d = record { b0 = a; b1 = b; b2 = c; b3 = d }
+
+-- what these events and answers leave of two words of zeros, of which the first is line n
+abbrev after : ℕ → Origins → List (Event × Answer) → Origins
+after n o [] = o
+after n o (step ∷ steps) = after (n + 1) (origins_after o n step.0 step.1) steps
+
+-- byte 0 of word 1 is stored in lines 1 and 2, loaded under tag 7 in line 3, and stored again in line 4
+abbrev stored_again : Origins
+stored_again = after 1 (beginning 2) (
+    (Store 1 (word 10 0 0 13) (record { 0 = 9 }), Accepted) ∷ (Store 1 (word 11 0 0 0) (record { 0 = 1 }), Accepted) ∷ (Load 7 1, Accepted)
+    ∷ (Store 1 (word 12 14 0 0) (record { 0 = 3 }), Accepted) ∷ []
+    )
+
+-- The load is owed what stood there in line 3. Of the bytes that came, the first is that of line 4, and the second is none
+-- that a last store put there.
+wrong_word : reason_of stored_again (Take 0) (Value 7 (word 12 1 0 13)) ≡ WrongWord (record {
+  tag = 7;
+  load = record { line = 3; at = 1; word = word 11 0 0 13; stores = record { b0 = 2; b1 = 0; b2 = 0; b3 = 1 } };
+  got = word 12 1 0 13;
+  later = record { b0 = 4; b1 = 0; b2 = 0; b3 = 0 };
+})
+unfolding has merged stored_in
+wrong_word = refl
+
+in_use : reason_of stored_again (Load 7 0) (Refused NoRegister) ≡ InUse 7 3
+unfolding has merged stored_in
+in_use = refl
+
+never_loaded : reason_of stored_again (Take 0) (Value 8 (word 0 0 0 0)) ≡ NeverLoaded 8
+unfolding has merged stored_in
+never_loaded = refl
+
+taken : reason_of (after 5 stored_again ((Take 0, Value 7 (word 11 0 0 13)) ∷ [])) (Load 7 0) (Refused TagInUse) ≡ Taken 7 5
+unfolding has merged stored_in
+taken = refl
+
+outside : reason_of stored_again (Load 7 2) Accepted ≡ Outside 2 2
+unfolding has merged stored_in
+outside = refl
+
+inside : reason_of stored_again (Load 8 1) (Refused OutOfRange) ≡ Inside 1 2
+unfolding has merged stored_in
+inside = refl
+
+never_answered : reason_of stored_again Drain Accepted ≡ NeverAnswered
+never_answered = refl
+
+never_refused : reason_of stored_again Drain (Refused StackFull) ≡ NeverRefused
+never_refused = refl

@@ -1,0 +1,6 @@
+pub mod Origins
+pub mod Reasons
+pub mod Shown
+pub mod Runs
+pub mod Lines
+pub mod Examples

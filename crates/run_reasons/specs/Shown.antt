@@ -1,0 +1,26 @@
+-- What an `Explainer` shows, and what the faults of a line say.
+use Rattle.std.specs.Prelude.{ℕ, ◌≡◌, Option, Some, None, List, slice_index_or}
+use Rattle.flat_model.specs.declared.Event.{Event}
+use Rattle.flat_model.specs.declared.Answer.{Answer}
+use Rattle.flat_model.specs.Flat.{flat_step}
+use Rattle.flat_model.specs.Memory as memory
+use Rattle.run_reasons.specs.Origins.{Origins}
+use Rattle.run_reasons.specs.Reasons.{mismatch_at}
+use Rattle.run_reasons.specs.declared.origins.TagUse.{TagUse}
+use Rattle.run_reasons.specs.declared.origins.TagUse.TheVariants.{Never}
+use Rattle.run_reasons.specs.declared.explainer.Explainer.{Explainer}
+use Rattle.run_reasons.specs.declared.explainer.ReadFault.{ReadFault}
+use Rattle.run_reasons.specs.declared.explainer.ReadFault.TheVariants.{Mismatch, OutOfMemory}
+
+-- what became of each tag of a list, and of those beyond it
+abbrev pub uses_in : List TagUse → ℕ → TagUse
+uses_in uses tag = slice_index_or uses tag Never
+
+-- the origins that it keeps
+unfoldable pub shown : Explainer → Origins
+shown e = record { flat = memory.shown e.flat; stores = e.stores.items; tags = uses_in e.tags.items }
+
+-- what each fault says of a line: its pair isn't listed, for this reason, or a load was owed a word
+abbrev pub ReadFaultIs : Origins → ℕ → Event → Answer → ReadFault → Type 0
+ReadFaultIs o n event answer (Mismatch m) = (flat_step o.flat event answer ≡ None) × (m ≡ mismatch_at o n event answer)
+ReadFaultIs o n event answer OutOfMemory = memory.more_owed event answer ≡ 1

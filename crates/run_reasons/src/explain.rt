@@ -1,0 +1,125 @@
+//! A recorded run is read as it comes, and its first mismatch explained.
+
+ghost use Rattle.std.specs.Prelude.{◌≡◌, ◌<◌, ℕ, List, [], length};
+ghost use Rattle.run_reasons.specs.Runs.{Explains, explained_by, status_of};
+ghost use Rattle.run_reasons.specs.Lines.{HasRead, EndsWith};
+
+use crate::lines::{Lines, Stop};
+use crate::reason::Mismatch;
+use std::alloc::Global;
+use std::fmt;
+use trace_text::{Source, TraceFault};
+
+/// How many bytes the buffer has through which a text is read.
+const BUFFER_LEN: usize = 4096;
+
+/// What became of a recorded run.
+#[derive(Clone, Copy, PartialEq, Eq, Debug)]
+pub enum Explanation {
+    /// It is a run of flat memory, of so many events.
+    Flat {
+        /// How many of its lines are events.
+        steps: u64,
+    },
+    /// Flat memory can't answer this line of it.
+    Mismatch(Mismatch),
+}
+
+impl Explanation {
+    /// The status with which a program ends that tells it: 0 for a flat run, and 1.
+    pub fn status(&self) -> u8
+        ensures { result ≡ status_of self.now }
+    {
+        match self {
+            Explanation::Flat { .. } => 0,
+            Explanation::Mismatch(_) => 1,
+        }
+    }
+}
+
+/// `flat run, N steps`, or the text of the mismatch; no line feed stands at the end.
+impl fmt::Display for Explanation {
+    fn fmt<W: fmt::Write>(&self, f: &mut fmt::Formatter<W>) -> fmt::Result {
+        match self {
+            Explanation::Flat { steps } => write!(f, "flat run, {steps} steps"),
+            Explanation::Mismatch(mismatch) => write!(f, "{mismatch}"),
+        }
+    }
+}
+
+impl Stop {
+    // What a reading gives that ends so.
+    fn explained(self) -> Result<Explanation, TraceFault>
+        ensures { result ≡ explained_by self }
+    {
+        match self {
+            Stop::Mismatch(mismatch) => Ok(Explanation::Mismatch(mismatch)),
+            Stop::Fault(fault) => Err(fault),
+        }
+    }
+}
+
+/// Reads a recorded run as it comes, over `words` words of zeros, up to the first line that flat
+/// memory can't answer, and says why. Each line is read as by
+/// [`read_pair`](trace_text::read_pair). Nothing is read behind the piece in which that line ends:
+/// so on a pipe that is still being written the answer comes with the line. A faulty line ends the
+/// reading at once too. [`check_text`](trace_text::check_text) finds the same line first, and reads on
+/// behind it.
+///
+/// A fault gives no explanation: [`TraceFault::Line`] with the number of the line, counted from 1,
+/// that can't be read; [`TraceFault::Read`] if the reader answered an error;
+/// [`TraceFault::TooManyLines`] if line 2^64 begins. [`TraceFault::OutOfMemory`] may come in place of
+/// any answer, and [`TraceFault::Write`] never comes.
+///
+/// Before the first read memory is taken for the words and for the last store of each of their bytes,
+/// for what became of the 65,536 tags, and one buffer of 4,096 bytes. What is taken later grows with
+/// the tags that are owed a word at a time alone. So a run has no limit of lines but their number's.
+pub fn explain_text<R: Source>(
+    alloc: Global,
+    reader: &mut R,
+    words: u32,
+) -> Result<Explanation, TraceFault>
+    ensures { Explains R.gave R.failed words reader.old reader.new result }
+{
+    let mut lines = Lines::new(alloc, words)?;
+    let mut buffer = vec![in alloc; 0u8; BUFFER_LEN]?;
+    read_through(reader, &mut lines, &mut buffer)
+}
+
+// Reads on through a buffer, up to the end or the first line that ends the reading.
+fn read_through<R: Source>(
+    reader: &mut R,
+    lines: &mut Lines,
+    buffer: &mut [u8],
+) -> Result<Explanation, TraceFault>
+    requires room { 0 < length buffer.old }
+    requires begun { (words : ℕ) × HasRead words [] lines.old }
+    ensures { (words : ℕ) → HasRead words [] lines.old
+        → Explains R.gave R.failed words reader.old reader.new result }
+{
+    'pieces: loop {
+        let given = match reader.read_some(buffer) {
+            Ok(given) => given,
+            Err(_) => return Err(TraceFault::Read),
+        };
+        if given == 0 {
+            return lines.end();
+        }
+        if let Err(stop) = lines.read(&buffer[..given]) {
+            return stop.explained();
+        }
+    }
+}
+
+impl Lines {
+    // What is told where the input ends behind these lines.
+    fn end(&self) -> Result<Explanation, TraceFault>
+        requires { (words : ℕ) × (before : List ℕ) × HasRead words before self.now }
+        ensures { EndsWith self.now result }
+    {
+        match self.unfinished() {
+            Some(fault) => Err(fault),
+            None => Ok(Explanation::Flat { steps: self.steps }),
+        }
+    }
+}

@@ -1,0 +1,262 @@
+//! A recorded run, explained line by line.
+
+ghost use Rattle.std.specs.Prelude.{◌≡◌, ◌<◌, ℕ, true, length, vec_len, replicate, slice_set, Some, IfOk, IfErr, OnOk, OnErr};
+ghost use Rattle.flat_model.specs.Flat.{Flat, word_at, may_answer, flat_step};
+ghost use Rattle.flat_model.specs.Memory as memory;
+ghost use Rattle.trace_text.specs.Checks.{zeros};
+ghost use Rattle.run_reasons.specs.Origins.{no_stores};
+
+use crate::origins::{AcceptedLoad, Stores, TagUse};
+use crate::reason::{Mismatch, Reason, WrongWord, is_ever, is_out_of_range, never, tag_reason};
+use flat_model::{Answer, Event, FlatMemory, Lanes, StepFault, Word};
+use std::alloc::{AllocError, Global};
+
+/// How many tags there are.
+pub const TAGS: usize = 65_536;
+
+/// Why a line wasn't read. After each of these the explainer is as it was.
+#[derive(Clone, Copy, PartialEq, Eq, Debug)]
+pub enum ReadFault {
+    /// Flat memory can't answer so.
+    Mismatch(Mismatch),
+    /// There was too little memory for the word that a load is owed.
+    OutOfMemory,
+}
+
+/// Flat memory behind the lines so far, with the line that last stored each byte and what became of
+/// each tag.
+#[derive(Drop)]
+pub struct Explainer {
+    flat: FlatMemory,
+    words: u32,
+    stores: Vec<Stores>,
+    tags: Vec<TagUse>,
+    ghost all_words: { length (memory.shown flat).mem ≡ words },
+    ghost all_stores: { vec_len stores ≡ words },
+    ghost all_tags: { vec_len tags ≡ 65536 },
+}
+
+// Memory of so many words of zeros.
+fn zero_memory(alloc: Global, words: u32) -> Result<FlatMemory, AllocError>
+    ensures zeros { IfOk result (λ m. memory.shown m ≡ zeros words) }
+    ensures len { IfOk result (λ m. length (memory.shown m).mem ≡ words) }
+{
+    let image = vec![in alloc; Word::default(); words as usize]?;
+    FlatMemory::new(alloc, image.as_slice())
+}
+
+// So many words that no line has stored.
+fn no_stores(alloc: Global, words: u32) -> Result<Vec<Stores>, AllocError>
+    ensures items { IfOk result (λ v. v.items ≡ replicate words no_stores) }
+    ensures len { IfOk result (λ v. vec_len v ≡ words) }
+{
+    vec![in alloc; Stores::default(); words as usize]
+}
+
+// So many tags, of which no load has had one.
+fn no_uses(alloc: Global, count: usize) -> Result<Vec<TagUse>, AllocError>
+    ensures items { IfOk result (λ v. v.items ≡ replicate count TagUse.Never) }
+    ensures len { IfOk result (λ v. vec_len v ≡ count) }
+{
+    vec![in alloc; TagUse::Never; count]
+}
+
+#[tactic(auto, unfolding(crate::specs::Shown::shown))]
+impl Explainer {
+    ghost use Rattle.run_reasons.specs.Origins.{stores_at, stored_in, with_use, accepted_load, stores_after, tags_after, origins_after, beginning};
+    ghost use Rattle.run_reasons.specs.Reasons.{reason_of, reason_here, place_reason, value_reason};
+    ghost use Rattle.run_reasons.specs.Shown.{shown, ReadFaultIs};
+
+    /// Memory of so many words of zeros, before any line. `AllocError` says that there was too
+    /// little memory: nothing is made.
+    pub fn new(alloc: Global, words: u32) -> Result<Explainer, AllocError>
+        ensures { IfOk result (λ e. shown e ≡ beginning words) }
+    {
+        let flat = zero_memory(alloc, words)?;
+        let stores = no_stores(alloc, words)?;
+        let tags = no_uses(alloc, TAGS)?;
+        Ok(Explainer {
+            flat,
+            words,
+            stores,
+            tags,
+        })
+    }
+
+    /// Reads the line of this number: an event and the answer that it got. A line that only shows
+    /// something is passed over by its caller, and counted.
+    ///
+    /// It is `Ok` exactly if flat memory can answer so, and the origins are then those that the line
+    /// leaves. [`ReadFault::Mismatch`] says why it can't. Only an accepted load may need more memory:
+    /// [`ReadFault::OutOfMemory`] says that there was too little. After both nothing has changed.
+    pub fn read(&mut self, line: u64, event: Event, answer: Answer) -> Result<(), ReadFault>
+        ensures flat { OnOk result
+            (flat_step (shown self.old).flat event answer ≡ Some (shown self.new).flat) }
+        ensures ok { OnOk result
+            (shown self.new ≡ origins_after (shown self.old) line event answer) }
+        ensures fault { IfErr result (ReadFaultIs (shown self.old) line event answer) }
+        ensures unchanged { OnErr result (shown self.new ≡ shown self.old) }
+    {
+        match self.flat.step(event, answer) {
+            Ok(()) => {
+                self.note(line, event, answer);
+                Ok(())
+            }
+            Err(StepFault::OutOfMemory) => Err(ReadFault::OutOfMemory),
+            Err(StepFault::Mismatch) => Err(ReadFault::Mismatch(Mismatch {
+                line,
+                event,
+                answer,
+                reason: self.reason(event, answer),
+            })),
+        }
+    }
+
+    // Notes what flat memory's step, which is made, says of stores and tags.
+    fn note(&mut self, line: u64, event: Event, answer: Answer)
+        requires may { (s : Flat) × (length s.mem ≡ length (shown self.old).flat.mem)
+            × (may_answer s event answer ≡ true) }
+        ensures flat { (shown self.new).flat ≡ (shown self.old).flat }
+        ensures stores { (shown self.new).stores
+            ≡ stores_after (shown self.old).stores line event answer }
+        ensures tags { (shown self.new).tags ≡ tags_after (shown self.old) line event answer }
+    {
+        match (event, answer) {
+            (Event::Load { tag, at }, Answer::Accepted) => {
+                let load = self.accepted_load(line, at);
+                self.set_use(tag, TagUse::Loaded(load));
+            }
+            (Event::Store { at, word: _, lanes }, Answer::Accepted) => {
+                self.store(line, at, lanes);
+            }
+            (Event::Take { place: _ }, Answer::Value { tag, word: _ }) => {
+                self.set_use(tag, TagUse::Taken { line });
+            }
+            _ => {}
+        }
+    }
+
+    // A load of this address, accepted in this line.
+    fn accepted_load(&self, line: u64, at: u32) -> AcceptedLoad
+        ensures { result ≡ accepted_load (shown self.now) line at }
+    {
+        AcceptedLoad {
+            line,
+            at,
+            word: self.word_at(at),
+            stores: self.stores_at(at),
+        }
+    }
+
+    // The word at an address; zeros outside memory.
+    fn word_at(&self, at: u32) -> Word
+        ensures { result ≡ word_at (shown self.now).flat.mem at }
+    {
+        self.flat.word(at).unwrap_or_default()
+    }
+
+    // The lines that last stored the bytes of a word; none outside memory.
+    fn stores_at(&self, at: u32) -> Stores
+        ensures { result ≡ stores_at (shown self.now).stores at }
+    {
+        self.stores.get(at as usize).copied().unwrap_or_default()
+    }
+
+    // What became of a tag.
+    fn use_of(&self, tag: u16) -> TagUse
+        ensures { result ≡ (shown self.now).tags tag }
+    {
+        self.tags[tag as usize]
+    }
+
+    // The bytes in these lanes are stored in this line.
+    fn store(&mut self, line: u64, at: u32, lanes: Lanes)
+        requires { at < length (shown self.old).flat.mem }
+        ensures flat { (shown self.new).flat ≡ (shown self.old).flat }
+        ensures stores { (shown self.new).stores ≡ slice_set (shown self.old).stores at
+            (stored_in line lanes (stores_at (shown self.old).stores at)) }
+        ensures tags { (shown self.new).tags ≡ (shown self.old).tags }
+    {
+        let old = self.stores[at as usize];
+        self.stores[at as usize] = old.stored_in(line, lanes);
+    }
+
+    // The tag becomes this.
+    fn set_use(&mut self, tag: u16, state: TagUse)
+        ensures flat { (shown self.new).flat ≡ (shown self.old).flat }
+        ensures stores { (shown self.new).stores ≡ (shown self.old).stores }
+        ensures tags { (shown self.new).tags ≡ with_use (shown self.old).tags tag state }
+    {
+        self.tags[tag as usize] = state;
+    }
+
+    // Why flat memory can't answer so, where it can't.
+    fn reason(&self, event: Event, answer: Answer) -> Reason
+        ensures { result ≡ reason_of (shown self.now) event answer }
+    {
+        if !is_ever(event, answer) {
+            return never(answer);
+        }
+        match event {
+            Event::Load { tag, at } => {
+                self.place_reason(at, answer, tag_reason(tag, self.use_of(tag)))
+            }
+            Event::Store { at, word: _, lanes } => {
+                let lanes_reason = if lanes.has_any() {
+                    Reason::HasLanes
+                } else {
+                    Reason::NoLanes
+                };
+                self.place_reason(at, answer, lanes_reason)
+            }
+            Event::Prefetch { at } => self.place_reason(at, answer, never(answer)),
+            Event::Take { .. } => self.take_reason(answer),
+            _ => never(answer),
+        }
+    }
+
+    // Why a request for a word can't be answered so: by where the word lies, or else this reason.
+    fn place_reason(&self, at: u32, answer: Answer, other: Reason) -> Reason
+        ensures { result ≡ place_reason (shown self.now) at answer other }
+    {
+        let words = self.words;
+        if at >= words {
+            return Reason::Outside { at, words };
+        }
+        if is_out_of_range(answer) {
+            return Reason::Inside { at, words };
+        }
+        other
+    }
+
+    // Why a take can't be answered so.
+    fn take_reason(&self, answer: Answer) -> Reason
+        ensures { (place : ℕ) → result ≡ reason_here (shown self.now) (Event.Take place) answer }
+    {
+        match answer {
+            Answer::Value { tag, word } => self.value_reason(tag, word),
+            _ => never(answer),
+        }
+    }
+
+    // Why a value can't be taken.
+    fn value_reason(&self, tag: u16, got: Word) -> Reason
+        ensures { result
+            ≡ value_reason (shown self.now) tag got ((shown self.now).tags tag) }
+    {
+        match self.use_of(tag) {
+            TagUse::Never => Reason::NeverLoaded { tag },
+            TagUse::Loaded(load) => {
+                let now = self.word_at(load.at);
+                let later = self.stores_at(load.at).later(load.line, now, got);
+                Reason::WrongWord(WrongWord {
+                    tag,
+                    load,
+                    got,
+                    later,
+                })
+            }
+            TagUse::Taken { line } => Reason::Taken { tag, line },
+        }
+    }
+}
