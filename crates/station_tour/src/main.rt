@@ -8,17 +8,23 @@ mod fault;
 mod gate;
 mod lines;
 mod plan;
+mod rates;
 mod run;
+mod soak;
 mod story;
+#[cfg(test)]
+mod tests;
 
-use crate::checks::is_flat;
+use crate::checks::{Findings, Outcome, are_told, is_flat, read_journal};
 use crate::command_line::{CommandLine, Show, read_words};
 use crate::fault::TourFault;
 use crate::plan::{Plan, WORDS};
-use crate::run::run_on_threads;
+use crate::rates::{serve_once, tell_rates};
+use crate::run::{Ran, run_on_threads};
+use crate::soak::soak;
 use crate::story::{tell_journal, tell_run, tell_story};
 use clap::error::ErrorKind;
-use ring_station::Audit;
+use std::alloc::{AllocError, Global};
 use std::io::{BufWriter, Print, Write};
 use std::process::ExitCode;
 use std::rt::{Clock, Env};
@@ -45,8 +51,8 @@ fn main(rt: HostRuntime) -> ExitCode {
     ExitCode::from(status)
 }
 
-// Runs the tour that the command line asks for. The status is 1 if the audit isn't clean, or the
-// journal isn't flat.
+// Does what the command line asks for. The status is 1 if an audit isn't clean, a journal isn't
+// flat, or a port's list isn't the journal's part of it.
 fn start<R: AllocGlobal + Clock + Env + Print + Threads + Sync, E: Print>(
     rt: &R,
     errors: &E,
@@ -64,12 +70,15 @@ fn start<R: AllocGlobal + Clock + Env + Print + Threads + Sync, E: Print>(
     let is_good = match show {
         Show::Story => tour(rt, &mut output, &mut errors, &plan, false)?,
         Show::Journal => tour(rt, &mut output, &mut errors, &plan, true)?,
+        Show::Rates => tell_rates(rt, &mut output, &plan)?,
+        Show::Once(server) => serve_once(rt, server, &plan)?,
+        Show::Soak { stations } => soak(rt, &mut output, &mut errors, stations, plan.seed)?,
     };
     output.flush()?;
     Ok(u8::from(!is_good))
 }
 
-// Runs the ports on threads, and tells of it. Says whether the audit is clean and the journal flat.
+// Runs the ports on threads, and tells of it. Says whether all that was looked for was found.
 fn tour<R: AllocGlobal + Clock + Threads + Sync, W: Write, E: Write>(
     rt: &R,
     output: &mut W,
@@ -81,13 +90,23 @@ fn tour<R: AllocGlobal + Clock + Threads + Sync, W: Write, E: Write>(
     let begun = Instant::now(rt)?;
     let ran = run_on_threads(rt, plan, &scripts)?;
     let took = begun.elapsed(rt)?;
-    let is_flat = is_flat(rt.alloc(), &ran.station.cache, WORDS)?;
+    let findings = look_at(rt.alloc(), &ran)?;
     if journal {
         tell_journal(output, &ran)?;
     } else {
-        tell_story(output, plan, &scripts, &ran, is_flat)?;
+        tell_story(output, plan, &scripts, &ran, &findings)?;
     }
     output.flush()?;
     tell_run(errors, plan, &ran, took)?;
-    Ok(is_flat && ran.audit == Audit::Clean)
+    Ok(findings.outcome() == Outcome::Good)
+}
+
+// What is found of a station behind its run.
+fn look_at(alloc: Global, ran: &Ran) -> Result<Findings, AllocError> {
+    let journal = read_journal(alloc, &ran.station.cache)?;
+    Ok(Findings {
+        audit: ran.audit,
+        is_flat: is_flat(alloc, &journal, WORDS)?,
+        are_told: Some(are_told(alloc, &journal, &ran.lists)?),
+    })
 }

@@ -1,6 +1,8 @@
 //! What the ports of a tour ask, made from a seed.
 ghost use Rattle.std.specs.Prelude.{◌≡◌, ◌≤◌, ◌<◌, true, IfOk, vec_len};
+ghost use Rattle.std.specs.List.{All};
 ghost use Rattle.station_journal.specs.Conversation.{is_request};
+ghost use Rattle.station_tour.specs.Scripts.{AreRequests};
 
 use flat_model::{Lanes, Shape, Word};
 use rand_core::utils::NextWord;
@@ -37,11 +39,11 @@ const OWN_WORDS: u32 = WORDS / MOST_PORTS;
 pub fn shape() -> Shape {
     Shape {
         words: WORDS,
-        sets: 2,
-        banks: 2,
+        sets: 4,
+        banks: 4,
         bank_queue: 8,
         write_queue: 8,
-        replies: 16,
+        replies: 8,
     }
 }
 
@@ -69,7 +71,8 @@ impl Plan {
 
     /// The script of each port, in the order of their numbers.
     pub fn scripts(&self, alloc: Global) -> Result<Vec<Vec<Ask>>, AllocError>
-        ensures { IfOk result (λ scripts. vec_len scripts ≡ self.now.ports) }
+        ensures number { IfOk result (λ scripts. vec_len scripts ≡ self.now.ports) }
+        ensures requests { IfOk result (λ scripts. All (λ s. AreRequests s.items) scripts.items) }
     {
         let mut scripts = Vec::new(alloc);
         for port in 0..self.ports {
@@ -78,25 +81,33 @@ impl Plan {
         Ok(scripts)
     }
 
-    // A port loads and stores words of its own, so what it is told doesn't depend on the others;
-    // their blocks it shares with them.
     fn script(&self, alloc: Global, port: u32) -> Result<Vec<Ask>, AllocError>
         requires { port < 16 }
+        ensures { IfOk result (λ script. AreRequests script.items) }
     {
         let mut random = Pcg32::new(self.seed, u64::from(port));
         let mut asks = Vec::new(alloc);
         for number in 0..self.asks {
-            let pick = random.next_word();
-            let at = pick / 8 % OWN_WORDS * MOST_PORTS + port;
-            let word = bytes_of(random.next_word());
-            asks.push(ask_by(pick, (number % 256) as u8, at, word, BLOCK_WORDS as u32))?;
+            asks.push(own_ask(&mut random, port, number))?;
         }
         Ok(asks)
     }
 }
 
-/// An ask by a picked number: half of them are loads, a quarter stores, and the others prefetches and
-/// evictions.
+// A port loads and stores words of its own, so what it is told doesn't depend on the others; their
+// blocks it shares with them.
+fn own_ask(random: &mut Pcg32, port: u32, number: u32) -> Ask
+    requires { port < 16 }
+    ensures { is_request result ≡ true }
+{
+    let pick = random.next_word();
+    let at = pick / 8 % OWN_WORDS * MOST_PORTS + port;
+    let word = bytes_of(random.next_word());
+    ask_by(pick, (number % 256) as u8, at, word, BLOCK_WORDS as u32)
+}
+
+/// An ask by a picked number: half of them are loads, a quarter stores, and the others prefetches
+/// and evictions.
 pub fn ask_by(pick: u32, tag: u8, at: u32, word: Word, block_words: u32) -> Ask
     requires { 1 ≤ block_words }
     ensures { is_request result ≡ true }

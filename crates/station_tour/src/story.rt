@@ -1,5 +1,6 @@
 //! What a tour tells.
 
+use crate::checks::Findings;
 use crate::fault::TourFault;
 use crate::lines::{AskText, EntryText, ToldText, passes};
 use crate::plan::Plan;
@@ -11,14 +12,14 @@ use std::time::Duration;
 // Asks of a port, and entries of the journal, that are shown.
 const SHOWN: usize = 12;
 
-/// What no schedule changes: what came of each ask, what the audit found, and whether the journal is
-/// flat.
+/// What no schedule changes: what came of each ask, what the audit found, and whether the journal
+/// is flat.
 pub fn tell_story<W: Write>(
     out: &mut W,
     plan: &Plan,
     scripts: &[Vec<Ask>],
     ran: &Ran,
-    is_flat: bool,
+    findings: &Findings,
 ) -> io::Result<()> {
     let Plan { ports, asks, seed } = *plan;
     writeln!(out, "{ports} ports, {asks} asks each, seed {seed}")?;
@@ -32,14 +33,14 @@ pub fn tell_story<W: Write>(
         tell_asks(out, script, list)?;
     }
     writeln!(out)?;
-    match ran.audit {
+    match findings.audit {
         Audit::Clean => writeln!(
             out,
             "audit: clean, nothing is left in a ring and nothing is owed"
         )?,
         found => writeln!(out, "audit: {found:?}")?,
     }
-    let verdict = if is_flat { "flat" } else { "not flat" };
+    let verdict = if findings.is_flat { "flat" } else { "not flat" };
     writeln!(out, "journal: {verdict}")
 }
 
