@@ -50,7 +50,13 @@ fn a_check_has_the_words_of_its_shape(rt: HostRuntime) -> Result<(), Fail> {
     let told = "mismatch at line 1: load 1 70 -> accepted
 word 70 is outside memory, which has 64 words: it is refused 1
 ";
-    ends_with(&rt, "explain", "words = 72", run, (0, "flat run, 1 steps\n", ""))?;
+    ends_with(
+        &rt,
+        "explain",
+        "words = 72",
+        run,
+        (0, "flat run, 1 steps\n", ""),
+    )?;
     ends_with(&rt, "explain", "words = 64", run, (1, told, ""))
 }
 
