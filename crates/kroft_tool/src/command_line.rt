@@ -13,6 +13,8 @@ pub enum Task {
     Check,
     /// Serve its requests with 1, 2, 4 and 8 registers.
     Sweep,
+    /// Judge its lines up to the first that flat memory doesn't explain, and say why.
+    Explain,
 }
 
 /// What the words of the command line ask for.
@@ -35,7 +37,7 @@ A fault is one line on standard error. `kroft run --help` lists the lines of a t
 
 Statuses:
   0  done, or help was asked for
-  1  check found an answer that flat memory doesn't explain
+  1  check or explain found an answer that flat memory doesn't explain
   2  the command line is wrong
   3  the shape file is wrong
   4  the input is wrong, or a stream failed
@@ -126,6 +128,22 @@ Example:
   regs 4 accepted 1 denied 0 stalled 0 waited 0 pumps 13 values 1
   regs 8 accepted 1 denied 0 stalled 0 waited 0 pumps 13 values 1";
 
+const EXPLAIN_NOTES: &str =
+    "Reads lines from standard input as 'check' does ('kroft check --help' describes them), up to the
+first line that flat memory doesn't explain, and says why: which load the value belongs to,
+what it is owed, and which lines stored its bytes. A faulty line ends it too. On a pipe that is
+still being written the answer comes with the line; a run may have any number of lines.
+Writes 'flat run, N steps', or 'mismatch at line N: LINE' and its reason, in at most six lines.
+Memory begins with zeros; of a shape file only the words matter.
+
+Statuses: 0 the run is flat, 1 it isn't, 2 the command line is wrong, 3 the shape file is wrong,
+4 a line is faulty or a stream failed, 5 there is too little memory.
+
+Example:
+  $ echo 'take 0 -> value 1 00000000' | kroft explain
+  mismatch at line 1: take 0 -> value 1 00000000
+  tag 1 is owed nothing: it was never loaded";
+
 // The argument for the shape file. It may stand before or behind the subcommand.
 fn shape_argument<'a>(alloc: Global) -> Arg<'a> {
     Arg::new(alloc, "shape")
@@ -178,6 +196,12 @@ fn program<'a>(alloc: Global) -> Result<Command<'a>, AllocError> {
             "sweep",
             "Count what requests wait for with 1, 2, 4 and 8 registers",
             SWEEP_NOTES,
+        )?)?
+        .subcommand(subcommand(
+            alloc,
+            "explain",
+            "Say why a recorded run is none of flat memory",
+            EXPLAIN_NOTES,
         )?)
 }
 
@@ -190,6 +214,7 @@ pub fn read_words<'a>(alloc: Global, words: &'a [&'a str]) -> Result<CommandLine
     let (task, behind, trace) = match matches.subcommand() {
         Some(("check", rest)) => (Task::Check, rest.get_str("shape"), rest.get_str(TRACE)),
         Some(("sweep", rest)) => (Task::Sweep, rest.get_str("shape"), rest.get_str(TRACE)),
+        Some(("explain", rest)) => (Task::Explain, rest.get_str("shape"), rest.get_str(TRACE)),
         Some((_, rest)) => (Task::Run, rest.get_str("shape"), rest.get_str(TRACE)),
         None => (Task::Run, None, None),
     };

@@ -6,6 +6,7 @@ ghost use Rattle.trace_text.specs.Reading.{ReadWhole, ReadFails};
 ghost use Rattle.trace_text.specs.Serving.{trace_fault, Ends};
 ghost use Rattle.trace_text.specs.Checks.{pair_fault, IsJudged};
 ghost use Rattle.trace_text.specs.Requests.{requests_of};
+ghost use Rattle.run_reasons.specs.Runs.{Explains};
 ghost use Rattle.kroft_tool.specs.ShapeFile.{bad_field};
 ghost use Rattle.kroft_tool.specs.Sweep.{new_machine, row_of};
 ghost use Rattle.kroft_tool.specs.Jobs.{swept, verdict_status, verdict_text};
@@ -15,6 +16,7 @@ use crate::fault::ToolFault;
 use crate::row::Row;
 use crate::shape_file::ToolShape;
 use crate::sweep::{OpenGate, sweep};
+use run_reasons::{Explanation, explain_text};
 use std::alloc::Global;
 use std::fmt;
 use std::thread::Threads;
@@ -83,6 +85,18 @@ pub fn check<I: Source>(
         (ReadFails I.gave I.failed pair_fault 768 input.old input.new) }
 {
     check_text(alloc, input, tool.shape.words)
+}
+
+/// Says why what a run wrote is none of flat memory, over as many words of zeros as the shape says, as
+/// `explain_text` does.
+pub fn explain<I: Source>(
+    alloc: Global,
+    tool: &ToolShape,
+    input: &mut I,
+) -> Result<Explanation, TraceFault>
+    ensures { Explains I.gave I.failed tool.now.shape.words input.old input.new result }
+{
+    explain_text(alloc, input, tool.shape.words)
 }
 
 /// What a check found, as the program tells it.

@@ -4,7 +4,7 @@ ghost use Rattle.std.specs.Prelude.{◌≤◌, IfOk};
 
 use crate::command_line::{Task, read_words};
 use crate::fault::ToolFault;
-use crate::jobs::{Verdict, check, serve, sweep_registers};
+use crate::jobs::{Verdict, check, explain, serve, sweep_registers};
 use crate::shape_file::{ShapeFault, ToolShape, bad_field, read_shape};
 use clap::error::ErrorKind;
 use std::alloc::Global;
@@ -91,6 +91,7 @@ fn work<R: AllocGlobal + Files + Threads + Sync, I: Read, O: Write>(
         Task::Run => run(rt.alloc(), &shape, input, output),
         Task::Check => judge(rt.alloc(), &shape, input, output),
         Task::Sweep => compare(rt, &shape, input, output),
+        Task::Explain => reason(rt.alloc(), &shape, input, output),
     }
 }
 
@@ -135,6 +136,21 @@ fn judge<I: Read, O: Write>(
     show(output, format_args!("{verdict}\n"))?;
     finish(output)?;
     Ok(verdict.status())
+}
+
+// Says why what a run wrote is none of flat memory.
+fn reason<I: Read, O: Write>(
+    alloc: Global,
+    tool: &ToolShape,
+    input: &mut I,
+    output: &mut O,
+) -> Result<u8, ToolFault>
+    ensures { IfOk result (λ status. status ≤ 1) }
+{
+    let explanation = explain(alloc, tool, input)?;
+    show(output, format_args!("{explanation}\n"))?;
+    finish(output)?;
+    Ok(explanation.status())
 }
 
 // Serves the requests with 1, 2, 4 and 8 registers.

@@ -39,9 +39,10 @@ fn help_of_the_program(rt: HostRuntime) -> Result<(), Fail> {
     let help = output_of(&rt, &["--help"], "", 0)?;
     let parts = [
         "Usage: kroft [OPTIONS] <COMMAND>",
-        "  run    Serve a trace",
-        "  check  Tell whether a recorded run is one of flat memory",
-        "  sweep  Count what requests wait for",
+        "  run      Serve a trace",
+        "  check    Tell whether a recorded run is one of flat memory",
+        "  sweep    Count what requests wait for",
+        "  explain  Say why a recorded run is none of flat memory",
         "      --shape <FILE>",
         "reads standard input",
         "writes standard output",
@@ -50,7 +51,7 @@ fn help_of_the_program(rt: HostRuntime) -> Result<(), Fail> {
         "  bank_queue ",
         "  replies      1 to 64 ",
         "  0  done",
-        "  1  check found",
+        "  1  check or explain found",
         "  2  the command line",
         "  3  the shape file",
         "  4  the input",
@@ -71,6 +72,7 @@ fn help_of_the_subcommands(rt: HostRuntime) -> Result<(), Fail> {
         ("run", "load 1 4\nserve 0\n", 0u8),
         ("check", "take 0 -> value 1 00000000\n", 1),
         ("sweep", "load 1 0\n", 0),
+        ("explain", "take 0 -> value 1 00000000\n", 1),
     ];
     for (name, input, status) in examples {
         let help = output_of(&rt, &[name, "--help"], "", 0)?;
@@ -119,7 +121,7 @@ fn help_lists_every_line(rt: HostRuntime) -> Result<(), Fail> {
 
 #[test]
 fn a_trace_named_as_a_word_is_refused(rt: HostRuntime) -> Result<(), Fail> {
-    for name in ["run", "check", "sweep"] {
+    for name in ["run", "check", "sweep", "explain"] {
         let mut output = Vec::new(rt.alloc());
         let mut errors = Vec::new(rt.alloc());
         let words = [name, "examples/first_run.trace"];

@@ -46,7 +46,18 @@ fn a_check_has_the_words_of_its_shape(rt: HostRuntime) -> Result<(), Fail> {
         "words = 64",
         run,
         (1, "mismatch at line 1\n", ""),
-    )
+    )?;
+    let told = "mismatch at line 1: load 1 70 -> accepted
+word 70 is outside memory, which has 64 words: it is refused 1
+";
+    ends_with(
+        &rt,
+        "explain",
+        "words = 72",
+        run,
+        (0, "flat run, 1 steps\n", ""),
+    )?;
+    ends_with(&rt, "explain", "words = 64", run, (1, told, ""))
 }
 
 #[test]
@@ -95,7 +106,7 @@ impl Read for FailsOnce {
 
 #[test]
 fn a_failed_read_ends_each_job(rt: HostRuntime) -> Result<(), Fail> {
-    for job in ["run", "check", "sweep"] {
+    for job in ["run", "check", "sweep", "explain"] {
         let mut input = FailsOnce {
             calls: 0,
             text: b"",
@@ -145,6 +156,8 @@ fn a_refused_write_or_flush_ends_each_job(rt: HostRuntime) -> Result<(), Fail> {
         ("check", "drain -> nothing\n"),
         ("check", "drain -> accepted\n"),
         ("sweep", "load 1 0\n"),
+        ("explain", "drain -> nothing\n"),
+        ("explain", "drain -> accepted\n"),
         ("--help", ""),
     ];
     for (job, input) in jobs {
@@ -201,11 +214,9 @@ fn each_fault_of_a_trace_is_told(rt: HostRuntime) -> Result<(), Fail> {
             ends_with(&rt, job, "", trace, (4, "", told))?;
         }
     }
-    ends_with(
-        &rt,
-        "check",
-        "",
-        "jump -> moved\n",
-        (4, "", "line 1: unknown command\n"),
-    )
+    for job in ["check", "explain"] {
+        let wanted = (4, "", "line 1: unknown command\n");
+        ends_with(&rt, job, "", "jump -> moved\n", wanted)?;
+    }
+    Ok(())
 }
