@@ -1,0 +1,2 @@
+-- a mark that isn't 0
+pub mod Nonzero
