@@ -2,7 +2,7 @@
 ghost use Rattle.std.specs.Prelude.{◌≡◌, None, Some};
 ghost use Rattle.kroft_c.specs.Behind.{behind};
 ghost use Rattle.kroft_c.specs.Rows.{event_of};
-ghost use Rattle.kroft_c.specs.Calls.{row_of, apply_status, apply_row, applied, weight_status, weight_told};
+ghost use Rattle.kroft_c.specs.Calls.{row_of, apply_status, apply_row, applied, weight_status, weight_told, settled_status, bank_word_status, bank_word_told};
 
 use crate::handle::Handle;
 use crate::rows::{AnswerRow, EventRow};
@@ -12,6 +12,9 @@ use std::alloc::Global;
 
 /// The call was made.
 const DONE: u32 = 0;
+
+/// There is such a word, register, field or target.
+const FOUND: u32 = 1;
 
 /// A row says nothing.
 const NO_EVENT: u32 = 2;
@@ -62,6 +65,47 @@ pub extern "C" fn kroft_weight(alloc: Global, handle: &mut Handle, weight: &mut 
     *weight = machine.as_ref().weight();
     handle.keep(machine);
     DONE
+}
+
+/// Whether nothing is on its way to memory. 1: nothing is. 0: something is. 3: the handle is closed.
+#[unsafe(no_mangle)]
+pub extern "C" fn kroft_settled(alloc: Global, handle: &mut Handle) -> u32
+    ensures status { result ≡ settled_status (behind handle.old) }
+    ensures same { behind handle.new ≡ behind handle.old }
+{
+    let Some(machine) = handle.take(alloc) else {
+        return CLOSED;
+    };
+    let settled = u32::from(machine.as_ref().settled());
+    handle.keep(machine);
+    settled
+}
+
+/// The word of memory at `at`, as it stands in its bank. 1: `word` is it. 0: there is no such word.
+/// 3: the handle is closed. After 0 and 3 `word` is as it was.
+#[unsafe(no_mangle)]
+pub extern "C" fn kroft_bank_word(
+    alloc: Global,
+    handle: &mut Handle,
+    at: u32,
+    word: &mut Word,
+) -> u32
+    ensures status { result ≡ bank_word_status (behind handle.old) at }
+    ensures word { word.new ≡ bank_word_told (behind handle.old) at word.old }
+    ensures same { behind handle.new ≡ behind handle.old }
+{
+    let Some(machine) = handle.take(alloc) else {
+        return CLOSED;
+    };
+    let found = machine.as_ref().bank_word(at);
+    handle.keep(machine);
+    match found {
+        Some(stored) => {
+            *word = stored;
+            FOUND
+        }
+        None => DONE,
+    }
 }
 
 /// Gives the machine up, with all its memory. 0: it is given up. 3: the handle was closed already.
