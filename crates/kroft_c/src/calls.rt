@@ -127,13 +127,32 @@ pub extern "C" fn kroft_free(alloc: Global, handle: &mut Handle) -> u32
 fn answer_row(answer: Answer) -> AnswerRow
     ensures { result ≡ row_of answer }
 {
-    let word = Word { b0: 0, b1: 0, b2: 0, b3: 0 };
-    let blank = AnswerRow { kind: 0, cause: 0, tag: 0, word };
+    let word = Word {
+        b0: 0,
+        b1: 0,
+        b2: 0,
+        b3: 0,
+    };
+    let blank = AnswerRow {
+        kind: 0,
+        cause: 0,
+        tag: 0,
+        word,
+    };
     match answer {
         Answer::Accepted => blank,
         Answer::Moved => AnswerRow { kind: 1, ..blank },
-        Answer::Value { tag, word } => AnswerRow { kind: 2, cause: 0, tag, word },
+        Answer::Value { tag, word } => AnswerRow {
+            kind: 2,
+            cause: 0,
+            tag,
+            word,
+        },
         Answer::Nothing => AnswerRow { kind: 3, ..blank },
-        Answer::Refused(cause) => AnswerRow { kind: 4, cause: u32::from(cause.number()), ..blank },
+        Answer::Refused(cause) => AnswerRow {
+            kind: 4,
+            cause: u32::from(cause.number()),
+            ..blank
+        },
     }
 }

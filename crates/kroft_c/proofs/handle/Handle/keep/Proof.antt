@@ -92,7 +92,7 @@ keep_spec {M} 𝓤 𝓛 𝓜 𝓡 wired =
     let G = triple_of 𝓛 (g.signature X Z heap_impl.ghosts heap_impl.dict no_drop item_drop) (g.spec X Z heap_impl.ghosts heap_impl.dict no_drop item_drop 𝓛 𝓜.mem 𝓡.returns) in
     let S = g.ended X Z heap_impl.ghosts heap_impl.dict no_drop item_drop in
     let passed = heap_met.passed 𝓡.env (code.calls-std_heap::GlobalAllocator::allocate 𝓡.env wired) (code.calls-std_heap::GlobalAllocator::deallocate 𝓡.env wired)
-        (code.calls-std_heap::GlobalAllocator::grow 𝓡.env wired) (code.calls-std_heap::GlobalAllocator::shrink 𝓡.env wired) M 𝓤 𝓛 𝓜 𝓡 in
+    (code.calls-std_heap::GlobalAllocator::grow 𝓡.env wired) (code.calls-std_heap::GlobalAllocator::shrink 𝓡.env wired) M 𝓤 𝓛 𝓜 𝓡 in
     let glue = NoDrop.glues "kroft_c::Destruct++none::drop" 𝓡.env (code.calls-kroft_c::Destruct++none::drop 𝓡.env wired) Z LZ M 𝓤 𝓛 𝓜 𝓡 in
     let item_glue = NoDrop.glues "kroft_c::Destruct++none::drop" 𝓡.env (code.calls-kroft_c::Destruct++none::drop 𝓡.env wired) X L M 𝓤 𝓛 𝓜 𝓡 in
     let known = made.met 𝓤 𝓛 𝓜 𝓡 (code.calls-std_alloc::boxed::Box::into_raw 𝓡.env wired) X Z L LZ heap_impl.ghosts heap_impl.dict no_drop item_drop passed glue item_glue in
@@ -104,7 +104,7 @@ keep_spec {M} 𝓤 𝓛 𝓜 𝓡 wired =
     join ! $ join ! $ use1 𝓛 (raw (G.pre x)) (id⊢ 𝓤 _) $
     calls_at ! (framed 𝓤 𝓛.H 𝓜 𝓣) G known x (and_then ! (get ! refl) (no_more !)) (λ u.
     use1 𝓛 (later (some (λ (p : Ptr). ((‵ (flft [] full_share) ⊛ ‵ (flft [] full_share) ⊛ ‵ ftrue) ⊛ ‵ (RawPtr.own_val p (u ∷ [])))
-        ⊛ some (λ (ws : Lasts S x.0.0 x.0.3). ‵ (lasts S x.0.0 x.0.3 ws) ⊛ ‵ (box_owns chunk inner.the_row p item.value))))) (id⊢ 𝓤 _) $
+    ⊛ some (λ (ws : Lasts S x.0.0 x.0.3). ‵ (lasts S x.0.0 x.0.3 ws) ⊛ ‵ (box_owns chunk inner.the_row p item.value))))) (id⊢ 𝓤 _) $
     await ! tt $ pick ! (λ p. split ! $ move ! (1 ∷ []) $ pick ! (λ _. split ! $ drop ! $ move ! (1 ∷ []) $ split ! $ drop ! $ feq_l ! (λ is_pointer.
     let pointer = ((rawptr_Lawful 𝓛).typed p _ refl).0 in
     lands_as ! (ap only is_pointer) refl pointer $ sets ! (of_opd ! (get ! refl)) refl pointer $

@@ -90,7 +90,7 @@ taken_spec {M} 𝓤 𝓛 𝓜 𝓡 wired =
     let G = triple_of 𝓛 (g.signature X Z heap_impl.ghosts heap_impl.dict no_drop) (g.spec X Z heap_impl.ghosts heap_impl.dict no_drop 𝓛 𝓜.mem 𝓡.returns) in
     let T = g.ended X Z heap_impl.ghosts heap_impl.dict no_drop in
     let passed = heap_met.passed 𝓡.env (code.calls-std_heap::GlobalAllocator::allocate 𝓡.env wired) (code.calls-std_heap::GlobalAllocator::deallocate 𝓡.env wired)
-        (code.calls-std_heap::GlobalAllocator::grow 𝓡.env wired) (code.calls-std_heap::GlobalAllocator::shrink 𝓡.env wired) M 𝓤 𝓛 𝓜 𝓡 in
+    (code.calls-std_heap::GlobalAllocator::grow 𝓡.env wired) (code.calls-std_heap::GlobalAllocator::shrink 𝓡.env wired) M 𝓤 𝓛 𝓜 𝓡 in
     let glue = NoDrop.glues "kroft_c::Destruct++none::drop" 𝓡.env (code.calls-kroft_c::Destruct++none::drop 𝓡.env wired) Z LZ M 𝓤 𝓛 𝓜 𝓡 in
     let known = made.met 𝓤 𝓛 𝓜 𝓡 (code.calls-std_alloc::boxed::Box::from_raw 𝓡.env wired) X Z L LZ heap_impl.ghosts heap_impl.dict no_drop passed glue in
     let x : G.Ghost = ((([], ([], tt)), (full_share, (full_share, tt)), tt, (z, (h.at, tt)), (zs, (ptr_val h.at ∷ [], tt))), h.machine) in
@@ -101,7 +101,7 @@ taken_spec {M} 𝓤 𝓛 𝓜 𝓡 wired =
     join ! $ join ! $ use1 𝓛 (raw (G.pre x)) (id⊢ 𝓤 _) $
     calls_at_last ! (framed 𝓤 𝓛.H 𝓜 𝓣) G known x (and_then ! (get ! refl) (and_then ! (get ! refl) (no_more !))) (λ u.
     use1 𝓛 (later (some (λ (r : B.Denot). ((‵ (flft [] full_share) ⊛ ‵ (flft [] full_share) ⊛ ‵ ftrue) ⊛ ‵ (B.own_val r (u ∷ [])))
-        ⊛ some (λ (ws : Lasts T x.0.0 x.0.3). ‵ (lasts T x.0.0 x.0.3 ws) ⊛ (raw (fact 𝓤 (r.value ≡ h.machine)) ⊛ raw (fact 𝓤 (r.alloc ≡ z))))))) (id⊢ 𝓤 _) $
+    ⊛ some (λ (ws : Lasts T x.0.0 x.0.3). ‵ (lasts T x.0.0 x.0.3 ws) ⊛ (raw (fact 𝓤 (r.value ≡ h.machine)) ⊛ raw (fact 𝓤 (r.alloc ≡ z))))))) (id⊢ 𝓤 _) $
     await ! tt $ pick ! (λ r. split ! $ move ! (1 ∷ []) $ pick ! (λ _. split3 ! $ drop ! $ heard ! _ (λ same. drop ! $ split ! $ drop ! $
     -- [the box; the fields; the struct's cell; the open borrow, in three entries; the first part of self]
     peeks ! B _ (shows 𝓛 B) r (u ∷ []) (λ made_is.
