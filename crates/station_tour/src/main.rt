@@ -12,8 +12,6 @@ mod rates;
 mod run;
 mod soak;
 mod story;
-#[cfg(test)]
-mod tests;
 
 use crate::checks::{Findings, Outcome, are_told, is_flat, read_journal};
 use crate::command_line::{CommandLine, Show, read_words};

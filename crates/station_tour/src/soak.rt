@@ -87,15 +87,11 @@ fn run_any<R: AllocGlobal + Threads + Sync>(
     number: u32,
 ) -> Result<Findings, TourFault> {
     let mut draws = Draws::new(seed, number);
-    match number % 8 {
+    match number % 4 {
         0 => run_station!(rt, draws, 1, 1, 1, 1),
         1 => run_station!(rt, draws, 8, 16, 16, 16),
-        2 => run_station!(rt, draws, 1, 4, 1, 1),
-        3 => run_station!(rt, draws, 2, 4, 4, 4),
-        4 => run_station!(rt, draws, 1, 16, 16, 1),
-        5 => run_station!(rt, draws, 8, 4, 1, 16),
-        6 => run_station!(rt, draws, 3, 2, 5, 2),
-        _ => run_station!(rt, draws, 4, 8, 2, 3),
+        2 => run_station!(rt, draws, 2, 4, 4, 4),
+        _ => run_station!(rt, draws, 3, 2, 5, 1),
     }
 }
 
