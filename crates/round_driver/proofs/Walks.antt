@@ -20,7 +20,7 @@ use Rattle.cache_unit.specs.State.{Sizes, Cache}
 use Rattle.cache_unit.specs.Causes.{arrive_cause}
 use Rattle.cache_unit.specs.Steps.{Stepped, drain_first, drain_step, process_entry, process_step, take_reply, take_step}
 use Rattle.machine_core.specs.Machine.{Machine, MachineState, apply, joined_with, serve_from, take_in, arrive_from, walked, told}
-use Rattle.round_driver.specs.Machines.{answered, after_event}
+use Rattle.machine_core.specs.AnyMachine.{answered, after_event}
 use Rattle.round_driver.specs.declared.note.Note.{Note}
 use Rattle.round_driver.specs.declared.schedule.Schedule.{Schedule}
 use Rattle.round_driver.specs.Rounds.{Course, course, Run, is_done, is_end, note_of, request_note, attempt, ask, ends, scheduled, begin, serve_due, bank_turns, arrive_from as arrive_at, arrive, next_with_answer, moves, asked, after_round, is_over, rounds_until_over, start_of}

@@ -3,3 +3,4 @@ pub mod Rounds
 pub mod Walks
 pub mod Tables
 pub mod Written
+pub mod Texts

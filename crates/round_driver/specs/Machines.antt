@@ -1,30 +1,12 @@
--- What a machine that is driven answers and shows, by its state alone.
+-- What a machine that is driven shows beside its weight, by its state alone.
 use Rattle.std.specs.Prelude.{ℕ, zero, suc, ◌+◌, Bool, false, if◌then◌else◌, nat_lt, length, Option, Some, None}
-use Rattle.flat_model.specs.declared.Event.{Event}
-use Rattle.flat_model.specs.declared.Answer.{Answer}
-use Rattle.flat_model.specs.Flat.{Flat}
 use Rattle.memory_banks.specs.Banks.{bank_at}
 use Rattle.miss_registers.specs.declared.RegisterView.{RegisterView}
 use Rattle.cache_unit.specs.declared.Lookup.{Lookup}
 use Rattle.cache_unit.specs.Lookups.{lookup}
 use Rattle.cache_unit.specs.Views.{register_view}
-use Rattle.machine_core.specs.Machine.{MachineState, apply, flat_of}
-use Rattle.machine_core.specs.Pump.{weight, has_items}
-
--- the answer to an event
-unfoldable pub answered : MachineState → Event → Answer
-answered s event = (apply s.sizes s.machine event).answer
-
--- the machine after an event
-unfoldable pub after_event : MachineState → Event → MachineState
-after_event s event = record { sizes = s.sizes; machine = (apply s.sizes s.machine event).machine }
-
--- the flat memory that a machine stands for
-unfoldable pub flat : MachineState → Flat
-flat s = flat_of s.sizes s.machine
-
-unfoldable pub weight_of : MachineState → ℕ
-weight_of s = weight s.machine
+use Rattle.machine_core.specs.Machine.{MachineState}
+use Rattle.machine_core.specs.Pump.{has_items}
 
 -- whether a command waits at a bank
 unfoldable pub has_command : MachineState → ℕ → Bool

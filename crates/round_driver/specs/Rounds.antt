@@ -9,7 +9,8 @@ use Rattle.flat_model.specs.declared.Answer.TheVariants.{Accepted, Moved, Value,
 use Rattle.cache_unit.specs.declared.Lookup.{Lookup}
 use Rattle.cache_unit.specs.declared.Lookup.TheVariants.{Miss}
 use Rattle.machine_core.specs.Machine.{MachineState}
-use Rattle.round_driver.specs.Machines.{answered, after_event, weight_of, has_command, has_answer, has_stack_room, found_at, used_registers}
+use Rattle.machine_core.specs.AnyMachine.{answered, after_event, weight_of}
+use Rattle.round_driver.specs.Machines.{has_command, has_answer, has_stack_room, found_at, used_registers}
 use Rattle.round_driver.specs.declared.note.Note.{Note}
 use Rattle.round_driver.specs.declared.schedule.Schedule.{Schedule}
 

@@ -8,19 +8,18 @@ ghost use Rattle.round_driver.specs.Rounds.{run_of, start_of, rounds_until_over,
 ghost use Rattle.round_driver.specs.Tables.{table_of};
 ghost use Rattle.round_driver.specs.Written.{run_text, BreaksOff};
 
-use crate::driven::Driven;
+use crate::machine::RoundMachine;
 use crate::round::{Notes, ask, moves};
 use crate::schedule::Schedule;
 use crate::table::{Counter, Table};
 use crate::writing::{round_text, write_whole};
 use flat_model::Event;
-use machine_core::Machine;
 use std::alloc::{AllocError, Global};
 use trace_text::{Sink, TraceFault};
 
 // One round: what is told of it stands in `notes`, and the requests that are left come back.
 #[tactic(auto, unfolding(crate::specs::Rounds::after_round))]
-fn round<'a, M: Driven>(
+fn round<'a, M: RoundMachine>(
     machine: &mut M,
     schedule: &mut Schedule,
     notes: &mut Notes,
@@ -52,7 +51,7 @@ fn round<'a, M: Driven>(
 }
 
 // Whether the requests are used up, and nothing is on its way.
-fn is_over<M: Driven>(machine: &M, left: &[Event]) -> bool
+fn is_over<M: RoundMachine>(machine: &M, left: &[Event]) -> bool
     ensures { result ≡ rounds.is_over_at (M.state machine.now) left.now }
 {
     left.is_empty() && machine.weight() == 0
@@ -68,8 +67,20 @@ fn most_rounds(latency: u64, requests: usize) -> u64
     (requests as u64 + 1) * (2625 * (latency + 1))
 }
 
-// Makes the rounds of these requests, and writes what is told of each.
-fn write_run<W: Sink, M: Driven>(
+/// Drives these requests through the machine in rounds, and writes the run: each request whenever it
+/// is asked, and each other event that did something, with its answer, as the lines that
+/// [`check_text`](trace_text::check_text) reads. Returns the number of rounds, the last one counted,
+/// in which nothing moves. If this number is at most `(requests + 1) * 2,625 * (latency + 1)`, the
+/// requests are used up and nothing is on its way; no more rounds are made than that.
+///
+/// `latency` is how many rounds pass from the one in which a bank begins a command to the one in
+/// which it serves it, 1,000 at most. There may be at most 16,777,216 requests. The machine has at
+/// most 16 banks, as each one that is made. The writer isn't flushed.
+///
+/// `TraceFault::Write` says that a write was refused or took no byte: a front of the run is written.
+/// `TraceFault::OutOfMemory` says that there was too little memory for the lines of a round: the run
+/// up to that round is written. No other fault comes.
+pub fn drive<W: Sink, M: RoundMachine>(
     alloc: Global,
     machine: &mut M,
     latency: u64,
@@ -109,8 +120,10 @@ fn write_run<W: Sink, M: Driven>(
     Ok(schedule.round + 1)
 }
 
-// Makes the rounds of these requests, and counts.
-fn count_run<M: Driven>(
+/// Drives these requests through the machine in rounds, as [`drive`] does, and counts.
+///
+/// `AllocError` says that there was too little memory; nothing has been asked then.
+pub fn summarize<M: RoundMachine>(
     alloc: Global,
     machine: &mut M,
     latency: u64,
@@ -137,63 +150,4 @@ fn count_run<M: Driven>(
         counter.count_all(notes.as_slice());
     }
     Ok(counter.table_after(schedule.round + 1))
-}
-
-/// Drives these requests through the machine in rounds, and writes the run: each request whenever it
-/// is asked, and each other event that did something, with its answer, as the lines that
-/// [`check_text`](trace_text::check_text) reads. Returns the number of rounds, the last one counted,
-/// in which nothing moves. If this number is at most `(requests + 1) * 2,625 * (latency + 1)`, the
-/// requests are used up and nothing is on its way; no more rounds are made than that.
-///
-/// `latency` is how many rounds pass from the one in which a bank begins a command to the one in
-/// which it serves it, 1,000 at most. There may be at most 16,777,216 requests. The machine has at
-/// most 16 banks, as each one that is made. The writer isn't flushed.
-///
-/// `TraceFault::Write` says that a write was refused or took no byte: a front of the run is written.
-/// `TraceFault::OutOfMemory` says that there was too little memory for the lines of a round: the run
-/// up to that round is written. No other fault comes.
-pub fn drive<W: Sink, const WAYS: usize, const WORDS: usize, const REGS: usize, const DEPTH: usize>(
-    alloc: Global,
-    machine: &mut Machine<WAYS, WORDS, REGS, DEPTH>,
-    latency: u64,
-    requests: &[Event],
-    writer: &mut W,
-) -> Result<u64, TraceFault>
-    requires banks { machine.old.sizes.banks ≤ 16 }
-    requires latency { latency ≤ 1000 }
-    requires requests { length requests.now ≤ 16777216 }
-    ensures ok { IfOk result
-        (λ n. n ≡ (whole_run latency machine.old requests.now).schedule.round + 1) }
-    ensures machine { OnOk result
-        (machine.new ≡ (whole_run latency machine.old requests.now).state) }
-    ensures over { OnOk result (EndsInTime latency machine.old requests.now) }
-    ensures written { OnOk result
-        (Moves W.took writer.old
-        (run_text (whole_run latency machine.old requests.now).told) writer.new) }
-    ensures fault { IfErr result
-        (λ fault. (n : ℕ) × BreaksOff W.took W.refused writer.old
-        (run_text (rounds_until_over n (start_of latency machine.old requests.now)).told)
-        writer.new fault) }
-{
-    write_run(alloc, machine, latency, requests, writer)
-}
-
-/// Drives these requests through the machine in rounds, as [`drive`] does, and counts.
-///
-/// `AllocError` says that there was too little memory; nothing has been asked then.
-pub fn summarize<const WAYS: usize, const WORDS: usize, const REGS: usize, const DEPTH: usize>(
-    alloc: Global,
-    machine: &mut Machine<WAYS, WORDS, REGS, DEPTH>,
-    latency: u64,
-    requests: &[Event],
-) -> Result<Table, AllocError>
-    requires banks { machine.old.sizes.banks ≤ 16 }
-    requires latency { latency ≤ 1000 }
-    requires requests { length requests.now ≤ 16777216 }
-    ensures table { IfOk result (λ table. table ≡ table_of latency machine.old requests.now) }
-    ensures machine { OnOk result
-        (machine.new ≡ (whole_run latency machine.old requests.now).state) }
-    ensures over { OnOk result (EndsInTime latency machine.old requests.now) }
-{
-    count_run(alloc, machine, latency, requests)
 }

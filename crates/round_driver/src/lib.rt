@@ -12,17 +12,17 @@
 //! Rounds are a schedule, and tell nothing of any hardware's time.
 #![tactic(auto)]
 
-mod driven;
 mod driving;
 pub mod laws;
+mod machine;
 mod note;
 mod round;
 mod schedule;
 mod table;
-#[cfg(test)]
-mod tests;
+mod texts;
 mod writing;
 
 pub use driving::{drive, summarize};
+pub use machine::RoundMachine;
 pub use note::Note;
 pub use table::{LostRounds, Table};

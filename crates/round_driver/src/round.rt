@@ -5,7 +5,7 @@ ghost use Rattle.round_driver.specs.Rounds.{course, Run};
 ghost use Rattle.round_driver.specs.Rounds as rounds;
 ghost use Rattle.round_driver.specs.Machines as machines;
 
-use crate::driven::Driven;
+use crate::machine::RoundMachine;
 use crate::note::Note;
 use crate::schedule::Schedule;
 use arrayvec::ArrayVec;
@@ -40,8 +40,8 @@ pub fn is_end(answer: Answer) -> bool
 }
 
 // Makes an event, and tells it if it did something.
-#[tactic(auto, unfolding(crate::specs::Rounds::attempt, crate::specs::Machines::answered, crate::specs::Machines::after_event))]
-fn attempt<M: Driven>(machine: &mut M, schedule: &Schedule, notes: &mut Notes, event: Event)
+#[tactic(auto, unfolding(crate::specs::Rounds::attempt, machine_core::specs::AnyMachine::answered, machine_core::specs::AnyMachine::after_event))]
+fn attempt<M: RoundMachine>(machine: &mut M, schedule: &Schedule, notes: &mut Notes, event: Event)
     requires room { array_vec_len notes.old < 24 }
     ensures course { course (M.state machine.new) schedule.now notes.new.items
         ≡ rounds.attempt event (course (M.state machine.old) schedule.now notes.old.items) }
@@ -62,7 +62,7 @@ fn attempt<M: Driven>(machine: &mut M, schedule: &Schedule, notes: &mut Notes, e
 
 // A bank that has a command and isn't busy begins it.
 #[tactic(auto, unfolding(crate::specs::Rounds::begin))]
-fn begin<M: Driven>(machine: &M, schedule: &mut Schedule, notes: &Notes, bank: u32)
+fn begin<M: RoundMachine>(machine: &M, schedule: &mut Schedule, notes: &Notes, bank: u32)
     requires bank { bank < 16 }
     ensures course { course (M.state machine.now) schedule.new notes.now.items
         ≡ rounds.begin bank (course (M.state machine.now) schedule.old notes.now.items) }
@@ -76,7 +76,12 @@ fn begin<M: Driven>(machine: &M, schedule: &mut Schedule, notes: &Notes, bank: u
 
 // A bank serves its command if it was begun long enough ago.
 #[tactic(auto, unfolding(crate::specs::Rounds::serve_due))]
-fn serve_due<M: Driven>(machine: &mut M, schedule: &mut Schedule, notes: &mut Notes, bank: u32)
+fn serve_due<M: RoundMachine>(
+    machine: &mut M,
+    schedule: &mut Schedule,
+    notes: &mut Notes,
+    bank: u32,
+)
     requires bank { bank < 16 }
     requires room { array_vec_len notes.old < 24 }
     ensures course { course (M.state machine.new) schedule.new notes.new.items
@@ -93,7 +98,7 @@ fn serve_due<M: Driven>(machine: &mut M, schedule: &mut Schedule, notes: &mut No
 }
 
 // Each bank, by number, begins a command and serves one that is due.
-fn bank_turns<M: Driven>(machine: &mut M, schedule: &mut Schedule, notes: &mut Notes)
+fn bank_turns<M: RoundMachine>(machine: &mut M, schedule: &mut Schedule, notes: &mut Notes)
     requires banks { (M.state machine.old).sizes.banks ≤ 16 }
     requires room { array_vec_len notes.old ≡ 0 }
     ensures course { course (M.state machine.new) schedule.new notes.new.items
@@ -111,7 +116,7 @@ fn bank_turns<M: Driven>(machine: &mut M, schedule: &mut Schedule, notes: &mut N
 }
 
 // The first of these banks with an answer.
-fn first_with_answer<M: Driven>(machine: &M, from: u32, to: u32) -> Option<u32>
+fn first_with_answer<M: RoundMachine>(machine: &M, from: u32, to: u32) -> Option<u32>
     ensures bank { result ≡ rounds.first_with_answer (M.state machine.now) (to - from) from }
     ensures below { IfSome result (λ b. b < to) }
 {
@@ -124,7 +129,7 @@ fn first_with_answer<M: Driven>(machine: &M, from: u32, to: u32) -> Option<u32>
 }
 
 // The first bank with an answer, from the next one on and then from the first on.
-fn next_with_answer<M: Driven>(machine: &M, next: u32) -> Option<u32>
+fn next_with_answer<M: RoundMachine>(machine: &M, next: u32) -> Option<u32>
     requires banks { (M.state machine.now).sizes.banks ≤ 16 }
     requires next { next ≤ 16 }
     ensures bank { result ≡ rounds.next_with_answer (M.state machine.now) next }
@@ -138,7 +143,7 @@ fn next_with_answer<M: Driven>(machine: &M, next: u32) -> Option<u32>
 
 // The next bank's first answer arrives, if the stack has room.
 #[tactic(auto, unfolding(crate::specs::Rounds::arrive))]
-fn arrive<M: Driven>(machine: &mut M, schedule: &mut Schedule, notes: &mut Notes)
+fn arrive<M: RoundMachine>(machine: &mut M, schedule: &mut Schedule, notes: &mut Notes)
     requires banks { (M.state machine.old).sizes.banks ≤ 16 }
     requires next { schedule.old.next ≤ 16 }
     requires room { array_vec_len notes.old < 24 }
@@ -159,7 +164,7 @@ fn arrive<M: Driven>(machine: &mut M, schedule: &mut Schedule, notes: &mut Notes
 }
 
 // What a request finds, if it asks for a word.
-fn finding<M: Driven>(machine: &M, event: Event) -> Option<Lookup>
+fn finding<M: RoundMachine>(machine: &M, event: Event) -> Option<Lookup>
     ensures { result ≡ rounds.finding (M.state machine.now) event }
 {
     match event {
@@ -171,7 +176,7 @@ fn finding<M: Driven>(machine: &M, event: Event) -> Option<Lookup>
 }
 
 // The registers in use behind a miss that was accepted.
-fn registers_behind<M: Driven>(machine: &M, answer: Answer, found: Option<Lookup>) -> u32
+fn registers_behind<M: RoundMachine>(machine: &M, answer: Answer, found: Option<Lookup>) -> u32
     ensures { result ≡ rounds.registers_behind answer found (M.state machine.now) }
 {
     match (answer, found) {
@@ -181,8 +186,13 @@ fn registers_behind<M: Driven>(machine: &M, answer: Answer, found: Option<Lookup
 }
 
 // Asks a request and tells it, and says whether that ended it.
-#[tactic(auto, unfolding(crate::specs::Rounds::ask, crate::specs::Machines::after_event))]
-pub fn ask<M: Driven>(machine: &mut M, schedule: &Schedule, notes: &mut Notes, event: Event) -> bool
+#[tactic(auto, unfolding(crate::specs::Rounds::ask, machine_core::specs::AnyMachine::after_event))]
+pub fn ask<M: RoundMachine>(
+    machine: &mut M,
+    schedule: &Schedule,
+    notes: &mut Notes,
+    event: Event,
+) -> bool
     requires room { array_vec_len notes.old < 24 }
     ensures ends { result
         ≡ rounds.ends event (course (M.state machine.old) schedule.now notes.old.items) }
@@ -204,7 +214,7 @@ pub fn ask<M: Driven>(machine: &mut M, schedule: &Schedule, notes: &mut Notes, e
 
 // What a round moves before it asks.
 #[tactic(auto, unfolding(crate::specs::Rounds::moves))]
-pub fn moves<M: Driven>(machine: &mut M, schedule: &mut Schedule, notes: &mut Notes)
+pub fn moves<M: RoundMachine>(machine: &mut M, schedule: &mut Schedule, notes: &mut Notes)
     requires banks { (M.state machine.old).sizes.banks ≤ 16 }
     requires next { schedule.old.next ≤ 16 }
     requires room { array_vec_len notes.old ≡ 0 }

@@ -7,7 +7,6 @@ use crate::note::Note;
 use flat_model::{Answer, Cause, Event};
 use machine_core::Lookup;
 use std::alloc::{AllocError, Global};
-use std::fmt;
 
 /// What a run of rounds counted. A round is a step of the schedule, and no time of any hardware.
 #[derive(Clone, Copy, PartialEq, Eq, Debug, Default)]
@@ -234,57 +233,5 @@ impl Counter {
             rounds,
             ..self.table
         }
-    }
-}
-
-impl fmt::Display for LostRounds {
-    fn fmt<W: fmt::Write>(&self, f: &mut fmt::Formatter<W>) -> fmt::Result {
-        write!(
-            f,
-            "lost 3:{} 4:{} 5:{} 7:{} 8:{} 9:{} 10:{}",
-            self.tag_in_use,
-            self.replies_full,
-            self.targets_full,
-            self.no_register,
-            self.set_pending,
-            self.queue_full,
-            self.bank_full
-        )
-    }
-}
-
-impl Table {
-    /// The mean wait of an answered load in rounds: whole ones, and hundredths rounded down. Zeros if
-    /// no load was answered.
-    pub fn mean_wait(&self) -> (u128, u128) {
-        if self.values == 0 {
-            return (0, 0);
-        }
-        let values = u128::from(self.values);
-        let rest = self.waited % values;
-        (self.waited / values, rest * 100 / values)
-    }
-}
-
-impl fmt::Display for Table {
-    fn fmt<W: fmt::Write>(&self, f: &mut fmt::Formatter<W>) -> fmt::Result {
-        write!(
-            f,
-            "rounds {} accepted {} denied {} hits {} joins {} misses {} stalled {} {} ",
-            self.rounds,
-            self.accepted,
-            self.denied,
-            self.hits,
-            self.joins,
-            self.misses,
-            self.stalled,
-            self.lost
-        )?;
-        let (whole, hundredths) = self.mean_wait();
-        write!(
-            f,
-            "values {} mean {whole}.{hundredths:02} longest {} registers {} written {}",
-            self.values, self.longest, self.registers, self.written
-        )
     }
 }

@@ -22,8 +22,6 @@ mod lines;
 mod origins;
 mod reason;
 mod show;
-#[cfg(test)]
-mod tests;
 
 pub use explain::{Explanation, explain_text};
 pub use explainer::{Explainer, ReadFault};

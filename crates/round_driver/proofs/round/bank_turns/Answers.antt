@@ -5,7 +5,7 @@ use Rattle.round_driver.proofs.round.bank_turns.Goals as goal
 
 pub loop-bank-preserved : goal.loop-bank-preserved
 loop-bank-preserved g c =
-    let here = course (g.M.Driven.state c.loop-bank.machine) c.loop-bank.schedule c.loop-bank.notes.items in
+    let here = course (g.M.AnyMachine.state c.loop-bank.machine) c.loop-bank.schedule c.loop-bank.notes.items in
     let turn : c.loop-bank.bank < c.bank_count-bank-end.result = c.loop-bank-test.true in
     let before = c.loop-bank.invariant.len in
     let told = c.serve_due.ensures.len in
@@ -19,6 +19,6 @@ loop-bank-preserved g c =
 
 pub returns-clause-course : goal.returns-clause-course
 returns-clause-course g c =
-    let here = course (g.M.Driven.state c.loop-bank.machine) c.loop-bank.schedule c.loop-bank.notes.items in
+    let here = course (g.M.AnyMachine.state c.loop-bank.machine) c.loop-bank.schedule c.loop-bank.notes.items in
     let over : c.bank_count-bank-end.result ≤ c.loop-bank.bank = omega (arith, c.loop-bank-test.false) in
-    sym (no_bank_left c.bank_count-bank-end.result c.loop-bank.bank here over) ∙ sym c.loop-bank.invariant.same ∙ ap (λ n. bank_turns n 0 (course (g.M.Driven.state c.args.machine.now) c.args.schedule.now c.args.notes.now.items)) c.bank_count-bank-end.ensures
+    sym (no_bank_left c.bank_count-bank-end.result c.loop-bank.bank here over) ∙ sym c.loop-bank.invariant.same ∙ ap (λ n. bank_turns n 0 (course (g.M.AnyMachine.state c.args.machine.now) c.args.schedule.now c.args.notes.now.items)) c.bank_count-bank-end.ensures

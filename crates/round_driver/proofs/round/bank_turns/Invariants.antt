@@ -7,8 +7,8 @@ use Rattle.round_driver.proofs.round.bank_turns.Given as goal
 abbrev pub invariant-loop-bank : goal.invariant-loop-bank
 invariant-loop-bank g l =
     record {
-      same : bank_turns l.bank-end 0 (course (g.M.Driven.state l.initial.machine) l.initial.schedule l.initial.notes.items) ≡ bank_turns (l.bank-end - l.bank) l.bank (course (g.M.Driven.state l.machine) l.schedule l.notes.items);
-      sizes : (g.M.Driven.state l.machine).sizes ≡ (g.M.Driven.state l.initial.machine).sizes;
+      same : bank_turns l.bank-end 0 (course (g.M.AnyMachine.state l.initial.machine) l.initial.schedule l.initial.notes.items) ≡ bank_turns (l.bank-end - l.bank) l.bank (course (g.M.AnyMachine.state l.machine) l.schedule l.notes.items);
+      sizes : (g.M.AnyMachine.state l.machine).sizes ≡ (g.M.AnyMachine.state l.initial.machine).sizes;
       len : array_vec_len l.notes ≤ l.bank;
       time : l.schedule.round ≡ l.initial.schedule.round;
       next : l.schedule.next ≡ l.initial.schedule.next;

@@ -1,0 +1,85 @@
+use Rattle.std.proofs.Common.{◌≡◌, ◌+◌, ◌≤◌, sym, ap, ◌∙◌, arith}
+use Rattle.round_driver.specs.Rounds.{start_of, rounds_until_over, is_over, whole_run}
+use Rattle.round_driver.specs.Tables.{counting, nothing, counted_all, with_rounds, total}
+use Rattle.round_driver.proofs.Runs.{no_more, run_begins, counts_begin, over_here, run_next, counts_next}
+use Rattle.round_driver.proofs.driving.summarize.Goals as goal
+
+pub loop-turn-init : goal.loop-turn-init
+loop-turn-init g c =
+    let s = g.M.AnyMachine.state c.args.machine.now in
+    let fresh = c.in_ok-counter.ensures.nothing in
+    let none : total c.in_ok-counter.counter.table ≡ 0 = ap (λ c. total c.table) fresh in
+    let unwaited : c.in_ok-counter.counter.table.waited ≡ 0 = ap (λ c. c.table.waited) fresh in
+    let time : c.new-schedule.result.round ≡ 0 = ap (λ p. p.round) c.new-schedule.ensures in
+    let next : c.new-schedule.result.next ≡ 0 = ap (λ p. p.next) c.new-schedule.ensures in
+    record {
+      run = run_begins c.args.latency s c.args.requests.now c.new-schedule.result c.new-schedule.ensures;
+      counts = counts_begin c.args.latency s c.args.requests.now (counting c.in_ok-counter.counter) fresh;
+      sizes = λ i. s.sizes;
+      time = omega (arith, time);
+      next = omega (arith, next);
+      total = omega (arith, none);
+      waited = omega (arith, unwaited);
+      tags = c.in_ok-counter.ensures.tags;
+    }
+
+pub returns-then-is_over-clause-table : goal.returns-then-is_over-clause-table
+returns-then-is_over-clause-table g c =
+    let start = start_of c.args.latency (g.M.AnyMachine.state c.args.machine.now) c.args.requests.now in
+    let here = c.loop-turn.invariant.run in
+    let over = sym c.is_over.ensures ∙ c.if-is_over.true in
+    let le : c.loop-turn._turn ≤ c.most_rounds-turn-end.result = omega (arith, c.loop-turn-test.true) in
+    let whole = over_here c.loop-turn._turn start (g.M.AnyMachine.state c.loop-turn.machine) c.loop-turn.schedule c.loop-turn.left.now here c.most_rounds-turn-end.result le over ∙ ap (λ n. rounds_until_over n start) c.most_rounds-turn-end.ensures.value in
+    c.table_after.ensures ∙ ap (λ x. with_rounds x (c.loop-turn.schedule.round + 1)) c.loop-turn.invariant.counts ∙ ap (λ r. with_rounds (counted_all nothing r.told) (r.schedule.round + 1)) whole
+
+pub returns-then-is_over-clause-machine : goal.returns-then-is_over-clause-machine
+returns-then-is_over-clause-machine g c =
+    let start = start_of c.args.latency (g.M.AnyMachine.state c.args.machine.now) c.args.requests.now in
+    let here = c.loop-turn.invariant.run in
+    let over = sym c.is_over.ensures ∙ c.if-is_over.true in
+    let le : c.loop-turn._turn ≤ c.most_rounds-turn-end.result = omega (arith, c.loop-turn-test.true) in
+    let whole = over_here c.loop-turn._turn start (g.M.AnyMachine.state c.loop-turn.machine) c.loop-turn.schedule c.loop-turn.left.now here c.most_rounds-turn-end.result le over ∙ ap (λ n. rounds_until_over n start) c.most_rounds-turn-end.ensures.value in
+    ap (λ r. r.state) whole
+
+pub returns-then-is_over-clause-over : goal.returns-then-is_over-clause-over
+returns-then-is_over-clause-over g c =
+    let start = start_of c.args.latency (g.M.AnyMachine.state c.args.machine.now) c.args.requests.now in
+    let here = c.loop-turn.invariant.run in
+    let over = sym c.is_over.ensures ∙ c.if-is_over.true in
+    let le : c.loop-turn._turn ≤ c.most_rounds-turn-end.result = omega (arith, c.loop-turn-test.true) in
+    let whole = over_here c.loop-turn._turn start (g.M.AnyMachine.state c.loop-turn.machine) c.loop-turn.schedule c.loop-turn.left.now here c.most_rounds-turn-end.result le over ∙ ap (λ n. rounds_until_over n start) c.most_rounds-turn-end.ensures.value in
+    λ h. sym (ap is_over whole) ∙ over
+
+pub returns-clause-over : goal.returns-clause-over
+returns-clause-over g c =
+    let start = start_of c.args.latency (g.M.AnyMachine.state c.args.machine.now) c.args.requests.now in
+    let here = c.loop-turn.invariant.run in
+    let turns = c.loop-turn._turn in
+    let round : c.loop-turn.schedule.round ≡ turns = c.loop-turn.invariant.time in
+    let all : turns ≡ c.most_rounds-turn-end.result = omega (arith, c.loop-turn-test.false, c.loop-turn.auto._turn-end) in
+    let whole = here ∙ ap (λ n. rounds_until_over n start) (all ∙ c.most_rounds-turn-end.ensures.value) in
+    let last : c.loop-turn.schedule.round ≡ (whole_run c.args.latency (g.M.AnyMachine.state c.args.machine.now) c.args.requests.now).schedule.round = ap (λ r. r.schedule.round) whole in
+    λ h. absurd (no_more c.most_rounds-turn-end.result _ _ (sym last ∙ round ∙ all) c.most_rounds-turn-end.ensures.value h)
+
+pub loop-turn-preserved : goal.loop-turn-preserved
+loop-turn-preserved g c =
+    let start = start_of c.args.latency (g.M.AnyMachine.state c.args.machine.now) c.args.requests.now in
+    let here = c.loop-turn.invariant.run in
+    let going = sym c.is_over.ensures ∙ c.if-is_over.false in
+    let made = c.round-left.ensures.run in
+    let time = c.round-left.ensures.time in
+    let before = c.loop-turn.invariant.time in
+    let total = c.loop-turn.invariant.total in
+    let more = c.count_all.ensures.total in
+    let waited = c.loop-turn.invariant.waited in
+    let longer = c.count_all.ensures.waited in
+    record {
+      run = run_next c.loop-turn._turn start (g.M.AnyMachine.state c.loop-turn.machine) c.loop-turn.schedule c.loop-turn.left.now here (g.M.AnyMachine.state c.round-left.new.machine) c.round-left.new.schedule c.round-left.result.now c.round-left.new.notes.items made going;
+      counts = counts_next c.loop-turn._turn start (g.M.AnyMachine.state c.loop-turn.machine) c.loop-turn.schedule c.loop-turn.left.now here (g.M.AnyMachine.state c.round-left.new.machine) c.round-left.new.schedule c.round-left.result.now c.round-left.new.notes.items made going (counting c.loop-turn.counter) (counting c.count_all.new.self) c.loop-turn.invariant.counts (c.count_all.ensures.counts ∙ ap (counted_all (counting c.loop-turn.counter)) c.as_slice.ensures.value);
+      sizes = c.round-left.ensures.sizes ∙ c.loop-turn.invariant.sizes;
+      time = omega (arith, time, before);
+      next = c.round-left.ensures.next;
+      total = omega (arith, total, more);
+      waited = omega (arith, waited, longer);
+      tags = c.count_all.ensures.tags;
+    }

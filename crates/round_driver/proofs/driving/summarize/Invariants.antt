@@ -1,0 +1,19 @@
+use Rattle.std.proofs.Common.{◌≡◌, ◌*◌, ◌^◌, ◌≤◌, length}
+use Rattle.round_driver.specs.Rounds.{run_of, start_of, rounds_until_over}
+use Rattle.round_driver.specs.Tables.{counting, nothing, counted_all, total}
+use Rattle.round_driver.proofs.driving.summarize.Given as goal
+
+-- so many rounds were made, and what was told of them is counted
+abbrev pub invariant-loop-turn : goal.invariant-loop-turn
+invariant-loop-turn g l =
+    let so_far = rounds_until_over l._turn (start_of l.latency (g.M.AnyMachine.state l.initial.machine) l.requests) in
+    record {
+      run : run_of (g.M.AnyMachine.state l.machine) l.schedule l.left so_far.told ≡ so_far;
+      counts : counting l.counter ≡ counted_all nothing so_far.told;
+      sizes : (g.M.AnyMachine.state l.machine).sizes ≡ (g.M.AnyMachine.state l.initial.machine).sizes;
+      time : l.schedule.round ≡ l._turn;
+      next : l.schedule.next ≤ 16;
+      total : total l.counter.table ≤ 48 * l._turn;
+      waited : l.counter.table.waited ≤ 24 * 2 ^ 64 * l._turn;
+      tags : 65536 ≤ length l.counter.since.items;
+    }

@@ -1,0 +1,91 @@
+//! What is asked of a machine that is driven in rounds.
+ghost use Rattle.std.specs.Prelude.{◌≡◌, ◌≤◌};
+ghost use Rattle.round_driver.specs.Machines as machines;
+
+use machine_core::{AnyMachine, Lookup, Machine};
+
+/// A machine that can be driven in rounds, whatever its four const numbers are.
+pub trait RoundMachine: AnyMachine {
+    /// How many banks there are.
+    fn bank_count(&self) -> u32
+        ensures { result ≡ (Self.state self.now).sizes.banks };
+
+    /// Whether a command waits at a bank.
+    fn has_command(&self, bank: u32) -> bool
+        ensures { result ≡ machines.has_command (Self.state self.now) bank };
+
+    /// Whether an answer stands in a bank.
+    fn has_answer(&self, bank: u32) -> bool
+        ensures { result ≡ machines.has_answer (Self.state self.now) bank };
+
+    /// Whether the input stack has room for a word.
+    fn has_stack_room(&self) -> bool
+        ensures { result ≡ machines.has_stack_room (Self.state self.now) };
+
+    /// What a request for a word would find, as [`Machine::find`]: nothing outside memory.
+    fn find(&self, at: u32) -> Option<Lookup>
+        ensures { result ≡ machines.found_at (Self.state self.now) at };
+
+    /// How many registers are in use.
+    fn used_registers(&self) -> u32
+        ensures { result ≡ machines.used_registers (Self.state self.now) };
+}
+
+#[tactic(auto, unfolding(crate::specs::Machines::has_command, crate::specs::Machines::has_answer, crate::specs::Machines::has_stack_room, crate::specs::Machines::found_at, crate::specs::Machines::used_registers, crate::specs::Machines::used_at))]
+impl<const WAYS: usize, const WORDS: usize, const REGS: usize, const DEPTH: usize> RoundMachine
+    for Machine<WAYS, WORDS, REGS, DEPTH> {
+    fn bank_count(&self) -> u32 {
+        self.shape().banks
+    }
+
+    fn has_command(&self, bank: u32) -> bool {
+        self.commands(bank) > 0
+    }
+
+    fn has_answer(&self, bank: u32) -> bool {
+        self.answers(bank) > 0
+    }
+
+    fn has_stack_room(&self) -> bool {
+        let _shape = self.shape();
+        (self.stack_len() as usize) < DEPTH
+    }
+
+    fn find(&self, at: u32) -> Option<Lookup> {
+        Machine::find(self, at)
+    }
+
+    #[tactic(auto, unfolding(crate::specs::Machines::used_registers))]
+    fn used_registers(&self) -> u32 {
+        used_among(self, 16)
+    }
+}
+
+// 1 for a register in use, else 0.
+#[tactic(auto, unfolding(crate::specs::Machines::used_at))]
+fn used_at<const WAYS: usize, const WORDS: usize, const REGS: usize, const DEPTH: usize>(
+    machine: &Machine<WAYS, WORDS, REGS, DEPTH>,
+    slot: u32,
+) -> u32
+    ensures used { result ≡ machines.used_at machine.now slot }
+    ensures few { result ≤ 1 }
+{
+    match machine.register(slot) {
+        Some(register) => { if register.valid { 1 } else { 0 } }
+        None => 0,
+    }
+}
+
+// How many of the first registers are in use.
+fn used_among<const WAYS: usize, const WORDS: usize, const REGS: usize, const DEPTH: usize>(
+    machine: &Machine<WAYS, WORDS, REGS, DEPTH>,
+    number: u32,
+) -> u32
+    ensures { result ≡ machines.used_among machine.now number 0 }
+{
+    let mut used = 0;
+    for slot in 0..number {
+        used += used_at(machine, slot);
+    }
+    used
+}

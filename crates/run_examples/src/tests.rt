@@ -1,0 +1,4 @@
+//! The examples.
+
+mod reasons;
+mod rounds;
