@@ -13,8 +13,6 @@ mod port_thread;
 mod round;
 mod run;
 mod talk;
-#[cfg(test)]
-mod tests;
 mod threads;
 
 pub use fault::RunFault;

@@ -25,6 +25,3 @@ pub use parts::{Audit, CacheSide, Ring, Station, Stepped};
 pub use port::{ASK_PLACES, Port, TELLING_PLACES};
 pub use raw::RawBank;
 pub use station_journal::{Ask, Entry, SideFault, Source, Told};
-
-#[cfg(test)]
-mod tests;

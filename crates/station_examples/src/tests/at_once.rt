@@ -1,7 +1,9 @@
 //! That threads run at the same time: each of them waits for all.
-use super::*;
+use super::{OpenGate, SHAPE, SmallStation, TURNS, one_script, scripts_of_two};
+use ring_station::{Actor, Audit, Entry, Gate, Told, audit, run_threads, station};
 use std::hint;
 use std::sync::atomic::{AtomicBool, AtomicU64, Ordering};
+use std::test::Fail;
 
 const ACTORS: u64 = 5;
 
@@ -66,7 +68,7 @@ impl Gate for Meeting {
 #[test]
 fn empty_scripts_on_threads(rt: HostRuntime) -> Result<(), Fail> {
     let alloc = rt.alloc();
-    let mut all: Tested = station(alloc, shape(), 1, 100)?;
+    let mut all: SmallStation = station(alloc, SHAPE, 1, 100)?;
     let scripts = one_script(alloc, &[])?;
     let lists = run_threads(&rt, alloc, &mut all, &scripts, TURNS, &OpenGate)?;
     assert_eq!(rt; lists.len(), 1);
@@ -81,7 +83,7 @@ fn empty_scripts_on_threads(rt: HostRuntime) -> Result<(), Fail> {
 #[test]
 fn all_five_actors_at_once(rt: HostRuntime) -> Result<(), Fail> {
     let alloc = rt.alloc();
-    let mut all: Tested = station(alloc, shape(), 2, 100)?;
+    let mut all: SmallStation = station(alloc, SHAPE, 2, 100)?;
     let scripts = scripts_of_two(alloc, &[], &[])?;
     let meeting = Meeting::new();
     let lists = run_threads(&rt, alloc, &mut all, &scripts, TURNS, &meeting)?;

@@ -1,6 +1,8 @@
 //! What the maker of a station answers if an allocation is refused: want of memory and nothing else,
 //! and a second call makes the station. With memory, as in a whole run of the tests, the first does.
-use super::*;
+use super::SHAPE;
+use flat_model::{MakeFault, ShapeField};
+use ring_station::station;
 
 #[test]
 fn station_may_find_no_memory(rt: HostRuntime) {

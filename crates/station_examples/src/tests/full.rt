@@ -1,7 +1,10 @@
 //! Journals and rings that are full.
 ghost use Rattle.std.specs.Prelude.{◌≡◌, vec_len};
 
-use super::*;
+use super::SHAPE;
+use flat_model::Cause;
+use ring_station::{Ask, Source, Station, Stepped, Told, station};
+use std::test::Fail;
 
 #[test]
 fn journal_full(rt: HostRuntime) -> Result<(), Fail> {

@@ -5,7 +5,7 @@ use Rattle.station_journal.specs.declared.asks.Ask.{Ask}
 use Rattle.station_journal.specs.declared.asks.Told.{Told}
 use Rattle.station_parts.specs.declared.port.Port.{Port}
 use Rattle.station_parts.specs.Runs.{HaveConversed}
-use Rattle.ring_station.proofs.tests.audited.run_and_audit.Goals as goal
+use Rattle.station_examples.proofs.tests.audited.run_and_audit.Goals as goal
 
 conversed_alike : (scripts : List (Vec Ask)) (ran looked : List Port) (lists : List (Vec Told)) → looked ≡ ran
     → HaveConversed scripts ran lists → HaveConversed scripts looked lists

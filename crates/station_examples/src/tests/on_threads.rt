@@ -1,8 +1,13 @@
 //! Runs that come to their end.
 ghost use Rattle.std.specs.Prelude.{◌≡◌, vec_len, IfOk};
 
-use super::*;
+use super::{OpenGate, SHAPE, SmallStation, TURNS, load, one_script, scripts_of_two, zeros};
+use flat_model::{Cause, Lanes, Word};
+use ring_station::{Actor, Ask, Audit, Gate, Told, audit, run_threads, station};
+use std::alloc::{AllocError, Global};
+use std::process::Abort;
 use std::sync::atomic::{AtomicBool, Ordering};
+use std::test::Fail;
 
 const STORED: Word = Word {
     b0: 0xee,
@@ -52,6 +57,14 @@ impl Gate for HeldBank {
     }
 }
 
+fn has(list: &[Told], wanted: Told) -> bool {
+    list.iter().any(|told| *told == wanted)
+}
+
+fn count_of(list: &[Told], wanted: Told) -> usize {
+    list.iter().filter(|told| **told == wanted).count()
+}
+
 fn all_lanes() -> Lanes {
     Lanes::LANE_0
         .joined(Lanes::LANE_1)
@@ -74,7 +87,6 @@ pub(crate) fn two_scripts(alloc: Global) -> Result<Vec<Vec<Ask>>, AllocError>
 // What the two ports take.
 pub(crate) fn both_are_told(rt: &impl Abort, lists: &[Vec<Told>]) {
     assert_eq!(rt; lists.len(), 2);
-    let zeros = Word::default();
     assert_eq!(rt; lists[0].len(), 6);
     assert_eq!(rt; count_of(&lists[0], Told::Accepted), 4);
     assert!(rt;
@@ -82,7 +94,7 @@ pub(crate) fn both_are_told(rt: &impl Abort, lists: &[Vec<Told>]) {
             &lists[0],
             Told::Value {
                 tag: 1,
-                word: zeros
+                word: zeros()
             }
         )
     );
@@ -99,7 +111,7 @@ pub(crate) fn both_are_told(rt: &impl Abort, lists: &[Vec<Told>]) {
         Told::Accepted,
         Told::Value {
             tag: 1,
-            word: zeros,
+            word: zeros(),
         },
     ];
     assert_eq!(rt; lists[1].as_slice(), second.as_slice());
@@ -108,7 +120,7 @@ pub(crate) fn both_are_told(rt: &impl Abort, lists: &[Vec<Told>]) {
 #[test]
 fn station_on_threads(rt: HostRuntime) -> Result<(), Fail> {
     let alloc = rt.alloc();
-    let mut all: Tested = station(alloc, shape(), 2, 1_000)?;
+    let mut all: SmallStation = station(alloc, SHAPE, 2, 1_000)?;
     let scripts = two_scripts(alloc)?;
     let lists = run_threads(&rt, alloc, &mut all, &scripts, TURNS, &HeldBank::new())?;
     both_are_told(&rt, &lists);
@@ -124,13 +136,13 @@ fn station_on_threads(rt: HostRuntime) -> Result<(), Fail> {
 #[test]
 fn refused_ask_is_offered_again(rt: HostRuntime) -> Result<(), Fail> {
     let alloc = rt.alloc();
-    let mut all: Tested = station(alloc, shape(), 1, 100_000)?;
+    let mut all: SmallStation = station(alloc, SHAPE, 1, 100_000)?;
     let scripts = one_script(alloc, &[load(1, 5), load(1, 9)])?;
     let lists = run_threads(&rt, alloc, &mut all, &scripts, TURNS, &OpenGate)?;
     assert_eq!(rt; lists.len(), 1);
     let value = Told::Value {
         tag: 1,
-        word: Word::default(),
+        word: zeros(),
     };
     let refused = count_of(&lists[0], Told::Refused(Cause::TagInUse));
     assert_eq!(rt; Some(lists[0].len()), refused.checked_add(4));
@@ -145,7 +157,7 @@ fn refused_ask_is_offered_again(rt: HostRuntime) -> Result<(), Fail> {
 #[test]
 fn refusals_that_stay(rt: HostRuntime) -> Result<(), Fail> {
     let alloc = rt.alloc();
-    let mut all: Tested = station(alloc, shape(), 1, 100)?;
+    let mut all: SmallStation = station(alloc, SHAPE, 1, 100)?;
     let no_lane = Ask::Store {
         at: 0,
         word: STORED,

@@ -5,13 +5,16 @@ ghost use Rattle.station_parts.specs.Promises.{IsFlatRun, PaysLoads};
 ghost use Rattle.station_parts.specs.Runs.{AreAnswered};
 ghost use Rattle.station_parts.specs.Words.{journal_of, sizes_in};
 
-use super::*;
+use super::{OpenGate, SHAPE, SmallStation, TURNS, load, scripts_of_two, zeros};
+use ring_station::{Ask, Audit, Gate, Told, audit, run_threads, station};
+use std::alloc::Global;
+use std::test::Fail;
 use std::thread::Threads;
 
 // A station after a run, what its ports took, and what an audit then found.
 #[derive(Drop)]
 struct Audited {
-    station: Tested,
+    station: SmallStation,
     lists: Vec<Vec<Told>>,
     found: Audit,
 }
@@ -32,7 +35,7 @@ fn run_and_audit<R: Threads + Sync, G: Gate>(
     ensures paid { IfOk result (λ run. run.found ≡ Clean
         → PaysLoads (sizes_in run.station.cache) (journal_of run.station.cache)) }
 {
-    let mut all: Tested = station(alloc, shape(), 2, 1_000)?;
+    let mut all: SmallStation = station(alloc, SHAPE, 2, 1_000)?;
     let lists = run_threads(rt, alloc, &mut all, scripts, TURNS, gate)?;
     let found = audit(&mut all.cache, &mut all.ports, &mut all.banks);
     Ok(Audited {
@@ -52,7 +55,7 @@ fn run_with_its_audit(rt: HostRuntime) -> Result<(), Fail> {
         Told::Accepted,
         Told::Value {
             tag: 1,
-            word: Word::default(),
+            word: zeros(),
         },
     ];
     assert_eq!(rt; run.lists.len(), 2);

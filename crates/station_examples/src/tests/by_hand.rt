@@ -3,10 +3,15 @@ ghost use Rattle.std.specs.Prelude.{◌≡◌, ◌<◌, length, vec_len, map};
 ghost use Rattle.station_parts.specs.Ids.{port_id, bank_id, cache_id};
 ghost use Rattle.station_parts.specs.Station.{AreOneStation};
 
-use super::*;
+use super::{SHAPE, SmallCache, SmallStation, load, zeros};
+use ring_station::{
+    Ask, Audit, BankSide, Port, Ring, Source, Station, Stepped, Told, audit, station,
+};
+use std::process::Abort;
+use std::test::Fail;
 
 // A word of the bank comes, and is processed.
-fn word_comes(rt: &impl Abort, cache: &mut CacheOfFour, bank: u32)
+fn word_comes(rt: &impl Abort, cache: &mut SmallCache, bank: u32)
     ensures { cache_id cache.new ≡ cache_id cache.old }
 {
     assert_eq!(rt; cache.step(Source::Word(bank)), Stepped::Did);
@@ -25,7 +30,7 @@ fn banks_serve(rt: &impl Abort, banks: &mut Vec<BankSide>)
 }
 
 // The load is asked, answered for and sent to the banks.
-fn load_is_asked(rt: &impl Abort, station: &mut Station<1, 4, 2, 2>)
+fn load_is_asked(rt: &impl Abort, station: &mut SmallStation)
     requires one { AreOneStation station.old.cache station.old.ports.items station.old.banks.items }
     requires ports { vec_len station.old.ports ≡ 1 }
     requires banks { vec_len station.old.banks ≡ 2 }
@@ -38,7 +43,7 @@ fn load_is_asked(rt: &impl Abort, station: &mut Station<1, 4, 2, 2>)
         ports,
         banks,
     } = station;
-    assert_eq!(rt; ports[0].offer(Ask::Load { tag: 1, at: 5 }), Ok(()));
+    assert_eq!(rt; ports[0].offer(load(1, 5)), Ok(()));
     assert_eq!(rt;
         audit(cache, ports, banks),
         Audit::Left {
@@ -62,7 +67,7 @@ fn load_is_asked(rt: &impl Abort, station: &mut Station<1, 4, 2, 2>)
 }
 
 // Its words come, and its value is told.
-fn value_is_told(rt: &impl Abort, station: &mut Station<1, 4, 2, 2>)
+fn value_is_told(rt: &impl Abort, station: &mut SmallStation)
     requires one { AreOneStation station.old.cache station.old.ports.items station.old.banks.items }
     requires ports { vec_len station.old.ports ≡ 1 }
     requires banks { vec_len station.old.banks ≡ 2 }
@@ -113,7 +118,7 @@ fn serves_two(rt: &impl Abort, bank: &mut BankSide) {
 // The block of the word at `at` is asked for, and comes.
 fn block_comes(
     rt: &impl Abort,
-    cache: &mut CacheOfFour,
+    cache: &mut SmallCache,
     port: &mut Port,
     first: &mut BankSide,
     second: &mut BankSide,

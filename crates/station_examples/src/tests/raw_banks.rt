@@ -1,5 +1,9 @@
 //! Banks that are served by hand, and answer what they weren't asked for.
-use super::*;
+use super::{SHAPE, load, word, zeros};
+use memory_banks::{BankAnswer, Command};
+use ring_station::{Ask, RawBank, SideFault, Source, Station, Stepped, Told, station};
+use std::process::Abort;
+use std::test::Fail;
 
 // An answer for word 0 of register 0, of zeros.
 fn uncalled() -> BankAnswer {
@@ -78,7 +82,7 @@ fn raw_bank(rt: HostRuntime) -> Result<(), Fail> {
     } = station::<1, 4, 2, 2>(rt.alloc(), SHAPE, 1, 100)?;
     let mut bank = banks.remove(1).into_raw();
     let port = &mut ports[0];
-    assert_eq!(rt; port.offer(Ask::Load { tag: 1, at: 5 }), Ok(()));
+    assert_eq!(rt; port.offer(load(1, 5)), Ok(()));
     assert_eq!(rt; cache.step(Source::Ask(0)), Stepped::Did);
     assert_eq!(rt; port.take(), Some(Told::Accepted));
     reads_come(&rt, &mut bank);

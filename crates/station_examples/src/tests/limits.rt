@@ -1,5 +1,7 @@
 //! Runs that use up their turns.
-use super::*;
+use super::{OpenGate, SHAPE, SmallStation, load, one_script};
+use ring_station::{Actor, Ask, Audit, Gate, RunFault, Told, audit, run_threads, station};
+use std::test::Fail;
 
 // Never lets bank 0 go.
 #[derive(Drop)]
@@ -16,7 +18,7 @@ impl Gate for SilentBank {
 #[test]
 fn turn_limit(rt: HostRuntime) -> Result<(), Fail> {
     let alloc = rt.alloc();
-    let mut all: Tested = station(alloc, shape(), 1, 100)?;
+    let mut all: SmallStation = station(alloc, SHAPE, 1, 100)?;
     let scripts = one_script(alloc, &[load(1, 0)])?;
     let ended = run_threads(&rt, alloc, &mut all, &scripts, 100_000, &SilentBank);
     assert!(rt; matches!(ended, Err(RunFault::TurnLimit)));
@@ -28,7 +30,7 @@ fn turn_limit(rt: HostRuntime) -> Result<(), Fail> {
 #[test]
 fn no_turns(rt: HostRuntime) -> Result<(), Fail> {
     let alloc = rt.alloc();
-    let mut all: Tested = station(alloc, shape(), 1, 100)?;
+    let mut all: SmallStation = station(alloc, SHAPE, 1, 100)?;
     let scripts = one_script(alloc, &[])?;
     let ended = run_threads(&rt, alloc, &mut all, &scripts, 0, &OpenGate);
     assert!(rt; matches!(ended, Err(RunFault::TurnLimit)));
@@ -41,7 +43,7 @@ fn no_turns(rt: HostRuntime) -> Result<(), Fail> {
 #[test]
 fn full_journal(rt: HostRuntime) -> Result<(), Fail> {
     let alloc = rt.alloc();
-    let mut all: Tested = station(alloc, shape(), 1, 1)?;
+    let mut all: SmallStation = station(alloc, SHAPE, 1, 1)?;
     let scripts = one_script(alloc, &[Ask::Prefetch { at: 0 }])?;
     let ended = run_threads(&rt, alloc, &mut all, &scripts, 100_000, &OpenGate);
     assert!(rt; matches!(ended, Err(RunFault::TurnLimit)));
@@ -53,7 +55,7 @@ fn full_journal(rt: HostRuntime) -> Result<(), Fail> {
 #[test]
 fn done_in_a_script(rt: HostRuntime) -> Result<(), Fail> {
     let alloc = rt.alloc();
-    let mut all: Tested = station(alloc, shape(), 1, 100)?;
+    let mut all: SmallStation = station(alloc, SHAPE, 1, 100)?;
     let scripts = one_script(alloc, &[Ask::Done, load(1, 0)])?;
     let ended = run_threads(&rt, alloc, &mut all, &scripts, 1_000, &OpenGate);
     assert!(rt; matches!(ended, Err(RunFault::TurnLimit)));

@@ -3,18 +3,23 @@
 ghost use Rattle.std.specs.Prelude.{◌≡◌, vec_len, IfOk};
 ghost use Rattle.station_parts.specs.Station.{AreOneStation};
 
-use super::*;
-use on_threads::{HeldBank, both_are_told, two_scripts};
+use super::on_threads::{HeldBank, both_are_told, two_scripts};
+use super::{SHAPE, SmallStation, TURNS};
+use flat_model::MakeFault;
+use ring_station::{Audit, RunFault, audit, run_threads, station};
+use std::alloc::Global;
+use std::process::Abort;
+use std::test::Fail;
 
 // Makes a station, if need be at the second attempt.
-fn made(rt: &impl Abort, alloc: Global) -> Result<Tested, MakeFault>
+fn made(rt: &impl Abort, alloc: Global) -> Result<SmallStation, MakeFault>
     ensures { IfOk result (λ s. AreOneStation s.cache s.ports.items s.banks.items × (vec_len s.ports ≡ 2)) }
 {
-    match station(alloc, shape(), 2, 1_000) {
+    match station(alloc, SHAPE, 2, 1_000) {
         Ok(all) => Ok(all),
         Err(fault) => {
             assert_eq!(rt; fault, MakeFault::OutOfMemory);
-            station(alloc, shape(), 2, 1_000)
+            station(alloc, SHAPE, 2, 1_000)
         }
     }
 }

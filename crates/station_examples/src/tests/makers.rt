@@ -1,5 +1,8 @@
 //! Stations that can't be made.
-use super::*;
+use super::SHAPE;
+use flat_model::{MakeFault, ShapeField};
+use ring_station::station;
+use std::alloc::Global;
 
 // What a station's maker says of these numbers of ports and of entries.
 fn fault_of(alloc: Global, ports: u32, journal: u32) -> Option<MakeFault> {

@@ -1,33 +1,46 @@
-//! Runs of stations on threads of their own.
+//! Stations that are stepped by hand on one thread, each to its last answer, and runs of stations on
+//! threads of their own.
 ghost use Rattle.std.specs.Prelude.{◌≡◌, vec_len, IfOk};
 
-use super::*;
-use flat_model::{Cause, Lanes, MakeFault, Shape, Word};
+use flat_model::{Shape, Word};
+use ring_station::{Actor, Ask, CacheSide, Gate, Station, Told};
 use std::alloc::{AllocError, Global};
-use std::process::Abort;
-use std::test::Fail;
 
 mod at_once;
 mod audited;
+mod by_hand;
+mod full;
 mod limits;
+mod makers;
 mod on_threads;
-mod refusals;
+mod raw_banks;
+mod refused_makers;
+mod refused_runs;
+mod waits_for_nobody;
 
-type Tested = Station<1, 4, 2, 2>;
+type SmallStation = Station<1, 4, 2, 2>;
+
+type SmallCache = CacheSide<1, 4, 2, 2>;
+
+// A memory of 32 words in blocks of four, in two banks, behind a cache of two frames.
+const SHAPE: Shape = Shape {
+    words: 32,
+    sets: 2,
+    banks: 2,
+    bank_queue: 4,
+    write_queue: 4,
+    replies: 4,
+};
 
 // So many turns that a run doesn't come to its limit unless it hangs.
 const TURNS: u64 = 5_000_000;
 
-// A memory of 32 words in blocks of four, in two banks, behind a cache of two frames.
-fn shape() -> Shape {
-    Shape {
-        words: 32,
-        sets: 2,
-        banks: 2,
-        bank_queue: 4,
-        write_queue: 4,
-        replies: 4,
-    }
+fn zeros() -> Word {
+    Word::default()
+}
+
+fn word(b0: u8, b1: u8, b2: u8, b3: u8) -> Word {
+    Word { b0, b1, b2, b3 }
 }
 
 fn load(tag: u8, at: u32) -> Ask {
@@ -63,12 +76,4 @@ fn scripts_of_two(alloc: Global, first: &[Ask], second: &[Ask]) -> Result<Vec<Ve
     scripts.push(first.to_vec(alloc)?)?;
     scripts.push(second.to_vec(alloc)?)?;
     Ok(scripts)
-}
-
-fn has(list: &[Told], wanted: Told) -> bool {
-    list.iter().any(|told| *told == wanted)
-}
-
-fn count_of(list: &[Told], wanted: Told) -> usize {
-    list.iter().filter(|told| **told == wanted).count()
 }
