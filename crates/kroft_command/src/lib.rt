@@ -4,7 +4,7 @@
 
 mod command_line;
 mod fault;
-mod tool;
+mod program;
 
 pub use command_line::{CommandLine, Task, read_words};
-pub use tool::tool;
+pub use program::tool;

@@ -19,7 +19,9 @@ use shape_files::ToolShape;
 use std::alloc::Global;
 use std::fmt;
 use std::thread::Threads;
-use trace_text::{CheckEnd, Counts, Sink, Source, TraceFault, check_text, read_requests, serve_text};
+use trace_text::{
+    CheckEnd, Counts, Sink, Source, TraceFault, check_text, read_requests, serve_text,
+};
 
 /// Turns of each thread of the program's sweep. Its gate is always open, so one is enough.
 pub const SWEEP_TURNS: u64 = 1_000_000;

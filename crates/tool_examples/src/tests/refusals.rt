@@ -4,10 +4,10 @@
 
 use super::stored::{STORED_INPUT, STORED_OUTPUT};
 use super::sweeps::{REQUESTS, row_of_three_loads, with_registers};
-use shape_files::{ShapeFault, read_shape};
-use register_sweeps::{OpenGate, SweepFault, sweep, sweep_row};
-use kroft_command::tool;
 use flat_model::ShapeField;
+use kroft_command::tool;
+use register_sweeps::{OpenGate, SweepFault, sweep, sweep_row};
+use shape_files::{ShapeFault, read_shape};
 use std::io::Cursor;
 use std::test::Fail;
 

@@ -1,7 +1,7 @@
 //! The example of shape texts.
 
-use shape_files::{ShapeFault, ToolShape, read_shape};
 use flat_model::ShapeField;
+use shape_files::{ShapeFault, ToolShape, read_shape};
 use std::test::Fail;
 
 #[test]

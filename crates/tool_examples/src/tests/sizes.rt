@@ -74,9 +74,9 @@ fn denied_row(regs: u32, denied: u64) -> Row {
 #[test]
 fn a_sweep_of_many_requests(rt: HostRuntime) -> Result<(), Fail> {
     let requests = vec![in rt.alloc(); Event::Evict { block: 0 }; MANY]?;
-    let shapes = [1, 2, 4, 8].map(with_registers);
+    let shapes = [1, 2, 4, 8].map(|regs| with_registers(regs));
     let rows = sweep(&rt, rt.alloc(), &requests, &shapes, 1, &OpenGate)?;
-    let wanted = [1, 2, 4, 8].map(|regs: u32| -> Row { denied_row(regs, 100_000) });
+    let wanted = [1, 2, 4, 8].map(|regs| denied_row(regs, 100_000));
     assert_eq!(rt; rows.as_slice(), &wanted[..]);
     Ok(())
 }
@@ -92,7 +92,7 @@ fn jobs_of_many_lines(rt: HostRuntime) -> Result<(), Fail> {
     assert!(rt; written.as_slice() == wanted.as_bytes());
     let requests = lines(rt.alloc(), "evict 0\n", MANY)?;
     let rows = sweep_registers(&rt, rt.alloc(), &shape, &mut requests.as_bytes())?;
-    let wanted = [1, 2, 4, 8].map(|regs: u32| -> Row { denied_row(regs, 100_000) });
+    let wanted = [1, 2, 4, 8].map(|regs| denied_row(regs, 100_000));
     assert_eq!(rt; rows.as_slice(), &wanted[..]);
     Ok(())
 }
@@ -101,7 +101,7 @@ fn jobs_of_many_lines(rt: HostRuntime) -> Result<(), Fail> {
 fn a_run_that_uses_every_tag(rt: HostRuntime) -> Result<(), Fail> {
     let shape = read_shape(rt.alloc(), LARGEST)?;
     let mut run = String::new(rt.alloc());
-    for tag in 0..=u16::MAX {
+    for tag in 0..65_536u32 {
         let line = format!(in rt.alloc(); "load {tag} 1048575 -> accepted\n")?;
         run.push_str(line.as_str())?;
     }

@@ -1,9 +1,8 @@
 //! The example of a sweep on threads.
 
-use register_sweeps::Row;
-use shape_files::ToolShape;
-use register_sweeps::{OpenGate, SweepFault, SweepGate, sweep, sweep_row};
 use flat_model::{Event, ShapeField};
+use register_sweeps::{OpenGate, Row, SweepFault, SweepGate, sweep, sweep_row};
+use shape_files::ToolShape;
 use std::alloc::Global;
 use std::sync::atomic::{AtomicBool, AtomicU64, Ordering};
 use std::test::Fail;
