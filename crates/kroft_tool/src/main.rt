@@ -1,26 +1,12 @@
 //! Reads a trace of a cache with several misses at a time, and writes what the machine answers.
 #![tactic(auto)]
 
-mod choice;
-mod command_line;
-mod fault;
-mod jobs;
-mod row;
-mod shape_file;
-mod sweep;
-#[cfg(test)]
-mod tests;
-mod tool;
-
-pub use row::Row;
-pub use shape_file::{ShapeFault, ToolShape, read_shape, shape_of_table};
+use kroft_command::tool;
 use std::io::{BufWriter, Input, Print};
 use std::process::ExitCode;
 use std::rt::{Env, Files};
 use std::thread::Threads;
 use std::{env, io};
-pub use sweep::{OpenGate, SweepFault, SweepGate, sweep, sweep_row};
-pub use tool::tool;
 
 fn main(rt: HostRuntime) -> ExitCode {
     let status = match start(&rt, &rt.stderr()) {

@@ -1,0 +1,10 @@
+//! The program over its words, a reader and two writers: the words of the command line, and the
+//! jobs that they ask for.
+#![tactic(auto)]
+
+mod command_line;
+mod fault;
+mod program;
+
+pub use command_line::{CommandLine, Task, read_words};
+pub use program::tool;

@@ -1,0 +1,162 @@
+//! The program over a reader and two writers.
+
+ghost use Rattle.std.specs.Prelude.{◌≤◌, IfOk};
+
+use crate::command_line::{Task, read_words};
+use crate::fault::ToolFault;
+use clap::error::ErrorKind;
+use kroft_jobs::{JobFault, Verdict, check, explain, serve, sweep_registers};
+use shape_files::{ShapeFault, ToolShape, bad_field, read_shape};
+use std::alloc::Global;
+use std::io::{Read, Write};
+use std::rt::Files;
+use std::thread::Threads;
+use std::{fmt, io};
+use trace_text::TraceFault;
+
+/// Does what the words behind the program's name ask for, and gives the status that the program
+/// ends with: 0 done, 1 a mismatch was found, 2 the words were refused, 3 a fault of the shape
+/// file, 4 a fault of the trace or a failed write of the output, 5 want of memory or the turn limit
+/// of a sweep. A fault is told in one line on `errors`.
+pub fn tool<R: AllocGlobal + Files + Threads + Sync, I: Read, O: Write, E: Write>(
+    rt: &R,
+    words: &[&str],
+    input: &mut I,
+    output: &mut O,
+    errors: &mut E,
+) -> u8
+    ensures { result ≤ 5 }
+{
+    match work(rt, words, input, output) {
+        Ok(status) => status,
+        Err(fault) => {
+            fault.tell(errors);
+            fault.status()
+        }
+    }
+}
+
+// Writes a text to the output.
+fn show<O: Write, D: fmt::Display + Drop>(output: &mut O, text: D) -> Result<(), JobFault> {
+    match write!(output, "{text}") {
+        Ok(()) => Ok(()),
+        Err(_) => Err(JobFault::Trace(TraceFault::Write)),
+    }
+}
+
+// Sees what was written through to its end.
+fn finish<O: Write>(output: &mut O) -> Result<(), JobFault> {
+    match output.flush() {
+        Ok(()) => Ok(()),
+        Err(_) => Err(JobFault::Trace(TraceFault::Write)),
+    }
+}
+
+// Does what the words ask for.
+fn work<R: AllocGlobal + Files + Threads + Sync, I: Read, O: Write>(
+    rt: &R,
+    words: &[&str],
+    input: &mut I,
+    output: &mut O,
+) -> Result<u8, ToolFault>
+    ensures { IfOk result (λ status. status ≤ 1) }
+{
+    let asked = match read_words(rt.alloc(), words) {
+        Ok(asked) => asked,
+        Err(error) if error.kind() == ErrorKind::OutOfMemory => {
+            return Err(ToolFault::Job(JobFault::OutOfMemory));
+        }
+        Err(error) if error.use_stderr() => return Err(ToolFault::CommandLine(error)),
+        Err(help) => {
+            show(output, help)?;
+            finish(output)?;
+            return Ok(0);
+        }
+    };
+    let shape = match asked.shape_file {
+        Some(path) => shape_of_file(rt, path)?,
+        None => ToolShape::default(),
+    };
+    let status = match asked.task {
+        Task::Run => run(rt.alloc(), &shape, input, output)?,
+        Task::Check => judge(rt.alloc(), &shape, input, output)?,
+        Task::Sweep => compare(rt, &shape, input, output)?,
+        Task::Explain => reason(rt.alloc(), &shape, input, output)?,
+    };
+    Ok(status)
+}
+
+// The shape that a file describes.
+fn shape_of_file<R: AllocGlobal + Files>(rt: &R, path: &str) -> Result<ToolShape, JobFault> {
+    let text = match std::fs::read_to_string(rt, path) {
+        Ok(text) => text,
+        Err(error) if error.kind() == io::ErrorKind::OutOfMemory => {
+            return Err(JobFault::OutOfMemory);
+        }
+        Err(_) => return Err(JobFault::ShapeUnreadable),
+    };
+    Ok(read_shape(rt.alloc(), text.as_str())?)
+}
+
+// Serves the trace on a new machine.
+fn run<I: Read, O: Write>(
+    alloc: Global,
+    tool: &ToolShape,
+    input: &mut I,
+    output: &mut O,
+) -> Result<u8, JobFault>
+    ensures { IfOk result (λ status. status ≤ 1) }
+{
+    if let Some(field) = bad_field(tool) {
+        return Err(JobFault::Shape(ShapeFault::BadShape(field)));
+    }
+    serve(alloc, tool, input, output)?;
+    Ok(0)
+}
+
+// Judges what a run wrote.
+fn judge<I: Read, O: Write>(
+    alloc: Global,
+    tool: &ToolShape,
+    input: &mut I,
+    output: &mut O,
+) -> Result<u8, JobFault>
+    ensures { IfOk result (λ status. status ≤ 1) }
+{
+    let verdict = Verdict(check(alloc, tool, input)?);
+    show(output, format_args!("{verdict}\n"))?;
+    finish(output)?;
+    Ok(verdict.status())
+}
+
+// Says why what a run wrote is none of flat memory.
+fn reason<I: Read, O: Write>(
+    alloc: Global,
+    tool: &ToolShape,
+    input: &mut I,
+    output: &mut O,
+) -> Result<u8, JobFault>
+    ensures { IfOk result (λ status. status ≤ 1) }
+{
+    let explanation = explain(alloc, tool, input)?;
+    show(output, format_args!("{explanation}\n"))?;
+    finish(output)?;
+    Ok(explanation.status())
+}
+
+// Serves the requests with 1, 2, 4 and 8 registers.
+fn compare<R: AllocGlobal + Threads + Sync, I: Read, O: Write>(
+    rt: &R,
+    tool: &ToolShape,
+    input: &mut I,
+    output: &mut O,
+) -> Result<u8, JobFault>
+    ensures { IfOk result (λ status. status ≤ 1) }
+{
+    let rows = sweep_registers(rt, rt.alloc(), tool, input)?;
+    for row in &rows {
+        show(output, format_args!("{row}\n"))?;
+    }
+    finish(output)?;
+    Ok(0)
+}

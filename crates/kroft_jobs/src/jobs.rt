@@ -1,0 +1,164 @@
+//! What is done with a trace, for the shape that was read.
+
+ghost use Rattle.std.specs.Prelude.{⊤, ◌≡◌, ◌≤◌, ℕ, List, None, Some, IfOk, IfErr, map, ◌++◌};
+ghost use Rattle.machine_core.specs.Machine.{MachineState};
+ghost use Rattle.trace_text.specs.Reading.{ReadWhole, ReadFails};
+ghost use Rattle.trace_text.specs.Serving.{trace_fault, Ends};
+ghost use Rattle.trace_text.specs.Checks.{pair_fault, IsJudged};
+ghost use Rattle.trace_text.specs.Requests.{requests_of};
+ghost use Rattle.run_reasons.specs.Runs.{Explains};
+ghost use Rattle.shape_files.specs.ShapeFile.{bad_field};
+ghost use Rattle.register_sweeps.specs.Sweep.{new_machine, row_of};
+ghost use Rattle.kroft_jobs.specs.Jobs.{swept, verdict_status, verdict_text};
+
+use crate::fault::JobFault;
+use machine_core::AnyMachine;
+use register_sweeps::{MachineJob, OpenGate, Row, sweep, with_machine};
+use run_reasons::{Explanation, explain_text};
+use shape_files::ToolShape;
+use std::alloc::Global;
+use std::fmt;
+use std::thread::Threads;
+use trace_text::{
+    CheckEnd, Counts, Sink, Source, TraceFault, check_text, read_requests, serve_text,
+};
+
+/// Turns of each thread of the program's sweep. Its gate is always open, so one is enough.
+pub const SWEEP_TURNS: u64 = 1_000_000;
+
+/// Serves a trace on a new machine of a shape whose fields are in range, over zeros, as
+/// `serve_text` does.
+pub fn serve<I: Source, O: Sink>(
+    alloc: Global,
+    tool: &ToolShape,
+    input: &mut I,
+    output: &mut O,
+) -> Result<Counts, TraceFault>
+    requires shape { bad_field tool.now ≡ None }
+    ensures { (after : MachineState)
+        × Ends I.gave I.failed O.took O.refused O.unflushed input.old input.new output.old output.new
+        (new_machine tool.now) after result }
+{
+    let mut job = ServedTrace {
+        alloc,
+        input,
+        output,
+    };
+    with_machine(alloc, tool, &mut job)
+}
+
+// The serving of a trace.
+#[derive(Drop)]
+struct ServedTrace<'a, I, O> {
+    alloc: Global,
+    input: &'a mut I,
+    output: &'a mut O,
+}
+
+impl<'a, I: Source, O: Sink> MachineJob for ServedTrace<'a, I, O> {
+    type Done = Result<Counts, TraceFault>;
+
+    ghost can = { λ s. ⊤ };
+
+    ghost done = { λ s machine t result. (after : MachineState) × Ends I.gave I.failed O.took O.refused O.unflushed s.input.now t.input.now s.output.now t.output.now machine after result };
+
+    ghost holds_same = { λ s t. (t.input.ghost_name ≡ s.input.ghost_name) × (t.output.ghost_name ≡ s.output.ghost_name) };
+
+    fn work<M: AnyMachine>(&mut self, machine: &mut M) -> Result<Counts, TraceFault> {
+        serve_text(self.alloc, self.input, self.output, machine)
+    }
+
+    fn give_up(&mut self) -> Result<Counts, TraceFault> {
+        Err(TraceFault::OutOfMemory)
+    }
+}
+
+/// Judges what a run wrote, over as many words of zeros as the shape says, as `check_text` does.
+pub fn check<I: Source>(
+    alloc: Global,
+    tool: &ToolShape,
+    input: &mut I,
+) -> Result<CheckEnd, TraceFault>
+    ensures judged { IfOk result
+        (λ end. (texts : List (List ℕ)) × ReadWhole I.gave pair_fault 768 input.old input.new texts
+        × IsJudged tool.now.shape.words texts end) }
+    ensures fault { IfErr result
+        (ReadFails I.gave I.failed pair_fault 768 input.old input.new) }
+{
+    check_text(alloc, input, tool.shape.words)
+}
+
+/// Says why what a run wrote is none of flat memory, over as many words of zeros as the shape says, as
+/// `explain_text` does.
+pub fn explain<I: Source>(
+    alloc: Global,
+    tool: &ToolShape,
+    input: &mut I,
+) -> Result<Explanation, TraceFault>
+    ensures { Explains I.gave I.failed tool.now.shape.words input.old input.new result }
+{
+    explain_text(alloc, input, tool.shape.words)
+}
+
+/// What a check found, as the program tells it.
+#[derive(Clone, Copy)]
+pub struct Verdict(pub CheckEnd);
+
+impl Verdict {
+    /// The status with which the program ends.
+    pub fn status(self) -> u8
+        ensures { result ≡ verdict_status self.0 }
+    {
+        match self.0 {
+            CheckEnd::Flat { .. } => 0,
+            CheckEnd::Mismatch { .. } => 1,
+        }
+    }
+}
+
+impl fmt::Display for Verdict {
+    ghost output = { λ verdict. Some (verdict_text verdict.0) };
+
+    fn fmt<W: fmt::Write>(&self, f: &mut fmt::Formatter<W>) -> fmt::Result {
+        match self.0 {
+            CheckEnd::Flat { steps } => write!(f, "flat run, {steps} steps"),
+            CheckEnd::Mismatch { line } => write!(f, "mismatch at line {line}"),
+        }
+    }
+}
+
+/// The rows of the requests of a trace, with 1, 2, 4 and 8 registers and all else as the shape says.
+pub fn sweep_registers<R: Threads + Sync, I: Source>(
+    rt: &R,
+    alloc: Global,
+    tool: &ToolShape,
+    input: &mut I,
+) -> Result<Vec<Row>, JobFault>
+    ensures { IfOk result
+        (λ rows. (texts : List (List ℕ)) × ReadWhole I.gave trace_fault 64 input.old input.new texts
+        × (rows.items ≡ map (row_of (requests_of texts)) (swept tool.now))) }
+{
+    let requests = read_requests(alloc, input)?;
+    let shapes = [
+        with_registers(tool, 1),
+        with_registers(tool, 2),
+        with_registers(tool, 4),
+        with_registers(tool, 8),
+    ];
+    let rows = sweep(
+        rt,
+        alloc,
+        requests.as_slice(),
+        &shapes,
+        SWEEP_TURNS,
+        &OpenGate,
+    )?;
+    Ok(rows)
+}
+
+// The shape with so many registers.
+fn with_registers(tool: &ToolShape, regs: u32) -> ToolShape
+    ensures { result ≡ record tool.now { regs = regs } }
+{
+    ToolShape { regs, ..*tool }
+}

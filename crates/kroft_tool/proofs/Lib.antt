@@ -1,8 +1,0 @@
-pub mod Members
-pub mod Answers
-pub mod Turns
-pub mod Shapes
-pub mod Owing
-pub mod Requests
-pub mod Ending
-pub mod Lawful

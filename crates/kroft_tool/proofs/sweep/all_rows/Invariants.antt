@@ -1,6 +1,0 @@
-use Rattle.std.proofs.Common.{◌≡◌, take, map, Ok}
-use Rattle.kroft_tool.proofs.sweep.all_rows.Given as goal
-
--- the answers so far are these rows
-abbrev pub invariant-loop-answer : goal.invariant-loop-answer
-invariant-loop-answer l = map Ok l.rows.items ≡ take l.answer-index l.answers

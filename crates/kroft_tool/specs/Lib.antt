@@ -1,3 +1,0 @@
-pub mod ShapeFile
-pub mod Sweep
-pub mod Jobs

@@ -1,0 +1,6 @@
+pub mod Turns
+pub mod Shapes
+pub mod Owing
+pub mod Requests
+pub mod Ending
+pub mod Lawful

@@ -1,0 +1,71 @@
+-- The first shape with a bad field, and the rows of shapes that have none.
+use Rattle.std.proofs.Common.{◌≡◌, ℕ, zero, suc, ◌+◌, ◌<◌, ◌≤◌, List, [], ◌∷◌, map, length, get_or, drop, Option, Some, None, Result, Ok, Err, IfOk, Vec, Global, refl, sym, ap, ap₂, subst, ◌∙◌, arith}
+use Rattle.std.specs.Option.{option_map, option_or}
+use Rattle.std.proofs.lemmas.List.{drop_more, drop_all, get_or-map, length-map}
+use Rattle.flat_model.specs.declared.Event.{Event}
+use Rattle.flat_model.specs.declared.ShapeField.{ShapeField}
+use Rattle.shape_files.specs.declared.shape_file.ToolShape.{ToolShape}
+use Rattle.register_sweeps.specs.declared.row.Row.{Row}
+use Rattle.register_sweeps.specs.declared.sweeps.Stop.{Stop}
+use Rattle.register_sweeps.specs.declared.sweeps.SweepFault.{SweepFault}
+use Rattle.shape_files.specs.ShapeFile.{bad_field}
+use Rattle.register_sweeps.specs.Sweep.{bad_from, row_of}
+
+not_none : {X : Type 0} {x : X} → Some x ≡ None → ⊥
+not_none h = cc
+
+pub good_shape : (ts : List ToolShape) (place i : ℕ) (d : ToolShape) → bad_from place ts ≡ None → i < length ts → bad_field (get_or ts i d) ≡ None
+good_shape [] place i d h l = absurd (omega arith)
+good_shape (t ∷ ts) place i d h l = go (λ j p q. good_shape ts (place + 1) j d p q) (bad_field t) refl i h l
+  where
+    go : ((j : ℕ) → bad_from (place + 1) ts ≡ None → j < length ts → bad_field (get_or ts j d) ≡ None) → (o : Option ShapeField) → bad_field t ≡ o → (i : ℕ) → option_or (option_map (λ field. (place, field)) (bad_field t)) (bad_from (place + 1) ts) ≡ None → i < suc (length ts) → bad_field (get_or (t ∷ ts) i d) ≡ None
+    go later (Some f) e i h l =
+        let rest = bad_from (place + 1) ts in
+        let found : Some (place, f) ≡ None = sym (ap (λ o. option_or (option_map (λ field. (place, field)) o) rest) e) ∙ h in
+        absurd (not_none found)
+    go later None e zero h l = e
+    go later None e (suc j) h l = later j (sym (ap (λ o. option_or (option_map (λ field. (place, field)) o) (bad_from (place + 1) ts)) e) ∙ h) (omega arith)
+
+module _ (ts : List ToolShape) (i : ℕ) (d : ToolShape) (inside : i < length ts) where
+  here : bad_from i (drop i ts) ≡ option_or (option_map (λ field. (i, field)) (bad_field (get_or ts i d))) (bad_from (i + 1) (drop (i + 1) ts))
+  here = ap (bad_from i) (drop_more ts i d inside)
+
+  pub bad_here : (field : ShapeField) → bad_field (get_or ts i d) ≡ Some field → bad_from i (drop i ts) ≡ Some (i, field)
+  bad_here field h = here ∙ ap (λ o. option_or (option_map (λ field. (i, field)) o) (bad_from (i + 1) (drop (i + 1) ts))) h
+
+  pub good_here : bad_field (get_or ts i d) ≡ None → bad_from i (drop i ts) ≡ bad_from (i + 1) (drop (i + 1) ts)
+  good_here h = here ∙ ap (λ o. option_or (option_map (λ field. (i, field)) o) (bad_from (i + 1) (drop (i + 1) ts))) h
+
+pub all_good : (ts : List ToolShape) (i : ℕ) → length ts ≤ i → bad_from i (drop i ts) ≡ None
+all_good ts i h = ap (bad_from i) (drop_all i ts h)
+
+-- rows that are each that of its shape
+each_row : (events : List Event) (ts : List ToolShape) (rows : List Row) → length rows ≡ length ts → ((i : ℕ) (t : ToolShape) (r : Row) → i < length ts → get_or rows i r ≡ row_of events (get_or ts i t)) → rows ≡ map (row_of events) ts
+each_row events [] [] h e = refl
+each_row events [] (r ∷ rows) h e = absurd (omega (arith, h))
+each_row events (t ∷ ts) [] h e = absurd (omega (arith, h))
+each_row events (t ∷ ts) (r ∷ rows) h e =
+    let first : r ≡ row_of events t = e 0 t r (omega arith) in
+    let rest : rows ≡ map (row_of events) ts = each_row events ts rows (omega (arith, h)) (λ i u s l. e (suc i) u s (omega arith)) in
+    ap₂ (λ x xs. x ∷ xs) first rest
+
+-- each answer that is a row is that of its shape
+abbrev pub EachIsRow : List Event → List ToolShape → List (Result Row Stop) → Type 0
+EachIsRow events ts answers =
+    (i : ℕ) (d : Result Row Stop) (t : ToolShape) → i < length ts → IfOk (get_or answers i d) (λ row. row ≡ row_of events (get_or ts i t))
+
+if_ok : (P : Row → Type 0) (a : Result Row Stop) (r : Row) → a ≡ Ok r → IfOk a P → P r
+if_ok P a r e h = subst (λ x. IfOk x P) e h
+
+rows_said : (events : List Event) (ts : List ToolShape) (rows : List Row) (answers : List (Result Row Stop)) → map Ok rows ≡ answers → length answers ≡ length ts → EachIsRow events ts answers → rows ≡ map (row_of events) ts
+rows_said events ts rows answers all len each =
+    let long : length rows ≡ length ts = sym (length-map rows Ok) ∙ ap length all ∙ len in
+    each_row events ts rows long (λ i t r l.
+    let inside : i < length rows = omega (arith, long, l) in
+    let answer : get_or answers i (Ok r) ≡ Ok (get_or rows i r) = sym (ap (λ xs. get_or xs i (Ok r)) all) ∙ get_or-map Ok rows i r (Ok r) inside in
+    if_ok (λ row. row ≡ row_of events (get_or ts i t)) (get_or answers i (Ok r)) (get_or rows i r) answer (each i (Ok r) t l))
+
+-- where every thread gave a row, these are the rows of the shapes
+pub rows_of_answers : (events : List Event) (ts : List ToolShape) (answers given : List (Result Row Stop)) (r : Result (Vec Row Global) SweepFault) → IfOk r (λ rows. map Ok rows.items ≡ given) → given ≡ answers → length answers ≡ length ts → EachIsRow events ts answers → IfOk r (λ rows. rows.items ≡ map (row_of events) ts)
+rows_of_answers events ts answers given (Ok rows) h same len each = rows_said events ts rows.items answers (h ∙ same) len each
+rows_of_answers events ts answers given (Err e) h same len each = tt

@@ -1,0 +1,56 @@
+-- The turns of a sweep's loops, one at a time, and that none changes a machine's sizes.
+use Rattle.std.proofs.Common.{◌≡◌, ℕ, suc, ◌+◌, ◌-◌, ◌<◌, ◌≤◌, true, false, cond, Option, Some, None, refl, sym, ap, ◌∙◌, arith}
+use Rattle.flat_model.specs.declared.Event.{Event}
+use Rattle.machine_core.specs.Machine.{MachineState}
+use Rattle.machine_core.specs.AnyMachine.{after_event, after_some, pump_leaves}
+use Rattle.machine_core.specs.Pump.{pumped}
+use Rattle.register_sweeps.specs.declared.row.Row.{Row}
+use Rattle.register_sweeps.specs.Sweep.{Course, course, pump_once, pump_and_wait, ask, ends, ask_again, pump_times}
+
+pub waited : (s t : MachineState) (row told : Row) → course t told ≡ pump_once (course s row) → course t (record told { waited = told.waited + 1 }) ≡ pump_and_wait (course s row)
+waited s t row told h = ap (λ c. course c.state (record c.row { waited = c.row.waited + 1 })) h
+
+left : (n i : ℕ) → i < n → n - i ≡ suc (n - (i + 1))
+left n i h = omega arith
+
+more : (n : ℕ) (event : Event) (c : Course) → ask_again (suc n) event c ≡ cond (ends event (pump_and_wait c)) (ask event (pump_and_wait c)) (ask_again n event (ask event (pump_and_wait c)))
+unfolding ask_again
+more n event c = refl
+
+module _ (n i : ℕ) (event : Event) (c d e : Course) (pumped : d ≡ pump_and_wait c) (asked : e ≡ ask event d) (turn : i < n) where
+  told : e ≡ ask event (pump_and_wait c)
+  told = asked ∙ ap (ask event) pumped
+
+  pub turn_ends : ends event d ≡ true → ask_again (n - i) event c ≡ e
+  turn_ends h =
+      let h : ends event (pump_and_wait c) ≡ true = sym (ap (ends event) pumped) ∙ h in
+      ap (λ k. ask_again k event c) (left n i turn) ∙ more (n - (i + 1)) event c ∙ ap (λ b. cond b (ask event (pump_and_wait c)) (ask_again (n - (i + 1)) event (ask event (pump_and_wait c)))) h ∙ sym told
+
+  pub turn_goes_on : ends event d ≡ false → ask_again (n - i) event c ≡ ask_again (n - (i + 1)) event e
+  turn_goes_on h =
+      let h : ends event (pump_and_wait c) ≡ false = sym (ap (ends event) pumped) ∙ h in
+      ap (λ k. ask_again k event c) (left n i turn) ∙ more (n - (i + 1)) event c ∙ ap (λ b. cond b (ask event (pump_and_wait c)) (ask_again (n - (i + 1)) event (ask event (pump_and_wait c)))) h ∙ ap (ask_again (n - (i + 1)) event) (sym told)
+
+pub no_turn_left : (n i : ℕ) (event : Event) (c : Course) → n ≤ i → ask_again (n - i) event c ≡ c
+unfolding ask_again
+no_turn_left n i event c h = let e : n - i ≡ 0 = omega arith in ap (λ k. ask_again k event c) e
+
+pub pump_turn : (n i : ℕ) (c d : Course) → d ≡ pump_once c → i < n → pump_times (n - i) c ≡ pump_times (n - (i + 1)) d
+unfolding pump_times
+pump_turn n i c d h turn = ap (λ k. pump_times k c) (left n i turn) ∙ ap (pump_times (n - (i + 1))) (sym h)
+
+pub no_pump_left : (n i : ℕ) (c : Course) → n ≤ i → pump_times (n - i) c ≡ c
+unfolding pump_times
+no_pump_left n i c h = let e : n - i ≡ 0 = omega arith in ap (λ k. pump_times k c) e
+
+pub event_sizes : (s : MachineState) (event : Event) → (after_event s event).sizes ≡ s.sizes
+unfolding after_event
+event_sizes s event = refl
+
+pub pump_sizes : (s : MachineState) → (pump_leaves s).sizes ≡ s.sizes
+unfolding pump_leaves after_event
+pump_sizes s = go (pumped s.sizes s.machine)
+  where
+    go : (o : Option Event) → (after_some s o).sizes ≡ s.sizes
+    go None = refl
+    go (Some event) = refl

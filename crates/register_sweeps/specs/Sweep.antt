@@ -1,0 +1,183 @@
+-- What a sweep counts, over the walk of the machine.
+use Rattle.std.specs.Prelude.{⊤, ℕ, zero, suc, ◌≡◌, ◌<◌, ◌+◌, ◌-◌, Bool, true, false, if◌then◌else◌, List, [], ◌∷◌, ◌++◌, length, replicate, slice_index_or, codes, decimal, Option, Some, None}
+use Rattle.std.specs.Option.{option_map, option_or}
+use Rattle.flat_model.specs.declared.Cause.TheVariants.{OutOfRange, NoLanes, NotPresent}
+use Rattle.flat_model.specs.declared.Event.{Event}
+use Rattle.flat_model.specs.declared.Event.TheVariants.{Load, Store, Prefetch, Evict}
+use Rattle.flat_model.specs.declared.Answer.{Answer}
+use Rattle.flat_model.specs.declared.Answer.TheVariants.{Accepted, Value, Refused}
+use Rattle.flat_model.specs.declared.ShapeField.{ShapeField}
+use Rattle.flat_model.specs.Words.{zero_word}
+use Rattle.machine_core.specs.Machine.{MachineState, opening}
+use Rattle.machine_core.specs.AnyMachine.{answered, after_event, pump_tells, pump_leaves, weight_of}
+use Rattle.shape_files.specs.declared.shape_file.ToolShape.{ToolShape}
+use Rattle.register_sweeps.specs.declared.row.Row.{Row}
+use Rattle.register_sweeps.specs.declared.sweeps.SweepFault.{SweepFault}
+use Rattle.register_sweeps.specs.declared.sweeps.SweepFault.TheVariants.{BadShape, TurnLimit, OutOfMemory}
+use Rattle.shape_files.specs.ShapeFile.{sizes_of, bad_field}
+
+-- ---- the counts
+
+-- where a sweep stands: the machine, and what was counted so far
+pub record Course : Type 0 where
+  pub state : MachineState
+  pub row : Row
+
+abbrev pub course : MachineState → Row → Course
+course s row = record { state = s; row = row }
+
+-- a pump with an answer
+abbrev pub with_pump : Row → Answer → Row
+with_pump row (Value tag word) = record row { pumps = row.pumps + 1; values = row.values + 1 }
+with_pump row answer = record row { pumps = row.pumps + 1 }
+
+abbrev pub with_pumped : Row → Option (Event × Answer) → Row
+with_pumped row None = row
+with_pumped row (Some told) = with_pump row told.1
+
+abbrev pub pump_once : Course → Course
+pump_once c = course (pump_leaves c.state) (with_pumped c.row (pump_tells c.state))
+
+-- whether an answer ends a request: it was accepted, or refused for what no pump changes
+abbrev pub is_end : Answer → Bool
+is_end Accepted = true
+is_end (Refused OutOfRange) = true
+is_end (Refused NoLanes) = true
+is_end (Refused NotPresent) = true
+is_end answer = false
+
+abbrev pub with_end : Row → Answer → Row
+with_end row Accepted = record row { accepted = row.accepted + 1 }
+with_end row (Refused OutOfRange) = record row { denied = row.denied + 1 }
+with_end row (Refused NoLanes) = record row { denied = row.denied + 1 }
+with_end row (Refused NotPresent) = record row { denied = row.denied + 1 }
+with_end row answer = row
+
+-- a request is asked once
+abbrev pub ask : Event → Course → Course
+ask event c = course (after_event c.state event) (with_end c.row (answered c.state event))
+
+abbrev pub ends : Event → Course → Bool
+ends event c = is_end (answered c.state event)
+
+abbrev pub stall : Course → Course
+stall c = course c.state (record c.row { stalled = c.row.stalled + 1 })
+
+abbrev pub pump_and_wait : Course → Course
+pump_and_wait c = course (pump_once c).state (record (pump_once c).row { waited = (pump_once c).row.waited + 1 })
+
+-- a request is asked again, after a pump each time, until it ends: n times at most
+unfoldable pub ask_again : ℕ → Event → Course → Course
+ask_again zero event c = c
+ask_again (suc n) event c =
+    if ends event (pump_and_wait c) then ask event (pump_and_wait c) else ask_again n event (ask event (pump_and_wait c))
+
+-- as many pumps as the weight of the machine leave nothing on its way, so that the request ends by then
+abbrev pub serve : Event → Course → Course
+serve event c =
+    if ends event c then ask event c else ask_again (weight_of (after_event c.state event)) event (stall (ask event c))
+
+abbrev pub serve_all : List Event → Course → Course
+serve_all [] c = c
+serve_all (event ∷ events) c = serve_all events (serve event c)
+
+unfoldable pub pump_times : ℕ → Course → Course
+pump_times zero c = c
+pump_times (suc n) c = pump_times n (pump_once c)
+
+-- the last pumps, until there is none
+abbrev pub run_dry : Course → Course
+run_dry c = pump_times (weight_of c.state) c
+
+-- ---- the row of a machine
+
+abbrev pub empty_row : ℕ → Row
+empty_row regs = record { regs = regs; accepted = 0; denied = 0; stalled = 0; waited = 0; pumps = 0; values = 0 }
+
+-- the sum of the counts
+abbrev pub total : Row → ℕ
+total row = row.accepted + (row.denied + (row.stalled + (row.waited + (row.pumps + row.values))))
+
+abbrev pub row_from : MachineState → ℕ → List Event → Row
+row_from s regs events = (run_dry (serve_all events (course s (empty_row regs)))).row
+
+-- ---- the row of a shape
+
+-- a new machine of the shape, over zeros
+abbrev pub new_machine : ToolShape → MachineState
+new_machine t = record { sizes = sizes_of t; machine = opening (sizes_of t) (replicate t.shape.words zero_word) }
+
+abbrev pub row_of : List Event → ToolShape → Row
+row_of events t = row_from (new_machine t) t.regs events
+
+-- ---- what a row counts
+
+abbrev pub is_request : Event → Bool
+is_request (Load tag at) = true
+is_request (Store at word lanes) = true
+is_request (Prefetch at) = true
+is_request (Evict block) = true
+is_request event = false
+
+abbrev pub is_load : Event → Bool
+is_load (Load tag at) = true
+is_load event = false
+
+-- 1 where a request is a load and was accepted between these two counts
+abbrev pub loads_between : Event → Row → Row → ℕ
+loads_between event old new = if is_load event then new.accepted - old.accepted else 0
+
+-- how many loads among the requests are accepted
+abbrev pub accepted_loads : List Event → Course → ℕ
+accepted_loads [] c = 0
+accepted_loads (event ∷ events) c = loads_between event c.row (serve event c).row + accepted_loads events (serve event c)
+
+abbrev pub new_course : ToolShape → Course
+new_course t = course (new_machine t) (empty_row t.regs)
+
+-- where the row of a shape ends
+abbrev pub end_of : List Event → ToolShape → Course
+end_of events t = run_dry (serve_all events (new_course t))
+
+-- each request is counted once, as accepted or denied, each accepted load has its value, and no pump
+-- finds anything left to do
+pub record CountsAll (events : List Event) (t : ToolShape) (row : Row) : Type 0 where
+  pub each_ends : row.accepted + row.denied ≡ length events
+  pub each_is_paid : row.values ≡ accepted_loads events (new_course t)
+  pub nothing_left : pump_tells (end_of events t).state ≡ None
+
+-- each row counts all requests of its shape
+abbrev pub EachCountsAll : List Event → List ToolShape → List Row → Type 0
+EachCountsAll events shapes rows =
+    (i : ℕ) (t : ToolShape) (row : Row) → i < length shapes → CountsAll events (slice_index_or shapes i t) (slice_index_or rows i row)
+
+-- a count behind its name
+abbrev pub count_text : List ℕ → ℕ → List ℕ
+count_text name n = codes " " ++ name ++ codes " " ++ decimal n
+
+abbrev pub requests_text : Row → List ℕ
+requests_text row = count_text (codes "accepted") row.accepted ++ count_text (codes "denied") row.denied ++ count_text (codes "stalled") row.stalled
+
+abbrev pub work_text : Row → List ℕ
+work_text row = count_text (codes "waited") row.waited ++ count_text (codes "pumps") row.pumps ++ count_text (codes "values") row.values
+
+-- a row as the program writes it
+abbrev pub row_text : Row → List ℕ
+row_text row =
+    codes "regs " ++ decimal row.regs ++ requests_text row ++ work_text row
+
+-- the first shape with a bad field, counted from a place on, and that field
+abbrev pub bad_from : ℕ → List ToolShape → Option (ℕ × ShapeField)
+bad_from place [] = None
+bad_from place (t ∷ ts) = option_or (option_map (λ field. (place, field)) (bad_field t)) (bad_from (place + 1) ts)
+
+-- what each fault of a sweep says of the shapes
+abbrev pub FaultSays : List ToolShape → SweepFault → Type 0
+FaultSays shapes (BadShape place field) = bad_from 0 shapes ≡ Some (place, field)
+FaultSays shapes TurnLimit = bad_from 0 shapes ≡ None
+FaultSays shapes OutOfMemory = bad_from 0 shapes ≡ None
+
+-- a fault that says nothing of the shapes
+abbrev pub IsStop : SweepFault → Type 0
+IsStop (BadShape place field) = ⊥
+IsStop fault = ⊤

@@ -1,0 +1,97 @@
+//! The one choice among the eight machines of 1 or 2 ways and 1, 2, 4 or 8 registers.
+
+ghost use Rattle.std.specs.Prelude.{◌≡◌, ◌^◌, ◌<◌, None, IfOk};
+ghost use Rattle.machine_core.specs.Machine.{MachineState};
+ghost use Rattle.machine_core.specs.Law.{most_weight};
+ghost use Rattle.shape_files.specs.ShapeFile.{bad_field};
+ghost use Rattle.register_sweeps.specs.Sweep.{new_machine};
+
+use flat_model::{MakeFault, Word};
+use machine_core::{AnyMachine, Machine};
+use shape_files::ToolShape;
+use std::alloc::{AllocError, Global};
+
+/// What is done with a machine, whatever its numbers are.
+pub trait MachineJob {
+    /// What comes of it.
+    type Done;
+
+    // Whether it can be done.
+    ghost can: { Self → Type 0 };
+
+    // With a machine of this state, it leaves the job so and comes to that.
+    ghost done: { Self → MachineState → Self → Self.Done → Type 0 };
+
+    // What it holds by reference it holds still.
+    ghost holds_same: { Self → Self → Type 0 };
+
+    /// Does it.
+    fn work<M: AnyMachine>(&mut self, machine: &mut M) -> Self::Done
+        requires can { can self.old }
+        requires few { most_weight (M.state machine.old).sizes < 2 ^ 32 }
+        ensures done { done self.old (M.state machine.old) self.new result }
+        ensures same { holds_same self.old self.new };
+
+    /// Comes to want of memory, if there is too little for a machine.
+    fn give_up(&mut self) -> Self::Done
+        ensures done { (machine : MachineState) → done self.old machine self.new result }
+        ensures same { holds_same self.old self.new };
+}
+
+/// Does a job with a new machine of a shape whose fields are in range, over zeros.
+pub fn with_machine<J: MachineJob>(alloc: Global, tool: &ToolShape, job: &mut J) -> J::Done
+    requires shape { bad_field tool.now ≡ None }
+    requires can { J.can job.old }
+    ensures done { J.done job.old (new_machine tool.now) job.new result }
+    ensures same { J.holds_same job.old job.new }
+{
+    match (tool.ways, tool.regs) {
+        (1, 1) => with_machine_of::<1, 1, J>(alloc, tool, job),
+        (1, 2) => with_machine_of::<1, 2, J>(alloc, tool, job),
+        (1, 4) => with_machine_of::<1, 4, J>(alloc, tool, job),
+        (1, 8) => with_machine_of::<1, 8, J>(alloc, tool, job),
+        (2, 1) => with_machine_of::<2, 1, J>(alloc, tool, job),
+        (2, 2) => with_machine_of::<2, 2, J>(alloc, tool, job),
+        (2, 4) => with_machine_of::<2, 4, J>(alloc, tool, job),
+        (2, 8) => with_machine_of::<2, 8, J>(alloc, tool, job),
+        _ => unreachable!(),
+    }
+}
+
+// Does a job with a new machine of so many ways and registers.
+fn with_machine_of<const WAYS: usize, const REGS: usize, J: MachineJob>(
+    alloc: Global,
+    tool: &ToolShape,
+    job: &mut J,
+) -> J::Done
+    requires shape { bad_field tool.now ≡ None }
+    requires ways { tool.now.ways ≡ WAYS }
+    requires regs { tool.now.regs ≡ REGS }
+    requires can { J.can job.old }
+    ensures done { J.done job.old (new_machine tool.now) job.new result }
+    ensures same { J.holds_same job.old job.new }
+{
+    match machine_of::<WAYS, REGS>(alloc, tool) {
+        Ok(mut machine) => job.work(&mut machine),
+        Err(_) => job.give_up(),
+    }
+}
+
+// A new machine of so many ways and registers.
+fn machine_of<const WAYS: usize, const REGS: usize>(
+    alloc: Global,
+    tool: &ToolShape,
+) -> Result<Machine<WAYS, 4, REGS, 4>, AllocError>
+    requires shape { bad_field tool.now ≡ None }
+    requires ways { tool.now.ways ≡ WAYS }
+    requires regs { tool.now.regs ≡ REGS }
+    ensures machine { IfOk result (λ machine. machine ≡ new_machine tool.now) }
+    ensures few { IfOk result (λ machine. most_weight machine.sizes < 2 ^ 32) }
+{
+    let image = vec![in alloc; Word::default(); tool.shape.words as usize]?;
+    match Machine::<WAYS, 4, REGS, 4>::new(alloc, tool.shape, image.as_slice()) {
+        Ok(machine) => Ok(machine),
+        Err(MakeFault::OutOfMemory) => Err(AllocError),
+        Err(MakeFault::BadShape(_)) => unreachable!(),
+    }
+}

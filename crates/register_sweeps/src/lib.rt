@@ -1,0 +1,15 @@
+//! Machines of the shapes that a shape file may say, and sweeps over them: what requests wait for with
+//! several numbers of registers.
+//!
+//! [`with_machine`] is the one choice among the eight machines of 1 or 2 ways and 1, 2, 4 or 8
+//! registers. [`sweep_row`] gives the counts of one shape, and [`sweep`] those of several, each made
+//! by a thread of its own.
+#![tactic(auto)]
+
+mod choice;
+mod row;
+mod sweeps;
+
+pub use choice::{MachineJob, with_machine};
+pub use row::{Row, row_from};
+pub use sweeps::{OpenGate, SweepFault, SweepGate, sweep, sweep_row};

@@ -1,0 +1,189 @@
+//! One row of a sweep: a machine serves all requests, and what it took is counted.
+
+ghost use Rattle.std.specs.Prelude.{◌≡◌, ◌+◌, ◌*◌, ◌^◌, ◌<◌, ◌≤◌, length, true, Some};
+ghost use Rattle.std.specs.Fmt.{WritesOnOk};
+ghost use Rattle.machine_core.specs.Law.{most_weight};
+ghost use Rattle.machine_core.specs.AnyMachine.{weight_of};
+ghost use Rattle.register_sweeps.specs.Sweep as sweep;
+ghost use Rattle.register_sweeps.specs.Sweep.{course, total};
+
+use flat_model::{Answer, Cause, Event};
+use machine_core::AnyMachine;
+use std::fmt;
+
+/// What a sweep counted with one number of registers.
+#[derive(Clone, Copy, PartialEq, Eq, Debug, Default)]
+pub struct Row {
+    /// Registers of the machine.
+    pub regs: u32,
+    /// Requests that were accepted.
+    pub accepted: u64,
+    /// Requests that were refused for what no pump changes: a place out of memory, no lane, or a
+    /// block that isn't there.
+    pub denied: u64,
+    /// Requests that were not accepted or denied at once.
+    pub stalled: u64,
+    /// Pumps that stalled requests waited for.
+    pub waited: u64,
+    /// All pumps that found something to do.
+    pub pumps: u64,
+    /// Replies that were taken.
+    pub values: u64,
+}
+
+impl fmt::Display for Row {
+    ghost output = { λ row. Some (sweep.row_text row) };
+
+    fn fmt<W: fmt::Write>(&self, f: &mut fmt::Formatter<W>) -> fmt::Result {
+        write!(f, "regs {}", self.regs)?;
+        self.write_requests(f)?;
+        self.write_work(f)
+    }
+}
+
+// Writes a count behind its name.
+fn write_count<W: fmt::Write>(f: &mut fmt::Formatter<W>, name: &str, count: u64) -> fmt::Result
+    ensures { WritesOnOk W.write_str_gives f.old result (sweep.count_text name.now count) f.new }
+{
+    write!(f, " {name} {count}")
+}
+
+impl Row {
+    // Writes what became of the requests.
+    fn write_requests<W: fmt::Write>(&self, f: &mut fmt::Formatter<W>) -> fmt::Result
+        ensures { WritesOnOk W.write_str_gives f.old result (sweep.requests_text self.now) f.new }
+    {
+        write_count(f, "accepted", self.accepted)?;
+        write_count(f, "denied", self.denied)?;
+        write_count(f, "stalled", self.stalled)
+    }
+
+    // Writes what the machine did.
+    fn write_work<W: fmt::Write>(&self, f: &mut fmt::Formatter<W>) -> fmt::Result
+        ensures { WritesOnOk W.write_str_gives f.old result (sweep.work_text self.now) f.new }
+    {
+        write_count(f, "waited", self.waited)?;
+        write_count(f, "pumps", self.pumps)?;
+        write_count(f, "values", self.values)
+    }
+
+    // Counts a pump by what it told.
+    fn count_pump(&mut self, told: Option<(Event, Answer)>)
+        requires { total self.old < 2 ^ 63 }
+        ensures row { self.new ≡ sweep.with_pumped self.old told }
+        ensures total { total self.new ≤ total self.old + 2 }
+    {
+        if let Some((_, answer)) = told {
+            self.pumps += 1;
+            if let Answer::Value { .. } = answer {
+                self.values += 1;
+            }
+        }
+    }
+
+    // Counts an answer to a request, where it ends the request, and says whether it does.
+    fn count_end(&mut self, answer: Answer) -> bool
+        requires { total self.old < 2 ^ 63 }
+        ensures ends { result ≡ sweep.is_end answer }
+        ensures row { self.new ≡ sweep.with_end self.old answer }
+        ensures total { total self.new ≤ total self.old + 1 }
+    {
+        match answer {
+            Answer::Accepted => {
+                self.accepted += 1;
+                true
+            }
+            Answer::Refused(Cause::OutOfRange | Cause::NoLanes | Cause::NotPresent) => {
+                self.denied += 1;
+                true
+            }
+            _ => false,
+        }
+    }
+}
+
+// Asks a request once, and says whether it ended.
+fn ask<M: AnyMachine>(machine: &mut M, row: &mut Row, event: Event) -> bool
+    requires { total row.old < 2 ^ 63 }
+    ensures ends { result ≡ sweep.ends event (course (M.state machine.old) row.old) }
+    ensures course { course (M.state machine.new) row.new
+        ≡ sweep.ask event (course (M.state machine.old) row.old) }
+    ensures sizes { (M.state machine.new).sizes ≡ (M.state machine.old).sizes }
+    ensures total { total row.new ≤ total row.old + 1 }
+{
+    let answer = machine.apply(event);
+    row.count_end(answer)
+}
+
+// Pumps once.
+fn pump_once<M: AnyMachine>(machine: &mut M, row: &mut Row)
+    requires { total row.old < 2 ^ 63 }
+    ensures course { course (M.state machine.new) row.new
+        ≡ sweep.pump_once (course (M.state machine.old) row.old) }
+    ensures sizes { (M.state machine.new).sizes ≡ (M.state machine.old).sizes }
+    ensures total { total row.new ≤ total row.old + 2 }
+{
+    let told = machine.pump();
+    row.count_pump(told);
+}
+
+// Asks a request again, after a pump each time, until it ends.
+fn ask_again<M: AnyMachine>(machine: &mut M, row: &mut Row, event: Event)
+    requires few { most_weight (M.state machine.old).sizes < 2 ^ 32 }
+    requires room { total row.old < 2 ^ 62 }
+    ensures sizes { (M.state machine.new).sizes ≡ (M.state machine.old).sizes }
+    ensures course { course (M.state machine.new) row.new
+        ≡ sweep.ask_again (weight_of (M.state machine.old)) event
+        (course (M.state machine.old) row.old) }
+    ensures total { total row.new ≤ total row.old + 2 ^ 34 }
+{
+    for _turn in 0..machine.weight() {
+        pump_once(machine, row);
+        row.waited += 1;
+        if ask(machine, row, event) {
+            return;
+        }
+    }
+}
+
+// Serves a request to its end.
+fn serve<M: AnyMachine>(machine: &mut M, row: &mut Row, event: Event)
+    requires few { most_weight (M.state machine.old).sizes < 2 ^ 32 }
+    requires room { total row.old < 2 ^ 61 }
+    ensures sizes { (M.state machine.new).sizes ≡ (M.state machine.old).sizes }
+    ensures course { course (M.state machine.new) row.new
+        ≡ sweep.serve event (course (M.state machine.old) row.old) }
+    ensures total { total row.new ≤ total row.old + 2 ^ 35 }
+{
+    if !ask(machine, row, event) {
+        row.stalled += 1;
+        ask_again(machine, row, event);
+    }
+}
+
+// Pumps until there is nothing left to do.
+fn run_dry<M: AnyMachine>(machine: &mut M, row: &mut Row)
+    requires few { most_weight (M.state machine.old).sizes < 2 ^ 32 }
+    requires room { total row.old < 2 ^ 61 }
+    ensures { course (M.state machine.new) row.new
+        ≡ sweep.run_dry (course (M.state machine.old) row.old) }
+{
+    for _turn in 0..machine.weight() {
+        pump_once(machine, row);
+    }
+}
+
+/// Serves all requests, and then pumps until there is nothing left to do.
+pub fn row_from<M: AnyMachine>(machine: &mut M, regs: u32, events: &[Event]) -> Row
+    requires few { most_weight (M.state machine.old).sizes < 2 ^ 32 }
+    requires events { length events.now ≤ 16777216 }
+    ensures { result ≡ sweep.row_from (M.state machine.old) regs events.now }
+{
+    let mut row = Row::default();
+    row.regs = regs;
+    for event in events {
+        serve(machine, &mut row, *event);
+    }
+    run_dry(machine, &mut row);
+    row
+}

@@ -1,0 +1,262 @@
+//! Sweeps: one row for each shape, each by a thread of its own.
+
+ghost use Rattle.std.specs.Prelude.{⊤, ◌≡◌, ◌≢◌, ◌∷◌, [], ℕ, ◌+◌, ◌≤◌, ◌<◌, length, map, Some, None, Result, Ok, Err, IfOk, IfErr, OnOk, OnErr, slice_index_or, Contains, true};
+ghost use Rattle.std.specs.List.{list_all};
+ghost use Rattle.register_sweeps.specs.declared.row.Row.{Row};
+ghost use Rattle.shape_files.specs.declared.shape_file.ToolShape.{ToolShape};
+ghost use Rattle.register_sweeps.specs.declared.sweeps.Stop.{Stop};
+ghost use Rattle.register_sweeps.specs.declared.sweeps.Stop.TheVariants as stop;
+ghost use Rattle.register_sweeps.specs.declared.sweeps.SweepFault.TheVariants.{TurnLimit, OutOfMemory};
+ghost use Rattle.shape_files.specs.ShapeFile.{bad_field};
+ghost use Rattle.register_sweeps.specs.Sweep.{FaultSays, IsStop, CountsAll, EachCountsAll, is_request, bad_from, row_from, row_of};
+
+use crate::choice::{MachineJob, with_machine};
+use crate::row::{Row, row_from};
+use flat_model::{Event, ShapeField};
+use machine_core::AnyMachine;
+use shape_files::{ToolShape, bad_field};
+use std::alloc::{AllocError, Global};
+use std::thread;
+use std::thread::Threads;
+use thiserror::Error;
+
+/// Why a sweep gave no rows.
+#[derive(Clone, Copy, PartialEq, Eq, Debug, Error)]
+pub enum SweepFault {
+    /// The first shape, counted from 0, that has a field out of its range, and the first such
+    /// field. It is found before any thread begins.
+    #[error("shape {place}: {field:?} is out of range")]
+    BadShape { place: usize, field: ShapeField },
+    /// The thread of a shape used up its turns before its gate let it begin.
+    #[error("turn limit")]
+    TurnLimit,
+    /// There was too little memory.
+    #[error("out of memory")]
+    OutOfMemory,
+}
+
+impl From<AllocError> for SweepFault {
+    ghost use Rattle.std.specs.Prelude.{◌≡◌};
+    ghost use Rattle.register_sweeps.specs.declared.sweeps.SweepFault.TheVariants.{OutOfMemory};
+
+    ghost from_gives = { λ e f. f ≡ OutOfMemory };
+
+    fn from(_fault: AllocError) -> SweepFault {
+        SweepFault::OutOfMemory
+    }
+}
+
+/// Says when the rows of a sweep may begin, and is told when they have ended.
+pub trait SweepGate: Sync {
+    /// Whether the thread of the shape at this place may begin its row. It asks once in each turn.
+    fn may(&self, place: usize) -> bool;
+
+    /// The row at this place has ended.
+    fn ended(&self, place: usize);
+}
+
+/// A gate that lets every row begin.
+#[derive(Drop)]
+pub struct OpenGate;
+
+impl SweepGate for OpenGate {
+    fn may(&self, _place: usize) -> bool {
+        true
+    }
+
+    fn ended(&self, _place: usize) {}
+}
+
+// The first shape with a bad field, and that field.
+fn first_bad(shapes: &[ToolShape]) -> Option<(usize, ShapeField)>
+    ensures first { result ≡ bad_from 0 shapes.now }
+    ensures good { result ≡ None → (i : ℕ) (d : ToolShape) → i < length shapes.now
+        → bad_field (slice_index_or shapes.now i d) ≡ None }
+{
+    for (place, shape) in shapes.iter().enumerate() {
+        if let Some(field) = bad_field(shape) {
+            return Some((place, field));
+        }
+    }
+    None
+}
+
+// The row of a shape whose fields are in range.
+fn row_of(alloc: Global, tool: &ToolShape, events: &[Event]) -> Result<Row, AllocError>
+    requires events { length events.now ≤ 16777216 }
+    requires shape { bad_field tool.now ≡ None }
+    ensures { IfOk result (λ row. row ≡ row_of events.now tool.now) }
+{
+    let mut job = CountedRow {
+        regs: tool.regs,
+        events,
+    };
+    with_machine(alloc, tool, &mut job)
+}
+
+// The row of these requests.
+#[derive(Clone, Copy)]
+struct CountedRow<'a> {
+    regs: u32,
+    events: &'a [Event],
+}
+
+impl MachineJob for CountedRow<'_> {
+    type Done = Result<Row, AllocError>;
+
+    ghost can = { λ s. length s.events.now ≤ 16777216 };
+
+    ghost done = { λ s machine t result. IfOk result (λ row. row ≡ row_from machine s.regs s.events.now) };
+
+    ghost holds_same = { λ s t. ⊤ };
+
+    fn work<M: AnyMachine>(&mut self, machine: &mut M) -> Result<Row, AllocError> {
+        Ok(row_from(machine, self.regs, self.events))
+    }
+
+    fn give_up(&mut self) -> Result<Row, AllocError> {
+        Err(AllocError)
+    }
+}
+
+// Why a thread gave no row.
+#[derive(Clone, Copy, PartialEq, Eq, Debug)]
+enum Stop {
+    TurnLimit,
+    OutOfMemory,
+}
+
+// The row of a shape, once its gate lets it begin.
+fn row_in_turn<G: SweepGate>(
+    alloc: Global,
+    place: usize,
+    shape: &ToolShape,
+    events: &[Event],
+    turns: u64,
+    gate: &G,
+) -> Result<Row, Stop>
+    requires events { length events.now ≤ 16777216 }
+    requires shape { bad_field shape.now ≡ None }
+    ensures { IfOk result (λ row. row ≡ row_of events.now shape.now) }
+{
+    for _turn in 0..turns {
+        if gate.may(place) {
+            let row = row_of(alloc, shape, events);
+            gate.ended(place);
+            return match row {
+                Ok(row) => Ok(row),
+                Err(_) => Err(Stop::OutOfMemory),
+            };
+        }
+    }
+    Err(Stop::TurnLimit)
+}
+
+/// The row of one shape: a new machine of it, over zeros, serves the requests one after another,
+/// and is pumped until there is nothing left to do. A request that is refused for want of room is
+/// asked again after each pump, until it is accepted or denied.
+///
+/// There may be at most 16,777,216 events; they are meant to be loads, stores, prefetches and
+/// evictions. `BadShape` names the first field that is out of its range, at place 0, before any
+/// memory is asked for; `OutOfMemory` says that there was too little memory for the machine.
+/// `TurnLimit` never comes: no thread waits here.
+pub fn sweep_row(alloc: Global, shape: &ToolShape, events: &[Event]) -> Result<Row, SweepFault>
+    requires { length events.now ≤ 16777216 }
+    ensures row { IfOk result
+        (λ row. (bad_field shape.now ≡ None) × (row ≡ row_of events.now shape.now)) }
+    ensures counts { IfOk result
+        (λ row. list_all is_request events.now ≡ true → CountsAll events.now shape.now row) }
+    ensures fault { IfErr result (FaultSays (shape.now ∷ [])) }
+    ensures no_turns { result ≢ Err TurnLimit }
+{
+    if let Some(field) = bad_field(shape) {
+        return Err(SweepFault::BadShape { place: 0, field });
+    }
+    Ok(row_of(alloc, shape, events)?)
+}
+
+// The rows of the threads. Want of memory goes before a turn limit.
+fn all_rows(alloc: Global, answers: &[Result<Row, Stop>]) -> Result<Vec<Row>, SweepFault>
+    ensures rows { IfOk result (λ rows. map Ok rows.items ≡ answers.now) }
+    ensures fault { IfErr result IsStop }
+    ensures memory { Contains answers.now (Err stop.OutOfMemory) → result ≡ Err OutOfMemory }
+{
+    if answers.contains(&Err(Stop::OutOfMemory)) {
+        return Err(SweepFault::OutOfMemory);
+    }
+    let mut rows = Vec::new(alloc);
+    for answer in answers {
+        let Ok(row) = answer else {
+            return Err(SweepFault::TurnLimit);
+        };
+        if rows.push(*row).is_err() {
+            return Err(SweepFault::OutOfMemory);
+        }
+    }
+    Ok(rows)
+}
+
+// What the threads of these shapes answer, one for each.
+fn all_answers<R: Threads + Sync, G: SweepGate>(
+    rt: &R,
+    alloc: Global,
+    events: &[Event],
+    shapes: &[ToolShape],
+    turns: u64,
+    gate: &G,
+) -> Result<Vec<Result<Row, Stop>>, AllocError>
+    requires events { length events.now ≤ 16777216 }
+    requires shapes { (i : ℕ) (t : ToolShape) → i < length shapes.now
+        → bad_field (slice_index_or shapes.now i t) ≡ None }
+    ensures len { IfOk result (λ v. length v.items ≡ length shapes.now) }
+    ensures each { IfOk result
+        (λ v. (i : ℕ) (d : Result Row Stop) (t : ToolShape) → i < length shapes.now
+        → IfOk (slice_index_or v.items i d)
+        (λ row. row ≡ row_of events.now (slice_index_or shapes.now i t))) }
+{
+    thread::map_indices(
+        rt,
+        alloc,
+        shapes.len(),
+        &|place: usize| -> Result<Row, Stop>
+            requires { (place < length shapes.now) × (length events.now ≤ 16777216)
+                × ((i : ℕ) (t : ToolShape) → i < length shapes.now
+                → bad_field (slice_index_or shapes.now i t) ≡ None) }
+            ensures { (t : ToolShape)
+                → IfOk result (λ row. row
+                ≡ row_of events.entry.now (slice_index_or shapes.entry.now place t)) }
+        { row_in_turn(alloc, place, &shapes[place], events, turns, gate) },
+    )
+}
+
+/// The rows of these shapes, in their order, each by a thread of its own, so all at once.
+///
+/// The thread of the shape at a place has `turns` turns. In each it asks the gate whether it may
+/// begin; once it may, it makes its row as `sweep_row` does, and tells the gate that it has ended.
+/// There may be at most 16,777,216 events, as for `sweep_row`.
+///
+/// `BadShape` names the first shape with a field out of its range, and the first such field, before
+/// any thread begins. `OutOfMemory` says that there was too little memory, and goes before
+/// `TurnLimit`, which says that a thread used up its turns before its gate let it begin. A fault
+/// gives no row, and all threads have ended then.
+pub fn sweep<R: Threads + Sync, G: SweepGate>(
+    rt: &R,
+    alloc: Global,
+    events: &[Event],
+    shapes: &[ToolShape],
+    turns: u64,
+    gate: &G,
+) -> Result<Vec<Row>, SweepFault>
+    requires { length events.now ≤ 16777216 }
+    ensures rows { IfOk result (λ rows. rows.items ≡ map (row_of events.now) shapes.now) }
+    ensures counts { IfOk result
+        (λ rows. list_all is_request events.now ≡ true → EachCountsAll events.now shapes.now rows.items) }
+    ensures good { OnOk result (bad_from 0 shapes.now ≡ None) }
+    ensures fault { IfErr result (FaultSays shapes.now) }
+{
+    if let Some((place, field)) = first_bad(shapes) {
+        return Err(SweepFault::BadShape { place, field });
+    }
+    let answers = all_answers(rt, alloc, events, shapes, turns, gate)?;
+    all_rows(alloc, answers.as_slice())
+}

@@ -1,0 +1,291 @@
+//! The shape file: the numbers of a machine, as a TOML table.
+
+ghost use Rattle.std.specs.Prelude.{◌≡◌, ◌≢◌, Err};
+ghost use Rattle.toml.specs.Data.{get_member};
+ghost use Rattle.toml.specs.Errors.{IsBlank};
+ghost use Rattle.toml.specs.Parse.{parse_document};
+ghost use Rattle.toml.specs.View.{table_view};
+ghost use Rattle.shape_files.specs.declared.shape_file.ShapeFault.TheVariants.{OutOfMemory};
+ghost use Rattle.shape_files.specs.ShapeFile.{is_key, key_of, has_other_key, integer_at, whole, numbers_of, is_register_count, bad_field, fitted, shape_of, table_says, text_says};
+
+use flat_model::{Shape, ShapeField};
+use std::alloc::Global;
+use std::error::Error;
+use std::fmt;
+use toml::Table;
+
+/// The shape of a machine that the program can make.
+#[derive(Clone, Copy, PartialEq, Eq, Debug)]
+pub struct ToolShape {
+    /// The numbers that are given when the machine is made.
+    pub shape: Shape,
+    /// Frames per set: 1 or 2.
+    pub ways: u32,
+    /// Registers: 1, 2, 4 or 8.
+    pub regs: u32,
+}
+
+impl Default for ToolShape {
+    ghost use Rattle.std.specs.Prelude.{◌≡◌};
+    ghost use Rattle.shape_files.specs.ShapeFile.{default_shape};
+
+    // What a shape file says that names no key.
+    ghost is_default = { λ tool. tool ≡ default_shape };
+
+    fn default() -> ToolShape {
+        ToolShape {
+            shape: Shape {
+                words: 64,
+                sets: 4,
+                banks: 4,
+                bank_queue: 8,
+                write_queue: 8,
+                replies: 8,
+            },
+            ways: 2,
+            regs: 4,
+        }
+    }
+}
+
+/// Why a shape file is refused.
+#[derive(Clone, Copy, PartialEq, Eq, Debug)]
+pub enum ShapeFault {
+    /// The text is no TOML.
+    NotToml,
+    /// The table has a key that no shape has.
+    UnknownKey,
+    /// What stands at the key is no whole number.
+    NotWhole(ShapeField),
+    /// The number at the key is out of its range.
+    BadShape(ShapeField),
+    /// There was too little memory.
+    OutOfMemory,
+}
+
+impl Error for ShapeFault {}
+
+impl fmt::Display for ShapeFault {
+    ghost use Rattle.std.specs.Prelude.{Some};
+    ghost use Rattle.shape_files.specs.ShapeFile.{fault_text};
+
+    ghost output = { λ fault. Some (fault_text fault) };
+
+    fn fmt<W: fmt::Write>(&self, f: &mut fmt::Formatter<W>) -> fmt::Result {
+        match self {
+            ShapeFault::NotToml => f.write_str("shape: not TOML"),
+            ShapeFault::UnknownKey => f.write_str("shape: unknown key"),
+            ShapeFault::NotWhole(field) => {
+                write!(f, "shape: {} is not a whole number", key_of(*field))
+            }
+            ShapeFault::BadShape(field) => write!(f, "shape: {} out of range", key_of(*field)),
+            ShapeFault::OutOfMemory => f.write_str("out of memory"),
+        }
+    }
+}
+
+// The key of a number in a shape file. The last five have none there.
+fn key_of(field: ShapeField) -> &'static str
+    ensures { result.now ≡ key_of field }
+{
+    match field {
+        ShapeField::Words => "words",
+        ShapeField::Sets => "sets",
+        ShapeField::Ways => "ways",
+        ShapeField::Regs => "regs",
+        ShapeField::Banks => "banks",
+        ShapeField::BankQueue => "bank_queue",
+        ShapeField::WriteQueue => "write_queue",
+        ShapeField::Replies => "replies",
+        ShapeField::BlockWords => "block_words",
+        ShapeField::Depth => "depth",
+        ShapeField::Ports => "ports",
+        ShapeField::Journal => "journal",
+        ShapeField::Image => "image",
+    }
+}
+
+/// The numbers of a shape file as they stand there, before their ranges are looked at.
+#[derive(Clone, Copy, PartialEq, Eq, Debug)]
+struct Numbers {
+    ways: i64,
+    regs: i64,
+    words: i64,
+    sets: i64,
+    banks: i64,
+    bank_queue: i64,
+    write_queue: i64,
+    replies: i64,
+}
+
+/// Reads the text of a shape file: a TOML table of whole numbers, in which a key that is missing
+/// has its default.
+///
+/// The text that is no TOML is found first, then a key that no shape has, then what is no whole
+/// number, then a number out of its range; each of the last two in the order ways, regs, words,
+/// sets, banks, bank_queue, write_queue, replies. Memory is asked for only while the text is read.
+#[tactic(auto, using(crate::proofs::Answers::table_has_room))]
+pub fn read_shape(alloc: Global, text: &str) -> Result<ToolShape, ShapeFault>
+    ensures answer { result ≢ Err OutOfMemory → result ≡ text_says (parse_document text.now) }
+    ensures memory { result ≡ Err OutOfMemory → ¬ IsBlank text.now }
+{
+    match toml::table_from_str(alloc, text) {
+        Ok(table) => shape_of_table(&table),
+        Err(fault) if fault.is_memory() => Err(ShapeFault::OutOfMemory),
+        Err(_) => Err(ShapeFault::NotToml),
+    }
+}
+
+/// What a table says: the answer of [`read_shape`] for a text that is TOML. A key that no shape has
+/// is found first, then what is no whole number, then a number out of its range, each of the last
+/// two in the order ways, regs, words, sets, banks, bank_queue, write_queue, replies.
+/// `OutOfMemory` and `NotToml` never come.
+pub fn shape_of_table(table: &Table) -> Result<ToolShape, ShapeFault>
+    ensures { result ≡ table_says (table_view table.now) }
+{
+    if has_other_key(table) {
+        return Err(ShapeFault::UnknownKey);
+    }
+    let numbers = numbers_of(table)?;
+    shape_of(&numbers)
+}
+
+// Whether a shape file may have this key.
+fn is_key(key: &str) -> bool
+    ensures { result ≡ is_key key.now }
+{
+    key == "words"
+        || key == "sets"
+        || key == "ways"
+        || key == "regs"
+        || key == "banks"
+        || key == "bank_queue"
+        || key == "write_queue"
+        || key == "replies"
+}
+
+// Whether a key stands at the top that no shape has.
+fn has_other_key(table: &Table) -> bool
+    ensures { result ≡ has_other_key (table_view table.now) }
+{
+    for key in table.keys() {
+        if !is_key(key.as_str()) {
+            return true;
+        }
+    }
+    false
+}
+
+// What stands at a key: nothing, a whole number, or (`Some(None)`) something else.
+fn integer_at(table: &Table, key: &str) -> Option<Option<i64>>
+    ensures { result ≡ integer_at key.now (table_view table.now) }
+{
+    match table.get(key) {
+        Some(value) => Some(value.as_integer()),
+        None => None,
+    }
+}
+
+// A whole number, the default where nothing stands.
+fn whole(field: ShapeField, default: u32, found: Option<Option<i64>>) -> Result<i64, ShapeFault>
+    ensures { result ≡ whole field default found }
+{
+    match found {
+        Some(Some(number)) => Ok(number),
+        Some(None) => Err(ShapeFault::NotWhole(field)),
+        None => Ok(i64::from(default)),
+    }
+}
+
+// The numbers of a table. The first that is no whole number is refused.
+fn numbers_of(table: &Table) -> Result<Numbers, ShapeFault>
+    ensures { result ≡ numbers_of (table_view table.now) }
+{
+    let ToolShape { shape, ways, regs } = ToolShape::default();
+    let ways = whole(ShapeField::Ways, ways, integer_at(table, "ways"))?;
+    let regs = whole(ShapeField::Regs, regs, integer_at(table, "regs"))?;
+    let words = whole(ShapeField::Words, shape.words, integer_at(table, "words"))?;
+    let sets = whole(ShapeField::Sets, shape.sets, integer_at(table, "sets"))?;
+    let banks = whole(ShapeField::Banks, shape.banks, integer_at(table, "banks"))?;
+    let bank_queue = whole(
+        ShapeField::BankQueue,
+        shape.bank_queue,
+        integer_at(table, "bank_queue"),
+    )?;
+    let write_queue = whole(
+        ShapeField::WriteQueue,
+        shape.write_queue,
+        integer_at(table, "write_queue"),
+    )?;
+    let replies = whole(
+        ShapeField::Replies,
+        shape.replies,
+        integer_at(table, "replies"),
+    )?;
+    Ok(Numbers {
+        ways,
+        regs,
+        words,
+        sets,
+        banks,
+        bank_queue,
+        write_queue,
+        replies,
+    })
+}
+
+// Whether there may be so many registers.
+fn is_register_count(number: u32) -> bool
+    ensures { result ≡ is_register_count number }
+{
+    number == 1 || number == 2 || number == 4 || number == 8
+}
+
+/// The first field of a shape that is out of its range: 1 or 2 ways, 1, 2, 4 or 8 registers, and
+/// the rest as every machine has them.
+pub fn bad_field(tool: &ToolShape) -> Option<ShapeField>
+    ensures { result ≡ bad_field tool.now }
+{
+    if tool.ways < 1 || tool.ways > 2 {
+        Some(ShapeField::Ways)
+    } else if !is_register_count(tool.regs) {
+        Some(ShapeField::Regs)
+    } else {
+        // The ranges of the rest depend on the words of a block alone.
+        cache_unit::bad_field::<1, 4, 1, 4>(&tool.shape)
+    }
+}
+
+// A number as 32 bits have it. One that they haven't is out of every range, as the largest is.
+fn fitted(number: i64) -> u32
+    ensures { result ≡ fitted number }
+{
+    if 0 <= number && number <= u32::MAX as i64 {
+        number as u32
+    } else {
+        u32::MAX
+    }
+}
+
+// The shape of these numbers. The first that is out of its range is refused.
+fn shape_of(numbers: &Numbers) -> Result<ToolShape, ShapeFault>
+    ensures { result ≡ shape_of numbers.now }
+{
+    let shape = Shape {
+        words: fitted(numbers.words),
+        sets: fitted(numbers.sets),
+        banks: fitted(numbers.banks),
+        bank_queue: fitted(numbers.bank_queue),
+        write_queue: fitted(numbers.write_queue),
+        replies: fitted(numbers.replies),
+    };
+    let tool = ToolShape {
+        shape,
+        ways: fitted(numbers.ways),
+        regs: fitted(numbers.regs),
+    };
+    match bad_field(&tool) {
+        Some(field) => Err(ShapeFault::BadShape(field)),
+        None => Ok(tool),
+    }
+}

@@ -1,0 +1,11 @@
+//! The examples, each under its name, and what they share.
+
+mod help;
+mod jobs;
+mod program;
+mod refusals;
+mod shapes;
+mod sizes;
+mod stored;
+mod sweeps;
+mod turns;

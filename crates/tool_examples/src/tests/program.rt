@@ -1,0 +1,172 @@
+//! The examples of the whole program, over texts.
+
+use super::stored::{STORED_INPUT, STORED_OUTPUT};
+use kroft_command::tool;
+use std::fs;
+use std::process::Abort;
+use std::rt::Files;
+use std::test::Fail;
+use std::thread::Threads;
+
+/// Asserts what the program writes and ends with, where these are its words and its input.
+fn ends<R: Abort + AllocGlobal + Files + Threads + Sync>(
+    rt: &R,
+    words: &[&str],
+    input: &str,
+    wanted: (u8, &str, &str),
+) -> Result<(), Fail> {
+    let (status, output, errors) = wanted;
+    let mut written = Vec::new(rt.alloc());
+    let mut told = Vec::new(rt.alloc());
+    let ended = tool(rt, words, &mut input.as_bytes(), &mut written, &mut told);
+    assert_eq!(rt; std::str::from_utf8(told.as_slice())?, errors);
+    assert_eq!(rt; std::str::from_utf8(written.as_slice())?, output);
+    assert_eq!(rt; ended, status);
+    Ok(())
+}
+
+#[test]
+fn first_run(rt: HostRuntime) -> Result<(), Fail> {
+    let input = "load 1 4
+serve 0
+arrive 0 0
+process 0
+take 0
+";
+    let output = "load 1 4 -> accepted
+serve 0 -> moved
+arrive 0 0 -> moved
+process 0 -> moved
+take 0 -> value 1 00000000
+";
+    ends(&rt, &["run"], input, (0, output, ""))
+}
+
+#[test]
+fn stored_run(rt: HostRuntime) -> Result<(), Fail> {
+    ends(&rt, &["run"], STORED_INPUT, (0, STORED_OUTPUT, ""))
+}
+
+#[test]
+fn check_of_the_stored_run(rt: HostRuntime) -> Result<(), Fail> {
+    ends(
+        &rt,
+        &["check"],
+        STORED_OUTPUT,
+        (0, "flat run, 8 steps\n", ""),
+    )?;
+    let changed = STORED_OUTPUT.replace(rt.alloc(), "value 1 00000000", "value 1 ff000000")?;
+    ends(
+        &rt,
+        &["check"],
+        changed.as_str(),
+        (1, "mismatch at line 6\n", ""),
+    )
+}
+
+#[test]
+fn sweep_of_three_loads(rt: HostRuntime) -> Result<(), Fail> {
+    let input = "load 1 0
+load 2 4
+load 3 8
+";
+    let output = "regs 1 accepted 3 denied 0 stalled 2 waited 26 pumps 39 values 3
+regs 2 accepted 3 denied 0 stalled 1 waited 23 pumps 39 values 3
+regs 4 accepted 3 denied 0 stalled 0 waited 0 pumps 39 values 3
+regs 8 accepted 3 denied 0 stalled 0 waited 0 pumps 39 values 3
+";
+    ends(&rt, &["sweep"], input, (0, output, ""))
+}
+
+// Written where the test runs, and removed at its end.
+const SHAPE_FILE: &str = "kroft_tool_test_shape.toml";
+
+#[test]
+fn shape_files(rt: HostRuntime) -> Result<(), Fail> {
+    let behind = ["run", "--shape", SHAPE_FILE];
+    let before = ["--shape", SHAPE_FILE, "run"];
+    let joined = ["run", "--shape=kroft_tool_test_shape.toml"];
+    let texts = [
+        ("regs = 3", "shape: regs out of range\n"),
+        ("words = 30", "shape: words out of range\n"),
+        ("sets = \"4\"", "shape: sets is not a whole number\n"),
+        ("depth = 4", "shape: unknown key\n"),
+        ("regs =", "shape: not TOML\n"),
+    ];
+    for (text, errors) in texts {
+        fs::write(&rt, SHAPE_FILE, text)?;
+        ends(&rt, &behind, "load\n", (3, "", errors))?;
+    }
+    let unreadable = (3, "", "shape: file not readable\n");
+    fs::write(&rt, SHAPE_FILE, b"regs = 2 # \xff".as_slice())?;
+    ends(&rt, &behind, "load\n", unreadable)?;
+    fs::write(&rt, SHAPE_FILE, "")?;
+    ends(&rt, &behind, STORED_INPUT, (0, STORED_OUTPUT, ""))?;
+    fs::write(&rt, SHAPE_FILE, "ways = 1\n")?;
+    let asked = "load 1 0\nload 2 16\n";
+    let told = "load 1 0 -> accepted\nload 2 16 -> refused 8\n";
+    ends(&rt, &behind, asked, (0, told, ""))?;
+    ends(&rt, &before, asked, (0, told, ""))?;
+    ends(&rt, &joined, asked, (0, told, ""))?;
+    fs::remove_file(&rt, SHAPE_FILE)?;
+    ends(&rt, &behind, "", unreadable)
+}
+
+#[test]
+fn empty_inputs(rt: HostRuntime) -> Result<(), Fail> {
+    ends(&rt, &["run"], "", (0, "", ""))?;
+    ends(&rt, &["check"], "", (0, "flat run, 0 steps\n", ""))
+}
+
+#[test]
+fn faulty_lines(rt: HostRuntime) -> Result<(), Fail> {
+    let unknown = (4, "drain -> nothing\n", "line 2: unknown command\n");
+    ends(&rt, &["run"], "drain\njump\n", unknown)?;
+    let long = "aaaaaaaaaaaaaaaaaaaaaaaaaaaaaaaaaaaaaaaaaaaaaaaaaaaaaaaaaaaaaaaaa\n";
+    let single = [
+        ("load 1\n", "line 1: bad field\n"),
+        ("load 65536 0\n", "line 1: bad field\n"),
+        ("load 01 0\n", "line 1: bad field\n"),
+        ("load 1  0\n", "line 1: bad field\n"),
+        ("drain", "line 1: line not ended\n"),
+        (long, "line 1: line too long\n"),
+        (&long[1..], "line 1: unknown command\n"),
+    ];
+    for (input, errors) in single {
+        ends(&rt, &["run"], input, (4, "", errors))?;
+    }
+    ends(
+        &rt,
+        &["check"],
+        "drain -> value 1 00000000\njump\n",
+        (4, "", "line 2: bad field\n"),
+    )
+}
+
+#[test]
+fn refused_words(rt: HostRuntime) -> Result<(), Fail> {
+    let refused: [&[&str]; 8] = [
+        &[],
+        &["help"],
+        &["walk"],
+        &["run", "run"],
+        &["run", "--shape"],
+        &["run", "--speed"],
+        &["run", "--shape", "a", "--shape", "b"],
+        &["--shape", "a", "run", "--shape", "b"],
+    ];
+    for words in refused {
+        let mut written = Vec::new(rt.alloc());
+        let mut told = Vec::new(rt.alloc());
+        let status = tool(&rt, words, &mut &b""[..], &mut written, &mut told);
+        assert_eq!(rt; status, 2);
+        assert!(rt; written.is_empty());
+        assert!(rt; told.as_slice().starts_with(b"error: "));
+    }
+    Ok(())
+}
+
+#[test]
+fn version(rt: HostRuntime) -> Result<(), Fail> {
+    ends(&rt, &["--version"], "", (0, "kroft 0.1.0\n", ""))
+}

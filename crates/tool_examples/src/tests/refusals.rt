@@ -1,0 +1,86 @@
+//! What each call that takes memory leaves where an allocation is refused: it answers want of memory
+//! and nothing else, nothing has changed, and a second call gives the answer of its example. With
+//! memory, as in a whole run of the tests, the first call gives that answer.
+
+use super::stored::{STORED_INPUT, STORED_OUTPUT};
+use super::sweeps::{REQUESTS, row_of_three_loads, with_registers};
+use flat_model::ShapeField;
+use kroft_command::tool;
+use register_sweeps::{OpenGate, SweepFault, sweep, sweep_row};
+use shape_files::{ShapeFault, read_shape};
+use std::io::Cursor;
+use std::test::Fail;
+
+#[test]
+fn a_bad_shape_comes_before_memory(rt: HostRuntime) -> Result<(), Fail> {
+    let mut three_ways = with_registers(2);
+    three_ways.ways = 3;
+    let shapes = [with_registers(1), three_ways];
+    let refused = sweep(&rt, rt.alloc(), &REQUESTS, &shapes, 1_000, &OpenGate);
+    let fault = SweepFault::BadShape {
+        place: 1,
+        field: ShapeField::Ways,
+    };
+    assert!(rt; matches!(refused, Err(found) if found == fault));
+    Ok(())
+}
+
+#[test]
+fn a_shape_text_may_find_no_memory(rt: HostRuntime) -> Result<(), Fail> {
+    let alloc = rt.alloc();
+    let mut said = read_shape(alloc, "regs = 2");
+    if said == Err(ShapeFault::OutOfMemory) {
+        said = read_shape(alloc, "regs = 2");
+    }
+    assert_eq!(rt; said, Ok(with_registers(2)));
+    Ok(())
+}
+
+#[test]
+fn a_row_may_find_no_memory(rt: HostRuntime) -> Result<(), Fail> {
+    let alloc = rt.alloc();
+    let mut row = sweep_row(alloc, &with_registers(1), &REQUESTS);
+    if row == Err(SweepFault::OutOfMemory) {
+        row = sweep_row(alloc, &with_registers(1), &REQUESTS);
+    }
+    assert_eq!(rt; row, Ok(row_of_three_loads(1)));
+    Ok(())
+}
+
+#[test]
+fn a_sweep_may_find_no_memory(rt: HostRuntime) -> Result<(), Fail> {
+    let alloc = rt.alloc();
+    let shapes = [with_registers(1), with_registers(2)];
+    match sweep(&rt, alloc, &REQUESTS, &shapes, 1_000_000, &OpenGate) {
+        Ok(rows) => {
+            let wanted = [row_of_three_loads(1), row_of_three_loads(2)];
+            assert_eq!(rt; rows.as_slice(), &wanted[..]);
+        }
+        Err(fault) => assert_eq!(rt; fault, SweepFault::OutOfMemory),
+    }
+    Ok(())
+}
+
+/// The bytes that were written.
+fn written(stream: &Cursor<[u8; 1024]>) -> Option<&[u8]> {
+    let end = usize::try_from(stream.position()).ok()?;
+    stream.get_ref().get(..end)
+}
+
+#[test]
+fn the_program_may_find_no_memory(rt: HostRuntime) -> Result<(), Fail> {
+    // Written without an allocation.
+    let mut output = Cursor::new([0u8; 1024]);
+    let mut errors = Cursor::new([0u8; 1024]);
+    let mut input = STORED_INPUT.as_bytes();
+    let status = tool(&rt, &["run"], &mut input, &mut output, &mut errors);
+    if status == 5 {
+        assert_eq!(rt; output.position(), 0);
+        assert_eq!(rt; written(&errors), Some(b"out of memory\n".as_slice()));
+    } else {
+        assert_eq!(rt; status, 0);
+        assert_eq!(rt; written(&output), Some(STORED_OUTPUT.as_bytes()));
+        assert_eq!(rt; errors.position(), 0);
+    }
+    Ok(())
+}
