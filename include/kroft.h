@@ -225,8 +225,9 @@ uint32_t kroft_apply(kroft_handle *handle, const kroft_event *event, kroft_answe
 uint32_t kroft_pump(kroft_handle *handle, kroft_event *event, kroft_answer *answer);
 
 /*
- * What is on its way, weighed: after as many pumps, or fewer, the weight is 0, and a request that points
- * into memory is accepted. Returns KROFT_DONE, and `weight` is it; or KROFT_CLOSED.
+ * What is on its way, weighed: after as many pumps, or fewer, the weight is 0, and then each load, each
+ * prefetch and each store with a lane that points into memory is accepted. Returns KROFT_DONE, and `weight`
+ * is it; or KROFT_CLOSED, and then `weight` is as it was.
  */
 uint32_t kroft_weight(kroft_handle *handle, uint64_t *weight);
 
