@@ -1,12 +1,13 @@
 /*
- * Kroft for C and C++: the judge of one step of flat memory.
+ * Kroft for C and C++: the judge of one step of flat memory, and the machine behind a handle.
  *
  * Link with -lkroft (`./kroft-lib DIR` leaves libkroft.a, libkroft.so and this file in DIR). C99 and
  * later, C++11 and later.
  *
  * Every function answers every number, row and length that it is given; none aborts. What nothing
  * checks, and the caller keeps: each pointer is valid, not null (also beside a length of 0), aligned
- * for its type, and overlaps none of the call's others; each length is true.
+ * for its type, and overlaps none of the call's others; each length is true. For a handle also: nobody
+ * else writes it or copies it to use the copy, and no two calls have it at once.
  */
 #ifndef KROFT_H
 #define KROFT_H
@@ -123,6 +124,163 @@ uint32_t kroft_flat_step(kroft_word *words, size_t nwords, kroft_due *due, size_
  */
 uint32_t kroft_flat_owed(const kroft_due *due, size_t ndue, uint16_t tag, kroft_word *word);
 
+/* ---- the machine ------------------------------------------------------------------------------- */
+
+/*
+ * A machine is a non-blocking, write-back cache over banks of memory, with no clock: the caller makes its
+ * events, one at a time, in any order. Every load gets the word that flat memory held when the load was
+ * accepted.
+ *
+ * A handle holds one machine, or none: then it is closed. Zeroed, it is closed.
+ *
+ *     kroft_handle handle = KROFT_NO_MACHINE;
+ *
+ * kroft_open puts a machine behind it, the calls work on that machine, and kroft_free gives it up with all
+ * its memory. No other call allocates.
+ */
+typedef struct {
+    uint32_t open; /* 0: closed. Written by the library alone, once it was zeroed */
+    void *at;      /* the library's own */
+} kroft_handle;
+
+#define KROFT_NO_MACHINE \
+    { 0, 0 }
+
+/*
+ * The numbers of a machine. The first four have to be one of these twelve rows:
+ *
+ *     ways  block_words  regs  depth          ways  block_words  regs  depth
+ *        1       4         1      1              2      16        16     16
+ *        1       4         4      4              4       4         8      8
+ *        1       8         8      8              4       8         8      8
+ *        2       4         4      4              4      16        16     16
+ *        2       4         8      4              8       8        16     16
+ *        2       8         8      8              8      16        16     16
+ */
+typedef struct {
+    uint32_t ways;        /* ways of a set                                                            */
+    uint32_t block_words; /* words of a block                                                         */
+    uint32_t regs;        /* miss registers (MSHRs)                                                   */
+    uint32_t depth;       /* places of the input stack                                                */
+    uint32_t words;       /* words of memory: 1 to 1048576, and a multiple of block_words             */
+    uint32_t sets;        /* sets of the cache: 1 to 1024                                             */
+    uint32_t banks;       /* banks of memory: 1 to 16                                                 */
+    uint32_t bank_queue;  /* commands that wait at a bank at most: block_words / banks, rounded up,
+                             to 64                                                                    */
+    uint32_t write_queue; /* words that wait in the write queue at most: block_words to 256           */
+    uint32_t replies;     /* loads that are awaited and ready together at most: 1 to 64               */
+} kroft_shape;
+
+/* What a call of the machine says. */
+enum {
+    KROFT_DONE = 0,     /* the call was made                                                          */
+    KROFT_NONE = 0,     /* there is no such thing, or nothing to do                                   */
+    KROFT_FOUND = 1,    /* there is such a thing, or it was done                                      */
+    KROFT_NO_EVENT = 2, /* the row is no event: its kind is past the last                             */
+    KROFT_CLOSED = 3    /* no machine is behind the handle                                            */
+};
+
+/* Why kroft_open opens no machine. */
+enum {
+    KROFT_BAD_WORDS = 5,       /* a number of the shape is out of its range                           */
+    KROFT_BAD_SETS = 6,
+    KROFT_BAD_BANKS = 7,
+    KROFT_BAD_BANK_QUEUE = 8,
+    KROFT_BAD_WRITE_QUEUE = 9,
+    KROFT_BAD_REPLIES = 10,
+    KROFT_BAD_IMAGE = 13,      /* the image hasn't as many words as memory                            */
+    KROFT_NOT_LISTED = 100,    /* the first four numbers are no row of the list                       */
+    KROFT_OUT_OF_MEMORY = 101, /* an allocation was refused                                           */
+    KROFT_OPEN_ALREADY = 102   /* a machine is behind the handle already                              */
+};
+
+/*
+ * Opens a machine over the words of an image, of which it keeps a copy. Returns KROFT_DONE: the machine
+ * stands behind the handle, and nothing has happened in it. Or, and then the handle is as it was, and no
+ * memory is kept, the first that holds of KROFT_OPEN_ALREADY; KROFT_NOT_LISTED; KROFT_BAD_WORDS to
+ * KROFT_BAD_REPLIES, in their order; KROFT_BAD_IMAGE; KROFT_OUT_OF_MEMORY.
+ */
+uint32_t kroft_open(kroft_handle *handle, const kroft_shape *shape, const kroft_word *image, size_t nimage);
+
+/*
+ * Gives the machine up, with all its memory. Returns KROFT_DONE, and the handle is closed; or KROFT_CLOSED:
+ * it was closed already. An open handle that is lost, not freed, leaks its machine.
+ */
+uint32_t kroft_free(kroft_handle *handle);
+
+/*
+ * Makes one event. Returns KROFT_DONE, and `answer` is the machine's; or KROFT_NO_EVENT or KROFT_CLOSED,
+ * and then all is as it was. A refusal is an answer, KROFT_REFUSED: it changes nothing in the machine.
+ * KROFT_BLOCK_QUEUED and KROFT_STRAY_WORD never come.
+ */
+uint32_t kroft_apply(kroft_handle *handle, const kroft_event *event, kroft_answer *answer);
+
+/*
+ * Makes the driver's event, the first of these that is possible: the first ready reply is taken; the first
+ * word of the input stack is processed; the lowest bank with an answer has its first one arrive; the lowest
+ * bank with a command serves it; the write queue's front is drained. Returns KROFT_FOUND: `event` says which
+ * event it was, and `answer` is the machine's; the weight is lower than before. Or KROFT_NONE, nothing is on
+ * its way, or KROFT_CLOSED, and then all is as it was.
+ */
+uint32_t kroft_pump(kroft_handle *handle, kroft_event *event, kroft_answer *answer);
+
+/*
+ * What is on its way, weighed: after as many pumps, or fewer, the weight is 0, and then each load, each
+ * prefetch and each store with a lane that points into memory is accepted. Returns KROFT_DONE, and `weight`
+ * is it; or KROFT_CLOSED, and then `weight` is as it was.
+ */
+uint32_t kroft_weight(kroft_handle *handle, uint64_t *weight);
+
+/*
+ * Whether memory has everything: no register is valid, no word is dirty, and the write queue and the queues
+ * of the banks are empty. Returns KROFT_FOUND if so, else KROFT_NONE; or KROFT_CLOSED.
+ */
+uint32_t kroft_settled(kroft_handle *handle);
+
+/* The calls below return KROFT_FOUND and write what they found; or KROFT_NONE or KROFT_CLOSED, and then what
+   they write is as it was. No call but kroft_open, kroft_free, kroft_apply and kroft_pump changes the machine. */
+
+/* The word of memory at `at`, as it stands in its bank. KROFT_NONE: there is no such word. */
+uint32_t kroft_bank_word(kroft_handle *handle, uint32_t at, kroft_word *word);
+
+/* What a register shows of itself. What doesn't apply is 0. */
+typedef struct {
+    uint32_t valid;     /* 1: it stands for a block that is missing words */
+    uint32_t obsolete;  /* 1: its block lost its frame                    */
+    uint32_t block;     /* the missing block                              */
+    uint32_t frame;     /* the frame of a live register                   */
+    uint32_t processed; /* how many words of the block are processed      */
+} kroft_register_view;
+
+/* The register `slot`. KROFT_NONE: `slot` isn't below `regs`. */
+uint32_t kroft_register(kroft_handle *handle, uint32_t slot, kroft_register_view *view);
+
+/* What a register shows of one word of its block. What doesn't apply is 0. */
+typedef struct {
+    uint32_t send;      /* 1: a load waits for the word                                               */
+    uint32_t in_stack;  /* 1: the word stands in the input stack                                      */
+    uint32_t processed; /* 1: the word was processed                                                  */
+    uint32_t targets;   /* how many loads wait: 0 to 4                                                */
+    uint16_t tag;       /* the tag of the first load that waits                                       */
+    uint8_t code;       /* the lanes of the buffer that the arriving word leaves as they are          */
+    uint8_t held_lanes; /* the lanes whose bytes the first load has already                           */
+    kroft_word held;    /* those bytes: only those in the held lanes count                            */
+} kroft_field_view;
+
+/* Word `i` of the block of the register `slot`. KROFT_NONE: there is no such register or word. */
+uint32_t kroft_field(kroft_handle *handle, uint32_t slot, uint32_t i, kroft_field_view *view);
+
+/* A load that waits for a word. */
+typedef struct {
+    uint16_t tag;
+    uint8_t lanes;   /* the lanes whose bytes it has already                */
+    kroft_word held; /* those bytes: only those in the lanes count          */
+} kroft_target_view;
+
+/* The load at `place` among those that wait for word `i` of the block of the register `slot`, in the order
+   in which they were accepted. KROFT_NONE: there is none. */
+uint32_t kroft_target(kroft_handle *handle, uint32_t slot, uint32_t i, uint32_t place, kroft_target_view *view);
+
 /* ---- the layout that the library was built with ------------------------------------------------ */
 
 #if defined(__cplusplus)
@@ -146,6 +304,21 @@ KROFT_ASSERT(answer_tag, offsetof(kroft_answer, tag) == 8);
 KROFT_ASSERT(answer_word, offsetof(kroft_answer, word) == 10);
 KROFT_ASSERT(due_size, sizeof(kroft_due) == 8);
 KROFT_ASSERT(due_word, offsetof(kroft_due, word) == 4);
+KROFT_ASSERT(handle_size, sizeof(kroft_handle) == 16);
+KROFT_ASSERT(handle_at, offsetof(kroft_handle, at) == 8);
+KROFT_ASSERT(shape_size, sizeof(kroft_shape) == 40);
+KROFT_ASSERT(shape_words, offsetof(kroft_shape, words) == 16);
+KROFT_ASSERT(shape_replies, offsetof(kroft_shape, replies) == 36);
+KROFT_ASSERT(register_size, sizeof(kroft_register_view) == 20);
+KROFT_ASSERT(register_processed, offsetof(kroft_register_view, processed) == 16);
+KROFT_ASSERT(field_size, sizeof(kroft_field_view) == 24);
+KROFT_ASSERT(field_tag, offsetof(kroft_field_view, tag) == 16);
+KROFT_ASSERT(field_code, offsetof(kroft_field_view, code) == 18);
+KROFT_ASSERT(field_held_lanes, offsetof(kroft_field_view, held_lanes) == 19);
+KROFT_ASSERT(field_held, offsetof(kroft_field_view, held) == 20);
+KROFT_ASSERT(target_size, sizeof(kroft_target_view) == 8);
+KROFT_ASSERT(target_lanes, offsetof(kroft_target_view, lanes) == 2);
+KROFT_ASSERT(target_held, offsetof(kroft_target_view, held) == 3);
 
 #undef KROFT_ASSERT
 

@@ -1,24 +1,9 @@
 """The judge of libkroft by ctypes: `judge.py LIBKROFT.SO`."""
 import ctypes as c
-import sys
 
-WORDS, TAGS, LOAD, STORE, TAKE, ACCEPTED, VALUE = 64, 65536, 0, 1, 8, 0, 2
-u8, u16, u32, Word = c.c_uint8, c.c_uint16, c.c_uint32, c.c_uint8 * 4
+from rows import ACCEPTED, LOAD, STORE, TAKE, VALUE, Answer, Due, Event, Word, kroft, u16
 
-
-class Due(c.Structure):
-    _fields_ = [("owed", u32), ("word", Word)]
-
-
-class Event(c.Structure):
-    _fields_ = [("kind", u32), ("tag", u16), ("lanes", u8), ("at", u32), ("place", u32), ("word", Word)]
-
-
-class Answer(c.Structure):
-    _fields_ = [("kind", u32), ("cause", u32), ("tag", u16), ("word", Word)]
-
-
-kroft = c.CDLL(sys.argv[1])
+WORDS, TAGS = 64, 65536
 words, due = (Word * WORDS)(), (Due * TAGS)()
 
 

@@ -1,6 +1,5 @@
 -- One step of flat memory over the words and the table that C keeps.
 use Rattle.std.specs.Prelude.{ℕ, if◌then◌else◌, ◌==◌, List, length, Option, Some, None, slice_index_or}
-use Rattle.std.specs.Option.{option_map, option_and_then}
 use Rattle.flat_model.specs.declared.Word.{Word}
 use Rattle.flat_model.specs.declared.Event.{Event}
 use Rattle.flat_model.specs.declared.Answer.{Answer}

@@ -23,7 +23,7 @@ const NO_STEP: u32 = 2;
 
 /// What a tag is owed: `word`, if `owed` isn't 0.
 #[repr(C)]
-#[derive(Clone, Copy, PartialEq, Eq, Debug)]
+#[derive(Clone, Copy)]
 pub struct Due {
     /// 0 if nothing is owed.
     pub owed: u32,
