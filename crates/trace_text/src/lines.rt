@@ -227,6 +227,7 @@ fn line_from(command: Command, fields: Option<&[u8]>) -> Option<Line>
 }
 
 // What a line says, without its LF.
+#[inline(always)]
 #[tactic(auto, unfolding(crate::specs::Lines::line_of))]
 pub fn line_said(text: &[u8]) -> Result<Line, LineFault>
     ensures said { result ≡ line_of text.now }
