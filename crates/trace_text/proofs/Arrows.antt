@@ -36,6 +36,22 @@ arrow_on text at lt none so_far =
     let here : drop at text ≡ get_or text at 0 ∷ drop (at + 1) text = rw (add-one, drop-cons text at 0) refl in
     so_far ∙ ap (option_map (λ k. at + k)) (arrow_behind (drop at text) (get_or text at 0) (drop (at + 1) text) here none) ∙ shifted (arrow_in (drop (at + 1) text)) at
 
+none_with : (b c : Bool) → b ≡ false → (b && c) ≡ false
+none_with true c e = cc
+none_with false c e = refl
+
+-- an arrow's first byte is a space
+first_is : (x : ℕ) (rest : List ℕ) → x ≢ 32 → starts_with nat_eq (x ∷ rest) (codes " -> ") ≡ false
+first_is x rest ne =
+    let test : nat_eq 32 x ≡ false = grind (arith, nat_tests) in
+    none_with (nat_eq 32 x) _ test
+
+-- no arrow begins at a byte that is no space
+pub no_arrow_at : (text : List ℕ) (at : ℕ) → at < length text → get_or text at 0 ≢ 32 → starts_with nat_eq (drop at text) (codes " -> ") ≡ false
+no_arrow_at text at lt ne =
+    let here : drop at text ≡ get_or text at 0 ∷ drop (at + 1) text = rw (add-one, drop-cons text at 0) refl in
+    ap (λ l. starts_with nat_eq l (codes " -> ")) here ∙ first_is (get_or text at 0) (drop (at + 1) text) ne
+
 -- ---- the arrow behind a line
 
 -- bytes with no hyphen among them

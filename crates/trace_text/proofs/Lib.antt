@@ -9,5 +9,6 @@ pub mod Arrows
 pub mod Held
 pub mod Cuts
 pub mod Written
+pub mod Commands
 pub mod AnswerTexts
 pub mod Recorded

@@ -1,5 +1,5 @@
 -- What is written of a line and of a recorded pair, and what is read back of it.
-use Rattle.std.proofs.Common.{◌≡◌, ℕ, ◌+◌, List, [], ◌∷◌, length, take, drop, decimal, ◌++◌, append_assoc, Option, Some, None, Ok, refl, sym, ◌∙◌, ap, ap₂}
+use Rattle.std.proofs.Common.{◌≡◌, ◌+◌, ◌∷◌, length, take, drop, decimal, ◌++◌, append_assoc, Option, Some, None, Ok, refl, ◌∙◌, ap, ap₂}
 use Rattle.std.specs.Prelude.{codes}
 use Rattle.std.proofs.Math.Seq.{take-append_seam, drop-append-add}
 use Rattle.flat_model.specs.declared.Word.{Word}
@@ -13,7 +13,7 @@ use Rattle.trace_text.specs.Fields.{lanes_text, word_text}
 use Rattle.trace_text.specs.Lines.{line_of}
 use Rattle.trace_text.specs.Texts.{answer_text}
 use Rattle.trace_text.specs.Pairs.{answered_pair, pair_with, pair_from, pair_cut, pair_of}
-use Rattle.trace_text.specs.Written.{line_text, IsFit}
+use Rattle.trace_text.specs.Written.{line_text}
 use Rattle.trace_text.specs.Recorded.{told_text, pair_text, IsTold, IsFitPair}
 use Rattle.trace_text.specs.declared.lines.Line.{Line}
 use Rattle.trace_text.specs.declared.lines.Line.TheVariants as line

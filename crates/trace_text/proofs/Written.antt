@@ -11,7 +11,7 @@ use Rattle.flat_model.specs.declared.Lanes.{Lanes}
 use Rattle.flat_model.specs.declared.Event.TheVariants.{Load, Store, Prefetch, Evict, Drain, Serve, Arrive, Process, Take}
 use Rattle.flat_model.specs.Words.{has, Lane0, Lane1, Lane2, Lane3}
 use Rattle.trace_text.specs.Fields.{is_digit, number_of, bit_of, bit_text, lanes_from, lanes_of, lanes_text, nibble_of, hex_digit, byte_from, byte_of, byte_text, word_from, word_of, word_text}
-use Rattle.trace_text.specs.Lines.{cut_of, same, command_named, number_in, one_number, bare, load_line, load_from, load_of, store_line, store_behind, store_from, store_of, arrive_line, arrive_from, arrive_of, line_from, or_field, said_by, line_of}
+use Rattle.trace_text.specs.Lines.{cut_of, same, name_of, command_named, number_in, one_number, bare, load_line, load_from, load_of, store_line, store_behind, store_from, store_of, arrive_line, arrive_from, arrive_of, line_from, or_field, said_by, line_of}
 use Rattle.trace_text.specs.Written.{line_text, IsNumber, IsTag, IsWord, IsFit}
 use Rattle.trace_text.specs.declared.lines.Command.{Command}
 use Rattle.trace_text.specs.declared.lines.Command.TheVariants as command
@@ -261,20 +261,6 @@ bare_is : (said : Line) (name : List ℕ) (fields : Option (List ℕ)) (l : Line
 bare_is said name None l shape e = let is : said ≡ l = cc in subst (IsRead name None) is shape
 bare_is said name (Some f) l shape e = cc
 
-abbrev name_of : Command → List ℕ
-name_of command.Load = codes "load"
-name_of command.Store = codes "store"
-name_of command.Prefetch = codes "prefetch"
-name_of command.Evict = codes "evict"
-name_of command.Drain = codes "drain"
-name_of command.Serve = codes "serve"
-name_of command.Arrive = codes "arrive"
-name_of command.Process = codes "process"
-name_of command.Take = codes "take"
-name_of command.Register = codes "reg"
-name_of command.Bank = codes "bank"
-name_of command.Settled = codes "settled"
-
 fields_are : (c : Command) (fields : Option (List ℕ)) (l : Line) → line_from c fields ≡ Some l → IsRead (name_of c) fields l
 unfolding line_from
 fields_are command.Load fields l e = load_is fields l e
@@ -299,7 +285,7 @@ pub chosen : {X : Type 0} (P : X → Type 0) (b : Bool) (x y : X) (o : Option X)
 chosen P true x y o here further e = let is : x ≡ y = cc in subst P is (here refl)
 chosen P false x y o here further e = further e
 
-named : (name : List ℕ) (c : Command) → command_named name ≡ Some c → name ≡ name_of c
+pub named : (name : List ℕ) (c : Command) → command_named name ≡ Some c → name ≡ name_of c
 unfolding command_named
 named name c e =
     let P : Command → Type 0 = λ k. name ≡ name_of k in

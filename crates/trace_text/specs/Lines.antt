@@ -1,5 +1,5 @@
 -- The lines of a trace.
-use Rattle.std.specs.Prelude.{ℕ, ◌+◌, ◌-◌, ◌==◌, Bool, ◌&&◌, if◌then◌else◌, Option, None, Some, Result, Ok, Err, List, length, take, drop, position, nat_eq, nat_lt, codes, slice_index}
+use Rattle.std.specs.Prelude.{◌≢◌, ◌++◌, ℕ, ◌+◌, ◌-◌, ◌==◌, Bool, ◌&&◌, if◌then◌else◌, Option, None, Some, Result, Ok, Err, List, length, take, drop, position, nat_eq, nat_lt, codes, slice_index}
 use Rattle.std.specs.Option.{option_map}
 use Rattle.std.specs.Cmp.Lexicographic.{pointwise}
 use Rattle.flat_model.specs.declared.Word.{Word}
@@ -27,6 +27,39 @@ cut_of text = cut_at text (position (λ b. b == space) text)
 
 abbrev pub same : List ℕ → List ℕ → Bool
 same = pointwise nat_eq
+
+-- the name of a command
+abbrev pub name_of : Command → List ℕ
+name_of command.Load = codes "load"
+name_of command.Store = codes "store"
+name_of command.Prefetch = codes "prefetch"
+name_of command.Evict = codes "evict"
+name_of command.Drain = codes "drain"
+name_of command.Serve = codes "serve"
+name_of command.Arrive = codes "arrive"
+name_of command.Process = codes "process"
+name_of command.Take = codes "take"
+name_of command.Register = codes "reg"
+name_of command.Bank = codes "bank"
+name_of command.Settled = codes "settled"
+
+-- no command's name stands at the front
+abbrev pub BeginsNoCommand : List ℕ → Type 0
+BeginsNoCommand text = (command : Command) (rest : List ℕ) → text ≢ name_of command ++ rest
+
+-- the one command whose name may have these as its first and its third byte
+unfoldable pub command_told : ℕ → ℕ → Option Command
+command_told first third =
+    if first == 108 then Some command.Load
+    else if first == 115 then if third == 111 then Some command.Store else if third == 114 then Some command.Serve else Some command.Settled
+    else if first == 112 then if third == 101 then Some command.Prefetch else Some command.Process
+    else if first == 101 then Some command.Evict
+    else if first == 100 then Some command.Drain
+    else if first == 97 then Some command.Arrive
+    else if first == 116 then Some command.Take
+    else if first == 114 then Some command.Register
+    else if first == 98 then Some command.Bank
+    else None
 
 -- the command of this name
 unfoldable pub command_named : List ℕ → Option Command

@@ -1,7 +1,7 @@
 //! The lines of a trace.
-ghost use Rattle.std.specs.Prelude.{◌≡◌, ◌<◌, length, ◌==◌, position, IfSome, IfErr};
+ghost use Rattle.std.specs.Prelude.{◌≡◌, ◌<◌, ◌++◌, length, ◌==◌, position, IfSome, IfNone, IfErr};
 ghost use Rattle.std.specs.Option.{option_map};
-ghost use Rattle.trace_text.specs.Lines.{IsSaid, line_of, ended_line_of, cut_of, command_named, one_number, bare as bare_line, load_of, store_of, arrive_of, line_from as line_made};
+ghost use Rattle.trace_text.specs.Lines.{IsSaid, line_of, ended_line_of, cut_of, name_of, command_told, BeginsNoCommand, command_named, one_number, bare as bare_line, load_of, store_of, arrive_of, line_from as line_made};
 
 use crate::fault::MAX_LINE;
 use crate::fields::{lanes, number, word};
@@ -74,23 +74,73 @@ pub fn cut(text: &[u8]) -> (&[u8], Option<&[u8]>)
     }
 }
 
-#[tactic(auto, unfolding(crate::specs::Lines::command_named))]
-fn named_command(name: &[u8]) -> Option<Command>
-    ensures { result ≡ command_named name.now }
+impl Command {
+    // The word that names it.
+    fn name(self) -> &'static [u8]
+        ensures { result.now ≡ name_of self }
+    {
+        match self {
+            Command::Load => b"load",
+            Command::Store => b"store",
+            Command::Prefetch => b"prefetch",
+            Command::Evict => b"evict",
+            Command::Drain => b"drain",
+            Command::Serve => b"serve",
+            Command::Arrive => b"arrive",
+            Command::Process => b"process",
+            Command::Take => b"take",
+            Command::Register => b"reg",
+            Command::Bank => b"bank",
+            Command::Settled => b"settled",
+        }
+    }
+}
+
+// The one command whose name may have these as its first and its third byte.
+#[tactic(auto, unfolding(crate::specs::Lines::command_told))]
+fn command_told(first: u8, third: u8) -> Option<Command>
+    ensures { result ≡ command_told first third }
 {
-    match name {
-        b"load" => Some(Command::Load),
-        b"store" => Some(Command::Store),
-        b"prefetch" => Some(Command::Prefetch),
-        b"evict" => Some(Command::Evict),
-        b"drain" => Some(Command::Drain),
-        b"serve" => Some(Command::Serve),
-        b"arrive" => Some(Command::Arrive),
-        b"process" => Some(Command::Process),
-        b"take" => Some(Command::Take),
-        b"reg" => Some(Command::Register),
-        b"bank" => Some(Command::Bank),
-        b"settled" => Some(Command::Settled),
+    match (first, third) {
+        (b'l', _) => Some(Command::Load),
+        (b's', b'o') => Some(Command::Store),
+        (b's', b'r') => Some(Command::Serve),
+        (b's', _) => Some(Command::Settled),
+        (b'p', b'e') => Some(Command::Prefetch),
+        (b'p', _) => Some(Command::Process),
+        (b'e', _) => Some(Command::Evict),
+        (b'd', _) => Some(Command::Drain),
+        (b'a', _) => Some(Command::Arrive),
+        (b't', _) => Some(Command::Take),
+        (b'r', _) => Some(Command::Register),
+        (b'b', _) => Some(Command::Bank),
+        _ => None,
+    }
+}
+
+// The command whose name a text begins with, and what stands behind the name.
+fn begun_command(text: &[u8]) -> Option<(Command, &[u8])>
+    ensures some { IfSome result (λ begun. text.now ≡ name_of begun.0 ++ begun.1.now) }
+    ensures none { IfNone result (BeginsNoCommand text.now) }
+{
+    let [first, _, third, ..] = text else {
+        return None;
+    };
+    let command = command_told(*first, *third)?;
+    let rest = text.strip_prefix(command.name())?;
+    Some((command, rest))
+}
+
+// The command of a line, and the fields behind it.
+fn command_said(text: &[u8]) -> Option<(Command, Option<&[u8]>)>
+    ensures command { option_map (λ said. said.0) result ≡ command_named (cut_of text.now).0 }
+    ensures fields { IfSome result
+        (λ said. option_map (λ rest. rest.now) said.1 ≡ (cut_of text.now).1) }
+{
+    let (command, rest) = begun_command(text)?;
+    match rest {
+        [] => Some((command, None)),
+        [b' ', fields @ ..] => Some((command, Some(fields))),
         _ => None,
     }
 }
@@ -177,15 +227,15 @@ fn line_from(command: Command, fields: Option<&[u8]>) -> Option<Line>
 }
 
 // What a line says, without its LF.
+#[inline(always)]
 #[tactic(auto, unfolding(crate::specs::Lines::line_of))]
 pub fn line_said(text: &[u8]) -> Result<Line, LineFault>
     ensures said { result ≡ line_of text.now }
     ensures fault { IfErr result IsSaid }
 {
-    let (name, fields) = cut(text);
-    match named_command(name) {
+    match command_said(text) {
         None => Err(LineFault::Unknown),
-        Some(command) => line_from(command, fields).ok_or(LineFault::Field),
+        Some((command, fields)) => line_from(command, fields).ok_or(LineFault::Field),
     }
 }
 

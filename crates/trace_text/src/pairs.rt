@@ -102,7 +102,7 @@ fn arrow(text: &[u8]) -> Option<usize>
     ensures bound { IfSome result (λ at. at + 4 ≤ length text.now) }
 {
     for at in 0..text.len() {
-        if text[at..].starts_with(b" -> ".as_slice()) {
+        if text[at] == b' ' && text[at..].starts_with(b" -> ".as_slice()) {
             return Some(at);
         }
     }

@@ -1,16 +1,21 @@
-use Rattle.std.proofs.Common.{arith, ◌≡◌, ◌-◌, ◌∙◌, ap, sym, take, drop, length}
+use Rattle.std.proofs.Common.{arith, ◌≡◌, ◌-◌, ◌∙◌, ap, sym, take, drop, length, false}
 use Rattle.std.proofs.lemmas.Grind.{common_steps}
 use Rattle.std.specs.Prelude.{nat_eq, codes}
 use Rattle.std.specs.List.{starts_with}
-use Rattle.trace_text.proofs.Arrows.{arrow_on}
+use Rattle.trace_text.proofs.Arrows.{arrow_on, no_arrow_at}
 use Rattle.trace_text.proofs.pairs.arrow.Goals as goal
+use Rattle.trace_text.proofs.pairs.arrow.Goals.{else-text-at-eq32-via-then-text-at-eq32+else-starts_with, else-text-at-eq32-via-else-text-at-eq32}
 
 pub loop-at-preserved : goal.loop-at-preserved
 loop-at-preserved c =
     let text = c.args.text.now in
     let at = c.loop-at.at in
     let all : take (length text - at) (drop at text) ≡ drop at text = grind (arith, common_steps) in
-    let test = ap (λ l. starts_with nat_eq l (codes " -> ")) (sym all)
-    ∙ ap (starts_with nat_eq (take (length text - at) (drop at text))) (sym c.as_slice.ensures)
-    ∙ sym c.starts_with.ensures.value ∙ c.if-starts_with.false in
-    arrow_on text at (omega arith) test c.loop-at.invariant
+    let none : starts_with nat_eq (drop at text) (codes " -> ") ≡ false =
+    elim c.else-text-at-eq32.branch [
+      | else-text-at-eq32-via-then-text-at-eq32+else-starts_with w ↦ ap (λ l. starts_with nat_eq l (codes " -> ")) (sym all)
+          ∙ ap (starts_with nat_eq (take (length text - at) (drop at text))) (sym w.as_slice.ensures)
+          ∙ sym w.starts_with.ensures.value ∙ w.if-starts_with.false
+      | else-text-at-eq32-via-else-text-at-eq32 w ↦ no_arrow_at text at (omega arith) (λ is. omega (arith, is, w.if-text-at-eq32.false))
+    ] in
+    arrow_on text at (omega arith) none c.loop-at.invariant

@@ -1,4 +1,4 @@
-use Rattle.std.proofs.Common.{◌≡◌, ℕ, List, ap, sym, ◌∙◌, subst}
+use Rattle.std.proofs.Common.{ℕ, List, ap, sym, ◌∙◌, subst}
 use Rattle.std.specs.Fmt.{HasWritten}
 use Rattle.trace_text.specs.Written.{line_text}
 use Rattle.trace_text.proofs.Recorded.{event_shown}
