@@ -1,5 +1,5 @@
 -- Rows of rings that are looked at, one after another.
-use Rattle.std.proofs.Common.{◌≡◌, ℕ, ◌+◌, ◌<◌, List, [], ◌∷◌, ◌++◌, length, map, take, slice_set, slice_index_or, Option, refl, sym, ap, ap₂, ◌∙◌, subst}
+use Rattle.std.proofs.Common.{◌≡◌, ◌≢◌, ℕ, ◌+◌, ◌<◌, ◌≤◌, List, [], ◌∷◌, ◌++◌, length, map, take, slice_set, slice_index_or, Option, refl, sym, ap, ap₂, ◌∙◌, subst, arith}
 use Rattle.std.specs.declared.alloc.Global.{Global}
 use Rattle.rtrb.specs.Ring.{received, sent}
 use Rattle.rtrb.specs.declared.consumer.Consumer.{Consumer}
@@ -18,6 +18,8 @@ use Rattle.station_parts.specs.declared.row.Line.{Line}
 use Rattle.station_parts.specs.Rings.{pops_from, pushes_to}
 use Rattle.station_parts.specs.Ports.{PortsTell}
 use Rattle.station_parts.specs.Rows.{sent_over, brought_by, sent_at, popped_at, taken_at}
+use Rattle.station_parts.specs.Audited.{AreAtMost}
+use Rattle.station_parts.proofs.Rows.{here_after, there_after, each_place}
 use Rattle.std.proofs.lemmas.List.{map-set, length-map, get_or-map}
 use Rattle.std.proofs.lemmas.Grind.{take-set_at}
 use Rattle.std.proofs.Math.Seq.{take-length}
@@ -55,6 +57,29 @@ seen_all f g xs ys n e l m =
     let all = subst (λ k. take k (map f xs) ≡ map f xs) (length-map xs f ∙ sym l) (take-length (map f xs)) in
     let all' = subst (λ k. take k (map g ys) ≡ map g ys) (length-map ys g ∙ sym m) (take-length (map g ys)) in
     sym all ∙ e ∙ all'
+
+-- one place has as much or more, and the others have what they had
+pub at_most_more : {X : Type 0} (f : X → ℕ) (before : List ℕ) (xs : List X) (i : ℕ) (x y : X) → i < length xs
+    → f (slice_index_or xs i x) ≤ f y → AreAtMost before (map f xs) → AreAtMost before (map f (slice_set xs i y))
+at_most_more f before xs i x y l more h =
+    each_place (λ p. slice_index_or before p 0 ≤ slice_index_or (map f (slice_set xs i y)) p 0) i here there
+  where
+    here : slice_index_or before i 0 ≤ slice_index_or (map f (slice_set xs i y)) i 0
+    here =
+        let was = get_or-map f xs i x 0 l in
+        let now = here_after f xs i y 0 l in
+        let k = h i in
+        omega arith
+
+    there : (p : ℕ) → p ≢ i → slice_index_or before p 0 ≤ slice_index_or (map f (slice_set xs i y)) p 0
+    there p ne =
+        let e = there_after f xs i p y 0 ne in
+        let k = h p in
+        omega arith
+
+pub at_most_moved : {X : Type 0} (f : X → ℕ) (before : List ℕ) (xs : List X) (i : ℕ) (x y : X) → i < length xs
+    → x ≡ slice_index_or xs i x → f x ≤ f y → AreAtMost before (map f xs) → AreAtMost before (map f (slice_set xs i y))
+at_most_moved f before xs i x y l at more h = at_most_more f before xs i x y l (subst (λ z. f z ≤ f y) at more) h
 
 -- ---- what a cache side says of its rings is by what was pushed and popped
 

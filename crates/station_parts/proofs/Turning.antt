@@ -15,28 +15,45 @@ use Rattle.station_journal.proofs.Standing.{after-append, answers_to-append}
 pub front_is : (x y : Command) (xs known : List Command) → IsPrefix (x ∷ []) known → known ≡ y ∷ xs → y ≡ x
 front_is x y xs known p e = let q : x ∷ p.0 ≡ y ∷ xs = p.1 ∙ e in cc
 
-module _ (words : List Word) (came came' : List Command) (given given' : List BankAnswer) (first : Command) (words_are : words ≡ after (replicate (length words) zero_word) came) (given_is : given ≡ answers_to (replicate (length words) zero_word) came) (comes : came' ≡ came ++ first ∷ []) where
+-- the commands that have come leave these words of a bank that began with zeros
+abbrev AreLeft : List Word → List Command → Type 0
+AreLeft words came = words ≡ after (replicate (length words) zero_word) came
+
+-- and these are its answers to them
+abbrev AreGiven : List Word → List Command → List BankAnswer → Type 0
+AreGiven words came given = given ≡ answers_to (replicate (length words) zero_word) came
+
+module _ (words : List Word) (came came' : List Command) (given given' : List BankAnswer) (first : Command)
+    (are_left : AreLeft words came) (are_given : AreGiven words came given) (comes : came' ≡ came ++ first ∷ []) where
   abbrev zeros : List Word
   zeros = replicate (length words) zero_word
 
   whole : answers_to zeros came' ≡ given ++ answers_to words (first ∷ [])
-  whole = ap (answers_to zeros) comes ∙ answers_to-append zeros came (first ∷ []) ∙ ap₂ (λ xs ws. xs ++ answers_to ws (first ∷ [])) (sym given_is) (sym words_are)
+  whole =
+      ap (answers_to zeros) comes ∙ answers_to-append zeros came (first ∷ [])
+      ∙ ap₂ (λ xs ws. xs ++ answers_to ws (first ∷ [])) (sym are_given) (sym are_left)
 
   left : after zeros came' ≡ after words (first ∷ [])
-  left = ap (after zeros) comes ∙ after-append zeros came (first ∷ []) ∙ ap (λ ws. after ws (first ∷ [])) (sym words_are)
+  left = ap (after zeros) comes ∙ after-append zeros came (first ∷ []) ∙ ap (λ ws. after ws (first ∷ [])) (sym are_left)
 
-  pub read_stored : (slot i place : ℕ) → first ≡ Read slot i place → words ≡ after zeros came'
+  pub read_stored : (slot i place : ℕ) → first ≡ Read slot i place → AreLeft words came'
   read_stored slot i place e = sym (left ∙ ap (λ c. after words (c ∷ [])) e)
 
-  pub read_answered : (slot i place : ℕ) → first ≡ Read slot i place → given' ≡ given ++ record { slot = slot; i = i; word = word_at words place } ∷ [] → given' ≡ answers_to zeros came'
+  pub read_answered : (slot i place : ℕ) → first ≡ Read slot i place
+      → given' ≡ given ++ record { slot = slot; i = i; word = word_at words place } ∷ [] → AreGiven words came' given'
   read_answered slot i place e g = g ∙ sym (whole ∙ ap (λ c. given ++ answers_to words (c ∷ [])) e)
 
-  pub write_stored : (words' : List Word) (place : ℕ) (word : Word) (lanes : Lanes) → first ≡ Write place word lanes → words' ≡ stored words place word lanes → words' ≡ after (replicate (length words') zero_word) came'
-  write_stored words' place word lanes e w =
-      let same : length words' ≡ length words = ap length w ∙ length-set words place _ in
-      w ∙ sym (left ∙ ap (λ c. after words (c ∷ [])) e) ∙ ap (λ n. after (replicate n zero_word) came') (sym same)
+  module _ (words' : List Word) (place : ℕ) (word : Word) (lanes : Lanes) (is_write : first ≡ Write place word lanes)
+      (is_stored : words' ≡ stored words place word lanes) where
+    as_many : length words' ≡ length words
+    as_many = ap length is_stored ∙ length-set words place _
 
-  pub write_answered : (words' : List Word) (place : ℕ) (word : Word) (lanes : Lanes) → first ≡ Write place word lanes → words' ≡ stored words place word lanes → given ≡ answers_to (replicate (length words') zero_word) came'
-  write_answered words' place word lanes e w =
-      let same : length words' ≡ length words = ap length w ∙ length-set words place _ in
-      sym (whole ∙ ap (λ c. given ++ answers_to words (c ∷ [])) e ∙ append-nil given) ∙ ap (λ n. answers_to (replicate n zero_word) came') (sym same)
+    pub write_stored : AreLeft words' came'
+    write_stored =
+        is_stored ∙ sym (left ∙ ap (λ c. after words (c ∷ [])) is_write)
+        ∙ ap (λ n. after (replicate n zero_word) came') (sym as_many)
+
+    pub write_answered : AreGiven words' came' given
+    write_answered =
+        sym (whole ∙ ap (λ c. given ++ answers_to words (c ∷ [])) is_write ∙ append-nil given)
+        ∙ ap (λ n. answers_to (replicate n zero_word) came') (sym as_many)

@@ -1,9 +1,10 @@
 -- What an audit finds, and what it leaves as it was.
-use Rattle.std.specs.Prelude.{◌≡◌, ℕ, zero, suc, Bool, nat_lt, List, length, map, position, Option, Some, None}
-use Rattle.rtrb.specs.Ring.{sent, known_items}
+use Rattle.std.specs.Prelude.{◌≡◌, ◌≤◌, ℕ, zero, suc, Bool, nat_lt, List, length, map, position, slice_index_or, Option, Some, None}
+use Rattle.rtrb.specs.Ring.{sent, known_items, known_free}
 use Rattle.cache_unit.specs.State.{tags}
 use Rattle.station_journal.specs.declared.journal.SideFault.{SideFault}
 use Rattle.station_parts.specs.declared.port.Port.{Port}
+use Rattle.station_parts.specs.declared.row.Line.{Line}
 use Rattle.station_parts.specs.declared.bank.BankSide.{BankSide}
 use Rattle.station_parts.specs.declared.parts.CacheSide.{CacheSide}
 use Rattle.station_parts.specs.declared.parts.Ring.{Ring}
@@ -11,7 +12,7 @@ use Rattle.station_parts.specs.declared.parts.Ring.TheVariants.{Asks, Told, Comm
 use Rattle.station_parts.specs.declared.parts.Audit.{Audit}
 use Rattle.station_parts.specs.declared.parts.Audit.TheVariants.{Faulted, Left, Owed, Clean}
 use Rattle.station_parts.specs.Rows.{come_to, sent_over}
-use Rattle.station_parts.specs.Words.{told_in_all, commanded, offered, taken, known_tellings, received_by, sent_by, words_of, known_commands, journal_of, fault_in, cache_in, asked_at, told_at, commands_at, words_at}
+use Rattle.station_parts.specs.Words.{told_in_all, commanded, offered, taken, known_tellings, received_by, sent_by, words_of, known_commands, known_places, answer_places, journal_of, fault_in, cache_in, asked_at, told_at, commands_at, words_at, telling_places, command_places}
 
 -- ---- at each ring, what was received and then what is known is what was sent
 
@@ -21,7 +22,15 @@ pub record IsSeen {W B R D : ℕ} (cache : CacheSide W B R D) (ports : List Port
   pub commands : map commanded banks ≡ map sent_over cache.row.lines.items
   pub answers : map come_to cache.answers.items ≡ map sent_by banks
 
--- ---- nothing was pushed or popped, and nothing else changed
+-- ---- nothing was pushed or popped, no free place that an end knew was forgotten, and nothing else changed
+
+-- for how many more commands a line knows a free place
+abbrev pub line_places : Line → ℕ
+line_places line = known_free line.ring
+
+-- each number is at most the one at its place
+abbrev pub AreAtMost : List ℕ → List ℕ → Type 0
+AreAtMost xs ys = (p : ℕ) → slice_index_or xs p 0 ≤ slice_index_or ys p 0
 
 pub record LeavesCache {W B R D : ℕ} (old new : CacheSide W B R D) : Type 0 where
   pub journal : journal_of new ≡ journal_of old
@@ -31,15 +40,19 @@ pub record LeavesCache {W B R D : ℕ} (old new : CacheSide W B R D) : Type 0 wh
   pub told : (p : ℕ) → told_at new p ≡ told_at old p
   pub commands : (b : ℕ) → commands_at new b ≡ commands_at old b
   pub words : (b : ℕ) → words_at new b ≡ words_at old b
+  pub for_tellings : (p : ℕ) → telling_places old p ≤ telling_places new p
+  pub for_commands : (b : ℕ) → command_places old b ≤ command_places new b
 
 pub record LeavesPorts (old new : List Port) : Type 0 where
   pub offered : map offered new ≡ map offered old
   pub taken : map taken new ≡ map taken old
+  pub for_asks : AreAtMost (map known_places old) (map known_places new)
 
 pub record LeavesBanks (old new : List BankSide) : Type 0 where
   pub received : map received_by new ≡ map received_by old
   pub sent : map sent_by new ≡ map sent_by old
   pub words : map words_of new ≡ map words_of old
+  pub for_answers : AreAtMost (map answer_places old) (map answer_places new)
 
 -- ---- the answer
 

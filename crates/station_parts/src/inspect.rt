@@ -2,7 +2,7 @@
 ghost use Rattle.std.specs.Prelude.{◌≡◌, ◌≢◌, IsTrue, List, ◌++◌, ◌≤◌, ◌<◌, length, map, position, IfSome, ◌^◌};
 ghost use Rattle.std.specs.Option.{ForSome};
 ghost use Rattle.std.specs.Global.{Vec};
-ghost use Rattle.rtrb.specs.Ring.{received, sent, known_items};
+ghost use Rattle.rtrb.specs.Ring.{received, sent, known_items, known_free};
 ghost use Rattle.cache_unit.specs.Views.{is_clean};
 ghost use Rattle.station_journal.specs.Journal.{IsBankTrue};
 ghost use Rattle.station_journal.specs.Parts.{IsOfPorts};
@@ -15,8 +15,8 @@ ghost use Rattle.station_parts.specs.Rings.{pushes_to, pops_from};
 ghost use Rattle.station_parts.specs.Ids.{PortId, BankId, port_id, bank_id, cache_id, line_ring};
 ghost use Rattle.station_parts.specs.Station.{AreOneStation};
 ghost use Rattle.station_parts.specs.Rows.{come_to, sent_over, brought_by};
-ghost use Rattle.station_parts.specs.Words.{journal_of, sizes_in, cache_in, told_in_all, commanded, offered, taken, known_tellings, received_by, sent_by, words_of, known_commands};
-ghost use Rattle.station_parts.specs.Audited.{IsSeen, LeavesCache, LeavesPorts, LeavesBanks, holds_item, first_ring, first_left, audit_of};
+ghost use Rattle.station_parts.specs.Words.{journal_of, sizes_in, cache_in, told_in_all, commanded, offered, taken, known_tellings, known_places, answer_places, received_by, sent_by, words_of, known_commands};
+ghost use Rattle.station_parts.specs.Audited.{IsSeen, AreAtMost, line_places, LeavesCache, LeavesPorts, LeavesBanks, holds_item, first_ring, first_left, audit_of};
 
 use crate::bank::BankSide;
 use crate::parts::{Audit, CacheSide, Ring};
@@ -41,7 +41,7 @@ pub fn audit<const WAYS: usize, const WORDS: usize, const REGS: usize, const DEP
 ) -> Audit
     requires { AreOneStation cache.old ports.old banks.old }
 
-    // The parts are as they were, but for what their ends know.
+    // The parts are as they were, but for what their ends know, and no end knows less.
     ensures same_cache { cache_id cache.new ≡ cache_id cache.old }
     ensures same_ports { map port_id ports.new ≡ map port_id ports.old }
     ensures same_banks { map bank_id banks.new ≡ map bank_id banks.old }
@@ -103,6 +103,7 @@ fn look_asks(ports: &mut [Port], asks: &mut Vec<Consumer<Ask>>)
     ensures same { map port_id ports.new ≡ map port_id ports.old }
     ensures offered { map offered ports.new ≡ map offered ports.old }
     ensures taken { map taken ports.new ≡ map taken ports.old }
+    ensures places { AreAtMost (map known_places ports.old) (map known_places ports.new) }
     ensures rings { map pops_from asks.new.items ≡ map pops_from asks.old.items }
     ensures received { map received asks.new.items ≡ map received asks.old.items }
     ensures seen { map come_to asks.new.items ≡ map offered ports.new }
@@ -117,6 +118,7 @@ fn look_ask(port: &mut Port, asks: &mut Consumer<Ask>)
     ensures same { port_id port.new ≡ port_id port.old }
     ensures offered { offered port.new ≡ offered port.old }
     ensures taken { taken port.new ≡ taken port.old }
+    ensures places { known_places port.old ≤ known_places port.new }
     ensures ring { pops_from asks.new ≡ pops_from asks.old }
     ensures received { received asks.new ≡ received asks.old }
     ensures seen { received asks.new ++ known_items asks.new ≡ offered port.new }
@@ -130,7 +132,9 @@ fn look_tellings(ports: &mut [Port], tellings: &mut Vec<Producer<Told>>)
     ensures same { map port_id ports.new ≡ map port_id ports.old }
     ensures offered { map offered ports.new ≡ map offered ports.old }
     ensures taken { map taken ports.new ≡ map taken ports.old }
+    ensures places { AreAtMost (map known_places ports.old) (map known_places ports.new) }
     ensures rings { map pushes_to tellings.new.items ≡ map pushes_to tellings.old.items }
+    ensures room { AreAtMost (map known_free tellings.old.items) (map known_free tellings.new.items) }
     ensures sent { map sent tellings.new.items ≡ map sent tellings.old.items }
     ensures seen { map told_in_all ports.new
         ≡ map sent tellings.new.items }
@@ -145,7 +149,9 @@ fn look_telling(port: &mut Port, tellings: &mut Producer<Told>)
     ensures same { port_id port.new ≡ port_id port.old }
     ensures offered { offered port.new ≡ offered port.old }
     ensures taken { taken port.new ≡ taken port.old }
+    ensures places { known_places port.old ≤ known_places port.new }
     ensures ring { pushes_to tellings.new ≡ pushes_to tellings.old }
+    ensures room { known_free tellings.old ≤ known_free tellings.new }
     ensures sent { sent tellings.new ≡ sent tellings.old }
     ensures seen { taken port.new ++ known_tellings port.new ≡ sent tellings.new }
 {
@@ -162,6 +168,7 @@ fn look_commands(banks: &mut [BankSide], lines: &mut Vec<Line>)
     ensures sent { map sent_over lines.new.items
         ≡ map sent_over lines.old.items }
     ensures taken { map brought_by lines.new.items ≡ map brought_by lines.old.items }
+    ensures room { AreAtMost (map line_places lines.old.items) (map line_places lines.new.items) }
     ensures seen { map commanded banks.new
         ≡ map sent_over lines.new.items }
 {
@@ -176,6 +183,8 @@ fn look_command(bank: &mut BankSide, line: &mut Line)
     ensures received { received_by bank.new ≡ received_by bank.old }
     ensures sent_back { sent_by bank.new ≡ sent_by bank.old }
     ensures words { words_of bank.new ≡ words_of bank.old }
+    ensures places { answer_places bank.old ≤ answer_places bank.new }
+    ensures room { line_places line.old ≤ line_places line.new }
     ensures ring { pushes_to line.new.ring ≡ pushes_to line.old.ring }
     ensures sent { sent line.new.ring ≡ sent line.old.ring }
     ensures taken { line.new.taken ≡ line.old.taken }
@@ -208,6 +217,7 @@ fn look_answer(bank: &mut BankSide, answers: &mut Consumer<BankAnswer>)
     ensures sent { sent_by bank.new ≡ sent_by bank.old }
     ensures words { words_of bank.new ≡ words_of bank.old }
     ensures commands { commanded bank.new ≡ commanded bank.old }
+    ensures places { answer_places bank.old ≤ answer_places bank.new }
     ensures ring { pops_from answers.new ≡ pops_from answers.old }
     ensures received { received answers.new ≡ received answers.old }
     ensures seen { received answers.new ++ known_items answers.new ≡ sent_by bank.new }

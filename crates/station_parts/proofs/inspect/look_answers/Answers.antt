@@ -4,10 +4,10 @@ use Rattle.rtrb.specs.Ring.{received}
 use Rattle.station_parts.specs.Rings.{pops_from}
 use Rattle.station_parts.specs.Ids.{BankId, bank_id}
 use Rattle.station_parts.specs.Rows.{come_to}
-use Rattle.station_parts.specs.Words.{received_by, sent_by, words_of, commanded}
+use Rattle.station_parts.specs.Words.{received_by, sent_by, words_of, commanded, answer_places}
 use Rattle.station_parts.specs.declared.bank.BankSide.{BankSide}
 use Rattle.station_parts.proofs.Moves.{moved}
-use Rattle.station_parts.proofs.Looking.{matched_at, as_long, seen_more, seen_all}
+use Rattle.station_parts.proofs.Looking.{matched_at, as_long, seen_more, seen_all, at_most_more}
 use Rattle.station_parts.proofs.inspect.look_answers.Goals as goal
 
 pub look_answer-requires : goal.look_answer-requires
@@ -41,6 +41,8 @@ loop-b-preserved c =
           c.index_mut.ensures.value e.ring ∙ i.same_rings;
       same_popped = moved received c.loop-b.answers.items c.loop-b.b c.index_mut.result.now c.look_answer.new.answers
           c.index_mut.ensures.value e.received ∙ i.same_popped;
+      more_places = at_most_more answer_places (map answer_places c.args.banks.now) c.loop-b.banks c.loop-b.b c.index-banks-b.result
+          c.look_answer.new.bank there e.places i.more_places;
       seen = seen_more come_to sent_by c.loop-b.answers.items c.loop-b.banks c.loop-b.b c.look_answer.new.answers c.look_answer.new.bank
           i.seen beside there e.seen;
     }

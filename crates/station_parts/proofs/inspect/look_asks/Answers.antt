@@ -4,10 +4,10 @@ use Rattle.rtrb.specs.Ring.{received}
 use Rattle.station_parts.specs.Rings.{pops_from}
 use Rattle.station_parts.specs.Ids.{PortId, port_id}
 use Rattle.station_parts.specs.Rows.{come_to}
-use Rattle.station_parts.specs.Words.{offered, taken}
+use Rattle.station_parts.specs.Words.{offered, taken, known_places}
 use Rattle.station_parts.specs.declared.port.Port.{Port}
 use Rattle.station_parts.proofs.Moves.{moved}
-use Rattle.station_parts.proofs.Looking.{matched_at, as_long, seen_more, seen_all}
+use Rattle.station_parts.proofs.Looking.{matched_at, as_long, seen_more, seen_all, at_most_more}
 use Rattle.station_parts.proofs.inspect.look_asks.Goals as goal
 
 pub look_ask-requires : goal.look_ask-requires
@@ -37,6 +37,8 @@ loop-p-preserved c =
           e.ring ∙ i.same_rings;
       same_received = moved received c.loop-p.asks.items c.loop-p.p c.index_mut.result.now c.look_ask.new.asks c.index_mut.ensures.value
           e.received ∙ i.same_received;
+      more_places = at_most_more known_places (map known_places c.args.ports.now) c.loop-p.ports c.loop-p.p c.index-ports-p.result
+          c.look_ask.new.port there e.places i.more_places;
       seen = seen_more come_to offered c.loop-p.asks.items c.loop-p.ports c.loop-p.p c.look_ask.new.asks c.look_ask.new.port i.seen beside
           there e.seen;
     }

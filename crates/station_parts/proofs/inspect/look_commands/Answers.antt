@@ -2,10 +2,11 @@ use Rattle.std.proofs.Common.{◌≡◌, ◌<◌, length, map, sym, ap, ◌∙�
 use Rattle.std.proofs.Math.Seq.{map-set_same}
 use Rattle.station_parts.specs.Ids.{BankId, bank_id, line_ring}
 use Rattle.station_parts.specs.Rows.{sent_over, brought_by}
-use Rattle.station_parts.specs.Words.{received_by, sent_by, words_of, commanded}
+use Rattle.station_parts.specs.Audited.{line_places}
+use Rattle.station_parts.specs.Words.{received_by, sent_by, words_of, commanded, answer_places}
 use Rattle.station_parts.specs.declared.bank.BankSide.{BankSide}
 use Rattle.station_parts.proofs.Moves.{moved}
-use Rattle.station_parts.proofs.Looking.{matched_at, as_long, seen_more, seen_all}
+use Rattle.station_parts.proofs.Looking.{matched_at, as_long, seen_more, seen_all, at_most_more, at_most_moved}
 use Rattle.station_parts.proofs.inspect.look_commands.Goals as goal
 
 pub look_command-requires : goal.look_command-requires
@@ -40,6 +41,10 @@ loop-b-preserved c =
           e.sent ∙ i.same_sent;
       same_brought = moved brought_by c.loop-b.lines.items c.loop-b.b c.index_mut.result.now c.look_command.new.line
           c.index_mut.ensures.value e.taken ∙ i.same_brought;
+      more_places = at_most_more answer_places (map answer_places c.args.banks.now) c.loop-b.banks c.loop-b.b c.index-banks-b.result
+          c.look_command.new.bank there e.places i.more_places;
+      more_room = at_most_moved line_places (map line_places c.args.lines.now.items) c.loop-b.lines.items c.loop-b.b
+          c.index_mut.result.now c.look_command.new.line beside c.index_mut.ensures.value e.room i.more_room;
       seen = seen_more commanded sent_over c.loop-b.banks c.loop-b.lines.items c.loop-b.b c.look_command.new.bank c.look_command.new.line
           i.seen there beside e.seen;
     }

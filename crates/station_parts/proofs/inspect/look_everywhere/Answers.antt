@@ -1,4 +1,4 @@
-use Rattle.std.proofs.Common.{◌∙◌, arith}
+use Rattle.std.proofs.Common.{◌∙◌, ℕ, [], slice_index_or, refl, ap, arith}
 use Rattle.std.proofs.Math.Logic.{∥∥₁_map}
 use Rattle.station_parts.specs.Rings.{pops_from}
 use Rattle.station_parts.specs.Ids.{line_ring}
@@ -29,4 +29,43 @@ invariant_of-cache g c =
       few_ports = let n = row_length pops_from s.asks.items c.look_asks.new.asks.items asks.rings in let few = s.few_ports in omega arith;
       ports = ports_looked s.asks.items c.look_asks.new.asks.items s.tellings.items c.look_tellings.new.tellings.items s.journal.items
           asks.rings tellings.rings asks.received tellings.sent s.ports;
+    }
+
+pub returns-clause-cache : goal.returns-clause-cache
+returns-clause-cache g c =
+    let asks = c.look_asks.ensures in
+    let tellings = c.look_tellings.ensures in
+    let lines = c.look_commands.ensures in
+    let answers = c.look_answers.ensures in
+    record {
+      journal = refl;
+      fault = refl;
+      cache = refl;
+      asked = λ p. ap (λ l. slice_index_or l p []) asks.received;
+      told = λ p. ap (λ l. slice_index_or l p []) tellings.sent;
+      commands = λ b. ap (λ l. slice_index_or l b []) lines.sent;
+      words = λ b. ap (λ l. slice_index_or l b []) answers.received;
+      for_tellings = λ p. tellings.room p;
+      for_commands = λ b. lines.room b;
+    }
+
+pub returns-clause-ports : goal.returns-clause-ports
+returns-clause-ports g c =
+    let asks = c.look_asks.ensures in
+    let tellings = c.look_tellings.ensures in
+    record {
+      offered = tellings.offered ∙ asks.offered;
+      taken = tellings.taken ∙ asks.taken;
+      for_asks = λ p. let more = asks.places p in let still = tellings.places p in omega arith;
+    }
+
+pub returns-clause-banks : goal.returns-clause-banks
+returns-clause-banks g c =
+    let first = c.look_commands.ensures.banks in
+    let then = c.look_answers.ensures.banks in
+    record {
+      received = then.received ∙ first.received;
+      sent = then.sent ∙ first.sent;
+      words = then.words ∙ first.words;
+      for_answers = λ b. let more = first.for_answers b in let still = then.for_answers b in omega arith;
     }

@@ -1,12 +1,12 @@
 use Rattle.std.proofs.Common.{◌≡◌, ◌<◌, length, map, sym, ap, ◌∙◌, arith}
 use Rattle.std.proofs.Math.Seq.{map-set_same}
-use Rattle.rtrb.specs.Ring.{sent}
+use Rattle.rtrb.specs.Ring.{sent, known_free}
 use Rattle.station_parts.specs.Rings.{pushes_to}
 use Rattle.station_parts.specs.Ids.{PortId, port_id}
-use Rattle.station_parts.specs.Words.{offered, taken, told_in_all}
+use Rattle.station_parts.specs.Words.{offered, taken, told_in_all, known_places}
 use Rattle.station_parts.specs.declared.port.Port.{Port}
 use Rattle.station_parts.proofs.Moves.{moved}
-use Rattle.station_parts.proofs.Looking.{matched_at, as_long, seen_more, seen_all}
+use Rattle.station_parts.proofs.Looking.{matched_at, as_long, seen_more, seen_all, at_most_more, at_most_moved}
 use Rattle.station_parts.proofs.inspect.look_tellings.Goals as goal
 
 pub look_telling-requires : goal.look_telling-requires
@@ -37,6 +37,10 @@ loop-p-preserved c =
           c.index_mut.ensures.value e.ring ∙ i.same_rings;
       same_sent = moved sent c.loop-p.tellings.items c.loop-p.p c.index_mut.result.now c.look_telling.new.tellings
           c.index_mut.ensures.value e.sent ∙ i.same_sent;
+      more_places = at_most_more known_places (map known_places c.args.ports.now) c.loop-p.ports c.loop-p.p c.index-ports-p.result
+          c.look_telling.new.port there e.places i.more_places;
+      more_room = at_most_moved known_free (map known_free c.args.tellings.now.items) c.loop-p.tellings.items c.loop-p.p
+          c.index_mut.result.now c.look_telling.new.tellings beside c.index_mut.ensures.value e.room i.more_room;
       seen = seen_more told_in_all sent c.loop-p.ports c.loop-p.tellings.items c.loop-p.p c.look_telling.new.port
           c.look_telling.new.tellings i.seen there beside e.seen;
     }

@@ -5,8 +5,11 @@ use Rattle.station_parts.proofs.rest.is_valid.Goals as goal
 
 pub returns-in-None : goal.returns-in-None
 returns-in-None g c =
-    sym (ap (λ (r : Register). r.valid) (none_is_free c.args.unit.now.cache c.args.unit.now.cache.registers c.args.slot (sym c.in-None.ensures)))
+    let cache = c.args.unit.now.cache in
+    let free = none_is_free cache cache.registers c.args.slot (sym c.in-None.ensures) in
+    sym (ap (λ (r : Register). r.valid) free)
 
 pub returns-in-Some : goal.returns-in-Some
 returns-in-Some g c =
-    shown_valid c.args.unit.now.cache c.args.unit.now.cache.registers c.args.slot c.in-Some.shown (sym c.in-Some.ensures)
+    let cache = c.args.unit.now.cache in
+    shown_valid cache cache.registers c.args.slot c.in-Some.shown (sym c.in-Some.ensures)

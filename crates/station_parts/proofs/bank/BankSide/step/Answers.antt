@@ -8,12 +8,19 @@ pub invariant_of-self-in-Read : goal.invariant_of-self-in-Read
 invariant_of-self-in-Read c =
     let s = c.args.self.now in
     let r = c.in-Read in
-    let first = front_is c.peek_known.result.now c.pop_known.result _ _ c.peek_known.ensures c.pop_known.ensures.received.1 ∙ r.is in
-    let came = c.pop_known.ensures.received.0 ∙ ap (λ l. l ++ c.pop_known.result ∷ []) c.slots.ensures.looked.1 in
-    let given = c.push_reserved.ensures.sent.0 ∙ ap₂ (λ l w. l ++ record { slot = r.slot; i = r.i; word = w } ∷ []) c.slots-in-Read.ensures.looked.1 (c.word_at-word.ensures ∙ ap (λ ws. word_at ws r.place) c.deref.ensures.value) in
+    let pop = c.pop_known in
+    let words = s.words.items in
+    let served = received s.commands in
+    let given = sent s.answers in
+    let given' = sent c.push_reserved.new.self in
+    let first = front_is c.peek_known.result.now pop.result _ _ c.peek_known.ensures pop.ensures.received.1 ∙ r.is in
+    let came = pop.ensures.received.0 ∙ ap (λ l. l ++ pop.result ∷ []) c.slots.ensures.looked.1 in
+    let read = c.word_at-word.ensures ∙ ap (λ ws. word_at ws r.place) c.deref.ensures.value in
+    let gives = c.push_reserved.ensures.sent.0
+    ∙ ap₂ (λ l w. l ++ record { slot = r.slot; i = r.i; word = w } ∷ []) c.slots-in-Read.ensures.looked.1 read in
     record {
-      stored = read_stored s.words.items (received s.commands) _ (sent s.answers) (sent c.push_reserved.new.self) c.pop_known.result s.stored s.answered came r.slot r.i r.place first;
-      answered = read_answered s.words.items (received s.commands) _ (sent s.answers) (sent c.push_reserved.new.self) c.pop_known.result s.stored s.answered came r.slot r.i r.place first given;
+      stored = read_stored words served _ given given' pop.result s.stored s.answered came r.slot r.i r.place first;
+      answered = read_answered words served _ given given' pop.result s.stored s.answered came r.slot r.i r.place first gives;
     }
 
 pub invariant_of-self-in-Write : goal.invariant_of-self-in-Write
@@ -21,9 +28,14 @@ invariant_of-self-in-Write c =
     let s = c.args.self.now in
     let w = c.in-Write in
     let pop = c.pop_known-in-Write in
+    let words = s.words.items in
+    let words' = c.store.new.words.items in
+    let served = received s.commands in
+    let given = sent s.answers in
+    let stores = c.store.ensures in
     let first = front_is c.peek_known.result.now pop.result _ _ c.peek_known.ensures pop.ensures.received.1 ∙ w.is in
     let came = pop.ensures.received.0 ∙ ap (λ l. l ++ pop.result ∷ []) c.slots.ensures.looked.1 in
     record {
-      stored = write_stored s.words.items (received s.commands) _ (sent s.answers) (sent s.answers) pop.result s.stored s.answered came c.store.new.words.items w.place w.word w.lanes first c.store.ensures;
-      answered = write_answered s.words.items (received s.commands) _ (sent s.answers) (sent s.answers) pop.result s.stored s.answered came c.store.new.words.items w.place w.word w.lanes first c.store.ensures;
+      stored = write_stored words served _ given given pop.result s.stored s.answered came words' w.place w.word w.lanes first stores;
+      answered = write_answered words served _ given given pop.result s.stored s.answered came words' w.place w.word w.lanes first stores;
     }
