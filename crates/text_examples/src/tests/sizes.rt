@@ -2,11 +2,9 @@
 
 use super::fixture::default_machine;
 use cache_directory::Directory;
-use cache_unit::CacheUnit;
 use flat_model::{Answer, Event, FlatMemory, Shape, Word};
 use machine_core::Machine;
 use memory_banks::{Banks, Lines};
-use miss_registers::RegisterFile;
 use std::test::Fail;
 use trace_text::{CheckEnd, check_text, read_requests};
 use write_queue::WriteQueue;
@@ -36,25 +34,6 @@ fn parts_of_the_largest_shape(rt: HostRuntime) -> Result<(), Fail> {
     let directory = Directory::<2, 4>::new(alloc, 1_024)?;
     assert_eq!(rt; directory.look(1_023), None);
     let mut machine = Machine::<2, 4, 8, 4>::new(alloc, LARGEST, &image)?;
-    let load = Event::Load {
-        tag: 1,
-        at: 1_048_575,
-    };
-    assert_eq!(rt; machine.apply(load), Answer::Accepted);
-    Ok(())
-}
-
-#[test]
-fn parts_of_the_largest_numbers(rt: HostRuntime) -> Result<(), Fail> {
-    let alloc = rt.alloc();
-    let file = RegisterFile::<16, 16>::new(alloc)?;
-    assert_eq!(rt; file.free_slot(), Some(0));
-    let directory = Directory::<8, 16>::new(alloc, 1_024)?;
-    assert_eq!(rt; directory.look(1_023), None);
-    let unit = CacheUnit::<8, 16, 16, 16>::new(alloc, &LARGEST)?;
-    assert_eq!(rt; unit.owed(), 0);
-    let image = vec![in alloc; Word::default(); 1_048_576]?;
-    let mut machine = Machine::<8, 16, 16, 16>::new(alloc, LARGEST, &image)?;
     let load = Event::Load {
         tag: 1,
         at: 1_048_575,
