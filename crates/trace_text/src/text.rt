@@ -1,9 +1,8 @@
 //! The texts of answers and registers.
-ghost use Rattle.std.specs.Prelude.{◌≡◌, ℕ, ◌+◌, ◌≤◌, ◌<◌, ◌++◌, ◌∷◌, [], List, Option, length};
+ghost use Rattle.std.specs.Prelude.{◌≡◌, ℕ, ◌+◌, ◌≤◌, ◌<◌, ◌++◌, ◌∷◌, [], List, Option, length, take};
 ghost use Rattle.std.specs.List.{flat_map, range_with_len};
 ghost use Rattle.trace_text.specs.Texts.{answer_text as text_of_answer, mark_text, marks_text, held_text, field_text, head_text, register_text as text_of_register, bank_text, settled_text, waiting_text, field_text_at};
 
-use arrayvec::ArrayVec;
 use flat_model::{Answer, Word};
 use machine_core::AnyMachine;
 use miss_registers::{FieldView, RegisterView};
@@ -12,13 +11,18 @@ use std::marker::Model;
 /// A text of at most 768 bytes, all of them ASCII.
 #[derive(Drop)]
 pub struct LineText {
-    bytes: ArrayVec<u8, 768>,
+    // The text is the first `len` of them. Those behind are what earlier texts left: a text is cleared for
+    // each line of a trace, and blanking it each time would cost more than what is written of it.
+    bytes: [u8; 768],
+    len: usize,
 }
 
 impl Model for LineText {
     ghost Value = { List ℕ };
 
-    ghost view = { λ t. t.bytes.items };
+    ghost view = { λ t. take t.len t.bytes };
+
+    ghost invariant = { λ t. t.len ≤ 768 };
 }
 
 impl LineText {
@@ -27,21 +31,22 @@ impl LineText {
         ensures bytes { result.now ≡ self.now }
         ensures short { length result.now ≤ 768 }
     {
-        self.bytes.as_slice()
+        &self.bytes[..self.len]
     }
 
     pub(crate) fn new() -> LineText
         ensures { result ≡ [] }
     {
         LineText {
-            bytes: ArrayVec::new(),
+            bytes: [0; 768],
+            len: 0,
         }
     }
 
     pub(crate) fn clear(&mut self)
         ensures { self.new ≡ [] }
     {
-        self.bytes.clear();
+        self.len = 0;
     }
 
     pub(crate) fn push(&mut self, byte: u8)
@@ -49,7 +54,8 @@ impl LineText {
         ensures text { self.new ≡ self.old ++ byte ∷ [] }
         ensures len { length self.new ≡ length self.old + 1 }
     {
-        self.bytes.push(byte);
+        self.bytes[self.len] = byte;
+        self.len += 1;
     }
 
     pub(crate) fn push_bytes(&mut self, bytes: &[u8])
@@ -57,7 +63,9 @@ impl LineText {
         ensures text { self.new ≡ self.old ++ bytes.now }
         ensures len { length self.new ≡ length self.old + length bytes.now }
     {
-        let _ = self.bytes.try_extend_from_slice(bytes);
+        let end = self.len + bytes.len();
+        self.bytes[self.len..end].copy_from_slice(bytes);
+        self.len = end;
     }
 
     // An answer's text, at the end.
