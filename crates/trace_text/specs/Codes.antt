@@ -1,5 +1,6 @@
 -- The characters of a line by their codes, and how many lines a trace has.
 use Rattle.std.specs.Prelude.{ℕ}
+use Rattle.trace_text.specs.declared.fault.TheConstants.{MAX_LINES}
 
 -- LF, which ends a line
 abbrev pub line_feed : ℕ
@@ -28,4 +29,4 @@ letter_V = 86
 
 -- how many lines a trace has at most
 abbrev pub most_lines : ℕ
-most_lines = 16777216
+most_lines = MAX_LINES

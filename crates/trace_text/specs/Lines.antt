@@ -1,5 +1,6 @@
 -- The lines of a trace.
 use Rattle.std.specs.Prelude.{◌≢◌, ◌++◌, ℕ, ◌+◌, ◌-◌, ◌==◌, Bool, ◌&&◌, if◌then◌else◌, Option, None, Some, Result, Ok, Err, List, length, take, drop, position, nat_eq, nat_lt, codes, slice_index}
+use Rattle.trace_text.specs.declared.fault.TheConstants.{MAX_LINE}
 use Rattle.std.specs.Option.{option_map}
 use Rattle.std.specs.Cmp.Lexicographic.{pointwise}
 use Rattle.flat_model.specs.declared.Word.{Word}
@@ -176,7 +177,7 @@ without_end bytes = if is_ended bytes then take (length bytes - 1) bytes else by
 -- what a line says, with its LF
 abbrev pub ended_line_of : List ℕ → Result Line LineFault
 ended_line_of bytes =
-    if nat_lt 64 (length (without_end bytes)) then Err TooLong
+    if nat_lt MAX_LINE (length (without_end bytes)) then Err TooLong
     else if is_ended bytes then line_of (without_end bytes)
     else Err NotEnded
 

@@ -1,5 +1,6 @@
 -- Lines as they are written: a command, ` -> ` and an answer.
 use Rattle.std.specs.Prelude.{ℕ, suc, ◌+◌, ◌==◌, if◌then◌else◌, Option, None, Some, Result, Ok, Err, List, [], ◌∷◌, length, take, drop, nat_eq, nat_lt, codes}
+use Rattle.trace_text.specs.declared.fault.TheConstants.{MAX_PAIR}
 use Rattle.std.specs.List.{starts_with}
 use Rattle.std.specs.Option.{option_map, option_and_then}
 use Rattle.flat_model.specs.declared.Word.{Word}
@@ -106,6 +107,6 @@ pair_of text = pair_cut text (arrow_in text)
 -- what a line with its answer says, with its LF
 abbrev pub ended_pair_of : List ℕ → Result Pair LineFault
 ended_pair_of bytes =
-    if nat_lt 768 (length (without_end bytes)) then Err TooLong
+    if nat_lt MAX_PAIR (length (without_end bytes)) then Err TooLong
     else if is_ended bytes then pair_of (without_end bytes)
     else Err NotEnded

@@ -1,5 +1,6 @@
 -- What a run over a trace reads, applies and writes.
 use Rattle.std.specs.Prelude.{◌≡◌, ℕ, ◌+◌, ◌<◌, ◌≤◌, ◌⊎◌, Option, None, Some, Result, Ok, Err, List, [], ◌∷◌, ◌++◌, length, codes}
+use Rattle.trace_text.specs.declared.fault.TheConstants.{MAX_LINE}
 use Rattle.std.specs.Option.{option_to_list}
 use Rattle.std.specs.List.{AllByRecursion}
 use Rattle.flat_model.specs.declared.Event.{Event}
@@ -143,10 +144,10 @@ Broken took refused old m text new m' = (line : Line) × (line_of text ≡ Ok li
 -- behind all that was written.
 abbrev pub Ends : {R W : Type 0} (gave : R → List ℕ → R → Type 0) (failed : R → R → Type 0) (took : W → List ℕ → W → Type 0) (refused unflushed : W → W → Type 0) (r r' : R) (w w' : W) (m m' : MachineState) → Result Counts TraceFault → Type 0
 -- all was read, up to the end, and served
-Ends {R} {W} gave failed took refused unflushed r r' w w' m m' (Ok counts) = (texts : List (List ℕ)) × (v : W) × ReadWhole gave trace_fault 64 r r' texts × Applied took w m texts v m' counts × took v [] w'
+Ends {R} {W} gave failed took refused unflushed r r' w w' m m' (Ok counts) = (texts : List (List ℕ)) × (v : W) × ReadWhole gave trace_fault MAX_LINE r r' texts × Applied took w m texts v m' counts × took v [] w'
 -- nothing happened
 Ends gave failed took refused unflushed r r' w w' m m' (Err fault.OutOfMemory) = (r' ≡ r) × (w' ≡ w) × (m' ≡ m)
 -- a flush before a read or before a fault was refused, or the text of a line that was applied
-Ends {R} {W} gave failed took refused unflushed r r' w w' m m' (Err fault.Write) = (texts : List (List ℕ)) × (rest : List ℕ) × (v : W) × (s : MachineState) × (c : Counts) × Applied took w m texts v s c × ((ReadSoFar gave trace_fault 64 r r' texts rest × unflushed v w' × (m' ≡ s)) ⊎ (ReadInto gave trace_fault 64 r r' texts rest × ((unflushed v w' × (m' ≡ s)) ⊎ ((length texts < most_lines) × FirstLine trace_fault 64 (λ text. Broken took refused v s text w' m') rest))))
+Ends {R} {W} gave failed took refused unflushed r r' w w' m m' (Err fault.Write) = (texts : List (List ℕ)) × (rest : List ℕ) × (v : W) × (s : MachineState) × (c : Counts) × Applied took w m texts v s c × ((ReadSoFar gave trace_fault MAX_LINE r r' texts rest × unflushed v w' × (m' ≡ s)) ⊎ (ReadInto gave trace_fault MAX_LINE r r' texts rest × ((unflushed v w' × (m' ≡ s)) ⊎ ((length texts < most_lines) × FirstLine trace_fault MAX_LINE (λ text. Broken took refused v s text w' m') rest))))
 -- the lines before the fault were served
-Ends {R} {W} gave failed took refused unflushed r r' w w' m m' (Err e) = (texts : List (List ℕ)) × (v : W) × (c : Counts) × ReadStops gave failed trace_fault 64 r r' texts e × Applied took w m texts v m' c × took v [] w'
+Ends {R} {W} gave failed took refused unflushed r r' w w' m m' (Err e) = (texts : List (List ℕ)) × (v : W) × (c : Counts) × ReadStops gave failed trace_fault MAX_LINE r r' texts e × Applied took w m texts v m' c × took v [] w'

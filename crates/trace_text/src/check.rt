@@ -1,5 +1,6 @@
 //! A served trace is checked against flat memory.
 ghost use Rattle.std.specs.Prelude.{◌≡◌, ℕ, ◌<◌, List, OnOk, IfOk, IfErr};
+ghost use Rattle.trace_text.specs.declared.fault.TheConstants.{MAX_LINES, MAX_PAIR};
 ghost use Rattle.flat_model.specs.Memory.{shown};
 ghost use Rattle.trace_text.specs.Reading.{ReadWhole, ReadFails};
 ghost use Rattle.trace_text.specs.Checks.{step_with, pair_fault, zeros, IsJudged, JudgedFrom, Judges};
@@ -52,7 +53,7 @@ pub struct Checking {
 impl Checking {
     // Judges the step of the line of this number, unless a mismatch came before it.
     fn judge(&mut self, number: u64, step: Step) -> Result<(), Uncollected>
-        requires few { self.old.steps < 16777216 }
+        requires few { self.old.steps < MAX_LINES }
         ensures judged { OnOk result
             (Judges number step.event step.answer (shown self.old.memory) self.old.steps self.old.mismatch
             (shown self.new.memory) self.new.steps self.new.mismatch) }
@@ -78,7 +79,7 @@ impl Checking {
 impl Collector for Checking {
     ghost fault_in = { pair_fault };
 
-    ghost longest = { 768 };
+    ghost longest = { MAX_PAIR };
 
     ghost went = { λ s texts t. JudgedFrom (shown s.memory) texts t.steps t.mismatch (shown t.memory) };
 
@@ -131,10 +132,10 @@ pub fn check_text<R: Source>(
     words: u32,
 ) -> Result<CheckEnd, TraceFault>
     ensures judged { IfOk result
-        (λ end. (texts : List (List ℕ)) × ReadWhole R.gave pair_fault 768 reader.old reader.new texts
+        (λ end. (texts : List (List ℕ)) × ReadWhole R.gave pair_fault MAX_PAIR reader.old reader.new texts
         × IsJudged words texts end) }
     ensures fault { IfErr result
-        (ReadFails R.gave R.failed pair_fault 768 reader.old reader.new) }
+        (ReadFails R.gave R.failed pair_fault MAX_PAIR reader.old reader.new) }
 {
     let mut checking = Checking {
         memory: zero_memory(alloc, words)?,

@@ -1,5 +1,6 @@
 //! Numbers, words and masks are written.
 ghost use Rattle.std.specs.Prelude.{◌≡◌, ◌+◌, ◌-◌, ◌<◌, ◌≤◌, ◌++◌, length, decimal, replicate, max};
+ghost use Rattle.trace_text.specs.declared.fault.TheConstants.{MAX_PAIR};
 ghost use Rattle.flat_model.specs.Words.{has, Lane0, Lane1, Lane2, Lane3};
 ghost use Rattle.trace_text.specs.Fields.{padded, word_text, bit_text, lanes_text, hex_digit as digit_of};
 
@@ -11,7 +12,7 @@ use itoa::Buffer;
 impl LineText {
     // The decimal digits of a number, at the end.
     pub(crate) fn push_decimal(&mut self, n: u32)
-        requires { length self.old + 10 ≤ 768 }
+        requires { length self.old + 10 ≤ MAX_PAIR }
         ensures text { self.new ≡ self.old ++ decimal n }
         ensures len { length self.new ≤ length self.old + 10 }
     {
@@ -20,7 +21,7 @@ impl LineText {
     }
 
     fn push_zeros(&mut self, count: usize)
-        requires { length self.old + count ≤ 768 }
+        requires { length self.old + count ≤ MAX_PAIR }
         ensures text { self.new ≡ self.old ++ replicate count 48 }
         ensures len { length self.new ≡ length self.old + count }
     {
@@ -30,8 +31,8 @@ impl LineText {
     }
 
     fn push_behind_zeros(&mut self, digits: &[u8], width: usize)
-        requires width { length self.old + width ≤ 768 }
-        requires digits { length self.old + length digits.now ≤ 768 }
+        requires width { length self.old + width ≤ MAX_PAIR }
+        requires digits { length self.old + length digits.now ≤ MAX_PAIR }
         ensures text { self.new
             ≡ self.old ++ replicate (width - length digits.now) 48 ++ digits.now }
         ensures len { length self.new ≡ length self.old + max width (length digits.now) }
@@ -43,7 +44,7 @@ impl LineText {
     // The decimal digits of a number behind the zeros that its width wants, at the end.
     pub(crate) fn push_padded(&mut self, n: u32, width: usize)
         requires width { width ≤ 10 }
-        requires room { length self.old + 10 ≤ 768 }
+        requires room { length self.old + 10 ≤ MAX_PAIR }
         ensures text { self.new ≡ self.old ++ padded width n }
         ensures len { length self.new ≤ length self.old + 10 }
     {
@@ -53,7 +54,7 @@ impl LineText {
 
     // The five digits of a tag, at the end.
     pub(crate) fn push_tag(&mut self, tag: u16)
-        requires { length self.old + 5 ≤ 768 }
+        requires { length self.old + 5 ≤ MAX_PAIR }
         ensures text { self.new ≡ self.old ++ padded 5 tag }
         ensures len { length self.new ≤ length self.old + 5 }
     {
@@ -63,7 +64,7 @@ impl LineText {
 
     // A word's eight digits, byte 0 first, at the end.
     pub(crate) fn push_word(&mut self, word: Word)
-        requires { length self.old + 8 ≤ 768 }
+        requires { length self.old + 8 ≤ MAX_PAIR }
         ensures text { self.new ≡ self.old ++ word_text word }
         ensures len { length self.new ≡ length self.old + 8 }
     {
@@ -81,7 +82,7 @@ impl LineText {
 
     // A mask's four digits, lane 0 first, at the end.
     pub(crate) fn push_lanes(&mut self, lanes: Lanes)
-        requires { length self.old + 4 ≤ 768 }
+        requires { length self.old + 4 ≤ MAX_PAIR }
         ensures text { self.new ≡ self.old ++ lanes_text lanes }
         ensures len { length self.new ≡ length self.old + 4 }
     {

@@ -200,6 +200,7 @@ fn arrive(fields: Option<&[u8]>) -> Option<Line>
     }))
 }
 
+#[inline(always)]
 #[tactic(auto, unfolding(crate::specs::Lines::line_from))]
 fn line_from(command: Command, fields: Option<&[u8]>) -> Option<Line>
     ensures { result ≡ line_made command (option_map (λ rest. rest.now) fields.entry) }

@@ -1,5 +1,6 @@
 //! A text comes in pieces: its lines are found, and the rest is kept for the next piece.
 ghost use Rattle.std.specs.Prelude.{◌≡◌, ◌≢◌, ℕ, ◌+◌, ◌-◌, ◌<◌, ◌≤◌, length, take, drop, OnErr, IfOk, IfSome, IfNone, slice_index};
+ghost use Rattle.trace_text.specs.declared.fault.TheConstants.{MAX_LINES};
 ghost use Rattle.trace_text.specs.Streams.{HasNoEnd};
 ghost use Rattle.trace_text.specs.Collecting.{Filled, BegunFault};
 
@@ -33,10 +34,10 @@ pub fn end_of_line(bytes: &[u8]) -> Option<usize>
 // The fault of the line that the last `left` bytes begin, whatever comes behind them: it is one line
 // too many, or has more than `most` bytes.
 pub fn begun_fault(lines: u64, left: usize, most: usize) -> Option<TraceFault>
-    requires { lines ≤ 16777216 }
+    requires { lines ≤ MAX_LINES }
     ensures some { IfSome result (BegunFault lines left most) }
     ensures short { IfNone result (left ≤ most) }
-    ensures room { IfNone result (0 < left → lines < 16777216) }
+    ensures room { IfNone result (0 < left → lines < MAX_LINES) }
 {
     if left > 0 && lines == MAX_LINES {
         return Some(TraceFault::TooManyLines);

@@ -1,5 +1,6 @@
 //! A text is read to its end, line by line: the one loop over pieces and lines.
 ghost use Rattle.std.specs.Prelude.{◌≡◌, ℕ, ◌+◌, ◌≤◌, ◌++◌, ◌∷◌, [], List, None, Option, length, OnOk, OnErr, IfOk, IfErr};
+ghost use Rattle.trace_text.specs.declared.fault.TheConstants.{BUFFER_LEN, MAX_LINES};
 ghost use Rattle.trace_text.specs.declared.lines.LineFault.{LineFault};
 ghost use Rattle.trace_text.specs.Collecting.{Misses, AllCollected, Misread, Reads, AfterPause};
 
@@ -82,7 +83,7 @@ pub trait Collector {
     fn collect(&mut self, number: u64, text: &[u8]) -> Result<(), Uncollected>
         requires went { (start : Self) × (texts : List (List ℕ)) × went start texts self.old
             × (number ≡ length texts + 1) }
-        requires few { number ≤ 16777216 }
+        requires few { number ≤ MAX_LINES }
         requires short { length text.now ≤ longest }
         ensures good { OnOk result (fault_in text.now ≡ None) }
         ensures kept { OnOk result
@@ -109,7 +110,7 @@ fn collect_ended<C: Collector>(
 ) -> Result<usize, Stop>
     requires went { (start : C) × (texts : List (List ℕ)) × C.went start texts collector.old
         × (count.old ≡ length texts) }
-    requires few { count.old ≤ 16777216 }
+    requires few { count.old ≤ MAX_LINES }
     requires longest { most ≡ C.longest }
     ensures ok { IfOk result
         (λ left. AllCollected C.fault_in C.went most collector.old count.old bytes.now left
@@ -166,7 +167,7 @@ pub fn read_lines<R: Source, C: Collector>(
 ) -> Result<(), Stop>
     requires longest { most ≡ C.longest }
     requires most { most ≤ 1000 }
-    requires room { length buffer.old ≡ 4096 }
+    requires room { length buffer.old ≡ BUFFER_LEN }
     requires went { C.went collector.old [] collector.old }
     requires same { C.holds_same collector.old collector.old }
     ensures reads { Reads R.gave R.failed C.fault_in C.went C.stopped C.paused C.unpaused most reader.old

@@ -1,5 +1,6 @@
 //! The requests of a trace.
 ghost use Rattle.std.specs.Prelude.{◌≡◌, ℕ, ◌≤◌, ◌++◌, List, length, OnOk, IfOk, IfErr};
+ghost use Rattle.trace_text.specs.declared.fault.TheConstants.{MAX_LINE, MAX_LINES};
 ghost use Rattle.std.specs.Option.{option_to_list};
 ghost use Rattle.std.specs.List.{AllByRecursion};
 ghost use Rattle.trace_text.specs.Reading.{ReadWhole, ReadFails};
@@ -51,7 +52,7 @@ fn keep(events: &mut Vec<Event>, event: Option<Event>) -> Result<(), Uncollected
 impl Collector for Requests {
     ghost fault_in = { trace_fault };
 
-    ghost longest = { 64 };
+    ghost longest = { MAX_LINE };
 
     ghost went = { λ s texts t. t.events.items ≡ requests_of texts };
 
@@ -87,12 +88,12 @@ impl Collector for Requests {
 pub fn read_requests<R: Source>(alloc: Global, reader: &mut R) -> Result<Vec<Event>, TraceFault>
     ensures read { IfOk result
         (λ events. (texts : List (List ℕ))
-        × ReadWhole R.gave trace_fault 64 reader.old reader.new texts
+        × ReadWhole R.gave trace_fault MAX_LINE reader.old reader.new texts
         × (events.items ≡ requests_of texts)) }
     ensures requests { IfOk result (λ events. AllByRecursion IsRequest events.items) }
-    ensures few { IfOk result (λ events. length events.items ≤ 16777216) }
+    ensures few { IfOk result (λ events. length events.items ≤ MAX_LINES) }
     ensures fault { IfErr result
-        (ReadFails R.gave R.failed trace_fault 64 reader.old reader.new) }
+        (ReadFails R.gave R.failed trace_fault MAX_LINE reader.old reader.new) }
 {
     let mut requests = Requests {
         events: Vec::new(alloc),

@@ -1,5 +1,6 @@
 //! A trace is served: each line is applied, and its answer written, before the next.
 ghost use Rattle.std.specs.Prelude.{◌≡◌, ℕ, [], ◌+◌, ◌<◌, ◌≤◌, ◌++◌, length, Ok, OnOk, OnErr, Some};
+ghost use Rattle.trace_text.specs.declared.fault.TheConstants.{BUFFER_LEN, MAX_LINE, MAX_LINES, MAX_PAIR};
 ghost use Rattle.std.specs.Option.{option_to_list};
 ghost use Rattle.flat_model.specs.Flat.{flat_run};
 ghost use Rattle.trace_text.specs.Streams.{Moves, Stopped};
@@ -54,7 +55,7 @@ impl Counts {
     // Counts a line, and its answer where it has one.
     fn count(&mut self, answer: Option<Answer>)
         requires within { IsWithin self.old }
-        requires more { self.old.lines < 16777216 }
+        requires more { self.old.lines < MAX_LINES }
         ensures counts { self.new ≡ counted_reply self.old answer }
         ensures within { IsWithin self.new }
         ensures number { self.new.lines ≡ self.old.lines + 1 }
@@ -75,7 +76,7 @@ impl LineText {
     // Applies a line and adds its answer's text at the end.
     #[tactic(auto, unfolding(crate::specs::Texts::reply_text, crate::specs::Texts::after_line))]
     fn push_reply<M: AnyMachine>(&mut self, machine: &mut M, line: Line) -> Option<Answer>
-        requires { length self.old + 675 ≤ 768 }
+        requires { length self.old + 675 ≤ MAX_PAIR }
         ensures answer { result ≡ answer_to (M.state machine.old) line }
         ensures text { self.new ≡ self.old ++ reply_text (M.state machine.old) line }
         ensures len { length self.new ≤ length self.old + 675 }
@@ -110,10 +111,10 @@ pub struct Serving<'a, W, M> {
 impl<'a, W: Sink, M: AnyMachine> Serving<'a, W, M> {
     // Applies a line, and then writes it with its answer.
     fn serve(&mut self, text: &[u8], line: Line) -> Result<(), Failed>
-        requires short { length text.now ≤ 64 }
+        requires short { length text.now ≤ MAX_LINE }
         requires said { line_of text.now ≡ Ok line }
         requires within { IsWithin self.old.counts }
-        requires more { self.old.counts.lines < 16777216 }
+        requires more { self.old.counts.lines < MAX_LINES }
         ensures ok { OnOk result
             (LineServed W.took self.old.writer.now (M.state self.old.machine.now) self.old.counts text.now
             self.new.writer.now (M.state self.new.machine.now) self.new.counts) }
@@ -136,7 +137,7 @@ impl<'a, W: Sink, M: AnyMachine> Serving<'a, W, M> {
 impl<'a, W: Sink, M: AnyMachine> Collector for Serving<'a, W, M> {
     ghost fault_in = { trace_fault };
 
-    ghost longest = { 64 };
+    ghost longest = { MAX_LINE };
 
     ghost went = { λ s texts t. Applied W.took s.writer.now (M.state s.machine.now) texts t.writer.now (M.state t.machine.now) t.counts };
 
@@ -166,7 +167,7 @@ fn serve_through<R: Source, W: Sink, M: AnyMachine>(
     serving: &mut Serving<W, M>,
     buffer: &mut [u8],
 ) -> Result<Counts, TraceFault>
-    requires room { length buffer.old ≡ 4096 }
+    requires room { length buffer.old ≡ BUFFER_LEN }
     requires fresh { serving.old.counts ≡ no_counts }
     ensures ends { Ends R.gave R.failed W.took W.refused W.unflushed reader.old reader.new
         serving.old.writer.now serving.new.writer.now (M.state serving.old.machine.now)

@@ -1,9 +1,10 @@
 //! The texts of answers and registers.
-ghost use Rattle.std.specs.Prelude.{◌≡◌, ℕ, ◌+◌, ◌≤◌, ◌<◌, ◌++◌, ◌∷◌, [], List, Option, length};
+ghost use Rattle.std.specs.Prelude.{◌≡◌, ℕ, ◌+◌, ◌≤◌, ◌<◌, ◌++◌, ◌∷◌, [], List, Option, length, take};
+ghost use Rattle.trace_text.specs.declared.fault.TheConstants.{MAX_PAIR};
 ghost use Rattle.std.specs.List.{flat_map, range_with_len};
 ghost use Rattle.trace_text.specs.Texts.{answer_text as text_of_answer, mark_text, marks_text, held_text, field_text, head_text, register_text as text_of_register, bank_text, settled_text, waiting_text, field_text_at};
 
-use arrayvec::ArrayVec;
+use crate::fault::MAX_PAIR;
 use flat_model::{Answer, Word};
 use machine_core::AnyMachine;
 use miss_registers::{FieldView, RegisterView};
@@ -12,58 +13,67 @@ use std::marker::Model;
 /// A text of at most 768 bytes, all of them ASCII.
 #[derive(Drop)]
 pub struct LineText {
-    bytes: ArrayVec<u8, 768>,
+    // The text is the first `len` of them. Those behind are what earlier texts left: a text is cleared for
+    // each line of a trace, and blanking it each time would cost more than what is written of it.
+    bytes: [u8; MAX_PAIR],
+    len: usize,
 }
 
 impl Model for LineText {
     ghost Value = { List ℕ };
 
-    ghost view = { λ t. t.bytes.items };
+    ghost view = { λ t. take t.len t.bytes };
+
+    ghost invariant = { λ t. t.len ≤ MAX_PAIR };
 }
 
 impl LineText {
     /// The bytes of the text.
     pub fn as_bytes(&self) -> &[u8]
         ensures bytes { result.now ≡ self.now }
-        ensures short { length result.now ≤ 768 }
+        ensures short { length result.now ≤ MAX_PAIR }
     {
-        self.bytes.as_slice()
+        &self.bytes[..self.len]
     }
 
     pub(crate) fn new() -> LineText
         ensures { result ≡ [] }
     {
         LineText {
-            bytes: ArrayVec::new(),
+            bytes: [0; MAX_PAIR],
+            len: 0,
         }
     }
 
     pub(crate) fn clear(&mut self)
         ensures { self.new ≡ [] }
     {
-        self.bytes.clear();
+        self.len = 0;
     }
 
     pub(crate) fn push(&mut self, byte: u8)
-        requires { length self.old < 768 }
+        requires { length self.old < MAX_PAIR }
         ensures text { self.new ≡ self.old ++ byte ∷ [] }
         ensures len { length self.new ≡ length self.old + 1 }
     {
-        self.bytes.push(byte);
+        self.bytes[self.len] = byte;
+        self.len += 1;
     }
 
     pub(crate) fn push_bytes(&mut self, bytes: &[u8])
-        requires { length self.old + length bytes.now ≤ 768 }
+        requires { length self.old + length bytes.now ≤ MAX_PAIR }
         ensures text { self.new ≡ self.old ++ bytes.now }
         ensures len { length self.new ≡ length self.old + length bytes.now }
     {
-        let _ = self.bytes.try_extend_from_slice(bytes);
+        let end = self.len + bytes.len();
+        self.bytes[self.len..end].copy_from_slice(bytes);
+        self.len = end;
     }
 
     // An answer's text, at the end.
     #[tactic(auto, unfolding(crate::specs::Texts::answer_text))]
     pub(crate) fn push_answer(&mut self, answer: Answer)
-        requires { length self.old + 25 ≤ 768 }
+        requires { length self.old + 25 ≤ MAX_PAIR }
         ensures text { self.new ≡ self.old ++ text_of_answer answer }
         ensures len { length self.new ≤ length self.old + 25 }
     {
@@ -85,7 +95,7 @@ impl LineText {
     }
 
     fn push_waiting(&mut self, field: FieldView)
-        requires { length self.old + 10 ≤ 768 }
+        requires { length self.old + 10 ≤ MAX_PAIR }
         ensures text { self.new ≡ self.old ++ waiting_text field }
         ensures len { length self.new ≤ length self.old + 10 }
     {
@@ -98,7 +108,7 @@ impl LineText {
 
     #[tactic(auto, unfolding(crate::specs::Texts::marks_text))]
     fn push_marks(&mut self, field: FieldView)
-        requires { length self.old + 12 ≤ 768 }
+        requires { length self.old + 12 ≤ MAX_PAIR }
         ensures text { self.new ≡ self.old ++ marks_text field }
         ensures len { length self.new ≤ length self.old + 12 }
     {
@@ -109,7 +119,7 @@ impl LineText {
 
     #[tactic(auto, unfolding(crate::specs::Texts::held_text))]
     fn push_held(&mut self, field: FieldView)
-        requires { length self.old + 19 ≤ 768 }
+        requires { length self.old + 19 ≤ MAX_PAIR }
         ensures text { self.new ≡ self.old ++ held_text field }
         ensures len { length self.new ≤ length self.old + 19 }
     {
@@ -122,7 +132,7 @@ impl LineText {
 
     #[tactic(auto, unfolding(crate::specs::Texts::field_text))]
     fn push_field(&mut self, field: FieldView)
-        requires { length self.old + 40 ≤ 768 }
+        requires { length self.old + 40 ≤ MAX_PAIR }
         ensures text { self.new ≡ self.old ++ field_text field }
         ensures len { length self.new ≤ length self.old + 40 }
     {
@@ -137,7 +147,7 @@ impl LineText {
 
     #[tactic(auto, unfolding(crate::specs::Texts::head_text))]
     fn push_head(&mut self, register: RegisterView)
-        requires { length self.old + 35 ≤ 768 }
+        requires { length self.old + 35 ≤ MAX_PAIR }
         ensures text { self.new ≡ self.old ++ head_text register }
         ensures len { length self.new ≤ length self.old + 35 }
     {
@@ -152,7 +162,7 @@ impl LineText {
     }
 
     fn push_field_at<M: AnyMachine>(&mut self, machine: &M, slot: u32, i: u32)
-        requires { length self.old + 40 ≤ 768 }
+        requires { length self.old + 40 ≤ MAX_PAIR }
         ensures text { self.new ≡ self.old ++ field_text_at (M.state machine.now) slot i }
         ensures len { length self.new ≤ length self.old + 40 }
     {
@@ -162,7 +172,7 @@ impl LineText {
     }
 
     fn push_fields<M: AnyMachine>(&mut self, machine: &M, slot: u32)
-        requires { length self.old + 640 ≤ 768 }
+        requires { length self.old + 640 ≤ MAX_PAIR }
         ensures text { self.new
             ≡ self.old ++ flat_map (field_text_at (M.state machine.now) slot) (range_with_len 0 16) }
         ensures len { length self.new ≤ length self.old + 640 }
@@ -175,7 +185,7 @@ impl LineText {
     // A register's text, at the end.
     #[tactic(auto, unfolding(crate::specs::Texts::register_text))]
     pub(crate) fn push_register<M: AnyMachine>(&mut self, machine: &M, slot: u32)
-        requires { length self.old + 675 ≤ 768 }
+        requires { length self.old + 675 ≤ MAX_PAIR }
         ensures text { self.new ≡ self.old ++ text_of_register (M.state machine.now) slot }
         ensures len { length self.new ≤ length self.old + 675 }
     {
@@ -191,7 +201,7 @@ impl LineText {
     // A word's digits, or `none`, at the end.
     #[tactic(auto, unfolding(crate::specs::Texts::bank_text))]
     pub(crate) fn push_bank(&mut self, word: Option<Word>)
-        requires { length self.old + 8 ≤ 768 }
+        requires { length self.old + 8 ≤ MAX_PAIR }
         ensures text { self.new ≡ self.old ++ bank_text word }
         ensures len { length self.new ≤ length self.old + 8 }
     {
@@ -204,7 +214,7 @@ impl LineText {
     // `yes` or `no`, at the end.
     #[tactic(auto, unfolding(crate::specs::Texts::settled_text))]
     pub(crate) fn push_settled(&mut self, is_settled: bool)
-        requires { length self.old + 3 ≤ 768 }
+        requires { length self.old + 3 ≤ MAX_PAIR }
         ensures text { self.new ≡ self.old ++ settled_text is_settled }
         ensures len { length self.new ≤ length self.old + 3 }
     {
