@@ -1,7 +1,7 @@
 //! Runs with one mismatch of each kind, their texts, and readers that fail.
 
-use run_reasons::{Explainer, Explanation, Mismatch, ReadFault, Reason, explain_text};
 use flat_model::{Answer, Event, Lanes, Word};
+use run_reasons::{Explainer, Explanation, Mismatch, ReadFault, Reason, explain_text};
 use std::alloc::Global;
 use std::io;
 use std::io::Read;

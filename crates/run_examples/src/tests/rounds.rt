@@ -1,7 +1,7 @@
 //! Runs of rounds.
 
-use round_driver::{LostRounds, Table, drive, summarize};
 use machine_core::{Event, Machine, Shape, Word};
+use round_driver::{LostRounds, Table, drive, summarize};
 use std::alloc::{AllocError, Global};
 use std::test::Fail;
 use trace_text::{CheckEnd, check_text};
