@@ -1,4 +1,5 @@
 -- what C's rows and its table say
+pub mod Blocks
 pub mod Rows
 -- the judge
 pub mod Judge

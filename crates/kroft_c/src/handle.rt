@@ -29,13 +29,13 @@ pub struct Handle {
 }
 
 impl Model for Handle {
-    ghost use Rattle.libc.specs.Heap.{chunk};
+    ghost use Rattle.kroft_c.specs.Blocks.{block_token};
     ghost use Rattle.std.specs.Box.Ownership.{box_owns};
     ghost use Rattle.std.specs.Vec.Ownership.{owns_if};
     ghost use Rattle.kroft_c.specs.contracts.listed.Listed.{the_row};
     ghost use Rattle.kroft_c.specs.Open.{nonzero};
 
-    ghost also_owns = { λ h. owns_if (nonzero h.open) (box_owns chunk the_row h.at h.machine) };
+    ghost also_owns = { λ h. owns_if (nonzero h.open) (box_owns block_token the_row h.at h.machine) };
 }
 
 impl Handle {

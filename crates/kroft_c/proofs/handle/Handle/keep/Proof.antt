@@ -47,7 +47,7 @@ use denote.Triple.Clauses.{Lasts, lasts, at_exit}
 use denote.Triple.Spec.{triple_of}
 use denote.Triple.Table.{framed}
 use denote.Triple.Walked.{Fit, Stays, walk_of, says, stay_ref, stay_dropped, Goes-ref, ends_at}
-use Rattle.libc.specs.Heap.{chunk}
+use Rattle.kroft_c.specs.Blocks.{block_token}
 use Rattle.std.specs.Box.Ownership.{box_owns}
 use Rattle.std.specs.contracts.boxed.Box as boxed
 use Rattle.std.specs.contracts.boxed.Box.into_raw as g
@@ -150,7 +150,7 @@ keep_spec {M} 𝓤 𝓛 𝓜 𝓡 wired =
     join ! $ join ! $ use1 𝓛 (raw (G.pre x)) (id⊢ 𝓤 _) $
     calls_at ! (framed 𝓤 𝓛.H 𝓜 𝓣) G known x (and_then ! (get ! refl) (no_more !)) (λ u.
     use1 𝓛 (later (some (λ (p : Ptr). ((‵ (flft [] full_share) ⊛ ‵ (flft [] full_share) ⊛ ‵ ftrue) ⊛ ‵ (RawPtr.own_val p (u ∷ [])))
-    ⊛ some (λ (ws : Lasts S x.0.0 x.0.3). ‵ (lasts S x.0.0 x.0.3 ws) ⊛ ‵ (box_owns chunk inner.the_row p item.value))))) (id⊢ 𝓤 _) $
+    ⊛ some (λ (ws : Lasts S x.0.0 x.0.3). ‵ (lasts S x.0.0 x.0.3 ws) ⊛ ‵ (box_owns block_token inner.the_row p item.value))))) (id⊢ 𝓤 _) $
     await ! tt $ pick ! (λ p. split ! $ move ! (1 ∷ []) $ pick ! (λ _. split ! $ drop ! $ move ! (1 ∷ []) $ split ! $ drop ! $ feq_l ! (λ is_pointer.
     let pointer = ((rawptr_Lawful 𝓛).typed p _ refl).0 in
     lands_as ! (ap only is_pointer) refl pointer $ sets ! (of_opd ! (get ! refl)) refl pointer $

@@ -34,7 +34,7 @@ use denote.Triple.Clauses.{Lasts, lasts}
 use denote.Triple.Spec.{triple_of}
 use denote.Triple.Table.{framed}
 use denote.Triple.Walked.{Stays, walk_of, says, stay_ref, stay_dropped, Goes-ref, Goes-dropped, ends_at}
-use Rattle.libc.specs.Heap.{chunk}
+use Rattle.kroft_c.specs.Blocks.{block_token}
 use Rattle.std.specs.Box.Ownership.{box_owns}
 use Rattle.std.specs.Vec.Ownership.{owns_if}
 use Rattle.std.specs.contracts.boxed.Box as boxed
@@ -77,7 +77,7 @@ taken_spec {M} 𝓤 𝓛 𝓜 𝓡 wired =
     enter ! _ _ _ _ _ $ alloc_all ! (λ l. pass_all ! refl ((tt, tt), ((tt, ((tt, tt), tt)), tt)) $
     fsplit3 ! $ move ! (1 ∷ 2 ∷ 4 ∷ []) $ opens ! tt R b o (λ us.
     move ! (1 ∷ []) $ peeks ! R _ (shows 𝓛 R) h us (λ is. fsplit ! $ move ! (1 ∷ []) $
-    rewrite ! 0 (λ (t : Bool). ‵ (owns_if t (box_owns chunk X h.at h.machine))) (is_nonzero h.open is_open) refl $
+    rewrite ! 0 (λ (t : Bool). ‵ (owns_if t (box_owns block_token X h.at h.machine))) (is_nonzero h.open is_open) refl $
     let Cell = λ (ws : List Val). ‵ (cell_at full_share R.mir ws b o) in
     let word = lowers.val_is h us is in
     rewrite ! 2 Cell word refl $
