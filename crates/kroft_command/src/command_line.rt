@@ -1,7 +1,7 @@
 //! The words of the command line.
 
 use clap::error::ErrorKind;
-use clap::{Arg, ArgAction, Command, Error};
+use clap::{Arg, ArgAction, ArgMatches, Command, Error};
 use std::alloc::{AllocError, Global};
 
 /// What the program is asked to do with the trace on its input.
@@ -15,6 +15,13 @@ pub enum Task {
     Sweep,
     /// Judge its lines up to the first that flat memory doesn't explain, and say why.
     Explain,
+    /// Drive its requests in rounds.
+    Drive {
+        /// Rounds from a command's begin to its service, 0 to 1,000.
+        latency: u64,
+        /// Whether a table of counts is written in place of the run.
+        summary: bool,
+    },
 }
 
 /// What the words of the command line ask for.
@@ -27,6 +34,9 @@ pub struct CommandLine<'a> {
 
 /// What the user calls the program.
 const PROGRAM: &str = "kroft";
+
+/// Rounds from a command's begin to its service, where none are given.
+const USUAL_LATENCY: u64 = 10;
 
 /// The name of the argument that stands for a trace's path.
 const TRACE: &str = "trace";
@@ -144,6 +154,43 @@ Example:
   mismatch at line 1: take 0 -> value 1 00000000
   tag 1 is owed nothing: it was never loaded";
 
+const DRIVE_NOTES: &str =
+    "Reads a trace from standard input ('kroft run --help' lists its lines), keeps its
+  load TAG AT, store AT MASK WORD, prefetch AT and evict BLOCK
+and makes rounds over a new machine until all are accepted or denied and nothing is on its way.
+A round makes, in this order:
+  each bank, by number, that has a command and isn't busy begins it, and one begun L rounds
+  before is served; one answer arrives, from the next bank that has one, if the stack has room;
+  'process 0', 'take 0' and 'drain', each if possible; the request at hand is asked once
+A request that is accepted, or refused with 1, 2 or 11, is followed by the next one; one that is
+refused with 3 to 10 is asked again in the next round. A round is a step of this schedule, and no
+time of any hardware.
+Writes each request with its answer, and each other event that did something, as 'check' reads
+them. With --summary, in their place, one line of counts: rounds, the last of which moves nothing;
+requests accepted and denied; of those accepted how many found their word (hits), a block under
+way (joins) or neither (misses); requests that stalled; rounds lost by each cause; loads answered,
+their mean and longest wait in rounds; the most registers in use at once; words written back.
+
+Statuses: 0 done, 2 the command line is wrong, 3 the shape file is wrong, 4 a line is faulty or a
+stream failed, 5 there is too little memory.
+
+Example:
+  $ echo 'load 1 0' | kroft drive
+  load 1 0 -> accepted
+  serve 0 -> moved
+  serve 1 -> moved
+  serve 2 -> moved
+  serve 3 -> moved
+  arrive 0 0 -> moved
+  process 0 -> moved
+  take 0 -> value 1 00000000
+  arrive 1 0 -> moved
+  process 0 -> moved
+  arrive 2 0 -> moved
+  process 0 -> moved
+  arrive 3 0 -> moved
+  process 0 -> moved";
+
 // The argument for the shape file. It may stand before or behind the subcommand.
 fn shape_argument<'a>(alloc: Global) -> Arg<'a> {
     Arg::new(alloc, "shape")
@@ -171,6 +218,30 @@ fn subcommand<'a>(
         .after_help(notes)
         .arg(shape_argument(alloc))?
         .arg(trace_argument(alloc))
+}
+
+// The subcommand that drives requests in rounds.
+fn drive_command<'a>(alloc: Global) -> Result<Command<'a>, AllocError> {
+    subcommand(
+        alloc,
+        "drive",
+        "Drive requests in rounds, with a latency of memory",
+        DRIVE_NOTES,
+    )?
+    .arg(
+        Arg::new(alloc, "latency")
+            .long("latency")
+            .value_name("L")
+            .action(ArgAction::Set)
+            .value_parser(clap::value_parser!(u64).range(0..=1_000))
+            .help("Rounds from a command's begin to its service, 0 to 1000 [default: 10]"),
+    )?
+    .arg(
+        Arg::new(alloc, "summary")
+            .long("summary")
+            .action(ArgAction::SetTrue)
+            .help("Write counts in place of the run"),
+    )
 }
 
 // The program's whole command line.
@@ -202,7 +273,16 @@ fn program<'a>(alloc: Global) -> Result<Command<'a>, AllocError> {
             "explain",
             "Say why a recorded run is none of flat memory",
             EXPLAIN_NOTES,
-        )?)
+        )?)?
+        .subcommand(drive_command(alloc)?)
+}
+
+// What the words behind `drive` ask for.
+fn drive_task(rest: &ArgMatches<'_>) -> Task {
+    Task::Drive {
+        latency: rest.get_one::<u64>("latency").unwrap_or(USUAL_LATENCY),
+        summary: rest.get_flag("summary"),
+    }
 }
 
 /// Reads the words behind the program's name. Help and the version come as an error too, which
@@ -215,6 +295,7 @@ pub fn read_words<'a>(alloc: Global, words: &'a [&'a str]) -> Result<CommandLine
         Some(("check", rest)) => (Task::Check, rest.get_str("shape"), rest.get_str(TRACE)),
         Some(("sweep", rest)) => (Task::Sweep, rest.get_str("shape"), rest.get_str(TRACE)),
         Some(("explain", rest)) => (Task::Explain, rest.get_str("shape"), rest.get_str(TRACE)),
+        Some(("drive", rest)) => (drive_task(rest), rest.get_str("shape"), rest.get_str(TRACE)),
         Some((_, rest)) => (Task::Run, rest.get_str("shape"), rest.get_str(TRACE)),
         None => (Task::Run, None, None),
     };

@@ -5,7 +5,10 @@ ghost use Rattle.std.specs.Prelude.{◌≤◌, IfOk};
 use crate::command_line::{Task, read_words};
 use crate::fault::ToolFault;
 use clap::error::ErrorKind;
-use kroft_jobs::{JobFault, Verdict, check, explain, serve, sweep_registers};
+use kroft_jobs::{
+    JobFault, MOST_LATENCY, Verdict, check, drive_requests, explain, serve, summarize_requests,
+    sweep_registers,
+};
 use shape_files::{ShapeFault, ToolShape, bad_field, read_shape};
 use std::alloc::Global;
 use std::io::{Read, Write};
@@ -82,6 +85,9 @@ fn work<R: AllocGlobal + Files + Threads + Sync, I: Read, O: Write>(
         Task::Check => judge(rt.alloc(), &shape, input, output)?,
         Task::Sweep => compare(rt, &shape, input, output)?,
         Task::Explain => reason(rt.alloc(), &shape, input, output)?,
+        Task::Drive { latency, summary } => {
+            go_round(rt.alloc(), &shape, latency, summary, input, output)?
+        }
     };
     Ok(status)
 }
@@ -142,6 +148,31 @@ fn reason<I: Read, O: Write>(
     show(output, format_args!("{explanation}\n"))?;
     finish(output)?;
     Ok(explanation.status())
+}
+
+// Drives the requests in rounds, and writes the run or what it counts.
+fn go_round<I: Read, O: Write>(
+    alloc: Global,
+    tool: &ToolShape,
+    latency: u64,
+    summary: bool,
+    input: &mut I,
+    output: &mut O,
+) -> Result<u8, JobFault>
+    ensures { IfOk result (λ status. status ≤ 1) }
+{
+    if let Some(field) = bad_field(tool) {
+        return Err(JobFault::Shape(ShapeFault::BadShape(field)));
+    }
+    let latency = latency.min(MOST_LATENCY);
+    if summary {
+        let table = summarize_requests(alloc, tool, latency, input)?;
+        show(output, format_args!("{table}\n"))?;
+    } else {
+        drive_requests(alloc, tool, latency, input, output)?;
+    }
+    finish(output)?;
+    Ok(0)
 }
 
 // Serves the requests with 1, 2, 4 and 8 registers.

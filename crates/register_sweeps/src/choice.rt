@@ -1,13 +1,14 @@
 //! The one choice among the eight machines of 1 or 2 ways and 1, 2, 4 or 8 registers.
 
-ghost use Rattle.std.specs.Prelude.{◌≡◌, ◌^◌, ◌<◌, None, IfOk};
+ghost use Rattle.std.specs.Prelude.{◌≡◌, ◌^◌, ◌<◌, ◌≤◌, None, IfOk};
 ghost use Rattle.machine_core.specs.Machine.{MachineState};
 ghost use Rattle.machine_core.specs.Law.{most_weight};
 ghost use Rattle.shape_files.specs.ShapeFile.{bad_field};
 ghost use Rattle.register_sweeps.specs.Sweep.{new_machine};
 
 use flat_model::{MakeFault, Word};
-use machine_core::{AnyMachine, Machine};
+use machine_core::Machine;
+use round_driver::RoundMachine;
 use shape_files::ToolShape;
 use std::alloc::{AllocError, Global};
 
@@ -26,8 +27,9 @@ pub trait MachineJob {
     ghost holds_same: { Self → Self → Type 0 };
 
     /// Does it.
-    fn work<M: AnyMachine>(&mut self, machine: &mut M) -> Self::Done
+    fn work<M: RoundMachine>(&mut self, machine: &mut M) -> Self::Done
         requires can { can self.old }
+        requires banks { (M.state machine.old).sizes.banks ≤ 16 }
         requires few { most_weight (M.state machine.old).sizes < 2 ^ 32 }
         ensures done { done self.old (M.state machine.old) self.new result }
         ensures same { holds_same self.old self.new };
@@ -86,6 +88,7 @@ fn machine_of<const WAYS: usize, const REGS: usize>(
     requires ways { tool.now.ways ≡ WAYS }
     requires regs { tool.now.regs ≡ REGS }
     ensures machine { IfOk result (λ machine. machine ≡ new_machine tool.now) }
+    ensures banks { IfOk result (λ machine. machine.sizes.banks ≤ 16) }
     ensures few { IfOk result (λ machine. most_weight machine.sizes < 2 ^ 32) }
 {
     let image = vec![in alloc; Word::default(); tool.shape.words as usize]?;

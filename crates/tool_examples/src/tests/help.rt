@@ -43,6 +43,7 @@ fn help_of_the_program(rt: HostRuntime) -> Result<(), Fail> {
         "  check    Tell whether a recorded run is one of flat memory",
         "  sweep    Count what requests wait for",
         "  explain  Say why a recorded run is none of flat memory",
+        "  drive    Drive requests in rounds, with a latency of memory",
         "      --shape <FILE>",
         "reads standard input",
         "writes standard output",
@@ -73,6 +74,7 @@ fn help_of_the_subcommands(rt: HostRuntime) -> Result<(), Fail> {
         ("check", "take 0 -> value 1 00000000\n", 1),
         ("sweep", "load 1 0\n", 0),
         ("explain", "take 0 -> value 1 00000000\n", 1),
+        ("drive", "load 1 0\n", 0),
     ];
     for (name, input, status) in examples {
         let help = output_of(&rt, &[name, "--help"], "", 0)?;
@@ -121,7 +123,7 @@ fn help_lists_every_line(rt: HostRuntime) -> Result<(), Fail> {
 
 #[test]
 fn a_trace_named_as_a_word_is_refused(rt: HostRuntime) -> Result<(), Fail> {
-    for name in ["run", "check", "sweep", "explain"] {
+    for name in ["run", "check", "sweep", "explain", "drive"] {
         let mut output = Vec::new(rt.alloc());
         let mut errors = Vec::new(rt.alloc());
         let words = [name, "examples/first_run.trace"];

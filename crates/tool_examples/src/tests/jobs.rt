@@ -106,7 +106,7 @@ impl Read for FailsOnce {
 
 #[test]
 fn a_failed_read_ends_each_job(rt: HostRuntime) -> Result<(), Fail> {
-    for job in ["run", "check", "sweep", "explain"] {
+    for job in ["run", "check", "sweep", "explain", "drive"] {
         let mut input = FailsOnce {
             calls: 0,
             text: b"",
@@ -158,6 +158,7 @@ fn a_refused_write_or_flush_ends_each_job(rt: HostRuntime) -> Result<(), Fail> {
         ("sweep", "load 1 0\n"),
         ("explain", "drain -> nothing\n"),
         ("explain", "drain -> accepted\n"),
+        ("drive", "load 1 0\n"),
         ("--help", ""),
     ];
     for (job, input) in jobs {

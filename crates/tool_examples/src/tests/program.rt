@@ -81,6 +81,54 @@ regs 8 accepted 3 denied 0 stalled 0 waited 0 pumps 39 values 3
 // Written where the test runs, and removed at its end.
 const SHAPE_FILE: &str = "kroft_tool_test_shape.toml";
 
+// One load: its block's four words are served in the same round, and one of them arrives in each
+// round from then on.
+#[test]
+fn drive_of_one_load(rt: HostRuntime) -> Result<(), Fail> {
+    let run = "load 1 0 -> accepted
+serve 0 -> moved
+serve 1 -> moved
+serve 2 -> moved
+serve 3 -> moved
+arrive 0 0 -> moved
+process 0 -> moved
+take 0 -> value 1 00000000
+arrive 1 0 -> moved
+process 0 -> moved
+arrive 2 0 -> moved
+process 0 -> moved
+arrive 3 0 -> moved
+process 0 -> moved
+";
+    ends(&rt, &["drive"], "load 1 0\n", (0, run, ""))?;
+    ends(
+        &rt,
+        &["drive", "--latency", "1000"],
+        "load 1 0\n",
+        (0, run, ""),
+    )?;
+    ends(&rt, &["check"], run, (0, "flat run, 14 steps\n", ""))
+}
+
+// The load waits from round 1 to round 2 without a latency, and ten rounds more with the usual one.
+#[test]
+fn summary_of_one_load(rt: HostRuntime) -> Result<(), Fail> {
+    let words = ["drive", "--latency", "0", "--summary"];
+    let table = "rounds 6 accepted 1 denied 0 hits 0 joins 0 misses 1 stalled 0 \
+        lost 3:0 4:0 5:0 7:0 8:0 9:0 10:0 values 1 mean 1.00 longest 1 registers 1 written 0\n";
+    ends(&rt, &words, "load 1 0\n", (0, table, ""))?;
+    let usual = "rounds 16 accepted 1 denied 0 hits 0 joins 0 misses 1 stalled 0 \
+        lost 3:0 4:0 5:0 7:0 8:0 9:0 10:0 values 1 mean 11.00 longest 11 registers 1 written 0\n";
+    ends(&rt, &["drive", "--summary"], "load 1 0\n", (0, usual, ""))
+}
+
+// The requests are read before anything is written.
+#[test]
+fn drive_of_a_faulty_line(rt: HostRuntime) -> Result<(), Fail> {
+    let input = "load 1 0\nload 1\n";
+    ends(&rt, &["drive"], input, (4, "", "line 2: bad field\n"))
+}
+
 #[test]
 fn shape_files(rt: HostRuntime) -> Result<(), Fail> {
     let behind = ["run", "--shape", SHAPE_FILE];
@@ -145,7 +193,11 @@ fn faulty_lines(rt: HostRuntime) -> Result<(), Fail> {
 
 #[test]
 fn refused_words(rt: HostRuntime) -> Result<(), Fail> {
-    let refused: [&[&str]; 8] = [
+    let refused: [&[&str]; 12] = [
+        &["drive", "--latency", "1001"],
+        &["drive", "--latency", "x"],
+        &["drive", "--latency"],
+        &["run", "--summary"],
         &[],
         &["help"],
         &["walk"],

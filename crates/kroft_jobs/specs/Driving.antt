@@ -1,0 +1,27 @@
+-- What becomes of the requests of a trace that are driven in rounds.
+use Rattle.std.specs.Prelude.{◌≡◌, ◌⊎◌, ◌+◌, ℕ, List, Result, Ok, Err}
+use Rattle.flat_model.specs.declared.Event.{Event}
+use Rattle.machine_core.specs.Machine.{MachineState}
+use Rattle.trace_text.specs.Streams.{Moves}
+use Rattle.trace_text.specs.Reading.{ReadWhole, ReadFails}
+use Rattle.trace_text.specs.Requests.{requests_of}
+use Rattle.trace_text.specs.Serving.{trace_fault}
+use Rattle.trace_text.specs.declared.fault.TraceFault.{TraceFault}
+use Rattle.trace_text.specs.declared.fault.TraceFault.TheVariants.{OutOfMemory}
+use Rattle.round_driver.specs.Rounds.{start_of, rounds_until_over, whole_run}
+use Rattle.round_driver.specs.Written.{run_text, BreaksOff}
+
+-- The run of these requests is written and its rounds are told. Or the writing broke off behind a round, or nothing is
+-- written for want of memory.
+abbrev pub IsDriven : {W : Type 0} (took : W → List ℕ → W → Type 0) (refused : W → W → Type 0) (latency : ℕ) (s : MachineState) (requests : List Event) (old new : W) → Result ℕ TraceFault → Type 0
+IsDriven took refused latency s requests old new (Ok rounds) =
+    Moves took old (run_text (whole_run latency s requests).told) new × (rounds ≡ (whole_run latency s requests).schedule.round + 1)
+IsDriven took refused latency s requests old new (Err fault) =
+    ((fault ≡ OutOfMemory) × (new ≡ old)) ⊎ ((n : ℕ) × BreaksOff took refused old (run_text (rounds_until_over n (start_of latency s requests)).told) new fault)
+
+-- The requests of the input are driven, or it couldn't be read to its end, and then nothing is written.
+abbrev pub DrivesAll : {R W : Type 0} (gave : R → List ℕ → R → Type 0) (failed : R → R → Type 0) (took : W → List ℕ → W → Type 0) (refused : W → W → Type 0) (latency : ℕ) (s : MachineState) (input input' : R) (output output' : W) → Result ℕ TraceFault → Type 0
+DrivesAll gave failed took refused latency s input input' output output' (Ok rounds) =
+    (texts : List (List ℕ)) × ReadWhole gave trace_fault 64 input input' texts × IsDriven took refused latency s (requests_of texts) output output' (Ok rounds)
+DrivesAll gave failed took refused latency s input input' output output' (Err fault) =
+    (ReadFails gave failed trace_fault 64 input input' fault × (output' ≡ output)) ⊎ ((texts : List (List ℕ)) × ReadWhole gave trace_fault 64 input input' texts × IsDriven took refused latency s (requests_of texts) output output' (Err fault))
