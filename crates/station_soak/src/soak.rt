@@ -1,11 +1,17 @@
 //! A soak: many stations, each with numbers, scripts and a gate at random, run on threads to its
 //! end and looked at.
 
+ghost use Rattle.std.specs.Prelude.{◌≡◌, vec_len};
+ghost use Rattle.station_parts.specs.Station.{AreOneStation};
+
 use crate::fault::SoakFault;
 use crate::random_gate::RandomGate;
 use crate::trial::{Draws, Trial};
-use ring_station::{RunFault, Station, audit, run_threads, station};
+use ring_station::{
+    BankSide, CacheSide, Port, RunFault, Station, Told, audit, run_threads, station,
+};
 use station_checks::{Findings, Outcome, read_journal};
+use std::alloc::{AllocError, Global};
 use std::io::Write;
 use std::thread::Threads;
 
@@ -53,39 +59,112 @@ fn run_any<R: AllocGlobal + Threads + Sync>(
 ) -> Result<Findings, SoakFault> {
     let draws = Draws::new(seed, number);
     match number % 4 {
-        0 => run_station::<R, 1, 1, 1, 1>(rt, draws),
-        1 => run_station::<R, 8, 16, 16, 16>(rt, draws),
-        2 => run_station::<R, 2, 4, 4, 4>(rt, draws),
-        _ => run_station::<R, 3, 2, 5, 1>(rt, draws),
+        0 => run_least(rt, draws),
+        1 => run_most(rt, draws),
+        2 => run_common(rt, draws),
+        _ => run_uneven(rt, draws),
     }
 }
 
-// Makes a station of drawn numbers, runs it with scripts and a gate that are drawn, and looks at what
-// the run left.
-fn run_station<
+// Makes a station of drawn numbers over the given ways, words of a block, registers and places of the
+// stack, runs it, and looks at what the run left.
+macro_rules! run_station {
+    ($rt:ident, $draws:ident, $ways:literal, $words:literal, $regs:literal, $depth:literal) => {{
+        let trial = Trial::draw(&mut $draws, $words);
+        let mut station = station::<$ways, $words, $regs, $depth>(
+            $rt.alloc(),
+            trial.shape,
+            trial.ports,
+            trial.journal,
+        )?;
+        let ran = run_one($rt, &mut $draws, &trial, &mut station)?;
+        look_at(
+            $rt.alloc(),
+            &mut station.cache,
+            &mut station.ports,
+            &mut station.banks,
+            trial.shape.words,
+            ran,
+        )
+    }};
+}
+
+// One station with the least of each.
+fn run_least<R: AllocGlobal + Threads + Sync>(
+    rt: &R,
+    mut draws: Draws,
+) -> Result<Findings, SoakFault> {
+    run_station!(rt, draws, 1, 1, 1, 1)
+}
+
+// One station with the most of each.
+fn run_most<R: AllocGlobal + Threads + Sync>(
+    rt: &R,
+    mut draws: Draws,
+) -> Result<Findings, SoakFault> {
+    run_station!(rt, draws, 8, 16, 16, 16)
+}
+
+// One station with the program's usual numbers.
+fn run_common<R: AllocGlobal + Threads + Sync>(
+    rt: &R,
+    mut draws: Draws,
+) -> Result<Findings, SoakFault> {
+    run_station!(rt, draws, 2, 4, 4, 4)
+}
+
+// One station whose numbers are no powers of two.
+fn run_uneven<R: AllocGlobal + Threads + Sync>(
+    rt: &R,
+    mut draws: Draws,
+) -> Result<Findings, SoakFault> {
+    run_station!(rt, draws, 3, 2, 5, 1)
+}
+
+// What a run gave: a list for each port, or why it gave none.
+type Ran = Result<Vec<Vec<Told>>, RunFault>;
+
+// Runs a new station with scripts and a gate that are drawn.
+fn run_one<
     R: AllocGlobal + Threads + Sync,
     const WAYS: usize,
     const WORDS: usize,
     const REGS: usize,
     const DEPTH: usize,
->(rt: &R, mut draws: Draws) -> Result<Findings, SoakFault> {
+>(
+    rt: &R,
+    draws: &mut Draws,
+    trial: &Trial,
+    station: &mut Station<WAYS, WORDS, REGS, DEPTH>,
+) -> Result<Ran, AllocError>
+    requires one { AreOneStation station.old.cache station.old.ports.items station.old.banks.items }
+    requires ports { vec_len station.old.ports ≡ trial.now.ports }
+    ensures { AreOneStation station.new.cache station.new.ports.items station.new.banks.items }
+{
     let alloc = rt.alloc();
-    let trial = Trial::draw(&mut draws, WORDS.min(16) as u32);
-    let scripts = trial.scripts(alloc, &mut draws)?;
-    let gate = RandomGate::draw(alloc, &mut draws)?;
-    let mut station: Station<WAYS, WORDS, REGS, DEPTH> = station(
-        alloc,
-        trial.shape,
-        trial.ports,
-        trial.journal,
-    )?;
-    let lists = match run_threads(rt, alloc, &mut station, &scripts, trial.turns, &gate) {
+    let scripts = trial.scripts(alloc, draws)?;
+    let gate = RandomGate::draw(alloc, draws)?;
+    Ok(run_threads(rt, alloc, station, &scripts, trial.turns, &gate))
+}
+
+// What a run left of the parts of a station with so many words of memory.
+fn look_at<const WAYS: usize, const WORDS: usize, const REGS: usize, const DEPTH: usize>(
+    alloc: Global,
+    cache: &mut CacheSide<WAYS, WORDS, REGS, DEPTH>,
+    ports: &mut [Port],
+    banks: &mut [BankSide],
+    words: u32,
+    ran: Ran,
+) -> Result<Findings, SoakFault>
+    requires { AreOneStation cache.old ports.old banks.old }
+{
+    let lists = match ran {
         Ok(lists) => Some(lists),
         Err(RunFault::TurnLimit) => None,
         Err(RunFault::OutOfMemory) => return Err(SoakFault::OutOfMemory),
     };
-    let audit = audit(&mut station.cache, &mut station.ports, &mut station.banks);
-    let journal = read_journal(alloc, &station.cache)?;
+    let audit = audit(cache, ports, banks);
+    let journal = read_journal(alloc, cache)?;
     let lists = lists.as_ref().map(|lists| lists.as_slice());
-    Ok(Findings::of_run(alloc, audit, &journal, trial.shape.words, lists)?)
+    Ok(Findings::of_run(alloc, audit, &journal, words, lists)?)
 }
