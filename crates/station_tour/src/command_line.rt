@@ -1,10 +1,7 @@
 //! The words of the command line.
-ghost use Rattle.std.specs.Prelude.{◌≤◌, IfOk};
-
 use crate::fault::TourFault;
-use crate::plan::Plan;
-use crate::rates::Server;
-use clap::{Arg, ArgAction, ArgMatches, Command};
+use clap::{Arg, ArgAction, Command};
+use station_checks::Plan;
 use std::alloc::{AllocError, Global};
 
 /// What is to be shown.
@@ -14,12 +11,6 @@ pub enum Show {
     Story,
     /// The journal, as a recorded run.
     Journal,
-    /// How so many stations at random end.
-    Soak { stations: u32 },
-    /// How many asks a second are served.
-    Rates,
-    /// Nothing: the requests of the rates are served once.
-    Once(Server),
 }
 
 /// What the words of the command line ask for.
@@ -94,28 +85,6 @@ fn program<'a>(alloc: Global) -> Result<Command<'a>, AllocError> {
             alloc,
             "journal",
             "Write the journal alone, as a recorded run",
-        ))?
-        .arg(number(
-            alloc,
-            "soak",
-            "N",
-            1_000_000,
-            "Run N stations at random in place of the tour, and look at what each left",
-        ))?
-        .arg(flag(
-            alloc,
-            "rates",
-            "Tell how many asks a second are served, of sixteen times the asks of a port",
-        ))?
-        .arg(flag(
-            alloc,
-            "core-once",
-            "Serve the requests of --rates once by the core, and tell nothing",
-        ))?
-        .arg(flag(
-            alloc,
-            "hand-once",
-            "Serve them once by a station that is stepped by hand, and tell nothing",
         ))
 }
 
@@ -126,24 +95,13 @@ pub fn read_words(alloc: Global, words: &[&str]) -> Result<CommandLine, TourFaul
     let ports = matches.get_one::<u32>("ports").unwrap_or(4);
     let asks = matches.get_one::<u32>("asks").unwrap_or(12);
     let seed = matches.get_one::<u32>("seed").unwrap_or(1);
-    Ok(CommandLine {
-        plan: Plan::new(ports, asks, u64::from(seed)),
-        show: what_to_show(&matches),
-    })
-}
-
-fn what_to_show(matches: &ArgMatches) -> Show {
-    if let Some(stations) = matches.get_one::<u32>("soak") {
-        Show::Soak { stations }
-    } else if matches.get_flag("rates") {
-        Show::Rates
-    } else if matches.get_flag("core-once") {
-        Show::Once(Server::Core)
-    } else if matches.get_flag("hand-once") {
-        Show::Once(Server::Hand)
-    } else if matches.get_flag("journal") {
+    let show = if matches.get_flag("journal") {
         Show::Journal
     } else {
         Show::Story
-    }
+    };
+    Ok(CommandLine {
+        plan: Plan::new(ports, asks, u64::from(seed)),
+        show,
+    })
 }

@@ -1,7 +1,7 @@
 //! A gate that lets all go, but makes a port wait a little before it offers an ask again.
 
-use crate::lines::passes;
 use ring_station::{Actor, Gate, Told};
+use station_checks::passes;
 use std::alloc::{AllocError, Global};
 use std::sync::atomic::{AtomicU32, Ordering};
 

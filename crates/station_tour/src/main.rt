@@ -2,27 +2,18 @@
 //! the audit and flat memory say of it.
 #![tactic(auto)]
 
-mod checks;
 mod command_line;
 mod fault;
 mod gate;
-mod lines;
-mod plan;
-mod rates;
 mod run;
-mod soak;
-mod story;
 
-use crate::checks::{Findings, Outcome, are_told, is_flat, read_journal};
 use crate::command_line::{CommandLine, Show, read_words};
 use crate::fault::TourFault;
-use crate::plan::{Plan, WORDS};
-use crate::rates::{serve_once, tell_rates};
-use crate::run::{Ran, run_on_threads};
-use crate::soak::soak;
-use crate::story::{tell_journal, tell_run, tell_story};
+use crate::run::run_on_threads;
 use clap::error::ErrorKind;
-use std::alloc::{AllocError, Global};
+use station_checks::{
+    Findings, Outcome, Plan, WORDS, read_journal, tell_journal, tell_run, tell_story,
+};
 use std::io::{BufWriter, Print, Write};
 use std::process::ExitCode;
 use std::rt::{Clock, Env};
@@ -65,13 +56,7 @@ fn start<R: AllocGlobal + Clock + Env + Print + Threads + Sync, E: Print>(
     let CommandLine { plan, show } = read_words(alloc, &texts)?;
     let mut output = BufWriter::new(alloc, io::writer(rt))?;
     let mut errors = io::writer(errors);
-    let is_good = match show {
-        Show::Story => tour(rt, &mut output, &mut errors, &plan, false)?,
-        Show::Journal => tour(rt, &mut output, &mut errors, &plan, true)?,
-        Show::Rates => tell_rates(rt, &mut output, &plan)?,
-        Show::Once(server) => serve_once(rt, server, &plan)?,
-        Show::Soak { stations } => soak(rt, &mut output, &mut errors, stations, plan.seed)?,
-    };
+    let is_good = tour(rt, &mut output, &mut errors, &plan, show)?;
     output.flush()?;
     Ok(u8::from(!is_good))
 }
@@ -82,29 +67,20 @@ fn tour<R: AllocGlobal + Clock + Threads + Sync, W: Write, E: Write>(
     output: &mut W,
     errors: &mut E,
     plan: &Plan,
-    journal: bool,
+    show: Show,
 ) -> Result<bool, TourFault> {
-    let scripts = plan.scripts(rt.alloc())?;
+    let alloc = rt.alloc();
+    let scripts = plan.scripts(alloc)?;
     let begun = Instant::now(rt)?;
     let ran = run_on_threads(rt, plan, &scripts)?;
     let took = begun.elapsed(rt)?;
-    let findings = look_at(rt.alloc(), &ran)?;
-    if journal {
-        tell_journal(output, &ran)?;
-    } else {
-        tell_story(output, plan, &scripts, &ran, &findings)?;
+    let journal = read_journal(alloc, &ran.station.cache)?;
+    let findings = Findings::of_run(alloc, ran.audit, &journal, WORDS, Some(&ran.lists))?;
+    match show {
+        Show::Story => tell_story(output, plan, &scripts, &ran.lists, &findings)?,
+        Show::Journal => tell_journal(output, &journal)?,
     }
     output.flush()?;
-    tell_run(errors, plan, &ran, took)?;
+    tell_run(errors, plan, &journal, &ran.lists, took)?;
     Ok(findings.outcome() == Outcome::Good)
-}
-
-// What is found of a station behind its run.
-fn look_at(alloc: Global, ran: &Ran) -> Result<Findings, AllocError> {
-    let journal = read_journal(alloc, &ran.station.cache)?;
-    Ok(Findings {
-        audit: ran.audit,
-        is_flat: is_flat(alloc, &journal, WORDS)?,
-        are_told: Some(are_told(alloc, &journal, &ran.lists)?),
-    })
 }

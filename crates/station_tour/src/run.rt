@@ -4,8 +4,8 @@ ghost use Rattle.std.specs.Prelude.{◌≡◌, length};
 
 use crate::fault::TourFault;
 use crate::gate::PatientGate;
-use crate::plan::{BLOCK_WORDS, DEPTH, ENTRIES, Plan, REGS, WAYS, shape};
-use ring_station::{Ask, Audit, CacheSide, Station, Told, audit, run_threads, station};
+use ring_station::{Ask, Audit, Station, Told, audit, run_threads, station};
+use station_checks::{BLOCK_WORDS, DEPTH, ENTRIES, Plan, REGS, WAYS, shape};
 use std::thread::Threads;
 
 // Turns of each thread. A run uses them up only if its journal becomes full, and then in a minute
@@ -14,9 +14,6 @@ const TURNS: u64 = 100_000_000;
 
 /// The station of a tour.
 pub type TourStation = Station<WAYS, BLOCK_WORDS, REGS, DEPTH>;
-
-/// Its side on which the cache is.
-pub type TourCache = CacheSide<WAYS, BLOCK_WORDS, REGS, DEPTH>;
 
 /// A station behind its run.
 #[derive(Drop)]

@@ -1,0 +1,108 @@
+//! What is found of a station behind its run.
+ghost use Rattle.std.specs.Prelude.{◌≡◌, ◌↔◌, ◌∷◌, [], true, IfOk};
+ghost use Rattle.station_journal.specs.Journal.{events_of, answers_of};
+ghost use Rattle.station_journal.specs.Parts.{told_of};
+ghost use Rattle.station_parts.specs.Words.{journal_of};
+ghost use Rattle.station_checks.specs.Checks.{is_flat, AreTold, told_list};
+
+use flat_model::{Answer, Event, FlatMemory, ReplayFault, Word};
+use station_journal::{Entry, Source, Told};
+use station_parts::CacheSide;
+use std::alloc::{AllocError, Global};
+
+/// The entries of a journal, oldest first. `AllocError` says that there was too little memory.
+pub fn read_journal<const WAYS: usize, const WORDS: usize, const REGS: usize, const DEPTH: usize>(
+    alloc: Global,
+    cache: &CacheSide<WAYS, WORDS, REGS, DEPTH>,
+) -> Result<Vec<Entry>, AllocError>
+    ensures { IfOk result (λ entries. entries.items ≡ journal_of cache.now) }
+{
+    let mut entries = Vec::new(alloc);
+    for place in 0..cache.entries() {
+        if let Some(entry) = cache.entry(place) {
+            entries.push(entry)?;
+        }
+    }
+    Ok(entries)
+}
+
+/// Whether the events and answers of a journal are a run of flat memory of so many words that
+/// begins with zeros. `AllocError` says that there was too little memory.
+pub fn is_flat(alloc: Global, journal: &[Entry], words: u32) -> Result<bool, AllocError>
+    ensures { IfOk result (λ found. found ≡ is_flat words journal.now) }
+{
+    let (events, answers) = pairs_in(alloc, journal)?;
+    let zeros = vec![in alloc; Word::default(); words as usize]?;
+    let mut memory = FlatMemory::new(alloc, &zeros)?;
+    match memory.replay(alloc, &events, &answers) {
+        Ok(()) => Ok(true),
+        Err(ReplayFault::Lengths) => Ok(false),
+        Err(ReplayFault::Mismatch { .. }) => Ok(false),
+        Err(ReplayFault::OutOfMemory) => Err(AllocError),
+    }
+}
+
+// The events of a journal and their answers.
+fn pairs_in(alloc: Global, journal: &[Entry]) -> Result<(Vec<Event>, Vec<Answer>), AllocError>
+    ensures events { IfOk result (λ pairs. pairs.0.items ≡ events_of journal.now) }
+    ensures answers { IfOk result (λ pairs. pairs.1.items ≡ answers_of journal.now) }
+{
+    let mut events = Vec::new(alloc);
+    let mut answers = Vec::new(alloc);
+    for entry in journal {
+        if let Entry::Step { event, answer, .. } = *entry {
+            events.push(event)?;
+            answers.push(answer)?;
+        }
+    }
+    Ok((events, answers))
+}
+
+/// Whether each list is what a journal tells the port of its number, in order. `AllocError` says that
+/// there was too little memory.
+pub fn are_told(alloc: Global, journal: &[Entry], lists: &[Vec<Told>]) -> Result<bool, AllocError>
+    ensures { IfOk result (λ found. (found ≡ true) ↔ AreTold journal.now lists.now) }
+{
+    for port in 0..lists.len() {
+        let told = told_in(alloc, journal, port)?;
+        if told != lists[port] {
+            return Ok(false);
+        }
+    }
+    Ok(true)
+}
+
+// What a journal tells a port.
+fn told_in(alloc: Global, journal: &[Entry], port: usize) -> Result<Vec<Told>, AllocError>
+    ensures { IfOk result (λ told. told.items ≡ told_of port journal.now) }
+{
+    let mut told = Vec::new(alloc);
+    for entry in journal {
+        if let Some(telling) = telling_of(*entry, port) {
+            told.push(telling)?;
+        }
+    }
+    Ok(told)
+}
+
+// What an entry tells a port.
+fn telling_of(entry: Entry, port: usize) -> Option<Told>
+    ensures { told_list result ≡ told_of port (entry ∷ []) }
+{
+    let Entry::Step { source, answer, .. } = entry else {
+        return None;
+    };
+    match (source, answer) {
+        (Source::Ask(asker), Answer::Accepted) if asker as usize == port => Some(Told::Accepted),
+        (Source::Ask(asker), Answer::Refused(cause)) if asker as usize == port => {
+            Some(Told::Refused(cause))
+        }
+        (Source::Reply(_), Answer::Value { tag, word }) if usize::from(tag / 256) == port => {
+            Some(Told::Value {
+                tag: (tag % 256) as u8,
+                word,
+            })
+        }
+        _ => None,
+    }
+}

@@ -1,0 +1,76 @@
+//! What is found of a station behind its run, and what it comes to.
+ghost use Rattle.std.specs.Prelude.{◌≡◌, ◌≢◌, ◌↔◌, true, Some, None, IfOk};
+ghost use Rattle.std.specs.Option.{option_map};
+ghost use Rattle.station_checks.specs.Checks.{is_flat, FindsTold};
+
+use crate::checks::{are_told, is_flat};
+use station_journal::{Entry, Told};
+use station_parts::Audit;
+use std::alloc::{AllocError, Global};
+
+/// What a station's run came to.
+#[derive(Clone, Copy, PartialEq, Eq, Debug)]
+pub enum Outcome {
+    /// Each thread came to its end, and all that was looked for was found.
+    Good,
+    /// A thread came to its limit, and nothing wrong was found.
+    TurnLimit,
+    /// Something wrong was found.
+    Failed,
+}
+
+/// What was found of a station behind its run.
+#[derive(Clone, Copy, PartialEq, Eq, Debug)]
+pub struct Findings {
+    /// What the audit found.
+    pub audit: Audit,
+    /// Whether the journal is a run of flat memory.
+    pub is_flat: bool,
+    /// Whether each port's list is the journal's part of it. A run that came to a limit leaves no
+    /// lists.
+    pub are_told: Option<bool>,
+}
+
+impl Findings {
+    /// What is found of a journal over so many words of memory, and of the lists that the ports took,
+    /// beside what the audit found. `AllocError` says that there was too little memory.
+    pub fn of_run(
+        alloc: Global,
+        audit: Audit,
+        journal: &[Entry],
+        words: u32,
+        lists: Option<&[Vec<Told>]>,
+    ) -> Result<Findings, AllocError>
+        ensures audit { IfOk result (λ found. found.audit ≡ audit) }
+        ensures flat { IfOk result (λ found. found.is_flat ≡ is_flat words journal.now) }
+        ensures told { IfOk result (λ found. FindsTold journal.now (option_map (λ l. l.now) lists.entry) found.are_told) }
+    {
+        let are_told = match lists {
+            Some(lists) => Some(are_told(alloc, journal, lists)?),
+            None => None,
+        };
+        Ok(Findings {
+            audit,
+            is_flat: is_flat(alloc, journal, words)?,
+            are_told,
+        })
+    }
+
+    /// What they come to.
+    pub fn outcome(&self) -> Outcome
+        ensures good { (result ≡ Outcome.Good)
+            ↔ ((self.now.audit ≡ Audit.Clean) × (self.now.is_flat ≡ true)
+            × (self.now.are_told ≡ Some true)) }
+        ensures limit { (result ≡ Outcome.TurnLimit)
+            ↔ ((self.now.audit ≢ Audit.Faulted) × (self.now.is_flat ≡ true)
+            × (self.now.are_told ≡ None)) }
+    {
+        match (self.audit, self.is_flat, self.are_told) {
+            (Audit::Clean, true, Some(true)) => Outcome::Good,
+            (Audit::Clean | Audit::Left { .. } | Audit::Owed { .. }, true, None) => {
+                Outcome::TurnLimit
+            }
+            _ => Outcome::Failed,
+        }
+    }
+}

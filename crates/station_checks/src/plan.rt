@@ -1,0 +1,138 @@
+//! What the ports of a tour ask, made from a seed.
+ghost use Rattle.std.specs.Prelude.{◌≡◌, ◌≤◌, ◌<◌, true, IfOk, vec_len};
+ghost use Rattle.std.specs.List.{All};
+ghost use Rattle.station_journal.specs.Conversation.{is_request};
+ghost use Rattle.station_checks.specs.Scripts.{AreRequests};
+
+use flat_model::{Lanes, Shape, Word};
+use rand_core::utils::NextWord;
+use rand_pcg::Pcg32;
+use station_journal::Ask;
+use std::alloc::{AllocError, Global};
+
+/// Words of a block.
+pub const BLOCK_WORDS: usize = 4;
+
+/// Ways of a set.
+pub const WAYS: usize = 2;
+
+/// Registers of the cache.
+pub const REGS: usize = 4;
+
+/// Places of the input stack.
+pub const DEPTH: usize = 4;
+
+/// Words of memory. Each port has some of its own, so there are more than ports.
+pub const WORDS: u32 = 64;
+
+/// How many ports there may be.
+pub const MOST_PORTS: u32 = 16;
+
+/// Entries that a journal takes, the most that it may.
+pub const ENTRIES: u32 = 1_048_576;
+
+// Words of memory for each port that there may be. They are few, so that a port loads what it has
+// stored, and words of one block belong to different ports.
+const OWN_WORDS: u32 = WORDS / MOST_PORTS;
+
+/// The numbers of the tour's station, which are those that `kroft` has without a shape file.
+pub fn shape() -> Shape {
+    Shape {
+        words: WORDS,
+        sets: 4,
+        banks: 4,
+        bank_queue: 8,
+        write_queue: 8,
+        replies: 8,
+    }
+}
+
+/// How many ports ask, how often, and by which seed.
+#[derive(Clone, Copy, PartialEq, Eq, Debug)]
+pub struct Plan {
+    /// 1 to 16.
+    pub ports: u32,
+    /// Of each port.
+    pub asks: u32,
+    pub seed: u64,
+    ghost some: { 1 ≤ ports },
+    ghost few: { ports ≤ 16 },
+}
+
+impl Plan {
+    /// A plan, with as many ports as there may be at least and at most.
+    pub fn new(ports: u32, asks: u32, seed: u64) -> Plan {
+        Plan {
+            ports: ports.clamp(1, MOST_PORTS),
+            asks,
+            seed,
+        }
+    }
+
+    /// The script of each port, in the order of their numbers.
+    pub fn scripts(&self, alloc: Global) -> Result<Vec<Vec<Ask>>, AllocError>
+        ensures number { IfOk result (λ scripts. vec_len scripts ≡ self.now.ports) }
+        ensures requests { IfOk result (λ scripts. All (λ s. AreRequests s.items) scripts.items) }
+    {
+        let mut scripts = Vec::new(alloc);
+        for port in 0..self.ports {
+            scripts.push(self.script(alloc, port)?)?;
+        }
+        Ok(scripts)
+    }
+
+    fn script(&self, alloc: Global, port: u32) -> Result<Vec<Ask>, AllocError>
+        requires { port < 16 }
+        ensures { IfOk result (λ script. AreRequests script.items) }
+    {
+        let mut random = Pcg32::new(self.seed, u64::from(port));
+        let mut asks = Vec::new(alloc);
+        for number in 0..self.asks {
+            asks.push(own_ask(&mut random, port, number))?;
+        }
+        Ok(asks)
+    }
+}
+
+// A port loads and stores words of its own, so what it is told doesn't depend on the others; their
+// blocks it shares with them.
+fn own_ask(random: &mut Pcg32, port: u32, number: u32) -> Ask
+    requires { port < 16 }
+    ensures { is_request result ≡ true }
+{
+    let pick = random.next_word();
+    let at = pick / 8 % OWN_WORDS * MOST_PORTS + port;
+    let word = bytes_of(random.next_word());
+    ask_by(pick, (number % 256) as u8, at, word, BLOCK_WORDS as u32)
+}
+
+/// An ask by a picked number: half of them are loads, a quarter stores, and the others prefetches
+/// and evictions.
+pub fn ask_by(pick: u32, tag: u8, at: u32, word: Word, block_words: u32) -> Ask
+    requires { 1 ≤ block_words }
+    ensures { is_request result ≡ true }
+{
+    match pick % 8 {
+        0..=3 => Ask::Load { tag, at },
+        4 => Ask::Store {
+            at,
+            word,
+            lanes: Lanes(15),
+        },
+        5 => Ask::Store {
+            at,
+            word,
+            lanes: Lanes(3),
+        },
+        6 => Ask::Prefetch { at },
+        _ => Ask::Evict {
+            block: at / block_words,
+        },
+    }
+}
+
+/// The word whose bytes these are, the lowest first.
+pub fn bytes_of(number: u32) -> Word {
+    let [b0, b1, b2, b3] = number.to_le_bytes();
+    Word { b0, b1, b2, b3 }
+}

@@ -1,0 +1,57 @@
+//! The core, asked and moved on one thread.
+
+use crate::fault::SoakFault;
+use flat_model::{Answer, Event, Word};
+use machine_core::Machine;
+use ring_station::Ask;
+use station_checks::{BLOCK_WORDS, DEPTH, REGS, WAYS, WORDS, passes, shape};
+use std::alloc::Global;
+
+// Steps for one request, or to the machine's rest, which no request needs.
+const TURNS: u32 = 1_000_000;
+
+type Core = Machine<WAYS, BLOCK_WORDS, REGS, DEPTH>;
+
+/// Asks each request, again after each step of the driver if what is in its way passes. Says
+/// whether the machine then came to rest.
+pub fn ask_core(alloc: Global, requests: &[Ask]) -> Result<bool, SoakFault> {
+    let image = vec![in alloc; Word::default(); WORDS as usize]?;
+    let mut core = Core::new(alloc, shape(), &image)?;
+    for ask in requests {
+        if let Some(event) = event_of(*ask) {
+            ask_one(&mut core, event)?;
+        }
+    }
+    for _turn in 0..TURNS {
+        if core.pump().is_none() {
+            return Ok(true);
+        }
+    }
+    Ok(false)
+}
+
+fn ask_one(core: &mut Core, event: Event) -> Result<(), SoakFault> {
+    for _turn in 0..TURNS {
+        match core.apply(event) {
+            Answer::Refused(cause) if passes(cause) => {
+                let _moved = core.pump();
+            }
+            _ => return Ok(()),
+        }
+    }
+    Err(SoakFault::TurnLimit)
+}
+
+// The event of a port's ask, for the port 0.
+fn event_of(ask: Ask) -> Option<Event> {
+    match ask {
+        Ask::Load { tag, at } => Some(Event::Load {
+            tag: u16::from(tag),
+            at,
+        }),
+        Ask::Store { at, word, lanes } => Some(Event::Store { at, word, lanes }),
+        Ask::Prefetch { at } => Some(Event::Prefetch { at }),
+        Ask::Evict { block } => Some(Event::Evict { block }),
+        Ask::Done => None,
+    }
+}

@@ -1,0 +1,170 @@
+//! A soak: many stations, each with numbers, scripts and a gate at random, run on threads to its
+//! end and looked at.
+
+ghost use Rattle.std.specs.Prelude.{◌≡◌, vec_len};
+ghost use Rattle.station_parts.specs.Station.{AreOneStation};
+
+use crate::fault::SoakFault;
+use crate::random_gate::RandomGate;
+use crate::trial::{Draws, Trial};
+use ring_station::{
+    BankSide, CacheSide, Port, RunFault, Station, Told, audit, run_threads, station,
+};
+use station_checks::{Findings, Outcome, read_journal};
+use std::alloc::{AllocError, Global};
+use std::io::Write;
+use std::thread::Threads;
+
+// So many stations pass between two lines that tell how far the soak is.
+const STEP: u32 = 100;
+
+/// Runs so many stations, and tells of each in which something wrong was found, and in the end how
+/// many there were. Says whether there was none.
+pub fn soak<R: AllocGlobal + Threads + Sync, W: Write, E: Write>(
+    rt: &R,
+    output: &mut W,
+    errors: &mut E,
+    stations: u32,
+    seed: u64,
+) -> Result<bool, SoakFault> {
+    let mut failed: u32 = 0;
+    let mut turn_limits: u32 = 0;
+    for number in 0..stations {
+        let findings = run_any(rt, seed, number)?;
+        match findings.outcome() {
+            Outcome::Good => {}
+            Outcome::TurnLimit => turn_limits = turn_limits.saturating_add(1),
+            Outcome::Failed => {
+                failed = failed.saturating_add(1);
+                writeln!(errors, "station {number}: {findings:?}")?;
+            }
+        }
+        if number % STEP == STEP - 1 {
+            writeln!(errors, "station {number}: {failed} failed so far")?;
+        }
+    }
+    writeln!(
+        output,
+        "{stations} stations, {failed} failed, {turn_limits} turn limits"
+    )?;
+    Ok(failed == 0)
+}
+
+// Runs the station of this number, with the least, the most or other ways, words of a block,
+// registers and places of the stack.
+fn run_any<R: AllocGlobal + Threads + Sync>(
+    rt: &R,
+    seed: u64,
+    number: u32,
+) -> Result<Findings, SoakFault> {
+    let draws = Draws::new(seed, number);
+    match number % 4 {
+        0 => run_least(rt, draws),
+        1 => run_most(rt, draws),
+        2 => run_common(rt, draws),
+        _ => run_uneven(rt, draws),
+    }
+}
+
+// Makes a station of drawn numbers over the given ways, words of a block, registers and places of the
+// stack, runs it, and looks at what the run left.
+macro_rules! run_station {
+    ($rt:ident, $draws:ident, $ways:literal, $words:literal, $regs:literal, $depth:literal) => {{
+        let trial = Trial::draw(&mut $draws, $words);
+        let mut station = station::<$ways, $words, $regs, $depth>(
+            $rt.alloc(),
+            trial.shape,
+            trial.ports,
+            trial.journal,
+        )?;
+        let ran = run_one($rt, &mut $draws, &trial, &mut station)?;
+        look_at(
+            $rt.alloc(),
+            &mut station.cache,
+            &mut station.ports,
+            &mut station.banks,
+            trial.shape.words,
+            ran,
+        )
+    }};
+}
+
+// One station with the least of each.
+fn run_least<R: AllocGlobal + Threads + Sync>(
+    rt: &R,
+    mut draws: Draws,
+) -> Result<Findings, SoakFault> {
+    run_station!(rt, draws, 1, 1, 1, 1)
+}
+
+// One station with the most of each.
+fn run_most<R: AllocGlobal + Threads + Sync>(
+    rt: &R,
+    mut draws: Draws,
+) -> Result<Findings, SoakFault> {
+    run_station!(rt, draws, 8, 16, 16, 16)
+}
+
+// One station with the program's usual numbers.
+fn run_common<R: AllocGlobal + Threads + Sync>(
+    rt: &R,
+    mut draws: Draws,
+) -> Result<Findings, SoakFault> {
+    run_station!(rt, draws, 2, 4, 4, 4)
+}
+
+// One station whose numbers are no powers of two.
+fn run_uneven<R: AllocGlobal + Threads + Sync>(
+    rt: &R,
+    mut draws: Draws,
+) -> Result<Findings, SoakFault> {
+    run_station!(rt, draws, 3, 2, 5, 1)
+}
+
+// What a run gave: a list for each port, or why it gave none.
+type Ran = Result<Vec<Vec<Told>>, RunFault>;
+
+// Runs a new station with scripts and a gate that are drawn.
+fn run_one<
+    R: AllocGlobal + Threads + Sync,
+    const WAYS: usize,
+    const WORDS: usize,
+    const REGS: usize,
+    const DEPTH: usize,
+>(
+    rt: &R,
+    draws: &mut Draws,
+    trial: &Trial,
+    station: &mut Station<WAYS, WORDS, REGS, DEPTH>,
+) -> Result<Ran, AllocError>
+    requires one { AreOneStation station.old.cache station.old.ports.items station.old.banks.items }
+    requires ports { vec_len station.old.ports ≡ trial.now.ports }
+    ensures { AreOneStation station.new.cache station.new.ports.items station.new.banks.items }
+{
+    let alloc = rt.alloc();
+    let scripts = trial.scripts(alloc, draws)?;
+    let gate = RandomGate::draw(alloc, draws)?;
+    Ok(run_threads(rt, alloc, station, &scripts, trial.turns, &gate))
+}
+
+// What a run left of the parts of a station with so many words of memory.
+fn look_at<const WAYS: usize, const WORDS: usize, const REGS: usize, const DEPTH: usize>(
+    alloc: Global,
+    cache: &mut CacheSide<WAYS, WORDS, REGS, DEPTH>,
+    ports: &mut [Port],
+    banks: &mut [BankSide],
+    words: u32,
+    ran: Ran,
+) -> Result<Findings, SoakFault>
+    requires { AreOneStation cache.old ports.old banks.old }
+{
+    let lists = match ran {
+        Ok(lists) => Some(lists),
+        Err(RunFault::TurnLimit) => None,
+        Err(RunFault::OutOfMemory) => return Err(SoakFault::OutOfMemory),
+    };
+    let audit = audit(cache, ports, banks);
+    let journal = read_journal(alloc, cache)?;
+    let lists = lists.as_ref().map(|lists| lists.as_slice());
+    Ok(Findings::of_run(alloc, audit, &journal, words, lists)?)
+}
