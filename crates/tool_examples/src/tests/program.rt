@@ -110,6 +110,52 @@ process 0 -> moved
     ends(&rt, &["check"], run, (0, "flat run, 14 steps\n", ""))
 }
 
+// Written where the test runs, and removed at its end.
+const DRIVE_SHAPE_FILE: &str = "kroft_tool_drive_shape.toml";
+
+// With one register the second load waits until the first block's fourth word has come: a latency
+// or a shape that the run's text doesn't follow shows here.
+#[test]
+fn drive_with_another_latency_and_shape(rt: HostRuntime) -> Result<(), Fail> {
+    let run = "load 1 0 -> accepted
+serve 0 -> moved
+serve 1 -> moved
+serve 2 -> moved
+serve 3 -> moved
+arrive 0 0 -> moved
+process 0 -> moved
+take 0 -> value 1 00000000
+load 2 4 -> refused 7
+arrive 1 0 -> moved
+process 0 -> moved
+load 2 4 -> refused 7
+arrive 2 0 -> moved
+process 0 -> moved
+load 2 4 -> refused 7
+arrive 3 0 -> moved
+process 0 -> moved
+load 2 4 -> accepted
+serve 0 -> moved
+serve 1 -> moved
+serve 2 -> moved
+serve 3 -> moved
+arrive 0 0 -> moved
+process 0 -> moved
+take 0 -> value 2 00000000
+arrive 1 0 -> moved
+process 0 -> moved
+arrive 2 0 -> moved
+process 0 -> moved
+arrive 3 0 -> moved
+process 0 -> moved
+";
+    fs::write(&rt, DRIVE_SHAPE_FILE, "regs = 1\n")?;
+    let words = ["drive", "--latency", "0", "--shape", DRIVE_SHAPE_FILE];
+    ends(&rt, &words, "load 1 0\nload 2 4\n", (0, run, ""))?;
+    fs::remove_file(&rt, DRIVE_SHAPE_FILE)?;
+    Ok(())
+}
+
 // The load waits from round 1 to round 2 without a latency, and ten rounds more with the usual one.
 #[test]
 fn summary_of_one_load(rt: HostRuntime) -> Result<(), Fail> {
