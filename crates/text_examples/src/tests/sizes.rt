@@ -102,3 +102,45 @@ fn long_texts(rt: HostRuntime) -> Result<(), Fail> {
     assert_eq!(rt; end, Ok(CheckEnd::Flat { steps: 200_000 }));
     Ok(())
 }
+
+// The last block has a word in each of the 16 banks, and its last word in the last one.
+#[test]
+fn machine_of_the_largest_numbers(rt: HostRuntime) -> Result<(), Fail> {
+    let alloc = rt.alloc();
+    let image = vec![in alloc; Word::default(); 1_048_576]?;
+    let mut machine = Machine::<8, 16, 16, 16>::new(alloc, LARGEST, &image)?;
+    let load = Event::Load {
+        tag: 65_535,
+        at: 1_048_575,
+    };
+    let value = Answer::Value {
+        tag: 65_535,
+        word: Word::default(),
+    };
+    assert_eq!(rt; machine.apply(load), Answer::Accepted);
+    assert_eq!(rt; machine.apply(Event::Serve { bank: 15 }), Answer::Moved);
+    let arrival = Event::Arrive { bank: 15, place: 0 };
+    assert_eq!(rt; machine.apply(arrival), Answer::Moved);
+    assert_eq!(rt; machine.apply(Event::Process { place: 0 }), Answer::Moved);
+    assert_eq!(rt; machine.apply(Event::Take { place: 0 }), value);
+    Ok(())
+}
+
+// Each tag is owed its word at the same time; once all are taken, the first is owed nothing.
+#[test]
+fn check_of_every_tag(rt: HostRuntime) -> Result<(), Fail> {
+    let alloc = rt.alloc();
+    let mut run = String::new(alloc);
+    for tag in 0..=u16::MAX {
+        run.push_str(format!(in alloc; "load {tag} 3 -> accepted\n")?.as_str())?;
+    }
+    for tag in 0..=u16::MAX {
+        run.push_str(format!(in alloc; "take 0 -> value {tag} 00000000\n")?.as_str())?;
+    }
+    let end = check_text(alloc, &mut run.as_bytes(), 4);
+    assert_eq!(rt; end, Ok(CheckEnd::Flat { steps: 131_072 }));
+    run.push_str("take 0 -> value 0 00000000\n")?;
+    let end = check_text(alloc, &mut run.as_bytes(), 4);
+    assert_eq!(rt; end, Ok(CheckEnd::Mismatch { line: 131_073 }));
+    Ok(())
+}
