@@ -12,14 +12,19 @@ use std::test::Fail;
 // or behind its last service, and serves it 20 rounds later; then the block's words come in four
 // rounds, and the fourth frees its register in the round that asks again.
 //
-// With one register a load is accepted every 24 rounds and waits for 21 of them: the last begins in
-// round 1 + 399 * 24. Two, and four, loads share 24 rounds, and as long as the first ones are sent all
-// at once the later of them wait 3 rounds longer each, for the words before theirs. With eight
-// registers the banks are never idle: four loads in 21 rounds, of which the n-th four (from 0) are
-// answered in the rounds 22 + 21 n, and 4, 8 and 12 behind. The first four wait 21, 24, 27 and 30
-// rounds, the next 38, 41, 44 and 47, and all others, whose registers are freed 17 rounds before 21 n,
-// wait 39. Each round up to the last load's acceptance asks one load, and all are refused with 7 that
-// are not accepted.
+// With one register a load is accepted every 24 rounds and waits for 21 of them: the last is accepted
+// in round 1 + 399 * 24. With two, and with four, registers as many loads share 24 rounds; of the first
+// ones, which are accepted in the rounds 1, 2, .., each waits 3 rounds longer than the one before it,
+// whose words come first.
+//
+// With eight registers the banks are never idle: they serve four loads in 21 rounds. The n-th four,
+// counted from 0, are answered in the round 22 + 21 n and 4, 8 and 12 rounds behind it. The first four
+// wait 21, 24, 27 and 30 rounds and the next four 38, 41, 44 and 47. All others are accepted in the
+// round 21 n - 17 and 4, 8 and 12 rounds behind it, as the registers of the eighth load before each are
+// freed, and wait 39.
+//
+// Every round up to the last load's acceptance asks one load, and all that aren't accepted are refused
+// with 7: the rounds of that acceptance less 400 are lost.
 const STREAM_ROWS: &str = "regs 1 rounds 9602 accepted 400 denied 0 hits 0 joins 0 misses 400 \
 stalled 399 lost 3:0 4:0 5:0 7:9177 8:0 9:0 10:0 values 400 mean 21.00 longest 21 registers 1 written 0
 regs 2 rounds 4806 accepted 400 denied 0 hits 0 joins 0 misses 400 \
