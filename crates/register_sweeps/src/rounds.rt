@@ -99,7 +99,7 @@ impl RowMaker for RoundsRows<'_> {
 
     ghost gives = { λ s tool. rounds_row_of s.latency s.requests.now tool };
 
-    fn row(&self, alloc: Global, tool: &ToolShape) -> Result<RoundsRow, AllocError> {
+    fn make_row(&self, alloc: Global, tool: &ToolShape) -> Result<RoundsRow, AllocError> {
         let table = rounds_table(alloc, tool, self.latency, self.requests)?;
         Ok(RoundsRow {
             regs: tool.regs,

@@ -114,7 +114,7 @@ impl RowMaker for PumpedRows<'_> {
 
     ghost gives = { λ s tool. row_of s.events.now tool };
 
-    fn row(&self, alloc: Global, tool: &ToolShape) -> Result<Row, AllocError> {
+    fn make_row(&self, alloc: Global, tool: &ToolShape) -> Result<Row, AllocError> {
         row_of(alloc, tool, self.events)
     }
 }

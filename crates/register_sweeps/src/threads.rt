@@ -28,7 +28,7 @@ pub trait RowMaker: Sync {
     ghost gives: { Self → ToolShape → Self.Row };
 
     // Makes the row of a shape whose fields are in range.
-    fn row(&self, alloc: Global, tool: &ToolShape) -> Result<Self::Row, AllocError>
+    fn make_row(&self, alloc: Global, tool: &ToolShape) -> Result<Self::Row, AllocError>
         requires can { can self.now }
         requires shape { bad_field tool.now ≡ None }
         ensures { IfOk result (λ row. row ≡ gives self.now tool.now) };
@@ -70,7 +70,7 @@ fn row_in_turn<K: RowMaker, G: SweepGate>(
 {
     for _turn in 0..turns {
         if gate.may(place) {
-            let row = maker.row(alloc, shape);
+            let row = maker.make_row(alloc, shape);
             gate.ended(place);
             return match row {
                 Ok(row) => Ok(row),
