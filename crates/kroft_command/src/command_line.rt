@@ -236,7 +236,7 @@ fn latency_argument<'a>(alloc: Global, help: &'a str) -> Arg<'a> {
         .long(LATENCY)
         .value_name("L")
         .action(ArgAction::Set)
-        .value_parser(clap::value_parser!(u64).range(0..=MOST_LATENCY))
+        .value_parser(clap::value_parser!(u64).range(0..=MOST_LATENCY as i64))
         .help(help)
 }
 

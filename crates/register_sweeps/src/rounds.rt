@@ -87,6 +87,7 @@ impl MachineJob for CountedRounds<'_> {
 }
 
 // What makes the row of these requests for each shape, with a latency.
+#[derive(Drop)]
 struct RoundsRows<'a> {
     latency: u64,
     requests: &'a [Event],

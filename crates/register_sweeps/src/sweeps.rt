@@ -103,6 +103,7 @@ impl MachineJob for CountedRow<'_> {
 }
 
 // What makes the row of these requests for each shape.
+#[derive(Drop)]
 struct PumpedRows<'a> {
     events: &'a [Event],
 }
