@@ -17,9 +17,7 @@ ghost use Rattle.kroft_jobs.specs.Jobs.{swept};
 use crate::fault::JobFault;
 use crate::jobs::{SWEEP_TURNS, swept_shapes};
 use flat_model::Event;
-use register_sweeps::{
-    MachineJob, OpenGate, RoundsRow, rounds_table, sweep_rounds, with_machine,
-};
+use register_sweeps::{MachineJob, OpenGate, RoundsRow, rounds_table, sweep_rounds, with_machine};
 use round_driver::{RoundMachine, Table, drive};
 use shape_files::ToolShape;
 use std::alloc::Global;

@@ -1,5 +1,5 @@
 -- A shape whose fields are in range makes a machine that keeps what machines keep.
-use Rattle.std.proofs.Common.{◌≡◌, ℕ, ◌<◌, ◌≤◌, Bool, true, false, ◌==◌, not, cond, List, length, map, get_or, replicate, Option, Some, None, is_some, Result, Ok, Err, IfOk, OnOk, Vec, Global, refl, sym, ap, ap₂, subst, ◌∙◌, arith}
+use Rattle.std.proofs.Common.{◌≡◌, ℕ, ◌≤◌, Bool, true, false, ◌==◌, not, cond, List, length, map, get_or, replicate, Option, Some, None, is_some, Result, Ok, Err, IfOk, OnOk, Vec, Global, refl, sym, ap, ap₂, subst, ◌∙◌, arith}
 use Rattle.std.specs.List.{list_all}
 use Rattle.std.proofs.lemmas.Grind.{common_steps}
 use Rattle.std.proofs.lemmas.List.{length-replicate, get_or-map}

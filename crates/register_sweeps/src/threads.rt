@@ -1,6 +1,6 @@
 //! A row for each shape, each by a thread of its own.
 
-ghost use Rattle.std.specs.Prelude.{⊤, ◌≡◌, ◌≢◌, ℕ, ◌≤◌, ◌<◌, length, map, Result, Some, None, Ok, Err, IfOk, IfErr, OnOk, slice_index_or, true};
+ghost use Rattle.std.specs.Prelude.{◌≡◌, ℕ, ◌<◌, length, map, Result, None, Ok, Err, IfOk, IfErr, OnOk, slice_index_or, true};
 ghost use Rattle.std.specs.List.{list_any};
 ghost use Rattle.register_sweeps.specs.declared.sweeps.SweepFault.TheVariants.{OutOfMemory};
 ghost use Rattle.register_sweeps.specs.declared.threads.Stop.{Stop};

@@ -46,6 +46,7 @@ replies = 64
 
 // Written where the tests run, and removed at their end.
 const STREAM_SHAPE_FILE: &str = "stream_of_a_test.toml";
+
 const ONE_BANK_FILE: &str = "one_bank_of_a_test.toml";
 
 #[test]
@@ -102,7 +103,10 @@ fn latency_and_shape_reach_every_row(rt: HostRuntime) -> Result<(), Fail> {
         lost 3:0 4:0 5:0 7:0 8:0 9:0 10:0 values 1 mean 1.00 longest 1 registers 1 written 0\n";
     fs::write(&rt, ONE_BANK_FILE, "banks = 1\n")?;
     let runs: [(&[&str], &str); 3] = [
-        (&["sweep", "--latency", "3", "--shape", ONE_BANK_FILE], one_bank),
+        (
+            &["sweep", "--latency", "3", "--shape", ONE_BANK_FILE],
+            one_bank,
+        ),
         (&["sweep", "--latency=3"], four_banks),
         (&["sweep", "--latency", "0"], no_latency),
     ];
