@@ -2,6 +2,7 @@
 
 use clap::error::ErrorKind;
 use clap::{Arg, ArgAction, ArgMatches, Command, Error};
+use round_driver::MOST_LATENCY;
 use std::alloc::{AllocError, Global};
 
 /// What the program is asked to do with the trace on its input.
@@ -12,7 +13,11 @@ pub enum Task {
     /// Judge its lines, as `Run` writes them, against flat memory.
     Check,
     /// Serve its requests with 1, 2, 4 and 8 registers.
-    Sweep,
+    Sweep {
+        /// Rounds from a command's begin to its service, 0 to 1,000, if the requests are driven in
+        /// rounds; none if they are served by pumps.
+        latency: Option<u64>,
+    },
     /// Judge its lines up to the first that flat memory doesn't explain, and say why.
     Explain,
     /// Drive its requests in rounds.
@@ -37,6 +42,9 @@ const PROGRAM: &str = "kroft";
 
 /// Rounds from a command's begin to its service, where none are given.
 const USUAL_LATENCY: u64 = 10;
+
+/// The name of the argument for the latency of rounds.
+const LATENCY: &str = "latency";
 
 /// The name of the argument that stands for a trace's path.
 const TRACE: &str = "trace";
@@ -126,6 +134,8 @@ how many pumps the stalled ones waited for, and how many pumps and values there 
 A pump is one step of the machine's own driver: it counts work, and not time, and stalled
 requests wait one after another. So on a long trace the rows hardly differ. A shape file's
 number of registers isn't used.
+With --latency L the requests are driven in rounds instead ('kroft drive --help' describes them),
+and each row has 'regs N' and the counts of 'drive --latency L --summary' with N registers.
 
 Statuses: 0 done, 2 the command line is wrong, 3 the shape file is wrong, 4 a line is faulty or a
 stream failed, 5 there is too little memory. (The limit of turns that a sweep has for callers
@@ -220,6 +230,30 @@ fn subcommand<'a>(
         .arg(trace_argument(alloc))
 }
 
+// The argument for the latency of rounds.
+fn latency_argument<'a>(alloc: Global, help: &'a str) -> Arg<'a> {
+    Arg::new(alloc, LATENCY)
+        .long(LATENCY)
+        .value_name("L")
+        .action(ArgAction::Set)
+        .value_parser(clap::value_parser!(u64).range(0..=MOST_LATENCY as i64))
+        .help(help)
+}
+
+// The subcommand that counts with several numbers of registers.
+fn sweep_command<'a>(alloc: Global) -> Result<Command<'a>, AllocError> {
+    subcommand(
+        alloc,
+        "sweep",
+        "Count what requests wait for with 1, 2, 4 and 8 registers",
+        SWEEP_NOTES,
+    )?
+    .arg(latency_argument(
+        alloc,
+        "Count rounds, with this many from a command's begin to its service, 0 to 1000",
+    ))
+}
+
 // The subcommand that drives requests in rounds.
 fn drive_command<'a>(alloc: Global) -> Result<Command<'a>, AllocError> {
     subcommand(
@@ -228,14 +262,10 @@ fn drive_command<'a>(alloc: Global) -> Result<Command<'a>, AllocError> {
         "Drive requests in rounds, with a latency of memory",
         DRIVE_NOTES,
     )?
-    .arg(
-        Arg::new(alloc, "latency")
-            .long("latency")
-            .value_name("L")
-            .action(ArgAction::Set)
-            .value_parser(clap::value_parser!(u64).range(0..=1_000))
-            .help("Rounds from a command's begin to its service, 0 to 1000 [default: 10]"),
-    )?
+    .arg(latency_argument(
+        alloc,
+        "Rounds from a command's begin to its service, 0 to 1000 [default: 10]",
+    ))?
     .arg(
         Arg::new(alloc, "summary")
             .long("summary")
@@ -262,12 +292,7 @@ fn program<'a>(alloc: Global) -> Result<Command<'a>, AllocError> {
             "Tell whether a recorded run is one of flat memory",
             CHECK_NOTES,
         )?)?
-        .subcommand(subcommand(
-            alloc,
-            "sweep",
-            "Count what requests wait for with 1, 2, 4 and 8 registers",
-            SWEEP_NOTES,
-        )?)?
+        .subcommand(sweep_command(alloc)?)?
         .subcommand(subcommand(
             alloc,
             "explain",
@@ -277,10 +302,17 @@ fn program<'a>(alloc: Global) -> Result<Command<'a>, AllocError> {
         .subcommand(drive_command(alloc)?)
 }
 
+// What the words behind `sweep` ask for.
+fn sweep_task(rest: &ArgMatches<'_>) -> Task {
+    Task::Sweep {
+        latency: rest.get_one::<u64>(LATENCY),
+    }
+}
+
 // What the words behind `drive` ask for.
 fn drive_task(rest: &ArgMatches<'_>) -> Task {
     Task::Drive {
-        latency: rest.get_one::<u64>("latency").unwrap_or(USUAL_LATENCY),
+        latency: rest.get_one::<u64>(LATENCY).unwrap_or(USUAL_LATENCY),
         summary: rest.get_flag("summary"),
     }
 }
@@ -293,7 +325,7 @@ pub fn read_words<'a>(alloc: Global, words: &'a [&'a str]) -> Result<CommandLine
     let before = matches.get_str("shape");
     let (task, behind, trace) = match matches.subcommand() {
         Some(("check", rest)) => (Task::Check, rest.get_str("shape"), rest.get_str(TRACE)),
-        Some(("sweep", rest)) => (Task::Sweep, rest.get_str("shape"), rest.get_str(TRACE)),
+        Some(("sweep", rest)) => (sweep_task(rest), rest.get_str("shape"), rest.get_str(TRACE)),
         Some(("explain", rest)) => (Task::Explain, rest.get_str("shape"), rest.get_str(TRACE)),
         Some(("drive", rest)) => (drive_task(rest), rest.get_str("shape"), rest.get_str(TRACE)),
         Some((_, rest)) => (Task::Run, rest.get_str("shape"), rest.get_str(TRACE)),

@@ -6,9 +6,10 @@ use crate::command_line::{Task, read_words};
 use crate::fault::ToolFault;
 use clap::error::ErrorKind;
 use kroft_jobs::{
-    JobFault, MOST_LATENCY, Verdict, check, drive_requests, explain, serve, summarize_requests,
+    JobFault, Verdict, check, drive_requests, explain, serve, summarize_requests, sweep_in_rounds,
     sweep_registers,
 };
+use round_driver::MOST_LATENCY;
 use shape_files::{ShapeFault, ToolShape, bad_field, read_shape};
 use std::alloc::Global;
 use std::io::{Read, Write};
@@ -83,7 +84,7 @@ fn work<R: AllocGlobal + Files + Threads + Sync, I: Read, O: Write>(
     let status = match asked.task {
         Task::Run => run(rt.alloc(), &shape, input, output)?,
         Task::Check => judge(rt.alloc(), &shape, input, output)?,
-        Task::Sweep => compare(rt, &shape, input, output)?,
+        Task::Sweep { latency } => compare(rt, &shape, latency, input, output)?,
         Task::Explain => reason(rt.alloc(), &shape, input, output)?,
         Task::Drive { latency, summary } => {
             go_round(rt.alloc(), &shape, latency, summary, input, output)?
@@ -175,19 +176,35 @@ fn go_round<I: Read, O: Write>(
     Ok(0)
 }
 
-// Serves the requests with 1, 2, 4 and 8 registers.
+// Serves the requests with 1, 2, 4 and 8 registers, or drives them in rounds if there is a latency.
 fn compare<R: AllocGlobal + Threads + Sync, I: Read, O: Write>(
     rt: &R,
     tool: &ToolShape,
+    latency: Option<u64>,
     input: &mut I,
     output: &mut O,
 ) -> Result<u8, JobFault>
     ensures { IfOk result (λ status. status ≤ 1) }
 {
-    let rows = sweep_registers(rt, rt.alloc(), tool, input)?;
-    for row in &rows {
-        show(output, format_args!("{row}\n"))?;
+    match latency {
+        None => {
+            let rows = sweep_registers(rt, rt.alloc(), tool, input)?;
+            show_rows(output, rows.as_slice())?;
+        }
+        Some(latency) => {
+            let latency = latency.min(MOST_LATENCY);
+            let rows = sweep_in_rounds(rt, rt.alloc(), tool, latency, input)?;
+            show_rows(output, rows.as_slice())?;
+        }
     }
     finish(output)?;
     Ok(0)
+}
+
+// Writes each of these as a line.
+fn show_rows<O: Write, D: fmt::Display>(output: &mut O, rows: &[D]) -> Result<(), JobFault> {
+    for row in rows {
+        show(output, format_args!("{row}\n"))?;
+    }
+    Ok(())
 }

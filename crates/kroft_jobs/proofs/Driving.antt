@@ -1,15 +1,16 @@
 -- What was read and what was driven, as one answer.
-use Rattle.std.proofs.Common.{◌≡◌, ℕ, List, subst, inl, inr}
+use Rattle.std.proofs.Common.{◌≡◌, ℕ, List, subst, inr}
 use Rattle.std.specs.Prelude.{Result, Ok, Err}
 use Rattle.flat_model.specs.declared.Event.{Event}
 use Rattle.machine_core.specs.Machine.{MachineState}
 use Rattle.trace_text.specs.Reading.{ReadWhole}
 use Rattle.trace_text.specs.Requests.{requests_of}
 use Rattle.trace_text.specs.Serving.{trace_fault}
+use Rattle.trace_text.specs.declared.fault.TheConstants.{MAX_LINE}
 use Rattle.trace_text.specs.declared.fault.TraceFault.{TraceFault}
 use Rattle.kroft_jobs.specs.Driving.{IsDriven, DrivesAll}
 
-pub driven : {R W : Type 0} (gave : R → List ℕ → R → Type 0) (failed : R → R → Type 0) (took : W → List ℕ → W → Type 0) (refused : W → W → Type 0) (latency : ℕ) (s : MachineState) (input input' : R) (output output' : W) (texts : List (List ℕ)) (requests : List Event) → ReadWhole gave trace_fault 64 input input' texts → requests ≡ requests_of texts → (result : Result ℕ TraceFault) → IsDriven took refused latency s requests output output' result → DrivesAll gave failed took refused latency s input input' output output' result
+pub driven : {R W : Type 0} (gave : R → List ℕ → R → Type 0) (failed : R → R → Type 0) (took : W → List ℕ → W → Type 0) (refused : W → W → Type 0) (latency : ℕ) (s : MachineState) (input input' : R) (output output' : W) (texts : List (List ℕ)) (requests : List Event) → ReadWhole gave trace_fault MAX_LINE input input' texts → requests ≡ requests_of texts → (result : Result ℕ TraceFault) → IsDriven took refused latency s requests output output' result → DrivesAll gave failed took refused latency s input input' output output' result
 driven gave failed took refused latency s input input' output output' texts requests whole same (Ok n) d =
     (texts, whole, subst (λ r. IsDriven took refused latency s r output output' (Ok n)) same d)
 driven gave failed took refused latency s input input' output output' texts requests whole same (Err f) d =

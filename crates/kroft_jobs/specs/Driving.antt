@@ -6,6 +6,7 @@ use Rattle.trace_text.specs.Streams.{Moves}
 use Rattle.trace_text.specs.Reading.{ReadWhole, ReadFails}
 use Rattle.trace_text.specs.Requests.{requests_of}
 use Rattle.trace_text.specs.Serving.{trace_fault}
+use Rattle.trace_text.specs.declared.fault.TheConstants.{MAX_LINE}
 use Rattle.trace_text.specs.declared.fault.TraceFault.{TraceFault}
 use Rattle.trace_text.specs.declared.fault.TraceFault.TheVariants.{OutOfMemory}
 use Rattle.round_driver.specs.Rounds.{start_of, rounds_until_over, whole_run}
@@ -22,6 +23,6 @@ IsDriven took refused latency s requests old new (Err fault) =
 -- The requests of the input are driven, or it couldn't be read to its end, and then nothing is written.
 abbrev pub DrivesAll : {R W : Type 0} (gave : R → List ℕ → R → Type 0) (failed : R → R → Type 0) (took : W → List ℕ → W → Type 0) (refused : W → W → Type 0) (latency : ℕ) (s : MachineState) (input input' : R) (output output' : W) → Result ℕ TraceFault → Type 0
 DrivesAll gave failed took refused latency s input input' output output' (Ok rounds) =
-    (texts : List (List ℕ)) × ReadWhole gave trace_fault 64 input input' texts × IsDriven took refused latency s (requests_of texts) output output' (Ok rounds)
+    (texts : List (List ℕ)) × ReadWhole gave trace_fault MAX_LINE input input' texts × IsDriven took refused latency s (requests_of texts) output output' (Ok rounds)
 DrivesAll gave failed took refused latency s input input' output output' (Err fault) =
-    (ReadFails gave failed trace_fault 64 input input' fault × (output' ≡ output)) ⊎ ((texts : List (List ℕ)) × ReadWhole gave trace_fault 64 input input' texts × IsDriven took refused latency s (requests_of texts) output output' (Err fault))
+    (ReadFails gave failed trace_fault MAX_LINE input input' fault × (output' ≡ output)) ⊎ ((texts : List (List ℕ)) × ReadWhole gave trace_fault MAX_LINE input input' texts × IsDriven took refused latency s (requests_of texts) output output' (Err fault))

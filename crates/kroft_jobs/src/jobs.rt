@@ -2,6 +2,7 @@
 
 ghost use Rattle.std.specs.Prelude.{⊤, ◌≡◌, ◌≤◌, ℕ, List, None, Some, IfOk, IfErr, map, ◌++◌};
 ghost use Rattle.machine_core.specs.Machine.{MachineState};
+ghost use Rattle.trace_text.specs.declared.fault.TheConstants.{MAX_LINE, MAX_PAIR};
 ghost use Rattle.trace_text.specs.Reading.{ReadWhole, ReadFails};
 ghost use Rattle.trace_text.specs.Serving.{trace_fault, Ends};
 ghost use Rattle.trace_text.specs.Checks.{pair_fault, IsJudged};
@@ -80,10 +81,10 @@ pub fn check<I: Source>(
     input: &mut I,
 ) -> Result<CheckEnd, TraceFault>
     ensures judged { IfOk result
-        (λ end. (texts : List (List ℕ)) × ReadWhole I.gave pair_fault 768 input.old input.new texts
+        (λ end. (texts : List (List ℕ)) × ReadWhole I.gave pair_fault MAX_PAIR input.old input.new texts
         × IsJudged tool.now.shape.words texts end) }
     ensures fault { IfErr result
-        (ReadFails I.gave I.failed pair_fault 768 input.old input.new) }
+        (ReadFails I.gave I.failed pair_fault MAX_PAIR input.old input.new) }
 {
     check_text(alloc, input, tool.shape.words)
 }
@@ -135,25 +136,31 @@ pub fn sweep_registers<R: Threads + Sync, I: Source>(
     input: &mut I,
 ) -> Result<Vec<Row>, JobFault>
     ensures { IfOk result
-        (λ rows. (texts : List (List ℕ)) × ReadWhole I.gave trace_fault 64 input.old input.new texts
+        (λ rows. (texts : List (List ℕ)) × ReadWhole I.gave trace_fault MAX_LINE input.old input.new texts
         × (rows.items ≡ map (row_of (requests_of texts)) (swept tool.now))) }
 {
     let requests = read_requests(alloc, input)?;
-    let shapes = [
-        with_registers(tool, 1),
-        with_registers(tool, 2),
-        with_registers(tool, 4),
-        with_registers(tool, 8),
-    ];
     let rows = sweep(
         rt,
         alloc,
         requests.as_slice(),
-        &shapes,
+        &swept_shapes(tool),
         SWEEP_TURNS,
         &OpenGate,
     )?;
     Ok(rows)
+}
+
+// The shapes of a sweep: with 1, 2, 4 and 8 registers.
+pub fn swept_shapes(tool: &ToolShape) -> [ToolShape; 4]
+    ensures { result ≡ swept tool.now }
+{
+    [
+        with_registers(tool, 1),
+        with_registers(tool, 2),
+        with_registers(tool, 4),
+        with_registers(tool, 8),
+    ]
 }
 
 // The shape with so many registers.

@@ -1,6 +1,8 @@
 //! What is done with a trace, for the shape that was read: [`serve`] runs it on a new machine,
 //! [`check`] and [`explain`] judge what a run wrote, [`sweep_registers`] counts what its requests
-//! wait for, and [`drive_requests`] and [`summarize_requests`] drive them in rounds. [`Verdict`] and [`JobFault`] have the texts and statuses that their ends are told by.
+//! wait for, [`drive_requests`] and [`summarize_requests`] drive them in rounds, and
+//! [`sweep_in_rounds`] counts rounds with several numbers of registers. [`Verdict`] and
+//! [`JobFault`] have the texts and statuses that their ends are told by.
 #![tactic(auto)]
 
 mod fault;
@@ -9,4 +11,4 @@ mod rounds;
 
 pub use fault::JobFault;
 pub use jobs::{SWEEP_TURNS, Verdict, check, explain, serve, sweep_registers};
-pub use rounds::{MOST_LATENCY, drive_requests, summarize_requests};
+pub use rounds::{drive_requests, summarize_requests, sweep_in_rounds};

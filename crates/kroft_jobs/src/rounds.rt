@@ -1,23 +1,28 @@
 //! What the program does with the requests of a trace in rounds.
 
-ghost use Rattle.std.specs.Prelude.{⊤, ◌≡◌, ◌≤◌, ℕ, List, None, IfOk, IfErr, length};
+ghost use Rattle.std.specs.Prelude.{◌≡◌, ◌≤◌, ℕ, List, None, IfOk, IfErr, length, map};
+ghost use Rattle.trace_text.specs.declared.fault.TheConstants.{MAX_LINE};
 ghost use Rattle.trace_text.specs.Reading.{ReadWhole, ReadFails};
 ghost use Rattle.trace_text.specs.Serving.{trace_fault};
 ghost use Rattle.trace_text.specs.Requests.{requests_of};
 ghost use Rattle.shape_files.specs.ShapeFile.{bad_field};
 ghost use Rattle.register_sweeps.specs.Sweep.{new_machine};
+ghost use Rattle.register_sweeps.specs.Rounds.{rounds_row_of};
+ghost use Rattle.round_driver.specs.declared.driving.TheConstants.{MOST_LATENCY};
+ghost use Rattle.round_driver.specs.Rounds.{most_requests};
 ghost use Rattle.round_driver.specs.Tables.{table_of};
 ghost use Rattle.kroft_jobs.specs.Driving.{IsDriven, DrivesAll};
+ghost use Rattle.kroft_jobs.specs.Jobs.{swept};
 
+use crate::fault::JobFault;
+use crate::jobs::{SWEEP_TURNS, swept_shapes};
 use flat_model::Event;
-use register_sweeps::{MachineJob, with_machine};
-use round_driver::{RoundMachine, Table, drive, summarize};
+use register_sweeps::{MachineJob, OpenGate, RoundsRow, rounds_table, sweep_rounds, with_machine};
+use round_driver::{RoundMachine, Table, drive};
 use shape_files::ToolShape;
-use std::alloc::{AllocError, Global};
+use std::alloc::Global;
+use std::thread::Threads;
 use trace_text::{Sink, Source, TraceFault, read_requests};
-
-/// The most rounds that may pass between a command's begin and its service.
-pub const MOST_LATENCY: u64 = 1_000;
 
 /// Drives the requests of a trace in rounds through a new machine of a shape whose fields are in
 /// range, over zeros, as [`drive`] does, and writes the run. Gives the number of rounds. The output
@@ -33,7 +38,7 @@ pub fn drive_requests<I: Source, O: Sink>(
     output: &mut O,
 ) -> Result<u64, TraceFault>
     requires shape { bad_field tool.now ≡ None }
-    requires latency { latency ≤ 1000 }
+    requires latency { latency ≤ MOST_LATENCY }
     ensures { DrivesAll I.gave I.failed O.took O.refused latency (new_machine tool.now) input.old input.new
         output.old output.new result }
 {
@@ -50,8 +55,8 @@ fn drive_all<O: Sink>(
     output: &mut O,
 ) -> Result<u64, TraceFault>
     requires shape { bad_field tool.now ≡ None }
-    requires latency { latency ≤ 1000 }
-    requires requests { length requests.now ≤ 16777216 }
+    requires latency { latency ≤ MOST_LATENCY }
+    requires requests { length requests.now ≤ most_requests }
     ensures { IsDriven O.took O.refused latency (new_machine tool.now) requests.now output.old output.new
         result }
 {
@@ -76,7 +81,7 @@ struct DrivenRequests<'a, O> {
 impl<'a, O: Sink> MachineJob for DrivenRequests<'a, O> {
     type Done = Result<u64, TraceFault>;
 
-    ghost can = { λ s. (s.latency ≤ 1000) × (length s.requests.now ≤ 16777216) };
+    ghost can = { λ s. (s.latency ≤ MOST_LATENCY) × (length s.requests.now ≤ most_requests) };
 
     ghost done = { λ s machine t result. IsDriven O.took O.refused s.latency machine s.requests.now s.output.now t.output.now result };
 
@@ -98,7 +103,7 @@ impl<'a, O: Sink> MachineJob for DrivenRequests<'a, O> {
 }
 
 /// Drives the requests of a trace in rounds through a new machine of a shape whose fields are in
-/// range, over zeros, and counts, as [`summarize`] does.
+/// range, over zeros, and counts, as [`rounds_table`] does.
 pub fn summarize_requests<I: Source>(
     alloc: Global,
     tool: &ToolShape,
@@ -106,60 +111,40 @@ pub fn summarize_requests<I: Source>(
     input: &mut I,
 ) -> Result<Table, TraceFault>
     requires shape { bad_field tool.now ≡ None }
-    requires latency { latency ≤ 1000 }
+    requires latency { latency ≤ MOST_LATENCY }
     ensures table { IfOk result
-        (λ table. (texts : List (List ℕ)) × ReadWhole I.gave trace_fault 64 input.old input.new texts
+        (λ table. (texts : List (List ℕ)) × ReadWhole I.gave trace_fault MAX_LINE input.old input.new texts
         × (table ≡ table_of latency (new_machine tool.now) (requests_of texts))) }
     ensures fault { IfErr result
-        (ReadFails I.gave I.failed trace_fault 64 input.old input.new) }
+        (ReadFails I.gave I.failed trace_fault MAX_LINE input.old input.new) }
 {
     let requests = read_requests(alloc, input)?;
-    Ok(table_for(alloc, tool, latency, requests.as_slice())?)
+    Ok(rounds_table(alloc, tool, latency, requests.as_slice())?)
 }
 
-// The table of requests on a new machine.
-fn table_for(
+/// The rows of the requests of a trace in rounds, with 1, 2, 4 and 8 registers and all else as the shape
+/// says, as [`sweep_rounds`] makes them.
+pub fn sweep_in_rounds<R: Threads + Sync, I: Source>(
+    rt: &R,
     alloc: Global,
     tool: &ToolShape,
     latency: u64,
-    requests: &[Event],
-) -> Result<Table, AllocError>
-    requires shape { bad_field tool.now ≡ None }
-    requires latency { latency ≤ 1000 }
-    requires requests { length requests.now ≤ 16777216 }
+    input: &mut I,
+) -> Result<Vec<RoundsRow>, JobFault>
+    requires latency { latency ≤ MOST_LATENCY }
     ensures { IfOk result
-        (λ table. table ≡ table_of latency (new_machine tool.now) requests.now) }
+        (λ rows. (texts : List (List ℕ)) × ReadWhole I.gave trace_fault MAX_LINE input.old input.new texts
+        × (rows.items ≡ map (rounds_row_of latency (requests_of texts)) (swept tool.now))) }
 {
-    let mut job = SummarizedRequests {
+    let requests = read_requests(alloc, input)?;
+    let rows = sweep_rounds(
+        rt,
         alloc,
         latency,
-        requests,
-    };
-    with_machine(alloc, tool, &mut job)
-}
-
-// The counting of requests.
-#[derive(Drop)]
-struct SummarizedRequests<'a> {
-    alloc: Global,
-    latency: u64,
-    requests: &'a [Event],
-}
-
-impl MachineJob for SummarizedRequests<'_> {
-    type Done = Result<Table, AllocError>;
-
-    ghost can = { λ s. (s.latency ≤ 1000) × (length s.requests.now ≤ 16777216) };
-
-    ghost done = { λ s machine t result. IfOk result (λ table. table ≡ table_of s.latency machine s.requests.now) };
-
-    ghost holds_same = { λ s t. ⊤ };
-
-    fn work<M: RoundMachine>(&mut self, machine: &mut M) -> Result<Table, AllocError> {
-        summarize(self.alloc, machine, self.latency, self.requests)
-    }
-
-    fn give_up(&mut self) -> Result<Table, AllocError> {
-        Err(AllocError)
-    }
+        requests.as_slice(),
+        &swept_shapes(tool),
+        SWEEP_TURNS,
+        &OpenGate,
+    )?;
+    Ok(rows)
 }

@@ -1,5 +1,5 @@
 -- A shape whose fields are in range makes a machine that keeps what machines keep.
-use Rattle.std.proofs.Common.{◌≡◌, ℕ, ◌<◌, ◌≤◌, Bool, true, false, ◌==◌, not, cond, List, length, map, get_or, replicate, Option, Some, None, is_some, Result, Ok, Err, IfOk, Vec, Global, refl, sym, ap, ap₂, subst, ◌∙◌, arith}
+use Rattle.std.proofs.Common.{◌≡◌, ℕ, ◌≤◌, Bool, true, false, ◌==◌, not, cond, List, length, map, get_or, replicate, Option, Some, None, is_some, Result, Ok, Err, IfOk, OnOk, Vec, Global, refl, sym, ap, ap₂, subst, ◌∙◌, arith}
 use Rattle.std.specs.List.{list_all}
 use Rattle.std.proofs.lemmas.Grind.{common_steps}
 use Rattle.std.proofs.lemmas.List.{length-replicate, get_or-map}
@@ -83,7 +83,7 @@ counts_all t events h r =
     record { each_ends = counts.0; each_is_paid = counts.1; nothing_left = counts.2 }
 
 -- the rows of such shapes count all requests
-pub rows_count_all : (events : List Event) (ts : List ToolShape) (r : Result (Vec Row Global) SweepFault) → bad_from 0 ts ≡ None → IfOk r (λ rows. rows.items ≡ map (row_of events) ts) → IfOk r (λ rows. list_all is_request events ≡ true → EachCountsAll events ts rows.items)
+pub rows_count_all : (events : List Event) (ts : List ToolShape) (r : Result (Vec Row Global) SweepFault) → OnOk r (bad_from 0 ts ≡ None) → IfOk r (λ rows. rows.items ≡ map (row_of events) ts) → IfOk r (λ rows. list_all is_request events ≡ true → EachCountsAll events ts rows.items)
 rows_count_all events ts (Err e) good said = tt
 rows_count_all events ts (Ok rows) good said = λ requests i t row inside.
     let each = ap (λ xs. get_or xs i row) said ∙ get_or-map (row_of events) ts i t row inside in

@@ -2,14 +2,12 @@
 use Rattle.std.proofs.Common.{◌≡◌, ℕ, zero, suc, ◌+◌, ◌<◌, ◌≤◌, List, [], ◌∷◌, map, length, get_or, drop, Option, Some, None, Result, Ok, Err, IfOk, Vec, Global, refl, sym, ap, ap₂, subst, ◌∙◌, arith}
 use Rattle.std.specs.Option.{option_map, option_or}
 use Rattle.std.proofs.lemmas.List.{drop_more, drop_all, get_or-map, length-map}
-use Rattle.flat_model.specs.declared.Event.{Event}
 use Rattle.flat_model.specs.declared.ShapeField.{ShapeField}
 use Rattle.shape_files.specs.declared.shape_file.ToolShape.{ToolShape}
-use Rattle.register_sweeps.specs.declared.row.Row.{Row}
-use Rattle.register_sweeps.specs.declared.sweeps.Stop.{Stop}
+use Rattle.register_sweeps.specs.declared.threads.Stop.{Stop}
 use Rattle.register_sweeps.specs.declared.sweeps.SweepFault.{SweepFault}
 use Rattle.shape_files.specs.ShapeFile.{bad_field}
-use Rattle.register_sweeps.specs.Sweep.{bad_from, row_of}
+use Rattle.register_sweeps.specs.Sweep.{bad_from}
 
 not_none : {X : Type 0} {x : X} → Some x ≡ None → ⊥
 not_none h = cc
@@ -39,33 +37,36 @@ module _ (ts : List ToolShape) (i : ℕ) (d : ToolShape) (inside : i < length ts
 pub all_good : (ts : List ToolShape) (i : ℕ) → length ts ≤ i → bad_from i (drop i ts) ≡ None
 all_good ts i h = ap (bad_from i) (drop_all i ts h)
 
--- rows that are each that of its shape
-each_row : (events : List Event) (ts : List ToolShape) (rows : List Row) → length rows ≡ length ts → ((i : ℕ) (t : ToolShape) (r : Row) → i < length ts → get_or rows i r ≡ row_of events (get_or ts i t)) → rows ≡ map (row_of events) ts
-each_row events [] [] h e = refl
-each_row events [] (r ∷ rows) h e = absurd (omega (arith, h))
-each_row events (t ∷ ts) [] h e = absurd (omega (arith, h))
-each_row events (t ∷ ts) (r ∷ rows) h e =
-    let first : r ≡ row_of events t = e 0 t r (omega arith) in
-    let rest : rows ≡ map (row_of events) ts = each_row events ts rows (omega (arith, h)) (λ i u s l. e (suc i) u s (omega arith)) in
-    ap₂ (λ x xs. x ∷ xs) first rest
+-- ---- the rows of these shapes, whatever a row is
 
--- each answer that is a row is that of its shape
-abbrev pub EachIsRow : List Event → List ToolShape → List (Result Row Stop) → Type 0
-EachIsRow events ts answers =
-    (i : ℕ) (d : Result Row Stop) (t : ToolShape) → i < length ts → IfOk (get_or answers i d) (λ row. row ≡ row_of events (get_or ts i t))
+module _ {A : Type 0} (gives : ToolShape → A) where
+  -- rows that are each that of its shape
+  each_row : (ts : List ToolShape) (rows : List A) → length rows ≡ length ts → ((i : ℕ) (t : ToolShape) (r : A) → i < length ts → get_or rows i r ≡ gives (get_or ts i t)) → rows ≡ map gives ts
+  each_row [] [] h e = refl
+  each_row [] (r ∷ rows) h e = absurd (omega (arith, h))
+  each_row (t ∷ ts) [] h e = absurd (omega (arith, h))
+  each_row (t ∷ ts) (r ∷ rows) h e =
+      let first : r ≡ gives t = e 0 t r (omega arith) in
+      let rest : rows ≡ map gives ts = each_row ts rows (omega (arith, h)) (λ i u s l. e (suc i) u s (omega arith)) in
+      ap₂ (λ x xs. x ∷ xs) first rest
 
-if_ok : (P : Row → Type 0) (a : Result Row Stop) (r : Row) → a ≡ Ok r → IfOk a P → P r
-if_ok P a r e h = subst (λ x. IfOk x P) e h
+  -- each answer that is a row is that of its shape
+  abbrev pub EachIsRow : List ToolShape → List (Result A Stop) → Type 0
+  EachIsRow ts answers =
+      (i : ℕ) (d : Result A Stop) (t : ToolShape) → i < length ts → IfOk (get_or answers i d) (λ row. row ≡ gives (get_or ts i t))
 
-rows_said : (events : List Event) (ts : List ToolShape) (rows : List Row) (answers : List (Result Row Stop)) → map Ok rows ≡ answers → length answers ≡ length ts → EachIsRow events ts answers → rows ≡ map (row_of events) ts
-rows_said events ts rows answers all len each =
-    let long : length rows ≡ length ts = sym (length-map rows Ok) ∙ ap length all ∙ len in
-    each_row events ts rows long (λ i t r l.
-    let inside : i < length rows = omega (arith, long, l) in
-    let answer : get_or answers i (Ok r) ≡ Ok (get_or rows i r) = sym (ap (λ xs. get_or xs i (Ok r)) all) ∙ get_or-map Ok rows i r (Ok r) inside in
-    if_ok (λ row. row ≡ row_of events (get_or ts i t)) (get_or answers i (Ok r)) (get_or rows i r) answer (each i (Ok r) t l))
+  if_ok : (P : A → Type 0) (a : Result A Stop) (r : A) → a ≡ Ok r → IfOk a P → P r
+  if_ok P a r e h = subst (λ x. IfOk x P) e h
 
--- where every thread gave a row, these are the rows of the shapes
-pub rows_of_answers : (events : List Event) (ts : List ToolShape) (answers given : List (Result Row Stop)) (r : Result (Vec Row Global) SweepFault) → IfOk r (λ rows. map Ok rows.items ≡ given) → given ≡ answers → length answers ≡ length ts → EachIsRow events ts answers → IfOk r (λ rows. rows.items ≡ map (row_of events) ts)
-rows_of_answers events ts answers given (Ok rows) h same len each = rows_said events ts rows.items answers (h ∙ same) len each
-rows_of_answers events ts answers given (Err e) h same len each = tt
+  rows_said : (ts : List ToolShape) (rows : List A) (answers : List (Result A Stop)) → map Ok rows ≡ answers → length answers ≡ length ts → EachIsRow ts answers → rows ≡ map gives ts
+  rows_said ts rows answers all len each =
+      let long : length rows ≡ length ts = sym (length-map rows Ok) ∙ ap length all ∙ len in
+      each_row ts rows long (λ i t r l.
+      let inside : i < length rows = omega (arith, long, l) in
+      let answer : get_or answers i (Ok r) ≡ Ok (get_or rows i r) = sym (ap (λ xs. get_or xs i (Ok r)) all) ∙ get_or-map Ok rows i r (Ok r) inside in
+      if_ok (λ row. row ≡ gives (get_or ts i t)) (get_or answers i (Ok r)) (get_or rows i r) answer (each i (Ok r) t l))
+
+  -- where every thread gave a row, these are the rows of the shapes
+  pub rows_of_answers : (ts : List ToolShape) (answers given : List (Result A Stop)) (r : Result (Vec A Global) SweepFault) → IfOk r (λ rows. map Ok rows.items ≡ given) → given ≡ answers → length answers ≡ length ts → EachIsRow ts answers → IfOk r (λ rows. rows.items ≡ map gives ts)
+  rows_of_answers ts answers given (Ok rows) h same len each = rows_said ts rows.items answers (h ∙ same) len each
+  rows_of_answers ts answers given (Err e) h same len each = tt

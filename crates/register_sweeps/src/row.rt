@@ -4,6 +4,7 @@ ghost use Rattle.std.specs.Prelude.{◌≡◌, ◌+◌, ◌*◌, ◌^◌, ◌<�
 ghost use Rattle.std.specs.Fmt.{WritesOnOk};
 ghost use Rattle.machine_core.specs.Law.{most_weight};
 ghost use Rattle.machine_core.specs.AnyMachine.{weight_of};
+ghost use Rattle.round_driver.specs.Rounds.{most_requests};
 ghost use Rattle.register_sweeps.specs.Sweep as sweep;
 ghost use Rattle.register_sweeps.specs.Sweep.{course, total};
 
@@ -176,7 +177,7 @@ fn run_dry<M: AnyMachine>(machine: &mut M, row: &mut Row)
 /// Serves all requests, and then pumps until there is nothing left to do.
 pub fn row_from<M: AnyMachine>(machine: &mut M, regs: u32, events: &[Event]) -> Row
     requires few { most_weight (M.state machine.old).sizes < 2 ^ 32 }
-    requires events { length events.now ≤ 16777216 }
+    requires events { length events.now ≤ most_requests }
     ensures { result ≡ sweep.row_from (M.state machine.old) regs events.now }
 {
     let mut row = Row::default();

@@ -1,22 +1,19 @@
 //! Sweeps: one row for each shape, each by a thread of its own.
 
-ghost use Rattle.std.specs.Prelude.{⊤, ◌≡◌, ◌≢◌, ◌∷◌, [], ℕ, ◌+◌, ◌≤◌, ◌<◌, length, map, Some, None, Result, Ok, Err, IfOk, IfErr, OnOk, OnErr, slice_index_or, Contains, true};
+ghost use Rattle.std.specs.Prelude.{⊤, ◌≡◌, ◌≢◌, ◌∷◌, [], ◌≤◌, length, map, None, Err, IfOk, IfErr, OnOk, true};
 ghost use Rattle.std.specs.List.{list_all};
-ghost use Rattle.register_sweeps.specs.declared.row.Row.{Row};
-ghost use Rattle.shape_files.specs.declared.shape_file.ToolShape.{ToolShape};
-ghost use Rattle.register_sweeps.specs.declared.sweeps.Stop.{Stop};
-ghost use Rattle.register_sweeps.specs.declared.sweeps.Stop.TheVariants as stop;
-ghost use Rattle.register_sweeps.specs.declared.sweeps.SweepFault.TheVariants.{TurnLimit, OutOfMemory};
+ghost use Rattle.round_driver.specs.Rounds.{most_requests};
+ghost use Rattle.register_sweeps.specs.declared.sweeps.SweepFault.TheVariants.{TurnLimit};
 ghost use Rattle.shape_files.specs.ShapeFile.{bad_field};
-ghost use Rattle.register_sweeps.specs.Sweep.{FaultSays, IsStop, CountsAll, EachCountsAll, is_request, bad_from, row_from, row_of};
+ghost use Rattle.register_sweeps.specs.Sweep.{FaultSays, CountsAll, EachCountsAll, is_request, bad_from, row_from, row_of};
 
 use crate::choice::{MachineJob, with_machine};
 use crate::row::{Row, row_from};
+use crate::threads::{RowMaker, rows_on_threads};
 use flat_model::{Event, ShapeField};
 use round_driver::RoundMachine;
 use shape_files::{ToolShape, bad_field};
 use std::alloc::{AllocError, Global};
-use std::thread;
 use std::thread::Threads;
 use thiserror::Error;
 
@@ -67,23 +64,9 @@ impl SweepGate for OpenGate {
     fn ended(&self, _place: usize) {}
 }
 
-// The first shape with a bad field, and that field.
-fn first_bad(shapes: &[ToolShape]) -> Option<(usize, ShapeField)>
-    ensures first { result ≡ bad_from 0 shapes.now }
-    ensures good { result ≡ None → (i : ℕ) (d : ToolShape) → i < length shapes.now
-        → bad_field (slice_index_or shapes.now i d) ≡ None }
-{
-    for (place, shape) in shapes.iter().enumerate() {
-        if let Some(field) = bad_field(shape) {
-            return Some((place, field));
-        }
-    }
-    None
-}
-
 // The row of a shape whose fields are in range.
 fn row_of(alloc: Global, tool: &ToolShape, events: &[Event]) -> Result<Row, AllocError>
-    requires events { length events.now ≤ 16777216 }
+    requires events { length events.now ≤ most_requests }
     requires shape { bad_field tool.now ≡ None }
     ensures { IfOk result (λ row. row ≡ row_of events.now tool.now) }
 {
@@ -104,7 +87,7 @@ struct CountedRow<'a> {
 impl MachineJob for CountedRow<'_> {
     type Done = Result<Row, AllocError>;
 
-    ghost can = { λ s. length s.events.now ≤ 16777216 };
+    ghost can = { λ s. length s.events.now ≤ most_requests };
 
     ghost done = { λ s machine t result. IfOk result (λ row. row ≡ row_from machine s.regs s.events.now) };
 
@@ -119,37 +102,22 @@ impl MachineJob for CountedRow<'_> {
     }
 }
 
-// Why a thread gave no row.
-#[derive(Clone, Copy, PartialEq, Eq, Debug)]
-enum Stop {
-    TurnLimit,
-    OutOfMemory,
+// What makes the row of these requests for each shape.
+#[derive(Drop)]
+struct PumpedRows<'a> {
+    events: &'a [Event],
 }
 
-// The row of a shape, once its gate lets it begin.
-fn row_in_turn<G: SweepGate>(
-    alloc: Global,
-    place: usize,
-    shape: &ToolShape,
-    events: &[Event],
-    turns: u64,
-    gate: &G,
-) -> Result<Row, Stop>
-    requires events { length events.now ≤ 16777216 }
-    requires shape { bad_field shape.now ≡ None }
-    ensures { IfOk result (λ row. row ≡ row_of events.now shape.now) }
-{
-    for _turn in 0..turns {
-        if gate.may(place) {
-            let row = row_of(alloc, shape, events);
-            gate.ended(place);
-            return match row {
-                Ok(row) => Ok(row),
-                Err(_) => Err(Stop::OutOfMemory),
-            };
-        }
+impl RowMaker for PumpedRows<'_> {
+    type Row = Row;
+
+    ghost can = { λ s. length s.events.now ≤ most_requests };
+
+    ghost gives = { λ s tool. row_of s.events.now tool };
+
+    fn make_row(&self, alloc: Global, tool: &ToolShape) -> Result<Row, AllocError> {
+        row_of(alloc, tool, self.events)
     }
-    Err(Stop::TurnLimit)
 }
 
 /// The row of one shape: a new machine of it, over zeros, serves the requests one after another,
@@ -161,7 +129,7 @@ fn row_in_turn<G: SweepGate>(
 /// memory is asked for; `OutOfMemory` says that there was too little memory for the machine.
 /// `TurnLimit` never comes: no thread waits here.
 pub fn sweep_row(alloc: Global, shape: &ToolShape, events: &[Event]) -> Result<Row, SweepFault>
-    requires { length events.now ≤ 16777216 }
+    requires { length events.now ≤ most_requests }
     ensures row { IfOk result
         (λ row. (bad_field shape.now ≡ None) × (row ≡ row_of events.now shape.now)) }
     ensures counts { IfOk result
@@ -173,60 +141,6 @@ pub fn sweep_row(alloc: Global, shape: &ToolShape, events: &[Event]) -> Result<R
         return Err(SweepFault::BadShape { place: 0, field });
     }
     Ok(row_of(alloc, shape, events)?)
-}
-
-// The rows of the threads. Want of memory goes before a turn limit.
-fn all_rows(alloc: Global, answers: &[Result<Row, Stop>]) -> Result<Vec<Row>, SweepFault>
-    ensures rows { IfOk result (λ rows. map Ok rows.items ≡ answers.now) }
-    ensures fault { IfErr result IsStop }
-    ensures memory { Contains answers.now (Err stop.OutOfMemory) → result ≡ Err OutOfMemory }
-{
-    if answers.contains(&Err(Stop::OutOfMemory)) {
-        return Err(SweepFault::OutOfMemory);
-    }
-    let mut rows = Vec::new(alloc);
-    for answer in answers {
-        let Ok(row) = answer else {
-            return Err(SweepFault::TurnLimit);
-        };
-        if rows.push(*row).is_err() {
-            return Err(SweepFault::OutOfMemory);
-        }
-    }
-    Ok(rows)
-}
-
-// What the threads of these shapes answer, one for each.
-fn all_answers<R: Threads + Sync, G: SweepGate>(
-    rt: &R,
-    alloc: Global,
-    events: &[Event],
-    shapes: &[ToolShape],
-    turns: u64,
-    gate: &G,
-) -> Result<Vec<Result<Row, Stop>>, AllocError>
-    requires events { length events.now ≤ 16777216 }
-    requires shapes { (i : ℕ) (t : ToolShape) → i < length shapes.now
-        → bad_field (slice_index_or shapes.now i t) ≡ None }
-    ensures len { IfOk result (λ v. length v.items ≡ length shapes.now) }
-    ensures each { IfOk result
-        (λ v. (i : ℕ) (d : Result Row Stop) (t : ToolShape) → i < length shapes.now
-        → IfOk (slice_index_or v.items i d)
-        (λ row. row ≡ row_of events.now (slice_index_or shapes.now i t))) }
-{
-    thread::map_indices(
-        rt,
-        alloc,
-        shapes.len(),
-        &|place: usize| -> Result<Row, Stop>
-            requires { (place < length shapes.now) × (length events.now ≤ 16777216)
-                × ((i : ℕ) (t : ToolShape) → i < length shapes.now
-                → bad_field (slice_index_or shapes.now i t) ≡ None) }
-            ensures { (t : ToolShape)
-                → IfOk result (λ row. row
-                ≡ row_of events.entry.now (slice_index_or shapes.entry.now place t)) }
-        { row_in_turn(alloc, place, &shapes[place], events, turns, gate) },
-    )
 }
 
 /// The rows of these shapes, in their order, each by a thread of its own, so all at once.
@@ -247,16 +161,12 @@ pub fn sweep<R: Threads + Sync, G: SweepGate>(
     turns: u64,
     gate: &G,
 ) -> Result<Vec<Row>, SweepFault>
-    requires { length events.now ≤ 16777216 }
+    requires { length events.now ≤ most_requests }
     ensures rows { IfOk result (λ rows. rows.items ≡ map (row_of events.now) shapes.now) }
     ensures counts { IfOk result
         (λ rows. list_all is_request events.now ≡ true → EachCountsAll events.now shapes.now rows.items) }
     ensures good { OnOk result (bad_from 0 shapes.now ≡ None) }
     ensures fault { IfErr result (FaultSays shapes.now) }
 {
-    if let Some((place, field)) = first_bad(shapes) {
-        return Err(SweepFault::BadShape { place, field });
-    }
-    let answers = all_answers(rt, alloc, events, shapes, turns, gate)?;
-    all_rows(alloc, answers.as_slice())
+    rows_on_threads(rt, alloc, &PumpedRows { events }, shapes, turns, gate)
 }

@@ -11,6 +11,8 @@ use Rattle.cache_unit.specs.declared.Lookup.TheVariants.{Miss}
 use Rattle.machine_core.specs.Machine.{MachineState}
 use Rattle.machine_core.specs.AnyMachine.{answered, after_event, weight_of}
 use Rattle.round_driver.specs.Machines.{has_command, has_answer, has_stack_room, found_at, used_registers}
+use Rattle.trace_text.specs.Codes.{most_lines}
+use Rattle.round_driver.specs.declared.driving.TheConstants.{MOST_MOVES}
 use Rattle.round_driver.specs.declared.note.Note.{Note}
 use Rattle.round_driver.specs.declared.schedule.Schedule.{Schedule}
 
@@ -201,10 +203,14 @@ rounds_until_over (suc n) r = if is_over r then r else rounds_until_over n (afte
 abbrev pub start_of : ℕ → MachineState → List Event → Run
 start_of latency s requests = record { state = s; schedule = opening latency; left = requests; told = [] }
 
--- More rounds than a run takes. Nothing weighs more than 2,624 on its way, each move lowers the weight, and there is
--- one in any latency + 1 rounds, or a request ends.
+-- as many requests as a trace has lines
+abbrev pub most_requests : ℕ
+most_requests = most_lines
+
+-- More rounds than a run takes. What is on its way allows fewer than MOST_MOVES moves, and in any latency + 1 rounds
+-- there is one, or a request ends.
 abbrev pub most_rounds : ℕ → ℕ → ℕ
-most_rounds latency requests = (requests + 1) * (2625 * (latency + 1))
+most_rounds latency requests = (requests + 1) * (MOST_MOVES * (latency + 1))
 
 -- the whole run of these requests
 abbrev pub whole_run : ℕ → MachineState → List Event → Run

@@ -1,10 +1,11 @@
 //! Whole runs.
 ghost use Rattle.std.specs.Prelude.{◌≡◌, ◌≢◌, ◌≤◌, ◌<◌, ◌^◌, ◌+◌, ◌++◌, ℕ, List, length, IfOk, IfErr, OnOk};
 ghost use Rattle.trace_text.specs.Streams.{Moves};
+ghost use Rattle.round_driver.specs.declared.driving.TheConstants.{MOST_LATENCY};
 ghost use Rattle.round_driver.specs.declared.note.Note.{Note as NoteValue};
 ghost use Rattle.round_driver.specs.Machines as machines;
 ghost use Rattle.round_driver.specs.Rounds as rounds;
-ghost use Rattle.round_driver.specs.Rounds.{run_of, start_of, rounds_until_over, whole_run, EndsInTime};
+ghost use Rattle.round_driver.specs.Rounds.{run_of, start_of, rounds_until_over, whole_run, most_requests, EndsInTime};
 ghost use Rattle.round_driver.specs.Tables.{table_of};
 ghost use Rattle.round_driver.specs.Written.{run_text, BreaksOff};
 
@@ -16,6 +17,13 @@ use crate::writing::{round_text, write_whole};
 use flat_model::Event;
 use std::alloc::{AllocError, Global};
 use trace_text::{Sink, TraceFault};
+
+/// The most rounds that may pass between a command's begin and its service.
+pub const MOST_LATENCY: u64 = 1_000;
+
+/// More moves than there can be while nothing new is asked: each makes what is on its way lighter,
+/// and the most that a machine has on its way weighs 2,624.
+pub const MOST_MOVES: u64 = 2_625;
 
 // One round: what is told of it stands in `notes`, and the requests that are left come back.
 #[tactic(auto, unfolding(crate::specs::Rounds::after_round))]
@@ -59,12 +67,12 @@ fn is_over<M: RoundMachine>(machine: &M, left: &[Event]) -> bool
 
 // More rounds than a run takes.
 fn most_rounds(latency: u64, requests: usize) -> u64
-    requires latency { latency ≤ 1000 }
-    requires requests { requests ≤ 16777216 }
+    requires latency { latency ≤ MOST_LATENCY }
+    requires requests { requests ≤ most_requests }
     ensures value { result ≡ rounds.most_rounds latency requests }
     ensures few { result < 2 ^ 48 }
 {
-    (requests as u64 + 1) * (2625 * (latency + 1))
+    (requests as u64 + 1) * (MOST_MOVES * (latency + 1))
 }
 
 /// Drives these requests through the machine in rounds, and writes the run: each request whenever it
@@ -74,7 +82,7 @@ fn most_rounds(latency: u64, requests: usize) -> u64
 /// requests are used up and nothing is on its way; no more rounds are made than that.
 ///
 /// `latency` is how many rounds pass from the one in which a bank begins a command to the one in
-/// which it serves it, 1,000 at most. There may be at most 16,777,216 requests. The machine has at
+/// which it serves it, [`MOST_LATENCY`] at most. There may be at most 16,777,216 requests. The machine has at
 /// most 16 banks, as each one that is made. The writer isn't flushed.
 ///
 /// `TraceFault::Write` says that a write was refused or took no byte: a front of the run is written.
@@ -88,8 +96,8 @@ pub fn drive<W: Sink, M: RoundMachine>(
     writer: &mut W,
 ) -> Result<u64, TraceFault>
     requires banks { (M.state machine.old).sizes.banks ≤ 16 }
-    requires latency { latency ≤ 1000 }
-    requires requests { length requests.now ≤ 16777216 }
+    requires latency { latency ≤ MOST_LATENCY }
+    requires requests { length requests.now ≤ most_requests }
     ensures ok { IfOk result
         (λ n. n ≡ (whole_run latency (M.state machine.old) requests.now).schedule.round + 1) }
     ensures machine { OnOk result
@@ -130,8 +138,8 @@ pub fn summarize<M: RoundMachine>(
     requests: &[Event],
 ) -> Result<Table, AllocError>
     requires banks { (M.state machine.old).sizes.banks ≤ 16 }
-    requires latency { latency ≤ 1000 }
-    requires requests { length requests.now ≤ 16777216 }
+    requires latency { latency ≤ MOST_LATENCY }
+    requires requests { length requests.now ≤ most_requests }
     ensures table { IfOk result
         (λ table. table ≡ table_of latency (M.state machine.old) requests.now) }
     ensures machine { OnOk result

@@ -22,7 +22,7 @@ mod table;
 mod texts;
 mod writing;
 
-pub use driving::{drive, summarize};
+pub use driving::{MOST_LATENCY, drive, summarize};
 pub use machine::RoundMachine;
 pub use note::Note;
 pub use table::{LostRounds, Table};

@@ -106,15 +106,23 @@ impl Read for FailsOnce {
 
 #[test]
 fn a_failed_read_ends_each_job(rt: HostRuntime) -> Result<(), Fail> {
-    for job in ["run", "check", "sweep", "explain", "drive"] {
+    let jobs: [&[&str]; 6] = [
+        &["run"],
+        &["check"],
+        &["sweep"],
+        &["sweep", "--latency", "0"],
+        &["explain"],
+        &["drive"],
+    ];
+    for words in jobs {
         let mut input = FailsOnce {
             calls: 0,
             text: b"",
         };
         let mut output = Vec::new(rt.alloc());
         let mut errors = Vec::new(rt.alloc());
-        let status = tool(&rt, &[job], &mut input, &mut output, &mut errors);
-        assert_eq!(rt; status, 4, "{job}");
+        let status = tool(&rt, words, &mut input, &mut output, &mut errors);
+        assert_eq!(rt; status, 4);
         assert_eq!(rt; errors.as_slice(), b"read failed\n".as_slice());
         assert_eq!(rt; output.len(), 0);
         assert_eq!(rt; input.calls, 1);
@@ -151,17 +159,18 @@ impl Write for RefusesOnce {
 
 #[test]
 fn a_refused_write_or_flush_ends_each_job(rt: HostRuntime) -> Result<(), Fail> {
-    let jobs = [
-        ("run", "drain\n"),
-        ("check", "drain -> nothing\n"),
-        ("check", "drain -> accepted\n"),
-        ("sweep", "load 1 0\n"),
-        ("explain", "drain -> nothing\n"),
-        ("explain", "drain -> accepted\n"),
-        ("drive", "load 1 0\n"),
-        ("--help", ""),
+    let jobs: [(&[&str], &str); 9] = [
+        (&["run"], "drain\n"),
+        (&["check"], "drain -> nothing\n"),
+        (&["check"], "drain -> accepted\n"),
+        (&["sweep"], "load 1 0\n"),
+        (&["sweep", "--latency", "0"], "load 1 0\n"),
+        (&["explain"], "drain -> nothing\n"),
+        (&["explain"], "drain -> accepted\n"),
+        (&["drive"], "load 1 0\n"),
+        (&["--help"], ""),
     ];
-    for (job, input) in jobs {
+    for (words, input) in jobs {
         for writes in [true, false] {
             let mut output = RefusesOnce {
                 writes,
@@ -169,10 +178,10 @@ fn a_refused_write_or_flush_ends_each_job(rt: HostRuntime) -> Result<(), Fail> {
                 taken: 0,
             };
             let mut errors = Vec::new(rt.alloc());
-            let status = tool(&rt, &[job], &mut input.as_bytes(), &mut output, &mut errors);
-            assert_eq!(rt; status, 4, "{job}");
+            let status = tool(&rt, words, &mut input.as_bytes(), &mut output, &mut errors);
+            assert_eq!(rt; status, 4);
             assert_eq!(rt; errors.as_slice(), b"write failed\n".as_slice());
-            assert_eq!(rt; output.taken == 0, writes, "{job}");
+            assert_eq!(rt; output.taken == 0, writes);
         }
     }
     Ok(())

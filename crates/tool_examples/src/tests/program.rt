@@ -9,7 +9,7 @@ use std::test::Fail;
 use std::thread::Threads;
 
 /// Asserts what the program writes and ends with, where these are its words and its input.
-fn ends<R: Abort + AllocGlobal + Files + Threads + Sync>(
+pub fn ends<R: Abort + AllocGlobal + Files + Threads + Sync>(
     rt: &R,
     words: &[&str],
     input: &str,
@@ -239,7 +239,11 @@ fn faulty_lines(rt: HostRuntime) -> Result<(), Fail> {
 
 #[test]
 fn refused_words(rt: HostRuntime) -> Result<(), Fail> {
-    let refused: [&[&str]; 12] = [
+    let refused: [&[&str]; 16] = [
+        &["sweep", "--latency", "1001"],
+        &["sweep", "--latency", "x"],
+        &["sweep", "--latency"],
+        &["sweep", "--summary"],
         &["drive", "--latency", "1001"],
         &["drive", "--latency", "x"],
         &["drive", "--latency"],

@@ -6,7 +6,7 @@ use super::stored::{STORED_INPUT, STORED_OUTPUT};
 use super::sweeps::{REQUESTS, row_of_three_loads, with_registers};
 use flat_model::ShapeField;
 use kroft_command::tool;
-use register_sweeps::{OpenGate, SweepFault, sweep, sweep_row};
+use register_sweeps::{OpenGate, SweepFault, sweep, sweep_rounds, sweep_row};
 use shape_files::{ShapeFault, read_shape};
 use std::io::Cursor;
 use std::test::Fail;
@@ -56,6 +56,16 @@ fn a_sweep_may_find_no_memory(rt: HostRuntime) -> Result<(), Fail> {
             let wanted = [row_of_three_loads(1), row_of_three_loads(2)];
             assert_eq!(rt; rows.as_slice(), &wanted[..]);
         }
+        Err(fault) => assert_eq!(rt; fault, SweepFault::OutOfMemory),
+    }
+    Ok(())
+}
+
+#[test]
+fn a_sweep_in_rounds_may_find_no_memory(rt: HostRuntime) -> Result<(), Fail> {
+    let shapes = [with_registers(1), with_registers(2)];
+    match sweep_rounds(&rt, rt.alloc(), 10, &REQUESTS, &shapes, 1_000, &OpenGate) {
+        Ok(rows) => assert_eq!(rt; rows.len(), 2),
         Err(fault) => assert_eq!(rt; fault, SweepFault::OutOfMemory),
     }
     Ok(())

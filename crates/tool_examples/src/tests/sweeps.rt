@@ -9,8 +9,16 @@ use std::test::Fail;
 
 /// Holds the row at place 0 until the one at place 1 has ended.
 #[derive(Drop)]
-struct SecondFirst {
+pub struct SecondFirst {
     second_ended: AtomicBool,
+}
+
+impl SecondFirst {
+    pub fn new() -> SecondFirst {
+        SecondFirst {
+            second_ended: AtomicBool::new(false),
+        }
+    }
 }
 
 impl SweepGate for SecondFirst {
@@ -27,10 +35,25 @@ impl SweepGate for SecondFirst {
 
 /// Its first call for each place adds one to a count, and reads it in place until it is 2.
 #[derive(Drop)]
-struct BothThere {
+pub struct BothThere {
     came: [AtomicBool; 2],
     there: AtomicU64,
     read: [AtomicU64; 2],
+}
+
+impl BothThere {
+    pub fn new() -> BothThere {
+        BothThere {
+            came: [AtomicBool::new(false), AtomicBool::new(false)],
+            there: AtomicU64::new(0),
+            read: [AtomicU64::new(0), AtomicU64::new(0)],
+        }
+    }
+
+    /// Whether each row had begun before the other ended.
+    pub fn saw_both(&self) -> bool {
+        self.read[0].load(Ordering::SeqCst) == 2 && self.read[1].load(Ordering::SeqCst) == 2
+    }
 }
 
 impl SweepGate for BothThere {
@@ -104,21 +127,14 @@ fn sweep_on_threads(rt: HostRuntime) -> Result<(), Fail> {
         wanted.as_slice(),
         &[row_of_three_loads(1), row_of_three_loads(2)][..]
     );
-    let gate = SecondFirst {
-        second_ended: AtomicBool::new(false),
-    };
+    let gate = SecondFirst::new();
     let rows = sweep(&rt, alloc, &REQUESTS, &shapes, 5_000_000, &gate)?;
     assert_eq!(rt; rows.as_slice(), wanted.as_slice());
 
-    let gate = BothThere {
-        came: [AtomicBool::new(false), AtomicBool::new(false)],
-        there: AtomicU64::new(0),
-        read: [AtomicU64::new(0), AtomicU64::new(0)],
-    };
+    let gate = BothThere::new();
     let rows = sweep(&rt, alloc, &REQUESTS, &shapes, 5_000_000, &gate)?;
     assert_eq!(rt; rows.as_slice(), wanted.as_slice());
-    assert_eq!(rt; gate.read[0].load(Ordering::SeqCst), 2);
-    assert_eq!(rt; gate.read[1].load(Ordering::SeqCst), 2);
+    assert!(rt; gate.saw_both());
     Ok(())
 }
 
@@ -147,9 +163,7 @@ fn sweep_of_a_bad_shape_or_none(rt: HostRuntime) -> Result<(), Fail> {
 
 #[test]
 fn sweep_of_no_turns(rt: HostRuntime) -> Result<(), Fail> {
-    let gate = SecondFirst {
-        second_ended: AtomicBool::new(false),
-    };
+    let gate = SecondFirst::new();
     let shapes = [with_registers(1)];
     let stopped = sweep(&rt, rt.alloc(), &REQUESTS, &shapes, 1_000, &gate);
     assert!(rt; matches!(stopped, Err(SweepFault::TurnLimit)));

@@ -1,6 +1,6 @@
 use Rattle.std.proofs.Common.{◌≡◌, drop}
 use Rattle.register_sweeps.specs.Sweep.{bad_from}
-use Rattle.register_sweeps.proofs.sweeps.first_bad.Given as goal
+use Rattle.register_sweeps.proofs.threads.first_bad.Given as goal
 
 -- no shape so far has a bad field
 abbrev pub invariant-loop-place : goal.invariant-loop-place

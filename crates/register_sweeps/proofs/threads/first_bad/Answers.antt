@@ -1,6 +1,6 @@
 use Rattle.std.proofs.Common.{length, ◌≤◌, ◌∙◌, arith}
 use Rattle.register_sweeps.proofs.Shapes.{good_shape, all_good}
-use Rattle.register_sweeps.proofs.sweeps.first_bad.Goals as goal
+use Rattle.register_sweeps.proofs.threads.first_bad.Goals as goal
 
 pub returns-clause-good : goal.returns-clause-good
 returns-clause-good c = λ none i d inside.

@@ -1,0 +1,136 @@
+//! The rows of a sweep in rounds: a machine is driven with a latency of memory, and its table counted.
+
+ghost use Rattle.std.specs.Prelude.{⊤, ◌≡◌, ◌≤◌, length, map, Some, None, IfOk, IfErr, OnOk};
+ghost use Rattle.round_driver.specs.declared.driving.TheConstants.{MOST_LATENCY};
+ghost use Rattle.round_driver.specs.Rounds.{most_requests};
+ghost use Rattle.round_driver.specs.Tables.{table_of};
+ghost use Rattle.shape_files.specs.ShapeFile.{bad_field};
+ghost use Rattle.register_sweeps.specs.Sweep.{FaultSays, bad_from, new_machine};
+ghost use Rattle.register_sweeps.specs.Rounds.{rounds_row_of, rounds_row_text};
+
+use crate::choice::{MachineJob, with_machine};
+use crate::sweeps::{SweepFault, SweepGate};
+use crate::threads::{RowMaker, rows_on_threads};
+use flat_model::Event;
+use round_driver::{RoundMachine, Table, summarize};
+use shape_files::ToolShape;
+use std::alloc::{AllocError, Global};
+use std::fmt;
+use std::thread::Threads;
+
+/// What rounds counted with one number of registers.
+#[derive(Clone, Copy, PartialEq, Eq, Debug, Default)]
+pub struct RoundsRow {
+    /// Registers of the machine.
+    pub regs: u32,
+    /// The counts.
+    pub table: Table,
+}
+
+/// `regs N`, and the table behind a space.
+impl fmt::Display for RoundsRow {
+    ghost output = { λ row. Some (rounds_row_text row) };
+
+    fn fmt<W: fmt::Write>(&self, f: &mut fmt::Formatter<W>) -> fmt::Result {
+        write!(f, "regs {} {}", self.regs, self.table)
+    }
+}
+
+/// The table of requests that are driven in rounds through a new machine of a shape whose fields are
+/// in range, over zeros, as [`summarize`] counts it.
+///
+/// `AllocError` says that there was too little memory.
+pub fn rounds_table(
+    alloc: Global,
+    tool: &ToolShape,
+    latency: u64,
+    requests: &[Event],
+) -> Result<Table, AllocError>
+    requires shape { bad_field tool.now ≡ None }
+    requires latency { latency ≤ MOST_LATENCY }
+    requires requests { length requests.now ≤ most_requests }
+    ensures { IfOk result
+        (λ table. table ≡ table_of latency (new_machine tool.now) requests.now) }
+{
+    let mut job = CountedRounds {
+        alloc,
+        latency,
+        requests,
+    };
+    with_machine(alloc, tool, &mut job)
+}
+
+// The counting of requests.
+#[derive(Drop)]
+struct CountedRounds<'a> {
+    alloc: Global,
+    latency: u64,
+    requests: &'a [Event],
+}
+
+impl MachineJob for CountedRounds<'_> {
+    type Done = Result<Table, AllocError>;
+
+    ghost can = { λ s. (s.latency ≤ MOST_LATENCY) × (length s.requests.now ≤ most_requests) };
+
+    ghost done = { λ s machine t result. IfOk result (λ table. table ≡ table_of s.latency machine s.requests.now) };
+
+    ghost holds_same = { λ s t. ⊤ };
+
+    fn work<M: RoundMachine>(&mut self, machine: &mut M) -> Result<Table, AllocError> {
+        summarize(self.alloc, machine, self.latency, self.requests)
+    }
+
+    fn give_up(&mut self) -> Result<Table, AllocError> {
+        Err(AllocError)
+    }
+}
+
+// What makes the row of these requests for each shape, with a latency.
+#[derive(Drop)]
+struct RoundsRows<'a> {
+    latency: u64,
+    requests: &'a [Event],
+}
+
+impl RowMaker for RoundsRows<'_> {
+    type Row = RoundsRow;
+
+    ghost can = { λ s. (s.latency ≤ MOST_LATENCY) × (length s.requests.now ≤ most_requests) };
+
+    ghost gives = { λ s tool. rounds_row_of s.latency s.requests.now tool };
+
+    fn make_row(&self, alloc: Global, tool: &ToolShape) -> Result<RoundsRow, AllocError> {
+        let table = rounds_table(alloc, tool, self.latency, self.requests)?;
+        Ok(RoundsRow {
+            regs: tool.regs,
+            table,
+        })
+    }
+}
+
+/// The tables of these shapes, in their order, each by a thread of its own, so all at once: a new
+/// machine of the shape, over zeros, is driven in rounds, as [`rounds_table`] has it.
+///
+/// `latency` is as that of [`summarize`], [`MOST_LATENCY`](round_driver::MOST_LATENCY) at most.
+/// There may be at most 16,777,216 requests. Turns, gate and faults are those of
+/// [`sweep`](crate::sweep).
+pub fn sweep_rounds<R: Threads + Sync, G: SweepGate>(
+    rt: &R,
+    alloc: Global,
+    latency: u64,
+    requests: &[Event],
+    shapes: &[ToolShape],
+    turns: u64,
+    gate: &G,
+) -> Result<Vec<RoundsRow>, SweepFault>
+    requires latency { latency ≤ MOST_LATENCY }
+    requires requests { length requests.now ≤ most_requests }
+    ensures rows { IfOk result
+        (λ rows. rows.items ≡ map (rounds_row_of latency requests.now) shapes.now) }
+    ensures good { OnOk result (bad_from 0 shapes.now ≡ None) }
+    ensures fault { IfErr result (FaultSays shapes.now) }
+{
+    let maker = RoundsRows { latency, requests };
+    rows_on_threads(rt, alloc, &maker, shapes, turns, gate)
+}
