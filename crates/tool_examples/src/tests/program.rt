@@ -9,7 +9,7 @@ use std::test::Fail;
 use std::thread::Threads;
 
 /// Asserts what the program writes and ends with, where these are its words and its input.
-fn ends<R: Abort + AllocGlobal + Files + Threads + Sync>(
+pub fn ends<R: Abort + AllocGlobal + Files + Threads + Sync>(
     rt: &R,
     words: &[&str],
     input: &str,
