@@ -1,5 +1,5 @@
 -- What a line of a log says, in each format: an access, or nothing that is asked of a data cache.
-use Rattle.std.specs.Prelude.{ℕ, ◌+◌, ◌*◌, ◌/◌, ◌==◌, Bool, false, ◌&&◌, ◌||◌, if◌then◌else◌, Option, None, Some, Result, Ok, Err, List, [], ◌∷◌, position, nat_le, nat_lt}
+use Rattle.std.specs.Prelude.{ℕ, ◌+◌, ◌*◌, ◌/◌, ◌==◌, Bool, false, ◌&&◌, ◌||◌, if◌then◌else◌, Option, None, Some, Result, Ok, Err, List, [], ◌∷◌, length, position, nat_le, nat_lt}
 use Rattle.std.specs.Option.{option_map, option_and_then}
 use Rattle.trace_text.specs.Fields.{nibble_of, number_of}
 use Rattle.trace_text.specs.Lines.{cut_at, cut_of}
@@ -24,8 +24,7 @@ hex_after n (b ∷ bs) = option_and_then (λ k. hex_after k bs) (with_digit n (n
 
 -- the address of these hexadecimal digits, at least one
 abbrev pub address_of : List ℕ → Option ℕ
-address_of [] = None
-address_of (b ∷ bs) = hex_after 0 (b ∷ bs)
+address_of bs = if length bs == 0 then None else hex_after 0 bs
 
 -- ---- what is touched
 

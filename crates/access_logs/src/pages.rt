@@ -63,12 +63,10 @@ impl Pages {
         ensures place { result ≡ found_in self.now page }
         ensures bound { IfSome result (λ place. place < 1026) }
     {
-        if let Some(recent) = self.recent
-            && recent.page == page
-        {
-            return Some(recent.place);
+        match self.recent {
+            Some(recent) if recent.page == page => Some(recent.place),
+            _ => self.touched.iter().position(|touched| *touched == page),
         }
-        self.touched.iter().position(|touched| *touched == page)
     }
 
     // Touches a page: it is added if it isn't among them.
