@@ -61,15 +61,23 @@ pub log_halts : {R W S : Type 0} (gave : R → List ℕ → R → Type 0) (faile
     → Ends gave failed took refused unflushed access_in (rm c) r r' (wr c) (wr c') (Err (fault_for n))
 log_halts gave failed took refused unflushed access_in wr st rm nr r r' c c' None h e =
     let v = h.2 in
-    let went = h.3 in
-    (h.0, h.1, wr v, st v, subst (λ k. Requested took access_in k (wr c) h.0 (wr v) (st v)) went.1 went.0,
-    elim h.4 [
-      | inl before ↦ inl (before.0, before.1.0)
-      | inr into ↦ inr (into.0, elim into.1 [
-        | inl unflushed_here ↦ inl unflushed_here.0
-        | inr at ↦ inr (at.0, subst (λ k. FirstLine (fault_by access_in) 768 (λ text. HaltsAt took refused unflushed access_in k (wr v) (st v) text (wr c') None) h.1) went.1 (subst (λ o. FirstLine (fault_by access_in) 768 (λ text. HaltsAt took refused unflushed access_in (rm v) (wr v) (st v) text (wr c') o) h.1) e at.1))
-      ])
-    ])
+    let went = h.3 in (
+      h.0,
+      h.1,
+      wr v,
+      st v,
+      subst (λ k. Requested took access_in k (wr c) h.0 (wr v) (st v)) went.1 went.0,
+      elim h.4 [
+        | inl before ↦ inl (before.0, before.1.0)
+        | inr into ↦ inr (
+          into.0,
+          elim into.1 [
+            | inl unflushed_here ↦ inl unflushed_here.0
+            | inr at ↦ inr (at.0, subst (λ k. FirstLine (fault_by access_in) 768 (λ text. HaltsAt took refused unflushed access_in k (wr v) (st v) text (wr c') None) h.1) went.1 (subst (λ o. FirstLine (fault_by access_in) 768 (λ text. HaltsAt took refused unflushed access_in (rm v) (wr v) (st v) text (wr c') o) h.1) e at.1))
+          ],
+        )
+      ],
+    )
 log_halts gave failed took refused unflushed access_in wr st rm nr r r' c c' (Some n) h e =
     let v = h.2 in
     let went = h.3 in

@@ -1,3 +1,3 @@
-pub mod Requests
+pub mod Asked
 pub mod Logs
 pub mod Ends

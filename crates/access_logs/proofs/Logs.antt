@@ -7,7 +7,7 @@ use Rattle.trace_text.proofs.Serving.{moved_none, moved_still}
 use Rattle.access_logs.specs.declared.access.Access.{Access}
 use Rattle.access_logs.specs.Requests.{requests_text}
 use Rattle.access_logs.specs.Logs.{LogState, log_start, access_told, state_after, requests_for, state_behind, requests_in, Requested, Asked}
-use Rattle.access_logs.proofs.Requests.{moved_both}
+use Rattle.access_logs.proofs.Asked.{moved_both}
 
 state_more : (access_in : List ℕ → Result (Option Access) LineFault) (s : LogState) (texts : List (List ℕ)) (text : List ℕ)
     → state_behind access_in s (texts ++ text ∷ []) ≡ state_after (state_behind access_in s texts) (access_told (access_in text))

@@ -1,5 +1,7 @@
 //! Why the requests of a log aren't written to its end.
 ghost use Rattle.std.specs.Prelude.{Some};
+ghost use Rattle.std.specs.Fmt.{WritesOnOk};
+ghost use Rattle.access_logs.specs.Faults.{place_text, remedy_text};
 
 use crate::pages::{MAX_PAGES, PAGE_WORDS};
 use std::alloc::AllocError;
@@ -15,6 +17,28 @@ pub struct NoRoom {
     pub pages: u64,
 }
 
+impl NoRoom {
+    // Writes which page has no room.
+    #[tactic(auto, unfolding(crate::specs::Faults::place_text))]
+    fn write_place<W: fmt::Write>(&self, f: &mut fmt::Formatter<W>) -> fmt::Result
+        ensures { WritesOnOk W.write_str_gives f.old result (place_text self.now) f.new }
+    {
+        write!(f, "line {}: no room for page {}", self.line, self.pages)
+    }
+
+    // Writes how many words would do.
+    #[tactic(auto, unfolding(crate::specs::Faults::remedy_text))]
+    fn write_remedy<W: fmt::Write>(&self, f: &mut fmt::Formatter<W>) -> fmt::Result
+        ensures { WritesOnOk W.write_str_gives f.old result (remedy_text self.now.pages) f.new }
+    {
+        if self.pages <= u64::from(MAX_PAGES) {
+            write!(f, "{} words would do", self.pages * PAGE_WORDS)
+        } else {
+            f.write_str("memory has at most 1048576 words")
+        }
+    }
+}
+
 /// `line N: no room for page P: W words would do`, or that memory has at most 1,048,576 words. Pages are
 /// counted from 1.
 impl fmt::Display for NoRoom {
@@ -23,12 +47,9 @@ impl fmt::Display for NoRoom {
     ghost output = { λ fault. Some (no_room_text fault) };
 
     fn fmt<W: fmt::Write>(&self, f: &mut fmt::Formatter<W>) -> fmt::Result {
-        write!(f, "line {}: no room for page {}: ", self.line, self.pages)?;
-        if self.pages <= u64::from(MAX_PAGES) {
-            write!(f, "{} words would do", self.pages * PAGE_WORDS)
-        } else {
-            f.write_str("memory has at most 1048576 words")
-        }
+        self.write_place(f)?;
+        f.write_str(": ")?;
+        self.write_remedy(f)
     }
 }
 

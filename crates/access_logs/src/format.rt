@@ -1,5 +1,5 @@
 //! The formats of logs: what a line says.
-ghost use Rattle.std.specs.Prelude.{◌≡◌, ◌<◌, ◌≤◌, ◌^◌, ℕ, List, Option, Result, ◌==◌, length, position, IfSome, IfOk, IfErr};
+ghost use Rattle.std.specs.Prelude.{◌≡◌, ◌+◌, ◌<◌, ◌≤◌, ◌^◌, ℕ, List, Option, Result, ◌==◌, length, position, IfSome, IfOk, IfErr};
 ghost use Rattle.std.specs.Option.{option_map};
 ghost use Rattle.trace_text.specs.Fields.{nibble_of};
 ghost use Rattle.trace_text.specs.Lines.{IsSaid};
@@ -158,7 +158,7 @@ fn is_remark(text: &[u8]) -> bool
 }
 
 // What lackey's line is about that begins with these three bytes.
-fn reference(a: u8, b: u8, c: u8) -> Option<Reference>
+fn reference_by(a: u8, b: u8, c: u8) -> Option<Reference>
     ensures { result ≡ reference_at a b c }
 {
     match (a, b, c) {
@@ -176,7 +176,7 @@ fn lackey_from(text: &[u8]) -> Result<Option<Access>, LineFault>
     ensures fault { IfErr result IsSaid }
 {
     match text {
-        [a, b, c, fields @ ..] => said_as(reference(*a, *b, *c), extent(fields)),
+        [a, b, c, fields @ ..] => said_as(reference_by(*a, *b, *c), extent(fields)),
         _ => Err(LineFault::Unknown),
     }
 }

@@ -36,7 +36,7 @@ impl Model for Pages {
 
     ghost view = { λ p. p.touched.items };
 
-    ghost invariant = { λ p. IfSome p.recent (λ r. found_in p.touched.items r.page ≡ Some r.place) };
+    ghost invariant = { λ p. IfSome p.recent (λ r. (found_in p.touched.items r.page ≡ Some r.place) × (r.place < 1026)) };
 }
 
 impl Pages {

@@ -39,7 +39,7 @@ impl<'a, W: Sink, F: LogFormat> Writing<'a, W, F> {
     // the flush is refused, that is the fault.
     fn refuse(&mut self, line: u64)
         requires { self.old.no_room ≡ None }
-        ensures { Refuses W.took W.unflushed self.old.writer.now line self.old.pages self.new.writer.now
+        ensures refuses { Refuses W.took W.unflushed self.old.writer.now line self.old.pages self.new.writer.now
             self.new.no_room }
         ensures same { self.new.writer.ghost_name ≡ self.old.writer.ghost_name }
     {
@@ -75,7 +75,14 @@ impl<'a, W: Sink, F: LogFormat> Writing<'a, W, F> {
             self.refuse(number);
             return Err(Uncollected::Halted);
         }
-        write_access(self.writer, &mut self.out, &self.pages, self.tag, number, access)?;
+        write_access(
+            self.writer,
+            &mut self.out,
+            &self.pages,
+            self.tag,
+            number,
+            access,
+        )?;
         self.tag = tag_after(self.tag, access);
         Ok(())
     }
@@ -98,11 +105,17 @@ impl<'a, W: Sink, F: LogFormat> Collector for Writing<'a, W, F> {
 
     fn collect(&mut self, number: u64, text: &[u8]) -> Result<(), Uncollected> {
         let said = self.format.access_said(text)?;
-        if let Some(access) = said {
-            self.ask(number, access)?;
+        match said {
+            None => {
+                self.lines = number;
+                Ok(())
+            }
+            Some(access) => {
+                self.ask(number, access)?;
+                self.lines = number;
+                Ok(())
+            }
         }
-        self.lines = number;
-        Ok(())
     }
 
     fn pause(&mut self) -> Result<(), Failed> {

@@ -1,6 +1,6 @@
 -- Requests that are written one by one.
-use Rattle.std.proofs.Common.{◌≡◌, ℕ, ◌+◌, ◌<◌, List, [], ◌∷◌, ◌++◌, take, drop, take-append-drop, refl, sym, ◌∙◌, ap, subst, append_assoc, append-nil, arith}
-use Rattle.std.specs.Prelude.{map}
+use Rattle.std.proofs.Common.{◌≡◌, ℕ, ◌+◌, ◌<◌, Result, Ok, Err, OnErr, List, [], ◌∷◌, ◌++◌, take, drop, take-append-drop, refl, sym, ◌∙◌, ap, subst, append_assoc, append-nil, arith}
+use Rattle.std.specs.Prelude.{map, codes}
 use Rattle.std.specs.List.{range_with_len}
 use Rattle.std.proofs.lemmas.Grind.{flat_map-append}
 use Rattle.std.proofs.lemmas.List.FromFn.{map-range_with_len_more, take-map-range_with_len}
@@ -8,6 +8,24 @@ use Rattle.flat_model.specs.declared.Event.{Event}
 use Rattle.trace_text.specs.Streams.{Moves, Stopped}
 use Rattle.trace_text.proofs.Serving.{moved_then}
 use Rattle.access_logs.specs.Requests.{request_text, requests_text}
+
+pub on_err : {A E P : Type 0} (r : Result A E) → P → OnErr r P
+on_err (Ok x) p = tt
+on_err (Err e) p = p
+
+pub on_err_more : {A E P Q : Type 0} (r : Result A E) → (P → Q) → OnErr r P → OnErr r Q
+on_err_more (Ok x) f p = tt
+on_err_more (Err e) f p = f p
+
+-- the line of a store, piece by piece
+pub store_built : (x0 x1 x2 x3 x4 x5 x6 x7 word_at lanes word : List ℕ) → x0 ≡ [] → x1 ≡ x0 ++ codes "store " → x2 ≡ x1 ++ word_at → x3 ≡ x2 ++ 32 ∷ [] → x4 ≡ x3 ++ lanes → x5 ≡ x4 ++ 32 ∷ [] → x6 ≡ x5 ++ word → x7 ≡ x6 ++ 10 ∷ []
+    → x7 ≡ (codes "store " ++ (word_at ++ (32 ∷ (lanes ++ (32 ∷ word))))) ++ 10 ∷ []
+store_built x0 x1 x2 x3 x4 x5 x6 x7 word_at lanes word e0 e1 e2 e3 e4 e5 e6 e7 =
+    let two = e2 ∙ ap (λ l. l ++ word_at) (e1 ∙ ap (λ l. l ++ codes "store ") e0) in
+    let four = e4 ∙ ap (λ l. l ++ lanes) (e3 ∙ ap (λ l. l ++ 32 ∷ []) two) in
+    let six = e6 ∙ ap (λ l. l ++ word) (e5 ∙ ap (λ l. l ++ 32 ∷ []) four) in
+    let flat : x6 ≡ codes "store " ++ (word_at ++ (32 ∷ (lanes ++ (32 ∷ word)))) = six ∙ simp append_assoc in
+    e7 ∙ ap (λ l. l ++ 10 ∷ []) flat
 
 -- ---- a write that stops behind others
 
