@@ -34,14 +34,14 @@ pub struct Access {
 
 impl Access {
     // The number of the first word that it touches.
-    pub fn first_word(self) -> u64
+    pub(crate) fn first_word(self) -> u64
         ensures { result ≡ first_word_of self }
     {
         self.address / WORD_BYTES
     }
 
     // The number of the last word that it touches.
-    pub fn last_word(self) -> u64
+    pub(crate) fn last_word(self) -> u64
         requires { IsWithin self }
         ensures { result ≡ last_word_of self }
     {
@@ -49,7 +49,7 @@ impl Access {
     }
 
     // How many words it touches.
-    pub fn word_count(self) -> u64
+    pub(crate) fn word_count(self) -> u64
         requires { IsWithin self }
         ensures count { result ≡ word_count_of self }
         ensures few { result ≤ 129 }
@@ -73,7 +73,7 @@ impl Access {
     }
 
     // The lanes of a word that it touches.
-    pub fn lanes(self, word: u64) -> Lanes
+    pub(crate) fn lanes(self, word: u64) -> Lanes
         requires { word < 2 ^ 62 }
         ensures { result ≡ lanes_at self word }
     {
@@ -98,7 +98,7 @@ impl Access {
     }
 
     // The bytes that it stores in a word.
-    pub fn word(self, number: u64, word: u64) -> Word
+    pub(crate) fn word(self, number: u64, word: u64) -> Word
         requires { word < 2 ^ 62 }
         ensures { result ≡ word_at self number word }
     {
