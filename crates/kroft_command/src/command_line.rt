@@ -1,9 +1,19 @@
 //! The words of the command line.
 
+use access_logs::MAX_WORDS;
 use clap::error::ErrorKind;
 use clap::{Arg, ArgAction, ArgMatches, Command, Error};
 use round_driver::MOST_LATENCY;
 use std::alloc::{AllocError, Global};
+
+/// The format of a log.
+#[derive(Clone, Copy, PartialEq, Eq, Debug)]
+pub enum LogName {
+    /// What valgrind's lackey writes.
+    Lackey,
+    /// Dinero's `din`.
+    Din,
+}
 
 /// What the program is asked to do with the trace on its input.
 #[derive(Clone, Copy, PartialEq, Eq, Debug)]
@@ -26,6 +36,13 @@ pub enum Task {
         latency: u64,
         /// Whether a table of counts is written in place of the run.
         summary: bool,
+    },
+    /// Write the requests of a log of accesses.
+    Requests {
+        /// What wrote the log.
+        from: LogName,
+        /// Words of memory, 1 to 1,048,576 and a multiple of 4.
+        words: u32,
     },
 }
 
@@ -201,6 +218,31 @@ Example:
   arrive 3 0 -> moved
   process 0 -> moved";
 
+const REQUESTS_NOTES: &str =
+    "Reads a log of a program's memory accesses from standard input, and writes its requests, as
+'drive' and 'sweep' read them: 'load TAG AT' and 'store AT MASK WORD'.
+  lackey  what 'valgrind --tool=lackey --trace-mem=yes' writes: ' L ADDRESS,SIZE' is a load,
+          ' S ADDRESS,SIZE' a store, ' M ADDRESS,SIZE' a load and then a store; a size is 1 to 512
+  din     Dinero's: '0 ADDRESS' is a load and '1 ADDRESS' a store of the address's whole word
+Addresses are hexadecimal, with small letters and below 2^64. The machine is a data cache, so the
+fetches of instructions ('I  ADDRESS,SIZE', '2 ADDRESS') are passed over; so are valgrind's own
+lines, which begin with '==', '--' or '**'. A line has at most 768 bytes, a log 16777216 lines.
+
+One line is written for each word of 4 bytes that an access touches, ascending. Tags go from 0 to
+65535, and again from 0. A log has no data: a stored byte is its address and the number of the
+line, added, modulo 256; bytes that the mask leaves out are 00. Each page of 4096 bytes becomes
+1024 words of memory, in the order of first touch. With --words N memory has N words, rounded down
+to whole pages; the first page that has no room ends the work, and the fault says which N would do.
+Give 'drive' and 'sweep' a shape with as many words.
+
+Statuses: 0 done, 2 the command line is wrong, 4 a line is faulty, a page has no room or a stream
+failed, 5 there is too little memory. What is due for the lines before a fault is written.
+
+Example:
+  $ echo ' M 04222cac,4' | kroft requests --from lackey
+  load 0 811
+  store 811 1111 adaeafb0";
+
 // The argument for the shape file. It may stand before or behind the subcommand.
 fn shape_argument<'a>(alloc: Global) -> Arg<'a> {
     Arg::new(alloc, "shape")
@@ -274,6 +316,31 @@ fn drive_command<'a>(alloc: Global) -> Result<Command<'a>, AllocError> {
     )
 }
 
+// The subcommand that writes the requests of a log. It knows no shape.
+fn requests_command<'a>(alloc: Global) -> Result<Command<'a>, AllocError> {
+    Command::new(alloc, "requests")
+        .about("Write the loads and stores of a log of accesses as a trace")
+        .after_help(REQUESTS_NOTES)
+        .arg(
+            Arg::new(alloc, "from")
+                .long("from")
+                .value_name("FORMAT")
+                .action(ArgAction::Set)
+                .required(true)
+                .value_parser(["lackey", "din"].as_slice())
+                .help("What wrote the log"),
+        )?
+        .arg(
+            Arg::new(alloc, "words")
+                .long("words")
+                .value_name("N")
+                .action(ArgAction::Set)
+                .value_parser(clap::value_parser!(u32).range(1..=1_048_576))
+                .help("Words of memory, a multiple of 4, at most 1048576 [default: 1048576]"),
+        )?
+        .arg(trace_argument(alloc))
+}
+
 // The program's whole command line.
 fn program<'a>(alloc: Global) -> Result<Command<'a>, AllocError> {
     Command::new(alloc, PROGRAM)
@@ -299,7 +366,8 @@ fn program<'a>(alloc: Global) -> Result<Command<'a>, AllocError> {
             "Say why a recorded run is none of flat memory",
             EXPLAIN_NOTES,
         )?)?
-        .subcommand(drive_command(alloc)?)
+        .subcommand(drive_command(alloc)?)?
+        .subcommand(requests_command(alloc)?)
 }
 
 // What the words behind `sweep` ask for.
@@ -317,6 +385,33 @@ fn drive_task(rest: &ArgMatches<'_>) -> Task {
     }
 }
 
+// What the words behind `requests` ask for.
+fn requests_task(rest: &ArgMatches<'_>) -> Task {
+    Task::Requests {
+        from: match rest.get_str("from") {
+            Some("din") => LogName::Din,
+            _ => LogName::Lackey,
+        },
+        words: rest.get_one::<u32>("words").unwrap_or(MAX_WORDS),
+    }
+}
+
+// Why what was asked for can't be done with these arguments, if it can't.
+fn conflict(task: Task, before: Option<&str>, behind: Option<&str>) -> Option<&'static str> {
+    if before.is_some() && behind.is_some() {
+        return Some("the argument '--shape <FILE>' cannot be used multiple times");
+    }
+    match task {
+        Task::Requests { .. } if before.is_some() => {
+            Some("the argument '--shape <FILE>' cannot be used with 'requests': it takes '--words <N>'")
+        }
+        Task::Requests { words, .. } if words % 4 != 0 => {
+            Some("invalid value for '--words <N>': it is no multiple of 4")
+        }
+        _ => None,
+    }
+}
+
 /// Reads the words behind the program's name. Help and the version come as an error too, which
 /// says that it belongs on the standard output.
 pub fn read_words<'a>(alloc: Global, words: &'a [&'a str]) -> Result<CommandLine<'a>, Error> {
@@ -328,6 +423,7 @@ pub fn read_words<'a>(alloc: Global, words: &'a [&'a str]) -> Result<CommandLine
         Some(("sweep", rest)) => (sweep_task(rest), rest.get_str("shape"), rest.get_str(TRACE)),
         Some(("explain", rest)) => (Task::Explain, rest.get_str("shape"), rest.get_str(TRACE)),
         Some(("drive", rest)) => (drive_task(rest), rest.get_str("shape"), rest.get_str(TRACE)),
+        Some(("requests", rest)) => (requests_task(rest), None, rest.get_str(TRACE)),
         Some((_, rest)) => (Task::Run, rest.get_str("shape"), rest.get_str(TRACE)),
         None => (Task::Run, None, None),
     };
@@ -335,8 +431,7 @@ pub fn read_words<'a>(alloc: Global, words: &'a [&'a str]) -> Result<CommandLine
         let told = "the trace is read from standard input: write '< FILE'";
         return Err(command.error(ErrorKind::UnknownArgument, told)?);
     }
-    if before.is_some() && behind.is_some() {
-        let told = "the argument '--shape <FILE>' cannot be used multiple times";
+    if let Some(told) = conflict(task, before, behind) {
         return Err(command.error(ErrorKind::ArgumentConflict, told)?);
     }
     Ok(CommandLine {

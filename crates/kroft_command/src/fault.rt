@@ -3,6 +3,7 @@
 ghost use Rattle.std.specs.Prelude.{◌≡◌};
 ghost use Rattle.kroft_command.specs.Tool.{status_of};
 
+use access_logs::{LogFault, NoRoom};
 use kroft_jobs::JobFault;
 use std::io::Write;
 
@@ -13,6 +14,8 @@ pub enum ToolFault {
     CommandLine(clap::Error),
     /// The job that they ask for has ended so.
     Job(JobFault),
+    /// A log touches a page for which there is no room.
+    NoRoom(NoRoom),
 }
 
 impl ToolFault {
@@ -23,6 +26,7 @@ impl ToolFault {
         match self {
             ToolFault::CommandLine(_) => 2,
             ToolFault::Job(fault) => fault.status(),
+            ToolFault::NoRoom(_) => 4,
         }
     }
 
@@ -32,6 +36,7 @@ impl ToolFault {
             // This text ends its own line.
             ToolFault::CommandLine(error) => write!(errors, "{error}"),
             ToolFault::Job(fault) => writeln!(errors, "{fault}"),
+            ToolFault::NoRoom(fault) => writeln!(errors, "{fault}"),
         };
         let _flushed = errors.flush();
     }
@@ -45,5 +50,19 @@ impl From<JobFault> for ToolFault {
 
     fn from(fault: JobFault) -> ToolFault {
         ToolFault::Job(fault)
+    }
+}
+
+impl From<LogFault> for ToolFault {
+    ghost use Rattle.std.specs.Prelude.{◌≡◌};
+    ghost use Rattle.kroft_command.specs.Tool.{of_log};
+
+    ghost from_gives = { λ e f. f ≡ of_log e };
+
+    fn from(fault: LogFault) -> ToolFault {
+        match fault {
+            LogFault::Trace(fault) => ToolFault::Job(JobFault::from(fault)),
+            LogFault::NoRoom(fault) => ToolFault::NoRoom(fault),
+        }
     }
 }

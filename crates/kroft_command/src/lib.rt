@@ -6,5 +6,5 @@ mod command_line;
 mod fault;
 mod program;
 
-pub use command_line::{CommandLine, Task, read_words};
+pub use command_line::{CommandLine, LogName, Task, read_words};
 pub use program::tool;

@@ -2,8 +2,9 @@
 
 ghost use Rattle.std.specs.Prelude.{◌≤◌, IfOk};
 
-use crate::command_line::{Task, read_words};
+use crate::command_line::{LogName, Task, read_words};
 use crate::fault::ToolFault;
+use access_logs::{Din, Lackey, MAX_WORDS, write_requests};
 use clap::error::ErrorKind;
 use kroft_jobs::{
     JobFault, Verdict, check, drive_requests, explain, serve, summarize_requests, sweep_in_rounds,
@@ -89,6 +90,7 @@ fn work<R: AllocGlobal + Files + Threads + Sync, I: Read, O: Write>(
         Task::Drive { latency, summary } => {
             go_round(rt.alloc(), &shape, latency, summary, input, output)?
         }
+        Task::Requests { from, words } => ask(rt.alloc(), from, words, input, output)?,
     };
     Ok(status)
 }
@@ -173,6 +175,24 @@ fn go_round<I: Read, O: Write>(
         drive_requests(alloc, tool, latency, input, output)?;
     }
     finish(output)?;
+    Ok(0)
+}
+
+// Writes the requests of a log.
+fn ask<I: Read, O: Write>(
+    alloc: Global,
+    from: LogName,
+    words: u32,
+    input: &mut I,
+    output: &mut O,
+) -> Result<u8, ToolFault>
+    ensures { IfOk result (λ status. status ≤ 1) }
+{
+    let words = words.min(MAX_WORDS);
+    match from {
+        LogName::Lackey => write_requests(alloc, input, output, &Lackey, words)?,
+        LogName::Din => write_requests(alloc, input, output, &Din, words)?,
+    }
     Ok(0)
 }
 

@@ -4,6 +4,7 @@ mod help;
 mod jobs;
 mod program;
 mod refusals;
+mod requests;
 mod rounds;
 mod shapes;
 mod sizes;

@@ -10,8 +10,8 @@ use flat_model::{Lanes, Word};
 use itoa::Buffer;
 
 impl LineText {
-    // The decimal digits of a number, at the end.
-    pub(crate) fn push_decimal(&mut self, n: u32)
+    /// The decimal digits of a number, at the end.
+    pub fn push_decimal(&mut self, n: u32)
         requires { length self.old + 10 ≤ MAX_PAIR }
         ensures text { self.new ≡ self.old ++ decimal n }
         ensures len { length self.new ≤ length self.old + 10 }
@@ -62,8 +62,8 @@ impl LineText {
         self.push_behind_zeros(buffer.format(tag).as_bytes(), 5);
     }
 
-    // A word's eight digits, byte 0 first, at the end.
-    pub(crate) fn push_word(&mut self, word: Word)
+    /// A word's eight digits, byte 0 first, at the end.
+    pub fn push_word(&mut self, word: Word)
         requires { length self.old + 8 ≤ MAX_PAIR }
         ensures text { self.new ≡ self.old ++ word_text word }
         ensures len { length self.new ≡ length self.old + 8 }
@@ -80,8 +80,8 @@ impl LineText {
         ]);
     }
 
-    // A mask's four digits, lane 0 first, at the end.
-    pub(crate) fn push_lanes(&mut self, lanes: Lanes)
+    /// A mask's four digits, lane 0 first, at the end.
+    pub fn push_lanes(&mut self, lanes: Lanes)
         requires { length self.old + 4 ≤ MAX_PAIR }
         ensures text { self.new ≡ self.old ++ lanes_text lanes }
         ensures len { length self.new ≡ length self.old + 4 }

@@ -4,7 +4,8 @@ ghost use Rattle.trace_text.specs.Fields.{begins_badly as starts_badly, number_o
 
 use flat_model::{Lanes, Word};
 
-// The number whose decimal digits these are, at most `most`.
+/// The number whose decimal digits these are, at most `most`. `None` if they are none, or have a zero
+/// in front.
 pub fn number(text: &[u8], most: u32) -> Option<u32>
     ensures value { result ≡ number_of most text.now }
     ensures bound { IfSome result (λ n. n ≤ most) }
@@ -35,7 +36,8 @@ fn begins_badly(text: &[u8]) -> bool
     }
 }
 
-fn nibble(byte: u8) -> Option<u8>
+/// The value of a hexadecimal digit, `0` to `9` or `a` to `f`.
+pub fn nibble(byte: u8) -> Option<u8>
     ensures { result ≡ nibble_of byte }
 {
     match byte {

@@ -8,6 +8,9 @@
 //!
 //! A trace has at most 16,777,216 lines, and a line at most 64 bytes before its LF, or 768 with its
 //! answer. A text may come in any pieces: what is read and answered doesn't depend on them.
+//!
+//! What becomes of the lines of another text is told by a [`Collector`]: [`read_lines`] reads any text
+//! line by line, with the limits and faults of a trace.
 #![tactic(auto)]
 
 mod check;
@@ -26,11 +29,14 @@ mod text;
 mod writers;
 
 pub use check::{CheckEnd, check_text};
-pub use fault::TraceFault;
-pub use lines::{Line, LineFault, read_line};
+pub use fault::{BUFFER_LEN, MAX_LINES, MAX_PAIR, TraceFault};
+pub use fields::{nibble, number};
+pub use lines::{Line, LineFault, cut, read_line};
 pub use pairs::{Pair, read_pair};
+pub use pieces::Failed;
+pub use reading::{Collector, Stop, Uncollected, read_lines};
 pub use requests::read_requests;
-pub use serve::{Counts, serve_text};
+pub use serve::{Counts, serve_text, write_whole};
 pub use streams::{Sink, Source};
 pub use text::{LineText, answer_text, register_text};
 pub use writers::{recorded_pairs, written_line, written_pair};

@@ -63,7 +63,7 @@ fn space(text: &[u8]) -> Option<usize>
     text.iter().position(|byte| *byte == b' ')
 }
 
-// The bytes up to the first space, and those behind it.
+/// The bytes up to the first space, and those behind it, if there is one.
 pub fn cut(text: &[u8]) -> (&[u8], Option<&[u8]>)
     ensures front { result.0.now ≡ (cut_of text.now).0 }
     ensures rest { option_map (λ rest. rest.now) result.1 ≡ (cut_of text.now).1 }

@@ -10,7 +10,7 @@ use crate::streams::Source;
 use memchr::memchr;
 use std::io;
 
-// A write or a flush was refused, or a read failed.
+/// A write or a flush was refused, or a read failed.
 #[derive(Clone, Copy)]
 pub struct Failed;
 

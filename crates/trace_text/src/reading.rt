@@ -9,10 +9,12 @@ use crate::lines::LineFault;
 use crate::pieces::{Failed, begun_fault, end_of_line, fill, keep_end};
 use crate::streams::Source;
 
-// Why a line wasn't taken.
+/// Why a line wasn't taken.
 #[derive(Clone, Copy)]
 pub enum Uncollected {
+    /// It has this fault.
     Fault(LineFault),
+    /// The collector stopped.
     Halted,
 }
 
@@ -36,15 +38,17 @@ impl From<Failed> for Uncollected {
     }
 }
 
-// Why a text wasn't read to its end: a fault of the text or its reader, or the collector stopped.
+/// Why a text wasn't read to its end.
 #[derive(Clone, Copy)]
 pub enum Stop {
+    /// A fault of the text or its reader.
     Fault(TraceFault),
+    /// The collector stopped.
     Halted,
 }
 
 impl Stop {
-    // The fault that is answered, where this one stands for the collector's own.
+    /// The fault that is answered, where this one stands for the collector's own.
     pub fn fault_or(self, halted: TraceFault) -> TraceFault
         ensures fault { (fault : TraceFault) → self ≡ Stop.Fault fault → result ≡ fault }
         ensures halted { self ≡ Stop.Halted → result ≡ halted }
@@ -56,7 +60,7 @@ impl Stop {
     }
 }
 
-// What becomes of the lines of a text.
+/// What becomes of the lines of a text.
 pub trait Collector {
     // The fault of a line, where it has one.
     ghost fault_in: { List ℕ → Option LineFault };
@@ -79,7 +83,7 @@ pub trait Collector {
     // It still holds what it borrowed.
     ghost holds_same: { Self → Self → Type 0 };
 
-    // Takes the line of this number, counted from 1, without its LF.
+    /// Takes the line of this number, counted from 1, without its LF.
     fn collect(&mut self, number: u64, text: &[u8]) -> Result<(), Uncollected>
         requires went { (start : Self) × (texts : List (List ℕ)) × went start texts self.old
             × (number ≡ length texts + 1) }
@@ -92,7 +96,7 @@ pub trait Collector {
         ensures miss { IfErr result (Misses stopped (fault_in text.now) self.old text.now self.new) }
         ensures same { (start : Self) → holds_same start self.old → holds_same start self.new };
 
-    // What is due before the text's reader is waited for, and before a fault is told.
+    /// What is due before the text's reader is waited for, and before a fault is told.
     fn pause(&mut self) -> Result<(), Failed>
         ensures ok { OnOk result (paused self.old self.new) }
         ensures kept { OnOk result
@@ -157,8 +161,8 @@ fn told<C: Collector>(collector: &mut C, fault: TraceFault) -> Stop
     }
 }
 
-// Reads a text whose lines have at most `most` bytes, LF not counted, up to its first end, through a
-// buffer. The collector pauses before each read, and so at the end, and before a fault is told.
+/// Reads a text whose lines have at most `most` bytes, LF not counted, up to its first end, through a
+/// buffer. The collector pauses before each read, and so at the end, and before a fault is told.
 pub fn read_lines<R: Source, C: Collector>(
     reader: &mut R,
     collector: &mut C,

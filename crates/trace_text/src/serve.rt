@@ -36,7 +36,9 @@ pub struct Counts {
     pub refused: u64,
 }
 
-fn write_whole<W: Sink>(writer: &mut W, bytes: &[u8]) -> Result<(), Failed>
+/// Writes all bytes, in as many writes as it takes. [`Failed`] says that a write was refused, or took
+/// no byte: a front of the bytes may be written.
+pub fn write_whole<W: Sink>(writer: &mut W, bytes: &[u8]) -> Result<(), Failed>
     ensures ok { OnOk result (Moves W.took writer.old bytes.now writer.new) }
     ensures err { OnErr result (Stopped W.took W.refused writer.old bytes.now writer.new) }
 {

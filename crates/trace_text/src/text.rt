@@ -36,7 +36,8 @@ impl LineText {
         &self.bytes[..self.len]
     }
 
-    pub(crate) fn new() -> LineText
+    /// An empty text.
+    pub fn new() -> LineText
         ensures { result ≡ [] }
     {
         LineText {
@@ -45,13 +46,15 @@ impl LineText {
         }
     }
 
-    pub(crate) fn clear(&mut self)
+    /// Makes it empty.
+    pub fn clear(&mut self)
         ensures { self.new ≡ [] }
     {
         self.len = 0;
     }
 
-    pub(crate) fn push(&mut self, byte: u8)
+    /// One byte more, at the end.
+    pub fn push(&mut self, byte: u8)
         requires { length self.old < MAX_PAIR }
         ensures text { self.new ≡ self.old ++ byte ∷ [] }
         ensures len { length self.new ≡ length self.old + 1 }
@@ -60,7 +63,8 @@ impl LineText {
         self.len += 1;
     }
 
-    pub(crate) fn push_bytes(&mut self, bytes: &[u8])
+    /// These bytes, at the end.
+    pub fn push_bytes(&mut self, bytes: &[u8])
         requires { length self.old + length bytes.now ≤ MAX_PAIR }
         ensures text { self.new ≡ self.old ++ bytes.now }
         ensures len { length self.new ≡ length self.old + length bytes.now }

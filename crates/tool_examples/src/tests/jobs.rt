@@ -86,9 +86,9 @@ fn a_run_has_the_numbers_of_its_shape(rt: HostRuntime) -> Result<(), Fail> {
 
 /// Fails at its first call, and would go on at the next.
 #[derive(Drop)]
-struct FailsOnce {
-    calls: usize,
-    text: &'static [u8],
+pub struct FailsOnce {
+    pub calls: usize,
+    pub text: &'static [u8],
 }
 
 impl Read for FailsOnce {
@@ -132,10 +132,10 @@ fn a_failed_read_ends_each_job(rt: HostRuntime) -> Result<(), Fail> {
 
 /// Fails at its first write, or at its first flush behind a write, and would go on at the next.
 #[derive(Drop)]
-struct RefusesOnce {
-    writes: bool,
-    refused: usize,
-    taken: usize,
+pub struct RefusesOnce {
+    pub writes: bool,
+    pub refused: usize,
+    pub taken: usize,
 }
 
 impl Write for RefusesOnce {

@@ -1,0 +1,19 @@
+-- The texts of faults.
+use Rattle.std.specs.Prelude.{ℕ, ◌*◌, if◌then◌else◌, nat_le, List, ◌++◌, codes, decimal}
+use Rattle.access_logs.specs.declared.fault.NoRoom.{NoRoom}
+
+-- how many words would do, if any
+unfoldable pub remedy_text : ℕ → List ℕ
+remedy_text pages =
+    if nat_le pages 1024 then decimal (pages * 1024) ++ codes " words would do" else codes "memory has at most 1048576 words"
+
+-- a number behind its name
+abbrev pub number_text : List ℕ → ℕ → List ℕ
+number_text name n = name ++ decimal n
+
+-- which page has no room
+unfoldable pub place_text : NoRoom → List ℕ
+place_text n = number_text (codes "line ") n.line ++ number_text (codes ": no room for page ") n.pages
+
+abbrev pub no_room_text : NoRoom → List ℕ
+no_room_text n = place_text n ++ codes ": " ++ remedy_text n.pages

@@ -1,0 +1,98 @@
+-- What a line of a log says, in each format: an access, or nothing that is asked of a data cache.
+use Rattle.std.specs.Prelude.{ℕ, ◌+◌, ◌*◌, ◌/◌, ◌==◌, Bool, false, ◌&&◌, ◌||◌, if◌then◌else◌, Option, None, Some, Result, Ok, Err, List, [], ◌∷◌, length, position, nat_le, nat_lt}
+use Rattle.std.specs.Option.{option_map, option_and_then}
+use Rattle.trace_text.specs.Fields.{nibble_of, number_of}
+use Rattle.trace_text.specs.Lines.{cut_at, cut_of}
+use Rattle.trace_text.specs.declared.lines.LineFault.{LineFault}
+use Rattle.trace_text.specs.declared.lines.LineFault.TheVariants.{Unknown, Field}
+use Rattle.access_logs.specs.declared.access.Access.{Access}
+use Rattle.access_logs.specs.declared.access.AccessKind.TheVariants.{Load, Store, Modify}
+use Rattle.access_logs.specs.declared.format.Reference.{Reference}
+use Rattle.access_logs.specs.declared.format.Reference.TheVariants.{Fetch, Data}
+
+-- ---- addresses
+
+-- one hexadecimal digit more, if the number stays below 2^64
+abbrev pub with_digit : ℕ → Option ℕ → Option ℕ
+with_digit n None = None
+with_digit n (Some d) = if nat_lt n 1152921504606846976 then Some (n * 16 + d) else None
+
+-- the number that these digits make behind n
+abbrev pub hex_after : ℕ → List ℕ → Option ℕ
+hex_after n [] = Some n
+hex_after n (b ∷ bs) = option_and_then (λ k. hex_after k bs) (with_digit n (nibble_of b))
+
+-- the address of these hexadecimal digits, at least one
+abbrev pub address_of : List ℕ → Option ℕ
+address_of bs = if length bs == 0 then None else hex_after 0 bs
+
+-- ---- what is touched
+
+-- an address and a size, 1 to 512, no byte of which lies behind the last address
+abbrev pub extent_with : Option ℕ → Option ℕ → Option (ℕ × ℕ)
+extent_with (Some address) (Some size) =
+    if nat_lt 0 size && nat_le (address + size) 18446744073709551616 then Some (address, size) else None
+extent_with address size = None
+
+abbrev pub extent_from : List ℕ × Option (List ℕ) → Option (ℕ × ℕ)
+extent_from (address, None) = None
+extent_from (address, Some size) = extent_with (address_of address) (number_of 512 size)
+
+-- `ADDRESS,SIZE`
+abbrev pub extent_of : List ℕ → Option (ℕ × ℕ)
+extent_of fields = extent_from (cut_at fields (position (λ b. b == 44) fields))
+
+-- the word of an address
+abbrev pub word_extent : ℕ → ℕ × ℕ
+word_extent address = (address / 4 * 4, 4)
+
+abbrev pub word_extent_of : Option (List ℕ) → Option (ℕ × ℕ)
+word_extent_of None = None
+word_extent_of (Some field) = option_map word_extent (address_of field)
+
+-- ---- lines
+
+-- A load, store or modification is an access; an instruction's fetch is none, since it goes to another cache.
+abbrev pub access_by : Reference → ℕ × ℕ → Option Access
+access_by Fetch extent = None
+access_by (Data kind) extent = Some (record { kind = kind; address = extent.0; size = extent.1 })
+
+abbrev pub said_as : Option Reference → Option (ℕ × ℕ) → Result (Option Access) LineFault
+said_as None extent = Err Unknown
+said_as (Some reference) None = Err Field
+said_as (Some reference) (Some extent) = Ok (access_by reference extent)
+
+-- a line of valgrind itself begins with two of `=`, `-` or `*`
+abbrev pub is_remark : List ℕ → Bool
+is_remark (a ∷ b ∷ rest) = (a == b) && ((a == 61) || ((a == 45) || (a == 42)))
+is_remark text = false
+
+-- `I  `, ` L `, ` S ` or ` M `
+abbrev pub reference_of : ℕ → ℕ → ℕ → Option Reference
+reference_of a b c =
+    if (a == 73) && ((b == 32) && (c == 32)) then Some Fetch
+    else if (a == 32) && ((b == 76) && (c == 32)) then Some (Data Load)
+    else if (a == 32) && ((b == 83) && (c == 32)) then Some (Data Store)
+    else if (a == 32) && ((b == 77) && (c == 32)) then Some (Data Modify)
+    else None
+
+abbrev pub lackey_from : List ℕ → Result (Option Access) LineFault
+lackey_from (a ∷ b ∷ c ∷ fields) = said_as (reference_of a b c) (extent_of fields)
+lackey_from text = Err Unknown
+
+-- what a line of lackey's says
+abbrev pub lackey_access : List ℕ → Result (Option Access) LineFault
+lackey_access text = if is_remark text then Ok None else lackey_from text
+
+-- `0`, `1` or `2`
+abbrev pub label_of : List ℕ → Option Reference
+label_of (b ∷ []) =
+    if b == 48 then Some (Data Load) else if b == 49 then Some (Data Store) else if b == 50 then Some Fetch else None
+label_of text = None
+
+abbrev pub din_from : List ℕ × Option (List ℕ) → Result (Option Access) LineFault
+din_from (label, address) = said_as (label_of label) (word_extent_of address)
+
+-- what a line of `din` says, `LABEL ADDRESS`
+abbrev pub din_access : List ℕ → Result (Option Access) LineFault
+din_access text = din_from (cut_of text)

@@ -1,0 +1,113 @@
+//! Accesses, and the words that they touch.
+ghost use Rattle.std.specs.Prelude.{◌≡◌, ◌<◌, ◌≤◌, ◌^◌};
+ghost use Rattle.access_logs.specs.Accesses.{IsWithin, first_word_of, last_word_of, word_count_of, is_touched, lanes_at, word_at, byte_at, bit_at};
+
+use flat_model::{Lanes, Word};
+
+/// How many bytes an access touches at most.
+pub const MAX_SIZE: u32 = 512;
+
+/// How many bytes a word has.
+const WORD_BYTES: u64 = 4;
+
+/// What an access does.
+#[derive(Clone, Copy, Debug, PartialEq, Eq)]
+pub enum AccessKind {
+    /// It reads.
+    Load,
+    /// It writes.
+    Store,
+    /// It reads, and then writes.
+    Modify,
+}
+
+/// An access of a program to its memory.
+#[derive(Clone, Copy, Debug, PartialEq, Eq)]
+pub struct Access {
+    /// What it does.
+    pub kind: AccessKind,
+    /// Its first byte.
+    pub address: u64,
+    /// How many bytes it touches, 1 to 512.
+    pub size: u32,
+}
+
+impl Access {
+    // The number of the first word that it touches.
+    pub(crate) fn first_word(self) -> u64
+        ensures { result ≡ first_word_of self }
+    {
+        self.address / WORD_BYTES
+    }
+
+    // The number of the last word that it touches.
+    pub(crate) fn last_word(self) -> u64
+        requires { IsWithin self }
+        ensures { result ≡ last_word_of self }
+    {
+        (self.address + u64::from(self.size - 1)) / WORD_BYTES
+    }
+
+    // How many words it touches.
+    pub(crate) fn word_count(self) -> u64
+        requires { IsWithin self }
+        ensures count { result ≡ word_count_of self }
+        ensures few { result ≤ 129 }
+    {
+        self.last_word() - self.first_word() + 1
+    }
+
+    // Whether it touches the byte at this address.
+    fn has(self, byte: u64) -> bool
+        ensures { result ≡ is_touched self byte }
+    {
+        self.address <= byte && byte - self.address < u64::from(self.size)
+    }
+
+    // The bit of a lane in a mask, 1 if the byte at this address is touched.
+    fn bit(self, byte: u64) -> u8
+        ensures value { result ≡ bit_at self byte }
+        ensures bound { result ≤ 1 }
+    {
+        if self.has(byte) { 1 } else { 0 }
+    }
+
+    // The lanes of a word that it touches.
+    pub(crate) fn lanes(self, word: u64) -> Lanes
+        requires { word < 2 ^ 62 }
+        ensures { result ≡ lanes_at self word }
+    {
+        let byte = word * WORD_BYTES;
+        Lanes(
+            self.bit(byte)
+                + 2 * self.bit(byte + 1)
+                + 4 * self.bit(byte + 2)
+                + 8 * self.bit(byte + 3),
+        )
+    }
+
+    // The byte that it stores at this address in the line of this number, and 0 where it stores none.
+    fn byte(self, number: u64, byte: u64) -> u8
+        ensures { result ≡ byte_at self number byte }
+    {
+        if self.has(byte) {
+            ((byte % 256 + number % 256) % 256) as u8
+        } else {
+            0
+        }
+    }
+
+    // The bytes that it stores in a word.
+    pub(crate) fn word(self, number: u64, word: u64) -> Word
+        requires { word < 2 ^ 62 }
+        ensures { result ≡ word_at self number word }
+    {
+        let byte = word * WORD_BYTES;
+        Word {
+            b0: self.byte(number, byte),
+            b1: self.byte(number, byte + 1),
+            b2: self.byte(number, byte + 2),
+            b3: self.byte(number, byte + 3),
+        }
+    }
+}

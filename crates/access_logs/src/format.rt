@@ -1,0 +1,214 @@
+//! The formats of logs: what a line says.
+ghost use Rattle.std.specs.Prelude.{◌≡◌, ◌+◌, ◌<◌, ◌≤◌, ◌^◌, ℕ, List, Option, Result, ◌==◌, length, position, IfSome, IfOk, IfErr};
+ghost use Rattle.std.specs.Option.{option_map};
+ghost use Rattle.trace_text.specs.Fields.{nibble_of};
+ghost use Rattle.trace_text.specs.Lines.{IsSaid};
+ghost use Rattle.trace_text.specs.declared.lines.LineFault.{LineFault};
+ghost use Rattle.access_logs.specs.declared.access.Access.{Access};
+ghost use Rattle.access_logs.specs.Accesses.{IsWithin};
+ghost use Rattle.access_logs.specs.Formats.{with_digit as digit_more, address_of, extent_of as extent_in, word_extent_of, access_by as access_made, said_as as said, is_remark as is_remark_text, reference_of as reference_at, lackey_from as lackey_said, lackey_access, label_of, din_access};
+
+use crate::access::{Access, AccessKind, MAX_SIZE};
+use trace_text::{LineFault, cut, nibble, number};
+
+/// The largest number that one hexadecimal digit more keeps below 2^64.
+const MOST_BEFORE_DIGIT: u64 = 1_152_921_504_606_846_975;
+
+/// A format of logs.
+pub trait LogFormat {
+    // What a line says: an access, or nothing that is asked of a data cache.
+    ghost access_in: { List ℕ → Result (Option Access) LineFault };
+
+    /// What a line says, without its LF: an access, or `None` for a line that has none for a data
+    /// cache, such as the fetch of an instruction. [`LineFault::Unknown`] says that the line is none of
+    /// the format's, and [`LineFault::Field`] that a field is missing, malformed or out of its range.
+    fn access_said(&self, text: &[u8]) -> Result<Option<Access>, LineFault>
+        ensures said { result ≡ access_in text.now }
+        ensures within { IfOk result (λ access. IfSome access IsWithin) }
+        ensures fault { IfErr result IsSaid };
+}
+
+/// What `valgrind --tool=lackey --trace-mem=yes` writes: ` L ADDRESS,SIZE` for a load, ` S ` for a
+/// store, ` M ` for a load and a store of the same bytes, and `I  ` for the fetch of an instruction,
+/// which is passed over. So is a line of valgrind's own, which begins with `==`, `--` or `**`. An
+/// address is hexadecimal, with small letters, below 2^64; a size is decimal, 1 to 512; and the last
+/// byte's address is below 2^64.
+#[derive(Clone, Copy, Debug)]
+pub struct Lackey;
+
+/// Dinero's `din`: `0 ADDRESS` for a read, `1 ADDRESS` for a write, and `2 ADDRESS` for the fetch of an
+/// instruction, which is passed over. An address is hexadecimal, with small letters, below 2^64. The
+/// format has no size: an access is to the whole word of its address.
+#[derive(Clone, Copy, Debug)]
+pub struct Din;
+
+// What a line is about.
+#[derive(Clone, Copy)]
+enum Reference {
+    Fetch,
+    Data(AccessKind),
+}
+
+// One hexadecimal digit more.
+fn with_digit(value: u64, byte: u8) -> Option<u64>
+    ensures { result ≡ digit_more value (nibble_of byte) }
+{
+    let digit = nibble(byte)?;
+    if value > MOST_BEFORE_DIGIT {
+        return None;
+    }
+    Some(value * 16 + u64::from(digit))
+}
+
+// The address of these hexadecimal digits.
+fn address(text: &[u8]) -> Option<u64>
+    ensures { result ≡ address_of text.now }
+{
+    if text.is_empty() {
+        return None;
+    }
+    let mut value = 0u64;
+    for byte in text {
+        value = with_digit(value, *byte)?;
+    }
+    Some(value)
+}
+
+fn comma(text: &[u8]) -> Option<usize>
+    ensures value { result ≡ position (λ b. b == 44) text.now }
+    ensures bound { IfSome result (λ at. at < length text.now) }
+{
+    text.iter().position(|byte| *byte == b',')
+}
+
+// An address and a size, with a comma between them.
+fn extent(text: &[u8]) -> Option<(u64, u32)>
+    ensures value { result ≡ extent_in text.now }
+    ensures some { IfSome result (λ extent. 1 ≤ extent.1) }
+    ensures few { IfSome result (λ extent. extent.1 ≤ 512) }
+    ensures last { IfSome result (λ extent. extent.0 + extent.1 ≤ 2 ^ 64) }
+{
+    let at = comma(text)?;
+    let address = address(&text[..at]);
+    let size = number(&text[at + 1..], MAX_SIZE);
+    let address = address?;
+    let size = size?;
+    if size == 0 || address > u64::MAX - u64::from(size - 1) {
+        return None;
+    }
+    Some((address, size))
+}
+
+// The word of an address.
+fn word_extent(field: Option<&[u8]>) -> Option<(u64, u32)>
+    ensures value { result ≡ word_extent_of (option_map (λ text. text.now) field.entry) }
+    ensures some { IfSome result (λ extent. 1 ≤ extent.1) }
+    ensures few { IfSome result (λ extent. extent.1 ≤ 512) }
+    ensures last { IfSome result (λ extent. extent.0 + extent.1 ≤ 2 ^ 64) }
+{
+    let address = address(field?)?;
+    Some((address / 4 * 4, 4))
+}
+
+// The access of a line, if it has one for a data cache.
+fn access_by(reference: Reference, extent: (u64, u32)) -> Option<Access>
+    requires some { 1 ≤ extent.1 }
+    requires few { extent.1 ≤ 512 }
+    requires last { extent.0 + extent.1 ≤ 2 ^ 64 }
+    ensures value { result ≡ access_made reference extent }
+    ensures within { IfSome result IsWithin }
+{
+    match reference {
+        Reference::Fetch => None,
+        Reference::Data(kind) => Some(Access {
+            kind,
+            address: extent.0,
+            size: extent.1,
+        }),
+    }
+}
+
+// What a line says that is about this, if it is one of the format's.
+fn said_as(
+    reference: Option<Reference>,
+    extent: Option<(u64, u32)>,
+) -> Result<Option<Access>, LineFault>
+    requires some { IfSome extent (λ extent. 1 ≤ extent.1) }
+    requires few { IfSome extent (λ extent. extent.1 ≤ 512) }
+    requires last { IfSome extent (λ extent. extent.0 + extent.1 ≤ 2 ^ 64) }
+    ensures value { result ≡ said reference extent }
+    ensures within { IfOk result (λ access. IfSome access IsWithin) }
+    ensures fault { IfErr result IsSaid }
+{
+    match (reference, extent) {
+        (None, _) => Err(LineFault::Unknown),
+        (Some(_), None) => Err(LineFault::Field),
+        (Some(reference), Some(extent)) => Ok(access_by(reference, extent)),
+    }
+}
+
+// Whether it is a line of valgrind's own.
+fn is_remark(text: &[u8]) -> bool
+    ensures { result ≡ is_remark_text text.now }
+{
+    match text {
+        [a, b, ..] => *a == *b && (*a == b'=' || *a == b'-' || *a == b'*'),
+        _ => false,
+    }
+}
+
+// What lackey's line is about that begins with these three bytes.
+fn reference_by(a: u8, b: u8, c: u8) -> Option<Reference>
+    ensures { result ≡ reference_at a b c }
+{
+    match (a, b, c) {
+        (b'I', b' ', b' ') => Some(Reference::Fetch),
+        (b' ', b'L', b' ') => Some(Reference::Data(AccessKind::Load)),
+        (b' ', b'S', b' ') => Some(Reference::Data(AccessKind::Store)),
+        (b' ', b'M', b' ') => Some(Reference::Data(AccessKind::Modify)),
+        _ => None,
+    }
+}
+
+fn lackey_from(text: &[u8]) -> Result<Option<Access>, LineFault>
+    ensures value { result ≡ lackey_said text.now }
+    ensures within { IfOk result (λ access. IfSome access IsWithin) }
+    ensures fault { IfErr result IsSaid }
+{
+    match text {
+        [a, b, c, fields @ ..] => said_as(reference_by(*a, *b, *c), extent(fields)),
+        _ => Err(LineFault::Unknown),
+    }
+}
+
+impl LogFormat for Lackey {
+    ghost access_in = { lackey_access };
+
+    fn access_said(&self, text: &[u8]) -> Result<Option<Access>, LineFault> {
+        if is_remark(text) {
+            return Ok(None);
+        }
+        lackey_from(text)
+    }
+}
+
+// What a line of `din` with this label is about.
+fn label(text: &[u8]) -> Option<Reference>
+    ensures { result ≡ label_of text.now }
+{
+    match text {
+        [b'0'] => Some(Reference::Data(AccessKind::Load)),
+        [b'1'] => Some(Reference::Data(AccessKind::Store)),
+        [b'2'] => Some(Reference::Fetch),
+        _ => None,
+    }
+}
+
+impl LogFormat for Din {
+    ghost access_in = { din_access };
+
+    fn access_said(&self, text: &[u8]) -> Result<Option<Access>, LineFault> {
+        let (text, field) = cut(text);
+        said_as(label(text), word_extent(field))
+    }
+}

@@ -1,0 +1,104 @@
+//! The pages of a program, in the order of their first touch.
+ghost use Rattle.std.specs.Prelude.{◌≡◌, ◌+◌, ◌<◌, ◌≤◌, ℕ, List, Option, [], length, Some, IfSome};
+ghost use Rattle.access_logs.specs.Accesses.{IsWithin};
+ghost use Rattle.access_logs.specs.Pages.{found_in, memory_word, with_page, pages_after};
+
+use crate::access::Access;
+use arrayvec::ArrayVec;
+use std::marker::Model;
+
+/// How many words a page has.
+pub const PAGE_WORDS: u64 = 1024;
+
+/// How many pages memory has at most.
+pub const MAX_PAGES: u32 = 1024;
+
+/// How many pages are kept: an access that finds no room has touched two more than memory has.
+const MAX_KEPT: usize = 1026;
+
+// A page, and its place among the pages.
+#[derive(Clone, Copy)]
+struct Placed {
+    page: u64,
+    place: usize,
+}
+
+// The pages so far. No page is twice among them.
+#[derive(Drop)]
+pub struct Pages {
+    touched: ArrayVec<u64, MAX_KEPT>,
+    // The page that was touched last: mostly it is the next one too, and then the list isn't searched.
+    recent: Option<Placed>,
+}
+
+impl Model for Pages {
+    ghost Value = { List ℕ };
+
+    ghost view = { λ p. p.touched.items };
+
+    ghost invariant = { λ p. IfSome p.recent (λ r. (found_in p.touched.items r.page ≡ Some r.place) × (r.place < 1026)) };
+}
+
+impl Pages {
+    // No page yet.
+    pub fn new() -> Pages
+        ensures { result ≡ [] }
+    {
+        Pages {
+            touched: ArrayVec::new(),
+            recent: None,
+        }
+    }
+
+    // How many there are.
+    pub fn len(&self) -> usize
+        ensures count { result ≡ length self.now }
+        ensures few { result ≤ 1026 }
+    {
+        self.touched.len()
+    }
+
+    // The place of a page.
+    fn find(&self, page: u64) -> Option<usize>
+        ensures place { result ≡ found_in self.now page }
+        ensures bound { IfSome result (λ place. place < 1026) }
+    {
+        match self.recent {
+            Some(recent) if recent.page == page => Some(recent.place),
+            _ => self.touched.iter().position(|touched| *touched == page),
+        }
+    }
+
+    // Touches a page: it is added if it isn't among them.
+    fn touch(&mut self, page: u64)
+        requires { length self.old < 1026 }
+        ensures pages { self.new ≡ with_page self.old page }
+        ensures len { length self.new ≤ length self.old + 1 }
+    {
+        match self.find(page) {
+            Some(place) => self.recent = Some(Placed { page, place }),
+            None => {
+                self.recent = None;
+                self.touched.push(page);
+            }
+        }
+    }
+
+    // Touches the pages of an access.
+    pub fn touch_all(&mut self, access: Access)
+        requires within { IsWithin access }
+        requires room { length self.old ≤ 1024 }
+        ensures { self.new ≡ pages_after self.old access }
+    {
+        self.touch(access.first_word() / PAGE_WORDS);
+        self.touch(access.last_word() / PAGE_WORDS);
+    }
+
+    // The word of memory that a word of the program is, whose page has been touched.
+    pub fn memory_word(&self, word: u64) -> u32
+        ensures { result ≡ memory_word self.now word }
+    {
+        let place = self.find(word / PAGE_WORDS).unwrap_or(self.len());
+        place as u32 * PAGE_WORDS as u32 + (word % PAGE_WORDS) as u32
+    }
+}

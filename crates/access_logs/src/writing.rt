@@ -1,0 +1,194 @@
+//! A log is read line by line, and its requests are written.
+ghost use Rattle.std.specs.Prelude.{◌≡◌, ℕ, [], ◌+◌, ◌/◌, ◌≤◌, ◌<◌, length, Some, None, OnOk, OnErr, IfErr, Ok};
+ghost use Rattle.trace_text.specs.declared.fault.TheConstants.{BUFFER_LEN, MAX_PAIR};
+ghost use Rattle.access_logs.specs.Accesses.{IsWithin};
+ghost use Rattle.access_logs.specs.Logs.{log_start, state_with, fault_by, Requested, Asked, Refuses, Halts, HaltsAt, Ends};
+
+use crate::access::Access;
+use crate::fault::{LogFault, NoRoom};
+use crate::format::LogFormat;
+use crate::pages::{PAGE_WORDS, Pages};
+use crate::requests::{tag_after, write_access};
+use std::alloc::Global;
+use trace_text::{
+    BUFFER_LEN, Collector, Failed, LineText, MAX_PAIR, Sink, Source, Stop, TraceFault, Uncollected,
+    read_lines,
+};
+
+/// How many words of memory a log's pages are mapped to at most.
+pub const MAX_WORDS: u32 = 1_048_576;
+
+// The writing of a log's requests.
+#[derive(Drop)]
+pub struct Writing<'a, W, F> {
+    pub writer: &'a mut W,
+    pub format: &'a F,
+    pub out: LineText,
+    // How many pages there is room for.
+    pub room: u64,
+    pub pages: Pages,
+    // The tag of the next load.
+    pub tag: u16,
+    // How many lines went before.
+    pub lines: u64,
+    pub no_room: Option<NoRoom>,
+}
+
+impl<'a, W: Sink, F: LogFormat> Writing<'a, W, F> {
+    // Flushes what is written, and keeps the fault of the line of this number, which finds no room. If
+    // the flush is refused, that is the fault.
+    fn refuse(&mut self, line: u64)
+        requires { self.old.no_room ≡ None }
+        ensures refuses { Refuses W.took W.unflushed self.old.writer.now line self.old.pages self.new.writer.now
+            self.new.no_room }
+        ensures same { self.new.writer.ghost_name ≡ self.old.writer.ghost_name }
+    {
+        if self.writer.flush_all().is_ok() {
+            let pages = self.pages.len() as u64;
+            self.no_room = Some(NoRoom { line, pages });
+        }
+    }
+
+    // Writes the requests of an access in the line of this number.
+    fn ask(&mut self, number: u64, access: Access) -> Result<(), Uncollected>
+        requires within { IsWithin access }
+        requires number { number ≡ self.old.lines + 1 }
+        requires room { self.old.room ≤ 1024 }
+        requires fits { length self.old.pages ≤ self.old.room }
+        requires none { self.old.no_room ≡ None }
+        ensures ok { OnOk result
+            (Asked W.took self.old.room self.old.writer.now
+            (state_with self.old.pages self.old.tag self.old.lines) (Some access) self.new.writer.now
+            (state_with self.new.pages self.new.tag (self.new.lines + 1))) }
+        ensures lines { OnOk result (self.new.lines ≡ self.old.lines) }
+        ensures room { OnOk result (self.new.room ≡ self.old.room) }
+        ensures none { OnOk result (self.new.no_room ≡ None) }
+        ensures err { IfErr result (λ miss. miss ≡ Uncollected.Halted) }
+        ensures halts { OnErr result
+            (Halts W.took W.refused W.unflushed self.old.room self.old.writer.now
+            (state_with self.old.pages self.old.tag self.old.lines) access self.new.writer.now
+            self.new.no_room) }
+        ensures same { self.new.writer.ghost_name ≡ self.old.writer.ghost_name }
+    {
+        self.pages.touch_all(access);
+        if self.pages.len() as u64 > self.room {
+            self.refuse(number);
+            return Err(Uncollected::Halted);
+        }
+        write_access(
+            self.writer,
+            &mut self.out,
+            &self.pages,
+            self.tag,
+            number,
+            access,
+        )?;
+        self.tag = tag_after(self.tag, access);
+        Ok(())
+    }
+}
+
+impl<'a, W: Sink, F: LogFormat> Collector for Writing<'a, W, F> {
+    ghost fault_in = { fault_by F.access_in };
+
+    ghost longest = { MAX_PAIR };
+
+    ghost went = { λ s texts t. Requested W.took F.access_in t.room s.writer.now texts t.writer.now (state_with t.pages t.tag t.lines) × (t.room ≡ s.room) × (t.room ≤ 1024) × (t.no_room ≡ None) };
+
+    ghost stopped = { λ s text t. HaltsAt W.took W.refused W.unflushed F.access_in s.room s.writer.now (state_with s.pages s.tag s.lines) text t.writer.now t.no_room };
+
+    ghost paused = { λ s t. W.took s.writer.now [] t.writer.now };
+
+    ghost unpaused = { λ s t. W.unflushed s.writer.now t.writer.now × (t.no_room ≡ s.no_room) };
+
+    ghost holds_same = { λ s t. t.writer.ghost_name ≡ s.writer.ghost_name };
+
+    fn collect(&mut self, number: u64, text: &[u8]) -> Result<(), Uncollected> {
+        let said = self.format.access_said(text)?;
+        match said {
+            None => {
+                self.lines = number;
+                Ok(())
+            }
+            Some(access) => {
+                self.ask(number, access)?;
+                self.lines = number;
+                Ok(())
+            }
+        }
+    }
+
+    fn pause(&mut self) -> Result<(), Failed> {
+        self.writer.flush_all()?;
+        Ok(())
+    }
+}
+
+// Writes the requests of a log to its end, through a buffer.
+fn write_through<R: Source, W: Sink, F: LogFormat>(
+    reader: &mut R,
+    writing: &mut Writing<W, F>,
+    buffer: &mut [u8],
+) -> Result<(), LogFault>
+    requires buffer { length buffer.old ≡ BUFFER_LEN }
+    requires room { writing.old.room ≤ 1024 }
+    requires fresh { state_with writing.old.pages writing.old.tag writing.old.lines ≡ log_start }
+    requires none { writing.old.no_room ≡ None }
+    ensures ends { Ends R.gave R.failed W.took W.refused W.unflushed F.access_in writing.old.room
+        reader.old reader.new writing.old.writer.now writing.new.writer.now result }
+    ensures same { writing.new.writer.ghost_name ≡ writing.old.writer.ghost_name }
+{
+    match read_lines(reader, writing, MAX_PAIR, buffer) {
+        Ok(()) => Ok(()),
+        Err(Stop::Fault(fault)) => Err(LogFault::Trace(fault)),
+        Err(Stop::Halted) => Err(match writing.no_room {
+            Some(fault) => LogFault::NoRoom(fault),
+            None => LogFault::Trace(TraceFault::Write),
+        }),
+    }
+}
+
+/// Writes the loads and stores of a log as the lines of a trace, over `words` words of memory.
+///
+/// A line `load TAG AT` is written for each word that a load touches, in ascending order, and a line
+/// `store AT MASK WORD` for each that a store touches; a modification is a load, and then a store. The
+/// tags are 0 to 65,535 in turn, and then 0 again. A mask names the bytes that are touched; such a byte
+/// is its address and the number of its line, added, modulo 256, and the others are 0. Memory's words
+/// stand for the pages that are touched, of 1,024 words, in the order of their first touch, as many as
+/// have room in it whole.
+///
+/// [`LogFault::Trace`] names the first line with a fault, as [`LogFormat::access_said`] finds it, or says
+/// that the reader or the writer failed, or that line 16,777,217 begins. A line is too long if it has
+/// more than 768 bytes before its LF. [`LogFault::NoRoom`] names the first line that touches a page for
+/// which there is no room; nothing is written of it. Whatever the fault, the requests of all lines before
+/// are written, and flushed unless a write or a flush was refused. `OutOfMemory` comes before anything is
+/// read or written. An error isn't tried again.
+///
+/// One buffer of 4,096 bytes is all the memory that is allocated, before the first read; the pages, at
+/// most 1,024, stand in 8 KiB on the stack. A line costs some twenty steps for each word that it touches,
+/// and a search of the list of pages where it touches another page than the line before. The writer is
+/// flushed before each read and at the end.
+pub fn write_requests<R: Source, W: Sink, F: LogFormat>(
+    alloc: Global,
+    reader: &mut R,
+    writer: &mut W,
+    format: &F,
+    words: u32,
+) -> Result<(), LogFault>
+    requires { words ≤ MAX_WORDS }
+    ensures { Ends R.gave R.failed W.took W.refused W.unflushed F.access_in (words / 1024) reader.old
+        reader.new writer.old writer.new result }
+{
+    let mut buffer = vec![in alloc; 0u8; BUFFER_LEN]?;
+    let mut writing = Writing {
+        writer,
+        format,
+        out: LineText::new(),
+        room: u64::from(words) / PAGE_WORDS,
+        pages: Pages::new(),
+        tag: 0,
+        lines: 0,
+        no_room: None,
+    };
+    write_through(reader, &mut writing, &mut buffer)
+}
