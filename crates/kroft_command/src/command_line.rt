@@ -403,7 +403,9 @@ fn conflict(task: Task, before: Option<&str>, behind: Option<&str>) -> Option<&'
     }
     match task {
         Task::Requests { .. } if before.is_some() => {
-            Some("the argument '--shape <FILE>' cannot be used with 'requests': it takes '--words <N>'")
+            Some(
+                "the argument '--shape <FILE>' cannot be used with 'requests': it takes '--words <N>'",
+            )
         }
         Task::Requests { words, .. } if words % 4 != 0 => {
             Some("invalid value for '--words <N>': it is no multiple of 4")

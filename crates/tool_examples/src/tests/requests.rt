@@ -45,7 +45,12 @@ fn an_access_over_two_words_and_two_pages(rt: HostRuntime) -> Result<(), Fail> {
     ends(&rt, &LACKEY, store, (0, stores, ""))?;
     // Eight bytes that begin at byte 1 of a word touch three words.
     let load = " L 00001001,8\n";
-    ends(&rt, &LACKEY, load, (0, "load 0 0\nload 1 1\nload 2 2\n", ""))?;
+    ends(
+        &rt,
+        &LACKEY,
+        load,
+        (0, "load 0 0\nload 1 1\nload 2 2\n", ""),
+    )?;
     // All loads of a modification come before its stores.
     let modify = " M 00001ffe,4\n";
     let both = "load 0 1023\nload 1 1024\nstore 1023 0011 0000ff00\nstore 1024 1100 01020000\n";
@@ -159,13 +164,31 @@ fn is_damaged<R: Abort + AllocGlobal + Files + Threads + Sync>(
 
 #[test]
 fn each_damaged_line(rt: HostRuntime) -> Result<(), Fail> {
-    let unknown = ["", " ", "L 0,4", " l 0,4", " L", " LL0,4", "I 0,4", "=", "0 0", " X 0,4", "\r"];
+    let unknown = [
+        "", " ", "L 0,4", " l 0,4", " L", " LL0,4", "I 0,4", "=", "0 0", " X 0,4", "\r",
+    ];
     for line in unknown {
         is_damaged(&rt, &LACKEY, " L 0,4", line, "unknown command")?;
     }
     let fields = [
-        " L ", " L 0", " L 0,", " L ,4", " L 0,0", " L 0,513", " L 0,04", " L 0x10,4", " L 0,4 ", " L  0,4", " L 0,4,4",
-        " L A,4", " L 0;4", " S g,4", " M -1,4", "I  0,0", "I  x,4", " L 0,4\r",
+        " L ",
+        " L 0",
+        " L 0,",
+        " L ,4",
+        " L 0,0",
+        " L 0,513",
+        " L 0,04",
+        " L 0x10,4",
+        " L 0,4 ",
+        " L  0,4",
+        " L 0,4,4",
+        " L A,4",
+        " L 0;4",
+        " S g,4",
+        " M -1,4",
+        "I  0,0",
+        "I  x,4",
+        " L 0,4\r",
     ];
     for line in fields {
         is_damaged(&rt, &LACKEY, " L 0,4", line, "bad field")?;
@@ -173,7 +196,18 @@ fn each_damaged_line(rt: HostRuntime) -> Result<(), Fail> {
     for line in ["", "3 0", "00 0", "r 0", " 0 0", "==12==", "00", "4 0"] {
         is_damaged(&rt, &DIN, "0 0", line, "unknown command")?;
     }
-    for line in ["0", "0 ", "0  0", "1 g", "0 0 ", "2 0x10", "2", "1 0,4", "0 FF", "0 10000000000000000"] {
+    for line in [
+        "0",
+        "0 ",
+        "0  0",
+        "1 g",
+        "0 0 ",
+        "2 0x10",
+        "2",
+        "1 0,4",
+        "0 FF",
+        "0 10000000000000000",
+    ] {
         is_damaged(&rt, &DIN, "0 0", line, "bad field")?;
     }
     Ok(())
@@ -265,7 +299,13 @@ Example:
   store 811 1111 adaeafb0
 ";
     assert!(rt; help.ends_with(example));
-    for part in ["--from <FORMAT>", "--words <N>", "lackey, din", "passed over", "\nStatuses: 0 done"] {
+    for part in [
+        "--from <FORMAT>",
+        "--words <N>",
+        "lackey, din",
+        "passed over",
+        "\nStatuses: 0 done",
+    ] {
         assert!(rt; help.contains(part), "{part}");
     }
     let requests = "load 0 811\nstore 811 1111 adaeafb0\n";
