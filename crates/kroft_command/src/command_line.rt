@@ -2,6 +2,7 @@
 
 use clap::error::ErrorKind;
 use clap::{Arg, ArgAction, ArgMatches, Command, Error};
+use kroft_jobs::Form;
 use std::alloc::{AllocError, Global};
 
 /// What the program is asked to do with the trace on its input.
@@ -21,6 +22,11 @@ pub enum Task {
         latency: u64,
         /// Whether a table of counts is written in place of the run.
         summary: bool,
+    },
+    /// Draw the machine at each of its events.
+    Show {
+        /// As what.
+        form: Form,
     },
 }
 
@@ -191,6 +197,41 @@ Example:
   arrive 3 0 -> moved
   process 0 -> moved";
 
+const SHOW_NOTES: &str =
+    "Reads a trace from standard input ('kroft run --help' lists its lines) and applies its events, 10000
+at most, to a new machine. Lines that only show something are passed over.
+Writes a page of HTML, which needs no other file and no network: the machine before the first
+event and behind each, with what the event changed, and why, in words. Left and right, Home and
+End step through it, and the space bar plays.
+With --text, in its place, lines of at most 80 columns for a terminal: * stands before what the
+step changed. With --vcd, a waveform (a value change dump) with one unit of time an event.
+A page has some 250 bytes an event. It shows the first 256 words of memory.
+
+Statuses: 0 done, 2 the command line is wrong, 3 the shape file is wrong, 4 a line is faulty, there
+are too many events or a stream failed, 5 there is too little memory.
+
+Example:
+  $ echo 'load 1 4' | kroft show --text
+  step 0: the machine before the first event
+
+  step 1 of 1: load 1 4 -> accepted
+    a miss: a register is taken, and block 1's words are asked for
+  * register 0       valid, block 1, frame 2, words came: 0
+  *   word 0         missing
+  *     load         tag 1 is owed 00000000
+  *   word 1         missing
+  *   word 2         missing
+  *   word 3         missing
+  * frame 2          block 1, pending
+  *   word 0         00000000
+  *   word 1         00000000
+  *   word 2         00000000
+  *   word 3         00000000
+  * bank 0 commands  1
+  * bank 1 commands  1
+  * bank 2 commands  1
+  * bank 3 commands  1";
+
 // The argument for the shape file. It may stand before or behind the subcommand.
 fn shape_argument<'a>(alloc: Global) -> Arg<'a> {
     Arg::new(alloc, "shape")
@@ -244,6 +285,29 @@ fn drive_command<'a>(alloc: Global) -> Result<Command<'a>, AllocError> {
     )
 }
 
+// The subcommand that draws the machine.
+fn show_command<'a>(alloc: Global) -> Result<Command<'a>, AllocError> {
+    subcommand(
+        alloc,
+        "show",
+        "Draw the machine at each event of a trace, as a page",
+        SHOW_NOTES,
+    )?
+    .arg(
+        Arg::new(alloc, "text")
+            .long("text")
+            .action(ArgAction::SetTrue)
+            .help("Write lines for a terminal in place of the page"),
+    )?
+    .arg(
+        Arg::new(alloc, "vcd")
+            .long("vcd")
+            .action(ArgAction::SetTrue)
+            .conflicts_with("text")?
+            .help("Write a waveform in place of the page"),
+    )
+}
+
 // The program's whole command line.
 fn program<'a>(alloc: Global) -> Result<Command<'a>, AllocError> {
     Command::new(alloc, PROGRAM)
@@ -274,7 +338,8 @@ fn program<'a>(alloc: Global) -> Result<Command<'a>, AllocError> {
             "Say why a recorded run is none of flat memory",
             EXPLAIN_NOTES,
         )?)?
-        .subcommand(drive_command(alloc)?)
+        .subcommand(drive_command(alloc)?)?
+        .subcommand(show_command(alloc)?)
 }
 
 // What the words behind `drive` ask for.
@@ -283,6 +348,18 @@ fn drive_task(rest: &ArgMatches<'_>) -> Task {
         latency: rest.get_one::<u64>("latency").unwrap_or(USUAL_LATENCY),
         summary: rest.get_flag("summary"),
     }
+}
+
+// What the words behind `show` ask for. Two forms at once were refused.
+fn show_task(rest: &ArgMatches<'_>) -> Task {
+    let form = if rest.get_flag("vcd") {
+        Form::Waveform
+    } else if rest.get_flag("text") {
+        Form::Screens
+    } else {
+        Form::Page
+    };
+    Task::Show { form }
 }
 
 /// Reads the words behind the program's name. Help and the version come as an error too, which
@@ -296,6 +373,7 @@ pub fn read_words<'a>(alloc: Global, words: &'a [&'a str]) -> Result<CommandLine
         Some(("sweep", rest)) => (Task::Sweep, rest.get_str("shape"), rest.get_str(TRACE)),
         Some(("explain", rest)) => (Task::Explain, rest.get_str("shape"), rest.get_str(TRACE)),
         Some(("drive", rest)) => (drive_task(rest), rest.get_str("shape"), rest.get_str(TRACE)),
+        Some(("show", rest)) => (show_task(rest), rest.get_str("shape"), rest.get_str(TRACE)),
         Some((_, rest)) => (Task::Run, rest.get_str("shape"), rest.get_str(TRACE)),
         None => (Task::Run, None, None),
     };

@@ -6,8 +6,8 @@ use crate::command_line::{Task, read_words};
 use crate::fault::ToolFault;
 use clap::error::ErrorKind;
 use kroft_jobs::{
-    JobFault, MOST_LATENCY, Verdict, check, drive_requests, explain, serve, summarize_requests,
-    sweep_registers,
+    Form, JobFault, MOST_LATENCY, Verdict, check, drive_requests, explain, serve,
+    summarize_requests, sweep_registers,
 };
 use shape_files::{ShapeFault, ToolShape, bad_field, read_shape};
 use std::alloc::Global;
@@ -88,6 +88,7 @@ fn work<R: AllocGlobal + Files + Threads + Sync, I: Read, O: Write>(
         Task::Drive { latency, summary } => {
             go_round(rt.alloc(), &shape, latency, summary, input, output)?
         }
+        Task::Show { form } => draw(rt.alloc(), &shape, form, input, output)?,
     };
     Ok(status)
 }
@@ -171,6 +172,25 @@ fn go_round<I: Read, O: Write>(
     } else {
         drive_requests(alloc, tool, latency, input, output)?;
     }
+    finish(output)?;
+    Ok(0)
+}
+
+// Draws the machine at each event of the trace.
+fn draw<I: Read, O: Write>(
+    alloc: Global,
+    tool: &ToolShape,
+    form: Form,
+    input: &mut I,
+    output: &mut O,
+) -> Result<u8, JobFault>
+    ensures { IfOk result (λ status. status ≤ 1) }
+{
+    if let Some(field) = bad_field(tool) {
+        return Err(JobFault::Shape(ShapeFault::BadShape(field)));
+    }
+    let drawing = kroft_jobs::show(alloc, tool, form, input)?;
+    show(output, drawing)?;
     finish(output)?;
     Ok(0)
 }

@@ -19,6 +19,8 @@ pub enum JobFault {
     Shape(ShapeFault),
     /// What the trace says, or a failed read or write.
     Trace(TraceFault),
+    /// The trace has more events than are drawn.
+    TooManyEvents,
     /// The thread of a sweep used up its turns.
     TurnLimit,
     /// There was too little memory.
@@ -37,6 +39,7 @@ impl fmt::Display for JobFault {
             JobFault::ShapeUnreadable => f.write_str("shape: file not readable"),
             JobFault::Shape(fault) => write!(f, "{fault}"),
             JobFault::Trace(fault) => write!(f, "{fault}"),
+            JobFault::TooManyEvents => f.write_str("too many events: 10000 at most are shown"),
             JobFault::TurnLimit => f.write_str("turn limit"),
             JobFault::OutOfMemory => f.write_str("out of memory"),
         }
@@ -50,7 +53,7 @@ impl JobFault {
     {
         match self {
             JobFault::ShapeUnreadable | JobFault::Shape(_) => 3,
-            JobFault::Trace(_) => 4,
+            JobFault::Trace(_) | JobFault::TooManyEvents => 4,
             JobFault::TurnLimit | JobFault::OutOfMemory => 5,
         }
     }

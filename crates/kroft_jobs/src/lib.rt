@@ -1,12 +1,15 @@
 //! What is done with a trace, for the shape that was read: [`serve`] runs it on a new machine,
 //! [`check`] and [`explain`] judge what a run wrote, [`sweep_registers`] counts what its requests
-//! wait for, and [`drive_requests`] and [`summarize_requests`] drive them in rounds. [`Verdict`] and [`JobFault`] have the texts and statuses that their ends are told by.
+//! wait for, and [`drive_requests`] and [`summarize_requests`] drive them in
+//! rounds. [`show`] draws the machine at each event. [`Verdict`] and [`JobFault`] have the texts and statuses that their ends are told by.
 #![tactic(auto)]
 
 mod fault;
 mod jobs;
+mod pictures;
 mod rounds;
 
 pub use fault::JobFault;
 pub use jobs::{SWEEP_TURNS, Verdict, check, explain, serve, sweep_registers};
+pub use pictures::{Form, MOST_EVENTS, show};
 pub use rounds::{MOST_LATENCY, drive_requests, summarize_requests};

@@ -11,7 +11,8 @@ ghost use Rattle.kroft_jobs.specs.Driving.{IsDriven, DrivesAll};
 
 use flat_model::Event;
 use register_sweeps::{MachineJob, with_machine};
-use round_driver::{RoundMachine, Table, drive, summarize};
+use round_driver::{Table, drive, summarize};
+use run_pictures::PictureMachine;
 use shape_files::ToolShape;
 use std::alloc::{AllocError, Global};
 use trace_text::{Sink, Source, TraceFault, read_requests};
@@ -82,7 +83,7 @@ impl<'a, O: Sink> MachineJob for DrivenRequests<'a, O> {
 
     ghost holds_same = { λ s t. t.output.ghost_name ≡ s.output.ghost_name };
 
-    fn work<M: RoundMachine>(&mut self, machine: &mut M) -> Result<u64, TraceFault> {
+    fn work<M: PictureMachine>(&mut self, machine: &mut M) -> Result<u64, TraceFault> {
         drive(
             self.alloc,
             machine,
@@ -155,7 +156,7 @@ impl MachineJob for SummarizedRequests<'_> {
 
     ghost holds_same = { λ s t. ⊤ };
 
-    fn work<M: RoundMachine>(&mut self, machine: &mut M) -> Result<Table, AllocError> {
+    fn work<M: PictureMachine>(&mut self, machine: &mut M) -> Result<Table, AllocError> {
         summarize(self.alloc, machine, self.latency, self.requests)
     }
 

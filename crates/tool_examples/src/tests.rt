@@ -5,6 +5,7 @@ mod jobs;
 mod program;
 mod refusals;
 mod shapes;
+mod show;
 mod sizes;
 mod stored;
 mod sweeps;

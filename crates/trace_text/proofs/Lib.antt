@@ -12,3 +12,4 @@ pub mod Written
 pub mod Commands
 pub mod AnswerTexts
 pub mod Recorded
+pub mod Events

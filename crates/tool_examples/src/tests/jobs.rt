@@ -106,7 +106,7 @@ impl Read for FailsOnce {
 
 #[test]
 fn a_failed_read_ends_each_job(rt: HostRuntime) -> Result<(), Fail> {
-    for job in ["run", "check", "sweep", "explain", "drive"] {
+    for job in ["run", "check", "sweep", "explain", "drive", "show"] {
         let mut input = FailsOnce {
             calls: 0,
             text: b"",
@@ -159,6 +159,7 @@ fn a_refused_write_or_flush_ends_each_job(rt: HostRuntime) -> Result<(), Fail> {
         ("explain", "drain -> nothing\n"),
         ("explain", "drain -> accepted\n"),
         ("drive", "load 1 0\n"),
+        ("show", "drain\n"),
         ("--help", ""),
     ];
     for (job, input) in jobs {
@@ -211,7 +212,7 @@ fn each_fault_of_a_trace_is_told(rt: HostRuntime) -> Result<(), Fail> {
         ("load 1 4", "line 1: line not ended\n"),
     ];
     for (trace, told) in faults {
-        for job in ["run", "sweep"] {
+        for job in ["run", "sweep", "show"] {
             ends_with(&rt, job, "", trace, (4, "", told))?;
         }
     }
