@@ -30,9 +30,12 @@ header { position: sticky; top: 0; background: var(--back); padding-bottom: 8px;
 button { font: inherit; min-width: 40px; padding: 2px 8px; color: var(--text); background: var(--head);
   border: 1px solid var(--line); border-radius: 4px; }
 button:focus-visible, input:focus-visible { outline: 2px solid var(--key); outline-offset: 1px; }
-main { display: grid; grid-template-columns: minmax(0, 3fr) minmax(0, 1fr); gap: 20px; }
+main { display: grid; grid-template-columns: minmax(0, 3fr) minmax(0, 1fr); gap: 20px; align-items: start; }
 table { border-collapse: collapse; width: 100%; font: 12px/1.4 ui-monospace, monospace; }
-th { background: var(--head); text-align: left; font-weight: 600; }
+th { background: var(--head); text-align: left; font-weight: 600; white-space: nowrap; }
+th[scope=row] { width: 1%; }
+#frames th[scope=col], #registers th[scope=col] { width: 16%; }
+#frames th.short, #registers th.short { width: 1%; }
 th, td { border: 1px solid var(--line); padding: 1px 5px; vertical-align: top; height: 20px; }
 td div:empty { display: none; }
 td div { overflow-wrap: anywhere; }
@@ -40,7 +43,7 @@ td div { overflow-wrap: anywhere; }
 .changed { background: var(--mark); box-shadow: inset 3px 0 0 var(--edge); padding-left: 6px; }
 .pending { font-style: italic; font-weight: 700; }
 .dirty { font-weight: 700; color: var(--key); }
-.memory { display: grid; grid-template-columns: repeat(4, 1fr); font: 11px/1.5 ui-monospace, monospace; }
+.memory { display: grid; grid-template-columns: repeat(8, 1fr); font: 11px/1.5 ui-monospace, monospace; }
 .memory div { padding-left: 6px; }
 .memory div::before { content: attr(data-at) ': '; color: var(--soft); }
 @media (max-width: 900px) { main { grid-template-columns: 1fr; } }
@@ -52,11 +55,11 @@ td div { overflow-wrap: anywhere; }
 <p id='event' aria-live='polite'></p>
 <p id='words' aria-live='polite'></p>
 <div class='controls'>
-<button id='first' aria-label='first step'>|&lt;</button>
+<button id='to-first' aria-label='first step'>|&lt;</button>
 <button id='back' aria-label='one step back'>&lt;</button>
 <button id='play' aria-label='play'>play</button>
 <button id='next' aria-label='one step on'>&gt;</button>
-<button id='end' aria-label='last step'>&gt;|</button>
+<button id='to-last' aria-label='last step'>&gt;|</button>
 <input id='slider' type='range' min='0' value='0' aria-label='step'>
 </div>
 <div id='keys'>left, right: a step; Home, End: first and last; space: play. What the step changed is marked.</div>
@@ -65,13 +68,13 @@ td div { overflow-wrap: anywhere; }
 <div>
 <h2>Frames</h2><table id='frames'></table>
 <h2>Registers</h2><table id='registers'></table>
+<h2>Memory, as the banks have it</h2><div id='memory' class='memory'></div>
 </div>
 <div>
 <h2>Input stack</h2><table id='stack'></table>
 <h2>Write queue</h2><table id='queue'></table>
 <h2>Banks</h2><table id='banks'></table>
 <h2>Ready values</h2><table id='ready'></table>
-<h2>Memory, as the banks have it</h2><div id='memory' class='memory'></div>
 </div>
 </main>
 <script>
@@ -112,6 +115,7 @@ function headRow(table, heads) {
   for (const head of heads) {
     const cell = document.createElement('th');
     cell.scope = 'col';
+    if (head === '' || head === 'set' || head === 'way') cell.className = 'short';
     cell.textContent = head;
     line.append(cell);
   }
@@ -208,10 +212,10 @@ function play() {
   timer = setInterval(() => { if (now < last) go(now + 1); else stop(); }, 700);
 }
 function move(to) { stop(); go(to); }
-find('first').onclick = () => move(0);
+find('to-first').onclick = () => move(0);
 find('back').onclick = () => move(now - 1);
 find('next').onclick = () => move(now + 1);
-find('end').onclick = () => move(last);
+find('to-last').onclick = () => move(last);
 find('play').onclick = play;
 find('slider').oninput = () => move(Number(find('slider').value));
 const keys = {
