@@ -2,7 +2,7 @@
 
 use clap::error::ErrorKind;
 use clap::{Arg, ArgAction, ArgMatches, Command, Error};
-use kroft_jobs::Form;
+use run_pictures::Form;
 use std::alloc::{AllocError, Global};
 
 /// What the program is asked to do with the trace on its input.
@@ -214,7 +214,7 @@ Example:
   $ echo 'load 1 4' | kroft show --text
   step 0: the machine before the first event
 
-  step 1 of 1: load 1 4 -> accepted
+  step 1: load 1 4 -> accepted
     a miss: a register is taken, and block 1's words are asked for
   * register 0       valid, block 1, frame 2, words came: 0
   *   word 0         missing

@@ -6,9 +6,10 @@ use crate::command_line::{Task, read_words};
 use crate::fault::ToolFault;
 use clap::error::ErrorKind;
 use kroft_jobs::{
-    Form, JobFault, MOST_LATENCY, Verdict, check, drive_requests, explain, serve,
+    JobFault, MOST_LATENCY, Verdict, check, drive_requests, explain, serve,
     summarize_requests, sweep_registers,
 };
+use run_pictures::Form;
 use shape_files::{ShapeFault, ToolShape, bad_field, read_shape};
 use std::alloc::Global;
 use std::io::{Read, Write};

@@ -10,6 +10,8 @@ use Rattle.shape_files.specs.declared.shape_file.ShapeFault.TheVariants as shape
 use Rattle.shape_files.specs.ShapeFile.{fault_text as shape_text}
 use Rattle.register_sweeps.specs.declared.sweeps.SweepFault.{SweepFault}
 use Rattle.register_sweeps.specs.declared.sweeps.SweepFault.TheVariants as sweep
+use Rattle.run_pictures.specs.declared.show.ShowFault.{ShowFault}
+use Rattle.run_pictures.specs.declared.show.ShowFault.TheVariants as show
 use Rattle.kroft_jobs.specs.declared.fault.JobFault.{JobFault}
 use Rattle.kroft_jobs.specs.declared.fault.JobFault.TheVariants.{ShapeUnreadable, Shape, Trace, TooManyEvents, TurnLimit, OutOfMemory}
 
@@ -56,6 +58,11 @@ of_shape fault = Shape fault
 abbrev pub of_trace : TraceFault → JobFault
 of_trace trace.OutOfMemory = OutOfMemory
 of_trace fault = Trace fault
+
+abbrev pub of_show : ShowFault → JobFault
+of_show (show.Trace fault) = of_trace fault
+of_show show.TooManyEvents = TooManyEvents
+of_show show.OutOfMemory = OutOfMemory
 
 abbrev pub of_sweep : SweepFault → JobFault
 of_sweep sweep.OutOfMemory = OutOfMemory

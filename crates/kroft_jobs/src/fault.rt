@@ -4,6 +4,7 @@ ghost use Rattle.std.specs.Prelude.{◌≡◌};
 ghost use Rattle.kroft_jobs.specs.Jobs.{status_of};
 
 use register_sweeps::SweepFault;
+use run_pictures::ShowFault;
 use shape_files::ShapeFault;
 use std::alloc::AllocError;
 use std::error::Error;
@@ -111,6 +112,21 @@ impl From<SweepFault> for JobFault {
             SweepFault::BadShape { place: _, field } => {
                 JobFault::Shape(ShapeFault::BadShape(field))
             }
+        }
+    }
+}
+
+impl From<ShowFault> for JobFault {
+    ghost use Rattle.std.specs.Prelude.{◌≡◌};
+    ghost use Rattle.kroft_jobs.specs.Jobs.{of_show};
+
+    ghost from_gives = { λ e f. f ≡ of_show e };
+
+    fn from(fault: ShowFault) -> JobFault {
+        match fault {
+            ShowFault::Trace(fault) => JobFault::from(fault),
+            ShowFault::TooManyEvents => JobFault::TooManyEvents,
+            ShowFault::OutOfMemory => JobFault::OutOfMemory,
         }
     }
 }

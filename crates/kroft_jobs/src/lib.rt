@@ -11,5 +11,5 @@ mod rounds;
 
 pub use fault::JobFault;
 pub use jobs::{SWEEP_TURNS, Verdict, check, explain, serve, sweep_registers};
-pub use pictures::{Form, MOST_EVENTS, show};
+pub use pictures::show;
 pub use rounds::{MOST_LATENCY, drive_requests, summarize_requests};

@@ -3,92 +3,48 @@
 ghost use Rattle.std.specs.Prelude.{⊤, ◌≡◌, None};
 ghost use Rattle.shape_files.specs.ShapeFile.{bad_field};
 
-use crate::fault::JobFault;
-use flat_model::Event;
 use register_sweeps::{MachineJob, with_machine};
-use run_pictures::{PictureMachine, page_of, screens_of, waveform_of};
+use run_pictures::{Form, PictureMachine, ShowFault, show_text};
 use shape_files::ToolShape;
-use std::alloc::{AllocError, Global};
-use trace_text::{Source, read_events};
+use std::alloc::Global;
+use trace_text::Source;
 
-/// The most events that are drawn.
-pub const MOST_EVENTS: usize = 10_000;
-
-/// As what a machine is drawn.
-#[derive(Clone, Copy, PartialEq, Eq, Debug)]
-pub enum Form {
-    /// A page of HTML that steps through the events.
-    Page,
-    /// Lines for a terminal.
-    Screens,
-    /// A file for a viewer of waveforms.
-    Waveform,
-}
-
-/// Draws a new machine of a shape whose fields are in range, over zeros, before the first event of a
-/// trace and behind each, as [`page_of`], [`screens_of`] or [`waveform_of`] does. Lines of the trace
-/// that only show something are passed over.
-///
-/// All lines are read before anything is drawn. A fault of the trace goes before too many events:
-/// there may be 10,000.
+/// Draws a new machine of a shape whose fields are in range, over zeros, at each event of a trace, as
+/// `show_text` does.
 pub fn show<I: Source>(
     alloc: Global,
     tool: &ToolShape,
     form: Form,
     input: &mut I,
-) -> Result<String, JobFault>
+) -> Result<String, ShowFault>
     requires shape { bad_field tool.now ≡ None }
 {
-    let events = read_events(alloc, input)?;
-    if events.len() > MOST_EVENTS {
-        return Err(JobFault::TooManyEvents);
-    }
-    Ok(drawn(alloc, tool, form, events.as_slice())?)
-}
-
-// Draws the events on a new machine.
-fn drawn(
-    alloc: Global,
-    tool: &ToolShape,
-    form: Form,
-    events: &[Event],
-) -> Result<String, AllocError>
-    requires shape { bad_field tool.now ≡ None }
-{
-    let mut job = DrawnEvents {
-        alloc,
-        form,
-        events,
-    };
+    let mut job = ShownTrace { alloc, form, input };
     with_machine(alloc, tool, &mut job)
 }
 
-// The drawing of events.
+// The drawing of a trace.
 #[derive(Drop)]
-struct DrawnEvents<'a> {
+struct ShownTrace<'a, I> {
     alloc: Global,
     form: Form,
-    events: &'a [Event],
+    input: &'a mut I,
 }
 
-impl MachineJob for DrawnEvents<'_> {
-    type Done = Result<String, AllocError>;
+impl<'a, I: Source> MachineJob for ShownTrace<'a, I> {
+    type Done = Result<String, ShowFault>;
 
     ghost can = { λ s. ⊤ };
 
     ghost done = { λ s machine t result. ⊤ };
 
-    ghost holds_same = { λ s t. ⊤ };
+    ghost holds_same = { λ s t. t.input.ghost_name ≡ s.input.ghost_name };
 
-    fn work<M: PictureMachine>(&mut self, machine: &mut M) -> Result<String, AllocError> {
-        match self.form {
-            Form::Page => page_of(self.alloc, machine, self.events),
-            Form::Screens => screens_of(self.alloc, machine, self.events),
-            Form::Waveform => waveform_of(self.alloc, machine, self.events),
-        }
+    fn work<M: PictureMachine>(&mut self, machine: &mut M) -> Result<String, ShowFault> {
+        show_text(self.alloc, self.input, machine, self.form)
     }
 
-    fn give_up(&mut self) -> Result<String, AllocError> {
-        Err(AllocError)
+    fn give_up(&mut self) -> Result<String, ShowFault> {
+        Err(ShowFault::OutOfMemory)
     }
 }

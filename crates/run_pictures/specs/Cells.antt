@@ -22,11 +22,13 @@ use Rattle.run_pictures.specs.declared.place.Place.TheVariants.{Register, Line, 
 
 -- ---- registers
 
+abbrev pub used_text : RegisterView → List ℕ
+used_text r =
+    if r.obsolete then codes "obsolete, block " ++ (decimal r.block ++ (codes ", words came: " ++ decimal r.processed))
+    else codes "valid, block " ++ (decimal r.block ++ (codes ", frame " ++ (decimal r.frame ++ (codes ", words came: " ++ decimal r.processed))))
+
 abbrev pub register_text : RegisterView → List ℕ
-register_text r =
-    if not r.valid then codes "free"
-    else (if r.obsolete then codes "obsolete, block " ++ decimal r.block ++ codes ", words came: " ++ decimal r.processed
-    else codes "valid, block " ++ decimal r.block ++ codes ", frame " ++ decimal r.frame ++ codes ", words came: " ++ decimal r.processed)
+register_text r = if r.valid then used_text r else codes "free"
 
 abbrev pub register_seen : Option RegisterView → List ℕ
 register_seen None = []
@@ -48,7 +50,7 @@ abbrev pub way_text : FieldView → List ℕ
 way_text f = if f.processed then codes "processed" else (if f.in_stack then codes "in stack" else codes "missing")
 
 abbrev pub field_text : FieldView → List ℕ
-field_text f = if has_any f.code then way_text f ++ codes ", code " ++ mask f.code else way_text f
+field_text f = if has_any f.code then way_text f ++ (codes ", code " ++ mask f.code) else way_text f
 
 abbrev pub field_seen : Option FieldView → List ℕ
 field_seen None = []
@@ -58,12 +60,15 @@ unfoldable pub field_at : MachineState → ℕ → ℕ → List ℕ
 field_at s slot i = if not (is_used s slot) then [] else field_seen (field_shown s slot i)
 
 -- a load that waits, the word that flat memory owes it, and the bytes that it has already
+abbrev pub owed_text : Owed → Word → List ℕ
+owed_text load word =
+    if has_any load.lanes
+    then codes "tag " ++ (decimal load.tag ++ (codes " is owed " ++ (digits word ++ (codes ", holds " ++ (mask load.lanes ++ (codes " " ++ digits load.held))))))
+    else codes "tag " ++ (decimal load.tag ++ (codes " is owed " ++ digits word))
+
 abbrev pub load_text : Owed → Option Word → List ℕ
 load_text load None = codes "tag " ++ decimal load.tag
-load_text load (Some word) =
-    if has_any load.lanes
-    then codes "tag " ++ decimal load.tag ++ codes " is owed " ++ digits word ++ codes ", holds " ++ mask load.lanes ++ codes " " ++ digits load.held
-    else codes "tag " ++ decimal load.tag ++ codes " is owed " ++ digits word
+load_text load (Some word) = owed_text load word
 
 abbrev pub is_missing : Option FieldView → Bool → Bool
 is_missing None used = false
@@ -93,15 +98,18 @@ is_live_for s slot block = lives_for block (register_shown s slot)
 unfoldable pub is_pending : MachineState → ℕ → Bool
 is_pending s block = list_any (λ slot. is_live_for s slot block) (range_with_len 0 16)
 
+abbrev pub block_text : ℕ → Bool → List ℕ
+block_text block pending = if pending then codes "block " ++ (decimal block ++ codes ", pending") else codes "block " ++ decimal block
+
 abbrev pub frame_seen : MachineState → Option ℕ → List ℕ
 frame_seen s None = []
-frame_seen s (Some block) = if is_pending s block then codes "block " ++ decimal block ++ codes ", pending" else codes "block " ++ decimal block
+frame_seen s (Some block) = block_text block (is_pending s block)
 
 unfoldable pub frame_at : MachineState → ℕ → List ℕ
 frame_at s frame = frame_seen s (frame_view s.machine.cache frame)
 
 abbrev pub word_text : Word → Lanes → List ℕ
-word_text word dirty = if has_any dirty then digits word ++ codes ", dirty " ++ mask dirty else digits word
+word_text word dirty = if has_any dirty then digits word ++ (codes ", dirty " ++ mask dirty) else digits word
 
 abbrev pub cell_seen : Option Word → Option Lanes → List ℕ
 cell_seen (Some word) (Some dirty) = word_text word dirty
@@ -114,15 +122,19 @@ cell_at s frame i = cell_seen (word_view s.machine.cache frame i) (dirty_view s.
 
 abbrev pub entry_text : Option Entry → List ℕ
 entry_text None = []
-entry_text (Some e) = codes "register " ++ decimal e.slot ++ codes ", word " ++ decimal e.i ++ codes ": " ++ digits e.word
+entry_text (Some e) = codes "register " ++ (decimal e.slot ++ (codes ", word " ++ (decimal e.i ++ (codes ": " ++ digits e.word))))
 
 abbrev pub queued_text : Option Queued → List ℕ
 queued_text None = []
-queued_text (Some q) = codes "word " ++ decimal q.at ++ codes ", block " ++ decimal q.block ++ codes ": " ++ mask q.lanes ++ codes " " ++ digits q.word
+queued_text (Some q) = codes "word " ++ (decimal q.at ++ (codes ", block " ++ (decimal q.block ++ (codes ": " ++ (mask q.lanes ++ (codes " " ++ digits q.word))))))
+
+abbrev pub value_text : Answer → List ℕ
+value_text (Value tag word) = codes "tag " ++ (decimal tag ++ (codes ": " ++ digits word))
+value_text answer = []
 
 abbrev pub reply_text : Option Answer → List ℕ
-reply_text (Some (Value tag word)) = codes "tag " ++ decimal tag ++ codes ": " ++ digits word
-reply_text reply = []
+reply_text None = []
+reply_text (Some answer) = value_text answer
 
 abbrev pub memory_text : Option Word → List ℕ
 memory_text None = []

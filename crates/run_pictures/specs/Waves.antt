@@ -8,13 +8,13 @@ use Rattle.run_pictures.specs.declared.signal.Signal.{Signal}
 use Rattle.run_pictures.specs.declared.signal.Signal.TheVariants.{Valid, Obsolete, Block, Stack, Queue, Commands, Answers, Replies}
 
 abbrev pub name_text : Signal → List ℕ
-name_text (Valid slot) = codes "reg" ++ decimal slot ++ codes "_valid"
-name_text (Obsolete slot) = codes "reg" ++ decimal slot ++ codes "_obsolete"
-name_text (Block slot) = codes "reg" ++ decimal slot ++ codes "_block"
+name_text (Valid slot) = codes "reg" ++ (decimal slot ++ codes "_valid")
+name_text (Obsolete slot) = codes "reg" ++ (decimal slot ++ codes "_obsolete")
+name_text (Block slot) = codes "reg" ++ (decimal slot ++ codes "_block")
 name_text Stack = codes "input_stack"
 name_text Queue = codes "write_queue"
-name_text (Commands bank) = codes "bank" ++ decimal bank ++ codes "_commands"
-name_text (Answers bank) = codes "bank" ++ decimal bank ++ codes "_answers"
+name_text (Commands bank) = codes "bank" ++ (decimal bank ++ codes "_commands")
+name_text (Answers bank) = codes "bank" ++ (decimal bank ++ codes "_answers")
 name_text Replies = codes "ready"
 
 -- how many bits a signal has

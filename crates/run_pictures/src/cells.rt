@@ -14,21 +14,30 @@ use std::alloc::{AllocError, Global};
 use trace_text::register_text as line_of_register;
 use write_queue::Queued;
 
-fn register_text(alloc: Global, register: RegisterView) -> Result<String, AllocError>
-    ensures { IfOk result (λ text. string_bytes text ≡ cells.register_text register) }
+fn used_text(alloc: Global, register: RegisterView) -> Result<String, AllocError>
+    ensures { IfOk result (λ text. string_bytes text ≡ cells.used_text register) }
 {
     let block = register.block;
     let frame = register.frame;
     let came = register.processed;
-    if !register.valid {
-        return String::from_str(alloc, "free");
-    }
     if register.obsolete {
-        return format!(in alloc; "obsolete, block {block}, words came: {came}");
+        format!(in alloc; "obsolete, block {block}, words came: {came}")
+    } else {
+        format!(in alloc; "valid, block {block}, frame {frame}, words came: {came}")
     }
-    format!(in alloc; "valid, block {block}, frame {frame}, words came: {came}")
 }
 
+fn register_text(alloc: Global, register: RegisterView) -> Result<String, AllocError>
+    ensures { IfOk result (λ text. string_bytes text ≡ cells.register_text register) }
+{
+    if register.valid {
+        used_text(alloc, register)
+    } else {
+        String::from_str(alloc, "free")
+    }
+}
+
+#[tactic(auto, unfolding(crate::specs::Cells::register_at))]
 fn register_at<M: PictureMachine>(
     alloc: Global,
     machine: &M,
@@ -54,6 +63,7 @@ fn line_at<M: PictureMachine>(alloc: Global, machine: &M, slot: u32) -> Result<S
 }
 
 // Whether a register stands for a block that is missing words.
+#[tactic(auto, unfolding(crate::specs::Cells::is_used))]
 fn is_used<M: PictureMachine>(machine: &M, slot: u32) -> bool
     ensures { result ≡ cells.is_used (M.state machine.now) slot }
 {
@@ -88,6 +98,7 @@ fn field_text(alloc: Global, field: FieldView) -> Result<String, AllocError>
     }
 }
 
+#[tactic(auto, unfolding(crate::specs::Cells::field_at))]
 fn field_at<M: PictureMachine>(
     alloc: Global,
     machine: &M,
@@ -106,25 +117,33 @@ fn field_at<M: PictureMachine>(
     }
 }
 
-fn load_text(alloc: Global, load: Owed, due: Option<Word>) -> Result<String, AllocError>
-    ensures { IfOk result (λ text. string_bytes text ≡ cells.load_text load due) }
+fn owed_text(alloc: Global, load: Owed, word: Word) -> Result<String, AllocError>
+    ensures { IfOk result (λ text. string_bytes text ≡ cells.owed_text load word) }
 {
     let tag = load.tag;
     let held = load.held;
     let lanes = load.lanes;
+    if lanes.has_any() {
+        format!(in alloc; "tag {tag} is owed {word}, holds {lanes} {held}")
+    } else {
+        format!(in alloc; "tag {tag} is owed {word}")
+    }
+}
+
+fn load_text(alloc: Global, load: Owed, due: Option<Word>) -> Result<String, AllocError>
+    ensures { IfOk result (λ text. string_bytes text ≡ cells.load_text load due) }
+{
     match due {
-        Some(word) => {
-            if lanes.has_any() {
-                format!(in alloc; "tag {tag} is owed {word}, holds {lanes} {held}")
-            } else {
-                format!(in alloc; "tag {tag} is owed {word}")
-            }
+        Some(word) => owed_text(alloc, load, word),
+        None => {
+            let tag = load.tag;
+            format!(in alloc; "tag {tag}")
         }
-        None => format!(in alloc; "tag {tag}"),
     }
 }
 
 // Whether loads may wait for a word of a register.
+#[tactic(auto, unfolding(crate::specs::Cells::is_awaited))]
 fn is_awaited<M: PictureMachine>(machine: &M, slot: u32, i: u32) -> bool
     ensures { result ≡ cells.is_awaited (M.state machine.now) slot i }
 {
@@ -134,6 +153,7 @@ fn is_awaited<M: PictureMachine>(machine: &M, slot: u32, i: u32) -> bool
     }
 }
 
+#[tactic(auto, unfolding(crate::specs::Cells::load_at))]
 fn load_at<M: PictureMachine>(
     alloc: Global,
     machine: &M,
@@ -155,6 +175,7 @@ fn load_at<M: PictureMachine>(
 }
 
 // Whether a register waits for words of a block that still has its frame.
+#[tactic(auto, unfolding(crate::specs::Cells::is_live_for))]
 fn is_live_for<M: PictureMachine>(machine: &M, slot: u32, block: u32) -> bool
     ensures { result ≡ cells.is_live_for (M.state machine.now) slot block }
 {
@@ -165,27 +186,31 @@ fn is_live_for<M: PictureMachine>(machine: &M, slot: u32, block: u32) -> bool
 }
 
 /// Whether words of a block that a frame holds are on their way.
+#[tactic(auto, unfolding(crate::specs::Cells::is_pending))]
 pub fn is_pending<M: PictureMachine>(machine: &M, block: u32) -> bool
     ensures { result ≡ cells.is_pending (M.state machine.now) block }
 {
     (0..16).any(|slot| is_live_for(machine, slot, block))
 }
 
-fn frame_at<M: PictureMachine>(
-    alloc: Global,
-    machine: &M,
-    frame: u32,
-) -> Result<String, AllocError>
-    ensures { IfOk result
-        (λ text. string_bytes text ≡ cells.frame_at (M.state machine.now) frame) }
+fn block_text(alloc: Global, block: u32, pending: bool) -> Result<String, AllocError>
+    ensures { IfOk result (λ text. string_bytes text ≡ cells.block_text block pending) }
 {
-    let Some(block) = machine.frame_block(frame) else {
-        return Ok(String::new(alloc));
-    };
-    if is_pending(machine, block) {
+    if pending {
         format!(in alloc; "block {block}, pending")
     } else {
         format!(in alloc; "block {block}")
+    }
+}
+
+#[tactic(auto, unfolding(crate::specs::Cells::frame_at))]
+fn frame_at<M: PictureMachine>(alloc: Global, machine: &M, frame: u32) -> Result<String, AllocError>
+    ensures { IfOk result
+        (λ text. string_bytes text ≡ cells.frame_at (M.state machine.now) frame) }
+{
+    match machine.frame_block(frame) {
+        Some(block) => block_text(alloc, block, is_pending(machine, block)),
+        None => Ok(String::new(alloc)),
     }
 }
 
@@ -199,6 +224,7 @@ fn word_text(alloc: Global, word: Word, dirty: Lanes) -> Result<String, AllocErr
     }
 }
 
+#[tactic(auto, unfolding(crate::specs::Cells::cell_at))]
 fn cell_at<M: PictureMachine>(
     alloc: Global,
     machine: &M,
@@ -218,7 +244,10 @@ fn entry_text(alloc: Global, entry: Option<Entry>) -> Result<String, AllocError>
     ensures { IfOk result (λ text. string_bytes text ≡ cells.entry_text entry) }
 {
     match entry {
-        Some(Entry { slot, i, word }) => {
+        Some(entry) => {
+            let slot = entry.slot;
+            let i = entry.i;
+            let word = entry.word;
             format!(in alloc; "register {slot}, word {i}: {word}")
         }
         None => Ok(String::new(alloc)),
@@ -229,10 +258,23 @@ fn queued_text(alloc: Global, queued: Option<Queued>) -> Result<String, AllocErr
     ensures { IfOk result (λ text. string_bytes text ≡ cells.queued_text queued) }
 {
     match queued {
-        Some(Queued { block, at, word, lanes }) => {
+        Some(queued) => {
+            let at = queued.at;
+            let block = queued.block;
+            let lanes = queued.lanes;
+            let word = queued.word;
             format!(in alloc; "word {at}, block {block}: {lanes} {word}")
         }
         None => Ok(String::new(alloc)),
+    }
+}
+
+fn value_text(alloc: Global, answer: Answer) -> Result<String, AllocError>
+    ensures { IfOk result (λ text. string_bytes text ≡ cells.value_text answer) }
+{
+    match answer {
+        Answer::Value { tag, word } => format!(in alloc; "tag {tag}: {word}"),
+        _ => Ok(String::new(alloc)),
     }
 }
 
@@ -240,8 +282,8 @@ fn reply_text(alloc: Global, reply: Option<Answer>) -> Result<String, AllocError
     ensures { IfOk result (λ text. string_bytes text ≡ cells.reply_text reply) }
 {
     match reply {
-        Some(Answer::Value { tag, word }) => format!(in alloc; "tag {tag}: {word}"),
-        _ => Ok(String::new(alloc)),
+        Some(answer) => value_text(alloc, answer),
+        None => Ok(String::new(alloc)),
     }
 }
 

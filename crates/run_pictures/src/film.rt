@@ -1,14 +1,12 @@
-//! The pictures of a machine, one behind each event.
+//! The picture of a machine, and what an event changes of it.
 
 ghost use Rattle.std.specs.Prelude.{◌≡◌, OnOk, Some};
 ghost use Rattle.flat_model.specs.Memory.{shown};
 ghost use Rattle.flat_model.specs.Flat.{flat_step};
 
-use crate::before::Before;
 use crate::cells::text_at;
 use crate::machine::{Extent, PictureMachine};
 use crate::place::{Place, places_of};
-use crate::reasons::words_of;
 use flat_model::{Answer, Event, FlatMemory, Word};
 use std::alloc::{AllocError, Global};
 
@@ -18,19 +16,6 @@ pub struct Film {
     flat: FlatMemory,
     places: Vec<Place>,
     texts: Vec<String>,
-}
-
-/// One event of a film.
-#[derive(Drop)]
-pub struct Step {
-    /// The event.
-    pub event: Event,
-    /// Its answer.
-    pub answer: Answer,
-    /// What it did, or why it didn't, in words.
-    pub words: String,
-    /// The numbers of the places whose texts it changed, in order.
-    pub changed: Vec<usize>,
 }
 
 // The flat memory of a machine in which nothing has happened, over zeros.
@@ -45,8 +30,7 @@ fn texts_of<M: PictureMachine>(
     machine: &M,
     flat: &FlatMemory,
     places: &[Place],
-) -> Result<Vec<String>, AllocError>
-{
+) -> Result<Vec<String>, AllocError> {
     let mut texts = Vec::with_capacity(alloc, places.len())?;
     for place in places {
         texts.push(text_at(alloc, machine, flat, *place)?)?;
@@ -111,25 +95,19 @@ impl Film {
         self.texts.as_slice()
     }
 
-    /// Makes an event, and draws the machine behind it.
+    /// Draws the machine behind an event. The numbers of the places whose texts are others come back,
+    /// in order.
     pub fn advance<M: PictureMachine>(
         &mut self,
         alloc: Global,
-        machine: &mut M,
+        machine: &M,
         event: Event,
-    ) -> Result<Step, AllocError> {
-        let before = Before::new(machine, event);
-        let answer = machine.apply(event);
+        answer: Answer,
+    ) -> Result<Vec<usize>, AllocError> {
         step_flat(&mut self.flat, event, answer)?;
-        let words = words_of(alloc, machine, before, event, answer)?;
         let texts = texts_of(alloc, machine, &self.flat, self.places.as_slice())?;
         let changed = changed_between(alloc, self.texts.as_slice(), texts.as_slice())?;
         self.texts = texts;
-        Ok(Step {
-            event,
-            answer,
-            words,
-            changed,
-        })
+        Ok(changed)
     }
 }

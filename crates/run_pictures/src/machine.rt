@@ -1,8 +1,8 @@
 //! What is asked of a machine that is drawn.
-ghost use Rattle.std.specs.Prelude.{◌≡◌, ◌≤◌, length, slice_get};
+ghost use Rattle.std.specs.Prelude.{◌≡◌, length, slice_get};
 ghost use Rattle.memory_banks.specs.Banks.{bank_at};
 ghost use Rattle.cache_unit.specs.Views as views;
-ghost use Rattle.run_pictures.specs.Extents.{extent_of, IsExtent};
+ghost use Rattle.run_pictures.specs.Extents.{extent_of, fitted};
 
 use flat_model::{Answer, Lanes, Word};
 use input_stack::Entry;
@@ -40,14 +40,44 @@ impl Extent {
     pub fn frames(&self) -> u32 {
         self.sets.saturating_mul(self.ways)
     }
+
+    /// The block of the word at an address.
+    pub fn block_of(&self, at: u32) -> u32 {
+        at.checked_div(self.block_words).unwrap_or(0)
+    }
+
+    /// The set in which a block may be.
+    pub fn set_of(&self, block: u32) -> u32 {
+        block.checked_rem(self.sets).unwrap_or(0)
+    }
+
+    /// The set to which a frame belongs.
+    pub fn set_of_frame(&self, frame: u32) -> u32 {
+        frame.checked_div(self.ways).unwrap_or(0)
+    }
+
+    /// The bank in which the word at an address lies.
+    pub fn bank_of(&self, at: u64) -> u64 {
+        at.checked_rem(u64::from(self.banks)).unwrap_or(0)
+    }
+}
+
+// A number of a machine's type, as 32 bits hold it: a machine has no greater one.
+fn fitted(n: usize) -> u32
+    ensures { result ≡ fitted n }
+{
+    if n < 4_294_967_296 {
+        n as u32
+    } else {
+        u32::MAX
+    }
 }
 
 /// A machine that can be drawn, whatever its four const numbers are.
 pub trait PictureMachine: RoundMachine {
     /// How much there is to draw.
     fn extent(&self) -> Extent
-        ensures value { result ≡ extent_of (Self.state self.now).sizes }
-        ensures in_range { IsExtent result };
+        ensures { result ≡ extent_of (Self.state self.now).sizes };
 
     /// The block that a frame holds, as [`Machine::frame_block`].
     fn frame_block(&self, frame: u32) -> Option<u32>
@@ -100,11 +130,11 @@ impl<const WAYS: usize, const WORDS: usize, const REGS: usize, const DEPTH: usiz
         let shape = self.shape();
         Extent {
             words: shape.words,
-            block_words: WORDS as u32,
+            block_words: fitted(WORDS),
             sets: shape.sets,
-            ways: WAYS as u32,
-            regs: REGS as u32,
-            depth: DEPTH as u32,
+            ways: fitted(WAYS),
+            regs: fitted(REGS),
+            depth: fitted(DEPTH),
             banks: shape.banks,
             bank_queue: shape.bank_queue,
             write_queue: shape.write_queue,

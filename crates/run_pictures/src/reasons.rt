@@ -34,7 +34,7 @@ fn block_of<M: PictureMachine>(machine: &M, event: Event) -> u32 {
     let extent = machine.extent();
     match event {
         Event::Load { at, .. } | Event::Store { at, .. } | Event::Prefetch { at } => {
-            at / extent.block_words
+            extent.block_of(at)
         }
         Event::Evict { block } => block,
         _ => 0,
@@ -51,7 +51,9 @@ fn accepted<M: PictureMachine>(
     match (before.found, event) {
         (_, Event::Evict { .. }) => format!(in alloc; "the frame of block {block} is given up"),
         (Some(Lookup::Miss), _) => {
-            format!(in alloc; "a miss: a register is taken, and block {block}'s words are asked for")
+            format!(in alloc;
+                "a miss: a register is taken, and block {block}'s words are asked for"
+            )
         }
         (Some(Lookup::Hit), _) => String::from_str(alloc, hit(event)),
         (Some(Lookup::Join), _) => String::from_str(alloc, joined(event)),
@@ -100,15 +102,11 @@ fn drained<M: PictureMachine>(
     };
     let at = front.at;
     let lanes = front.lanes;
-    let bank = at % machine.extent().banks;
+    let bank = machine.extent().bank_of(u64::from(at));
     format!(in alloc; "the bytes {lanes} of word {at} go to bank {bank}")
 }
 
-fn arrived<M: PictureMachine>(
-    alloc: Global,
-    machine: &M,
-    bank: u32,
-) -> Result<String, AllocError> {
+fn arrived<M: PictureMachine>(alloc: Global, machine: &M, bank: u32) -> Result<String, AllocError> {
     let last = machine.stack_len().saturating_sub(1);
     let Some(entry) = machine.stack_entry(last) else {
         return Ok(String::new(alloc));
@@ -152,7 +150,7 @@ fn refused<M: PictureMachine>(
 ) -> Result<String, AllocError> {
     let extent = machine.extent();
     let block = block_of(machine, event);
-    let set = block % extent.sets;
+    let set = extent.set_of(block);
     let regs = extent.regs;
     let replies = extent.replies;
     let depth = extent.depth;
@@ -181,7 +179,7 @@ fn outside<M: PictureMachine>(
 ) -> Result<String, AllocError> {
     let extent = machine.extent();
     let words = extent.words;
-    let blocks = words / extent.block_words;
+    let blocks = extent.block_of(words);
     match event {
         Event::Load { at, .. } | Event::Store { at, .. } | Event::Prefetch { at } => {
             format!(in alloc; "word {at} is outside memory, which has {words} words")
@@ -238,7 +236,8 @@ fn may_go<M: PictureMachine>(machine: &M, event: Event, frame: u32) -> bool {
     };
     match event {
         Event::Evict { block } => held == block,
-        _ => frame / extent.ways == block_of(machine, event) % extent.sets && !is_pending(machine, held),
+        _ => extent.set_of_frame(frame) == extent.set_of(block_of(machine, event))
+            && !is_pending(machine, held),
     }
 }
 
@@ -254,7 +253,10 @@ fn queue_full<M: PictureMachine>(
     machine: &M,
     event: Event,
 ) -> Result<String, AllocError> {
-    let free = machine.extent().write_queue.saturating_sub(machine.queue_len());
+    let free = machine
+        .extent()
+        .write_queue
+        .saturating_sub(machine.queue_len());
     match stuck_frame(machine, event, free as usize) {
         Some(frame) => {
             let dirty = dirty_words(machine, frame);
@@ -268,15 +270,17 @@ fn queue_full<M: PictureMachine>(
 fn words_in_bank<M: PictureMachine>(machine: &M, block: u32, bank: u32) -> usize {
     let extent = machine.extent();
     let first = u64::from(block) * u64::from(extent.block_words);
-    let banks = u64::from(extent.banks);
     (0..extent.block_words)
-        .filter(|i| (first + u64::from(*i)) % banks == u64::from(bank))
+        .filter(|i| extent.bank_of(first + u64::from(*i)) == u64::from(bank))
         .count()
 }
 
 // How many more commands a bank takes.
 fn room_at<M: PictureMachine>(machine: &M, bank: u32) -> u32 {
-    machine.extent().bank_queue.saturating_sub(machine.commands(bank))
+    machine
+        .extent()
+        .bank_queue
+        .saturating_sub(machine.commands(bank))
 }
 
 // The first bank that has too little room for the reads of a block.
@@ -293,7 +297,7 @@ fn bank_full<M: PictureMachine>(
     event: Event,
 ) -> Result<String, AllocError> {
     if let (Event::Drain, Some(front)) = (event, machine.queue_entry(0)) {
-        let bank = front.at % machine.extent().banks;
+        let bank = machine.extent().bank_of(u64::from(front.at));
         return format!(in alloc; "bank {bank} has no room for a command");
     }
     let block = block_of(machine, event);

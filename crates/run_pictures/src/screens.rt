@@ -1,9 +1,9 @@
 //! The pictures of a machine, as lines for a terminal.
 
-use crate::film::{Film, Step};
+use crate::film::Film;
 use crate::machine::PictureMachine;
 use crate::place::Place;
-use flat_model::Event;
+use crate::step::Step;
 use std::alloc::{AllocError, Global};
 
 // What a place is called on a screen; nothing for one that isn't shown there.
@@ -81,37 +81,44 @@ fn push_picture(
 }
 
 // The lines above a picture: which step it is, and what it did.
-fn push_head(
-    screen: &mut String,
-    step: &Step,
-    number: usize,
-    steps: usize,
-) -> Result<(), AllocError> {
+fn push_head(screen: &mut String, step: &Step) -> Result<(), AllocError> {
+    let number = step.number;
     let event = step.event;
     let answer = step.answer;
     let words = step.words.as_str();
-    write!(screen, "\nstep {number} of {steps}: {event} -> {answer}\n  {words}\n")
+    write!(screen, "\nstep {number}: {event} -> {answer}\n  {words}\n")
 }
 
-/// The machine before the first of these events and behind each, as lines of at most 80 columns, with
-/// an empty line between the steps. Places where nothing stands aren't shown, and of memory only the
-/// words that the step changed. A line begins with `*` if the step changed it, and its text is `-` if
-/// nothing stands there any more.
-///
-/// The machine is one in which nothing has happened, over zeros. Afterwards it stands behind the last
-/// event. `AllocError` says that there was too little memory.
-pub fn screens_of<M: PictureMachine>(
-    alloc: Global,
-    machine: &mut M,
-    events: &[Event],
-) -> Result<String, AllocError> {
-    let mut film = Film::new(alloc, machine)?;
-    let mut screens = String::from_str(alloc, "step 0: the machine before the first event\n")?;
-    push_picture(alloc, &mut screens, &film, &[])?;
-    for k in 0..events.len() {
-        let step = film.advance(alloc, machine, events[k])?;
-        push_head(&mut screens, &step, k + 1, events.len())?;
-        push_picture(alloc, &mut screens, &film, step.changed.as_slice())?;
+/// Screens, up to that of the step that was drawn last.
+#[derive(Drop)]
+pub struct Screens {
+    film: Film,
+    text: String,
+}
+
+impl Screens {
+    /// The screen of a machine before its first event.
+    pub fn new<M: PictureMachine>(alloc: Global, machine: &M) -> Result<Screens, AllocError> {
+        let film = Film::new(alloc, machine)?;
+        let mut text = String::from_str(alloc, "step 0: the machine before the first event\n")?;
+        push_picture(alloc, &mut text, &film, &[])?;
+        Ok(Screens { film, text })
     }
-    Ok(screens)
+
+    /// Draws a step, behind which the machine stands.
+    pub fn draw<M: PictureMachine>(
+        &mut self,
+        alloc: Global,
+        machine: &M,
+        step: &Step,
+    ) -> Result<(), AllocError> {
+        let changed = self.film.advance(alloc, machine, step.event, step.answer)?;
+        push_head(&mut self.text, step)?;
+        push_picture(alloc, &mut self.text, &self.film, changed.as_slice())
+    }
+
+    /// The whole text.
+    pub fn finish(self) -> String {
+        self.text
+    }
 }

@@ -2,7 +2,7 @@
 
 use crate::machine::PictureMachine;
 use crate::signal::{Signal, signals_of};
-use flat_model::Event;
+use crate::step::Step;
 use std::alloc::{AllocError, Global};
 
 // The declaration of the signal of this number.
@@ -20,12 +20,7 @@ fn push_declarations(wave: &mut String, signals: &[Signal]) -> Result<(), AllocE
 }
 
 // The value of the signal of this number.
-fn push_value(
-    wave: &mut String,
-    signal: Signal,
-    k: usize,
-    value: u32,
-) -> Result<(), AllocError> {
+fn push_value(wave: &mut String, signal: Signal, k: usize, value: u32) -> Result<(), AllocError> {
     if signal.width() == 1 {
         write!(wave, "{value}s{k}\n")
     } else {
@@ -63,32 +58,54 @@ fn push_changes(
     Ok(())
 }
 
-/// A waveform of a machine that makes these events, one unit of time each: which registers stand for
-/// blocks, which of these are obsolete, their blocks, and how many words, commands, answers and values
-/// stand in the input stack, the write queue, the banks and the ready replies. Time 0 is before the
-/// first event. A viewer of waveforms opens it as a value change dump (VCD).
-///
-/// Afterwards the machine stands behind the last event. `AllocError` says that there was too little
-/// memory.
-pub fn waveform_of<M: PictureMachine>(
-    alloc: Global,
-    machine: &mut M,
-    events: &[Event],
-) -> Result<String, AllocError> {
-    let signals = signals_of(alloc, &machine.extent())?;
-    let mut values = values_of(alloc, machine, signals.as_slice())?;
-    let mut wave = String::new(alloc);
-    push_declarations(&mut wave, signals.as_slice())?;
-    wave.push_str("#0\n$dumpvars\n")?;
-    push_changes(&mut wave, signals.as_slice(), &[], values.as_slice())?;
-    wave.push_str("$end\n")?;
-    for k in 0..events.len() {
-        let _answer = machine.apply(events[k]);
-        let next = values_of(alloc, machine, signals.as_slice())?;
-        let time = k + 1;
-        write!(wave, "#{time}\n")?;
-        push_changes(&mut wave, signals.as_slice(), values.as_slice(), next.as_slice())?;
-        values = next;
+/// A waveform, up to the event that was drawn last.
+#[derive(Drop)]
+pub struct Waveform {
+    signals: Vec<Signal>,
+    values: Vec<u32>,
+    text: String,
+}
+
+impl Waveform {
+    /// The waveform of a machine before its first event.
+    pub fn new<M: PictureMachine>(alloc: Global, machine: &M) -> Result<Waveform, AllocError> {
+        let signals = signals_of(alloc, &machine.extent())?;
+        let values = values_of(alloc, machine, signals.as_slice())?;
+        let mut text = String::new(alloc);
+        push_declarations(&mut text, signals.as_slice())?;
+        text.push_str("#0\n$dumpvars\n")?;
+        push_changes(&mut text, signals.as_slice(), &[], values.as_slice())?;
+        text.push_str("$end\n")?;
+        Ok(Waveform {
+            signals,
+            values,
+            text,
+        })
     }
-    Ok(wave)
+
+    /// Draws a step, behind which the machine stands.
+    pub fn draw<M: PictureMachine>(
+        &mut self,
+        alloc: Global,
+        machine: &M,
+        step: &Step,
+    ) -> Result<(), AllocError> {
+        let signals = self.signals.as_slice();
+        let values = values_of(alloc, machine, signals)?;
+        let number = step.number;
+        write!(&mut self.text, "#{number}\n")?;
+        push_changes(
+            &mut self.text,
+            signals,
+            self.values.as_slice(),
+            values.as_slice(),
+        )?;
+        self.values = values;
+        Ok(())
+    }
+
+    /// The whole text.
+    pub fn finish(self) -> String {
+        self.text
+    }
 }

@@ -12,4 +12,3 @@ pub mod Written
 pub mod Commands
 pub mod AnswerTexts
 pub mod Recorded
-pub mod Events

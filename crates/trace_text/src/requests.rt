@@ -36,8 +36,7 @@ fn request(line: Line) -> Option<Event>
     }
 }
 
-// Keeps the event of a line, where it has one.
-pub fn keep(events: &mut Vec<Event>, event: Option<Event>) -> Result<(), Uncollected>
+fn keep(events: &mut Vec<Event>, event: Option<Event>) -> Result<(), Uncollected>
     ensures ok { OnOk result (events.new.items ≡ events.old.items ++ option_to_list event) }
     ensures err { IfErr result (λ miss. miss ≡ Uncollected.Halted) }
 {

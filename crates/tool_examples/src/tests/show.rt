@@ -43,7 +43,7 @@ const FIRST_RUN: &str = "load 1 4\nserve 0\narrive 0 0\nprocess 0\ntake 0\n";
 
 const FIRST_SCREENS: &str = "step 0: the machine before the first event
 
-step 1 of 5: load 1 4 -> accepted
+step 1: load 1 4 -> accepted
   a miss: a register is taken, and block 1's words are asked for
 * register 0       valid, block 1, frame 2, words came: 0
 *   word 0         missing
@@ -61,7 +61,7 @@ step 1 of 5: load 1 4 -> accepted
 * bank 2 commands  1
 * bank 3 commands  1
 
-step 2 of 5: serve 0 -> moved
+step 2: serve 0 -> moved
   bank 0 serves its first command
   register 0       valid, block 1, frame 2, words came: 0
     word 0         missing
@@ -80,7 +80,7 @@ step 2 of 5: serve 0 -> moved
   bank 2 commands  1
   bank 3 commands  1
 
-step 3 of 5: arrive 0 0 -> moved
+step 3: arrive 0 0 -> moved
   bank 0 gives word 0 of register 0's block
   register 0       valid, block 1, frame 2, words came: 0
 *   word 0         in stack
@@ -99,7 +99,7 @@ step 3 of 5: arrive 0 0 -> moved
   bank 2 commands  1
   bank 3 commands  1
 
-step 4 of 5: process 0 -> moved
+step 4: process 0 -> moved
   word 0 of register 0's block has come: its loads are answered
 * register 0       valid, block 1, frame 2, words came: 1
 *   word 0         processed
@@ -118,7 +118,7 @@ step 4 of 5: process 0 -> moved
   bank 3 commands  1
 * ready 0          tag 1: 00000000
 
-step 5 of 5: take 0 -> value 1 00000000
+step 5: take 0 -> value 1 00000000
   the load of tag 1 is answered 00000000
   register 0       valid, block 1, frame 2, words came: 1
     word 0         processed
