@@ -6,8 +6,8 @@ use crate::command_line::{Task, read_words};
 use crate::fault::ToolFault;
 use clap::error::ErrorKind;
 use kroft_jobs::{
-    JobFault, MOST_LATENCY, Verdict, check, drive_requests, explain, serve,
-    summarize_requests, sweep_registers,
+    JobFault, MOST_LATENCY, Verdict, check, drive_requests, explain, serve, summarize_requests,
+    sweep_registers,
 };
 use run_pictures::Form;
 use shape_files::{ShapeFault, ToolShape, bad_field, read_shape};

@@ -221,11 +221,7 @@ fn each_refusal_and_its_reason(rt: HostRuntime) -> Result<(), Fail> {
             "evict 16\n",
             "block 16 is outside memory, which has 16 blocks",
         ),
-        (
-            "",
-            "store 0 0000 00000000\n",
-            "the store names no byte",
-        ),
+        ("", "store 0 0000 00000000\n", "the store names no byte"),
         (
             "",
             "load 1 0\nload 1 1\n",
@@ -294,7 +290,10 @@ fn a_full_write_queue_and_its_reason(rt: HostRuntime) -> Result<(), Fail> {
     let screens = shown(&rt, "--text", shape, trace.as_str())?;
     let text = screens.as_str();
     assert!(rt; text.contains("prefetch 8 -> refused 9\n"));
-    assert_eq!(rt; last_words(text), "the write queue has 2 free places for 3 dirty words");
+    assert_eq!(rt;
+        last_words(text),
+        "the write queue has 2 free places for 3 dirty words"
+    );
     assert!(rt; text.contains("\n  write queue 1    word 1, block 0: 1000 01000000\n"));
     assert!(rt; text.contains("\n    word 2         01000000, dirty 1000\n"));
     Ok(())
@@ -325,7 +324,9 @@ fn a_load_holds_stored_bytes(rt: HostRuntime) -> Result<(), Fail> {
     let screens = shown(&rt, "--text", "", trace)?;
     let text = screens.as_str();
     assert!(rt; text.contains("\n*   word 1         missing, code 0100\n"));
-    assert!(rt; text.contains("\n*     load         tag 7 is owed 00aa0000, holds 0100 00aa0000\n"));
+    assert!(rt;
+        text.contains("\n*     load         tag 7 is owed 00aa0000, holds 0100 00aa0000\n")
+    );
     assert!(rt; text.contains("\n* register 0       obsolete, block 1, words came: 0\n"));
     assert_eq!(rt; last_words(text), "the frame of block 1 is given up");
     Ok(())
@@ -333,7 +334,8 @@ fn a_load_holds_stored_bytes(rt: HostRuntime) -> Result<(), Fail> {
 
 #[test]
 fn a_page_has_its_steps(rt: HostRuntime) -> Result<(), Fail> {
-    let shape = "words = 4\nsets = 1\nways = 1\nregs = 1\nbanks = 1\nwrite_queue = 4\nreplies = 1\n";
+    let shape =
+        "words = 4\nsets = 1\nways = 1\nregs = 1\nbanks = 1\nwrite_queue = 4\nreplies = 1\n";
     let (trace, option) = ("drain\nload 1 4\n", "--shape");
     fs::write(&rt, "page_of_a_test.toml", shape)?;
     let words = ["show", option, "page_of_a_test.toml"];
@@ -343,9 +345,14 @@ fn a_page_has_its_steps(rt: HostRuntime) -> Result<(), Fail> {
     let page = written.as_str();
     assert!(rt; page.starts_with("<!DOCTYPE html>\n"));
     assert!(rt; page.ends_with("</html>\n"));
-    assert!(rt; page.contains("\nconst blockWords = 4;\nconst ways = 1;\nconst places = [\n'r0',\n'g0',\n'w0.0',\n'l0.0.0',\n"));
+    assert!(rt;
+        page.contains(
+            "\nconst blockWords = 4;\nconst ways = 1;\nconst places = [\n'r0',\n'g0',\n'w0.0',\n'l0.0.0',\n"
+        )
+    );
     assert!(rt; page.contains("\n[\"drain\",\"nothing\",\"the write queue is empty\",[]],\n"));
-    let refused = "[\"load 1 4\",\"refused 1\",\"word 4 is outside memory, which has 4 words\",[]],\n];\n";
+    let refused =
+        "[\"load 1 4\",\"refused 1\",\"word 4 is outside memory, which has 4 words\",[]],\n];\n";
     assert!(rt; page.contains(refused));
     assert!(rt; !page.contains("http"));
     Ok(())
@@ -364,12 +371,12 @@ fn ten_thousand_events_are_shown_and_no_more(rt: HostRuntime) -> Result<(), Fail
     let (_, said) = told(&rt, &["show", "--vcd"], trace.as_str(), 0)?;
     assert_eq!(rt; said.as_str(), "");
     trace.push_str("drain\n")?;
-    let (written, said) = told(&rt, &["show"], trace.as_str(), 4)?;
+    let (written, said) = told(&rt, &["show", "--vcd"], trace.as_str(), 4)?;
     assert_eq!(rt; written.as_str(), "");
     assert_eq!(rt; said.as_str(), "too many events: 10000 at most are shown\n");
     // A faulty line goes before.
     trace.push_str("jump\n")?;
-    let (_, said) = told(&rt, &["show"], trace.as_str(), 4)?;
+    let (_, said) = told(&rt, &["show", "--vcd"], trace.as_str(), 4)?;
     assert_eq!(rt; said.as_str(), "line 10003: unknown command\n");
     Ok(())
 }
