@@ -4,6 +4,7 @@ use access_logs::MAX_WORDS;
 use clap::error::ErrorKind;
 use clap::{Arg, ArgAction, ArgMatches, Command, Error};
 use round_driver::MOST_LATENCY;
+use run_pictures::Form;
 use std::alloc::{AllocError, Global};
 
 /// The format of a log.
@@ -43,6 +44,11 @@ pub enum Task {
         from: LogName,
         /// Words of memory, 1 to 1,048,576 and a multiple of 4.
         words: u32,
+    },
+    /// Draw the machine at each of its events.
+    Show {
+        /// As what.
+        form: Form,
     },
 }
 
@@ -243,6 +249,41 @@ Example:
   load 0 811
   store 811 1111 adaeafb0";
 
+const SHOW_NOTES: &str =
+    "Reads a trace from standard input ('kroft run --help' lists its lines) and applies its events, 10000
+at most, to a new machine. Lines that only show something are passed over.
+Writes a page of HTML, which needs no other file and no network: the machine before the first
+event and behind each, with what the event changed, and why, in words. Left and right, Home and
+End step through it, and the space bar plays.
+With --text, in its place, lines of at most 80 columns for a terminal: * stands before what the
+step changed. With --vcd, a waveform (a value change dump) with one unit of time an event.
+A page has some 250 bytes an event. It shows the first 256 words of memory.
+
+Statuses: 0 done, 2 the command line is wrong, 3 the shape file is wrong, 4 a line is faulty, there
+are too many events or a stream failed, 5 there is too little memory.
+
+Example:
+  $ echo 'load 1 4' | kroft show --text
+  step 0: the machine before the first event
+
+  step 1: load 1 4 -> accepted
+    a miss: a register is taken, and block 1's words are asked for
+  * register 0       valid, block 1, frame 2, words came: 0
+  *   word 0         missing
+  *     load         tag 1 is owed 00000000
+  *   word 1         missing
+  *   word 2         missing
+  *   word 3         missing
+  * frame 2          block 1, pending
+  *   word 0         00000000
+  *   word 1         00000000
+  *   word 2         00000000
+  *   word 3         00000000
+  * bank 0 commands  1
+  * bank 1 commands  1
+  * bank 2 commands  1
+  * bank 3 commands  1";
+
 // The argument for the shape file. It may stand before or behind the subcommand.
 fn shape_argument<'a>(alloc: Global) -> Arg<'a> {
     Arg::new(alloc, "shape")
@@ -341,6 +382,29 @@ fn requests_command<'a>(alloc: Global) -> Result<Command<'a>, AllocError> {
         .arg(trace_argument(alloc))
 }
 
+// The subcommand that draws the machine.
+fn show_command<'a>(alloc: Global) -> Result<Command<'a>, AllocError> {
+    subcommand(
+        alloc,
+        "show",
+        "Draw the machine at each event of a trace, as a page",
+        SHOW_NOTES,
+    )?
+    .arg(
+        Arg::new(alloc, "text")
+            .long("text")
+            .action(ArgAction::SetTrue)
+            .help("Write lines for a terminal in place of the page"),
+    )?
+    .arg(
+        Arg::new(alloc, "vcd")
+            .long("vcd")
+            .action(ArgAction::SetTrue)
+            .conflicts_with("text")?
+            .help("Write a waveform in place of the page"),
+    )
+}
+
 // The program's whole command line.
 fn program<'a>(alloc: Global) -> Result<Command<'a>, AllocError> {
     Command::new(alloc, PROGRAM)
@@ -367,7 +431,8 @@ fn program<'a>(alloc: Global) -> Result<Command<'a>, AllocError> {
             EXPLAIN_NOTES,
         )?)?
         .subcommand(drive_command(alloc)?)?
-        .subcommand(requests_command(alloc)?)
+        .subcommand(requests_command(alloc)?)?
+        .subcommand(show_command(alloc)?)
 }
 
 // What the words behind `sweep` ask for.
@@ -414,6 +479,18 @@ fn conflict(task: Task, before: Option<&str>, behind: Option<&str>) -> Option<&'
     }
 }
 
+// What the words behind `show` ask for. Two forms at once were refused.
+fn show_task(rest: &ArgMatches<'_>) -> Task {
+    let form = if rest.get_flag("vcd") {
+        Form::Waveform
+    } else if rest.get_flag("text") {
+        Form::Screens
+    } else {
+        Form::Page
+    };
+    Task::Show { form }
+}
+
 /// Reads the words behind the program's name. Help and the version come as an error too, which
 /// says that it belongs on the standard output.
 pub fn read_words<'a>(alloc: Global, words: &'a [&'a str]) -> Result<CommandLine<'a>, Error> {
@@ -426,6 +503,7 @@ pub fn read_words<'a>(alloc: Global, words: &'a [&'a str]) -> Result<CommandLine
         Some(("explain", rest)) => (Task::Explain, rest.get_str("shape"), rest.get_str(TRACE)),
         Some(("drive", rest)) => (drive_task(rest), rest.get_str("shape"), rest.get_str(TRACE)),
         Some(("requests", rest)) => (requests_task(rest), None, rest.get_str(TRACE)),
+        Some(("show", rest)) => (show_task(rest), rest.get_str("shape"), rest.get_str(TRACE)),
         Some((_, rest)) => (Task::Run, rest.get_str("shape"), rest.get_str(TRACE)),
         None => (Task::Run, None, None),
     };

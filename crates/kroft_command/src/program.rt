@@ -11,6 +11,7 @@ use kroft_jobs::{
     sweep_registers,
 };
 use round_driver::MOST_LATENCY;
+use run_pictures::Form;
 use shape_files::{ShapeFault, ToolShape, bad_field, read_shape};
 use std::alloc::Global;
 use std::io::{Read, Write};
@@ -91,6 +92,7 @@ fn work<R: AllocGlobal + Files + Threads + Sync, I: Read, O: Write>(
             go_round(rt.alloc(), &shape, latency, summary, input, output)?
         }
         Task::Requests { from, words } => ask(rt.alloc(), from, words, input, output)?,
+        Task::Show { form } => draw(rt.alloc(), &shape, form, input, output)?,
     };
     Ok(status)
 }
@@ -193,6 +195,25 @@ fn ask<I: Read, O: Write>(
         LogName::Lackey => write_requests(alloc, input, output, &Lackey, words)?,
         LogName::Din => write_requests(alloc, input, output, &Din, words)?,
     }
+    Ok(0)
+}
+
+// Draws the machine at each event of the trace.
+fn draw<I: Read, O: Write>(
+    alloc: Global,
+    tool: &ToolShape,
+    form: Form,
+    input: &mut I,
+    output: &mut O,
+) -> Result<u8, JobFault>
+    ensures { IfOk result (λ status. status ≤ 1) }
+{
+    if let Some(field) = bad_field(tool) {
+        return Err(JobFault::Shape(ShapeFault::BadShape(field)));
+    }
+    let drawing = kroft_jobs::show(alloc, tool, form, input)?;
+    show(output, drawing)?;
+    finish(output)?;
     Ok(0)
 }
 

@@ -10,8 +10,10 @@ use Rattle.shape_files.specs.declared.shape_file.ShapeFault.TheVariants as shape
 use Rattle.shape_files.specs.ShapeFile.{fault_text as shape_text}
 use Rattle.register_sweeps.specs.declared.sweeps.SweepFault.{SweepFault}
 use Rattle.register_sweeps.specs.declared.sweeps.SweepFault.TheVariants as sweep
+use Rattle.run_pictures.specs.declared.show.ShowFault.{ShowFault}
+use Rattle.run_pictures.specs.declared.show.ShowFault.TheVariants as show
 use Rattle.kroft_jobs.specs.declared.fault.JobFault.{JobFault}
-use Rattle.kroft_jobs.specs.declared.fault.JobFault.TheVariants.{ShapeUnreadable, Shape, Trace, TurnLimit, OutOfMemory}
+use Rattle.kroft_jobs.specs.declared.fault.JobFault.TheVariants.{ShapeUnreadable, Shape, Trace, TooManyEvents, TurnLimit, OutOfMemory}
 
 -- the shapes that a sweep goes over
 abbrev pub with_registers : ToolShape → ℕ → ToolShape
@@ -35,6 +37,7 @@ abbrev pub status_of : JobFault → ℕ
 status_of ShapeUnreadable = 3
 status_of (Shape fault) = 3
 status_of (Trace fault) = 4
+status_of TooManyEvents = 4
 status_of TurnLimit = 5
 status_of OutOfMemory = 5
 
@@ -43,6 +46,7 @@ abbrev pub fault_text : JobFault → Option (List ℕ)
 fault_text ShapeUnreadable = Some (codes "shape: file not readable")
 fault_text (Shape fault) = Some (shape_text fault)
 fault_text (Trace fault) = None
+fault_text TooManyEvents = Some (codes "too many events: 10000 at most are shown")
 fault_text TurnLimit = Some (codes "turn limit")
 fault_text OutOfMemory = Some (codes "out of memory")
 
@@ -54,6 +58,11 @@ of_shape fault = Shape fault
 abbrev pub of_trace : TraceFault → JobFault
 of_trace trace.OutOfMemory = OutOfMemory
 of_trace fault = Trace fault
+
+abbrev pub of_show : ShowFault → JobFault
+of_show (show.Trace fault) = of_trace fault
+of_show show.TooManyEvents = TooManyEvents
+of_show show.OutOfMemory = OutOfMemory
 
 abbrev pub of_sweep : SweepFault → JobFault
 of_sweep sweep.OutOfMemory = OutOfMemory

@@ -4,6 +4,7 @@ ghost use Rattle.std.specs.Prelude.{◌≡◌};
 ghost use Rattle.kroft_jobs.specs.Jobs.{status_of};
 
 use register_sweeps::SweepFault;
+use run_pictures::ShowFault;
 use shape_files::ShapeFault;
 use std::alloc::AllocError;
 use std::error::Error;
@@ -19,6 +20,8 @@ pub enum JobFault {
     Shape(ShapeFault),
     /// What the trace says, or a failed read or write.
     Trace(TraceFault),
+    /// The trace has more events than are drawn.
+    TooManyEvents,
     /// The thread of a sweep used up its turns.
     TurnLimit,
     /// There was too little memory.
@@ -37,6 +40,7 @@ impl fmt::Display for JobFault {
             JobFault::ShapeUnreadable => f.write_str("shape: file not readable"),
             JobFault::Shape(fault) => write!(f, "{fault}"),
             JobFault::Trace(fault) => write!(f, "{fault}"),
+            JobFault::TooManyEvents => f.write_str("too many events: 10000 at most are shown"),
             JobFault::TurnLimit => f.write_str("turn limit"),
             JobFault::OutOfMemory => f.write_str("out of memory"),
         }
@@ -50,7 +54,7 @@ impl JobFault {
     {
         match self {
             JobFault::ShapeUnreadable | JobFault::Shape(_) => 3,
-            JobFault::Trace(_) => 4,
+            JobFault::Trace(_) | JobFault::TooManyEvents => 4,
             JobFault::TurnLimit | JobFault::OutOfMemory => 5,
         }
     }
@@ -108,6 +112,21 @@ impl From<SweepFault> for JobFault {
             SweepFault::BadShape { place: _, field } => {
                 JobFault::Shape(ShapeFault::BadShape(field))
             }
+        }
+    }
+}
+
+impl From<ShowFault> for JobFault {
+    ghost use Rattle.std.specs.Prelude.{◌≡◌};
+    ghost use Rattle.kroft_jobs.specs.Jobs.{of_show};
+
+    ghost from_gives = { λ e f. f ≡ of_show e };
+
+    fn from(fault: ShowFault) -> JobFault {
+        match fault {
+            ShowFault::Trace(fault) => JobFault::from(fault),
+            ShowFault::TooManyEvents => JobFault::TooManyEvents,
+            ShowFault::OutOfMemory => JobFault::OutOfMemory,
         }
     }
 }

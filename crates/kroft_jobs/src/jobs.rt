@@ -14,7 +14,7 @@ ghost use Rattle.kroft_jobs.specs.Jobs.{swept, verdict_status, verdict_text};
 
 use crate::fault::JobFault;
 use register_sweeps::{MachineJob, OpenGate, Row, sweep, with_machine};
-use round_driver::RoundMachine;
+use run_pictures::PictureMachine;
 use run_reasons::{Explanation, explain_text};
 use shape_files::ToolShape;
 use std::alloc::Global;
@@ -65,7 +65,7 @@ impl<'a, I: Source, O: Sink> MachineJob for ServedTrace<'a, I, O> {
 
     ghost holds_same = { λ s t. (t.input.ghost_name ≡ s.input.ghost_name) × (t.output.ghost_name ≡ s.output.ghost_name) };
 
-    fn work<M: RoundMachine>(&mut self, machine: &mut M) -> Result<Counts, TraceFault> {
+    fn work<M: PictureMachine>(&mut self, machine: &mut M) -> Result<Counts, TraceFault> {
         serve_text(self.alloc, self.input, self.output, machine)
     }
 

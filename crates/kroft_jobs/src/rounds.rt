@@ -18,7 +18,8 @@ use crate::fault::JobFault;
 use crate::jobs::{SWEEP_TURNS, swept_shapes};
 use flat_model::Event;
 use register_sweeps::{MachineJob, OpenGate, RoundsRow, rounds_table, sweep_rounds, with_machine};
-use round_driver::{RoundMachine, Table, drive};
+use round_driver::{Table, drive};
+use run_pictures::PictureMachine;
 use shape_files::ToolShape;
 use std::alloc::Global;
 use std::thread::Threads;
@@ -87,7 +88,7 @@ impl<'a, O: Sink> MachineJob for DrivenRequests<'a, O> {
 
     ghost holds_same = { λ s t. t.output.ghost_name ≡ s.output.ghost_name };
 
-    fn work<M: RoundMachine>(&mut self, machine: &mut M) -> Result<u64, TraceFault> {
+    fn work<M: PictureMachine>(&mut self, machine: &mut M) -> Result<u64, TraceFault> {
         drive(
             self.alloc,
             machine,

@@ -8,7 +8,7 @@ ghost use Rattle.register_sweeps.specs.Sweep.{new_machine};
 
 use flat_model::{MakeFault, Word};
 use machine_core::Machine;
-use round_driver::RoundMachine;
+use run_pictures::PictureMachine;
 use shape_files::ToolShape;
 use std::alloc::{AllocError, Global};
 
@@ -27,7 +27,7 @@ pub trait MachineJob {
     ghost holds_same: { Self → Self → Type 0 };
 
     /// Does it.
-    fn work<M: RoundMachine>(&mut self, machine: &mut M) -> Self::Done
+    fn work<M: PictureMachine>(&mut self, machine: &mut M) -> Self::Done
         requires can { can self.old }
         requires banks { (M.state machine.old).sizes.banks ≤ 16 }
         requires few { most_weight (M.state machine.old).sizes < 2 ^ 32 }

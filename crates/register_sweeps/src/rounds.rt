@@ -12,7 +12,8 @@ use crate::choice::{MachineJob, with_machine};
 use crate::sweeps::{SweepFault, SweepGate};
 use crate::threads::{RowMaker, rows_on_threads};
 use flat_model::Event;
-use round_driver::{RoundMachine, Table, summarize};
+use round_driver::{Table, summarize};
+use run_pictures::PictureMachine;
 use shape_files::ToolShape;
 use std::alloc::{AllocError, Global};
 use std::fmt;
@@ -77,7 +78,7 @@ impl MachineJob for CountedRounds<'_> {
 
     ghost holds_same = { λ s t. ⊤ };
 
-    fn work<M: RoundMachine>(&mut self, machine: &mut M) -> Result<Table, AllocError> {
+    fn work<M: PictureMachine>(&mut self, machine: &mut M) -> Result<Table, AllocError> {
         summarize(self.alloc, machine, self.latency, self.requests)
     }
 

@@ -11,7 +11,7 @@ use crate::choice::{MachineJob, with_machine};
 use crate::row::{Row, row_from};
 use crate::threads::{RowMaker, rows_on_threads};
 use flat_model::{Event, ShapeField};
-use round_driver::RoundMachine;
+use run_pictures::PictureMachine;
 use shape_files::{ToolShape, bad_field};
 use std::alloc::{AllocError, Global};
 use std::thread::Threads;
@@ -93,7 +93,7 @@ impl MachineJob for CountedRow<'_> {
 
     ghost holds_same = { λ s t. ⊤ };
 
-    fn work<M: RoundMachine>(&mut self, machine: &mut M) -> Result<Row, AllocError> {
+    fn work<M: PictureMachine>(&mut self, machine: &mut M) -> Result<Row, AllocError> {
         Ok(row_from(machine, self.regs, self.events))
     }
 

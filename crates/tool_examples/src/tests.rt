@@ -7,6 +7,7 @@ mod refusals;
 mod requests;
 mod rounds;
 mod shapes;
+mod show;
 mod sizes;
 mod stored;
 mod sweeps;

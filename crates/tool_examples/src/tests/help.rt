@@ -44,6 +44,7 @@ fn help_of_the_program(rt: HostRuntime) -> Result<(), Fail> {
         "  sweep    Count what requests wait for",
         "  explain  Say why a recorded run is none of flat memory",
         "  drive    Drive requests in rounds, with a latency of memory",
+        "  show     Draw the machine at each event of a trace, as a page",
         "      --shape <FILE>",
         "reads standard input",
         "writes standard output",
@@ -99,6 +100,29 @@ fn help_of_the_subcommands(rt: HostRuntime) -> Result<(), Fail> {
 }
 
 #[test]
+fn help_of_show(rt: HostRuntime) -> Result<(), Fail> {
+    let help = output_of(&rt, &["show", "--help"], "", 0)?;
+    let parts = [
+        "Usage: kroft show [OPTIONS]\n",
+        "      --shape <FILE>",
+        "      --text ",
+        "      --vcd ",
+        "\nReads ",
+        "\nWrites ",
+        "\nStatuses: 0 ",
+        "  $ echo 'load 1 4' | kroft show --text\n",
+    ];
+    for part in parts {
+        assert!(rt; help.as_str().contains(part), "{part}");
+    }
+    let output = output_of(&rt, &["show", "--text"], "load 1 4\n", 0)?;
+    for line in output.as_str().lines() {
+        assert!(rt; help.as_str().contains(line), "{line}");
+    }
+    Ok(())
+}
+
+#[test]
 fn help_lists_every_line(rt: HostRuntime) -> Result<(), Fail> {
     let help = output_of(&rt, &["run", "--help"], "", 0)?;
     let lines = [
@@ -123,7 +147,7 @@ fn help_lists_every_line(rt: HostRuntime) -> Result<(), Fail> {
 
 #[test]
 fn a_trace_named_as_a_word_is_refused(rt: HostRuntime) -> Result<(), Fail> {
-    for name in ["run", "check", "sweep", "explain", "drive"] {
+    for name in ["run", "check", "sweep", "explain", "drive", "show"] {
         let mut output = Vec::new(rt.alloc());
         let mut errors = Vec::new(rt.alloc());
         let words = [name, "examples/first_run.trace"];

@@ -106,13 +106,14 @@ impl Read for FailsOnce {
 
 #[test]
 fn a_failed_read_ends_each_job(rt: HostRuntime) -> Result<(), Fail> {
-    let jobs: [&[&str]; 6] = [
+    let jobs: [&[&str]; 7] = [
         &["run"],
         &["check"],
         &["sweep"],
         &["sweep", "--latency", "0"],
         &["explain"],
         &["drive"],
+        &["show"],
     ];
     for words in jobs {
         let mut input = FailsOnce {
@@ -159,7 +160,7 @@ impl Write for RefusesOnce {
 
 #[test]
 fn a_refused_write_or_flush_ends_each_job(rt: HostRuntime) -> Result<(), Fail> {
-    let jobs: [(&[&str], &str); 9] = [
+    let jobs: [(&[&str], &str); 10] = [
         (&["run"], "drain\n"),
         (&["check"], "drain -> nothing\n"),
         (&["check"], "drain -> accepted\n"),
@@ -168,6 +169,7 @@ fn a_refused_write_or_flush_ends_each_job(rt: HostRuntime) -> Result<(), Fail> {
         (&["explain"], "drain -> nothing\n"),
         (&["explain"], "drain -> accepted\n"),
         (&["drive"], "load 1 0\n"),
+        (&["show"], "drain\n"),
         (&["--help"], ""),
     ];
     for (words, input) in jobs {
@@ -220,7 +222,7 @@ fn each_fault_of_a_trace_is_told(rt: HostRuntime) -> Result<(), Fail> {
         ("load 1 4", "line 1: line not ended\n"),
     ];
     for (trace, told) in faults {
-        for job in ["run", "sweep"] {
+        for job in ["run", "sweep", "show"] {
             ends_with(&rt, job, "", trace, (4, "", told))?;
         }
     }

@@ -1,0 +1,4 @@
+pub mod Extents
+pub mod Places
+pub mod Cells
+pub mod Waves

@@ -1,0 +1,69 @@
+//! A run as it is drawn, in one of three forms.
+
+use crate::machine::PictureMachine;
+use crate::page::Page;
+use crate::screens::Screens;
+use crate::step::Step;
+use crate::waveform::Waveform;
+use std::alloc::{AllocError, Global};
+
+/// As what a run is drawn.
+#[derive(Clone, Copy, PartialEq, Eq, Debug)]
+pub enum Form {
+    /// A page of HTML, with its style and its script, that stands alone and steps through the run.
+    Page,
+    /// Lines of at most 80 columns, with an empty line between the steps. Places where nothing stands
+    /// aren't shown, and of memory only the words that a step changed. A line begins with `*` if the
+    /// step changed it, and its text is `-` if nothing stands there any more.
+    Screens,
+    /// A waveform, as a value change dump (VCD), with one unit of time a step: which registers stand
+    /// for blocks, which of these are obsolete, their blocks, and how many words, commands, answers
+    /// and values stand in the input stack, the write queue, the banks and the ready replies.
+    Waveform,
+}
+
+// A run as it is drawn.
+#[derive(Drop)]
+pub enum Drawing {
+    Page(Page),
+    Screens(Screens),
+    Waveform(Waveform),
+}
+
+impl Drawing {
+    // The drawing of a machine before its first event.
+    pub fn new<M: PictureMachine>(
+        alloc: Global,
+        machine: &M,
+        form: Form,
+    ) -> Result<Drawing, AllocError> {
+        match form {
+            Form::Page => Ok(Drawing::Page(Page::new(alloc, machine)?)),
+            Form::Screens => Ok(Drawing::Screens(Screens::new(alloc, machine)?)),
+            Form::Waveform => Ok(Drawing::Waveform(Waveform::new(alloc, machine)?)),
+        }
+    }
+
+    // Draws a step, behind which the machine stands.
+    pub fn draw<M: PictureMachine>(
+        &mut self,
+        alloc: Global,
+        machine: &M,
+        step: &Step,
+    ) -> Result<(), AllocError> {
+        match self {
+            Drawing::Page(page) => page.draw(alloc, machine, step),
+            Drawing::Screens(screens) => screens.draw(alloc, machine, step),
+            Drawing::Waveform(waveform) => waveform.draw(alloc, machine, step),
+        }
+    }
+
+    // The whole text.
+    pub fn finish(self) -> Result<String, AllocError> {
+        match self {
+            Drawing::Page(page) => page.finish(),
+            Drawing::Screens(screens) => Ok(screens.finish()),
+            Drawing::Waveform(waveform) => Ok(waveform.finish()),
+        }
+    }
+}

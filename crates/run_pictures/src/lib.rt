@@ -1,0 +1,31 @@
+//! The machine at each event of a trace, drawn: as a page, as screens of text, and as a waveform.
+//!
+//! A picture is a row of [`Place`]s, and the text of each: a register, a word of a frame, an entry of
+//! a queue. [`show_text`] reads a trace, applies its events to a machine and draws it before the first
+//! of them and behind each: as a page of HTML that steps through the pictures, as lines for a
+//! terminal, or as a waveform. Whatever is drawn is what a [`PictureMachine`] shows of its state.
+#![tactic(auto)]
+
+mod before;
+mod cells;
+mod drawing;
+mod film;
+mod machine;
+mod page;
+mod page_parts;
+mod place;
+mod reasons;
+mod screens;
+mod show;
+mod signal;
+mod step;
+mod watched;
+mod waveform;
+
+pub use cells::text_at;
+pub use drawing::Form;
+pub use machine::{Extent, PictureMachine};
+pub use place::{Place, places_of};
+pub use show::{ShowFault, show_text};
+pub use signal::Signal;
+pub use watched::MOST_EVENTS;

@@ -1,0 +1,188 @@
+//! What is asked of a machine that is drawn.
+ghost use Rattle.std.specs.Prelude.{◌≡◌, length, slice_get};
+ghost use Rattle.memory_banks.specs.Banks.{bank_at};
+ghost use Rattle.cache_unit.specs.Views as views;
+ghost use Rattle.run_pictures.specs.Extents.{extent_of, fitted};
+
+use flat_model::{Answer, Lanes, Word};
+use input_stack::Entry;
+use machine_core::Machine;
+use round_driver::RoundMachine;
+use write_queue::Queued;
+
+/// How much there is to draw of a machine.
+#[derive(Clone, Copy, PartialEq, Eq, Debug)]
+pub struct Extent {
+    /// Words of memory, 1 to 1,048,576.
+    pub words: u32,
+    /// Words of a block, 1 to 16.
+    pub block_words: u32,
+    /// Sets, 1 to 1,024.
+    pub sets: u32,
+    /// Ways of a set, 1 to 8.
+    pub ways: u32,
+    /// Registers, 1 to 16.
+    pub regs: u32,
+    /// Places of the input stack, 1 to 16.
+    pub depth: u32,
+    /// Banks, 1 to 16.
+    pub banks: u32,
+    /// Commands that wait at a bank at most, 1 to 64.
+    pub bank_queue: u32,
+    /// Words that wait in the write queue at most, 1 to 256.
+    pub write_queue: u32,
+    /// Loads that are owed values at most, 1 to 64.
+    pub replies: u32,
+}
+
+impl Extent {
+    /// How many frames there are.
+    pub fn frames(&self) -> u32 {
+        self.sets.saturating_mul(self.ways)
+    }
+
+    /// The block of the word at an address.
+    pub fn block_of(&self, at: u32) -> u32 {
+        at.checked_div(self.block_words).unwrap_or(0)
+    }
+
+    /// The set in which a block may be.
+    pub fn set_of(&self, block: u32) -> u32 {
+        block.checked_rem(self.sets).unwrap_or(0)
+    }
+
+    /// The set to which a frame belongs.
+    pub fn set_of_frame(&self, frame: u32) -> u32 {
+        frame.checked_div(self.ways).unwrap_or(0)
+    }
+
+    /// The bank in which the word at an address lies.
+    pub fn bank_of(&self, at: u64) -> u64 {
+        at.checked_rem(u64::from(self.banks)).unwrap_or(0)
+    }
+}
+
+// A number of a machine's type, as 32 bits hold it: a machine has no greater one.
+fn fitted(n: usize) -> u32
+    ensures { result ≡ fitted n }
+{
+    if n < 4_294_967_296 {
+        n as u32
+    } else {
+        u32::MAX
+    }
+}
+
+/// A machine that can be drawn, whatever its four const numbers are.
+pub trait PictureMachine: RoundMachine {
+    /// How much there is to draw.
+    fn extent(&self) -> Extent
+        ensures { result ≡ extent_of (Self.state self.now).sizes };
+
+    /// The block that a frame holds, as [`Machine::frame_block`].
+    fn frame_block(&self, frame: u32) -> Option<u32>
+        ensures { result ≡ views.frame_view (Self.state self.now).machine.cache frame };
+
+    /// A word of the block that a frame holds, as [`Machine::buffer_word`].
+    fn buffer_word(&self, frame: u32, i: u32) -> Option<Word>
+        ensures { result ≡ views.word_view (Self.state self.now).machine.cache frame i };
+
+    /// The lanes of that word that memory doesn't have yet, as [`Machine::dirty`].
+    fn dirty(&self, frame: u32, i: u32) -> Option<Lanes>
+        ensures { result ≡ views.dirty_view (Self.state self.now).machine.cache frame i };
+
+    /// How many words stand in the input stack.
+    fn stack_len(&self) -> u32
+        ensures { result ≡ length (Self.state self.now).machine.cache.stack };
+
+    /// A word of the input stack, as [`Machine::stack_entry`].
+    fn stack_entry(&self, place: u32) -> Option<Entry>
+        ensures { result ≡ slice_get (Self.state self.now).machine.cache.stack place };
+
+    /// How many words stand in the write queue.
+    fn queue_len(&self) -> u32
+        ensures { result ≡ length (Self.state self.now).machine.cache.queue };
+
+    /// A word of the write queue, as [`Machine::queue_entry`].
+    fn queue_entry(&self, place: u32) -> Option<Queued>
+        ensures { result ≡ slice_get (Self.state self.now).machine.cache.queue place };
+
+    /// How many values stand ready.
+    fn replies_len(&self) -> u32
+        ensures { result ≡ length (Self.state self.now).machine.cache.ready };
+
+    /// A value that stands ready, as [`Machine::reply`].
+    fn reply(&self, place: u32) -> Option<Answer>
+        ensures { result ≡ views.reply_view (Self.state self.now).machine.cache place };
+
+    /// How many commands wait at a bank.
+    fn commands(&self, bank: u32) -> u32
+        ensures { result ≡ length (bank_at (Self.state self.now).machine.banks bank).queue };
+
+    /// How many answers stand in a bank.
+    fn answers(&self, bank: u32) -> u32
+        ensures { result ≡ length (bank_at (Self.state self.now).machine.banks bank).answers };
+}
+
+impl<const WAYS: usize, const WORDS: usize, const REGS: usize, const DEPTH: usize> PictureMachine
+    for Machine<WAYS, WORDS, REGS, DEPTH> {
+    fn extent(&self) -> Extent {
+        let shape = self.shape();
+        Extent {
+            words: shape.words,
+            block_words: fitted(WORDS),
+            sets: shape.sets,
+            ways: fitted(WAYS),
+            regs: fitted(REGS),
+            depth: fitted(DEPTH),
+            banks: shape.banks,
+            bank_queue: shape.bank_queue,
+            write_queue: shape.write_queue,
+            replies: shape.replies,
+        }
+    }
+
+    fn frame_block(&self, frame: u32) -> Option<u32> {
+        Machine::frame_block(self, frame)
+    }
+
+    fn buffer_word(&self, frame: u32, i: u32) -> Option<Word> {
+        Machine::buffer_word(self, frame, i)
+    }
+
+    fn dirty(&self, frame: u32, i: u32) -> Option<Lanes> {
+        Machine::dirty(self, frame, i)
+    }
+
+    fn stack_len(&self) -> u32 {
+        Machine::stack_len(self)
+    }
+
+    fn stack_entry(&self, place: u32) -> Option<Entry> {
+        Machine::stack_entry(self, place)
+    }
+
+    fn queue_len(&self) -> u32 {
+        Machine::queue_len(self)
+    }
+
+    fn queue_entry(&self, place: u32) -> Option<Queued> {
+        Machine::queue_entry(self, place)
+    }
+
+    fn replies_len(&self) -> u32 {
+        Machine::replies_len(self)
+    }
+
+    fn reply(&self, place: u32) -> Option<Answer> {
+        Machine::reply(self, place)
+    }
+
+    fn commands(&self, bank: u32) -> u32 {
+        Machine::commands(self, bank)
+    }
+
+    fn answers(&self, bank: u32) -> u32 {
+        Machine::answers(self, bank)
+    }
+}

@@ -1,0 +1,160 @@
+//! The places of a picture.
+ghost use Rattle.std.specs.Prelude.{Some};
+ghost use Rattle.run_pictures.specs.declared.machine.Extent.{Extent as ExtentValue};
+
+use crate::machine::Extent;
+use std::alloc::{AllocError, Global};
+use std::fmt;
+
+/// The most words of memory that are drawn, from the first one on.
+pub const MOST_MEMORY: u32 = 256;
+
+/// The most loads that wait for a word.
+pub const MOST_LOADS: u32 = 4;
+
+/// A place of a picture: what of the machine is drawn there. Numbers count from 0.
+#[derive(Clone, Copy, PartialEq, Eq, Debug)]
+pub enum Place {
+    /// A register.
+    Register { slot: u32 },
+    /// The same register, as `reg` shows it in a trace.
+    Line { slot: u32 },
+    /// What a register keeps of word `i` of its block.
+    Field { slot: u32, i: u32 },
+    /// One of the loads that wait for that word, in their order.
+    Load { slot: u32, i: u32, place: u32 },
+    /// A frame.
+    Frame { frame: u32 },
+    /// Word `i` of the block that a frame holds.
+    Cell { frame: u32, i: u32 },
+    /// An entry of the input stack.
+    Stack { place: u32 },
+    /// An entry of the write queue.
+    Queue { place: u32 },
+    /// How many commands wait at a bank.
+    Commands { bank: u32 },
+    /// How many answers stand in a bank.
+    Answers { bank: u32 },
+    /// A value that stands ready.
+    Reply { place: u32 },
+    /// A word of memory, as its bank has it.
+    Memory { at: u32 },
+}
+
+/// The place's name in a page: a letter, and its numbers with a point between them.
+impl fmt::Display for Place {
+    ghost use Rattle.run_pictures.specs.Places.{name_text};
+
+    ghost output = { λ place. Some (name_text place) };
+
+    fn fmt<W: fmt::Write>(&self, f: &mut fmt::Formatter<W>) -> fmt::Result {
+        match *self {
+            Place::Register { slot } => write!(f, "r{slot}"),
+            Place::Line { slot } => write!(f, "g{slot}"),
+            Place::Field { slot, i } => write!(f, "w{slot}.{i}"),
+            Place::Load { slot, i, place } => write!(f, "l{slot}.{i}.{place}"),
+            Place::Frame { frame } => write!(f, "f{frame}"),
+            Place::Cell { frame, i } => write!(f, "c{frame}.{i}"),
+            Place::Stack { place } => write!(f, "s{place}"),
+            Place::Queue { place } => write!(f, "q{place}"),
+            Place::Commands { bank } => write!(f, "m{bank}"),
+            Place::Answers { bank } => write!(f, "a{bank}"),
+            Place::Reply { place } => write!(f, "v{place}"),
+            Place::Memory { at } => write!(f, "b{at}"),
+        }
+    }
+}
+
+// The loads that may wait for a word.
+fn push_loads(places: &mut Vec<Place>, slot: u32, i: u32) -> Result<(), AllocError> {
+    for place in 0..MOST_LOADS {
+        places.push(Place::Load { slot, i, place })?;
+    }
+    Ok(())
+}
+
+// The words of a register.
+fn push_fields(places: &mut Vec<Place>, extent: &Extent, slot: u32) -> Result<(), AllocError> {
+    for i in 0..extent.block_words {
+        places.push(Place::Field { slot, i })?;
+        push_loads(places, slot, i)?;
+    }
+    Ok(())
+}
+
+fn push_registers(places: &mut Vec<Place>, extent: &Extent) -> Result<(), AllocError> {
+    for slot in 0..extent.regs {
+        places.push(Place::Register { slot })?;
+        places.push(Place::Line { slot })?;
+        push_fields(places, extent, slot)?;
+    }
+    Ok(())
+}
+
+// The words of a frame.
+fn push_cells(places: &mut Vec<Place>, extent: &Extent, frame: u32) -> Result<(), AllocError> {
+    for i in 0..extent.block_words {
+        places.push(Place::Cell { frame, i })?;
+    }
+    Ok(())
+}
+
+fn push_frames(places: &mut Vec<Place>, extent: &Extent) -> Result<(), AllocError> {
+    for frame in 0..extent.frames() {
+        places.push(Place::Frame { frame })?;
+        push_cells(places, extent, frame)?;
+    }
+    Ok(())
+}
+
+fn push_stack(places: &mut Vec<Place>, extent: &Extent) -> Result<(), AllocError> {
+    for place in 0..extent.depth {
+        places.push(Place::Stack { place })?;
+    }
+    Ok(())
+}
+
+fn push_queue(places: &mut Vec<Place>, extent: &Extent) -> Result<(), AllocError> {
+    for place in 0..extent.write_queue {
+        places.push(Place::Queue { place })?;
+    }
+    Ok(())
+}
+
+fn push_banks(places: &mut Vec<Place>, extent: &Extent) -> Result<(), AllocError> {
+    for bank in 0..extent.banks {
+        places.push(Place::Commands { bank })?;
+        places.push(Place::Answers { bank })?;
+    }
+    Ok(())
+}
+
+fn push_replies(places: &mut Vec<Place>, extent: &Extent) -> Result<(), AllocError> {
+    for place in 0..extent.replies {
+        places.push(Place::Reply { place })?;
+    }
+    Ok(())
+}
+
+fn push_memory(places: &mut Vec<Place>, extent: &Extent) -> Result<(), AllocError> {
+    for at in 0..extent.words.min(MOST_MEMORY) {
+        places.push(Place::Memory { at })?;
+    }
+    Ok(())
+}
+
+/// The places of a machine's picture, in the order in which they are drawn: the registers with their
+/// words and waiting loads, the frames with their words, the input stack, the write queue, the banks,
+/// the ready values, and the first 256 words of memory. `AllocError` says that there was too little
+/// memory.
+pub fn places_of(alloc: Global, extent: &Extent) -> Result<Vec<Place>, AllocError> {
+    let mut places = Vec::new(alloc);
+    push_registers(&mut places, extent)?;
+    push_frames(&mut places, extent)?;
+    push_stack(&mut places, extent)?;
+    push_queue(&mut places, extent)?;
+    push_banks(&mut places, extent)?;
+    push_replies(&mut places, extent)?;
+    push_memory(&mut places, extent)?;
+    Ok(places)
+}

@@ -1,0 +1,40 @@
+//! One step of a run that is drawn.
+
+use crate::before::Before;
+use crate::machine::PictureMachine;
+use crate::reasons::words_of;
+use flat_model::{Answer, Event};
+use std::alloc::{AllocError, Global};
+
+/// One step of a run: an event that was made.
+#[derive(Drop)]
+pub struct Step {
+    /// Its number, counted from 1.
+    pub number: usize,
+    /// The event.
+    pub event: Event,
+    /// Its answer.
+    pub answer: Answer,
+    /// What it did, or why it didn't, in words.
+    pub words: String,
+}
+
+impl Step {
+    /// The step of an event with its answer. The machine stands behind it.
+    pub fn new<M: PictureMachine>(
+        alloc: Global,
+        machine: &M,
+        number: usize,
+        before: Before,
+        event: Event,
+        answer: Answer,
+    ) -> Result<Step, AllocError> {
+        let words = words_of(alloc, machine, before, event, answer)?;
+        Ok(Step {
+            number,
+            event,
+            answer,
+            words,
+        })
+    }
+}
