@@ -39,11 +39,12 @@ fn help_of_the_program(rt: HostRuntime) -> Result<(), Fail> {
     let help = output_of(&rt, &["--help"], "", 0)?;
     let parts = [
         "Usage: kroft [OPTIONS] <COMMAND>",
-        "  run      Serve a trace",
-        "  check    Tell whether a recorded run is one of flat memory",
-        "  sweep    Count what requests wait for",
-        "  explain  Say why a recorded run is none of flat memory",
-        "  drive    Drive requests in rounds, with a latency of memory",
+        "  run       Serve a trace",
+        "  check     Tell whether a recorded run is one of flat memory",
+        "  sweep     Count what requests wait for",
+        "  explain   Say why a recorded run is none of flat memory",
+        "  drive     Drive requests in rounds, with a latency of memory",
+        "  requests  Write the loads and stores of a log of accesses as a trace",
         "      --shape <FILE>",
         "reads standard input",
         "writes standard output",
