@@ -195,17 +195,17 @@ fn a_waveform_of_three_events(rt: HostRuntime) -> Result<(), Fail> {
     Ok(())
 }
 
-/// The line that stands under the head of the last step.
-fn last_words(screens: &str) -> &str {
+/// Whether these words stand under the head of the last step.
+fn ends_in_words(screens: &str, words: &str) -> bool {
     let mut is_next = false;
-    let mut found = "";
+    let mut are_there = false;
     for line in screens.lines() {
         if is_next {
-            found = line.trim_start();
+            are_there = line.trim_start() == words;
         }
         is_next = line.starts_with("step ");
     }
-    found
+    are_there
 }
 
 #[test]
@@ -267,7 +267,7 @@ arrive 0 0\narrive 0 0\narrive 0 0\narrive 0 0\narrive 0 0\n",
     ];
     for (shape, trace, words) in stories {
         let screens = shown(&rt, "--text", shape, trace)?;
-        assert_eq!(rt; last_words(screens.as_str()), words, "{trace}");
+        assert!(rt; ends_in_words(screens.as_str(), words), "{trace}");
     }
     Ok(())
 }
@@ -290,10 +290,7 @@ fn a_full_write_queue_and_its_reason(rt: HostRuntime) -> Result<(), Fail> {
     let screens = shown(&rt, "--text", shape, trace.as_str())?;
     let text = screens.as_str();
     assert!(rt; text.contains("prefetch 8 -> refused 9\n"));
-    assert_eq!(rt;
-        last_words(text),
-        "the write queue has 2 free places for 3 dirty words"
-    );
+    assert!(rt; ends_in_words(text, "the write queue has 2 free places for 3 dirty words"));
     assert!(rt; text.contains("\n  write queue 1    word 1, block 0: 1000 01000000\n"));
     assert!(rt; text.contains("\n    word 2         01000000, dirty 1000\n"));
     Ok(())
@@ -313,7 +310,7 @@ fn what_finds_nothing_to_do(rt: HostRuntime) -> Result<(), Fail> {
     ];
     for (trace, words) in stories {
         let screens = shown(&rt, "--text", "", trace)?;
-        assert_eq!(rt; last_words(screens.as_str()), words);
+        assert!(rt; ends_in_words(screens.as_str(), words), "{trace}");
     }
     Ok(())
 }
@@ -328,7 +325,7 @@ fn a_load_holds_stored_bytes(rt: HostRuntime) -> Result<(), Fail> {
         text.contains("\n*     load         tag 7 is owed 00aa0000, holds 0100 00aa0000\n")
     );
     assert!(rt; text.contains("\n* register 0       obsolete, block 1, words came: 0\n"));
-    assert_eq!(rt; last_words(text), "the frame of block 1 is given up");
+    assert!(rt; ends_in_words(text, "the frame of block 1 is given up"));
     Ok(())
 }
 
