@@ -1,5 +1,5 @@
 -- Where an arrow stands, and what is read back of an answer.
-use Rattle.std.proofs.Common.{◌≡◌, ◌≢◌, ℕ, suc, ◌+◌, ◌<◌, ◌≤◌, Bool, true, false, List, [], ◌∷◌, length, take, drop, drop-cons, add-one, get_or, decimal, ◌++◌, Option, Some, None, Ok, refl, sym, ◌∙◌, ap, subst, arith}
+use Rattle.std.proofs.Common.{◌≡◌, ◌≢◌, ℕ, zero, suc, ◌+◌, ◌<◌, ◌≤◌, Bool, true, false, List, [], ◌∷◌, length, take, drop, drop-cons, add-one, get_or, decimal, ◌++◌, Option, Some, None, Ok, refl, sym, ◌∙◌, ap, subst, arith}
 use Rattle.std.specs.Prelude.{cond, nat_eq, codes, ◌==◌, ◌&&◌}
 use Rattle.std.specs.Option.{option_map}
 use Rattle.std.specs.List.{starts_with, AllByRecursion}
@@ -52,6 +52,53 @@ no_arrow_at text at lt ne =
     let here : drop at text ≡ get_or text at 0 ∷ drop (at + 1) text = rw (add-one, drop-cons text at 0) refl in
     ap (λ l. starts_with nat_eq l (codes " -> ")) here ∙ first_is (get_or text at 0) (drop (at + 1) text) ne
 
+-- ---- where no hyphen stands
+
+and_false : (b : Bool) → (b && false) ≡ false
+and_false true = refl
+and_false false = refl
+
+alone : (x : ℕ) → arrow_in (x ∷ []) ≡ None
+alone x = ap (λ t. cond t (Some 0) None) (and_false (nat_eq 32 x))
+
+and_none : (a b c : Bool) → b ≡ false → (a && (b && c)) ≡ false
+and_none true b c e = ap (λ t. t && c) e
+and_none false b c e = refl
+
+-- an arrow's second byte is a hyphen
+second_is : (x y : ℕ) (rest : List ℕ) → y ≢ 45 → starts_with nat_eq (x ∷ y ∷ rest) (codes " -> ") ≡ false
+second_is x y rest ne =
+    let test : nat_eq 45 y ≡ false = grind (arith, nat_tests) in
+    and_none (nat_eq 32 x) (nat_eq 45 y) _ test
+
+-- a text with no hyphen has no arrow
+pub no_arrow : (text : List ℕ) → ((k : ℕ) → k < length text → get_or text k 0 ≢ 45) → arrow_in text ≡ None
+no_arrow [] none = refl
+no_arrow (x ∷ []) none = alone x
+no_arrow (x ∷ y ∷ text) none =
+    arrow_behind (x ∷ y ∷ text) x (y ∷ text) refl (second_is x y text (none 1 (omega arith)))
+    ∙ ap (option_map (λ k. suc k)) (no_arrow (y ∷ text) (λ k lt. none (suc k) (omega (arith, lt))))
+
+unmoved : (o : Option ℕ) → option_map (λ k. 0 + k) o ≡ o
+unmoved None = refl
+unmoved (Some k) = ap Some (omega arith)
+
+moved_on : (o : Option ℕ) (n : ℕ) → option_map (λ k. suc k) (option_map (λ k. n + k) o) ≡ option_map (λ k. suc n + k) o
+moved_on None n = refl
+moved_on (Some k) n = ap Some (omega arith)
+
+-- no arrow begins in front of this place where no byte up to it, but for the text's first, is a hyphen
+pub arrow_from : (text : List ℕ) (n : ℕ) → n ≤ length text → ((k : ℕ) → 0 < k → k ≤ n → get_or text k 0 ≢ 45)
+    → arrow_in text ≡ option_map (λ k. n + k) (arrow_in (drop n text))
+arrow_from text zero le none = sym (unmoved (arrow_in text))
+arrow_from [] (suc n) le none = absurd (omega (arith, le))
+arrow_from (x ∷ []) (suc zero) le none = alone x
+arrow_from (x ∷ []) (suc (suc n)) le none = absurd (omega (arith, le))
+arrow_from (x ∷ y ∷ text) (suc n) le none =
+    arrow_behind (x ∷ y ∷ text) x (y ∷ text) refl (second_is x y text (none 1 (omega arith) (omega arith)))
+    ∙ ap (option_map (λ k. suc k)) (arrow_from (y ∷ text) n (omega (arith, le)) (λ k above upto. none (suc k) (omega arith) (omega (arith, upto))))
+    ∙ moved_on (arrow_in (drop n (y ∷ text))) n
+
 -- ---- the arrow behind a line
 
 -- bytes with no hyphen among them
@@ -103,16 +150,6 @@ dashless_line (line.Event (Take place)) fit = dashless_then (codes "take ") (dec
 dashless_line (line.Register slot) fit = dashless_then (codes "reg ") (decimal slot) (no_dash_in (codes "reg ") refl) (number_dashless slot fit)
 dashless_line (line.Bank at) fit = dashless_then (codes "bank ") (decimal at) (no_dash_in (codes "bank ") refl) (number_dashless at fit)
 dashless_line line.Settled fit = no_dash_in (codes "settled") refl
-
-and_none : (a b c : Bool) → b ≡ false → (a && (b && c)) ≡ false
-and_none true b c e = ap (λ t. t && c) e
-and_none false b c e = refl
-
--- an arrow's second byte is a hyphen
-second_is : (x y : ℕ) (rest : List ℕ) → y ≢ 45 → starts_with nat_eq (x ∷ y ∷ rest) (codes " -> ") ≡ false
-second_is x y rest ne =
-    let test : nat_eq 45 y ≡ false = grind (arith, nat_tests) in
-    and_none (nat_eq 32 x) (nat_eq 45 y) _ test
 
 pub arrow_behind_line : (text reply : List ℕ) → NoDash text → arrow_in (text ++ (codes " -> " ++ reply)) ≡ Some (length text)
 arrow_behind_line [] reply none = refl

@@ -7,6 +7,7 @@ ghost use Rattle.trace_text.specs.Pairs.{cause_of, bare_answer as bare_of, value
 use crate::fault::MAX_PAIR;
 use crate::fields::{number, word};
 use crate::lines::{Line, LineFault, cut, line_said, one};
+use crate::pieces::first_place;
 use flat_model::{Answer, Cause};
 
 /// A line and what was answered to it.
@@ -96,12 +97,14 @@ fn answer_said(text: &[u8]) -> Option<Answer>
     answer_from(kind, fields)
 }
 
-// The place at which ` -> ` first stands.
+// The place at which ` -> ` first stands: its second byte is a hyphen, so none begins in front of the
+// byte before the first hyphen.
 fn arrow(text: &[u8]) -> Option<usize>
     ensures value { result ≡ arrow_in text.now }
     ensures bound { IfSome result (λ at. at + 4 ≤ length text.now) }
 {
-    for at in 0..text.len() {
+    let begun = first_place(b'-', text)?.saturating_sub(1);
+    for at in begun..text.len() {
         if text[at] == b' ' && text[at..].starts_with(b" -> ".as_slice()) {
             return Some(at);
         }

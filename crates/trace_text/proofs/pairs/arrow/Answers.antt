@@ -2,9 +2,18 @@ use Rattle.std.proofs.Common.{arith, ◌≡◌, ◌-◌, ◌∙◌, ap, sym, tak
 use Rattle.std.proofs.lemmas.Grind.{common_steps}
 use Rattle.std.specs.Prelude.{nat_eq, codes}
 use Rattle.std.specs.List.{starts_with}
-use Rattle.trace_text.proofs.Arrows.{arrow_on, no_arrow_at}
+use Rattle.trace_text.proofs.Arrows.{arrow_on, no_arrow_at, no_arrow, arrow_from}
 use Rattle.trace_text.proofs.pairs.arrow.Goals as goal
 use Rattle.trace_text.proofs.pairs.arrow.Goals.{else-text-at-eq32-via-then-text-at-eq32+else-starts_with, else-text-at-eq32-via-else-text-at-eq32}
+
+pub returns-in_err-first_place-clause-value : goal.returns-in_err-first_place-clause-value
+returns-in_err-first_place-clause-value c = c.from_residual.ensures ∙ sym (no_arrow c.args.text.now c.in_err-first_place.ensures.none)
+
+pub loop-at-init : goal.loop-at-init
+loop-at-init c =
+    let hyphen = c.in_ok-first_place.ensures.some in
+    let begun = c.saturating_sub-begun.ensures in
+    arrow_from c.args.text.now c.saturating_sub-begun.result (omega (arith, begun, hyphen.0.0)) (λ k above upto. hyphen.1 k (omega (arith, begun, above, upto)))
 
 pub loop-at-preserved : goal.loop-at-preserved
 loop-at-preserved c =
