@@ -13,7 +13,7 @@ pub loop-at-init : goal.loop-at-init
 loop-at-init c =
     let hyphen = c.in_ok-first_place.ensures.some in
     let begun = c.saturating_sub-begun.ensures in
-    arrow_from c.args.text.now c.saturating_sub-begun.result (omega (arith, begun, hyphen.0.0)) (λ k above upto. hyphen.1 k (omega (arith, begun, above, upto)))
+    arrow_from c.args.text.now c.saturating_sub-begun.result (omega (arith, begun, hyphen.0)) (λ k above upto. hyphen.2 k (omega (arith, begun, above, upto)))
 
 pub loop-at-preserved : goal.loop-at-preserved
 loop-at-preserved c =
