@@ -88,11 +88,17 @@ fn answer_from(kind: &[u8], fields: Option<&[u8]>) -> Option<Answer>
     }
 }
 
-// The answer whose text this is.
+// The answer whose text this is. Most lines have one of two answers, which are told before they are cut.
 #[tactic(auto, unfolding(crate::specs::Pairs::answer_of))]
 fn answer_said(text: &[u8]) -> Option<Answer>
     ensures { result ≡ answer_of text.now }
 {
+    if text == b"moved".as_slice() {
+        return Some(Answer::Moved);
+    }
+    if text == b"accepted".as_slice() {
+        return Some(Answer::Accepted);
+    }
     let (kind, fields) = cut(text);
     answer_from(kind, fields)
 }
