@@ -1,5 +1,5 @@
 //! Lines as a served trace has them: a command and its answer.
-ghost use Rattle.std.specs.Prelude.{◌≡◌, ◌+◌, ◌≤◌, length, IfSome, IfErr};
+ghost use Rattle.std.specs.Prelude.{◌≡◌, ◌≢◌, ℕ, ◌+◌, ◌<◌, ◌≤◌, length, slice_index, IfSome, IfNone, IfErr};
 ghost use Rattle.std.specs.Option.{option_map};
 ghost use Rattle.trace_text.specs.Lines.{IsSaid};
 ghost use Rattle.trace_text.specs.Pairs.{cause_of, bare_answer as bare_of, value_of, refusal_of, answer_from as answer_made, answer_of, arrow_in, pair_with as pair_made, pair_of, ended_pair_of};
@@ -7,7 +7,6 @@ ghost use Rattle.trace_text.specs.Pairs.{cause_of, bare_answer as bare_of, value
 use crate::fault::MAX_PAIR;
 use crate::fields::{number, word};
 use crate::lines::{Line, LineFault, cut, line_said, one};
-use crate::pieces::first_place;
 use flat_model::{Answer, Cause};
 
 /// A line and what was answered to it.
@@ -103,13 +102,22 @@ fn answer_said(text: &[u8]) -> Option<Answer>
     answer_from(kind, fields)
 }
 
+// The place of the first hyphen. It stands within some ten bytes, where a search byte by byte is the faster one.
+fn hyphen(text: &[u8]) -> Option<usize>
+    ensures some { IfSome result
+        (λ at. (at < length text.now) × ((k : ℕ) → k < at → slice_index text.now k ≢ 45)) }
+    ensures none { IfNone result ((k : ℕ) → k < length text.now → slice_index text.now k ≢ 45) }
+{
+    text.iter().position(|byte| *byte == b'-')
+}
+
 // The place at which ` -> ` first stands: its second byte is a hyphen, so none begins in front of the
 // byte before the first hyphen.
 fn arrow(text: &[u8]) -> Option<usize>
     ensures value { result ≡ arrow_in text.now }
     ensures bound { IfSome result (λ at. at + 4 ≤ length text.now) }
 {
-    let begun = first_place(b'-', text)?.saturating_sub(1);
+    let begun = hyphen(text)?.saturating_sub(1);
     for at in begun..text.len() {
         if text[at] == b' ' && text[at..].starts_with(b" -> ".as_slice()) {
             return Some(at);

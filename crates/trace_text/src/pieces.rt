@@ -22,22 +22,13 @@ impl From<io::Error> for Failed {
     }
 }
 
-// The first place of a byte.
-pub fn first_place(byte: u8, bytes: &[u8]) -> Option<usize>
-    ensures some { IfSome result (λ at. (at < length bytes.now) × (slice_index bytes.now at ≡ byte)
-        × ((k : ℕ) → k < at → slice_index bytes.now k ≢ byte)) }
-    ensures none { IfNone result ((k : ℕ) → k < length bytes.now → slice_index bytes.now k ≢ byte) }
-{
-    memchr(byte, bytes)
-}
-
 // The place of the first LF.
 pub fn end_of_line(bytes: &[u8]) -> Option<usize>
     ensures some { IfSome result (λ at. (at < length bytes.now) × (slice_index bytes.now at ≡ 10)
         × ((k : ℕ) → k < at → slice_index bytes.now k ≢ 10)) }
     ensures none { IfNone result (HasNoEnd bytes.now) }
 {
-    first_place(b'\n', bytes)
+    memchr(b'\n', bytes)
 }
 
 // The fault of the line that the last `left` bytes begin, whatever comes behind them: it is one line
