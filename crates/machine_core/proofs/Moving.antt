@@ -97,7 +97,8 @@ module _ (z : Sizes) (lawful : IsLawful z) (roomy : HasRoom z) (m : Machine) (h 
       go : (queue : List Queued) → m.cache.queue ≡ queue → FallsOr m (apply z m Drain).machine ((m.cache.queue ≡ []) ⊎ HasCommand z m)
       go [] e = inr (ap (λ qs. (joined_with m.banks (drain_first z (room_in z.bank_queue m.banks) m.cache qs)).machine) e, inl e)
       go (q ∷ rest) e =
-          ⊎_elim (λ l. inl (drain_lowers z lawful roomy m h q rest e l)) (full q rest e) (cases_lt (length (bank_at m.banks (q.at % z.banks)).queue) z.bank_queue)
+          let waiting = length (bank_at m.banks (q.at % z.banks)).queue in
+          ⊎_elim (λ l. inl (drain_lowers z lawful roomy m h q rest e l)) (full q rest e) (cases_lt waiting z.bank_queue)
 
 -- ---- a command waits until its bank serves it
 
@@ -117,7 +118,9 @@ sent_waits : (banks : List Bank) (sent : List (ℕ × Command)) (b : ℕ) → Wa
 unfolding with_command
 sent_waits banks [] b w = w
 sent_waits banks (c ∷ rest) b w =
-    sent_waits (set banks c.0 (with_command (bank_at banks c.0) c.1)) rest b (bank_at-set Waits banks c.0 (with_command (bank_at banks c.0) c.1) b (λ e. last_waits (bank_at banks c.0).queue c.1) w)
+    let more = with_command (bank_at banks c.0) c.1 in
+    let first = bank_at-set Waits banks c.0 more b (λ e. last_waits (bank_at banks c.0).queue c.1) w in
+    sent_waits (set banks c.0 more) rest b first
 
 pub command_waits : (z : Sizes) (m : Machine) (b : ℕ) (event : Event) → leaves_commands b event → has_items (bank_at m.banks b).queue ≡ true → has_items (bank_at (apply z m event).machine.banks b).queue ≡ true
 command_waits z m b (Load tag at) other w = sent_waits m.banks (load_step z (room_in z.bank_queue m.banks) m.cache tag at).sent b w

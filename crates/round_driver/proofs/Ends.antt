@@ -121,21 +121,40 @@ module _ (s : MachineState) (whole : IsWholeState s) (rest : weight s.machine �
   load_ends : (tag at : ℕ) → is_end (apply s.sizes s.machine (Load tag at)).answer ≡ true
   unfolding load_step
   load_ends tag at =
-      ⊎_elim (λ l. ap is_end (served.loads tag at l)) (λ l. denied_ends s.machine.banks s.machine.cache (load_cause s.sizes rooms_now s.machine.cache tag at) cause.OutOfRange _ refl (load_outside s.sizes rooms_now s.machine.cache at tag l)) (cases_lt at s.sizes.words)
+      let c = s.machine.cache in
+      let why = load_cause s.sizes rooms_now c tag at in
+      let out = λ (l : s.sizes.words ≤ at). load_outside s.sizes rooms_now c at tag l in
+      let denied = denied_ends s.machine.banks c why cause.OutOfRange _ refl in
+      ⊎_elim (λ l. ap is_end (served.loads tag at l)) (λ l. denied (out l)) (cases_lt at s.sizes.words)
 
   store_ends : (at : ℕ) (word : Word) (lanes : Lanes) → is_end (apply s.sizes s.machine (Store at word lanes)).answer ≡ true
   unfolding store_step
-  store_ends at word lanes =
-      ⊎_elim (λ l. by_lanes l (λ e. denied_ends s.machine.banks s.machine.cache (store_cause s.sizes rooms_now s.machine.cache at lanes) cause.NoLanes _ refl (laneless s.sizes rooms_now s.machine.cache at lanes l e)) (has_any lanes) refl) (λ l. denied_ends s.machine.banks s.machine.cache (store_cause s.sizes rooms_now s.machine.cache at lanes) cause.OutOfRange _ refl (store_outside s.sizes rooms_now s.machine.cache at lanes l)) (cases_lt at s.sizes.words)
+  store_ends at word lanes = ⊎_elim (λ l. by_lanes l (has_any lanes) refl) out (cases_lt at s.sizes.words)
     where
-      by_lanes : at < s.sizes.words → (has_any lanes ≡ false → is_end (apply s.sizes s.machine (Store at word lanes)).answer ≡ true) → (any : Bool) → has_any lanes ≡ any → is_end (apply s.sizes s.machine (Store at word lanes)).answer ≡ true
-      by_lanes l none true e = ap is_end (served.stores at word lanes l e)
-      by_lanes l none false e = none e
+      why : Option Cause
+      why = store_cause s.sizes rooms_now s.machine.cache at lanes
+
+      ends_so : Type 0
+      ends_so = is_end (apply s.sizes s.machine (Store at word lanes)).answer ≡ true
+
+      denied : (x : Cause) → is_end (Refused x) ≡ true → why ≡ Some x → ends_so
+      denied x e q = denied_ends s.machine.banks s.machine.cache why x _ e q
+
+      out : s.sizes.words ≤ at → ends_so
+      out l = denied cause.OutOfRange refl (store_outside s.sizes rooms_now s.machine.cache at lanes l)
+
+      by_lanes : at < s.sizes.words → (any : Bool) → has_any lanes ≡ any → ends_so
+      by_lanes l true e = ap is_end (served.stores at word lanes l e)
+      by_lanes l false e = denied cause.NoLanes refl (laneless s.sizes rooms_now s.machine.cache at lanes l e)
 
   prefetch_ends : (at : ℕ) → is_end (apply s.sizes s.machine (Prefetch at)).answer ≡ true
   unfolding prefetch_step
   prefetch_ends at =
-      ⊎_elim (λ l. ap is_end (served.prefetches at l)) (λ l. denied_ends s.machine.banks s.machine.cache (prefetch_cause s.sizes rooms_now s.machine.cache at) cause.OutOfRange _ refl (prefetch_outside s.sizes rooms_now s.machine.cache at l)) (cases_lt at s.sizes.words)
+      let c = s.machine.cache in
+      let why = prefetch_cause s.sizes rooms_now c at in
+      let out = λ (l : s.sizes.words ≤ at). prefetch_outside s.sizes rooms_now c at l in
+      let denied = denied_ends s.machine.banks c why cause.OutOfRange _ refl in
+      ⊎_elim (λ l. ap is_end (served.prefetches at l)) (λ l. denied (out l)) (cases_lt at s.sizes.words)
 
   pub request_ends : (event : Event) → is_request event ≡ true → is_end (answered s event) ≡ true
   unfolding answered
@@ -204,7 +223,8 @@ module _ (d : ℕ) (r next : Run) (latency : next.schedule.latency ≡ r.schedul
   shorter : length r.left ≡ suc (length next.left) → Goes d r next
   shorter fewer =
       let k = r.schedule.latency + 1 in
-      let little = weighs_little next.state.sizes next.state.machine sound.steady.whole.in_range sound.steady.whole.sound sound.steady.whole.bounded in
+      let w = sound.steady.whole in
+      let little = weighs_little next.state.sizes next.state.machine w.in_range w.sound w.bounded in
       let most : weight next.state.machine * k ≤ 2624 * k = mul-le-mul_right k little in
       let left : length next.left * (2625 * (next.schedule.latency + 1)) ≡ length next.left * (2625 * k) = ap (λ l. length next.left * (2625 * (l + 1))) latency in
       let before : length r.left * (2625 * k) ≡ suc (length next.left) * (2625 * k) = ap (λ n. n * (2625 * k)) fewer in
@@ -222,7 +242,9 @@ module _ (d : ℕ) (r next : Run) (latency : next.schedule.latency ≡ r.schedul
 -- where no move did anything, the machine rests or a bank has a command
 stands_waits : (c d : Course) → IsSteady d.state d.schedule → Stands c d → (weight d.state.machine ≡ 0) ⊎ HasCommand d.state.sizes d.state.machine
 stands_waits c d steady stands =
-    rests_or_waits d.state.sizes (lawful d.state.sizes range) (roomy d.state.sizes range) d.state.machine steady.whole.sound stands.taken stands.processed (none stands.arrived) stands.drained
+    let z = d.state.sizes in
+    let rests = rests_or_waits z (lawful z range) (roomy z range) d.state.machine steady.whole.sound in
+    rests stands.taken stands.processed (none stands.arrived) stands.drained
   where
     range : InRange d.state.sizes
     range = steady.whole.in_range
@@ -274,13 +296,14 @@ module _ (d : ℕ) (r : Run) (sound : IsSound r) (quiet : IsQuietFor d r) (next 
 
           later : t + r.schedule.latency ≤ r.schedule.round + d + 1 → Goes d r next
           later l =
+              let still : begun_at next.schedule b ≡ Some t = ap (λ p. begun_at p b) schedule ∙ busy in
               let weighs : weight next.state.machine ≡ weight r.state.machine = ap (λ s. weight s.machine) (state ∙ same) in
               let cost_same : cost next ≡ cost r = ap₂ (λ n k. n * (2625 * (next.schedule.latency + 1)) + k * (next.schedule.latency + 1)) as_many weighs ∙ ap (λ k. length r.left * (2625 * (k + 1)) + weight r.state.machine * (k + 1)) latency in
               record {
                 sound = next_sound;
                 round = round;
                 quiet = n;
-                is_quiet = inr (b, t, omega (arith, there, banks), ap (λ p. begun_at p b) schedule ∙ busy, omega (arith, l, e, round, latency));
+                is_quiet = inr (b, t, omega (arith, there, banks), still, omega (arith, l, e, round, latency));
                 cheaper = omega (arith, cost_same, e);
               }
 
@@ -308,7 +331,8 @@ module _ (d : ℕ) (r : Run) (sound : IsSound r) (quiet : IsQuietFor d r) (next 
           let begins = stands.begins x.0 x.2 before.1 in
           let is : Some begins.0 ≡ Some x.1 = sym begins.1 ∙ still in
           let time : begins.0 ≡ x.1 = cc in
-          nearer same x.0 x.1 x.2 still (subst (λ t. behind.schedule.round - t < behind.schedule.latency) time begins.2) (omega (arith, early)) (inl x.4)
+          let not_due = subst (λ t. behind.schedule.round - t < behind.schedule.latency) time begins.2 in
+          nearer same x.0 x.1 x.2 still not_due (omega (arith, early)) (inl x.4)
 
   goes_on : (behind.state ≡ r.state → weight behind.state.machine ≡ 0 → ⊥) → Goes d r next
   goes_on busy = go move.lighter
@@ -350,7 +374,8 @@ round_goes d r sound quiet going = go r.left refl sound.requests
 
     asks : (event : Event) (rest : List Event) → r.left ≡ event ∷ rest → is_request event ≡ true → list_all is_request rest ≡ true → (b : Bool) → ends event behind ≡ b → Goes d r (next event rest b)
     asks event rest e request requests true h =
-        shorter d r (next event rest true) move.latency move.round (record { steady = steady_then event (request_leaves event request); requests = requests }) (ap length e)
+        let sound : IsSound (next event rest true) = record { steady = steady_then event (request_leaves event request); requests = requests } in
+        shorter d r (next event rest true) move.latency move.round sound (ap length e)
     asks event rest e request requests false h =
         let same : after_event behind.state event ≡ behind.state = request_stays behind.state event request h in
         let all : list_all is_request (event ∷ rest) ≡ true = ap₂ (λ a b. a && b) request requests in
@@ -363,7 +388,8 @@ round_goes d r sound quiet going = go r.left refl sound.requests
 
     go : (left : List Event) → r.left ≡ left → list_all is_request r.left ≡ true → Goes d r (asked r.told left behind)
     go [] e requests =
-        goes_on d r sound quiet (asked r.told [] behind) move refl refl (sym (ap length e)) (record { steady = move.steady; requests = refl }) (over e)
+        let last : IsSound (asked r.told [] behind) = record { steady = move.steady; requests = refl } in
+        goes_on d r sound quiet (asked r.told [] behind) move refl refl (sym (ap length e)) last (over e)
     go (event ∷ rest) e requests =
         let parts = and_parts (is_request event) (list_all is_request rest) (sym (ap (list_all is_request) e) ∙ requests) in
         asks event rest e parts.0 parts.1 (ends event behind) refl

@@ -130,15 +130,18 @@ begun b c steady few = go (begun_at c.schedule b) refl (has_items (bank_at c.sta
           steady = record {
             whole = steady.whole;
             places = length-set c.schedule.begun b (Some c.schedule.round) ∙ steady.places;
-            busy = λ k t e. ⊎_elim (λ q. here k t q e) (λ apart. steady.busy k t (sym (begun-other c.schedule b k (Some c.schedule.round) apart) ∙ e)) (cases_eq k b);
+            busy = λ k t e. ⊎_elim (λ q. here k t q e) (λ apart. steady.busy k t (sym (other k apart) ∙ e)) (cases_eq k b);
           };
           state = refl;
           round = refl;
           latency = refl;
-          kept = λ k t e. begun-other c.schedule b k (Some c.schedule.round) (idle none k t e) ∙ e;
+          kept = λ k t e. other k (idle none k t e) ∙ e;
           begins = λ w. (c.schedule.round, begun-same c.schedule b (Some c.schedule.round) there);
         }
       where
+        other : (k : ℕ) → (k ≡ b → ⊥) → begun_at now.schedule k ≡ begun_at c.schedule k
+        other k apart = begun-other c.schedule b k (Some c.schedule.round) apart
+
         here : (k t : ℕ) → k ≡ b → begun_at now.schedule k ≡ Some t → (t ≤ c.schedule.round) × Waits c.state k
         here k t q e =
             let is : Some c.schedule.round ≡ Some t = sym (begun-same c.schedule b (Some c.schedule.round) there) ∙ ap (begun_at now.schedule) (sym q) ∙ e in
@@ -177,12 +180,12 @@ serves b c steady there = go (begun_at c.schedule b) refl
           steady = record {
             whole = whole_after c.state (Serve b) steady.whole;
             places = length-set c.schedule.begun b None ∙ steady.places;
-            busy = λ k u f. ⊎_elim (λ q. none k u q f) (λ apart. other k u apart (sym (begun-other c.schedule b k None apart) ∙ f)) (cases_eq k b);
+            busy = λ k u f. ⊎_elim (λ q. none k u q f) (λ apart. other k u apart f) (cases_eq k b);
           };
           round = refl;
           latency = refl;
           banks = refl;
-          lighter = inl (serve_falls c.state.sizes (law c.state steady.whole) (room c.state steady.whole) c.state.machine steady.whole.sound b there (steady.busy b t e).1);
+          lighter = inl falls;
         }
       where
         within : b < length c.schedule.begun
@@ -193,9 +196,15 @@ serves b c steady there = go (begun_at c.schedule b) refl
             let is : None ≡ Some u = sym (begun-same c.schedule b None within) ∙ ap (begun_at (with_begun c.schedule b None)) (sym q) ∙ f in
             cc
 
-        other : (k u : ℕ) → (k ≡ b → ⊥) → begun_at c.schedule k ≡ Some u → (u ≤ c.schedule.round) × Waits (after_event c.state (Serve b)) k
+        falls : weight (after_event c.state (Serve b)).machine < weight c.state.machine
+        falls =
+            let w = steady.whole in
+            let waits = (steady.busy b t e).1 in
+            serve_falls c.state.sizes (law c.state w) (room c.state w) c.state.machine w.sound b there waits
+
+        other : (k u : ℕ) → (k ≡ b → ⊥) → begun_at (with_begun c.schedule b None) k ≡ Some u → (u ≤ c.schedule.round) × Waits (after_event c.state (Serve b)) k
         other k u apart f =
-            let before = steady.busy k u f in
+            let before = steady.busy k u (sym (begun-other c.schedule b k None apart) ∙ f) in
             (before.0, command_waits c.state.sizes c.state.machine k (Serve b) apart before.1)
 
     due : (t : ℕ) → begun_at c.schedule b ≡ Some t → (early : Bool) → nat_lt (c.schedule.round - t) c.schedule.latency ≡ early → Move c (cond (not early) ended c) (ServedOrNot b c (cond (not early) ended c))
@@ -262,11 +271,16 @@ turn_then n b c steady all later = then c e f first rest both
     both served turned same stayed =
         record {
           kept = λ k t h. turned.kept k t (still k ∙ begins.kept k t h);
-          begins = λ k lo hi w. ⊎_elim (λ q. here k q w) (λ apart. turned.begins k (omega (arith, lo, apart)) (omega (arith, hi)) (subst (λ s. Waits s k) (sym same) w)) (cases_eq k b);
+          begins = λ k lo hi w. ⊎_elim (λ q. here k q w) (λ apart. there_too k lo hi apart w) (cases_eq k b);
         }
       where
         still : (k : ℕ) → begun_at e.schedule k ≡ begun_at d.schedule k
         still k = ap (λ l. get_or l k None) served.0
+
+        there_too : (k : ℕ) → b ≤ k → k < b + suc n → (k ≡ b → ⊥) → Waits c.state k → (t : ℕ) × (begun_at f.schedule k ≡ Some t) × (f.schedule.round - t < f.schedule.latency)
+        there_too k lo hi apart w =
+            let waits = subst (λ s. Waits s k) (sym same) w in
+            turned.begins k (omega (arith, lo, apart)) (omega (arith, hi)) waits
 
         here : (k : ℕ) → k ≡ b → Waits c.state k → (t : ℕ) × (begun_at f.schedule k ≡ Some t) × (f.schedule.round - t < f.schedule.latency)
         here k q w =
@@ -332,7 +346,9 @@ nowhere s next e b l = go (first_with_answer s (s.sizes.banks - next) next) refl
     go : (o : Option ℕ) → first_with_answer s (s.sizes.banks - next) next ≡ o → option_or o (first_with_answer s next 0) ≡ None → (bank_at s.machine.banks b).answers ≡ []
     go (Some k) q r = cc
     go None q r =
-        ⊎_elim (λ before. none_left (bank_at s.machine.banks b).answers (no_answer s next 0 b r (omega arith) (omega (arith, before)))) (λ behind. none_left (bank_at s.machine.banks b).answers (no_answer s (s.sizes.banks - next) next b q behind (omega (arith, behind, l)))) (cases_lt b next)
+        let before = λ (h : b < next). no_answer s next 0 b r (omega arith) (omega (arith, h)) in
+        let behind = λ (h : next ≤ b). no_answer s (s.sizes.banks - next) next b q h (omega (arith, h, l)) in
+        none_left (bank_at s.machine.banks b).answers (⊎_elim before behind (cases_lt b next))
 
 -- the stack is full, or there is nothing to arrive
 abbrev pub NothingArrives : MachineState → Type 0
@@ -356,17 +372,25 @@ arrives c steady = go (nat_lt (length c.state.machine.cache.stack) c.state.sizes
     comes : length c.state.machine.cache.stack < c.state.sizes.depth → (b : ℕ) → has_answer c.state b ≡ true → Move c (arrive_from (Some b) c) (Shows c (arrive_from (Some b) c) NothingArrives)
     comes room_left b some =
         record {
-          steady = attempt_steady (Arrive b 0) (scheduled (record c.schedule { next = b + 1 }) c) (record { whole = steady.whole; places = steady.places; busy = steady.busy }) (λ k. tt);
+          steady = attempt_steady (Arrive b 0) behind same (λ k. tt);
           round = refl;
           latency = refl;
           banks = refl;
           lighter = inl (falls (bank_at c.state.machine.banks b).answers refl);
         }
       where
+        behind : Course
+        behind = scheduled (record c.schedule { next = b + 1 }) c
+
+        same : Steady behind
+        same = record { whole = steady.whole; places = steady.places; busy = steady.busy }
+
         falls : (answers : List BankAnswer) → (bank_at c.state.machine.banks b).answers ≡ answers → weight (apply c.state.sizes c.state.machine (Arrive b 0)).machine < weight c.state.machine
         falls [] e = let none : has_items (bank_at c.state.machine.banks b).answers ≡ false = ap has_items e in cc
         falls (a ∷ rest) e =
-            arrive_lowers c.state.sizes (law c.state steady.whole) (room c.state steady.whole) c.state.machine steady.whole.sound b a rest (there (cases_lt b (length c.state.machine.banks))) e room_left
+            let w = steady.whole in
+            let within = there (cases_lt b (length c.state.machine.banks)) in
+            arrive_lowers c.state.sizes (law c.state w) (room c.state w) c.state.machine w.sound b a rest within e room_left
           where
             there : (b < length c.state.machine.banks) ⊎ (length c.state.machine.banks ≤ b) → b < length c.state.machine.banks
             there (inl l) = l
@@ -444,17 +468,20 @@ round_moves c steady = then c c3 c5 (then c c1 c3 turned first (λ f g p q. (f, 
     processing : Move c2 c3 (Shows c2 c3 (λ s. s.machine.cache.stack ≡ []))
     processing =
         let w = arrival.steady.whole in
-        attempted (Process 0) c2 (λ s. s.machine.cache.stack ≡ []) arrival.steady (λ b. tt) (process_falls c2.state.sizes (law c2.state w) (room c2.state w) c2.state.machine w.sound)
+        let falls = process_falls c2.state.sizes (law c2.state w) (room c2.state w) c2.state.machine w.sound in
+        attempted (Process 0) c2 (λ s. s.machine.cache.stack ≡ []) arrival.steady (λ b. tt) falls
 
     taking : Move c3 c4 (Shows c3 c4 (λ s. s.machine.cache.ready ≡ []))
     taking =
         let w = processing.steady.whole in
-        attempted (Take 0) c3 (λ s. s.machine.cache.ready ≡ []) processing.steady (λ b. tt) (take_falls c3.state.sizes (law c3.state w) (room c3.state w) c3.state.machine w.sound)
+        let falls = take_falls c3.state.sizes (law c3.state w) (room c3.state w) c3.state.machine w.sound in
+        attempted (Take 0) c3 (λ s. s.machine.cache.ready ≡ []) processing.steady (λ b. tt) falls
 
     draining : Move c4 c5 (Shows c4 c5 Drained)
     draining =
         let w = taking.steady.whole in
-        attempted Drain c4 Drained taking.steady (λ b. tt) (drain_falls c4.state.sizes (law c4.state w) (room c4.state w) c4.state.machine w.sound)
+        let falls = drain_falls c4.state.sizes (law c4.state w) (room c4.state w) c4.state.machine w.sound in
+        attempted Drain c4 Drained taking.steady (λ b. tt) falls
 
     first : Move c1 c3 (Shows c1 c3 (λ s. NothingArrives s × (s.machine.cache.stack ≡ [])))
     first = then c1 c2 c3 arrival processing (λ f g p q. (g.0 ∙ f.0, (subst NothingArrives (sym q) f.1, g.1)))
