@@ -25,6 +25,7 @@ pub mod Routing
 pub mod Counting
 pub mod Resting
 pub mod Weighing
+pub mod Moving
 pub mod Keeping
 pub mod Contract
 pub mod Stepping

@@ -1,7 +1,7 @@
 -- The driver lowers the weight.
-use Rattle.std.proofs.Common.{◌≡◌, ℕ, zero, suc, ◌+◌, ◌-◌, ◌*◌, ◌/◌, ◌%◌, ◌<◌, ◌≤◌, Bool, true, false, cond, not, ◌&&◌, nat_lt, nat_le, List, [], ◌∷◌, ◌++◌, length, get_or, set, Option, Some, None, option_map, find, remove, slice_get, refl, sym, ap, ap₂, ◌∙◌, subst, arith, length-append, ⊎_elim, lt-ltb, mod-lt, flat_map}
+use Rattle.std.proofs.Common.{◌≡◌, ℕ, zero, suc, ◌+◌, ◌-◌, ◌*◌, ◌/◌, ◌%◌, ◌<◌, ◌≤◌, Bool, true, false, cond, not, ◌&&◌, nat_lt, nat_le, List, [], ◌∷◌, ◌++◌, length, get_or, set, Option, Some, None, option_map, find, remove, slice_get, refl, sym, ap, ap₂, ◌∙◌, subst, arith, length-append, ◌⊎◌, inl, inr, ⊎_elim, lt-ltb, mod-lt, flat_map}
 use Rattle.std.specs.List.{range_with_len, list_all}
-use Rattle.std.proofs.lemmas.Bool.{cases_eq}
+use Rattle.std.proofs.lemmas.Bool.{cases_eq, lt-leb}
 use Rattle.std.proofs.lemmas.List.{nil_from_length}
 use Rattle.flat_model.specs.declared.Event.{Event}
 use Rattle.flat_model.specs.declared.Event.TheVariants.{Take, Process, Arrive, Serve, Drain}
@@ -72,7 +72,7 @@ items_none [] e = refl
 items_none (x ∷ xs) e = cc
 
 -- a bank takes a command
-some_queue : (z : Sizes) → IsLawful z → HasRoom z → 0 < z.bank_queue
+pub some_queue : (z : Sizes) → IsLawful z → HasRoom z → 0 < z.bank_queue
 some_queue z lawful roomy = go z.bank_queue refl
   where
     go : (n : ℕ) → z.bank_queue ≡ n → 0 < n
@@ -89,13 +89,13 @@ all_idle (x ∷ banks) f =
 -- ---- each event
 
 module _ (z : Sizes) (lawful : IsLawful z) (roomy : HasRoom z) (m : Machine) (h : IsSound z m) where
-  take_lowers : (r : Reply) (rest : List Reply) → m.cache.ready ≡ r ∷ rest → weight (apply z m (Take 0)).machine < weight m
+  pub take_lowers : (r : Reply) (rest : List Reply) → m.cache.ready ≡ r ∷ rest → weight (apply z m (Take 0)).machine < weight m
   unfolding take_step
   take_lowers r rest e =
       let c = m.cache in
       subst (λ l. weight (joined_with m.banks (Rattle.cache_unit.specs.Steps.take_reply (record c { ready = l }) 0 (slice_get l 0))).machine < weight (record { cache = record c { ready = l }; banks = m.banks })) (sym e) (omega arith)
 
-  process_lowers : (x : Entry) (rest : List Entry) → m.cache.stack ≡ x ∷ rest → weight (apply z m (Process 0)).machine < weight m
+  pub process_lowers : (x : Entry) (rest : List Entry) → m.cache.stack ≡ x ∷ rest → weight (apply z m (Process 0)).machine < weight m
   unfolding processed process_step
   process_lowers x rest e =
       let c = m.cache in
@@ -126,12 +126,13 @@ module _ (z : Sizes) (lawful : IsLawful z) (roomy : HasRoom z) (m : Machine) (h 
       fin true q v = sym (processed_weight _ q)
       fin false q v = ap (λ y. cond y (total field_weight (set (register_at m.cache x.slot).fields x.i done)) 0) v
 
-  arrive_lowers : (b : ℕ) (a : BankAnswer) (rest : List BankAnswer) → b < length m.banks → (bank_at m.banks b).answers ≡ a ∷ rest → m.cache.stack ≡ [] → weight (apply z m (Arrive b 0)).machine < weight m
+  -- an answer for which the stack has room
+  pub arrive_lowers : (b : ℕ) (a : BankAnswer) (rest : List BankAnswer) → b < length m.banks → (bank_at m.banks b).answers ≡ a ∷ rest → length m.cache.stack < z.depth → weight (apply z m (Arrive b 0)).machine < weight m
   unfolding arrived arrive_cause
-  arrive_lowers b a rest l e empty =
+  arrive_lowers b a rest l e some =
       let bank = bank_at m.banks b in
       let found : slice_get bank.answers 0 ≡ Some a = ap (λ xs. slice_get xs 0) e in
-      let room : nat_le z.depth (length m.cache.stack) ≡ false = ap (λ xs. nat_le z.depth (length xs)) empty ∙ Rattle.std.proofs.lemmas.Bool.lt-leb z.depth 0 roomy.some_depth in
+      let room : nat_le z.depth (length m.cache.stack) ≡ false = lt-leb z.depth (length m.cache.stack) some in
       let cause : arrive_cause z m.cache a.slot a.i ≡ None = ap₂ (λ x y. cond x (Some Rattle.flat_model.specs.declared.Cause.TheVariants.StrayWord) (cond y (Some Rattle.flat_model.specs.declared.Cause.TheVariants.StackFull) None)) (not_stray z m b 0 a h found) room in
       let step : arrive_from z m b 0 (slice_get bank.answers 0) ≡ take_in z m b 0 a None = ap (arrive_from z m b 0) found ∙ ap (take_in z m b 0 a) cause in
       let by_bank = total_set bank_weight no_bank m.banks b (without_answer bank 0) l in
@@ -139,7 +140,7 @@ module _ (z : Sizes) (lawful : IsLawful z) (roomy : HasRoom z) (m : Machine) (h 
       let stack = length-append m.cache.stack (record { slot = a.slot; i = a.i; word = a.word } ∷ []) in
       subst (λ (o : Outcome). weight o.machine < weight m) (sym step) (omega arith)
 
-  serve_lowers : (b : ℕ) (first : Command) (rest : List Command) → b < length m.banks → (bank_at m.banks b).queue ≡ first ∷ rest → weight (apply z m (Serve b)).machine < weight m
+  pub serve_lowers : (b : ℕ) (first : Command) (rest : List Command) → b < length m.banks → (bank_at m.banks b).queue ≡ first ∷ rest → weight (apply z m (Serve b)).machine < weight m
   unfolding served
   serve_lowers b first rest l e =
       let bank = bank_at m.banks b in
@@ -153,13 +154,14 @@ module _ (z : Sizes) (lawful : IsLawful z) (roomy : HasRoom z) (m : Machine) (h 
       one_less (Read slot i place) = refl
       one_less (Write place word lanes) = refl
 
-  drain_lowers : (q : Queued) (rest : List Queued) → m.cache.queue ≡ q ∷ rest → (bank_at m.banks (q.at % z.banks)).queue ≡ [] → weight (apply z m Drain).machine < weight m
+  -- a write for which its bank has room
+  pub drain_lowers : (q : Queued) (rest : List Queued) → m.cache.queue ≡ q ∷ rest → length (bank_at m.banks (q.at % z.banks)).queue < z.bank_queue → weight (apply z m Drain).machine < weight m
   unfolding with_command drain_step
-  drain_lowers q rest e none =
+  drain_lowers q rest e some =
       let b = q.at % z.banks in
       let bank = bank_at m.banks b in
       let l : b < length m.banks = let k = mod-lt q.at lawful.some_banks in let n = h.banks_are in omega arith in
-      let free : nat_lt 0 (room_in z.bank_queue m.banks b) ≡ true = ap (λ x. nat_lt 0 (cond x (z.bank_queue - length bank.queue) 0)) (lt-ltb b (length m.banks) l) ∙ ap (λ xs. nat_lt 0 (z.bank_queue - length xs)) none ∙ lt-ltb 0 (z.bank_queue - 0) (let k = some_queue z lawful roomy in omega arith) in
+      let free : nat_lt 0 (room_in z.bank_queue m.banks b) ≡ true = ap (λ x. nat_lt 0 (cond x (z.bank_queue - length bank.queue) 0)) (lt-ltb b (length m.banks) l) ∙ lt-ltb 0 (z.bank_queue - length bank.queue) (omega (arith, some)) in
       let write = Write (q.at / z.banks) q.word q.lanes in
       let by_bank = total_set bank_weight no_bank m.banks b (with_command bank write) l in
       let more = total-append command_weight bank.queue (write ∷ []) in
@@ -209,13 +211,13 @@ module _ (z : Sizes) (lawful : IsLawful z) (roomy : HasRoom z) (m : Machine) (h 
       go [] er [] es (Some b) ea t et queue eq q =
           let p = first_answer b ea in
           let l = parts_of (bank_at m.banks b).answers p.1 in
-          so (Arrive b 0) q (arrive_lowers b l.0 l.1 p.0 l.2 es)
+          so (Arrive b 0) q (arrive_lowers b l.0 l.1 p.0 l.2 (let none = ap length es in let room = roomy.some_depth in omega arith))
       go [] er [] es None ea (Some b) et queue eq q =
           let p = first_turn b et in
           let l = parts_of (bank_at m.banks b).queue p.1 in
           so (Serve b) q (serve_lowers b l.0 l.1 p.0 l.2)
       go [] er [] es None ea None et (x ∷ rest) eq q =
-          so Drain q (drain_lowers x rest eq (nil_from_length _ (no_turn et (x.at % z.banks) (mod-lt x.at lawful.some_banks))))
+          so Drain q (drain_lowers x rest eq (let none = no_turn et (x.at % z.banks) (mod-lt x.at lawful.some_banks) in let room = some_queue z lawful roomy in omega arith))
       go [] er [] es None ea None et [] eq q = cc
 
   -- nothing is left where the driver has no event
@@ -266,6 +268,24 @@ module _ (z : Sizes) (lawful : IsLawful z) (roomy : HasRoom z) (m : Machine) (h 
                       by_mark : (b : Bool) → bit (not b) ≡ 0 → cond b 0 (length (field_at m.cache s j).waiting - 1) ≡ 0
                       by_mark true q' = refl
                       by_mark false q' = absurd (omega arith)
+
+  -- a machine whose stack, replies and banks' answers are gone, and whose write queue waits for a bank if it isn't empty
+  pub rests_or_waits : m.cache.ready ≡ [] → m.cache.stack ≡ [] → ((b : ℕ) → b < z.banks → (bank_at m.banks b).answers ≡ []) → (m.cache.queue ≡ []) ⊎ ((b : ℕ) × (b < z.banks) × (has_items (bank_at m.banks b).queue ≡ true)) → (weight m ≡ 0) ⊎ ((b : ℕ) × (b < z.banks) × (has_items (bank_at m.banks b).queue ≡ true))
+  rests_or_waits er es none (inr waits) = inr waits
+  rests_or_waits er es none (inl eq) = go arrivals refl turns refl
+    where
+      go : (a : Option ℕ) → arrivals ≡ a → (t : Option ℕ) → turns ≡ t → (weight m ≡ 0) ⊎ ((b : ℕ) × (b < z.banks) × (has_items (bank_at m.banks b).queue ≡ true))
+      go a ea (Some b) et =
+          let p = first_turn b et in
+          inr (b, let n = h.banks_are in let l = p.0 in omega arith, p.1)
+      go (Some b) ea None et =
+          let p = first_answer b ea in
+          let l : b < z.banks = let n = h.banks_are in let k = p.0 in omega arith in
+          let no : has_items (bank_at m.banks b).answers ≡ false = ap has_items (none b l) in
+          let yes = p.1 in
+          cc
+      go None ea None et =
+          inl (pump_rests (ap (λ rs. picked rs m.cache.stack arrivals turns m.cache.queue) er ∙ ap (λ xs. picked [] xs arrivals turns m.cache.queue) es ∙ ap (λ a. picked [] [] a turns m.cache.queue) ea ∙ ap (λ t. picked [] [] None t m.cache.queue) et ∙ ap (picked [] [] None None) eq))
 
   pub pump_at_rest : weight m ≡ 0 → pumped z m ≡ None
   pump_at_rest w = go (pumped z m) refl

@@ -27,7 +27,7 @@ use Rattle.machine_core.specs.Machine.{Machine, MachineState, apply, walked, tol
 use Rattle.machine_core.specs.Pump.{pumped, weight}
 use Rattle.machine_core.specs.Law.{IsLawful, HasRoom, IsKept, IsDriven, IsServed, ServesRequests}
 use Rattle.machine_core.specs.Sound.{IsSound, IsBounded}
-use Rattle.machine_core.specs.Whole.{machine_of, IsWhole, Serves, bad_field}
+use Rattle.machine_core.specs.Whole.{machine_of, state_of, IsWhole, IsWholeState, Serves, bad_field}
 use Rattle.machine_core.proofs.Counting.{on_their_way}
 use Rattle.machine_core.proofs.Contract.{sound_opening, flat_opening, bounded_opening, sound_apply, bounded_apply, flat_apply, flat_walked, pumped_lowers, pumped_rests, pumped_at_rest, bound_at_rest, served_after_pumps}
 use Rattle.machine_core.proofs.Opening.{settled_ok}
@@ -180,6 +180,9 @@ module _ {ways words regs depth : ℕ} {shape : Shape} {unit : UnitState} {memor
 
   pub is_served : IsServed unit.sizes now
   is_served = served_after_pumps unit.sizes (lawful unit.sizes whole.in_range) (roomy unit.sizes whole.in_range) now whole.sound whole.bounded
+
+  pub is_whole : IsWholeState (state_of unit memory)
+  is_whole = record { in_range = whole.in_range; sound = whole.sound; bounded = whole.bounded }
 
   pub takes_answers : (b : ℕ) → length (bank_at memory.banks b).answers ≤ 256
   takes_answers b = few_answers unit.sizes now whole.in_range whole.sound b

@@ -36,6 +36,12 @@ pub record IsWhole (ways words regs depth : ℕ) (shape : Shape) (unit : UnitSta
   pub sound : IsSound unit.sizes (machine_of unit memory)
   pub bounded : IsBounded unit.sizes (machine_of unit memory)
 
+-- what each machine keeps, by its state alone: its numbers are in their ranges, and what is on its way is in order
+pub record IsWholeState (s : MachineState) : Type 0 where
+  pub in_range : InRange s.sizes
+  pub sound : IsSound s.sizes s.machine
+  pub bounded : IsBounded s.sizes s.machine
+
 -- the first number of a machine that is out of its range; the image's length comes last
 abbrev pub bad_field : Sizes → ℕ → Option ShapeField
 bad_field z image = option_or (limits.bad_field z) (if image == z.words then None else Some Image)

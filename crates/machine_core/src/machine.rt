@@ -11,7 +11,7 @@ ghost use Rattle.memory_banks.specs.Banks.{bank_at};
 ghost use Rattle.machine_core.specs.Machine as machine;
 ghost use Rattle.machine_core.specs.Pump as driver;
 ghost use Rattle.machine_core.specs.Law.{most_weight, IsKept, IsServed};
-ghost use Rattle.machine_core.specs.Whole.{bad_field, bank_word_view, with_answer, Serves};
+ghost use Rattle.machine_core.specs.Whole.{bad_field, bank_word_view, with_answer, Serves, IsWholeState};
 
 use crate::drive::{all_served, next_event};
 use crate::step::{step, walk};
@@ -130,6 +130,7 @@ impl<const WAYS: usize, const WORDS: usize, const REGS: usize, const DEPTH: usiz
         ensures value { result ≡ driver.weight self.now.machine }
         ensures within { result ≤ most_weight self.now.sizes }
         ensures served { IsServed self.now.sizes self.now.machine }
+        ensures whole { IsWholeState self.now }
     {
         let unit = 2 * u64::from(self.unit.stack_len())
             + u64::from(self.unit.replies_len())

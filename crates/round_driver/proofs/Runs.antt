@@ -21,11 +21,11 @@ none : (r : Run) → rounds_until_over 0 r ≡ r
 unfolding rounds_until_over
 none r = refl
 
-stays : (n : ℕ) (r : Run) → is_over r ≡ true → rounds_until_over n r ≡ r
+pub stays : (n : ℕ) (r : Run) → is_over r ≡ true → rounds_until_over n r ≡ r
 stays zero r h = none r
 stays (suc n) r h = once n r ∙ ap (λ b. cond b r (rounds_until_over n (after_round r))) h
 
-goes : (n : ℕ) (r : Run) → is_over r ≡ false → rounds_until_over (suc n) r ≡ rounds_until_over n (after_round r)
+pub goes : (n : ℕ) (r : Run) → is_over r ≡ false → rounds_until_over (suc n) r ≡ rounds_until_over n (after_round r)
 goes n r h = once n r ∙ ap (λ b. cond b r (rounds_until_over n (after_round r))) h
 
 no : true ≡ false → ⊥

@@ -1,5 +1,5 @@
 -- The turns of the loops, one at a time.
-use Rattle.std.proofs.Common.{◌≡◌, ℕ, suc, ◌+◌, ◌-◌, ◌<◌, ◌≤◌, Bool, true, false, cond, Option, Some, None, refl, sym, ap, ◌∙◌, arith}
+use Rattle.std.proofs.Common.{◌≡◌, ℕ, suc, ◌+◌, ◌-◌, ◌<◌, ◌≤◌, true, false, cond, Some, None, sym, ap, ◌∙◌, arith}
 use Rattle.machine_core.specs.Machine.{MachineState}
 use Rattle.round_driver.specs.Machines.{has_answer, used_at, used_among}
 use Rattle.round_driver.specs.Rounds.{Course, begin, serve_due, bank_turns, first_with_answer}

@@ -1,11 +1,10 @@
 -- What is told of a run is the machine's walk, and each request ends once.
-use Rattle.std.proofs.Common.{◌≡◌, ℕ, zero, suc, ◌+◌, ◌/◌, ◌%◌, nat_lt, Bool, true, false, ◌&&◌, cond, List, [], ◌∷◌, ◌++◌, map, Option, Some, None, append_assoc, append-nil, refl, sym, ap, ap₂, subst, ◌∙◌}
+use Rattle.std.proofs.Common.{◌≡◌, ℕ, zero, suc, ◌+◌, ◌/◌, ◌%◌, nat_lt, Bool, true, false, ◌&&◌, cond, List, [], ◌∷◌, ◌++◌, Option, Some, None, append_assoc, append-nil, refl, sym, ap, ap₂, subst, ◌∙◌}
 use Rattle.std.specs.Prelude.{slice_get}
 use Rattle.std.specs.List.{list_all}
 use Rattle.std.proofs.lemmas.Bool.{and_parts}
 use Rattle.flat_model.specs.declared.Event.{Event}
 use Rattle.flat_model.specs.declared.Event.TheVariants.{Load, Store, Prefetch, Evict, Drain, Serve, Arrive, Process, Take}
-use Rattle.flat_model.specs.declared.Answer.{Answer}
 use Rattle.flat_model.specs.declared.Answer.TheVariants.{Moved, Refused}
 use Rattle.flat_model.specs.declared.Cause.{Cause}
 use Rattle.flat_model.specs.declared.Cause.TheVariants.{BankFull}
@@ -23,8 +22,8 @@ use Rattle.machine_core.specs.Machine.{Machine, MachineState, apply, joined_with
 use Rattle.machine_core.specs.AnyMachine.{answered, after_event}
 use Rattle.round_driver.specs.declared.note.Note.{Note}
 use Rattle.round_driver.specs.declared.schedule.Schedule.{Schedule}
-use Rattle.round_driver.specs.Rounds.{Course, course, Run, is_done, is_end, note_of, request_note, attempt, ask, ends, scheduled, begin, serve_due, bank_turns, arrive_from as arrive_at, arrive, next_with_answer, moves, asked, after_round, is_over, rounds_until_over, start_of}
-use Rattle.round_driver.specs.Walks.{events_of, answers_of, IsWalk, is_request, ended, IsTold, RunIsTold}
+use Rattle.round_driver.specs.Rounds.{Course, course, Run, is_done, is_end, note_of, request_note, attempt, ask, scheduled, begin, serve_due, bank_turns, arrive_from as arrive_at, arrive, moves, asked, after_round, is_over, rounds_until_over, start_of}
+use Rattle.round_driver.specs.Walks.{events_of, answers_of, IsWalk, is_request, ended, RunIsTold}
 
 no : true ≡ false → ⊥
 no e = cc

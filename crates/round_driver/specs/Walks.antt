@@ -1,12 +1,12 @@
 -- What was told of a run, as the machine's walk and as the requests' ends.
-use Rattle.std.specs.Prelude.{◌≡◌, ℕ, Bool, true, false, ◌&&◌, if◌then◌else◌, List, [], ◌∷◌, ◌++◌, map}
+use Rattle.std.specs.Prelude.{◌≡◌, ℕ, ◌<◌, Bool, true, false, ◌&&◌, if◌then◌else◌, List, [], ◌∷◌, ◌++◌, map, length}
 use Rattle.std.specs.List.{list_all}
 use Rattle.flat_model.specs.declared.Event.{Event}
 use Rattle.flat_model.specs.declared.Event.TheVariants.{Load, Store, Prefetch, Evict}
 use Rattle.flat_model.specs.declared.Answer.{Answer}
 use Rattle.machine_core.specs.Machine.{MachineState, walked, told}
 use Rattle.round_driver.specs.declared.note.Note.{Note}
-use Rattle.round_driver.specs.Rounds.{Run, is_end, start_of, rounds_until_over}
+use Rattle.round_driver.specs.Rounds.{Run, is_end, start_of, is_over, rounds_until_over, most_rounds, whole_run}
 
 abbrev pub events_of : List Note → List Event
 events_of notes = map (λ n. n.event) notes
@@ -39,3 +39,12 @@ pub record IsTold (s : MachineState) (requests : List Event) (r : Run) : Type 0 
 
 abbrev pub RunIsTold : ℕ → MachineState → List Event → ℕ → Type 0
 RunIsTold latency s requests n = IsTold s requests (rounds_until_over n (start_of latency s requests))
+
+-- the requests are used up, nothing is on its way, and fewer rounds were made than may be
+pub record IsOverInTime (latency : ℕ) (s : MachineState) (requests : List Event) : Type 0 where
+  pub over : is_over (whole_run latency s requests) ≡ true
+  pub in_time : (whole_run latency s requests).schedule.round < most_rounds latency (length requests)
+
+-- each run of requests is over in time: an event that is no request never ends, and is asked in each round
+abbrev pub RequestsEnd : ℕ → MachineState → List Event → Type 0
+RequestsEnd latency s requests = list_all is_request requests ≡ true → IsOverInTime latency s requests

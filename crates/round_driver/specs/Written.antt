@@ -1,5 +1,5 @@
 -- The text of a run.
-use Rattle.std.specs.Prelude.{◌≡◌, ℕ, List, [], ◌∷◌, ◌++◌}
+use Rattle.std.specs.Prelude.{ℕ, List, [], ◌∷◌, ◌++◌}
 use Rattle.trace_text.specs.Codes.{line_feed}
 use Rattle.trace_text.specs.Recorded.{recorded, pair_text}
 use Rattle.trace_text.specs.Streams.{Moves, Stopped}

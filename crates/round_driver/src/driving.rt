@@ -7,16 +7,17 @@ ghost use Rattle.round_driver.specs.Machines as machines;
 ghost use Rattle.round_driver.specs.Rounds as rounds;
 ghost use Rattle.round_driver.specs.Rounds.{run_of, start_of, rounds_until_over, whole_run, most_requests, EndsInTime};
 ghost use Rattle.round_driver.specs.Tables.{table_of};
+ghost use Rattle.round_driver.specs.Walks.{RequestsEnd};
 ghost use Rattle.round_driver.specs.Written.{run_text, BreaksOff};
 
 use crate::machine::RoundMachine;
 use crate::round::{Notes, ask, moves};
 use crate::schedule::Schedule;
 use crate::table::{Counter, Table};
-use crate::writing::{round_text, write_whole};
+use crate::writing::round_text;
 use flat_model::Event;
 use std::alloc::{AllocError, Global};
-use trace_text::{Sink, TraceFault};
+use trace_text::{Failed, Sink, TraceFault, write_whole};
 
 /// The most rounds that may pass between a command's begin and its service.
 pub const MOST_LATENCY: u64 = 1_000;
@@ -78,8 +79,11 @@ fn most_rounds(latency: u64, requests: usize) -> u64
 /// Drives these requests through the machine in rounds, and writes the run: each request whenever it
 /// is asked, and each other event that did something, with its answer, as the lines that
 /// [`check_text`](trace_text::check_text) reads. Returns the number of rounds, the last one counted,
-/// in which nothing moves. If this number is at most `(requests + 1) * 2,625 * (latency + 1)`, the
-/// requests are used up and nothing is on its way; no more rounds are made than that.
+/// in which nothing moves.
+///
+/// If all of `requests` are loads, stores, prefetches and evictions, they are used up then and nothing
+/// is on its way, after at most `(requests + 1) * 2,625 * (latency + 1)` rounds. No run makes more
+/// rounds: another event among the requests never ends, and is asked in each round up to the last.
 ///
 /// `latency` is how many rounds pass from the one in which a bank begins a command to the one in
 /// which it serves it, [`MOST_LATENCY`] at most. There may be at most 16,777,216 requests. The machine has at
@@ -102,7 +106,8 @@ pub fn drive<W: Sink, M: RoundMachine>(
         (λ n. n ≡ (whole_run latency (M.state machine.old) requests.now).schedule.round + 1) }
     ensures machine { OnOk result
         (M.state machine.new ≡ (whole_run latency (M.state machine.old) requests.now).state) }
-    ensures over { OnOk result (EndsInTime latency (M.state machine.old) requests.now) }
+    ensures over { OnOk result (RequestsEnd latency (M.state machine.old) requests.now) }
+    ensures early { OnOk result (EndsInTime latency (M.state machine.old) requests.now) }
     ensures written { OnOk result
         (Moves W.took writer.old
         (run_text (whole_run latency (M.state machine.old) requests.now).told) writer.new) }
@@ -111,6 +116,7 @@ pub fn drive<W: Sink, M: RoundMachine>(
         (run_text (rounds_until_over n (start_of latency (M.state machine.old) requests.now)).told)
         writer.new fault) }
 {
+    machine.keeps_whole();
     let mut schedule = Schedule::new(latency);
     let mut notes = Notes::new();
     let mut left = requests;
@@ -122,7 +128,7 @@ pub fn drive<W: Sink, M: RoundMachine>(
         let text = round_text(alloc, notes.as_slice())?;
         match write_whole(writer, text.as_bytes()) {
             Ok(()) => {}
-            Err(fault) => return Err(fault),
+            Err(Failed) => return Err(TraceFault::Write),
         }
     }
     Ok(schedule.round + 1)
@@ -144,8 +150,10 @@ pub fn summarize<M: RoundMachine>(
         (λ table. table ≡ table_of latency (M.state machine.old) requests.now) }
     ensures machine { OnOk result
         (M.state machine.new ≡ (whole_run latency (M.state machine.old) requests.now).state) }
-    ensures over { OnOk result (EndsInTime latency (M.state machine.old) requests.now) }
+    ensures over { OnOk result (RequestsEnd latency (M.state machine.old) requests.now) }
+    ensures early { OnOk result (EndsInTime latency (M.state machine.old) requests.now) }
 {
+    machine.keeps_whole();
     let mut counter = Counter::new(alloc)?;
     let mut schedule = Schedule::new(latency);
     let mut notes = Notes::new();

@@ -1,11 +1,17 @@
 //! What is asked of a machine that is driven in rounds.
 ghost use Rattle.std.specs.Prelude.{◌≡◌, ◌≤◌};
+ghost use Rattle.machine_core.specs.Whole.{IsWholeState};
 ghost use Rattle.round_driver.specs.Machines as machines;
 
 use machine_core::{AnyMachine, Lookup, Machine};
 
 /// A machine that can be driven in rounds, whatever its four const numbers are.
 pub trait RoundMachine: AnyMachine {
+    /// Changes nothing: its contract is what each machine keeps, whatever was asked of it, and on
+    /// this rests that every run of requests ends.
+    fn keeps_whole(&self)
+        ensures { IsWholeState (Self.state self.now) };
+
     /// How many banks there are.
     fn bank_count(&self) -> u32
         ensures { result ≡ (Self.state self.now).sizes.banks };
@@ -34,6 +40,10 @@ pub trait RoundMachine: AnyMachine {
 #[tactic(auto, unfolding(crate::specs::Machines::has_command, crate::specs::Machines::has_answer, crate::specs::Machines::has_stack_room, crate::specs::Machines::found_at, crate::specs::Machines::used_registers, crate::specs::Machines::used_at))]
 impl<const WAYS: usize, const WORDS: usize, const REGS: usize, const DEPTH: usize> RoundMachine
     for Machine<WAYS, WORDS, REGS, DEPTH> {
+    fn keeps_whole(&self) {
+        let _weight = self.weight();
+    }
+
     fn bank_count(&self) -> u32 {
         self.shape().banks
     }

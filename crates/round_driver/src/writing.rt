@@ -1,12 +1,11 @@
 //! A run, as lines that a check reads.
-ghost use Rattle.std.specs.Prelude.{◌≡◌, IfOk, IfErr, OnOk, Ok, ◌<◌, length};
+ghost use Rattle.std.specs.Prelude.{◌≡◌, IfOk};
 ghost use Rattle.std.specs.String.{string_bytes};
-ghost use Rattle.trace_text.specs.Streams.{Moves};
-ghost use Rattle.round_driver.specs.Written.{BreaksOff, note_line, run_text};
+ghost use Rattle.round_driver.specs.Written.{note_line, run_text};
 
 use crate::note::Note;
 use std::alloc::{AllocError, Global};
-use trace_text::{Sink, TraceFault, written_pair};
+use trace_text::written_pair;
 
 // The line of a note.
 #[tactic(auto, unfolding(crate::specs::Written::note_line))]
@@ -26,21 +25,4 @@ pub fn round_text(alloc: Global, notes: &[Note]) -> Result<String, AllocError>
         text.push_str(line.as_str())?;
     }
     Ok(text)
-}
-
-// Writes all bytes.
-pub fn write_whole<W: Sink>(writer: &mut W, bytes: &[u8]) -> Result<(), TraceFault>
-    ensures ok { OnOk result (Moves W.took writer.old bytes.now writer.new) }
-    ensures err { IfErr result
-        (BreaksOff W.took W.refused writer.old bytes.now writer.new) }
-{
-    let mut rest = bytes;
-    while !rest.is_empty() {
-        match writer.write_some(rest) {
-            Ok(0) => return Err(TraceFault::Write),
-            Ok(n) => rest = &rest[n..],
-            Err(_) => return Err(TraceFault::Write),
-        }
-    }
-    Ok(())
 }

@@ -140,3 +140,16 @@ fn a_run_is_flat(rt: HostRuntime) -> Result<(), Fail> {
     assert_eq!(rt; machine.weight(), 0);
     Ok(())
 }
+
+// A drain is no request: it never ends, and is asked in each of the (1 + 1) * 2,625 rounds that may be
+// made with latency 0. The count adds the one in which nothing moves.
+#[test]
+fn a_drain_is_asked_to_the_last_round(rt: HostRuntime) -> Result<(), Fail> {
+    let mut machine = machine::<1>(rt.alloc(), SMALL)?;
+    let table = summarize(rt.alloc(), &mut machine, 0, &[Event::Drain])?;
+    assert_eq!(rt; table.rounds, 5251);
+    assert_eq!(rt; table.accepted, 0);
+    assert_eq!(rt; table.denied, 0);
+    assert_eq!(rt; table.written, 0);
+    Ok(())
+}

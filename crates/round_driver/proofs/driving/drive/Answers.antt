@@ -1,8 +1,10 @@
 use Rattle.std.proofs.Common.{◌≡◌, ◌+◌, ◌≤◌, sym, ap, subst, ◌∙◌, arith}
-use Rattle.trace_text.specs.Streams.{Moves}
+use Rattle.trace_text.specs.Streams.{Moves, Stopped}
+use Rattle.trace_text.specs.declared.fault.TraceFault.TheVariants.{Write}
 use Rattle.round_driver.specs.Rounds.{start_of, rounds_until_over, is_over, whole_run}
-use Rattle.round_driver.specs.Written.{run_text, BreaksOff}
+use Rattle.round_driver.specs.Written.{run_text}
 use Rattle.round_driver.proofs.Runs.{no_more, run_begins, text_begins, over_here, run_next, text_next, text_breaks}
+use Rattle.round_driver.proofs.Ends.{requests_end}
 use Rattle.round_driver.proofs.driving.drive.Goals as goal
 
 pub loop-turn-init : goal.loop-turn-init
@@ -52,11 +54,11 @@ returns-in-Err-clause-fault g c =
     let going = sym c.is_over.ensures ∙ c.if-is_over.false in
     let made = c.round-left.ensures.run in
     let bytes : c.as_bytes.result.now ≡ run_text c.round-left.new.notes.items = c.as_bytes.ensures.value ∙ c.in_ok-text.ensures ∙ ap run_text c.as_slice.ensures.value in
-    let breaks = subst (λ t. BreaksOff g.W.Sink.took g.W.Sink.refused c.loop-turn.writer t c.write_whole.new.writer c.in-Err.fault) bytes c.in-Err.ensures.err in
-    (c.loop-turn._turn + 1, text_breaks c.loop-turn._turn start (g.M.AnyMachine.state c.loop-turn.machine) c.loop-turn.schedule c.loop-turn.left.now here (g.M.AnyMachine.state c.round-left.new.machine) c.round-left.new.schedule c.round-left.result.now c.round-left.new.notes.items made going g.W.Sink.took g.W.Sink.refused c.args.writer.now c.loop-turn.writer c.write_whole.new.writer c.in-Err.fault c.loop-turn.invariant.written breaks)
+    let stops = subst (λ t. Stopped g.W.Sink.took g.W.Sink.refused c.loop-turn.writer t c.write_whole.new.writer) bytes c.in-Err.ensures.err in
+    (c.loop-turn._turn + 1, text_breaks c.loop-turn._turn start (g.M.AnyMachine.state c.loop-turn.machine) c.loop-turn.schedule c.loop-turn.left.now here (g.M.AnyMachine.state c.round-left.new.machine) c.round-left.new.schedule c.round-left.result.now c.round-left.new.notes.items made going g.W.Sink.took g.W.Sink.refused c.args.writer.now c.loop-turn.writer c.write_whole.new.writer Write c.loop-turn.invariant.written stops)
 
-pub returns-then-is_over-clause-over : goal.returns-then-is_over-clause-over
-returns-then-is_over-clause-over g c =
+pub returns-then-is_over-clause-early : goal.returns-then-is_over-clause-early
+returns-then-is_over-clause-early g c =
     let start = start_of c.args.latency (g.M.AnyMachine.state c.args.machine.now) c.args.requests.now in
     let here = c.loop-turn.invariant.run in
     let over = sym c.is_over.ensures ∙ c.if-is_over.true in
@@ -64,8 +66,8 @@ returns-then-is_over-clause-over g c =
     let whole = over_here c.loop-turn._turn start (g.M.AnyMachine.state c.loop-turn.machine) c.loop-turn.schedule c.loop-turn.left.now here c.most_rounds-turn-end.result le over ∙ ap (λ n. rounds_until_over n start) c.most_rounds-turn-end.ensures.value in
     λ h. sym (ap is_over whole) ∙ over
 
-pub returns-clause-over : goal.returns-clause-over
-returns-clause-over g c =
+pub returns-clause-early : goal.returns-clause-early
+returns-clause-early g c =
     let start = start_of c.args.latency (g.M.AnyMachine.state c.args.machine.now) c.args.requests.now in
     let here = c.loop-turn.invariant.run in
     let turns = c.loop-turn._turn in
@@ -92,3 +94,11 @@ loop-turn-preserved g c =
       time = omega (arith, time, before);
       next = c.round-left.ensures.next;
     }
+
+pub returns-then-is_over-clause-over : goal.returns-then-is_over-clause-over
+returns-then-is_over-clause-over g c =
+    requests_end c.args.latency (g.M.AnyMachine.state c.args.machine.now) c.args.requests.now c.keeps_whole.ensures
+
+pub returns-clause-over : goal.returns-clause-over
+returns-clause-over g c =
+    requests_end c.args.latency (g.M.AnyMachine.state c.args.machine.now) c.args.requests.now c.keeps_whole.ensures

@@ -2,6 +2,7 @@ use Rattle.std.proofs.Common.{◌≡◌, ◌+◌, ◌≤◌, sym, ap, ◌∙◌,
 use Rattle.round_driver.specs.Rounds.{start_of, rounds_until_over, is_over, whole_run}
 use Rattle.round_driver.specs.Tables.{counting, nothing, counted_all, with_rounds, total}
 use Rattle.round_driver.proofs.Runs.{no_more, run_begins, counts_begin, over_here, run_next, counts_next}
+use Rattle.round_driver.proofs.Ends.{requests_end}
 use Rattle.round_driver.proofs.driving.summarize.Goals as goal
 
 pub loop-turn-init : goal.loop-turn-init
@@ -41,8 +42,8 @@ returns-then-is_over-clause-machine g c =
     let whole = over_here c.loop-turn._turn start (g.M.AnyMachine.state c.loop-turn.machine) c.loop-turn.schedule c.loop-turn.left.now here c.most_rounds-turn-end.result le over ∙ ap (λ n. rounds_until_over n start) c.most_rounds-turn-end.ensures.value in
     ap (λ r. r.state) whole
 
-pub returns-then-is_over-clause-over : goal.returns-then-is_over-clause-over
-returns-then-is_over-clause-over g c =
+pub returns-then-is_over-clause-early : goal.returns-then-is_over-clause-early
+returns-then-is_over-clause-early g c =
     let start = start_of c.args.latency (g.M.AnyMachine.state c.args.machine.now) c.args.requests.now in
     let here = c.loop-turn.invariant.run in
     let over = sym c.is_over.ensures ∙ c.if-is_over.true in
@@ -50,8 +51,8 @@ returns-then-is_over-clause-over g c =
     let whole = over_here c.loop-turn._turn start (g.M.AnyMachine.state c.loop-turn.machine) c.loop-turn.schedule c.loop-turn.left.now here c.most_rounds-turn-end.result le over ∙ ap (λ n. rounds_until_over n start) c.most_rounds-turn-end.ensures.value in
     λ h. sym (ap is_over whole) ∙ over
 
-pub returns-clause-over : goal.returns-clause-over
-returns-clause-over g c =
+pub returns-clause-early : goal.returns-clause-early
+returns-clause-early g c =
     let start = start_of c.args.latency (g.M.AnyMachine.state c.args.machine.now) c.args.requests.now in
     let here = c.loop-turn.invariant.run in
     let turns = c.loop-turn._turn in
@@ -83,3 +84,11 @@ loop-turn-preserved g c =
       waited = omega (arith, waited, longer);
       tags = c.count_all.ensures.tags;
     }
+
+pub returns-then-is_over-clause-over : goal.returns-then-is_over-clause-over
+returns-then-is_over-clause-over g c =
+    requests_end c.args.latency (g.M.AnyMachine.state c.args.machine.now) c.args.requests.now c.keeps_whole.ensures
+
+pub returns-clause-over : goal.returns-clause-over
+returns-clause-over g c =
+    requests_end c.args.latency (g.M.AnyMachine.state c.args.machine.now) c.args.requests.now c.keeps_whole.ensures

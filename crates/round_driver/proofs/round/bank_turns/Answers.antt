@@ -1,4 +1,4 @@
-use Rattle.std.proofs.Common.{◌≡◌, ◌<◌, ◌≤◌, sym, ap, ◌∙◌, arith}
+use Rattle.std.proofs.Common.{◌<◌, ◌≤◌, sym, ap, ◌∙◌, arith}
 use Rattle.round_driver.specs.Rounds.{course, bank_turns}
 use Rattle.round_driver.proofs.Turns.{bank_more, no_bank_left}
 use Rattle.round_driver.proofs.round.bank_turns.Goals as goal

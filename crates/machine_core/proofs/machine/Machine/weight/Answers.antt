@@ -2,8 +2,8 @@ use Rattle.std.proofs.Common.{◌≡◌, ◌+◌, ◌*◌, ◌≤◌, subst, sym
 use Rattle.machine_core.specs.Machine.{MachineState}
 use Rattle.machine_core.specs.Law.{most_weight, IsServed}
 use Rattle.machine_core.specs.Pump.{weight}
-use Rattle.machine_core.specs.Whole.{machine_of}
-use Rattle.machine_core.proofs.Whole.{is_served}
+use Rattle.machine_core.specs.Whole.{machine_of, IsWholeState}
+use Rattle.machine_core.proofs.Whole.{is_served, is_whole}
 use Rattle.machine_core.proofs.machine.Machine.weight.Goals as goal
 
 pub returns-clause-within : goal.returns-clause-within
@@ -14,3 +14,6 @@ returns-clause-within g c =
 
 pub returns-clause-served : goal.returns-clause-served
 returns-clause-served g c = subst (λ (s : MachineState). IsServed s.sizes s.machine) c.self.view_is (is_served c.self.invariant)
+
+pub returns-clause-whole : goal.returns-clause-whole
+returns-clause-whole g c = subst IsWholeState c.self.view_is (is_whole c.self.invariant)

@@ -1,0 +1,465 @@
+-- Every run of requests ends: among any latency + 1 rounds there is one in which the weight falls or a request ends.
+use Rattle.std.proofs.Common.{◌≡◌, ℕ, zero, suc, ◌+◌, ◌-◌, ◌*◌, ◌<◌, ◌≤◌, Bool, true, false, cond, not, ◌&&◌, nat_lt, List, [], ◌∷◌, ◌++◌, length, Option, Some, None, refl, sym, ap, ap₂, ◌∙◌, subst, arith, ◌⊎◌, inl, inr, ⊎_elim, lt-ltb, le-ltb, eq-eqb, mul-le-mul_right}
+use Rattle.std.specs.List.{list_all}
+use Rattle.std.proofs.lemmas.Bool.{and_parts, cases_lt}
+use Rattle.std.proofs.lemmas.List.{length-replicate}
+use Rattle.flat_model.specs.declared.Cause.{Cause}
+use Rattle.flat_model.specs.declared.Cause.TheVariants as cause
+use Rattle.flat_model.specs.declared.Event.{Event}
+use Rattle.flat_model.specs.declared.Event.TheVariants.{Load, Store, Prefetch, Evict, Drain, Serve, Arrive, Process, Take}
+use Rattle.flat_model.specs.declared.Answer.{Answer}
+use Rattle.flat_model.specs.declared.Answer.TheVariants.{Accepted, Moved, Value, Nothing, Refused}
+use Rattle.flat_model.specs.Words.{has_any}
+use Rattle.flat_model.specs.declared.Word.{Word}
+use Rattle.flat_model.specs.declared.Lanes.{Lanes}
+use Rattle.memory_banks.specs.Banks.{Bank, room_in}
+use Rattle.cache_unit.specs.Sound.{InRange}
+use Rattle.cache_unit.specs.State.{Sizes, Cache}
+use Rattle.cache_unit.specs.Causes.{load_cause, store_cause, prefetch_cause, evict_cause}
+use Rattle.cache_unit.specs.Steps.{Stepped, unless, load_step, store_step, prefetch_step, evict_step}
+use Rattle.cache_unit.proofs.Made.{all_same}
+use Rattle.machine_core.specs.Machine.{MachineState, apply, joined_with}
+use Rattle.machine_core.specs.Pump.{weight}
+use Rattle.machine_core.specs.Law.{serves_eviction, ServesRequests}
+use Rattle.machine_core.specs.Whole.{IsWholeState}
+use Rattle.machine_core.specs.AnyMachine.{answered, after_event, weight_of}
+use Rattle.machine_core.proofs.Contract.{bound_at_rest}
+use Rattle.machine_core.proofs.Whole.{lawful, roomy}
+use Rattle.machine_core.proofs.Weighing.{rests_or_waits}
+use Rattle.machine_core.proofs.Moving.{weighs_little, HasCommand, leaves_commands}
+use Rattle.round_driver.specs.Rounds.{Course, course, Run, is_end, ends, begun_at, next_round, moves, ask, asked, after_round, is_empty, is_over, rounds_until_over, opening, start_of, most_rounds, whole_run}
+use Rattle.round_driver.specs.Walks.{is_request, RequestsEnd}
+use Rattle.round_driver.proofs.Runs.{stays, goes, round_over}
+use Rattle.round_driver.proofs.Moves.{Waits, IsSteady, Move, Stands, NothingArrives, NoAnswers, steady_after, round_moves}
+
+-- ---- a request that isn't ended leaves the machine as it was
+
+refused_stays : (banks : List Bank) (c : Cache) (why : Option Cause) (step : Stepped) → step.answer ≡ Accepted → is_end (joined_with banks (unless why c step)).answer ≡ false → (joined_with banks (unless why c step)).machine ≡ record { cache = c; banks = banks }
+refused_stays banks c (Some why) step e h = refl
+refused_stays banks c None step e h = let yes : is_end step.answer ≡ true = ap is_end e in cc
+
+request_stays : (s : MachineState) (event : Event) → is_request event ≡ true → is_end (answered s event) ≡ false → after_event s event ≡ s
+unfolding answered after_event load_step store_step prefetch_step evict_step
+request_stays s event r h = ap (λ m. record { sizes = s.sizes; machine = m }) (go event r h)
+  where
+    rooms : ℕ → ℕ
+    rooms = room_in s.sizes.bank_queue s.machine.banks
+
+    go : (e : Event) → is_request e ≡ true → is_end (apply s.sizes s.machine e).answer ≡ false → (apply s.sizes s.machine e).machine ≡ s.machine
+    go (Load tag at) q k = refused_stays s.machine.banks s.machine.cache (load_cause s.sizes rooms s.machine.cache tag at) _ refl k
+    go (Store at word lanes) q k = refused_stays s.machine.banks s.machine.cache (store_cause s.sizes rooms s.machine.cache at lanes) _ refl k
+    go (Prefetch at) q k = refused_stays s.machine.banks s.machine.cache (prefetch_cause s.sizes rooms s.machine.cache at) _ refl k
+    go (Evict block) q k = refused_stays s.machine.banks s.machine.cache (evict_cause s.sizes s.machine.cache block) _ refl k
+    go Drain q k = cc
+    go (Serve bank) q k = cc
+    go (Arrive bank place) q k = cc
+    go (Process place) q k = cc
+    go (Take place) q k = cc
+
+-- ---- a request ends where nothing is on its way
+
+denied_ends : (banks : List Bank) (c : Cache) (why : Option Cause) (x : Cause) (step : Stepped) → is_end (Refused x) ≡ true → why ≡ Some x → is_end (joined_with banks (unless why c step)).answer ≡ true
+denied_ends banks c None x step e q = cc
+denied_ends banks c (Some y) x step e q = let same : y ≡ x = cc in ap (λ a. is_end (Refused a)) same ∙ e
+
+so : {X : Type 0} (b : Bool) (x y : X) → b ≡ true → cond b x y ≡ x
+so true x y e = refl
+so false x y e = cc
+
+not_so : {X : Type 0} (b : Bool) (x y : X) → b ≡ false → cond b x y ≡ y
+not_so false x y e = refl
+not_so true x y e = cc
+
+-- memory has no such word, or a store has no lane
+module _ (z : Sizes) (rooms : ℕ → ℕ) (c : Cache) (at : ℕ) where
+  outside : z.words ≤ at → not (nat_lt at z.words) ≡ true
+  outside l = ap not (le-ltb at z.words l)
+
+  load_outside : (tag : ℕ) → z.words ≤ at → load_cause z rooms c tag at ≡ Some cause.OutOfRange
+  unfolding load_cause
+  load_outside tag l = so _ (Some cause.OutOfRange) _ (outside l)
+
+  store_outside : (lanes : Lanes) → z.words ≤ at → store_cause z rooms c at lanes ≡ Some cause.OutOfRange
+  unfolding store_cause
+  store_outside lanes l = so _ (Some cause.OutOfRange) _ (outside l)
+
+  laneless : (lanes : Lanes) → at < z.words → has_any lanes ≡ false → store_cause z rooms c at lanes ≡ Some cause.NoLanes
+  unfolding store_cause
+  laneless lanes l e = not_so _ (Some cause.OutOfRange) _ (ap not (lt-ltb at z.words l)) ∙ so _ (Some cause.NoLanes) _ (ap not e)
+
+  prefetch_outside : z.words ≤ at → prefetch_cause z rooms c at ≡ Some cause.OutOfRange
+  unfolding prefetch_cause
+  prefetch_outside l = so _ (Some cause.OutOfRange) _ (outside l)
+
+eviction_ends : (answer : Answer) → serves_eviction answer ≡ true → is_end answer ≡ true
+eviction_ends Accepted e = refl
+eviction_ends Moved e = cc
+eviction_ends (Value tag word) e = cc
+eviction_ends Nothing e = cc
+eviction_ends (Refused cause.OutOfRange) e = refl
+eviction_ends (Refused cause.NoLanes) e = refl
+eviction_ends (Refused cause.NotPresent) e = refl
+eviction_ends (Refused cause.TagInUse) e = cc
+eviction_ends (Refused cause.RepliesFull) e = cc
+eviction_ends (Refused cause.TargetsFull) e = cc
+eviction_ends (Refused cause.BlockQueued) e = cc
+eviction_ends (Refused cause.NoRegister) e = cc
+eviction_ends (Refused cause.SetPending) e = cc
+eviction_ends (Refused cause.QueueFull) e = cc
+eviction_ends (Refused cause.BankFull) e = cc
+eviction_ends (Refused cause.StackFull) e = cc
+eviction_ends (Refused cause.StrayWord) e = cc
+
+module _ (s : MachineState) (whole : IsWholeState s) (rest : weight s.machine ≡ 0) where
+  served : ServesRequests s.sizes s.machine
+  served =
+      bound_at_rest s.sizes (lawful s.sizes whole.in_range) (roomy s.sizes whole.in_range) s.machine whole.sound whole.bounded rest
+
+  abbrev rooms_now : ℕ → ℕ
+  rooms_now = room_in s.sizes.bank_queue s.machine.banks
+
+  load_ends : (tag at : ℕ) → is_end (apply s.sizes s.machine (Load tag at)).answer ≡ true
+  unfolding load_step
+  load_ends tag at =
+      let c = s.machine.cache in
+      let why = load_cause s.sizes rooms_now c tag at in
+      let out = λ (l : s.sizes.words ≤ at). load_outside s.sizes rooms_now c at tag l in
+      let denied = denied_ends s.machine.banks c why cause.OutOfRange _ refl in
+      ⊎_elim (λ l. ap is_end (served.loads tag at l)) (λ l. denied (out l)) (cases_lt at s.sizes.words)
+
+  store_ends : (at : ℕ) (word : Word) (lanes : Lanes) → is_end (apply s.sizes s.machine (Store at word lanes)).answer ≡ true
+  unfolding store_step
+  store_ends at word lanes = ⊎_elim (λ l. by_lanes l (has_any lanes) refl) out (cases_lt at s.sizes.words)
+    where
+      why : Option Cause
+      why = store_cause s.sizes rooms_now s.machine.cache at lanes
+
+      ends_so : Type 0
+      ends_so = is_end (apply s.sizes s.machine (Store at word lanes)).answer ≡ true
+
+      denied : (x : Cause) → is_end (Refused x) ≡ true → why ≡ Some x → ends_so
+      denied x e q = denied_ends s.machine.banks s.machine.cache why x _ e q
+
+      out : s.sizes.words ≤ at → ends_so
+      out l = denied cause.OutOfRange refl (store_outside s.sizes rooms_now s.machine.cache at lanes l)
+
+      by_lanes : at < s.sizes.words → (any : Bool) → has_any lanes ≡ any → ends_so
+      by_lanes l true e = ap is_end (served.stores at word lanes l e)
+      by_lanes l false e = denied cause.NoLanes refl (laneless s.sizes rooms_now s.machine.cache at lanes l e)
+
+  prefetch_ends : (at : ℕ) → is_end (apply s.sizes s.machine (Prefetch at)).answer ≡ true
+  unfolding prefetch_step
+  prefetch_ends at =
+      let c = s.machine.cache in
+      let why = prefetch_cause s.sizes rooms_now c at in
+      let out = λ (l : s.sizes.words ≤ at). prefetch_outside s.sizes rooms_now c at l in
+      let denied = denied_ends s.machine.banks c why cause.OutOfRange _ refl in
+      ⊎_elim (λ l. ap is_end (served.prefetches at l)) (λ l. denied (out l)) (cases_lt at s.sizes.words)
+
+  pub request_ends : (event : Event) → is_request event ≡ true → is_end (answered s event) ≡ true
+  unfolding answered
+  request_ends (Load tag at) r = load_ends tag at
+  request_ends (Store at word lanes) r = store_ends at word lanes
+  request_ends (Prefetch at) r = prefetch_ends at
+  request_ends (Evict block) r = eviction_ends (apply s.sizes s.machine (Evict block)).answer (served.evictions block)
+  request_ends Drain r = cc
+  request_ends (Serve bank) r = cc
+  request_ends (Arrive bank place) r = cc
+  request_ends (Process place) r = cc
+  request_ends (Take place) r = cc
+
+-- a request leaves each bank its commands
+request_leaves : (event : Event) → is_request event ≡ true → (b : ℕ) → leaves_commands b event
+request_leaves (Load tag at) r b = tt
+request_leaves (Store at word lanes) r b = tt
+request_leaves (Prefetch at) r b = tt
+request_leaves (Evict block) r b = tt
+request_leaves Drain r b = cc
+request_leaves (Serve bank) r b = cc
+request_leaves (Arrive bank place) r b = cc
+request_leaves (Process place) r b = cc
+request_leaves (Take place) r b = cc
+
+-- ---- what a run may still take
+
+-- in rounds: latency + 1 for each move that the requests and the weight allow
+abbrev cost : Run → ℕ
+cost r = length r.left * (2625 * (r.schedule.latency + 1)) + weight r.state.machine * (r.schedule.latency + 1)
+
+-- nothing need move in the next d rounds at most: these are as many as a bank takes, or a bank is due then
+abbrev IsQuietFor : ℕ → Run → Type 0
+IsQuietFor d r =
+    (r.schedule.latency ≤ d) ⊎ ((b : ℕ) × (t : ℕ) × (b < r.state.sizes.banks) × (begun_at r.schedule b ≡ Some t) × (t + r.schedule.latency ≤ r.schedule.round + d + 1))
+
+record IsSound (r : Run) : Type 0 where
+  steady : IsSteady r.state r.schedule
+  requests : list_all is_request r.left ≡ true
+
+-- behind a round the run may take fewer rounds
+record Goes (d : ℕ) (r next : Run) : Type 0 where
+  sound : IsSound next
+  round : next.schedule.round ≡ r.schedule.round + 1
+  quiet : ℕ
+  is_quiet : IsQuietFor quiet next
+  cheaper : cost next + quiet < cost r + d
+
+module _ (d : ℕ) (r next : Run) (latency : next.schedule.latency ≡ r.schedule.latency) (round : next.schedule.round ≡ r.schedule.round + 1) (sound : IsSound next) where
+  -- the same requests, with less on its way
+  lighter : length next.left ≡ length r.left → weight next.state.machine < weight r.state.machine → Goes d r next
+  lighter as_many less =
+      let k = r.schedule.latency + 1 in
+      let fall : suc (weight next.state.machine) * k ≤ weight r.state.machine * k = mul-le-mul_right k less in
+      let left : length next.left * (2625 * (next.schedule.latency + 1)) ≡ length r.left * (2625 * k) = ap₂ (λ n l. n * (2625 * (l + 1))) as_many latency in
+      let moving : weight next.state.machine * (next.schedule.latency + 1) ≡ weight next.state.machine * k = ap (λ l. weight next.state.machine * (l + 1)) latency in
+      record {
+        sound = sound;
+        round = round;
+        quiet = r.schedule.latency;
+        is_quiet = inl (omega (arith, latency));
+        cheaper = omega (arith, fall, left, moving);
+      }
+
+  -- a request less
+  shorter : length r.left ≡ suc (length next.left) → Goes d r next
+  shorter fewer =
+      let k = r.schedule.latency + 1 in
+      let w = sound.steady.whole in
+      let little = weighs_little next.state.sizes next.state.machine w.in_range w.sound w.bounded in
+      let most : weight next.state.machine * k ≤ 2624 * k = mul-le-mul_right k little in
+      let left : length next.left * (2625 * (next.schedule.latency + 1)) ≡ length next.left * (2625 * k) = ap (λ l. length next.left * (2625 * (l + 1))) latency in
+      let before : length r.left * (2625 * k) ≡ suc (length next.left) * (2625 * k) = ap (λ n. n * (2625 * k)) fewer in
+      let moving : weight next.state.machine * (next.schedule.latency + 1) ≡ weight next.state.machine * k = ap (λ l. weight next.state.machine * (l + 1)) latency in
+      record {
+        sound = sound;
+        round = round;
+        quiet = r.schedule.latency;
+        is_quiet = inl (omega (arith, latency));
+        cheaper = omega (arith, most, left, before, moving);
+      }
+
+-- ---- a round
+
+-- where no move did anything, the machine rests or a bank has a command
+stands_waits : (c d : Course) → IsSteady d.state d.schedule → Stands c d → (weight d.state.machine ≡ 0) ⊎ HasCommand d.state.sizes d.state.machine
+stands_waits c d steady stands =
+    let z = d.state.sizes in
+    let rests = rests_or_waits z (lawful z range) (roomy z range) d.state.machine steady.whole.sound in
+    rests stands.taken stands.processed (none stands.arrived) stands.drained
+  where
+    range : InRange d.state.sizes
+    range = steady.whole.in_range
+
+    none : NothingArrives d.state → NoAnswers d.state
+    none (inr answers) = answers
+    none (inl full) =
+        let empty = ap length stands.processed in
+        let some = range.some_depth in
+        absurd (omega (arith, full, empty, some))
+
+-- the first course of the next round
+abbrev begun : Run → Course
+begun r = course r.state (next_round r.schedule) []
+
+begun_steady : (r : Run) → IsSound r → IsSteady r.state (next_round r.schedule)
+begun_steady r sound =
+    record {
+      whole = sound.steady.whole;
+      places = sound.steady.places;
+      busy = λ b t e. let before = sound.steady.busy b t e in let early = before.0 in (omega (arith, early), before.1);
+    }
+
+module _ (d : ℕ) (r : Run) (sound : IsSound r) (quiet : IsQuietFor d r) (next : Run) (move : Move (begun r) (moves (begun r)) (Stands (begun r) (moves (begun r)))) (state : next.state ≡ (moves (begun r)).state) (schedule : next.schedule ≡ (moves (begun r)).schedule) (as_many : length next.left ≡ length r.left) (next_sound : IsSound next) where
+  abbrev behind : Course
+  behind = moves (begun r)
+
+  round : next.schedule.round ≡ r.schedule.round + 1
+  round = ap (λ p. p.round) schedule ∙ move.round
+
+  latency : next.schedule.latency ≡ r.schedule.latency
+  latency = ap (λ p. p.latency) schedule ∙ move.latency
+
+  banks : next.state.sizes.banks ≡ r.state.sizes.banks
+  banks = ap (λ s. s.sizes.banks) state ∙ move.banks
+
+  -- a busy bank is due a round sooner
+  nearer : behind.state ≡ r.state → (b t : ℕ) → b < r.state.sizes.banks → begun_at behind.schedule b ≡ Some t → behind.schedule.round - t < behind.schedule.latency → t ≤ r.schedule.round + 1 → t + r.schedule.latency ≤ r.schedule.round + d + 1 ⊎ (r.schedule.latency ≤ d) → Goes d r next
+  nearer same b t there busy early begins due = go d refl due
+    where
+      go : (n : ℕ) → d ≡ n → (t + r.schedule.latency ≤ r.schedule.round + d + 1) ⊎ (r.schedule.latency ≤ d) → Goes d r next
+      go zero e (inl l) = let a = move.round in let c = move.latency in absurd (omega (arith, e, l, early, a, c))
+      go zero e (inr l) = let c = move.latency in absurd (omega (arith, e, l, early, c))
+      go (suc n) e o = later (sooner o)
+        where
+          sooner : (t + r.schedule.latency ≤ r.schedule.round + d + 1) ⊎ (r.schedule.latency ≤ d) → t + r.schedule.latency ≤ r.schedule.round + d + 1
+          sooner (inl l) = l
+          sooner (inr l) = omega (arith, l, begins)
+
+          later : t + r.schedule.latency ≤ r.schedule.round + d + 1 → Goes d r next
+          later l =
+              let still : begun_at next.schedule b ≡ Some t = ap (λ p. begun_at p b) schedule ∙ busy in
+              let weighs : weight next.state.machine ≡ weight r.state.machine = ap (λ s. weight s.machine) (state ∙ same) in
+              let cost_same : cost next ≡ cost r = ap₂ (λ n k. n * (2625 * (next.schedule.latency + 1)) + k * (next.schedule.latency + 1)) as_many weighs ∙ ap (λ k. length r.left * (2625 * (k + 1)) + weight r.state.machine * (k + 1)) latency in
+              record {
+                sound = next_sound;
+                round = round;
+                quiet = n;
+                is_quiet = inr (b, t, omega (arith, there, banks), still, omega (arith, l, e, round, latency));
+                cheaper = omega (arith, cost_same, e);
+              }
+
+  -- where no move did anything, a bank is busy, and comes nearer to its service
+  stood : behind.state ≡ r.state → Stands (begun r) behind → (weight behind.state.machine ≡ 0 → ⊥) → Goes d r next
+  stood same stands busy = go quiet
+    where
+      long_quiet : r.schedule.latency ≤ d → (weight behind.state.machine ≡ 0) ⊎ HasCommand behind.state.sizes behind.state.machine → Goes d r next
+      long_quiet enough (inl rest) = absurd (busy rest)
+      long_quiet enough (inr x) =
+          let l = x.1 in
+          let sizes = ap (λ s. s.sizes.banks) same in
+          let there : x.0 < r.state.sizes.banks = omega (arith, l, sizes) in
+          let begins = stands.begins x.0 there (subst (λ s. Waits s x.0) same x.2) in
+          let early = (move.steady.busy x.0 begins.0 begins.1).0 in
+          let time = move.round in
+          nearer same x.0 begins.0 there begins.1 begins.2 (omega (arith, early, time)) (inr enough)
+
+      go : IsQuietFor d r → Goes d r next
+      go (inl enough) = long_quiet enough (stands_waits (begun r) behind move.steady stands)
+      go (inr x) =
+          let before = sound.steady.busy x.0 x.1 x.3 in
+          let early = before.0 in
+          let still = stands.kept x.0 x.1 x.3 in
+          let begins = stands.begins x.0 x.2 before.1 in
+          let is : Some begins.0 ≡ Some x.1 = sym begins.1 ∙ still in
+          let time : begins.0 ≡ x.1 = cc in
+          let not_due = subst (λ t. behind.schedule.round - t < behind.schedule.latency) time begins.2 in
+          nearer same x.0 x.1 x.2 still not_due (omega (arith, early)) (inl x.4)
+
+  goes_on : (behind.state ≡ r.state → weight behind.state.machine ≡ 0 → ⊥) → Goes d r next
+  goes_on busy = go move.lighter
+    where
+      go : (weight behind.state.machine < weight r.state.machine) ⊎ ((behind.state ≡ r.state) × Stands (begun r) behind) → Goes d r next
+      go (inl less) =
+          let weighs = ap (λ s. weight s.machine) state in
+          lighter d r next latency round next_sound as_many (omega (arith, less, weighs))
+      go (inr x) = stood x.0 x.1 (busy x.0)
+
+-- a run that isn't over takes fewer rounds behind the next one
+round_goes : (d : ℕ) (r : Run) → IsSound r → IsQuietFor d r → is_over r ≡ false → Goes d r (after_round r)
+unfolding after_round ask weight_of
+round_goes d r sound quiet going = go r.left refl sound.requests
+  where
+    behind : Course
+    behind = moves (begun r)
+
+    move : Move (begun r) behind (Stands (begun r) behind)
+    move = round_moves (begun r) (begun_steady r sound)
+
+    over : r.left ≡ [] → behind.state ≡ r.state → weight behind.state.machine ≡ 0 → ⊥
+    over e same rest =
+        let light : weight r.state.machine ≡ 0 = sym (ap (λ s. weight s.machine) same) ∙ rest in
+        let yes : is_over r ≡ true = ap₂ (λ a b. a && b) (ap is_empty e) (eq-eqb (weight r.state.machine) 0 light) in
+        cc
+
+    next : Event → List Event → Bool → Run
+    next event rest b =
+        record {
+          state = after_event behind.state event;
+          schedule = behind.schedule;
+          left = cond b rest (event ∷ rest);
+          told = r.told ++ (ask event behind).notes;
+        }
+
+    steady_then : (event : Event) → ((b : ℕ) → leaves_commands b event) → IsSteady (after_event behind.state event) behind.schedule
+    steady_then event leaves = steady_after event behind.state behind.schedule move.steady leaves
+
+    asks : (event : Event) (rest : List Event) → r.left ≡ event ∷ rest → is_request event ≡ true → list_all is_request rest ≡ true → (b : Bool) → ends event behind ≡ b → Goes d r (next event rest b)
+    asks event rest e request requests true h =
+        let sound : IsSound (next event rest true) = record { steady = steady_then event (request_leaves event request); requests = requests } in
+        shorter d r (next event rest true) move.latency move.round sound (ap length e)
+    asks event rest e request requests false h =
+        let same : after_event behind.state event ≡ behind.state = request_stays behind.state event request h in
+        let all : list_all is_request (event ∷ rest) ≡ true = ap₂ (λ a b. a && b) request requests in
+        let next_sound : IsSound (next event rest false) = record { steady = steady_then event (request_leaves event request); requests = all } in
+        let busy = λ (stood : behind.state ≡ r.state) (light : weight behind.state.machine ≡ 0). ended event (request_ends behind.state move.steady.whole light event request) h in
+        goes_on d r sound quiet (next event rest false) move same refl (sym (ap length e)) next_sound busy
+      where
+        ended : (event : Event) → is_end (answered behind.state event) ≡ true → ends event behind ≡ false → ⊥
+        ended event ends_so not_so_here = cc
+
+    go : (left : List Event) → r.left ≡ left → list_all is_request r.left ≡ true → Goes d r (asked r.told left behind)
+    go [] e requests =
+        let last : IsSound (asked r.told [] behind) = record { steady = move.steady; requests = refl } in
+        goes_on d r sound quiet (asked r.told [] behind) move refl refl (sym (ap length e)) last (over e)
+    go (event ∷ rest) e requests =
+        let parts = and_parts (is_request event) (list_all is_request rest) (sym (ap (list_all is_request) e) ∙ requests) in
+        asks event rest e parts.0 parts.1 (ends event behind) refl
+
+-- ---- whole runs
+
+-- after n rounds the run is over, and took no more than these
+record IsOverWithin (n : ℕ) (r : Run) : Type 0 where
+  over : is_over (rounds_until_over n r) ≡ true
+  in_time : (rounds_until_over n r).schedule.round ≤ r.schedule.round + n
+
+over_now : (n : ℕ) (r : Run) → is_over r ≡ true → IsOverWithin n r
+over_now n r e =
+    let same = ap (λ q. q.schedule.round) (stays n r e) in
+    record { over = ap is_over (stays n r e) ∙ e; in_time = omega (arith, same) }
+
+over_within : (n d : ℕ) (r : Run) → IsSound r → IsQuietFor d r → cost r + d ≤ n → IsOverWithin n r
+over_within zero d r sound quiet few = go (is_over r) refl
+  where
+    go : (b : Bool) → is_over r ≡ b → IsOverWithin 0 r
+    go true e = over_now 0 r e
+    go false e = let more = (round_goes d r sound quiet e).cheaper in absurd (omega (arith, more, few))
+over_within (suc n) d r sound quiet few =
+    go (λ q next is_quiet fewer. over_within n q (after_round r) next is_quiet fewer) (is_over r) refl
+  where
+    go : ((q : ℕ) → IsSound (after_round r) → IsQuietFor q (after_round r) → cost (after_round r) + q ≤ n → IsOverWithin n (after_round r)) → (b : Bool) → is_over r ≡ b → IsOverWithin (suc n) r
+    go later true e = over_now (suc n) r e
+    go later false e =
+        let more = round_goes d r sound quiet e in
+        let cheaper = more.cheaper in
+        let round = more.round in
+        let rest = later more.quiet more.sound more.is_quiet (omega (arith, cheaper, few)) in
+        let same = ap (λ q. q.schedule.round) (goes n r e) in
+        let in_time = rest.in_time in
+        record { over = ap is_over (goes n r e) ∙ rest.over; in_time = omega (arith, same, in_time, round) }
+
+pub requests_end : (latency : ℕ) (s : MachineState) (requests : List Event) → IsWholeState s → RequestsEnd latency s requests
+requests_end latency s requests whole all =
+    let rest = over_within most latency start sound (inl (omega arith)) few in
+    let same : whole_run latency s requests ≡ rounds_until_over most start = round_over most (most_rounds latency (length requests)) start (omega (arith, below)) rest.over in
+    let round = ap (λ r. r.schedule.round) same in
+    let in_time = rest.in_time in
+    record { over = ap is_over same ∙ rest.over; in_time = omega (arith, round, in_time, below) }
+  where
+    start : Run
+    start = start_of latency s requests
+
+    -- a round less than there may be
+    most : ℕ
+    most = most_rounds latency (length requests) - 1
+
+    idle : Option ℕ
+    idle = None
+
+    sound : IsSound start
+    sound =
+        record {
+          steady = record {
+            whole = whole;
+            places = length-replicate 16 idle;
+            busy = λ b t e. let none : begun_at (opening latency) b ≡ None = all_same 16 b idle in cc;
+          };
+          requests = all;
+        }
+
+    little : weight s.machine * (latency + 1) ≤ 2624 * (latency + 1)
+    little = mul-le-mul_right (latency + 1) (weighs_little s.sizes s.machine whole.in_range whole.sound whole.bounded)
+
+    below : most < most_rounds latency (length requests)
+    below = let l = little in omega (arith, l)
+
+    few : cost start + latency ≤ most
+    few = let l = little in omega (arith, l)

@@ -1,0 +1,514 @@
+-- The moves of a round: one of them lowers the weight, or all leave the machine as it was, and show why.
+use Rattle.std.proofs.Common.{◌≡◌, ℕ, zero, suc, ◌+◌, ◌-◌, ◌<◌, ◌≤◌, Bool, true, false, cond, not, ◌&&◌, nat_lt, List, [], ◌∷◌, length, get_or, Option, Some, None, is_none, refl, sym, ap, ◌∙◌, subst, arith, ◌⊎◌, inl, inr, ⊎_elim, length-set, get_or-set_same, get_or-set_other, ltb-true}
+use Rattle.std.specs.Option.{option_or}
+use Rattle.std.proofs.lemmas.Bool.{cases_eq, cases_lt, ltb-false}
+use Rattle.std.proofs.lemmas.List.{get_or_past}
+use Rattle.flat_model.specs.declared.Event.{Event}
+use Rattle.flat_model.specs.declared.Event.TheVariants.{Drain, Serve, Arrive, Process, Take}
+use Rattle.memory_banks.specs.declared.BankAnswer.{BankAnswer}
+use Rattle.memory_banks.specs.Banks.{bank_at, no_bank}
+use Rattle.machine_core.specs.Machine.{MachineState, apply}
+use Rattle.machine_core.specs.Pump.{weight, has_items}
+use Rattle.machine_core.specs.Law.{IsLawful, HasRoom}
+use Rattle.machine_core.specs.Whole.{IsWholeState}
+use Rattle.machine_core.specs.AnyMachine.{after_event}
+use Rattle.machine_core.proofs.Contract.{sound_apply, bounded_apply}
+use Rattle.machine_core.proofs.Whole.{lawful, roomy}
+use Rattle.machine_core.proofs.Weighing.{arrive_lowers}
+use Rattle.machine_core.proofs.Moving.{FallsOr, HasCommand, take_falls, process_falls, serve_falls, drain_falls, leaves_commands, command_waits}
+use Rattle.round_driver.specs.declared.schedule.Schedule.{Schedule}
+use Rattle.round_driver.specs.Machines.{has_command, has_answer, has_stack_room}
+use Rattle.round_driver.specs.Rounds.{Course, scheduled, begun_at, with_begun, is_due_since, attempt, begin, serve_due, bank_turns, first_with_answer, next_with_answer, arrive_from, arrive, moves}
+
+-- ---- where a run stands
+
+-- a command waits at a bank
+abbrev pub Waits : MachineState → ℕ → Type 0
+Waits s b = has_items (bank_at s.machine.banks b).queue ≡ true
+
+-- the machine is whole, and each busy bank has the command that it began
+pub record IsSteady (s : MachineState) (p : Schedule) : Type 0 where
+  pub whole : IsWholeState s
+  pub places : length p.begun ≡ 16
+  pub busy : (b t : ℕ) → begun_at p b ≡ Some t → (t ≤ p.round) × Waits s b
+
+abbrev Steady : Course → Type 0
+Steady c = IsSteady c.state c.schedule
+
+abbrev law : (s : MachineState) → IsWholeState s → IsLawful s.sizes
+law s whole = lawful s.sizes whole.in_range
+
+abbrev room : (s : MachineState) → IsWholeState s → HasRoom s.sizes
+room s whole = roomy s.sizes whole.in_range
+
+whole_after : (s : MachineState) (event : Event) → IsWholeState s → IsWholeState (after_event s event)
+unfolding after_event
+whole_after s event h =
+    record {
+      in_range = h.in_range;
+      sound = sound_apply s.sizes (law s h) s.machine h.sound event;
+      bounded = bounded_apply s.sizes (law s h) s.machine h.sound h.bounded event;
+    }
+
+-- an event that leaves the banks their commands
+pub steady_after : (event : Event) (s : MachineState) (p : Schedule) → IsSteady s p → ((b : ℕ) → leaves_commands b event) → IsSteady (after_event s event) p
+unfolding after_event
+steady_after event s p steady leaves =
+    record {
+      whole = whole_after s event steady.whole;
+      places = steady.places;
+      busy = λ b t e. let before = steady.busy b t e in (before.0, command_waits s.sizes s.machine b event (leaves b) before.1);
+    }
+
+-- ---- from one course to the next
+
+abbrev weighs : MachineState → ℕ
+weighs s = weight s.machine
+
+-- the weight falls, or the machine stays and this is so
+abbrev Lighter : Course → Course → Type 0 → Type 0
+Lighter c d why = (weighs d.state < weighs c.state) ⊎ ((d.state ≡ c.state) × why)
+
+-- some moves: the run stays steady, and its weight falls or they show why it doesn't
+pub record Move (c d : Course) (why : Type 0) : Type 0 where
+  pub steady : IsSteady d.state d.schedule
+  pub round : d.schedule.round ≡ c.schedule.round
+  pub latency : d.schedule.latency ≡ c.schedule.latency
+  pub banks : d.state.sizes.banks ≡ c.state.sizes.banks
+  pub lighter : (weight d.state.machine < weight c.state.machine) ⊎ ((d.state ≡ c.state) × why)
+
+-- two moves, one after the other
+then : {F G H : Type 0} (c d e : Course) → Move c d F → Move d e G → (F → G → d.state ≡ c.state → e.state ≡ d.state → H) → Move c e H
+then {F} {G} {H} c d e first second both =
+    record {
+      steady = second.steady;
+      round = second.round ∙ first.round;
+      latency = second.latency ∙ first.latency;
+      banks = second.banks ∙ first.banks;
+      lighter = go first.lighter second.lighter;
+    }
+  where
+    go : Lighter c d F → Lighter d e G → Lighter c e H
+    go (inl p) (inl q) = inl (omega (arith, p, q))
+    go (inl p) (inr q) = let same = ap weighs q.0 in inl (omega (arith, p, same))
+    go (inr p) (inl q) = let same = ap weighs p.0 in inl (omega (arith, q, same))
+    go (inr p) (inr q) = inr (q.0 ∙ p.0, both p.1 q.1 p.0 q.0)
+
+-- ---- the banks
+
+begun-same : (p : Schedule) (b : ℕ) (o : Option ℕ) → b < length p.begun → begun_at (with_begun p b o) b ≡ o
+begun-same p b o l = get_or-set_same p.begun b o None l
+
+begun-other : (p : Schedule) (b k : ℕ) (o : Option ℕ) → (k ≡ b → ⊥) → begun_at (with_begun p b o) k ≡ begun_at p k
+begun-other p b k o apart = get_or-set_other p.begun b k o None apart
+
+-- behind its begin a bank that has a command is busy
+record Begun (b : ℕ) (c d : Course) : Type 0 where
+  steady : IsSteady d.state d.schedule
+  state : d.state ≡ c.state
+  round : d.schedule.round ≡ c.schedule.round
+  latency : d.schedule.latency ≡ c.schedule.latency
+  kept : (k t : ℕ) → begun_at c.schedule k ≡ Some t → begun_at d.schedule k ≡ Some t
+  begins : Waits c.state b → (t : ℕ) × (begun_at d.schedule b ≡ Some t)
+
+begun : (b : ℕ) (c : Course) → Steady c → b < 16 → Begun b c (begin b c)
+unfolding begin has_command
+begun b c steady few = go (begun_at c.schedule b) refl (has_items (bank_at c.state.machine.banks b).queue) refl
+  where
+    now : Course
+    now = scheduled (with_begun c.schedule b (Some c.schedule.round)) c
+
+    there : b < length c.schedule.begun
+    there = let n = steady.places in omega (arith, few, n)
+
+    idle : begun_at c.schedule b ≡ None → (k t : ℕ) → begun_at c.schedule k ≡ Some t → k ≡ b → ⊥
+    idle none k t e q = let same : begun_at c.schedule b ≡ Some t = ap (begun_at c.schedule) (sym q) ∙ e in cc
+
+    starts : begun_at c.schedule b ≡ None → Waits c.state b → Begun b c now
+    starts none waits =
+        record {
+          steady = record {
+            whole = steady.whole;
+            places = length-set c.schedule.begun b (Some c.schedule.round) ∙ steady.places;
+            busy = λ k t e. ⊎_elim (λ q. here k t q e) (λ apart. steady.busy k t (sym (other k apart) ∙ e)) (cases_eq k b);
+          };
+          state = refl;
+          round = refl;
+          latency = refl;
+          kept = λ k t e. other k (idle none k t e) ∙ e;
+          begins = λ w. (c.schedule.round, begun-same c.schedule b (Some c.schedule.round) there);
+        }
+      where
+        other : (k : ℕ) → (k ≡ b → ⊥) → begun_at now.schedule k ≡ begun_at c.schedule k
+        other k apart = begun-other c.schedule b k (Some c.schedule.round) apart
+
+        here : (k t : ℕ) → k ≡ b → begun_at now.schedule k ≡ Some t → (t ≤ c.schedule.round) × Waits c.state k
+        here k t q e =
+            let is : Some c.schedule.round ≡ Some t = sym (begun-same c.schedule b (Some c.schedule.round) there) ∙ ap (begun_at now.schedule) (sym q) ∙ e in
+            let same : c.schedule.round ≡ t = cc in
+            (omega (arith, same), subst (Waits c.state) (sym q) waits)
+
+    stays : (Waits c.state b → (t : ℕ) × (begun_at c.schedule b ≡ Some t)) → Begun b c c
+    stays begins = record { steady = steady; state = refl; round = refl; latency = refl; kept = λ k t e. e; begins = begins }
+
+    go : (o : Option ℕ) → begun_at c.schedule b ≡ o → (h : Bool) → has_items (bank_at c.state.machine.banks b).queue ≡ h → Begun b c (cond (is_none o && h) now c)
+    go (Some t) e h q = stays (λ w. (t, e))
+    go None e true q = starts e q
+    go None e false q = stays (λ w. cc)
+
+-- a command that isn't due yet
+abbrev NotDue : Course → ℕ → Type 0
+NotDue c t = c.schedule.round - t < c.schedule.latency
+
+-- behind its turn a busy bank has served its command, or it isn't due
+abbrev ServedOrNot : ℕ → Course → Course → Type 0
+ServedOrNot b c d = (d.schedule.begun ≡ c.schedule.begun) × ((t : ℕ) → begun_at c.schedule b ≡ Some t → NotDue c t)
+
+serves : (b : ℕ) (c : Course) → Steady c → b < c.state.sizes.banks → Move c (serve_due b c) (ServedOrNot b c (serve_due b c))
+unfolding serve_due attempt after_event
+serves b c steady there = go (begun_at c.schedule b) refl
+  where
+    ended : Course
+    ended = attempt (Serve b) (scheduled (with_begun c.schedule b None) c)
+
+    stays : ((t : ℕ) → begun_at c.schedule b ≡ Some t → NotDue c t) → Move c c (ServedOrNot b c c)
+    stays early = record { steady = steady; round = refl; latency = refl; banks = refl; lighter = inr (refl, (refl, early)) }
+
+    ends : (t : ℕ) → begun_at c.schedule b ≡ Some t → Move c ended (ServedOrNot b c ended)
+    ends t e =
+        record {
+          steady = record {
+            whole = whole_after c.state (Serve b) steady.whole;
+            places = length-set c.schedule.begun b None ∙ steady.places;
+            busy = λ k u f. ⊎_elim (λ q. none k u q f) (λ apart. other k u apart f) (cases_eq k b);
+          };
+          round = refl;
+          latency = refl;
+          banks = refl;
+          lighter = inl falls;
+        }
+      where
+        within : b < length c.schedule.begun
+        within = let n = steady.places in let few = steady.whole.in_range.few_banks in omega (arith, there, n, few)
+
+        none : (k u : ℕ) → k ≡ b → begun_at (with_begun c.schedule b None) k ≡ Some u → (u ≤ c.schedule.round) × Waits (after_event c.state (Serve b)) k
+        none k u q f =
+            let is : None ≡ Some u = sym (begun-same c.schedule b None within) ∙ ap (begun_at (with_begun c.schedule b None)) (sym q) ∙ f in
+            cc
+
+        falls : weight (after_event c.state (Serve b)).machine < weight c.state.machine
+        falls =
+            let w = steady.whole in
+            let waits = (steady.busy b t e).1 in
+            serve_falls c.state.sizes (law c.state w) (room c.state w) c.state.machine w.sound b there waits
+
+        other : (k u : ℕ) → (k ≡ b → ⊥) → begun_at (with_begun c.schedule b None) k ≡ Some u → (u ≤ c.schedule.round) × Waits (after_event c.state (Serve b)) k
+        other k u apart f =
+            let before = steady.busy k u (sym (begun-other c.schedule b k None apart) ∙ f) in
+            (before.0, command_waits c.state.sizes c.state.machine k (Serve b) apart before.1)
+
+    due : (t : ℕ) → begun_at c.schedule b ≡ Some t → (early : Bool) → nat_lt (c.schedule.round - t) c.schedule.latency ≡ early → Move c (cond (not early) ended c) (ServedOrNot b c (cond (not early) ended c))
+    due t e true q =
+        stays (λ u f. let same : t ≡ u = cc in subst (NotDue c) same (ltb-true (c.schedule.round - t) c.schedule.latency q))
+    due t e false q = ends t e
+
+    go : (o : Option ℕ) → begun_at c.schedule b ≡ o → Move c (cond (is_due_since c.schedule o) ended c) (ServedOrNot b c (cond (is_due_since c.schedule o) ended c))
+    go None e = stays (λ t f. cc)
+    go (Some t) e = due t e (nat_lt (c.schedule.round - t) c.schedule.latency) refl
+
+-- n banks from this one on had their turns and served nothing: each that has a command is busy, and not due
+pub record Turned (from n : ℕ) (c d : Course) : Type 0 where
+  pub kept : (b t : ℕ) → begun_at c.schedule b ≡ Some t → begun_at d.schedule b ≡ Some t
+  pub begins : (b : ℕ) → from ≤ b → b < from + n → Waits c.state b → (t : ℕ) × (begun_at d.schedule b ≡ Some t) × (d.schedule.round - t < d.schedule.latency)
+
+abbrev AllTurns : ℕ → ℕ → Course → Type 0
+AllTurns n b c = Move c (bank_turns n b c) (Turned b n c (bank_turns n b c))
+
+-- one bank's turn, and then those of the banks behind it
+turn_then : (n b : ℕ) (c : Course) → Steady c → b + suc n ≡ c.state.sizes.banks → (Steady (serve_due b (begin b c)) → b + 1 + n ≡ (serve_due b (begin b c)).state.sizes.banks → AllTurns n (b + 1) (serve_due b (begin b c))) → AllTurns (suc n) b c
+unfolding bank_turns
+turn_then n b c steady all later = then c e f first rest both
+  where
+    there : b < c.state.sizes.banks
+    there = omega (arith, all)
+
+    begins : Begun b c (begin b c)
+    begins = begun b c steady (let few = steady.whole.in_range.few_banks in omega (arith, there, few))
+
+    d : Course
+    d = begin b c
+
+    e : Course
+    e = serve_due b d
+
+    f : Course
+    f = bank_turns n (b + 1) e
+
+    sizes : d.state.sizes.banks ≡ c.state.sizes.banks
+    sizes = ap (λ s. s.sizes.banks) begins.state
+
+    serving : Move d e (ServedOrNot b d e)
+    serving = serves b d begins.steady (omega (arith, there, sizes))
+
+    first : Move c e (ServedOrNot b d e)
+    first =
+        record {
+          steady = serving.steady;
+          round = serving.round ∙ begins.round;
+          latency = serving.latency ∙ begins.latency;
+          banks = serving.banks ∙ sizes;
+          lighter = go serving.lighter;
+        }
+      where
+        go : Lighter d e (ServedOrNot b d e) → Lighter c e (ServedOrNot b d e)
+        go (inl p) = let same = ap weighs begins.state in inl (omega (arith, p, same))
+        go (inr p) = inr (p.0 ∙ begins.state, p.1)
+
+    rest : Move e f (Turned (b + 1) n e f)
+    rest = later first.steady (let same = first.banks in omega (arith, all, same))
+
+    both : ServedOrNot b d e → Turned (b + 1) n e f → e.state ≡ c.state → f.state ≡ e.state → Turned b (suc n) c f
+    both served turned same stayed =
+        record {
+          kept = λ k t h. turned.kept k t (still k ∙ begins.kept k t h);
+          begins = λ k lo hi w. ⊎_elim (λ q. here k q w) (λ apart. there_too k lo hi apart w) (cases_eq k b);
+        }
+      where
+        still : (k : ℕ) → begun_at e.schedule k ≡ begun_at d.schedule k
+        still k = ap (λ l. get_or l k None) served.0
+
+        there_too : (k : ℕ) → b ≤ k → k < b + suc n → (k ≡ b → ⊥) → Waits c.state k → (t : ℕ) × (begun_at f.schedule k ≡ Some t) × (f.schedule.round - t < f.schedule.latency)
+        there_too k lo hi apart w =
+            let waits = subst (λ s. Waits s k) (sym same) w in
+            turned.begins k (omega (arith, lo, apart)) (omega (arith, hi)) waits
+
+        here : (k : ℕ) → k ≡ b → Waits c.state k → (t : ℕ) × (begun_at f.schedule k ≡ Some t) × (f.schedule.round - t < f.schedule.latency)
+        here k q w =
+            let at = begins.begins (subst (Waits c.state) q w) in
+            let early = served.1 at.0 at.1 in
+            let round = rest.round ∙ serving.round in
+            let latency = rest.latency ∙ serving.latency in
+            let busy : begun_at f.schedule b ≡ Some at.0 = turned.kept b at.0 (still b ∙ at.1) in
+            (at.0, ap (begun_at f.schedule) q ∙ busy, omega (arith, early, round, latency))
+
+turns : (n b : ℕ) (c : Course) → Steady c → b + n ≡ c.state.sizes.banks → AllTurns n b c
+unfolding bank_turns
+turns zero b c steady all =
+    record {
+      steady = steady;
+      round = refl;
+      latency = refl;
+      banks = refl;
+      lighter = inr (refl, record { kept = λ k t e. e; begins = λ k lo hi w. absurd (omega (arith, lo, hi)) });
+    }
+turns (suc n) b c steady all = turn_then n b c steady all (λ s a. turns n (b + 1) (serve_due b (begin b c)) s a)
+
+-- ---- one arrival
+
+answer_there : (s : MachineState) (n b k : ℕ) → first_with_answer s n b ≡ Some k → has_answer s k ≡ true
+unfolding first_with_answer
+answer_there s zero b k e = cc
+answer_there s (suc n) b k e = go (has_answer s b) refl (answer_there s n (b + 1) k) e
+  where
+    go : (h : Bool) → has_answer s b ≡ h → (first_with_answer s n (b + 1) ≡ Some k → has_answer s k ≡ true) → cond h (Some b) (first_with_answer s n (b + 1)) ≡ Some k → has_answer s k ≡ true
+    go true q later r = let same : b ≡ k = cc in ap (has_answer s) (sym same) ∙ q
+    go false q later r = later r
+
+no_answer : (s : MachineState) (n b k : ℕ) → first_with_answer s n b ≡ None → b ≤ k → k < b + n → has_answer s k ≡ false
+unfolding first_with_answer
+no_answer s zero b k e lo hi = absurd (omega (arith, lo, hi))
+no_answer s (suc n) b k e lo hi = go (has_answer s b) refl (no_answer s n (b + 1) k) e
+  where
+    go : (h : Bool) → has_answer s b ≡ h → (first_with_answer s n (b + 1) ≡ None → b + 1 ≤ k → k < b + 1 + n → has_answer s k ≡ false) → cond h (Some b) (first_with_answer s n (b + 1)) ≡ None → has_answer s k ≡ false
+    go true q later r = cc
+    go false q later r =
+        ⊎_elim (λ same. ap (has_answer s) same ∙ q) (λ apart. later r (omega (arith, lo, apart)) (omega (arith, hi))) (cases_eq k b)
+
+-- no bank has an answer
+abbrev pub NoAnswers : MachineState → Type 0
+NoAnswers s = (b : ℕ) → b < s.sizes.banks → (bank_at s.machine.banks b).answers ≡ []
+
+next_there : (s : MachineState) (next k : ℕ) → next_with_answer s next ≡ Some k → has_answer s k ≡ true
+next_there s next k e = go (first_with_answer s (s.sizes.banks - next) next) refl e
+  where
+    go : (o : Option ℕ) → first_with_answer s (s.sizes.banks - next) next ≡ o → option_or o (first_with_answer s next 0) ≡ Some k → has_answer s k ≡ true
+    go (Some b) q r = answer_there s (s.sizes.banks - next) next k (q ∙ r)
+    go None q r = answer_there s next 0 k r
+
+none_left : {X : Type 0} (xs : List X) → has_items xs ≡ false → xs ≡ []
+none_left [] e = refl
+none_left (x ∷ xs) e = cc
+
+nowhere : (s : MachineState) (next : ℕ) → next_with_answer s next ≡ None → NoAnswers s
+unfolding has_answer
+nowhere s next e b l = go (first_with_answer s (s.sizes.banks - next) next) refl e
+  where
+    go : (o : Option ℕ) → first_with_answer s (s.sizes.banks - next) next ≡ o → option_or o (first_with_answer s next 0) ≡ None → (bank_at s.machine.banks b).answers ≡ []
+    go (Some k) q r = cc
+    go None q r =
+        let before = λ (h : b < next). no_answer s next 0 b r (omega arith) (omega (arith, h)) in
+        let behind = λ (h : next ≤ b). no_answer s (s.sizes.banks - next) next b q h (omega (arith, h, l)) in
+        none_left (bank_at s.machine.banks b).answers (⊎_elim before behind (cases_lt b next))
+
+-- the stack is full, or there is nothing to arrive
+abbrev pub NothingArrives : MachineState → Type 0
+NothingArrives s = (s.sizes.depth ≤ length s.machine.cache.stack) ⊎ NoAnswers s
+
+-- the schedule's banks stand as they did, and this is so of the machine
+abbrev Shows : Course → Course → (MachineState → Type 0) → Type 0
+Shows c d why = (d.schedule.begun ≡ c.schedule.begun) × why d.state
+
+attempt_steady : (event : Event) (c : Course) → Steady c → ((b : ℕ) → leaves_commands b event) → Steady (attempt event c)
+unfolding attempt
+attempt_steady event c steady leaves = steady_after event c.state c.schedule steady leaves
+
+arrives : (c : Course) → Steady c → Move c (arrive c) (Shows c (arrive c) NothingArrives)
+unfolding arrive has_stack_room has_answer attempt after_event
+arrives c steady = go (nat_lt (length c.state.machine.cache.stack) c.state.sizes.depth) refl
+  where
+    stays : NothingArrives c.state → Move c c (Shows c c NothingArrives)
+    stays why = record { steady = steady; round = refl; latency = refl; banks = refl; lighter = inr (refl, (refl, why)) }
+
+    comes : length c.state.machine.cache.stack < c.state.sizes.depth → (b : ℕ) → has_answer c.state b ≡ true → Move c (arrive_from (Some b) c) (Shows c (arrive_from (Some b) c) NothingArrives)
+    comes room_left b some =
+        record {
+          steady = attempt_steady (Arrive b 0) behind same (λ k. tt);
+          round = refl;
+          latency = refl;
+          banks = refl;
+          lighter = inl (falls (bank_at c.state.machine.banks b).answers refl);
+        }
+      where
+        behind : Course
+        behind = scheduled (record c.schedule { next = b + 1 }) c
+
+        same : Steady behind
+        same = record { whole = steady.whole; places = steady.places; busy = steady.busy }
+
+        falls : (answers : List BankAnswer) → (bank_at c.state.machine.banks b).answers ≡ answers → weight (apply c.state.sizes c.state.machine (Arrive b 0)).machine < weight c.state.machine
+        falls [] e = let none : has_items (bank_at c.state.machine.banks b).answers ≡ false = ap has_items e in cc
+        falls (a ∷ rest) e =
+            let w = steady.whole in
+            let within = there (cases_lt b (length c.state.machine.banks)) in
+            arrive_lowers c.state.sizes (law c.state w) (room c.state w) c.state.machine w.sound b a rest within e room_left
+          where
+            there : (b < length c.state.machine.banks) ⊎ (length c.state.machine.banks ≤ b) → b < length c.state.machine.banks
+            there (inl l) = l
+            there (inr past) =
+                let none : (bank_at c.state.machine.banks b).answers ≡ [] = ap (λ x. x.answers) (get_or_past c.state.machine.banks b no_bank past) in
+                cc
+
+    next : length c.state.machine.cache.stack < c.state.sizes.depth → (o : Option ℕ) → next_with_answer c.state c.schedule.next ≡ o → Move c (arrive_from o c) (Shows c (arrive_from o c) NothingArrives)
+    next room_left None e = stays (inr (nowhere c.state c.schedule.next e))
+    next room_left (Some b) e = comes room_left b (next_there c.state c.schedule.next b e)
+
+    go : (h : Bool) → nat_lt (length c.state.machine.cache.stack) c.state.sizes.depth ≡ h → Move c (cond h (arrive_from (next_with_answer c.state c.schedule.next) c) c) (Shows c (cond h (arrive_from (next_with_answer c.state c.schedule.next) c) c) NothingArrives)
+    go true e =
+        next (ltb-true (length c.state.machine.cache.stack) c.state.sizes.depth e) (next_with_answer c.state c.schedule.next) refl
+    go false e = stays (inl (ltb-false (length c.state.machine.cache.stack) c.state.sizes.depth e))
+
+-- ---- the stack, the replies, the write queue
+
+attempted : (event : Event) (c : Course) (why : MachineState → Type 0) → Steady c → ((b : ℕ) → leaves_commands b event) → FallsOr c.state.machine (apply c.state.sizes c.state.machine event).machine (why c.state) → Move c (attempt event c) (Shows c (attempt event c) why)
+unfolding attempt after_event
+attempted event c why steady leaves falls =
+    record {
+      steady = attempt_steady event c steady leaves;
+      round = refl;
+      latency = refl;
+      banks = refl;
+      lighter = go falls;
+    }
+  where
+    go : FallsOr c.state.machine (apply c.state.sizes c.state.machine event).machine (why c.state) → Lighter c (attempt event c) (Shows c (attempt event c) why)
+    go (inl p) = inl p
+    go (inr p) =
+        let same : after_event c.state event ≡ c.state = ap (λ m. record { sizes = c.state.sizes; machine = m }) p.0 in
+        inr (same, (refl, subst why (sym same) p.1))
+
+-- ---- all moves of a round
+
+abbrev pub Drained : MachineState → Type 0
+Drained s = (s.machine.cache.queue ≡ []) ⊎ HasCommand s.sizes s.machine
+
+-- why no move of a round did anything
+pub record Stands (c d : Course) : Type 0 where
+  pub kept : (b t : ℕ) → begun_at c.schedule b ≡ Some t → begun_at d.schedule b ≡ Some t
+  pub begins : (b : ℕ) → b < c.state.sizes.banks → Waits c.state b → (t : ℕ) × (begun_at d.schedule b ≡ Some t) × (d.schedule.round - t < d.schedule.latency)
+  pub arrived : NothingArrives d.state
+  pub processed : d.state.machine.cache.stack ≡ []
+  pub taken : d.state.machine.cache.ready ≡ []
+  pub drained : Drained d.state
+
+pub round_moves : (c : Course) → IsSteady c.state c.schedule → Move c (moves c) (Stands c (moves c))
+unfolding moves
+round_moves c steady = then c c3 c5 (then c c1 c3 turned first (λ f g p q. (f, g))) last all
+  where
+    c1 : Course
+    c1 = bank_turns c.state.sizes.banks 0 c
+
+    c2 : Course
+    c2 = arrive c1
+
+    c3 : Course
+    c3 = attempt (Process 0) c2
+
+    c4 : Course
+    c4 = attempt (Take 0) c3
+
+    c5 : Course
+    c5 = attempt Drain c4
+
+    turned : AllTurns c.state.sizes.banks 0 c
+    turned = turns c.state.sizes.banks 0 c steady (omega arith)
+
+    arrival : Move c1 c2 (Shows c1 c2 NothingArrives)
+    arrival = arrives c1 turned.steady
+
+    processing : Move c2 c3 (Shows c2 c3 (λ s. s.machine.cache.stack ≡ []))
+    processing =
+        let w = arrival.steady.whole in
+        let falls = process_falls c2.state.sizes (law c2.state w) (room c2.state w) c2.state.machine w.sound in
+        attempted (Process 0) c2 (λ s. s.machine.cache.stack ≡ []) arrival.steady (λ b. tt) falls
+
+    taking : Move c3 c4 (Shows c3 c4 (λ s. s.machine.cache.ready ≡ []))
+    taking =
+        let w = processing.steady.whole in
+        let falls = take_falls c3.state.sizes (law c3.state w) (room c3.state w) c3.state.machine w.sound in
+        attempted (Take 0) c3 (λ s. s.machine.cache.ready ≡ []) processing.steady (λ b. tt) falls
+
+    draining : Move c4 c5 (Shows c4 c5 Drained)
+    draining =
+        let w = taking.steady.whole in
+        let falls = drain_falls c4.state.sizes (law c4.state w) (room c4.state w) c4.state.machine w.sound in
+        attempted Drain c4 Drained taking.steady (λ b. tt) falls
+
+    first : Move c1 c3 (Shows c1 c3 (λ s. NothingArrives s × (s.machine.cache.stack ≡ [])))
+    first = then c1 c2 c3 arrival processing (λ f g p q. (g.0 ∙ f.0, (subst NothingArrives (sym q) f.1, g.1)))
+
+    last : Move c3 c5 (Shows c3 c5 (λ s. (s.machine.cache.ready ≡ []) × Drained s))
+    last =
+        then c3 c4 c5 taking draining (λ f g p q. (g.0 ∙ f.0, (subst (λ s. s.machine.cache.ready ≡ []) (sym q) f.1, g.1)))
+
+    all : Turned 0 c.state.sizes.banks c c1 × Shows c1 c3 (λ s. NothingArrives s × (s.machine.cache.stack ≡ [])) → Shows c3 c5 (λ s. (s.machine.cache.ready ≡ []) × Drained s) → c3.state ≡ c.state → c5.state ≡ c3.state → Stands c c5
+    all f g p q =
+        record {
+          kept = λ b t e. still b ∙ f.0.kept b t e;
+          begins = λ b l w. busy b (f.0.begins b (omega arith) (omega (arith, l)) w);
+          arrived = subst NothingArrives (sym q) f.1.1.0;
+          processed = subst (λ s. s.machine.cache.stack ≡ []) (sym q) f.1.1.1;
+          taken = g.1.0;
+          drained = g.1.1;
+        }
+      where
+        still : (b : ℕ) → begun_at c5.schedule b ≡ begun_at c1.schedule b
+        still b = ap (λ l. get_or l b None) (g.0 ∙ f.1.0)
+
+        round : c5.schedule.round ≡ c1.schedule.round
+        round = last.round ∙ first.round
+
+        latency : c5.schedule.latency ≡ c1.schedule.latency
+        latency = last.latency ∙ first.latency
+
+        busy : (b : ℕ) → (t : ℕ) × (begun_at c1.schedule b ≡ Some t) × (c1.schedule.round - t < c1.schedule.latency) → (t : ℕ) × (begun_at c5.schedule b ≡ Some t) × (c5.schedule.round - t < c5.schedule.latency)
+        busy b x = let early = x.2 in (x.0, still b ∙ x.1, omega (arith, early, round, latency))
