@@ -13,6 +13,8 @@ use Rattle.machine_core.specs.Machine.{MachineState}
 use Rattle.run_pictures.specs.declared.place.Place.{Place}
 use Rattle.run_pictures.specs.declared.film.Film.{Film}
 use Rattle.run_pictures.specs.Cells.{IsTextAt}
+use Rattle.run_pictures.specs.Extents.{extent_of}
+use Rattle.run_pictures.specs.Places.{places_in}
 
 abbrev pub Texts : Type 0
 Texts = List (String Global)
@@ -40,9 +42,10 @@ pub record IsFilmed (s : MachineState) (flat : Flat) (f : Film) : Type 0 where
   pub owed : shown f.flat ≡ flat
   pub picture : IsPicture s (shown f.flat) f.places.items f.texts.items
 
--- the film of a new machine of zeros
-abbrev pub Begins : MachineState → Film → Type 0
-Begins s f = IsFilmed s (zeros s.sizes.words) f
+-- the film of a new machine of zeros, with all places of its pictures
+pub record Begins (s : MachineState) (f : Film) : Type 0 where
+  pub film : IsFilmed s (zeros s.sizes.words) f
+  pub places : f.places.items ≡ places_in (extent_of s.sizes)
 
 -- A film goes on by one picture: that of the machine behind an event, with what flat memory owes behind it.
 pub record GoesOn (s : MachineState) (event : Event) (answer : Answer) (old new : Film) : Type 0 where
