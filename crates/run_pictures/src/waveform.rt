@@ -1,6 +1,7 @@
 //! A waveform of a machine, as a value change dump (VCD).
 
-ghost use Rattle.std.specs.Prelude.{◌≡◌, ◌++◌, Some, OnOk, IfOk};
+ghost use Rattle.std.specs.Prelude.{◌≡◌, ◌++◌, length, Some, OnOk, IfOk};
+ghost use Rattle.std.specs.List.{flat_map, range_with_len};
 ghost use Rattle.std.specs.String.{string_bytes};
 ghost use Rattle.run_pictures.specs.Waves as waves;
 
@@ -10,17 +11,38 @@ use crate::step::Step;
 use std::alloc::{AllocError, Global};
 
 // The declaration of the signal of this number.
-fn push_declaration(wave: &mut String, signal: Signal, k: usize) -> Result<(), AllocError> {
-    let width = signal.width();
-    write!(wave, "$var wire {width} s{k} {signal} $end\n")
+#[tactic(auto, unfolding(crate::specs::Waves::declaration_at))]
+fn push_declaration(wave: &mut String, signals: &[Signal], k: usize) -> Result<(), AllocError>
+    ensures { OnOk result
+        (string_bytes wave.new ≡ string_bytes wave.old ++ waves.declaration_at signals.now k) }
+{
+    match signals.get(k) {
+        Some(signal) => {
+            let width = signal.width();
+            write!(wave, "$var wire {width} s{k} {signal} $end\n")
+        }
+        None => Ok(()),
+    }
 }
 
-fn push_declarations(wave: &mut String, signals: &[Signal]) -> Result<(), AllocError> {
-    wave.push_str("$timescale 1 ns $end\n$scope module kroft $end\n")?;
+fn push_each_declaration(wave: &mut String, signals: &[Signal]) -> Result<(), AllocError>
+    ensures { OnOk result
+        (string_bytes wave.new ≡ string_bytes wave.old ++ flat_map (waves.declaration_at signals.now) (range_with_len 0 (length signals.now))) }
+{
     for k in 0..signals.len() {
-        push_declaration(wave, signals[k], k)?;
+        push_declaration(wave, signals, k)?;
     }
-    wave.push_str("$upscope $end\n$enddefinitions $end\n")
+    Ok(())
+}
+
+// The text before the first values.
+fn declarations(alloc: Global, signals: &[Signal]) -> Result<String, AllocError>
+    ensures { IfOk result (λ wave. string_bytes wave ≡ waves.declarations_text signals.now) }
+{
+    let mut wave = String::from_str(alloc, "$timescale 1 ns $end\n$scope module kroft $end\n")?;
+    push_each_declaration(&mut wave, signals)?;
+    wave.push_str("$upscope $end\n$enddefinitions $end\n")?;
+    Ok(wave)
 }
 
 // The value of the signal of this number.
@@ -103,8 +125,7 @@ impl Waveform {
     {
         let signals = signals_of(alloc, &machine.extent())?;
         let values = values_of(alloc, machine, signals.as_slice())?;
-        let mut text = String::new(alloc);
-        push_declarations(&mut text, signals.as_slice())?;
+        let mut text = declarations(alloc, signals.as_slice())?;
         text.push_str("#0\n$dumpvars\n")?;
         push_changes(&mut text, signals.as_slice(), &[], values.as_slice())?;
         text.push_str("$end\n")?;
