@@ -49,10 +49,9 @@ impl From<TraceFault> for ShowFault {
 /// them, and behind each. Lines that only show something are passed over. What loads are owed is drawn
 /// from memory of zeros on, so the machine is one in which nothing has happened, over zeros.
 ///
-/// `Trace` says that the trace has a faulty line, or couldn't be read, as
-/// [`read_events`] says it, and goes before the other faults. `TooManyEvents` says
-/// that there are more than 10,000 events. `OutOfMemory` says that there was too little memory to draw.
-/// Behind a fault of the trace, and too many events, the machine stands where it stood.
+/// `Trace` is the fault with which [`read_events`] ended, of a faulty line for one, and goes before the
+/// other faults. `TooManyEvents` says that there are more than 10,000 events, and `OutOfMemory` that
+/// there was too little memory to draw.
 pub fn show_text<R: Source, M: PictureMachine>(
     alloc: Global,
     reader: &mut R,
