@@ -1,5 +1,5 @@
 -- How the writing of requests ends.
-use Rattle.std.proofs.Common.{◌≡◌, ℕ, ◌≤◌, Option, Some, None, Result, Ok, Err, List, [], refl, sym, ◌∙◌, subst, inl, inr}
+use Rattle.std.proofs.Common.{◌≡◌, ℕ, ◌≤◌, Option, Some, None, Result, Ok, Err, List, [], ◌∙◌, subst, inl, inr}
 use Rattle.trace_text.specs.Collecting.{Reads}
 use Rattle.trace_text.specs.Reading.{FirstLine, ReadStops}
 use Rattle.trace_text.specs.declared.lines.LineFault.{LineFault}

@@ -1,14 +1,15 @@
 -- An access, and the words that it touches. Word w of a program has the bytes from 4 w to 4 w + 3.
-use Rattle.std.specs.Prelude.{ℕ, ◌+◌, ◌-◌, ◌*◌, ◌/◌, ◌%◌, ◌≤◌, Bool, ◌&&◌, if◌then◌else◌, nat_le, nat_lt}
+use Rattle.std.specs.Prelude.{ℕ, ◌+◌, ◌-◌, ◌*◌, ◌/◌, ◌%◌, ◌^◌, ◌≤◌, Bool, ◌&&◌, if◌then◌else◌, nat_le, nat_lt}
 use Rattle.flat_model.specs.declared.Word.{Word}
 use Rattle.flat_model.specs.declared.Lanes.{Lanes}
 use Rattle.access_logs.specs.declared.access.Access.{Access}
+use Rattle.access_logs.specs.declared.access.TheConstants.{MAX_SIZE}
 
 -- it touches 1 to 512 bytes, all of them below 2^64
 pub record IsWithin (a : Access) : Type 0 where
   pub some : 1 ≤ a.size
-  pub few : a.size ≤ 512
-  pub last : a.address + a.size ≤ 18446744073709551616
+  pub few : a.size ≤ MAX_SIZE
+  pub last : a.address + a.size ≤ 2 ^ 64
 
 -- ---- the words from the first to the last
 

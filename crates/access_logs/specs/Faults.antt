@@ -1,11 +1,12 @@
 -- The texts of faults.
 use Rattle.std.specs.Prelude.{ℕ, ◌*◌, if◌then◌else◌, nat_le, List, ◌++◌, codes, decimal}
 use Rattle.access_logs.specs.declared.fault.NoRoom.{NoRoom}
+use Rattle.access_logs.specs.declared.pages.TheConstants.{PAGE_WORDS, MAX_PAGES}
 
 -- how many words would do, if any
 unfoldable pub remedy_text : ℕ → List ℕ
 remedy_text pages =
-    if nat_le pages 1024 then decimal (pages * 1024) ++ codes " words would do" else codes "memory has at most 1048576 words"
+    if nat_le pages MAX_PAGES then decimal (pages * PAGE_WORDS) ++ codes " words would do" else codes "memory has at most 1048576 words"
 
 -- a number behind its name
 abbrev pub number_text : List ℕ → ℕ → List ℕ

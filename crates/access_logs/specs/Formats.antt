@@ -1,11 +1,12 @@
 -- What a line of a log says, in each format: an access, or nothing that is asked of a data cache.
-use Rattle.std.specs.Prelude.{ℕ, ◌+◌, ◌*◌, ◌/◌, ◌==◌, Bool, false, ◌&&◌, ◌||◌, if◌then◌else◌, Option, None, Some, Result, Ok, Err, List, [], ◌∷◌, length, position, nat_le, nat_lt}
+use Rattle.std.specs.Prelude.{ℕ, ◌+◌, ◌*◌, ◌/◌, ◌^◌, ◌==◌, Bool, false, ◌&&◌, ◌||◌, if◌then◌else◌, Option, None, Some, Result, Ok, Err, List, [], ◌∷◌, length, position, nat_le, nat_lt}
 use Rattle.std.specs.Option.{option_map, option_and_then}
 use Rattle.trace_text.specs.Fields.{nibble_of, number_of}
 use Rattle.trace_text.specs.Lines.{cut_at, cut_of}
 use Rattle.trace_text.specs.declared.lines.LineFault.{LineFault}
 use Rattle.trace_text.specs.declared.lines.LineFault.TheVariants.{Unknown, Field}
 use Rattle.access_logs.specs.declared.access.Access.{Access}
+use Rattle.access_logs.specs.declared.access.TheConstants.{MAX_SIZE}
 use Rattle.access_logs.specs.declared.access.AccessKind.TheVariants.{Load, Store, Modify}
 use Rattle.access_logs.specs.declared.format.Reference.{Reference}
 use Rattle.access_logs.specs.declared.format.Reference.TheVariants.{Fetch, Data}
@@ -15,7 +16,7 @@ use Rattle.access_logs.specs.declared.format.Reference.TheVariants.{Fetch, Data}
 -- one hexadecimal digit more, if the number stays below 2^64
 abbrev pub with_digit : ℕ → Option ℕ → Option ℕ
 with_digit n None = None
-with_digit n (Some d) = if nat_lt n 1152921504606846976 then Some (n * 16 + d) else None
+with_digit n (Some d) = if nat_lt n (2 ^ 60) then Some (n * 16 + d) else None
 
 -- the number that these digits make behind n
 abbrev pub hex_after : ℕ → List ℕ → Option ℕ
@@ -31,12 +32,12 @@ address_of bs = if length bs == 0 then None else hex_after 0 bs
 -- an address and a size, 1 to 512, no byte of which lies behind the last address
 abbrev pub extent_with : Option ℕ → Option ℕ → Option (ℕ × ℕ)
 extent_with (Some address) (Some size) =
-    if nat_lt 0 size && nat_le (address + size) 18446744073709551616 then Some (address, size) else None
+    if nat_lt 0 size && nat_le (address + size) (2 ^ 64) then Some (address, size) else None
 extent_with address size = None
 
 abbrev pub extent_from : List ℕ × Option (List ℕ) → Option (ℕ × ℕ)
 extent_from (address, None) = None
-extent_from (address, Some size) = extent_with (address_of address) (number_of 512 size)
+extent_from (address, Some size) = extent_with (address_of address) (number_of MAX_SIZE size)
 
 -- `ADDRESS,SIZE`
 abbrev pub extent_of : List ℕ → Option (ℕ × ℕ)

@@ -2,11 +2,12 @@
 -- words 1024 p to 1024 p + 1023 of memory.
 use Rattle.std.specs.Prelude.{ℕ, ◌+◌, ◌*◌, ◌/◌, ◌%◌, ◌==◌, Option, None, Some, List, [], ◌∷◌, ◌++◌, length, position}
 use Rattle.access_logs.specs.declared.access.Access.{Access}
+use Rattle.access_logs.specs.declared.pages.TheConstants.{PAGE_WORDS}
 use Rattle.access_logs.specs.Accesses.{first_word_of, last_word_of}
 
 -- the page of a word
 abbrev pub page_of : ℕ → ℕ
-page_of word = word / 1024
+page_of word = word / PAGE_WORDS
 
 abbrev pub found_in : List ℕ → ℕ → Option ℕ
 found_in pages page = position (λ p. p == page) pages
@@ -18,7 +19,7 @@ place_or_end pages None = length pages
 
 -- the word of memory that a word of the program is
 abbrev pub memory_word : List ℕ → ℕ → ℕ
-memory_word pages word = place_or_end pages (found_in pages (page_of word)) * 1024 + word % 1024
+memory_word pages word = place_or_end pages (found_in pages (page_of word)) * PAGE_WORDS + word % PAGE_WORDS
 
 abbrev pub with_page_found : List ℕ → ℕ → Option ℕ → List ℕ
 with_page_found pages page (Some place) = pages

@@ -85,7 +85,7 @@ fn comma(text: &[u8]) -> Option<usize>
 fn extent(text: &[u8]) -> Option<(u64, u32)>
     ensures value { result ≡ extent_in text.now }
     ensures some { IfSome result (λ extent. 1 ≤ extent.1) }
-    ensures few { IfSome result (λ extent. extent.1 ≤ 512) }
+    ensures few { IfSome result (λ extent. extent.1 ≤ MAX_SIZE) }
     ensures last { IfSome result (λ extent. extent.0 + extent.1 ≤ 2 ^ 64) }
 {
     let at = comma(text)?;
@@ -103,7 +103,7 @@ fn extent(text: &[u8]) -> Option<(u64, u32)>
 fn word_extent(field: Option<&[u8]>) -> Option<(u64, u32)>
     ensures value { result ≡ word_extent_of (option_map (λ text. text.now) field.entry) }
     ensures some { IfSome result (λ extent. 1 ≤ extent.1) }
-    ensures few { IfSome result (λ extent. extent.1 ≤ 512) }
+    ensures few { IfSome result (λ extent. extent.1 ≤ MAX_SIZE) }
     ensures last { IfSome result (λ extent. extent.0 + extent.1 ≤ 2 ^ 64) }
 {
     let address = address(field?)?;
@@ -113,7 +113,7 @@ fn word_extent(field: Option<&[u8]>) -> Option<(u64, u32)>
 // The access of a line, if it has one for a data cache.
 fn access_by(reference: Reference, extent: (u64, u32)) -> Option<Access>
     requires some { 1 ≤ extent.1 }
-    requires few { extent.1 ≤ 512 }
+    requires few { extent.1 ≤ MAX_SIZE }
     requires last { extent.0 + extent.1 ≤ 2 ^ 64 }
     ensures value { result ≡ access_made reference extent }
     ensures within { IfSome result IsWithin }
@@ -134,7 +134,7 @@ fn said_as(
     extent: Option<(u64, u32)>,
 ) -> Result<Option<Access>, LineFault>
     requires some { IfSome extent (λ extent. 1 ≤ extent.1) }
-    requires few { IfSome extent (λ extent. extent.1 ≤ 512) }
+    requires few { IfSome extent (λ extent. extent.1 ≤ MAX_SIZE) }
     requires last { IfSome extent (λ extent. extent.0 + extent.1 ≤ 2 ^ 64) }
     ensures value { result ≡ said reference extent }
     ensures within { IfOk result (λ access. IfSome access IsWithin) }

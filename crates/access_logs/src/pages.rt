@@ -1,5 +1,6 @@
 //! The pages of a program, in the order of their first touch.
 ghost use Rattle.std.specs.Prelude.{◌≡◌, ◌+◌, ◌<◌, ◌≤◌, ℕ, List, Option, [], length, Some, IfSome};
+ghost use Rattle.access_logs.specs.declared.pages.TheConstants.{MAX_KEPT};
 ghost use Rattle.access_logs.specs.Accesses.{IsWithin};
 ghost use Rattle.access_logs.specs.Pages.{found_in, memory_word, with_page, pages_after};
 
@@ -36,7 +37,7 @@ impl Model for Pages {
 
     ghost view = { λ p. p.touched.items };
 
-    ghost invariant = { λ p. IfSome p.recent (λ r. (found_in p.touched.items r.page ≡ Some r.place) × (r.place < 1026)) };
+    ghost invariant = { λ p. IfSome p.recent (λ r. (found_in p.touched.items r.page ≡ Some r.place) × (r.place < MAX_KEPT)) };
 }
 
 impl Pages {
@@ -87,7 +88,7 @@ impl Pages {
     // Touches the pages of an access.
     pub fn touch_all(&mut self, access: Access)
         requires within { IsWithin access }
-        requires room { length self.old ≤ 1024 }
+        requires room { length self.old ≤ MAX_PAGES }
         ensures { self.new ≡ pages_after self.old access }
     {
         self.touch(access.first_word() / PAGE_WORDS);

@@ -1,6 +1,7 @@
 //! A log is read line by line, and its requests are written.
 ghost use Rattle.std.specs.Prelude.{◌≡◌, ℕ, [], ◌+◌, ◌/◌, ◌≤◌, ◌<◌, length, Some, None, OnOk, OnErr, IfErr, Ok};
 ghost use Rattle.trace_text.specs.declared.fault.TheConstants.{BUFFER_LEN, MAX_PAIR};
+ghost use Rattle.access_logs.specs.declared.pages.TheConstants.{MAX_PAGES, PAGE_WORDS};
 ghost use Rattle.access_logs.specs.Accesses.{IsWithin};
 ghost use Rattle.access_logs.specs.Logs.{log_start, state_with, fault_by, Requested, Asked, Refuses, Halts, HaltsAt, Ends};
 
@@ -53,7 +54,7 @@ impl<'a, W: Sink, F: LogFormat> Writing<'a, W, F> {
     fn ask(&mut self, number: u64, access: Access) -> Result<(), Uncollected>
         requires within { IsWithin access }
         requires number { number ≡ self.old.lines + 1 }
-        requires room { self.old.room ≤ 1024 }
+        requires room { self.old.room ≤ MAX_PAGES }
         requires fits { length self.old.pages ≤ self.old.room }
         requires none { self.old.no_room ≡ None }
         ensures ok { OnOk result
@@ -93,7 +94,7 @@ impl<'a, W: Sink, F: LogFormat> Collector for Writing<'a, W, F> {
 
     ghost longest = { MAX_PAIR };
 
-    ghost went = { λ s texts t. Requested W.took F.access_in t.room s.writer.now texts t.writer.now (state_with t.pages t.tag t.lines) × (t.room ≡ s.room) × (t.room ≤ 1024) × (t.no_room ≡ None) };
+    ghost went = { λ s texts t. Requested W.took F.access_in t.room s.writer.now texts t.writer.now (state_with t.pages t.tag t.lines) × (t.room ≡ s.room) × (t.room ≤ MAX_PAGES) × (t.no_room ≡ None) };
 
     ghost stopped = { λ s text t. HaltsAt W.took W.refused W.unflushed F.access_in s.room s.writer.now (state_with s.pages s.tag s.lines) text t.writer.now t.no_room };
 
@@ -131,7 +132,7 @@ fn write_through<R: Source, W: Sink, F: LogFormat>(
     buffer: &mut [u8],
 ) -> Result<(), LogFault>
     requires buffer { length buffer.old ≡ BUFFER_LEN }
-    requires room { writing.old.room ≤ 1024 }
+    requires room { writing.old.room ≤ MAX_PAGES }
     requires fresh { state_with writing.old.pages writing.old.tag writing.old.lines ≡ log_start }
     requires none { writing.old.no_room ≡ None }
     ensures ends { Ends R.gave R.failed W.took W.refused W.unflushed F.access_in writing.old.room
@@ -176,7 +177,7 @@ pub fn write_requests<R: Source, W: Sink, F: LogFormat>(
     words: u32,
 ) -> Result<(), LogFault>
     requires { words ≤ MAX_WORDS }
-    ensures { Ends R.gave R.failed W.took W.refused W.unflushed F.access_in (words / 1024) reader.old
+    ensures { Ends R.gave R.failed W.took W.refused W.unflushed F.access_in (words / PAGE_WORDS) reader.old
         reader.new writer.old writer.new result }
 {
     let mut buffer = vec![in alloc; 0u8; BUFFER_LEN]?;

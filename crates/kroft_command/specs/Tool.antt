@@ -1,10 +1,21 @@
--- How the program ends.
-use Rattle.std.specs.Prelude.{ℕ}
+-- What the program is asked for, and how it ends.
+use Rattle.std.specs.Prelude.{ℕ, ◌≤◌, IfSome}
+use Rattle.access_logs.specs.declared.writing.TheConstants.{MAX_WORDS}
+use Rattle.round_driver.specs.declared.driving.TheConstants.{MOST_LATENCY}
+use Rattle.kroft_command.specs.declared.command_line.Task.{Task}
+use Rattle.kroft_command.specs.declared.command_line.Task.TheVariants.{Sweep, Drive, Requests}
 use Rattle.access_logs.specs.declared.fault.LogFault.{LogFault}
 use Rattle.access_logs.specs.declared.fault.LogFault.TheVariants as log
 use Rattle.kroft_jobs.specs.Jobs as jobs
 use Rattle.kroft_command.specs.declared.fault.ToolFault.{ToolFault}
 use Rattle.kroft_command.specs.declared.fault.ToolFault.TheVariants.{CommandLine, Job, NoRoom}
+
+-- the numbers of what is asked for are in their ranges
+abbrev pub IsInRange : Task → Type 0
+IsInRange (Sweep latency) = IfSome latency (λ rounds. rounds ≤ MOST_LATENCY)
+IsInRange (Drive latency summary) = latency ≤ MOST_LATENCY
+IsInRange (Requests from words) = words ≤ MAX_WORDS
+IsInRange task = Unit {0}
 
 -- the status with which the program ends at a fault
 abbrev pub status_of : ToolFault → ℕ

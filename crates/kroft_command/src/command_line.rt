@@ -1,5 +1,10 @@
 //! The words of the command line.
 
+ghost use Rattle.std.specs.Prelude.{◌≤◌, IfOk, IfSome};
+ghost use Rattle.access_logs.specs.declared.writing.TheConstants.{MAX_WORDS};
+ghost use Rattle.round_driver.specs.declared.driving.TheConstants.{MOST_LATENCY};
+ghost use Rattle.kroft_command.specs.Tool.{IsInRange};
+
 use access_logs::MAX_WORDS;
 use clap::error::ErrorKind;
 use clap::{Arg, ArgAction, ArgMatches, Command, Error};
@@ -257,7 +262,7 @@ event and behind each, with what the event changed, and why, in words. Left and 
 End step through it, and the space bar plays.
 With --text, in its place, lines of at most 80 columns for a terminal: * stands before what the
 step changed. With --vcd, a waveform (a value change dump) with one unit of time an event.
-A page has some 250 bytes an event. It shows the first 256 words of memory.
+A page has some 110 to 190 bytes an event. It shows the first 256 words of memory.
 
 Statuses: 0 done, 2 the command line is wrong, 3 the shape file is wrong, 4 a line is faulty, there
 are too many events or a stream failed, 5 there is too little memory.
@@ -376,7 +381,7 @@ fn requests_command<'a>(alloc: Global) -> Result<Command<'a>, AllocError> {
                 .long("words")
                 .value_name("N")
                 .action(ArgAction::Set)
-                .value_parser(clap::value_parser!(u32).range(1..=1_048_576))
+                .value_parser(clap::value_parser!(u32).range(1..=MAX_WORDS as i64))
                 .help("Words of memory, a multiple of 4, at most 1048576 [default: 1048576]"),
         )?
         .arg(trace_argument(alloc))
@@ -435,29 +440,55 @@ fn program<'a>(alloc: Global) -> Result<Command<'a>, AllocError> {
         .subcommand(show_command(alloc)?)
 }
 
+// The latency that is asked for. A greater one was refused; only the contract needs the bound again.
+fn latency_of(rest: &ArgMatches<'_>) -> Option<u64>
+    ensures { IfSome result (λ latency. latency ≤ MOST_LATENCY) }
+{
+    match rest.get_one::<u64>(LATENCY) {
+        Some(latency) => Some(latency.min(MOST_LATENCY)),
+        None => None,
+    }
+}
+
+// The words of memory that are asked for. More were refused, as for the latency.
+fn words_of(rest: &ArgMatches<'_>) -> u32
+    ensures { result ≤ MAX_WORDS }
+{
+    match rest.get_one::<u32>("words") {
+        Some(words) => words.min(MAX_WORDS),
+        None => MAX_WORDS,
+    }
+}
+
 // What the words behind `sweep` ask for.
-fn sweep_task(rest: &ArgMatches<'_>) -> Task {
+fn sweep_task(rest: &ArgMatches<'_>) -> Task
+    ensures { IsInRange result }
+{
     Task::Sweep {
-        latency: rest.get_one::<u64>(LATENCY),
+        latency: latency_of(rest),
     }
 }
 
 // What the words behind `drive` ask for.
-fn drive_task(rest: &ArgMatches<'_>) -> Task {
+fn drive_task(rest: &ArgMatches<'_>) -> Task
+    ensures { IsInRange result }
+{
     Task::Drive {
-        latency: rest.get_one::<u64>(LATENCY).unwrap_or(USUAL_LATENCY),
+        latency: latency_of(rest).unwrap_or(USUAL_LATENCY),
         summary: rest.get_flag("summary"),
     }
 }
 
 // What the words behind `requests` ask for.
-fn requests_task(rest: &ArgMatches<'_>) -> Task {
+fn requests_task(rest: &ArgMatches<'_>) -> Task
+    ensures { IsInRange result }
+{
     Task::Requests {
         from: match rest.get_str("from") {
             Some("din") => LogName::Din,
             _ => LogName::Lackey,
         },
-        words: rest.get_one::<u32>("words").unwrap_or(MAX_WORDS),
+        words: words_of(rest),
     }
 }
 
@@ -480,7 +511,9 @@ fn conflict(task: Task, before: Option<&str>, behind: Option<&str>) -> Option<&'
 }
 
 // What the words behind `show` ask for. Two forms at once were refused.
-fn show_task(rest: &ArgMatches<'_>) -> Task {
+fn show_task(rest: &ArgMatches<'_>) -> Task
+    ensures { IsInRange result }
+{
     let form = if rest.get_flag("vcd") {
         Form::Waveform
     } else if rest.get_flag("text") {
@@ -493,7 +526,9 @@ fn show_task(rest: &ArgMatches<'_>) -> Task {
 
 /// Reads the words behind the program's name. Help and the version come as an error too, which
 /// says that it belongs on the standard output.
-pub fn read_words<'a>(alloc: Global, words: &'a [&'a str]) -> Result<CommandLine<'a>, Error> {
+pub fn read_words<'a>(alloc: Global, words: &'a [&'a str]) -> Result<CommandLine<'a>, Error>
+    ensures { IfOk result (λ asked. IsInRange asked.task) }
+{
     let mut command = program(alloc)?;
     let matches = command.try_get_matches_from_mut(words)?;
     let before = matches.get_str("shape");

@@ -1,16 +1,17 @@
 //! The program over a reader and two writers.
 
-ghost use Rattle.std.specs.Prelude.{◌≤◌, IfOk};
+ghost use Rattle.std.specs.Prelude.{◌≤◌, IfOk, IfSome};
+ghost use Rattle.access_logs.specs.declared.writing.TheConstants.{MAX_WORDS};
+ghost use Rattle.round_driver.specs.declared.driving.TheConstants.{MOST_LATENCY};
 
 use crate::command_line::{LogName, Task, read_words};
 use crate::fault::ToolFault;
-use access_logs::{Din, Lackey, MAX_WORDS, write_requests};
+use access_logs::{Din, Lackey, write_requests};
 use clap::error::ErrorKind;
 use kroft_jobs::{
     JobFault, Verdict, check, drive_requests, explain, serve, summarize_requests, sweep_in_rounds,
     sweep_registers,
 };
-use round_driver::MOST_LATENCY;
 use run_pictures::Form;
 use shape_files::{ShapeFault, ToolShape, bad_field, read_shape};
 use std::alloc::Global;
@@ -43,7 +44,7 @@ pub fn tool<R: AllocGlobal + Files + Threads + Sync, I: Read, O: Write, E: Write
 }
 
 // Writes a text to the output.
-fn show<O: Write, D: fmt::Display + Drop>(output: &mut O, text: D) -> Result<(), JobFault> {
+fn put<O: Write, D: fmt::Display + Drop>(output: &mut O, text: D) -> Result<(), JobFault> {
     match write!(output, "{text}") {
         Ok(()) => Ok(()),
         Err(_) => Err(JobFault::Trace(TraceFault::Write)),
@@ -74,7 +75,7 @@ fn work<R: AllocGlobal + Files + Threads + Sync, I: Read, O: Write>(
         }
         Err(error) if error.use_stderr() => return Err(ToolFault::CommandLine(error)),
         Err(help) => {
-            show(output, help)?;
+            put(output, help)?;
             finish(output)?;
             return Ok(0);
         }
@@ -91,8 +92,8 @@ fn work<R: AllocGlobal + Files + Threads + Sync, I: Read, O: Write>(
         Task::Drive { latency, summary } => {
             go_round(rt.alloc(), &shape, latency, summary, input, output)?
         }
-        Task::Requests { from, words } => ask(rt.alloc(), from, words, input, output)?,
-        Task::Show { form } => draw(rt.alloc(), &shape, form, input, output)?,
+        Task::Requests { from, words } => requests(rt.alloc(), from, words, input, output)?,
+        Task::Show { form } => show(rt.alloc(), &shape, form, input, output)?,
     };
     Ok(status)
 }
@@ -135,7 +136,7 @@ fn judge<I: Read, O: Write>(
     ensures { IfOk result (λ status. status ≤ 1) }
 {
     let verdict = Verdict(check(alloc, tool, input)?);
-    show(output, format_args!("{verdict}\n"))?;
+    put(output, format_args!("{verdict}\n"))?;
     finish(output)?;
     Ok(verdict.status())
 }
@@ -150,7 +151,7 @@ fn reason<I: Read, O: Write>(
     ensures { IfOk result (λ status. status ≤ 1) }
 {
     let explanation = explain(alloc, tool, input)?;
-    show(output, format_args!("{explanation}\n"))?;
+    put(output, format_args!("{explanation}\n"))?;
     finish(output)?;
     Ok(explanation.status())
 }
@@ -164,15 +165,15 @@ fn go_round<I: Read, O: Write>(
     input: &mut I,
     output: &mut O,
 ) -> Result<u8, JobFault>
+    requires { latency ≤ MOST_LATENCY }
     ensures { IfOk result (λ status. status ≤ 1) }
 {
     if let Some(field) = bad_field(tool) {
         return Err(JobFault::Shape(ShapeFault::BadShape(field)));
     }
-    let latency = latency.min(MOST_LATENCY);
     if summary {
         let table = summarize_requests(alloc, tool, latency, input)?;
-        show(output, format_args!("{table}\n"))?;
+        put(output, format_args!("{table}\n"))?;
     } else {
         drive_requests(alloc, tool, latency, input, output)?;
     }
@@ -181,16 +182,16 @@ fn go_round<I: Read, O: Write>(
 }
 
 // Writes the requests of a log.
-fn ask<I: Read, O: Write>(
+fn requests<I: Read, O: Write>(
     alloc: Global,
     from: LogName,
     words: u32,
     input: &mut I,
     output: &mut O,
 ) -> Result<u8, ToolFault>
+    requires { words ≤ MAX_WORDS }
     ensures { IfOk result (λ status. status ≤ 1) }
 {
-    let words = words.min(MAX_WORDS);
     match from {
         LogName::Lackey => write_requests(alloc, input, output, &Lackey, words)?,
         LogName::Din => write_requests(alloc, input, output, &Din, words)?,
@@ -199,7 +200,7 @@ fn ask<I: Read, O: Write>(
 }
 
 // Draws the machine at each event of the trace.
-fn draw<I: Read, O: Write>(
+fn show<I: Read, O: Write>(
     alloc: Global,
     tool: &ToolShape,
     form: Form,
@@ -212,7 +213,7 @@ fn draw<I: Read, O: Write>(
         return Err(JobFault::Shape(ShapeFault::BadShape(field)));
     }
     let drawing = kroft_jobs::show(alloc, tool, form, input)?;
-    show(output, drawing)?;
+    put(output, drawing)?;
     finish(output)?;
     Ok(0)
 }
@@ -225,17 +226,17 @@ fn compare<R: AllocGlobal + Threads + Sync, I: Read, O: Write>(
     input: &mut I,
     output: &mut O,
 ) -> Result<u8, JobFault>
+    requires { IfSome latency (λ rounds. rounds ≤ MOST_LATENCY) }
     ensures { IfOk result (λ status. status ≤ 1) }
 {
     match latency {
         None => {
             let rows = sweep_registers(rt, rt.alloc(), tool, input)?;
-            show_rows(output, rows.as_slice())?;
+            put_rows(output, rows.as_slice())?;
         }
         Some(latency) => {
-            let latency = latency.min(MOST_LATENCY);
             let rows = sweep_in_rounds(rt, rt.alloc(), tool, latency, input)?;
-            show_rows(output, rows.as_slice())?;
+            put_rows(output, rows.as_slice())?;
         }
     }
     finish(output)?;
@@ -243,9 +244,9 @@ fn compare<R: AllocGlobal + Threads + Sync, I: Read, O: Write>(
 }
 
 // Writes each of these as a line.
-fn show_rows<O: Write, D: fmt::Display>(output: &mut O, rows: &[D]) -> Result<(), JobFault> {
+fn put_rows<O: Write, D: fmt::Display>(output: &mut O, rows: &[D]) -> Result<(), JobFault> {
     for row in rows {
-        show(output, format_args!("{row}\n"))?;
+        put(output, format_args!("{row}\n"))?;
     }
     Ok(())
 }

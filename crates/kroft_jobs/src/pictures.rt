@@ -1,7 +1,9 @@
 //! What the program draws of a trace.
 
 ghost use Rattle.std.specs.Prelude.{⊤, ◌≡◌, None};
+ghost use Rattle.run_pictures.specs.Drawn.{Shows};
 ghost use Rattle.shape_files.specs.ShapeFile.{bad_field};
+ghost use Rattle.register_sweeps.specs.Sweep.{new_machine};
 
 use register_sweeps::{MachineJob, with_machine};
 use run_pictures::{Form, PictureMachine, ShowFault, show_text};
@@ -9,8 +11,8 @@ use shape_files::ToolShape;
 use std::alloc::Global;
 use trace_text::Source;
 
-/// Draws a new machine of a shape whose fields are in range, over zeros, at each event of a trace, as
-/// `show_text` does.
+/// Draws the walk of a new machine of a shape whose fields are in range, over zeros, over the events of
+/// a trace, as `show_text` does.
 pub fn show<I: Source>(
     alloc: Global,
     tool: &ToolShape,
@@ -18,6 +20,7 @@ pub fn show<I: Source>(
     input: &mut I,
 ) -> Result<String, ShowFault>
     requires shape { bad_field tool.now ≡ None }
+    ensures { Shows I.gave I.failed form (new_machine tool.now) input.old input.new result }
 {
     let mut job = ShownTrace { alloc, form, input };
     with_machine(alloc, tool, &mut job)
@@ -36,7 +39,7 @@ impl<'a, I: Source> MachineJob for ShownTrace<'a, I> {
 
     ghost can = { λ s. ⊤ };
 
-    ghost done = { λ s machine t result. ⊤ };
+    ghost done = { λ s machine t result. Shows I.gave I.failed s.form machine s.input.now t.input.now result };
 
     ghost holds_same = { λ s t. t.input.ghost_name ≡ s.input.ghost_name };
 

@@ -1,6 +1,7 @@
 -- The text of each place of a picture, by the machine's state alone.
 use Rattle.std.specs.Prelude.{◌≡◌, ℕ, Bool, false, ◌&&◌, not, if◌then◌else◌, ◌==◌, List, [], ◌++◌, length, codes, decimal, Option, Some, None, slice_get}
 use Rattle.std.specs.List.{list_any, range_with_len}
+use Rattle.std.specs.Str.{IsUtf8}
 use Rattle.flat_model.specs.declared.Word.{Word}
 use Rattle.flat_model.specs.declared.Lanes.{Lanes}
 use Rattle.flat_model.specs.declared.Answer.{Answer}
@@ -16,6 +17,7 @@ use Rattle.miss_registers.specs.declared.RegisterView.{RegisterView}
 use Rattle.miss_registers.specs.declared.FieldView.{FieldView}
 use Rattle.cache_unit.specs.Views.{frame_view, word_view, dirty_view, reply_view}
 use Rattle.machine_core.specs.Machine.{MachineState}
+use Rattle.trace_text.specs.Texts.{register_text as line_of_register}
 use Rattle.machine_core.specs.AnyMachine.{register_shown, field_shown, target_shown, bank_shown}
 use Rattle.run_pictures.specs.declared.place.Place.{Place}
 use Rattle.run_pictures.specs.declared.place.Place.TheVariants.{Register, Line, Field, Load, Frame, Cell, Stack, Queue, Commands, Answers, Reply, Memory}
@@ -145,11 +147,14 @@ count_text n = decimal n
 
 -- ---- all places
 
--- What is drawn at a place of a machine of this state, whose loads are owed what this flat memory owes. Of the line of a register nothing is said here: it is what
--- `trace_text` says of it, if that is text.
+-- a register as a trace shows it, if that is text
+abbrev pub IsLineAt : MachineState → ℕ → List ℕ → Type 0
+IsLineAt s slot text = IsUtf8 (line_of_register s slot) → text ≡ line_of_register s slot
+
+-- What is drawn at a place of a machine of this state, whose loads are owed what this flat memory owes.
 abbrev pub IsTextAt : MachineState → Flat → Place → List ℕ → Type 0
 IsTextAt s flat (Register slot) text = text ≡ register_at s slot
-IsTextAt s flat (Line slot) text = Unit {0}
+IsTextAt s flat (Line slot) text = IsLineAt s slot text
 IsTextAt s flat (Field slot i) text = text ≡ field_at s slot i
 IsTextAt s flat (Load slot i place) text = text ≡ load_at s flat slot i place
 IsTextAt s flat (Frame frame) text = text ≡ frame_at s frame

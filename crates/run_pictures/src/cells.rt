@@ -53,7 +53,10 @@ fn register_at<M: PictureMachine>(
 }
 
 // The same register, as a trace shows it.
-fn line_at<M: PictureMachine>(alloc: Global, machine: &M, slot: u32) -> Result<String, AllocError> {
+fn line_at<M: PictureMachine>(alloc: Global, machine: &M, slot: u32) -> Result<String, AllocError>
+    ensures { IfOk result
+        (λ text. cells.IsLineAt (M.state machine.now) slot (string_bytes text)) }
+{
     let line = line_of_register(machine, slot);
     match std::str::from_utf8(line.as_bytes()) {
         Ok(text) => String::from_str(alloc, text),

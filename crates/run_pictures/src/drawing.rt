@@ -1,5 +1,9 @@
 //! A run as it is drawn, in one of three forms.
 
+ghost use Rattle.std.specs.Prelude.{◌≡◌, OnOk, IfOk};
+ghost use Rattle.std.specs.String.{string_bytes};
+ghost use Rattle.run_pictures.specs.Drawn.{Opens, Draws, whole_text};
+
 use crate::machine::PictureMachine;
 use crate::page::Page;
 use crate::screens::Screens;
@@ -36,7 +40,9 @@ impl Drawing {
         alloc: Global,
         machine: &M,
         form: Form,
-    ) -> Result<Drawing, AllocError> {
+    ) -> Result<Drawing, AllocError>
+        ensures { IfOk result (λ drawing. Opens form (M.state machine.now) drawing) }
+    {
         match form {
             Form::Page => Ok(Drawing::Page(Page::new(alloc, machine)?)),
             Form::Screens => Ok(Drawing::Screens(Screens::new(alloc, machine)?)),
@@ -50,7 +56,10 @@ impl Drawing {
         alloc: Global,
         machine: &M,
         step: &Step,
-    ) -> Result<(), AllocError> {
+    ) -> Result<(), AllocError>
+        ensures { OnOk result
+            (Draws step.now.number (M.state machine.now) step.now.event step.now.answer self.old self.new) }
+    {
         match self {
             Drawing::Page(page) => page.draw(alloc, machine, step),
             Drawing::Screens(screens) => screens.draw(alloc, machine, step),
@@ -59,7 +68,9 @@ impl Drawing {
     }
 
     // The whole text.
-    pub fn finish(self) -> Result<String, AllocError> {
+    pub fn finish(self) -> Result<String, AllocError>
+        ensures { IfOk result (λ text. string_bytes text ≡ whole_text self) }
+    {
         match self {
             Drawing::Page(page) => page.finish(),
             Drawing::Screens(screens) => Ok(screens.finish()),

@@ -1,8 +1,10 @@
 //! The picture of a machine, and what an event changes of it.
 
-ghost use Rattle.std.specs.Prelude.{◌≡◌, OnOk, Some};
+ghost use Rattle.std.specs.Prelude.{◌≡◌, OnOk, IfOk, Some};
 ghost use Rattle.flat_model.specs.Memory.{shown};
 ghost use Rattle.flat_model.specs.Flat.{flat_step};
+ghost use Rattle.trace_text.specs.Checks as checks;
+ghost use Rattle.run_pictures.specs.Pictures as pictures;
 
 use crate::cells::text_at;
 use crate::machine::{Extent, PictureMachine};
@@ -19,7 +21,9 @@ pub struct Film {
 }
 
 // The flat memory of a machine in which nothing has happened, over zeros.
-fn zeros(alloc: Global, extent: &Extent) -> Result<FlatMemory, AllocError> {
+fn zeros(alloc: Global, extent: &Extent) -> Result<FlatMemory, AllocError>
+    ensures { IfOk result (λ flat. shown flat ≡ checks.zeros extent.now.words) }
+{
     let image = vec![in alloc; Word::default(); extent.words as usize]?;
     FlatMemory::new(alloc, image.as_slice())
 }
@@ -30,7 +34,10 @@ fn texts_of<M: PictureMachine>(
     machine: &M,
     flat: &FlatMemory,
     places: &[Place],
-) -> Result<Vec<String>, AllocError> {
+) -> Result<Vec<String>, AllocError>
+    ensures { IfOk result
+        (λ texts. pictures.IsPicture (M.state machine.now) (shown flat.now) places.now texts.items) }
+{
     let mut texts = Vec::with_capacity(alloc, places.len())?;
     for place in places {
         texts.push(text_at(alloc, machine, flat, *place)?)?;
@@ -38,27 +45,16 @@ fn texts_of<M: PictureMachine>(
     Ok(texts)
 }
 
-// Whether the text at a place is another one, or the first one.
-fn is_other(before: Option<&String>, text: &String) -> bool {
-    match before {
-        Some(before) => before.as_str() != text.as_str(),
-        None => !text.is_empty(),
+/// Whether the place of this number has another text than before, or a first one.
+#[tactic(auto, unfolding(crate::specs::Pictures::is_changed))]
+pub fn is_changed(before: &[String], after: &[String], k: usize) -> bool
+    ensures { result ≡ pictures.is_changed before.now after.now k }
+{
+    match (before.get(k), after.get(k)) {
+        (Some(old), Some(new)) => old.as_str() != new.as_str(),
+        (None, Some(new)) => !new.is_empty(),
+        (_, None) => false,
     }
-}
-
-// The numbers of the places that have another text.
-fn changed_between(
-    alloc: Global,
-    before: &[String],
-    after: &[String],
-) -> Result<Vec<usize>, AllocError> {
-    let mut changed = Vec::new(alloc);
-    for k in 0..after.len() {
-        if is_other(before.get(k), &after[k]) {
-            changed.push(k)?;
-        }
-    }
-    Ok(changed)
 }
 
 // The step of flat memory that goes with an event and its answer.
@@ -73,7 +69,9 @@ fn step_flat(flat: &mut FlatMemory, event: Event, answer: Answer) -> Result<(), 
 
 impl Film {
     /// The film of a machine in which nothing has happened, over zeros, before its first event.
-    pub fn new<M: PictureMachine>(alloc: Global, machine: &M) -> Result<Film, AllocError> {
+    pub fn new<M: PictureMachine>(alloc: Global, machine: &M) -> Result<Film, AllocError>
+        ensures { IfOk result (λ film. pictures.Begins (M.state machine.now) film) }
+    {
         let extent = machine.extent();
         let places = places_of(alloc, &extent)?;
         let flat = zeros(alloc, &extent)?;
@@ -86,28 +84,33 @@ impl Film {
     }
 
     /// The places of its pictures.
-    pub fn places(&self) -> &[Place] {
+    pub fn places(&self) -> &[Place]
+        ensures { result.now ≡ self.now.places.items }
+    {
         self.places.as_slice()
     }
 
     /// The text of each place, as it stands.
-    pub fn texts(&self) -> &[String] {
+    pub fn texts(&self) -> &[String]
+        ensures { result.now ≡ self.now.texts.items }
+    {
         self.texts.as_slice()
     }
 
-    /// Draws the machine behind an event. The numbers of the places whose texts are others come back,
-    /// in order.
+    /// Draws the machine behind an event. The texts of the picture before come back.
     pub fn advance<M: PictureMachine>(
         &mut self,
         alloc: Global,
         machine: &M,
         event: Event,
         answer: Answer,
-    ) -> Result<Vec<usize>, AllocError> {
+    ) -> Result<Vec<String>, AllocError>
+        ensures film { OnOk result
+            (pictures.GoesOn (M.state machine.now) event answer self.old self.new) }
+        ensures before { IfOk result (λ before. before.items ≡ self.old.texts.items) }
+    {
         step_flat(&mut self.flat, event, answer)?;
         let texts = texts_of(alloc, machine, &self.flat, self.places.as_slice())?;
-        let changed = changed_between(alloc, self.texts.as_slice(), texts.as_slice())?;
-        self.texts = texts;
-        Ok(changed)
+        Ok(std::mem::replace(&mut self.texts, texts))
     }
 }

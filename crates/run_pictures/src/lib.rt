@@ -9,6 +9,7 @@
 mod before;
 mod cells;
 mod drawing;
+mod drawn;
 mod film;
 mod machine;
 mod page;
@@ -19,13 +20,12 @@ mod screens;
 mod show;
 mod signal;
 mod step;
-mod watched;
 mod waveform;
 
 pub use cells::text_at;
 pub use drawing::Form;
+pub use drawn::MOST_EVENTS;
 pub use machine::{Extent, PictureMachine};
 pub use place::{Place, places_of};
 pub use show::{ShowFault, show_text};
 pub use signal::Signal;
-pub use watched::MOST_EVENTS;

@@ -1,5 +1,5 @@
 //! What is asked of a machine that is drawn.
-ghost use Rattle.std.specs.Prelude.{◌≡◌, length, slice_get};
+ghost use Rattle.std.specs.Prelude.{◌≡◌, ◌*◌, length, slice_get};
 ghost use Rattle.memory_banks.specs.Banks.{bank_at};
 ghost use Rattle.cache_unit.specs.Views as views;
 ghost use Rattle.run_pictures.specs.Extents.{extent_of, fitted};
@@ -37,7 +37,9 @@ pub struct Extent {
 
 impl Extent {
     /// How many frames there are.
-    pub fn frames(&self) -> u32 {
+    pub fn frames(&self) -> u32
+        ensures { result ≡ fitted (self.now.sets * self.now.ways) }
+    {
         self.sets.saturating_mul(self.ways)
     }
 

@@ -1,6 +1,11 @@
 //! A page that steps through the pictures of a machine.
 
-use crate::film::Film;
+ghost use Rattle.std.specs.Prelude.{◌≡◌, ◌++◌, [], OnOk, IfOk, slice_get};
+ghost use Rattle.std.specs.List.{flat_map};
+ghost use Rattle.std.specs.String.{string_bytes};
+ghost use Rattle.run_pictures.specs.Pages as pages;
+
+use crate::film::{Film, is_changed};
 use crate::machine::{Extent, PictureMachine};
 use crate::page_parts::{PAGE_END, PAGE_HEAD};
 use crate::place::Place;
@@ -15,64 +20,104 @@ pub struct Page {
 }
 
 // The numbers that the page is laid out by.
-fn push_extent(text: &mut String, extent: Extent) -> Result<(), AllocError> {
+fn push_extent(text: &mut String, extent: Extent) -> Result<(), AllocError>
+    ensures { OnOk result (string_bytes text.new ≡ string_bytes text.old ++ pages.extent_text extent) }
+{
     let words = extent.block_words;
     let ways = extent.ways;
     write!(text, "const blockWords = {words};\nconst ways = {ways};\n")
 }
 
 // The names of the places, in their order.
-fn push_places(text: &mut String, places: &[Place]) -> Result<(), AllocError> {
-    text.push_str("const places = [\n")?;
+fn push_names(text: &mut String, places: &[Place]) -> Result<(), AllocError>
+    ensures { OnOk result
+        (string_bytes text.new ≡ string_bytes text.old ++ flat_map pages.place_line places.now) }
+{
     for place in places {
         write!(text, "'{place}',\n")?;
     }
+    Ok(())
+}
+
+// The list of the places.
+fn push_places(text: &mut String, places: &[Place]) -> Result<(), AllocError>
+    ensures { OnOk result
+        (string_bytes text.new ≡ string_bytes text.old ++ pages.places_text places.now) }
+{
+    text.push_str("const places = [\n")?;
+    push_names(text, places)?;
     text.push_str("];\n")
 }
 
 // The number of a place with what stands there now.
-fn push_cell(text: &mut String, texts: &[String], k: usize) -> Result<(), AllocError> {
+fn push_cell(text: &mut String, texts: &[String], k: usize) -> Result<(), AllocError>
+    ensures { OnOk result
+        (string_bytes text.new ≡ string_bytes text.old ++ pages.cell_text k (slice_get texts.now k)) }
+{
     match texts.get(k) {
         Some(cell) => write!(text, "[{k},\"{cell}\"],"),
         None => Ok(()),
     }
 }
 
-// The picture before the first event: all places where something stands.
-fn push_opening(text: &mut String, texts: &[String]) -> Result<(), AllocError> {
-    text.push_str("const steps = [\n[\"\",\"\",\"the machine before the first event\",[")?;
-    for k in 0..texts.len() {
-        if !texts[k].is_empty() {
-            push_cell(text, texts, k)?;
-        }
+// The same, if that is another text than before.
+#[tactic(auto, unfolding(crate::specs::Pages::change_text))]
+fn push_change(
+    text: &mut String,
+    before: &[String],
+    after: &[String],
+    k: usize,
+) -> Result<(), AllocError>
+    ensures { OnOk result
+        (string_bytes text.new ≡ string_bytes text.old ++ pages.change_text before.now after.now k) }
+{
+    if is_changed(before, after, k) {
+        push_cell(text, after, k)
+    } else {
+        Ok(())
+    }
+}
+
+// The places that have another text than before, and the end of a step.
+fn push_changes(text: &mut String, before: &[String], after: &[String]) -> Result<(), AllocError>
+    ensures { OnOk result
+        (string_bytes text.new ≡ string_bytes text.old ++ pages.changes_text before.now after.now) }
+{
+    for k in 0..after.len() {
+        push_change(text, before, after, k)?;
     }
     text.push_str("]],\n")
 }
 
+// The picture before the first event: all places where something stands.
+fn push_first(text: &mut String, texts: &[String]) -> Result<(), AllocError>
+    ensures { OnOk result (string_bytes text.new ≡ string_bytes text.old ++ pages.first_text texts.now) }
+{
+    text.push_str("const steps = [\n[\"\",\"\",\"the machine before the first event\",[")?;
+    push_changes(text, &[], texts)
+}
+
 // The event of a step, its answer and its words.
-fn push_step(text: &mut String, step: &Step) -> Result<(), AllocError> {
+fn push_event(text: &mut String, step: &Step) -> Result<(), AllocError>
+    ensures { OnOk result
+        (string_bytes text.new ≡ string_bytes text.old ++ pages.event_line step.now.event step.now.answer (string_bytes step.now.words)) }
+{
     let event = step.event;
     let answer = step.answer;
     let words = step.words.as_str();
     write!(text, "[\"{event}\",\"{answer}\",\"{words}\",[")
 }
 
-// The texts that a step changed.
-fn push_changes(text: &mut String, texts: &[String], changed: &[usize]) -> Result<(), AllocError> {
-    for k in changed {
-        push_cell(text, texts, *k)?;
-    }
-    text.push_str("]],\n")
-}
-
 impl Page {
     /// The page of a machine before its first event.
-    pub fn new<M: PictureMachine>(alloc: Global, machine: &M) -> Result<Page, AllocError> {
+    pub fn new<M: PictureMachine>(alloc: Global, machine: &M) -> Result<Page, AllocError>
+        ensures { IfOk result (λ page. pages.PageOpens PAGE_HEAD.now (M.state machine.now) page) }
+    {
         let film = Film::new(alloc, machine)?;
         let mut text = String::from_str(alloc, PAGE_HEAD)?;
         push_extent(&mut text, machine.extent())?;
         push_places(&mut text, film.places())?;
-        push_opening(&mut text, film.texts())?;
+        push_first(&mut text, film.texts())?;
         Ok(Page { film, text })
     }
 
@@ -82,14 +127,19 @@ impl Page {
         alloc: Global,
         machine: &M,
         step: &Step,
-    ) -> Result<(), AllocError> {
-        let changed = self.film.advance(alloc, machine, step.event, step.answer)?;
-        push_step(&mut self.text, step)?;
-        push_changes(&mut self.text, self.film.texts(), changed.as_slice())
+    ) -> Result<(), AllocError>
+        ensures { OnOk result
+            (pages.PageGoesOn (M.state machine.now) step.now.event step.now.answer self.old self.new) }
+    {
+        let before = self.film.advance(alloc, machine, step.event, step.answer)?;
+        push_event(&mut self.text, step)?;
+        push_changes(&mut self.text, before.as_slice(), self.film.texts())
     }
 
     /// The whole text.
-    pub fn finish(self) -> Result<String, AllocError> {
+    pub fn finish(self) -> Result<String, AllocError>
+        ensures { IfOk result (λ text. string_bytes text ≡ string_bytes self.text ++ PAGE_END.now) }
+    {
         let mut text = self.text;
         text.push_str(PAGE_END)?;
         Ok(text)

@@ -1,5 +1,7 @@
 //! The places of a picture.
-ghost use Rattle.std.specs.Prelude.{Some};
+ghost use Rattle.std.specs.Prelude.{◌≡◌, ◌*◌, ◌++◌, Some, OnOk, IfOk};
+ghost use Rattle.run_pictures.specs.Extents.{fitted};
+ghost use Rattle.run_pictures.specs.Places as spots;
 ghost use Rattle.run_pictures.specs.declared.machine.Extent.{Extent as ExtentValue};
 
 use crate::machine::Extent;
@@ -66,78 +68,138 @@ impl fmt::Display for Place {
 }
 
 // The loads that may wait for a word.
-fn push_loads(places: &mut Vec<Place>, slot: u32, i: u32) -> Result<(), AllocError> {
+fn push_loads(places: &mut Vec<Place>, slot: u32, i: u32) -> Result<(), AllocError>
+    ensures { OnOk result (places.new.items ≡ places.old.items ++ spots.of_each (spots.load_place slot i) MOST_LOADS) }
+{
     for place in 0..MOST_LOADS {
         places.push(Place::Load { slot, i, place })?;
     }
     Ok(())
 }
 
+// A word of a register.
+fn push_field(places: &mut Vec<Place>, slot: u32, i: u32) -> Result<(), AllocError>
+    ensures { OnOk result (places.new.items ≡ places.old.items ++ spots.field_places slot i) }
+{
+    places.push(Place::Field { slot, i })?;
+    push_loads(places, slot, i)
+}
+
 // The words of a register.
-fn push_fields(places: &mut Vec<Place>, extent: &Extent, slot: u32) -> Result<(), AllocError> {
+fn push_fields(places: &mut Vec<Place>, extent: &Extent, slot: u32) -> Result<(), AllocError>
+    ensures { OnOk result (places.new.items ≡ places.old.items ++ spots.of_each (spots.field_places slot) extent.now.block_words) }
+{
     for i in 0..extent.block_words {
-        places.push(Place::Field { slot, i })?;
-        push_loads(places, slot, i)?;
+        push_field(places, slot, i)?;
     }
     Ok(())
 }
 
-fn push_registers(places: &mut Vec<Place>, extent: &Extent) -> Result<(), AllocError> {
+// A register.
+fn push_register(places: &mut Vec<Place>, extent: &Extent, slot: u32) -> Result<(), AllocError>
+    ensures { OnOk result (places.new.items ≡ places.old.items ++ spots.register_places extent.now slot) }
+{
+    places.push(Place::Register { slot })?;
+    places.push(Place::Line { slot })?;
+    push_fields(places, extent, slot)
+}
+
+fn push_registers(places: &mut Vec<Place>, extent: &Extent) -> Result<(), AllocError>
+    ensures { OnOk result (places.new.items ≡ places.old.items ++ spots.of_each (spots.register_places extent.now) extent.now.regs) }
+{
     for slot in 0..extent.regs {
-        places.push(Place::Register { slot })?;
-        places.push(Place::Line { slot })?;
-        push_fields(places, extent, slot)?;
+        push_register(places, extent, slot)?;
     }
     Ok(())
 }
 
 // The words of a frame.
-fn push_cells(places: &mut Vec<Place>, extent: &Extent, frame: u32) -> Result<(), AllocError> {
+fn push_cells(places: &mut Vec<Place>, extent: &Extent, frame: u32) -> Result<(), AllocError>
+    ensures { OnOk result (places.new.items ≡ places.old.items ++ spots.of_each (spots.cell_place frame) extent.now.block_words) }
+{
     for i in 0..extent.block_words {
         places.push(Place::Cell { frame, i })?;
     }
     Ok(())
 }
 
-fn push_frames(places: &mut Vec<Place>, extent: &Extent) -> Result<(), AllocError> {
+// A frame.
+fn push_frame(places: &mut Vec<Place>, extent: &Extent, frame: u32) -> Result<(), AllocError>
+    ensures { OnOk result (places.new.items ≡ places.old.items ++ spots.frame_places extent.now frame) }
+{
+    places.push(Place::Frame { frame })?;
+    push_cells(places, extent, frame)
+}
+
+fn push_frames(places: &mut Vec<Place>, extent: &Extent) -> Result<(), AllocError>
+    ensures { OnOk result (places.new.items ≡ places.old.items ++ spots.of_each (spots.frame_places extent.now) (fitted (extent.now.sets * extent.now.ways))) }
+{
     for frame in 0..extent.frames() {
-        places.push(Place::Frame { frame })?;
-        push_cells(places, extent, frame)?;
+        push_frame(places, extent, frame)?;
     }
     Ok(())
 }
 
-fn push_stack(places: &mut Vec<Place>, extent: &Extent) -> Result<(), AllocError> {
+fn push_stack(places: &mut Vec<Place>, extent: &Extent) -> Result<(), AllocError>
+    ensures { OnOk result (places.new.items ≡ places.old.items ++ spots.of_each spots.stack_place extent.now.depth) }
+{
     for place in 0..extent.depth {
         places.push(Place::Stack { place })?;
     }
     Ok(())
 }
 
-fn push_queue(places: &mut Vec<Place>, extent: &Extent) -> Result<(), AllocError> {
+fn push_queue(places: &mut Vec<Place>, extent: &Extent) -> Result<(), AllocError>
+    ensures { OnOk result (places.new.items ≡ places.old.items ++ spots.of_each spots.queue_place extent.now.write_queue) }
+{
     for place in 0..extent.write_queue {
         places.push(Place::Queue { place })?;
     }
     Ok(())
 }
 
-fn push_banks(places: &mut Vec<Place>, extent: &Extent) -> Result<(), AllocError> {
+// A bank.
+fn push_bank(places: &mut Vec<Place>, bank: u32) -> Result<(), AllocError>
+    ensures { OnOk result (places.new.items ≡ places.old.items ++ spots.bank_places bank) }
+{
+    places.push(Place::Commands { bank })?;
+    places.push(Place::Answers { bank })?;
+    Ok(())
+}
+
+fn push_banks(places: &mut Vec<Place>, extent: &Extent) -> Result<(), AllocError>
+    ensures { OnOk result (places.new.items ≡ places.old.items ++ spots.of_each spots.bank_places extent.now.banks) }
+{
     for bank in 0..extent.banks {
-        places.push(Place::Commands { bank })?;
-        places.push(Place::Answers { bank })?;
+        push_bank(places, bank)?;
     }
     Ok(())
 }
 
-fn push_replies(places: &mut Vec<Place>, extent: &Extent) -> Result<(), AllocError> {
+fn push_replies(places: &mut Vec<Place>, extent: &Extent) -> Result<(), AllocError>
+    ensures { OnOk result (places.new.items ≡ places.old.items ++ spots.of_each spots.reply_place extent.now.replies) }
+{
     for place in 0..extent.replies {
         places.push(Place::Reply { place })?;
     }
     Ok(())
 }
 
-fn push_memory(places: &mut Vec<Place>, extent: &Extent) -> Result<(), AllocError> {
-    for at in 0..extent.words.min(MOST_MEMORY) {
+// How many words of memory are drawn.
+fn memory_shown(words: u32) -> u32
+    ensures { result ≡ spots.memory_shown words }
+{
+    if words > MOST_MEMORY {
+        MOST_MEMORY
+    } else {
+        words
+    }
+}
+
+fn push_memory(places: &mut Vec<Place>, extent: &Extent) -> Result<(), AllocError>
+    ensures { OnOk result (places.new.items ≡ places.old.items ++ spots.of_each spots.memory_place (spots.memory_shown extent.now.words)) }
+{
+    for at in 0..memory_shown(extent.words) {
         places.push(Place::Memory { at })?;
     }
     Ok(())
@@ -147,7 +209,9 @@ fn push_memory(places: &mut Vec<Place>, extent: &Extent) -> Result<(), AllocErro
 /// words and waiting loads, the frames with their words, the input stack, the write queue, the banks,
 /// the ready values, and the first 256 words of memory. `AllocError` says that there was too little
 /// memory.
-pub fn places_of(alloc: Global, extent: &Extent) -> Result<Vec<Place>, AllocError> {
+pub fn places_of(alloc: Global, extent: &Extent) -> Result<Vec<Place>, AllocError>
+    ensures { IfOk result (λ places. places.items ≡ spots.places_in extent.now) }
+{
     let mut places = Vec::new(alloc);
     push_registers(&mut places, extent)?;
     push_frames(&mut places, extent)?;

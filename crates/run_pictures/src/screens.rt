@@ -1,13 +1,19 @@
 //! The pictures of a machine, as lines for a terminal.
 
-use crate::film::Film;
+ghost use Rattle.std.specs.Prelude.{◌≡◌, ◌++◌, OnOk, IfOk};
+ghost use Rattle.std.specs.String.{string_bytes};
+ghost use Rattle.run_pictures.specs.Screens as screens;
+
+use crate::film::{Film, is_changed};
 use crate::machine::PictureMachine;
 use crate::place::Place;
 use crate::step::Step;
 use std::alloc::{AllocError, Global};
 
 // What a place is called on a screen; nothing for one that isn't shown there.
-fn label_of(alloc: Global, place: Place) -> Result<String, AllocError> {
+fn label_of(alloc: Global, place: Place) -> Result<String, AllocError>
+    ensures { IfOk result (λ label. string_bytes label ≡ screens.label_text place) }
+{
     match place {
         Place::Register { slot } => format!(in alloc; "register {slot}"),
         Place::Line { .. } => Ok(String::new(alloc)),
@@ -25,13 +31,17 @@ fn label_of(alloc: Global, place: Place) -> Result<String, AllocError> {
 }
 
 // Whether nothing stands at a place of this text.
-fn is_idle(text: &str) -> bool {
+fn is_idle(text: &str) -> bool
+    ensures { result ≡ screens.is_idle text.now }
+{
     matches!(text, "" | "0" | "free")
 }
 
 // Whether a place is shown: memory only where it changed, and other places where something stands or
 // stood.
-fn is_shown(place: Place, text: &str, is_changed: bool) -> bool {
+fn is_shown(place: Place, text: &str, is_changed: bool) -> bool
+    ensures { result ≡ screens.is_shown place text.now is_changed }
+{
     match place {
         Place::Line { .. } => false,
         Place::Memory { .. } => is_changed,
@@ -46,7 +56,10 @@ fn push_line(
     place: Place,
     text: &str,
     is_changed: bool,
-) -> Result<(), AllocError> {
+) -> Result<(), AllocError>
+    ensures { OnOk result
+        (string_bytes screen.new ≡ string_bytes screen.old ++ screens.line_text place text.now is_changed) }
+{
     if !is_shown(place, text, is_changed) {
         return Ok(());
     }
@@ -56,32 +69,51 @@ fn push_line(
     write!(screen, "{mark} {label:<16} {shown}\n")
 }
 
-// The lines of all places, in their order. The changed ones are marked.
+// The line of the place of this number. It is marked if its text is another one than before.
+#[tactic(auto, unfolding(crate::specs::Screens::line_at))]
+fn push_line_at(
+    alloc: Global,
+    screen: &mut String,
+    places: &[Place],
+    before: &[String],
+    after: &[String],
+    k: usize,
+) -> Result<(), AllocError>
+    ensures { OnOk result
+        (string_bytes screen.new ≡ string_bytes screen.old ++ screens.line_at places.now before.now after.now k) }
+{
+    let text = match after.get(k) {
+        Some(text) => text.as_str(),
+        None => "",
+    };
+    match places.get(k) {
+        Some(place) => push_line(alloc, screen, *place, text, is_changed(before, after, k)),
+        None => Ok(()),
+    }
+}
+
+// The lines of all places, in their order.
 fn push_picture(
     alloc: Global,
     screen: &mut String,
-    film: &Film,
-    changed: &[usize],
-) -> Result<(), AllocError> {
-    let mut marks = changed;
-    let texts = film.texts();
-    let places = film.places();
+    places: &[Place],
+    before: &[String],
+    after: &[String],
+) -> Result<(), AllocError>
+    ensures { OnOk result
+        (string_bytes screen.new ≡ string_bytes screen.old ++ screens.picture_text places.now before.now after.now) }
+{
     for k in 0..places.len() {
-        let is_changed = marks.first() == Some(&k);
-        if is_changed {
-            marks = &marks[1..];
-        }
-        let text = match texts.get(k) {
-            Some(text) => text.as_str(),
-            None => "",
-        };
-        push_line(alloc, screen, places[k], text, is_changed)?;
+        push_line_at(alloc, screen, places, before, after, k)?;
     }
     Ok(())
 }
 
 // The lines above a picture: which step it is, and what it did.
-fn push_head(screen: &mut String, step: &Step) -> Result<(), AllocError> {
+fn push_head(screen: &mut String, step: &Step) -> Result<(), AllocError>
+    ensures { OnOk result
+        (string_bytes screen.new ≡ string_bytes screen.old ++ screens.head_text step.now.number step.now.event step.now.answer (string_bytes step.now.words)) }
+{
     let number = step.number;
     let event = step.event;
     let answer = step.answer;
@@ -98,10 +130,12 @@ pub struct Screens {
 
 impl Screens {
     /// The screen of a machine before its first event.
-    pub fn new<M: PictureMachine>(alloc: Global, machine: &M) -> Result<Screens, AllocError> {
+    pub fn new<M: PictureMachine>(alloc: Global, machine: &M) -> Result<Screens, AllocError>
+        ensures { IfOk result (λ first. screens.ScreensOpen (M.state machine.now) first) }
+    {
         let film = Film::new(alloc, machine)?;
         let mut text = String::from_str(alloc, "step 0: the machine before the first event\n")?;
-        push_picture(alloc, &mut text, &film, &[])?;
+        push_picture(alloc, &mut text, film.places(), film.texts(), film.texts())?;
         Ok(Screens { film, text })
     }
 
@@ -111,14 +145,25 @@ impl Screens {
         alloc: Global,
         machine: &M,
         step: &Step,
-    ) -> Result<(), AllocError> {
-        let changed = self.film.advance(alloc, machine, step.event, step.answer)?;
+    ) -> Result<(), AllocError>
+        ensures { OnOk result
+            (screens.ScreensGoOn step.now.number (M.state machine.now) step.now.event step.now.answer self.old self.new) }
+    {
+        let before = self.film.advance(alloc, machine, step.event, step.answer)?;
         push_head(&mut self.text, step)?;
-        push_picture(alloc, &mut self.text, &self.film, changed.as_slice())
+        push_picture(
+            alloc,
+            &mut self.text,
+            self.film.places(),
+            before.as_slice(),
+            self.film.texts(),
+        )
     }
 
     /// The whole text.
-    pub fn finish(self) -> String {
+    pub fn finish(self) -> String
+        ensures { string_bytes result ≡ string_bytes self.text }
+    {
         self.text
     }
 }

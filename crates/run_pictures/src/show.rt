@@ -1,14 +1,13 @@
 //! A trace, drawn.
 
-ghost use Rattle.std.specs.Prelude.{◌≡◌};
+ghost use Rattle.run_pictures.specs.Drawn.{Shows};
 
-use crate::drawing::{Drawing, Form};
+use crate::drawing::Form;
+use crate::drawn::{MOST_EVENTS, draw_run};
 use crate::machine::PictureMachine;
-use crate::watched::{Hindrance, Watched};
 use std::alloc::{AllocError, Global};
-use std::io;
 use thiserror::Error;
-use trace_text::{Source, TraceFault, serve_text};
+use trace_text::{Source, TraceFault, read_events};
 
 /// Why a trace isn't drawn.
 #[derive(Clone, Copy, PartialEq, Eq, Debug, Error)]
@@ -46,42 +45,23 @@ impl From<TraceFault> for ShowFault {
     }
 }
 
-impl From<Hindrance> for ShowFault {
-    ghost from_gives = { λ e f. Unit {0} };
-
-    fn from(hindrance: Hindrance) -> ShowFault {
-        match hindrance {
-            Hindrance::TooManyEvents => ShowFault::TooManyEvents,
-            Hindrance::OutOfMemory => ShowFault::OutOfMemory,
-        }
-    }
-}
-
-/// Applies the events of a trace to a machine, and draws it: the text of the machine before the first
-/// of them, and behind each. Lines that only show something are passed over. The machine is one in
-/// which nothing has happened, over zeros, and afterwards it stands behind the last event.
+/// Draws the walk of a machine over the events of a trace: the text of the machine before the first of
+/// them, and behind each. Lines that only show something are passed over. What loads are owed is drawn
+/// from memory of zeros on, so the machine is one in which nothing has happened, over zeros.
 ///
-/// `Trace` says that the trace has a faulty line, or couldn't be read: it is found as by
-/// [`serve_text`], and goes before the other faults. `TooManyEvents` says that there are more than
-/// 10,000 events. `OutOfMemory` says that there was too little memory.
+/// `Trace` is the fault with which [`read_events`] ended, of a faulty line for one, and goes before the
+/// other faults. `TooManyEvents` says that there are more than 10,000 events, and `OutOfMemory` that
+/// there was too little memory to draw.
 pub fn show_text<R: Source, M: PictureMachine>(
     alloc: Global,
     reader: &mut R,
     machine: &mut M,
     form: Form,
-) -> Result<String, ShowFault> {
-    let drawing = Drawing::new(alloc, machine, form)?;
-    let mut watched = Watched {
-        alloc,
-        machine,
-        drawing,
-        events: 0,
-        hindrance: None,
+) -> Result<String, ShowFault>
+    ensures { Shows R.gave R.failed form (M.state machine.old) reader.old reader.new result }
+{
+    let Some(events) = read_events(alloc, reader, MOST_EVENTS)? else {
+        return Err(ShowFault::TooManyEvents);
     };
-    // The lines with their answers aren't asked for.
-    let _counts = serve_text(alloc, reader, &mut io::sink(), &mut watched)?;
-    match watched.hindrance {
-        Some(hindrance) => Err(ShowFault::from(hindrance)),
-        None => Ok(watched.drawing.finish()?),
-    }
+    Ok(draw_run(alloc, machine, form, events.as_slice())?)
 }

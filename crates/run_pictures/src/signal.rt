@@ -1,5 +1,6 @@
 //! The signals of a waveform.
-ghost use Rattle.std.specs.Prelude.{◌≡◌, length, Some};
+ghost use Rattle.std.specs.Prelude.{◌≡◌, ◌++◌, length, Some, OnOk, IfOk};
+ghost use Rattle.std.specs.List.{flat_map, range_with_len};
 ghost use Rattle.memory_banks.specs.Banks.{bank_at};
 ghost use Rattle.run_pictures.specs.Waves as waves;
 
@@ -102,25 +103,54 @@ fn block_number(register: Option<RegisterView>) -> u32
     }
 }
 
-/// The signals of a machine, in the order in which they are declared.
-pub fn signals_of(alloc: Global, extent: &Extent) -> Result<Vec<Signal>, AllocError> {
-    let mut signals = Vec::new(alloc);
-    for slot in 0..extent.regs {
-        signals.push(Signal::Valid { slot })?;
-        signals.push(Signal::Obsolete { slot })?;
-        signals.push(Signal::Block { slot })?;
-    }
-    signals.push(Signal::Stack)?;
-    signals.push(Signal::Queue)?;
-    push_bank_signals(&mut signals, extent)?;
-    signals.push(Signal::Replies)?;
-    Ok(signals)
+// The signals of a register.
+fn push_register(signals: &mut Vec<Signal>, slot: u32) -> Result<(), AllocError>
+    ensures { OnOk result (signals.new.items ≡ signals.old.items ++ waves.register_signals slot) }
+{
+    signals.push(Signal::Valid { slot })?;
+    signals.push(Signal::Obsolete { slot })?;
+    signals.push(Signal::Block { slot })?;
+    Ok(())
 }
 
-fn push_bank_signals(signals: &mut Vec<Signal>, extent: &Extent) -> Result<(), AllocError> {
-    for bank in 0..extent.banks {
-        signals.push(Signal::Commands { bank })?;
-        signals.push(Signal::Answers { bank })?;
+fn push_registers(signals: &mut Vec<Signal>, extent: &Extent) -> Result<(), AllocError>
+    ensures { OnOk result
+        (signals.new.items ≡ signals.old.items ++ flat_map waves.register_signals (range_with_len 0 extent.now.regs)) }
+{
+    for slot in 0..extent.regs {
+        push_register(signals, slot)?;
     }
     Ok(())
+}
+
+// The signals of a bank.
+fn push_bank(signals: &mut Vec<Signal>, bank: u32) -> Result<(), AllocError>
+    ensures { OnOk result (signals.new.items ≡ signals.old.items ++ waves.bank_signals bank) }
+{
+    signals.push(Signal::Commands { bank })?;
+    signals.push(Signal::Answers { bank })?;
+    Ok(())
+}
+
+fn push_banks(signals: &mut Vec<Signal>, extent: &Extent) -> Result<(), AllocError>
+    ensures { OnOk result
+        (signals.new.items ≡ signals.old.items ++ flat_map waves.bank_signals (range_with_len 0 extent.now.banks)) }
+{
+    for bank in 0..extent.banks {
+        push_bank(signals, bank)?;
+    }
+    Ok(())
+}
+
+/// The signals of a machine, in the order in which they are declared.
+pub fn signals_of(alloc: Global, extent: &Extent) -> Result<Vec<Signal>, AllocError>
+    ensures { IfOk result (λ signals. signals.items ≡ waves.signals_in extent.now) }
+{
+    let mut signals = Vec::new(alloc);
+    push_registers(&mut signals, extent)?;
+    signals.push(Signal::Stack)?;
+    signals.push(Signal::Queue)?;
+    push_banks(&mut signals, extent)?;
+    signals.push(Signal::Replies)?;
+    Ok(signals)
 }

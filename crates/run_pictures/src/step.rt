@@ -1,5 +1,7 @@
 //! One step of a run that is drawn.
 
+ghost use Rattle.std.specs.Prelude.{◌≡◌, IfOk};
+
 use crate::before::Before;
 use crate::machine::PictureMachine;
 use crate::reasons::words_of;
@@ -28,7 +30,11 @@ impl Step {
         before: Before,
         event: Event,
         answer: Answer,
-    ) -> Result<Step, AllocError> {
+    ) -> Result<Step, AllocError>
+        ensures number { IfOk result (λ step. step.number ≡ number) }
+        ensures event { IfOk result (λ step. step.event ≡ event) }
+        ensures answer { IfOk result (λ step. step.answer ≡ answer) }
+    {
         let words = words_of(alloc, machine, before, event, answer)?;
         Ok(Step {
             number,

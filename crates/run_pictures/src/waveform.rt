@@ -1,26 +1,55 @@
 //! A waveform of a machine, as a value change dump (VCD).
 
+ghost use Rattle.std.specs.Prelude.{◌≡◌, ◌++◌, length, Some, OnOk, IfOk};
+ghost use Rattle.std.specs.List.{flat_map, range_with_len};
+ghost use Rattle.std.specs.String.{string_bytes};
+ghost use Rattle.run_pictures.specs.Waves as waves;
+
 use crate::machine::PictureMachine;
 use crate::signal::{Signal, signals_of};
 use crate::step::Step;
 use std::alloc::{AllocError, Global};
 
 // The declaration of the signal of this number.
-fn push_declaration(wave: &mut String, signal: Signal, k: usize) -> Result<(), AllocError> {
-    let width = signal.width();
-    write!(wave, "$var wire {width} s{k} {signal} $end\n")
+#[tactic(auto, unfolding(crate::specs::Waves::declaration_at))]
+fn push_declaration(wave: &mut String, signals: &[Signal], k: usize) -> Result<(), AllocError>
+    ensures { OnOk result
+        (string_bytes wave.new ≡ string_bytes wave.old ++ waves.declaration_at signals.now k) }
+{
+    match signals.get(k) {
+        Some(signal) => {
+            let width = signal.width();
+            write!(wave, "$var wire {width} s{k} {signal} $end\n")
+        }
+        None => Ok(()),
+    }
 }
 
-fn push_declarations(wave: &mut String, signals: &[Signal]) -> Result<(), AllocError> {
-    wave.push_str("$timescale 1 ns $end\n$scope module kroft $end\n")?;
+fn push_each_declaration(wave: &mut String, signals: &[Signal]) -> Result<(), AllocError>
+    ensures { OnOk result
+        (string_bytes wave.new ≡ string_bytes wave.old ++ flat_map (waves.declaration_at signals.now) (range_with_len 0 (length signals.now))) }
+{
     for k in 0..signals.len() {
-        push_declaration(wave, signals[k], k)?;
+        push_declaration(wave, signals, k)?;
     }
-    wave.push_str("$upscope $end\n$enddefinitions $end\n")
+    Ok(())
+}
+
+// The text before the first values.
+fn declarations(alloc: Global, signals: &[Signal]) -> Result<String, AllocError>
+    ensures { IfOk result (λ wave. string_bytes wave ≡ waves.declarations_text signals.now) }
+{
+    let mut wave = String::from_str(alloc, "$timescale 1 ns $end\n$scope module kroft $end\n")?;
+    push_each_declaration(&mut wave, signals)?;
+    wave.push_str("$upscope $end\n$enddefinitions $end\n")?;
+    Ok(wave)
 }
 
 // The value of the signal of this number.
-fn push_value(wave: &mut String, signal: Signal, k: usize, value: u32) -> Result<(), AllocError> {
+fn push_value(wave: &mut String, signal: Signal, k: usize, value: u32) -> Result<(), AllocError>
+    ensures { OnOk result
+        (string_bytes wave.new ≡ string_bytes wave.old ++ waves.value_text (Some signal) k (Some value)) }
+{
     if signal.width() == 1 {
         write!(wave, "{value}s{k}\n")
     } else {
@@ -33,7 +62,10 @@ fn values_of<M: PictureMachine>(
     alloc: Global,
     machine: &M,
     signals: &[Signal],
-) -> Result<Vec<u32>, AllocError> {
+) -> Result<Vec<u32>, AllocError>
+    ensures { IfOk result
+        (λ values. values.items ≡ waves.values_of (M.state machine.now) signals.now) }
+{
     let mut values = Vec::with_capacity(alloc, signals.len())?;
     for signal in signals {
         values.push(signal.value(machine))?;
@@ -41,19 +73,39 @@ fn values_of<M: PictureMachine>(
     Ok(values)
 }
 
-// The values that aren't those of before, where there was one.
+// The value of the signal of this number, if it isn't that of before.
+#[tactic(auto, unfolding(crate::specs::Waves::change_text))]
+fn push_change(
+    wave: &mut String,
+    signals: &[Signal],
+    before: &[u32],
+    values: &[u32],
+    k: usize,
+) -> Result<(), AllocError>
+    ensures { OnOk result
+        (string_bytes wave.new ≡ string_bytes wave.old ++ waves.change_text signals.now before.now values.now k) }
+{
+    if before.get(k) == values.get(k) {
+        return Ok(());
+    }
+    match (signals.get(k), values.get(k)) {
+        (Some(signal), Some(value)) => push_value(wave, *signal, k, *value),
+        _ => Ok(()),
+    }
+}
+
+// The values that aren't those of before, if there was one.
 fn push_changes(
     wave: &mut String,
     signals: &[Signal],
     before: &[u32],
     values: &[u32],
-) -> Result<(), AllocError> {
+) -> Result<(), AllocError>
+    ensures { OnOk result
+        (string_bytes wave.new ≡ string_bytes wave.old ++ waves.changes_text signals.now before.now values.now) }
+{
     for k in 0..signals.len() {
-        if let Some(value) = values.get(k) {
-            if before.get(k) != Some(value) {
-                push_value(wave, signals[k], k, *value)?;
-            }
-        }
+        push_change(wave, signals, before, values, k)?;
     }
     Ok(())
 }
@@ -68,11 +120,12 @@ pub struct Waveform {
 
 impl Waveform {
     /// The waveform of a machine before its first event.
-    pub fn new<M: PictureMachine>(alloc: Global, machine: &M) -> Result<Waveform, AllocError> {
+    pub fn new<M: PictureMachine>(alloc: Global, machine: &M) -> Result<Waveform, AllocError>
+        ensures { IfOk result (λ wave. waves.WaveOpens (M.state machine.now) wave) }
+    {
         let signals = signals_of(alloc, &machine.extent())?;
         let values = values_of(alloc, machine, signals.as_slice())?;
-        let mut text = String::new(alloc);
-        push_declarations(&mut text, signals.as_slice())?;
+        let mut text = declarations(alloc, signals.as_slice())?;
         text.push_str("#0\n$dumpvars\n")?;
         push_changes(&mut text, signals.as_slice(), &[], values.as_slice())?;
         text.push_str("$end\n")?;
@@ -89,7 +142,10 @@ impl Waveform {
         alloc: Global,
         machine: &M,
         step: &Step,
-    ) -> Result<(), AllocError> {
+    ) -> Result<(), AllocError>
+        ensures { OnOk result
+            (waves.WaveGoesOn step.now.number (M.state machine.now) self.old self.new) }
+    {
         let signals = self.signals.as_slice();
         let values = values_of(alloc, machine, signals)?;
         let number = step.number;
@@ -105,7 +161,9 @@ impl Waveform {
     }
 
     /// The whole text.
-    pub fn finish(self) -> String {
+    pub fn finish(self) -> String
+        ensures { string_bytes result ≡ string_bytes self.text }
+    {
         self.text
     }
 }

@@ -7,6 +7,7 @@ pub mod Ends
 pub mod Unique
 pub mod Arrows
 pub mod Held
+pub mod Gathering
 pub mod Cuts
 pub mod Written
 pub mod Commands

@@ -8,6 +8,7 @@ pub mod Reading
 pub mod Collecting
 pub mod Serving
 pub mod Requests
+pub mod Events
 pub mod Checks
 pub mod Written
 pub mod Recorded

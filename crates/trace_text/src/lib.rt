@@ -4,7 +4,8 @@
 //! them, as `load 1 5`. [`read_line`] reads one. A served trace has each line with its answer, as
 //! `load 1 5 -> accepted`: [`read_pair`] reads one of these, and [`check_text`] judges a whole one
 //! against flat memory. [`serve_text`] makes one of a trace: it applies each line to a machine and
-//! writes it with its answer. [`read_requests`] keeps the requests of a trace.
+//! writes it with its answer. [`read_requests`] keeps the requests of a trace, and
+//! [`read_events`] its events.
 //!
 //! A trace has at most 16,777,216 lines, and a line at most 64 bytes before its LF, or 768 with its
 //! answer. A text may come in any pieces: what is read and answered doesn't depend on them.
@@ -15,6 +16,7 @@
 
 mod check;
 mod digits;
+mod events;
 mod fault;
 mod fields;
 pub mod laws;
@@ -29,6 +31,7 @@ mod text;
 mod writers;
 
 pub use check::{CheckEnd, check_text};
+pub use events::read_events;
 pub use fault::{BUFFER_LEN, MAX_LINES, MAX_PAIR, TraceFault};
 pub use fields::{nibble, number};
 pub use lines::{Line, LineFault, cut, read_line};

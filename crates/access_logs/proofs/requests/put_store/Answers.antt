@@ -1,4 +1,3 @@
-use Rattle.std.proofs.Common.{[]}
 use Rattle.std.specs.Prelude.{decimal}
 use Rattle.trace_text.specs.Fields.{lanes_text, word_text}
 use Rattle.access_logs.proofs.Asked.{store_built}

@@ -1,5 +1,5 @@
 use Rattle.std.proofs.Common.{◌∙◌, sym}
-use Rattle.std.specs.Prelude.{true, false, if◌then◌else◌, ◌++◌, codes, decimal}
+use Rattle.std.specs.Prelude.{true, if◌then◌else◌, ◌++◌, codes}
 use Rattle.std.specs.String.{string_bytes}
 use Rattle.flat_model.specs.Words.{has_any}
 use Rattle.flat_model.specs.Texts.{word_text as digits, lanes_text as mask}

@@ -1,0 +1,7 @@
+use Rattle.std.proofs.Common.{◌≡◌, ◌++◌}
+use Rattle.run_pictures.specs.Places.{of_each, frame_places}
+use Rattle.run_pictures.proofs.place.push_frames.Given as goal
+
+-- the places so far stand behind the others
+abbrev pub invariant-loop-frame : goal.invariant-loop-frame
+invariant-loop-frame l = l.places.items ≡ l.initial.places.items ++ of_each (frame_places l.extent) l.frame

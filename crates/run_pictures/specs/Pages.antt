@@ -1,0 +1,65 @@
+-- A page: the text before its first step, and the text of each step.
+use Rattle.std.specs.Prelude.{◌≡◌, ℕ, if◌then◌else◌, List, [], ◌++◌, codes, decimal, length, Option, Some, None, slice_get}
+use Rattle.std.specs.List.{flat_map, range_with_len}
+use Rattle.std.specs.String.{string_bytes}
+use Rattle.std.specs.Global.{Global}
+use Rattle.std.specs.declared.string.String.{String}
+use Rattle.flat_model.specs.declared.Event.{Event}
+use Rattle.flat_model.specs.declared.Answer.{Answer}
+use Rattle.flat_model.specs.Texts.{event_text, answer_text}
+use Rattle.machine_core.specs.Machine.{MachineState}
+use Rattle.run_pictures.specs.declared.machine.Extent.{Extent}
+use Rattle.run_pictures.specs.declared.page.Page.{Page}
+use Rattle.run_pictures.specs.declared.place.Place.{Place}
+use Rattle.run_pictures.specs.Extents.{extent_of}
+use Rattle.run_pictures.specs.Places.{name_text}
+use Rattle.run_pictures.specs.Pictures.{Texts, is_changed, Begins, GoesOn}
+
+-- a place's number and its text
+abbrev pub cell_text : ℕ → Option (String Global) → List ℕ
+cell_text k None = []
+cell_text k (Some text) = codes "[" ++ (decimal k ++ (codes ",\"" ++ (string_bytes text ++ codes "\"],")))
+
+unfoldable pub change_text : Texts → Texts → ℕ → List ℕ
+change_text before after k = if is_changed before after k then cell_text k (slice_get after k) else []
+
+-- the places that changed, in order
+abbrev pub changes_text : Texts → Texts → List ℕ
+changes_text before after = flat_map (change_text before after) (range_with_len 0 (length after)) ++ codes "]],\n"
+
+-- the event, its answer and its words
+abbrev pub event_line : Event → Answer → List ℕ → List ℕ
+event_line event answer words =
+    codes "[\"" ++ (event_text event ++ (codes "\",\"" ++ (answer_text answer ++ (codes "\",\"" ++ (words ++ codes "\",[")))))
+
+-- a step of a page, with these words
+abbrev pub step_text : Event → Answer → List ℕ → Texts → Texts → List ℕ
+step_text event answer words before after = event_line event answer words ++ changes_text before after
+
+-- ---- the text before the first step
+
+abbrev pub extent_text : Extent → List ℕ
+extent_text z =
+    codes "const blockWords = " ++ (decimal z.block_words ++ (codes ";\nconst ways = " ++ (decimal z.ways ++ codes ";\n")))
+
+abbrev pub place_line : Place → List ℕ
+place_line place = codes "'" ++ (name_text place ++ codes "',\n")
+
+abbrev pub places_text : List Place → List ℕ
+places_text places = codes "const places = [\n" ++ (flat_map place_line places ++ codes "];\n")
+
+abbrev pub first_text : Texts → List ℕ
+first_text texts = codes "const steps = [\n[\"\",\"\",\"the machine before the first event\",[" ++ changes_text [] texts
+
+-- ---- pages
+
+-- Before the first event: behind the page's head stand the machine's numbers, the places' names, and the first picture.
+pub record PageOpens (head : List ℕ) (s : MachineState) (p : Page) : Type 0 where
+  pub film : Begins s p.film
+  pub text : string_bytes p.text ≡ head ++ (extent_text (extent_of s.sizes) ++ (places_text p.film.places.items ++ first_text p.film.texts.items))
+
+-- The step of an event: its text stands behind the others.
+pub record PageGoesOn (s : MachineState) (event : Event) (answer : Answer) (old new : Page) : Type 0 where
+  pub words : List ℕ
+  pub film : GoesOn s event answer old.film new.film
+  pub text : string_bytes new.text ≡ string_bytes old.text ++ step_text event answer words old.film.texts.items new.film.texts.items
