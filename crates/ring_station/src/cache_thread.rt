@@ -1,6 +1,8 @@
 //! The cache side's thread.
-ghost use Rattle.std.specs.Prelude.{◌≡◌};
+ghost use Rattle.std.specs.Prelude.{◌≡◌, true, OnOk, IsErr};
 ghost use Rattle.station_parts.specs.Ids.{cache_id};
+ghost use Rattle.station_parts.specs.Rest.{is_at_rest};
+ghost use Rattle.station_parts.specs.Words.{cache_in};
 
 use crate::fault::RunFault;
 use crate::gate::{Actor, Gate};
@@ -25,7 +27,9 @@ pub(crate) fn run_cache<
     done: &AtomicBool,
     cache: &mut CacheSide<WAYS, WORDS, REGS, DEPTH>,
 ) -> Result<(), RunFault>
-    ensures { cache_id cache.new ≡ cache_id cache.old }
+    ensures same { cache_id cache.new ≡ cache_id cache.old }
+    ensures rests { OnOk result (is_at_rest (cache_in cache.new) ≡ true) }
+    ensures no_turn { turns ≡ 0 → IsErr result }
 {
     let mut round = Round::new(ports, banks);
     let mut open_ports = ports;

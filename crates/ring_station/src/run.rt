@@ -1,10 +1,13 @@
 //! Runs of a station on threads.
-ghost use Rattle.std.specs.Prelude.{◌≡◌, ◌<◌, ◌≤◌, [], length, map, vec_len, IfOk, OnOk, IsOk, IsErr};
+ghost use Rattle.std.specs.Prelude.{◌≡◌, ◌<◌, ◌≤◌, ◌⊎◌, [], true, length, map, vec_len, Err, IfOk, IfErr, OnOk, IsOk, IsErr};
 ghost use Rattle.std.specs.List.{All};
 ghost use Rattle.station_parts.specs.Ids.{port_id, bank_id, cache_id};
 ghost use Rattle.station_parts.specs.New.{IsNewPort};
+ghost use Rattle.station_parts.specs.Rest.{is_at_rest};
 ghost use Rattle.station_parts.specs.Runs.{HaveConversed};
 ghost use Rattle.station_parts.specs.Station.{AreOneStation};
+ghost use Rattle.station_parts.specs.Words.{cache_in};
+ghost use Rattle.ring_station.specs.declared.fault.RunFault.TheVariants.{OutOfMemory};
 ghost use Rattle.ring_station.specs.PortRuns.{HaveRun};
 ghost use Rattle.ring_station.specs.Crew.{EachRanScript, EachIsSame, EachServed};
 
@@ -64,6 +67,10 @@ pub fn run_threads<
     ensures conversed { IfOk result
         (λ lists. All IsNewPort station.old.ports.items
         → HaveConversed scripts.now station.new.ports.items lists.items) }
+
+    // Then nothing is under way in the unit. A run without a turn comes to no end.
+    ensures rests { OnOk result (is_at_rest (cache_in station.new.cache) ≡ true) }
+    ensures no_turn { turns ≡ 0 → IsErr result }
 {
     let Station {
         cache,
@@ -120,6 +127,8 @@ fn run_crew<
     ensures ports { EachRanScript scripts.now ports.old.items ports.new.items }
     ensures banks { EachServed banks.old.items banks.new.items }
     ensures ended { OnOk result (All (λ r. IsOk r.end) ports.new.items) }
+    ensures rests { OnOk result (is_at_rest (cache_in cache.new) ≡ true) }
+    ensures no_turn { turns ≡ 0 → IsErr result }
 {
     reserve_lists(scripts, ports)?;
     let cache_end = run_all(rt, gate, scripts, turns, cache, ports, banks);
@@ -160,7 +169,10 @@ fn banks_end(banks: &[BankRun]) -> Result<(), RunFault> {
 
 // Want of memory goes before a limit.
 fn worse(a: Result<(), RunFault>, b: Result<(), RunFault>) -> Result<(), RunFault>
-    ensures { OnOk result (IsOk a × IsOk b) }
+    ensures both { IsOk a → IsOk b → IsOk result }
+    ensures ok { OnOk result (IsOk a × IsOk b) }
+    ensures memory { (a ≡ Err OutOfMemory) ⊎ (b ≡ Err OutOfMemory) → result ≡ Err OutOfMemory }
+    ensures limit { IfErr result (λ fault. fault ≡ OutOfMemory → (a ≡ Err OutOfMemory) ⊎ (b ≡ Err OutOfMemory)) }
 {
     match (a, b) {
         (Ok(()), end) | (end, Ok(())) => end,

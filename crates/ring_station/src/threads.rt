@@ -1,10 +1,12 @@
 //! The threads of a run: one for the cache side, one for each port, and one for each bank.
-ghost use Rattle.std.specs.Prelude.{◌≡◌, ◌<◌, ◌≤◌, ◌++◌, ℕ, [], length, slice_index_or, vec_len, OnOk};
+ghost use Rattle.std.specs.Prelude.{◌≡◌, ◌<◌, ◌≤◌, ◌++◌, ℕ, [], true, length, slice_index_or, vec_len, OnOk, IsErr};
 ghost use Rattle.std.specs.List.{All};
 ghost use Rattle.std.specs.Global.{Vec};
 ghost use Rattle.std.specs.Thread.{IsSync};
 ghost use Rattle.station_journal.specs.declared.asks.Ask.{Ask};
 ghost use Rattle.station_parts.specs.Ids.{cache_id, bank_id};
+ghost use Rattle.station_parts.specs.Rest.{is_at_rest};
+ghost use Rattle.station_parts.specs.Words.{cache_in};
 ghost use Rattle.ring_station.specs.Crew.{RanScript, EachRanScript, EachServed};
 
 use crate::bank_thread::run_bank;
@@ -42,6 +44,8 @@ pub(crate) fn run_all<
     ensures cache { cache_id cache.new ≡ cache_id cache.old }
     ensures ports { EachRanScript scripts.now ports.old.items ports.new.items }
     ensures banks { EachServed banks.old.items banks.new.items }
+    ensures rests { OnOk result (is_at_rest (cache_in cache.new) ≡ true) }
+    ensures no_turn { turns ≡ 0 → IsErr result }
 {
     let done = AtomicBool::new(false);
     let port_count = ports.len() as u32;
@@ -49,7 +53,9 @@ pub(crate) fn run_all<
     let (cache_end, ()) = join_mut(
         rt,
         &mut || -> Result<(), RunFault>
-            ensures { cache_id cache.exit.now ≡ cache_id cache.entry.now }
+            ensures same { cache_id cache.exit.now ≡ cache_id cache.entry.now }
+            ensures rests { OnOk result (is_at_rest (cache_in cache.exit.now) ≡ true) }
+            ensures no_turn { turns ≡ 0 → IsErr result }
         { run_cache(gate, port_count, bank_count, turns, &done, cache) },
         &mut ||
             requires { IsSync R.row × (length scripts.now ≡ vec_len ports.now)

@@ -7,8 +7,6 @@ mod findings;
 mod lines;
 mod plan;
 mod story;
-#[cfg(test)]
-mod tests;
 
 pub use checks::{are_told, is_flat, read_journal};
 pub use findings::{Findings, Outcome};

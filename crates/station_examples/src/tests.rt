@@ -9,6 +9,7 @@ use std::alloc::{AllocError, Global};
 mod at_once;
 mod audited;
 mod by_hand;
+mod checks;
 mod full;
 mod limits;
 mod makers;

@@ -1,9 +1,7 @@
 //! What is found of a journal and of lists, and the texts, which no contract says.
-
-use crate::{Findings, Plan, are_told, is_flat, tell_journal, tell_run, tell_story};
 use flat_model::{Answer, Cause, Event, Lanes, Word};
-use station_journal::{Ask, Entry, Source, Told};
-use station_parts::{Audit, Ring};
+use ring_station::{Ask, Audit, Entry, Ring, Source, Told};
+use station_checks::{Findings, Plan, are_told, is_flat, tell_journal, tell_run, tell_story};
 use std::alloc::{AllocError, Global};
 use std::test::Fail;
 use std::time::Duration;
