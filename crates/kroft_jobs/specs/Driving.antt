@@ -10,13 +10,14 @@ use Rattle.trace_text.specs.declared.fault.TheConstants.{MAX_LINE}
 use Rattle.trace_text.specs.declared.fault.TraceFault.{TraceFault}
 use Rattle.trace_text.specs.declared.fault.TraceFault.TheVariants.{OutOfMemory}
 use Rattle.round_driver.specs.Rounds.{start_of, rounds_until_over, whole_run}
+use Rattle.round_driver.specs.Walks.{IsOverInTime}
 use Rattle.round_driver.specs.Written.{run_text, BreaksOff}
 
--- The run of these requests is written and its rounds are told. Or the writing broke off behind a round, or nothing is
--- written for want of memory.
+-- The run of these requests is written, is over in time, and its rounds are told. Or the writing broke off behind a
+-- round, or nothing is written for want of memory.
 abbrev pub IsDriven : {W : Type 0} (took : W → List ℕ → W → Type 0) (refused : W → W → Type 0) (latency : ℕ) (s : MachineState) (requests : List Event) (old new : W) → Result ℕ TraceFault → Type 0
 IsDriven took refused latency s requests old new (Ok rounds) =
-    Moves took old (run_text (whole_run latency s requests).told) new × (rounds ≡ (whole_run latency s requests).schedule.round + 1)
+    Moves took old (run_text (whole_run latency s requests).told) new × IsOverInTime latency s requests × (rounds ≡ (whole_run latency s requests).schedule.round + 1)
 IsDriven took refused latency s requests old new (Err fault) =
     ((fault ≡ OutOfMemory) × (new ≡ old)) ⊎ ((n : ℕ) × BreaksOff took refused old (run_text (rounds_until_over n (start_of latency s requests)).told) new fault)
 

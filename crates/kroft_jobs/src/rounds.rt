@@ -1,6 +1,7 @@
 //! What the program does with the requests of a trace in rounds.
 
-ghost use Rattle.std.specs.Prelude.{◌≡◌, ◌≤◌, ℕ, List, None, IfOk, IfErr, length, map};
+ghost use Rattle.std.specs.Prelude.{◌≡◌, ◌≤◌, ℕ, List, None, true, IfOk, IfErr, length, map};
+ghost use Rattle.std.specs.List.{list_all};
 ghost use Rattle.trace_text.specs.declared.fault.TheConstants.{MAX_LINE};
 ghost use Rattle.trace_text.specs.Reading.{ReadWhole, ReadFails};
 ghost use Rattle.trace_text.specs.Serving.{trace_fault};
@@ -11,6 +12,7 @@ ghost use Rattle.register_sweeps.specs.Rounds.{rounds_row_of};
 ghost use Rattle.round_driver.specs.declared.driving.TheConstants.{MOST_LATENCY};
 ghost use Rattle.round_driver.specs.Rounds.{most_requests};
 ghost use Rattle.round_driver.specs.Tables.{table_of};
+ghost use Rattle.round_driver.specs.Walks.{is_request};
 ghost use Rattle.kroft_jobs.specs.Driving.{IsDriven, DrivesAll};
 ghost use Rattle.kroft_jobs.specs.Jobs.{swept};
 
@@ -26,8 +28,8 @@ use std::thread::Threads;
 use trace_text::{Sink, Source, TraceFault, read_requests};
 
 /// Drives the requests of a trace in rounds through a new machine of a shape whose fields are in
-/// range, over zeros, as [`drive`] does, and writes the run. Gives the number of rounds. The output
-/// isn't flushed.
+/// range, over zeros, as [`drive`] does, and writes the run. Gives the number of rounds, behind which the
+/// requests are used up and nothing is on its way. The output isn't flushed.
 ///
 /// All requests are read before anything is written: a fault of the trace leaves the output as it is.
 /// A write that is refused ends the run at once.
@@ -57,7 +59,8 @@ fn drive_all<O: Sink>(
 ) -> Result<u64, TraceFault>
     requires shape { bad_field tool.now ≡ None }
     requires latency { latency ≤ MOST_LATENCY }
-    requires requests { length requests.now ≤ most_requests }
+    requires few { length requests.now ≤ most_requests }
+    requires all { list_all is_request requests.now ≡ true }
     ensures { IsDriven O.took O.refused latency (new_machine tool.now) requests.now output.old output.new
         result }
 {
@@ -82,7 +85,7 @@ struct DrivenRequests<'a, O> {
 impl<'a, O: Sink> MachineJob for DrivenRequests<'a, O> {
     type Done = Result<u64, TraceFault>;
 
-    ghost can = { λ s. (s.latency ≤ MOST_LATENCY) × (length s.requests.now ≤ most_requests) };
+    ghost can = { λ s. (s.latency ≤ MOST_LATENCY) × (length s.requests.now ≤ most_requests) × (list_all is_request s.requests.now ≡ true) };
 
     ghost done = { λ s machine t result. IsDriven O.took O.refused s.latency machine s.requests.now s.output.now t.output.now result };
 
