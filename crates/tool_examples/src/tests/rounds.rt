@@ -92,7 +92,8 @@ fn sweep_in_rounds_of_three_loads(rt: HostRuntime) -> Result<(), Fail> {
 
 // One bank serves the four words of the block one after another: with latency 3 each takes the round
 // that begins it and three more, so the first comes in round 5, the last in round 17, and nothing moves
-// in round 18. Of four banks each serves one in round 5, and the last word comes in round 8.
+// in round 18. Of four banks each serves one in round 5, and the last word comes in round 8. With the
+// longest latency, 1,000, they serve in round 1,002, and the last word comes in round 1,005.
 #[test]
 fn latency_and_shape_reach_every_row(rt: HostRuntime) -> Result<(), Fail> {
     let one_bank = " rounds 18 accepted 1 denied 0 hits 0 joins 0 misses 1 stalled 0 \
@@ -101,14 +102,17 @@ fn latency_and_shape_reach_every_row(rt: HostRuntime) -> Result<(), Fail> {
         lost 3:0 4:0 5:0 7:0 8:0 9:0 10:0 values 1 mean 4.00 longest 4 registers 1 written 0\n";
     let no_latency = " rounds 6 accepted 1 denied 0 hits 0 joins 0 misses 1 stalled 0 \
         lost 3:0 4:0 5:0 7:0 8:0 9:0 10:0 values 1 mean 1.00 longest 1 registers 1 written 0\n";
+    let longest = " rounds 1006 accepted 1 denied 0 hits 0 joins 0 misses 1 stalled 0 \
+        lost 3:0 4:0 5:0 7:0 8:0 9:0 10:0 values 1 mean 1001.00 longest 1001 registers 1 written 0\n";
     fs::write(&rt, ONE_BANK_FILE, "banks = 1\n")?;
-    let runs: [(&[&str], &str); 3] = [
+    let runs: [(&[&str], &str); 4] = [
         (
             &["sweep", "--latency", "3", "--shape", ONE_BANK_FILE],
             one_bank,
         ),
         (&["sweep", "--latency=3"], four_banks),
         (&["sweep", "--latency", "0"], no_latency),
+        (&["sweep", "--latency", "1000"], longest),
     ];
     for (words, table) in runs {
         let mut wanted = String::new(rt.alloc());
