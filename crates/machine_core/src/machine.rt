@@ -19,7 +19,7 @@ use crate::weigh::{weight_of_banks, weight_of_registers};
 use cache_unit::{CacheUnit, Lookup};
 use flat_model::{Answer, Event, Lanes, MakeFault, Shape, ShapeField, Word};
 use input_stack::Entry;
-use memory_banks::Banks;
+use memory_banks::{BankAnswer, Banks, Command};
 use miss_registers::{FieldView, Owed, RegisterView};
 use std::alloc::{AllocError, Global};
 use std::marker::Model;
@@ -232,6 +232,22 @@ impl<const WAYS: usize, const WORDS: usize, const REGS: usize, const DEPTH: usiz
         ensures { result ≡ length (bank_at self.now.machine.banks bank).queue }
     {
         self.banks.queued(bank)
+    }
+
+    /// The command that waits at `place` of a bank's queue, the one that is served next at 0; `None`
+    /// where none waits there or the bank isn't there.
+    pub fn command_at(&self, bank: u32, place: u32) -> Option<Command>
+        ensures { result ≡ slice_get (bank_at self.now.machine.banks bank).queue place }
+    {
+        self.banks.command_at(bank, place)
+    }
+
+    /// The answer that stands at `place` in a bank, the one that an arrival with `later` 0 brings at 0;
+    /// `None` where none stands there or the bank isn't there.
+    pub fn answer_at(&self, bank: u32, place: u32) -> Option<BankAnswer>
+        ensures { result ≡ slice_get (bank_at self.now.machine.banks bank).answers place }
+    {
+        self.banks.answer_at(bank, place)
     }
 
     /// How many words stand in the input stack.

@@ -138,6 +138,13 @@ impl MemoryBank {
         }
     }
 
+    /// The command at `place`, which stays.
+    pub(crate) fn command_at(&self, place: u32) -> Option<Command>
+        ensures { result ≡ slice_get self.now.queue place }
+    {
+        self.queue.get(place as usize).copied()
+    }
+
     /// The answer at `place`, which stays.
     pub(crate) fn answer_at(&self, place: u32) -> Option<BankAnswer>
         ensures { result ≡ slice_get self.now.answers place }

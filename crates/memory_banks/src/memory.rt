@@ -113,6 +113,14 @@ impl Banks {
         }
     }
 
+    /// The command that waits at `place` of the bank's queue, the one that is served next at 0;
+    /// `None` where none waits there or the bank isn't there.
+    pub fn command_at(&self, bank: u32, place: u32) -> Option<Command>
+        ensures { result ≡ slice_get (bank_at self.now.banks bank).queue place }
+    {
+        self.banks.get(bank as usize)?.command_at(place)
+    }
+
     /// How many answers stand in the bank: 0 for a bank that isn't there.
     pub fn answers(&self, bank: u32) -> u32
         ensures { result ≡ length (bank_at self.now.banks bank).answers }
