@@ -273,21 +273,21 @@ Example:
 
   step 1: load 1 4 -> accepted
     a miss: a register is taken, and block 1's words are asked for
-  * register 0       valid, block 1, frame 2, words came: 0
-  *   word 0         missing
-  *     load         tag 1 is owed 00000000
-  *   word 1         missing
-  *   word 2         missing
-  *   word 3         missing
-  * frame 2          block 1, pending
-  *   word 0         00000000
-  *   word 1         00000000
-  *   word 2         00000000
-  *   word 3         00000000
-  * bank 0 commands  1
-  * bank 1 commands  1
-  * bank 2 commands  1
-  * bank 3 commands  1";
+  * register 0         valid, block 1, frame 2, words came: 0
+  *   word 0           missing
+  *     load           tag 1 is owed 00000000
+  *   word 1           missing
+  *   word 2           missing
+  *   word 3           missing
+  * frame 2            block 1, pending
+  *   word 0           00000000
+  *   word 1           00000000
+  *   word 2           00000000
+  *   word 3           00000000
+  * bank 0 command 0   read place 1: register 0, word 0
+  * bank 1 command 0   read place 1: register 0, word 1
+  * bank 2 command 0   read place 1: register 0, word 2
+  * bank 3 command 0   read place 1: register 0, word 3";
 
 // The argument for the shape file. It may stand before or behind the subcommand.
 fn shape_argument<'a>(alloc: Global) -> Arg<'a> {

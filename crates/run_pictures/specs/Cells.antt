@@ -1,5 +1,5 @@
 -- The text of each place of a picture, by the machine's state alone.
-use Rattle.std.specs.Prelude.{◌≡◌, ℕ, Bool, false, ◌&&◌, not, if◌then◌else◌, ◌==◌, List, [], ◌++◌, length, codes, decimal, Option, Some, None, slice_get}
+use Rattle.std.specs.Prelude.{◌≡◌, ℕ, Bool, false, ◌&&◌, not, if◌then◌else◌, ◌==◌, List, [], ◌++◌, codes, decimal, Option, Some, None, slice_get}
 use Rattle.std.specs.List.{list_any, range_with_len}
 use Rattle.std.specs.Str.{IsUtf8}
 use Rattle.flat_model.specs.declared.Word.{Word}
@@ -10,6 +10,9 @@ use Rattle.flat_model.specs.Flat.{Flat}
 use Rattle.flat_model.specs.Words.{has_any}
 use Rattle.flat_model.specs.Texts.{word_text as digits, lanes_text as mask}
 use Rattle.memory_banks.specs.Banks.{bank_at}
+use Rattle.memory_banks.specs.declared.BankAnswer.{BankAnswer}
+use Rattle.memory_banks.specs.declared.Command.{Command}
+use Rattle.memory_banks.specs.declared.Command.TheVariants.{Read, Write}
 use Rattle.input_stack.specs.declared.Entry.{Entry}
 use Rattle.write_queue.specs.declared.Queued.{Queued}
 use Rattle.miss_registers.specs.declared.Owed.{Owed}
@@ -20,7 +23,8 @@ use Rattle.machine_core.specs.Machine.{MachineState}
 use Rattle.trace_text.specs.Texts.{register_text as line_of_register}
 use Rattle.machine_core.specs.AnyMachine.{register_shown, field_shown, target_shown, bank_shown}
 use Rattle.run_pictures.specs.declared.place.Place.{Place}
-use Rattle.run_pictures.specs.declared.place.Place.TheVariants.{Register, Line, Field, Load, Frame, Cell, Stack, Queue, Commands, Answers, Reply, Memory}
+use Rattle.run_pictures.specs.declared.place.Place.TheVariants as spot
+use Rattle.run_pictures.specs.declared.place.Place.TheVariants.{Register, Line, Field, Load, Frame, Cell, Stack, Queue, Reply, Memory}
 
 -- ---- registers
 
@@ -130,6 +134,19 @@ abbrev pub queued_text : Option Queued → List ℕ
 queued_text None = []
 queued_text (Some q) = codes "word " ++ (decimal q.at ++ (codes ", block " ++ (decimal q.block ++ (codes ": " ++ (mask q.lanes ++ (codes " " ++ digits q.word))))))
 
+-- a command: a read for a register's word, or a write of the lanes of a word. Both say where in the bank the word lies
+abbrev pub asked_text : Command → List ℕ
+asked_text (Read slot i place) = codes "read place " ++ (decimal place ++ (codes ": register " ++ (decimal slot ++ (codes ", word " ++ decimal i))))
+asked_text (Write place word lanes) = codes "write place " ++ (decimal place ++ (codes ": " ++ (mask lanes ++ (codes " " ++ digits word))))
+
+abbrev pub command_text : Option Command → List ℕ
+command_text None = []
+command_text (Some command) = asked_text command
+
+abbrev pub answer_text : Option BankAnswer → List ℕ
+answer_text None = []
+answer_text (Some a) = codes "register " ++ (decimal a.slot ++ (codes ", word " ++ (decimal a.i ++ (codes ": " ++ digits a.word))))
+
 abbrev pub value_text : Answer → List ℕ
 value_text (Value tag word) = codes "tag " ++ (decimal tag ++ (codes ": " ++ digits word))
 value_text answer = []
@@ -141,9 +158,6 @@ reply_text (Some answer) = value_text answer
 abbrev pub memory_text : Option Word → List ℕ
 memory_text None = []
 memory_text (Some word) = digits word
-
-abbrev pub count_text : ℕ → List ℕ
-count_text n = decimal n
 
 -- ---- all places
 
@@ -161,7 +175,7 @@ IsTextAt s flat (Frame frame) text = text ≡ frame_at s frame
 IsTextAt s flat (Cell frame i) text = text ≡ cell_at s frame i
 IsTextAt s flat (Stack place) text = text ≡ entry_text (slice_get s.machine.cache.stack place)
 IsTextAt s flat (Queue place) text = text ≡ queued_text (slice_get s.machine.cache.queue place)
-IsTextAt s flat (Commands bank) text = text ≡ count_text (length (bank_at s.machine.banks bank).queue)
-IsTextAt s flat (Answers bank) text = text ≡ count_text (length (bank_at s.machine.banks bank).answers)
+IsTextAt s flat (spot.Command bank place) text = text ≡ command_text (slice_get (bank_at s.machine.banks bank).queue place)
+IsTextAt s flat (spot.Answer bank place) text = text ≡ answer_text (slice_get (bank_at s.machine.banks bank).answers place)
 IsTextAt s flat (Reply place) text = text ≡ reply_text (reply_view s.machine.cache place)
 IsTextAt s flat (Memory at) text = text ≡ memory_text (bank_shown s at)

@@ -5,7 +5,7 @@ use Rattle.run_pictures.specs.Extents.{fitted}
 use Rattle.run_pictures.specs.declared.machine.Extent.{Extent}
 use Rattle.run_pictures.specs.declared.place.Place.{Place}
 use Rattle.run_pictures.specs.declared.place.TheConstants.{MOST_LOADS, MOST_MEMORY}
-use Rattle.run_pictures.specs.declared.place.Place.TheVariants.{Register, Line, Field, Load, Frame, Cell, Stack, Queue, Commands, Answers, Reply, Memory}
+use Rattle.run_pictures.specs.declared.place.Place.TheVariants.{Register, Line, Field, Load, Frame, Cell, Stack, Queue, Command, Answer, Reply, Memory}
 
 -- a place's name: a letter, and its numbers with a point between them
 abbrev pub name_text : Place → List ℕ
@@ -17,8 +17,8 @@ name_text (Frame frame) = codes "f" ++ decimal frame
 name_text (Cell frame i) = codes "c" ++ (decimal frame ++ (codes "." ++ decimal i))
 name_text (Stack place) = codes "s" ++ decimal place
 name_text (Queue place) = codes "q" ++ decimal place
-name_text (Commands bank) = codes "m" ++ decimal bank
-name_text (Answers bank) = codes "a" ++ decimal bank
+name_text (Command bank place) = codes "m" ++ (decimal bank ++ (codes "." ++ decimal place))
+name_text (Answer bank place) = codes "a" ++ (decimal bank ++ (codes "." ++ decimal place))
 name_text (Reply place) = codes "v" ++ decimal place
 name_text (Memory at) = codes "b" ++ decimal at
 
@@ -50,8 +50,15 @@ stack_place place = Stack place ∷ []
 abbrev pub queue_place : ℕ → List Place
 queue_place place = Queue place ∷ []
 
-abbrev pub bank_places : ℕ → List Place
-bank_places bank = Commands bank ∷ (Answers bank ∷ [])
+abbrev pub command_place : ℕ → ℕ → List Place
+command_place bank place = Command bank place ∷ []
+
+abbrev pub answer_place : ℕ → ℕ → List Place
+answer_place bank place = Answer bank place ∷ []
+
+-- the commands that may wait at a bank, and the answers that may stand there: each word of a register is asked for once
+abbrev pub bank_places : Extent → ℕ → List Place
+bank_places z bank = of_each (command_place bank) z.bank_queue ++ of_each (answer_place bank) (fitted (z.regs * z.block_words))
 
 abbrev pub reply_place : ℕ → List Place
 reply_place place = Reply place ∷ []
@@ -67,4 +74,4 @@ memory_shown words = if nat_lt MOST_MEMORY words then MOST_MEMORY else words
 abbrev pub places_in : Extent → List Place
 places_in z =
     of_each (register_places z) z.regs ++ of_each (frame_places z) (fitted (z.sets * z.ways)) ++ of_each stack_place z.depth ++ of_each queue_place z.write_queue
-    ++ of_each bank_places z.banks ++ of_each reply_place z.replies ++ of_each memory_place (memory_shown z.words)
+    ++ of_each (bank_places z) z.banks ++ of_each reply_place z.replies ++ of_each memory_place (memory_shown z.words)

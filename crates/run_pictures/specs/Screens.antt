@@ -11,7 +11,8 @@ use Rattle.flat_model.specs.declared.Answer.{Answer}
 use Rattle.flat_model.specs.Texts.{event_text, answer_text}
 use Rattle.machine_core.specs.Machine.{MachineState}
 use Rattle.run_pictures.specs.declared.place.Place.{Place}
-use Rattle.run_pictures.specs.declared.place.Place.TheVariants.{Register, Line, Field, Load, Frame, Cell, Stack, Queue, Commands, Answers, Reply, Memory}
+use Rattle.run_pictures.specs.declared.place.Place.TheVariants as spot
+use Rattle.run_pictures.specs.declared.place.Place.TheVariants.{Register, Line, Field, Load, Frame, Cell, Stack, Queue, Reply, Memory}
 use Rattle.run_pictures.specs.declared.screens.Screens.{Screens}
 use Rattle.run_pictures.specs.Pictures.{Texts, is_changed, Begins, GoesOn}
 
@@ -25,8 +26,8 @@ label_text (Frame frame) = codes "frame " ++ decimal frame
 label_text (Cell frame i) = codes "  word " ++ decimal i
 label_text (Stack place) = codes "input stack " ++ decimal place
 label_text (Queue place) = codes "write queue " ++ decimal place
-label_text (Commands bank) = codes "bank " ++ (decimal bank ++ codes " commands")
-label_text (Answers bank) = codes "bank " ++ (decimal bank ++ codes " answers")
+label_text (spot.Command bank place) = codes "bank " ++ (decimal bank ++ (codes " command " ++ decimal place))
+label_text (spot.Answer bank place) = codes "bank " ++ (decimal bank ++ (codes " answer " ++ decimal place))
 label_text (Reply place) = codes "ready " ++ decimal place
 label_text (Memory at) = codes "memory " ++ decimal at
 
@@ -35,7 +36,7 @@ is_text = pointwise nat_eq
 
 -- nothing stands at a place of this text
 abbrev pub is_idle : List ℕ → Bool
-is_idle text = is_text text [] || (is_text text (codes "0") || is_text text (codes "free"))
+is_idle text = is_text text [] || is_text text (codes "free")
 
 -- memory is shown only where it changed, and another place where something stands or stood
 abbrev pub is_shown : Place → List ℕ → Bool → Bool
@@ -49,9 +50,9 @@ mark_text changed = if changed then codes "*" else codes " "
 abbrev pub shown_text : List ℕ → List ℕ
 shown_text text = if length text == 0 then codes "-" else text
 
--- a label in a column of 16
+-- a label in a column of 18
 abbrev pub column_text : List ℕ → List ℕ
-column_text label = padded (format_spec 32 1 0 16 (2 ^ 64 - 1)) label
+column_text label = padded (format_spec 32 1 0 18 (2 ^ 64 - 1)) label
 
 -- the line of a place
 abbrev pub line_text : Place → List ℕ → Bool → List ℕ

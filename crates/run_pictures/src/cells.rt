@@ -9,6 +9,7 @@ use crate::machine::PictureMachine;
 use crate::place::Place;
 use flat_model::{Answer, FlatMemory, Lanes, Word};
 use input_stack::Entry;
+use memory_banks::{BankAnswer, Command};
 use miss_registers::{FieldView, Owed, RegisterView};
 use std::alloc::{AllocError, Global};
 use trace_text::register_text as line_of_register;
@@ -272,6 +273,42 @@ fn queued_text(alloc: Global, queued: Option<Queued>) -> Result<String, AllocErr
     }
 }
 
+fn asked_text(alloc: Global, command: Command) -> Result<String, AllocError>
+    ensures { IfOk result (λ text. string_bytes text ≡ cells.asked_text command) }
+{
+    match command {
+        Command::Read { slot, i, place } => {
+            format!(in alloc; "read place {place}: register {slot}, word {i}")
+        }
+        Command::Write { place, word, lanes } => {
+            format!(in alloc; "write place {place}: {lanes} {word}")
+        }
+    }
+}
+
+fn command_text(alloc: Global, command: Option<Command>) -> Result<String, AllocError>
+    ensures { IfOk result (λ text. string_bytes text ≡ cells.command_text command) }
+{
+    match command {
+        Some(command) => asked_text(alloc, command),
+        None => Ok(String::new(alloc)),
+    }
+}
+
+fn answer_text(alloc: Global, answer: Option<BankAnswer>) -> Result<String, AllocError>
+    ensures { IfOk result (λ text. string_bytes text ≡ cells.answer_text answer) }
+{
+    match answer {
+        Some(answer) => {
+            let slot = answer.slot;
+            let i = answer.i;
+            let word = answer.word;
+            format!(in alloc; "register {slot}, word {i}: {word}")
+        }
+        None => Ok(String::new(alloc)),
+    }
+}
+
 fn value_text(alloc: Global, answer: Answer) -> Result<String, AllocError>
     ensures { IfOk result (λ text. string_bytes text ≡ cells.value_text answer) }
 {
@@ -299,12 +336,6 @@ fn memory_text(alloc: Global, word: Option<Word>) -> Result<String, AllocError>
     }
 }
 
-fn count_text(alloc: Global, count: u32) -> Result<String, AllocError>
-    ensures { IfOk result (λ text. string_bytes text ≡ cells.count_text count) }
-{
-    format!(in alloc; "{count}")
-}
-
 /// The text of a place: empty if nothing stands there. `flat` is what the machine's loads are owed.
 /// `AllocError` says that there was too little memory.
 pub fn text_at<M: PictureMachine>(
@@ -325,8 +356,8 @@ pub fn text_at<M: PictureMachine>(
         Place::Cell { frame, i } => cell_at(alloc, machine, frame, i),
         Place::Stack { place } => entry_text(alloc, machine.stack_entry(place)),
         Place::Queue { place } => queued_text(alloc, machine.queue_entry(place)),
-        Place::Commands { bank } => count_text(alloc, machine.commands(bank)),
-        Place::Answers { bank } => count_text(alloc, machine.answers(bank)),
+        Place::Command { bank, place } => command_text(alloc, machine.command(bank, place)),
+        Place::Answer { bank, place } => answer_text(alloc, machine.answer(bank, place)),
         Place::Reply { place } => reply_text(alloc, machine.reply(place)),
         Place::Memory { at } => memory_text(alloc, machine.bank_word(at)),
     }

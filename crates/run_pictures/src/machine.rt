@@ -7,6 +7,7 @@ ghost use Rattle.run_pictures.specs.Extents.{extent_of, fitted};
 use flat_model::{Answer, Lanes, Word};
 use input_stack::Entry;
 use machine_core::Machine;
+use memory_banks::{BankAnswer, Command};
 use round_driver::RoundMachine;
 use write_queue::Queued;
 
@@ -41,6 +42,13 @@ impl Extent {
         ensures { result ≡ fitted (self.now.sets * self.now.ways) }
     {
         self.sets.saturating_mul(self.ways)
+    }
+
+    /// How many answers a bank may have: the registers ask for each word of their blocks once.
+    pub fn answers(&self) -> u32
+        ensures { result ≡ fitted (self.now.regs * self.now.block_words) }
+    {
+        self.regs.saturating_mul(self.block_words)
     }
 
     /// The block of the word at an address.
@@ -121,9 +129,17 @@ pub trait PictureMachine: RoundMachine {
     fn commands(&self, bank: u32) -> u32
         ensures { result ≡ length (bank_at (Self.state self.now).machine.banks bank).queue };
 
+    /// A command that waits at a bank, as [`Machine::command_at`].
+    fn command(&self, bank: u32, place: u32) -> Option<Command>
+        ensures { result ≡ slice_get (bank_at (Self.state self.now).machine.banks bank).queue place };
+
     /// How many answers stand in a bank.
     fn answers(&self, bank: u32) -> u32
         ensures { result ≡ length (bank_at (Self.state self.now).machine.banks bank).answers };
+
+    /// An answer that stands in a bank, as [`Machine::answer_at`].
+    fn answer(&self, bank: u32, place: u32) -> Option<BankAnswer>
+        ensures { result ≡ slice_get (bank_at (Self.state self.now).machine.banks bank).answers place };
 }
 
 impl<const WAYS: usize, const WORDS: usize, const REGS: usize, const DEPTH: usize> PictureMachine
@@ -184,7 +200,15 @@ impl<const WAYS: usize, const WORDS: usize, const REGS: usize, const DEPTH: usiz
         Machine::commands(self, bank)
     }
 
+    fn command(&self, bank: u32, place: u32) -> Option<Command> {
+        Machine::command_at(self, bank, place)
+    }
+
     fn answers(&self, bank: u32) -> u32 {
         Machine::answers(self, bank)
+    }
+
+    fn answer(&self, bank: u32, place: u32) -> Option<BankAnswer> {
+        Machine::answer_at(self, bank, place)
     }
 }

@@ -43,6 +43,7 @@ td div { overflow-wrap: anywhere; }
 .changed { background: var(--mark); box-shadow: inset 3px 0 0 var(--edge); padding-left: 6px; }
 .pending { font-style: italic; font-weight: 700; }
 .dirty { font-weight: 700; color: var(--key); }
+#banks div::before { content: attr(data-at) ': '; color: var(--soft); }
 .memory { display: grid; grid-template-columns: repeat(8, 1fr); font: 11px/1.5 ui-monospace, monospace; }
 .memory div { padding-left: 6px; }
 .memory div::before { content: attr(data-at) ': '; color: var(--soft); }
@@ -148,7 +149,12 @@ list('stack', 's');
 list('queue', 'q');
 list('ready', 'v');
 headRow(find('banks'), ['bank', 'commands', 'answers']);
-for (const bank of numbers(count('m'))) row(find('banks'), [bank], [['m' + bank], ['a' + bank]]);
+const inBank = (letter, bank) => places.filter((name) => name.startsWith(letter + bank + '.'));
+for (let bank = 0; spotOf.has('m' + bank + '.0'); bank += 1) {
+  const lists = [inBank('m', bank), inBank('a', bank)];
+  row(find('banks'), [bank], lists);
+  for (const names of lists) names.forEach((name, at) => { spotOf.get(name).dataset.at = at; });
+}
 for (const at of numbers(count('b'))) {
   const spot = spotOf.get('b' + at);
   spot.dataset.at = at;

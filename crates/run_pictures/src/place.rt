@@ -33,10 +33,10 @@ pub enum Place {
     Stack { place: u32 },
     /// An entry of the write queue.
     Queue { place: u32 },
-    /// How many commands wait at a bank.
-    Commands { bank: u32 },
-    /// How many answers stand in a bank.
-    Answers { bank: u32 },
+    /// A command that waits at a bank, the one that is served next at place 0.
+    Command { bank: u32, place: u32 },
+    /// An answer that stands in a bank, the one that was given first at place 0.
+    Answer { bank: u32, place: u32 },
     /// A value that stands ready.
     Reply { place: u32 },
     /// A word of memory, as its bank has it.
@@ -59,8 +59,8 @@ impl fmt::Display for Place {
             Place::Cell { frame, i } => write!(f, "c{frame}.{i}"),
             Place::Stack { place } => write!(f, "s{place}"),
             Place::Queue { place } => write!(f, "q{place}"),
-            Place::Commands { bank } => write!(f, "m{bank}"),
-            Place::Answers { bank } => write!(f, "a{bank}"),
+            Place::Command { bank, place } => write!(f, "m{bank}.{place}"),
+            Place::Answer { bank, place } => write!(f, "a{bank}.{place}"),
             Place::Reply { place } => write!(f, "v{place}"),
             Place::Memory { at } => write!(f, "b{at}"),
         }
@@ -158,20 +158,39 @@ fn push_queue(places: &mut Vec<Place>, extent: &Extent) -> Result<(), AllocError
     Ok(())
 }
 
-// A bank.
-fn push_bank(places: &mut Vec<Place>, bank: u32) -> Result<(), AllocError>
-    ensures { OnOk result (places.new.items ≡ places.old.items ++ spots.bank_places bank) }
+// The commands that may wait at a bank.
+fn push_commands(places: &mut Vec<Place>, extent: &Extent, bank: u32) -> Result<(), AllocError>
+    ensures { OnOk result (places.new.items ≡ places.old.items ++ spots.of_each (spots.command_place bank) extent.now.bank_queue) }
 {
-    places.push(Place::Commands { bank })?;
-    places.push(Place::Answers { bank })?;
+    for place in 0..extent.bank_queue {
+        places.push(Place::Command { bank, place })?;
+    }
     Ok(())
 }
 
+// The answers that may stand in a bank.
+fn push_answers(places: &mut Vec<Place>, extent: &Extent, bank: u32) -> Result<(), AllocError>
+    ensures { OnOk result (places.new.items ≡ places.old.items ++ spots.of_each (spots.answer_place bank) (fitted (extent.now.regs * extent.now.block_words))) }
+{
+    for place in 0..extent.answers() {
+        places.push(Place::Answer { bank, place })?;
+    }
+    Ok(())
+}
+
+// A bank.
+fn push_bank(places: &mut Vec<Place>, extent: &Extent, bank: u32) -> Result<(), AllocError>
+    ensures { OnOk result (places.new.items ≡ places.old.items ++ spots.bank_places extent.now bank) }
+{
+    push_commands(places, extent, bank)?;
+    push_answers(places, extent, bank)
+}
+
 fn push_banks(places: &mut Vec<Place>, extent: &Extent) -> Result<(), AllocError>
-    ensures { OnOk result (places.new.items ≡ places.old.items ++ spots.of_each spots.bank_places extent.now.banks) }
+    ensures { OnOk result (places.new.items ≡ places.old.items ++ spots.of_each (spots.bank_places extent.now) extent.now.banks) }
 {
     for bank in 0..extent.banks {
-        push_bank(places, bank)?;
+        push_bank(places, extent, bank)?;
     }
     Ok(())
 }
@@ -206,9 +225,9 @@ fn push_memory(places: &mut Vec<Place>, extent: &Extent) -> Result<(), AllocErro
 }
 
 /// The places of a machine's picture, in the order in which they are drawn: the registers with their
-/// words and waiting loads, the frames with their words, the input stack, the write queue, the banks,
-/// the ready values, and the first 256 words of memory. `AllocError` says that there was too little
-/// memory.
+/// words and waiting loads, the frames with their words, the input stack, the write queue, the commands
+/// and answers of each bank, the ready values, and the first 256 words of memory. `AllocError` says that
+/// there was too little memory.
 pub fn places_of(alloc: Global, extent: &Extent) -> Result<Vec<Place>, AllocError>
     ensures { IfOk result (λ places. places.items ≡ spots.places_in extent.now) }
 {

@@ -23,8 +23,8 @@ fn label_of(alloc: Global, place: Place) -> Result<String, AllocError>
         Place::Cell { i, .. } => format!(in alloc; "  word {i}"),
         Place::Stack { place } => format!(in alloc; "input stack {place}"),
         Place::Queue { place } => format!(in alloc; "write queue {place}"),
-        Place::Commands { bank } => format!(in alloc; "bank {bank} commands"),
-        Place::Answers { bank } => format!(in alloc; "bank {bank} answers"),
+        Place::Command { bank, place } => format!(in alloc; "bank {bank} command {place}"),
+        Place::Answer { bank, place } => format!(in alloc; "bank {bank} answer {place}"),
         Place::Reply { place } => format!(in alloc; "ready {place}"),
         Place::Memory { at } => format!(in alloc; "memory {at}"),
     }
@@ -34,7 +34,7 @@ fn label_of(alloc: Global, place: Place) -> Result<String, AllocError>
 fn is_idle(text: &str) -> bool
     ensures { result ≡ screens.is_idle text.now }
 {
-    matches!(text, "" | "0" | "free")
+    matches!(text, "" | "free")
 }
 
 // Whether a place is shown: memory only where it changed, and other places where something stands or
@@ -66,7 +66,7 @@ fn push_line(
     let mark = if is_changed { "*" } else { " " };
     let label = label_of(alloc, place)?;
     let shown = if text.is_empty() { "-" } else { text };
-    write!(screen, "{mark} {label:<16} {shown}\n")
+    write!(screen, "{mark} {label:<18} {shown}\n")
 }
 
 // The line of the place of this number. It is marked if its text is another one than before.

@@ -1,5 +1,6 @@
 //! The examples, and what they share.
 
+mod banks;
 mod fixture;
 mod machine;
 mod parts;

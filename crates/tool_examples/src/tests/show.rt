@@ -45,95 +45,95 @@ const FIRST_SCREENS: &str = "step 0: the machine before the first event
 
 step 1: load 1 4 -> accepted
   a miss: a register is taken, and block 1's words are asked for
-* register 0       valid, block 1, frame 2, words came: 0
-*   word 0         missing
-*     load         tag 1 is owed 00000000
-*   word 1         missing
-*   word 2         missing
-*   word 3         missing
-* frame 2          block 1, pending
-*   word 0         00000000
-*   word 1         00000000
-*   word 2         00000000
-*   word 3         00000000
-* bank 0 commands  1
-* bank 1 commands  1
-* bank 2 commands  1
-* bank 3 commands  1
+* register 0         valid, block 1, frame 2, words came: 0
+*   word 0           missing
+*     load           tag 1 is owed 00000000
+*   word 1           missing
+*   word 2           missing
+*   word 3           missing
+* frame 2            block 1, pending
+*   word 0           00000000
+*   word 1           00000000
+*   word 2           00000000
+*   word 3           00000000
+* bank 0 command 0   read place 1: register 0, word 0
+* bank 1 command 0   read place 1: register 0, word 1
+* bank 2 command 0   read place 1: register 0, word 2
+* bank 3 command 0   read place 1: register 0, word 3
 
 step 2: serve 0 -> moved
   bank 0 serves its first command
-  register 0       valid, block 1, frame 2, words came: 0
-    word 0         missing
-      load         tag 1 is owed 00000000
-    word 1         missing
-    word 2         missing
-    word 3         missing
-  frame 2          block 1, pending
-    word 0         00000000
-    word 1         00000000
-    word 2         00000000
-    word 3         00000000
-* bank 0 commands  0
-* bank 0 answers   1
-  bank 1 commands  1
-  bank 2 commands  1
-  bank 3 commands  1
+  register 0         valid, block 1, frame 2, words came: 0
+    word 0           missing
+      load           tag 1 is owed 00000000
+    word 1           missing
+    word 2           missing
+    word 3           missing
+  frame 2            block 1, pending
+    word 0           00000000
+    word 1           00000000
+    word 2           00000000
+    word 3           00000000
+* bank 0 command 0   -
+* bank 0 answer 0    register 0, word 0: 00000000
+  bank 1 command 0   read place 1: register 0, word 1
+  bank 2 command 0   read place 1: register 0, word 2
+  bank 3 command 0   read place 1: register 0, word 3
 
 step 3: arrive 0 0 -> moved
   bank 0 gives word 0 of register 0's block
-  register 0       valid, block 1, frame 2, words came: 0
-*   word 0         in stack
-      load         tag 1 is owed 00000000
-    word 1         missing
-    word 2         missing
-    word 3         missing
-  frame 2          block 1, pending
-    word 0         00000000
-    word 1         00000000
-    word 2         00000000
-    word 3         00000000
-* input stack 0    register 0, word 0: 00000000
-* bank 0 answers   0
-  bank 1 commands  1
-  bank 2 commands  1
-  bank 3 commands  1
+  register 0         valid, block 1, frame 2, words came: 0
+*   word 0           in stack
+      load           tag 1 is owed 00000000
+    word 1           missing
+    word 2           missing
+    word 3           missing
+  frame 2            block 1, pending
+    word 0           00000000
+    word 1           00000000
+    word 2           00000000
+    word 3           00000000
+* input stack 0      register 0, word 0: 00000000
+* bank 0 answer 0    -
+  bank 1 command 0   read place 1: register 0, word 1
+  bank 2 command 0   read place 1: register 0, word 2
+  bank 3 command 0   read place 1: register 0, word 3
 
 step 4: process 0 -> moved
   word 0 of register 0's block has come: its loads are answered
-* register 0       valid, block 1, frame 2, words came: 1
-*   word 0         processed
-*     load         -
-    word 1         missing
-    word 2         missing
-    word 3         missing
-  frame 2          block 1, pending
-    word 0         00000000
-    word 1         00000000
-    word 2         00000000
-    word 3         00000000
-* input stack 0    -
-  bank 1 commands  1
-  bank 2 commands  1
-  bank 3 commands  1
-* ready 0          tag 1: 00000000
+* register 0         valid, block 1, frame 2, words came: 1
+*   word 0           processed
+*     load           -
+    word 1           missing
+    word 2           missing
+    word 3           missing
+  frame 2            block 1, pending
+    word 0           00000000
+    word 1           00000000
+    word 2           00000000
+    word 3           00000000
+* input stack 0      -
+  bank 1 command 0   read place 1: register 0, word 1
+  bank 2 command 0   read place 1: register 0, word 2
+  bank 3 command 0   read place 1: register 0, word 3
+* ready 0            tag 1: 00000000
 
 step 5: take 0 -> value 1 00000000
   the load of tag 1 is answered 00000000
-  register 0       valid, block 1, frame 2, words came: 1
-    word 0         processed
-    word 1         missing
-    word 2         missing
-    word 3         missing
-  frame 2          block 1, pending
-    word 0         00000000
-    word 1         00000000
-    word 2         00000000
-    word 3         00000000
-  bank 1 commands  1
-  bank 2 commands  1
-  bank 3 commands  1
-* ready 0          -
+  register 0         valid, block 1, frame 2, words came: 1
+    word 0           processed
+    word 1           missing
+    word 2           missing
+    word 3           missing
+  frame 2            block 1, pending
+    word 0           00000000
+    word 1           00000000
+    word 2           00000000
+    word 3           00000000
+  bank 1 command 0   read place 1: register 0, word 1
+  bank 2 command 0   read place 1: register 0, word 2
+  bank 3 command 0   read place 1: register 0, word 3
+* ready 0            -
 ";
 
 #[test]
@@ -148,6 +148,91 @@ fn lines_that_only_show_something_are_passed_over(rt: HostRuntime) -> Result<(),
     let trace = "reg 0\nload 1 4\nserve 0\nsettled\narrive 0 0\nprocess 0\nbank 4\ntake 0\nreg 0\n";
     let written = shown(&rt, "--text", "", trace)?;
     assert_eq!(rt; written.as_str(), FIRST_SCREENS);
+    Ok(())
+}
+
+/// Four reads and a write wait at the one bank, and two of the reads are served.
+const WRITE_BEHIND_READS: &str = "store 5 0100 00aa0000\nevict 1\ndrain\nserve 0\nserve 0\n";
+
+#[test]
+fn each_command_and_each_answer_of_a_bank(rt: HostRuntime) -> Result<(), Fail> {
+    let written = shown(&rt, "--text", "banks = 1\n", WRITE_BEHIND_READS)?;
+    let screens = written.as_str();
+    assert!(rt;
+        screens.contains(
+            "
+* bank 0 command 0   read place 4: register 0, word 0
+* bank 0 command 1   read place 5: register 0, word 1
+* bank 0 command 2   read place 6: register 0, word 2
+* bank 0 command 3   read place 7: register 0, word 3
+
+step 2: "
+        )
+    );
+    assert!(rt;
+        screens.ends_with(
+            "
+* bank 0 command 0   read place 6: register 0, word 2
+* bank 0 command 1   read place 7: register 0, word 3
+* bank 0 command 2   write place 5: 0100 00aa0000
+* bank 0 command 3   -
+  bank 0 answer 0    register 0, word 0: 00000000
+* bank 0 answer 1    register 0, word 1: 00000000
+"
+        )
+    );
+    Ok(())
+}
+
+/// A read behind a write is answered what was written.
+#[test]
+fn an_answer_has_its_word(rt: HostRuntime) -> Result<(), Fail> {
+    let mut trace = String::from_str(
+        rt.alloc(),
+        "store 5 0100 00aa0000\nevict 1\ndrain\nload 7 5\n",
+    )?;
+    for _serve in 0..7 {
+        trace.push_str("serve 0\n")?;
+    }
+    let written = shown(
+        &rt,
+        "--text",
+        "banks = 1\nbank_queue = 16\n",
+        trace.as_str(),
+    )?;
+    assert!(rt;
+        written.as_str().ends_with(
+            "
+* bank 0 command 0   read place 6: register 1, word 2
+* bank 0 command 1   read place 7: register 1, word 3
+* bank 0 command 2   -
+  bank 0 answer 0    register 0, word 0: 00000000
+  bank 0 answer 1    register 0, word 1: 00000000
+  bank 0 answer 2    register 0, word 2: 00000000
+  bank 0 answer 3    register 0, word 3: 00000000
+  bank 0 answer 4    register 1, word 0: 00000000
+* bank 0 answer 5    register 1, word 1: 00aa0000
+"
+        )
+    );
+    Ok(())
+}
+
+/// The label of a tenth command in a tenth bank still leaves its column as it is.
+#[test]
+fn wide_labels_keep_their_column(rt: HostRuntime) -> Result<(), Fail> {
+    let shape = "sets = 16\nbanks = 16\nregs = 8\nbank_queue = 64\n";
+    let mut trace = String::new(rt.alloc());
+    // Word 15 lies in bank 15, which is sent a read and a write of it in each round.
+    for _round in 0..6 {
+        trace.push_str("store 15 1111 01020304\nevict 3\ndrain\n")?;
+    }
+    let written = shown(&rt, "--text", shape, trace.as_str())?;
+    let screens = written.as_str();
+    assert!(rt; screens.contains("\n* bank 15 command 10 read place 0: register 5, word 3\n"));
+    assert!(rt; screens.contains("\n* bank 15 command 11 write place 0: 1111 01020304\n"));
+    assert!(rt; screens.contains("\n* register 5         valid, block 3, "));
+    assert!(rt; screens.lines().all(|line| line.len() <= 80));
     Ok(())
 }
 
@@ -291,8 +376,8 @@ fn a_full_write_queue_and_its_reason(rt: HostRuntime) -> Result<(), Fail> {
     let text = screens.as_str();
     assert!(rt; text.contains("prefetch 8 -> refused 9\n"));
     assert!(rt; ends_in_words(text, "the write queue has 2 free places for 3 dirty words"));
-    assert!(rt; text.contains("\n  write queue 1    word 1, block 0: 1000 01000000\n"));
-    assert!(rt; text.contains("\n    word 2         01000000, dirty 1000\n"));
+    assert!(rt; text.contains("\n  write queue 1      word 1, block 0: 1000 01000000\n"));
+    assert!(rt; text.contains("\n    word 2           01000000, dirty 1000\n"));
     Ok(())
 }
 
@@ -320,11 +405,11 @@ fn a_load_holds_stored_bytes(rt: HostRuntime) -> Result<(), Fail> {
     let trace = "store 5 0100 00aa0000\nload 7 5\nevict 1\n";
     let screens = shown(&rt, "--text", "", trace)?;
     let text = screens.as_str();
-    assert!(rt; text.contains("\n*   word 1         missing, code 0100\n"));
+    assert!(rt; text.contains("\n*   word 1           missing, code 0100\n"));
     assert!(rt;
-        text.contains("\n*     load         tag 7 is owed 00aa0000, holds 0100 00aa0000\n")
+        text.contains("\n*     load           tag 7 is owed 00aa0000, holds 0100 00aa0000\n")
     );
-    assert!(rt; text.contains("\n* register 0       obsolete, block 1, words came: 0\n"));
+    assert!(rt; text.contains("\n* register 0         obsolete, block 1, words came: 0\n"));
     assert!(rt; ends_in_words(text, "the frame of block 1 is given up"));
     Ok(())
 }
@@ -352,6 +437,42 @@ fn a_page_has_its_steps(rt: HostRuntime) -> Result<(), Fail> {
         "[\"load 1 4\",\"refused 1\",\"word 4 is outside memory, which has 4 words\",[]],\n];\n";
     assert!(rt; page.contains(refused));
     assert!(rt; !page.contains("http"));
+    Ok(())
+}
+
+/// Behind the 35 places of a register, a frame, the input stack and the write queue.
+const PLACES_OF_A_BANK: &str = "
+'m0.0',
+'m0.1',
+'m0.2',
+'m0.3',
+'m0.4',
+'a0.0',
+'a0.1',
+'a0.2',
+'a0.3',
+'v0',
+";
+
+#[test]
+fn a_page_lists_what_a_bank_has(rt: HostRuntime) -> Result<(), Fail> {
+    let shape =
+        "words = 16\nsets = 1\nways = 1\nregs = 1\nbanks = 1\nbank_queue = 5\nwrite_queue = 4\nreplies = 1\n";
+    fs::write(&rt, "banks_of_a_test.toml", shape)?;
+    let words = ["show", "--shape", "banks_of_a_test.toml"];
+    let (written, said) = told(&rt, &words, WRITE_BEHIND_READS, 0)?;
+    fs::remove_file(&rt, "banks_of_a_test.toml")?;
+    assert_eq!(rt; said.as_str(), "");
+    let page = written.as_str();
+    assert!(rt; page.contains(PLACES_OF_A_BANK));
+    let missed =
+        "[35,\"read place 4: register 0, word 0\"],[36,\"read place 5: register 0, word 1\"],[37,\"read place 6: register 0, word 2\"],[38,\"read place 7: register 0, word 3\"],";
+    assert!(rt; page.contains(missed));
+    let drained = "[39,\"write place 5: 0100 00aa0000\"],]],\n";
+    assert!(rt; page.contains(drained));
+    let served =
+        "[\"serve 0\",\"moved\",\"bank 0 serves its first command\",[[35,\"read place 6: register 0, word 2\"],[36,\"read place 7: register 0, word 3\"],[37,\"write place 5: 0100 00aa0000\"],[38,\"\"],[41,\"register 0, word 1: 00000000\"],]],\n];\n";
+    assert!(rt; page.contains(served));
     Ok(())
 }
 
