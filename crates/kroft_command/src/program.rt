@@ -9,8 +9,7 @@ use crate::fault::ToolFault;
 use access_logs::{Din, Lackey, write_requests};
 use clap::error::ErrorKind;
 use kroft_jobs::{
-    JobFault, Verdict, check, drive_requests, explain, serve, summarize_requests, sweep_in_rounds,
-    sweep_registers,
+    JobFault, Verdict, drive_requests, serve, summarize_requests, sweep_in_rounds, sweep_registers,
 };
 use run_pictures::Form;
 use shape_files::{ShapeFault, ToolShape, bad_field, read_shape};
@@ -86,11 +85,11 @@ fn work<R: AllocGlobal + Files + Threads + Sync, I: Read, O: Write>(
     };
     let status = match asked.task {
         Task::Run => run(rt.alloc(), &shape, input, output)?,
-        Task::Check => judge(rt.alloc(), &shape, input, output)?,
-        Task::Sweep { latency } => compare(rt, &shape, latency, input, output)?,
-        Task::Explain => reason(rt.alloc(), &shape, input, output)?,
+        Task::Check => check(rt.alloc(), &shape, input, output)?,
+        Task::Sweep { latency } => sweep(rt, &shape, latency, input, output)?,
+        Task::Explain => explain(rt.alloc(), &shape, input, output)?,
         Task::Drive { latency, summary } => {
-            go_round(rt.alloc(), &shape, latency, summary, input, output)?
+            drive(rt.alloc(), &shape, latency, summary, input, output)?
         }
         Task::Requests { from, words } => requests(rt.alloc(), from, words, input, output)?,
         Task::Show { form } => show(rt.alloc(), &shape, form, input, output)?,
@@ -127,7 +126,7 @@ fn run<I: Read, O: Write>(
 }
 
 // Judges what a run wrote.
-fn judge<I: Read, O: Write>(
+fn check<I: Read, O: Write>(
     alloc: Global,
     tool: &ToolShape,
     input: &mut I,
@@ -135,14 +134,14 @@ fn judge<I: Read, O: Write>(
 ) -> Result<u8, JobFault>
     ensures { IfOk result (λ status. status ≤ 1) }
 {
-    let verdict = Verdict(check(alloc, tool, input)?);
+    let verdict = Verdict(kroft_jobs::check(alloc, tool, input)?);
     put(output, format_args!("{verdict}\n"))?;
     finish(output)?;
     Ok(verdict.status())
 }
 
 // Says why what a run wrote is none of flat memory.
-fn reason<I: Read, O: Write>(
+fn explain<I: Read, O: Write>(
     alloc: Global,
     tool: &ToolShape,
     input: &mut I,
@@ -150,14 +149,14 @@ fn reason<I: Read, O: Write>(
 ) -> Result<u8, JobFault>
     ensures { IfOk result (λ status. status ≤ 1) }
 {
-    let explanation = explain(alloc, tool, input)?;
+    let explanation = kroft_jobs::explain(alloc, tool, input)?;
     put(output, format_args!("{explanation}\n"))?;
     finish(output)?;
     Ok(explanation.status())
 }
 
 // Drives the requests in rounds, and writes the run or what it counts.
-fn go_round<I: Read, O: Write>(
+fn drive<I: Read, O: Write>(
     alloc: Global,
     tool: &ToolShape,
     latency: u64,
@@ -219,7 +218,7 @@ fn show<I: Read, O: Write>(
 }
 
 // Serves the requests with 1, 2, 4 and 8 registers, or drives them in rounds if there is a latency.
-fn compare<R: AllocGlobal + Threads + Sync, I: Read, O: Write>(
+fn sweep<R: AllocGlobal + Threads + Sync, I: Read, O: Write>(
     rt: &R,
     tool: &ToolShape,
     latency: Option<u64>,

@@ -11,6 +11,7 @@ ghost use Rattle.run_reasons.specs.Runs.{Explains};
 ghost use Rattle.shape_files.specs.ShapeFile.{bad_field};
 ghost use Rattle.register_sweeps.specs.Sweep.{new_machine, row_of};
 ghost use Rattle.kroft_jobs.specs.Jobs.{swept, verdict_status, verdict_text};
+ghost use Rattle.kroft_jobs.specs.Sweeping.{SweepFails};
 
 use crate::fault::JobFault;
 use register_sweeps::{MachineJob, OpenGate, Row, sweep, with_machine};
@@ -128,16 +129,18 @@ impl fmt::Display for Verdict {
     }
 }
 
-/// The rows of the requests of a trace, with 1, 2, 4 and 8 registers and all else as the shape says.
+/// The rows of the requests of a trace, with 1, 2, 4 and 8 registers and all else as the shape says. Its
+/// faults are those of [`sweep_in_rounds`](crate::sweep_in_rounds).
 pub fn sweep_registers<R: Threads + Sync, I: Source>(
     rt: &R,
     alloc: Global,
     tool: &ToolShape,
     input: &mut I,
 ) -> Result<Vec<Row>, JobFault>
-    ensures { IfOk result
+    ensures rows { IfOk result
         (λ rows. (texts : List (List ℕ)) × ReadWhole I.gave trace_fault MAX_LINE input.old input.new texts
         × (rows.items ≡ map (row_of (requests_of texts)) (swept tool.now))) }
+    ensures fault { IfErr result (SweepFails I.gave I.failed tool.now input.old input.new) }
 {
     let requests = read_requests(alloc, input)?;
     let rows = sweep(

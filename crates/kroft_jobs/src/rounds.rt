@@ -1,6 +1,6 @@
 //! What the program does with the requests of a trace in rounds.
 
-ghost use Rattle.std.specs.Prelude.{◌≡◌, ◌≤◌, ℕ, List, None, true, IfOk, IfErr, length, map};
+ghost use Rattle.std.specs.Prelude.{◌≡◌, ◌≤◌, ℕ, List, None, true, IfOk, IfErr, length};
 ghost use Rattle.std.specs.List.{list_all};
 ghost use Rattle.trace_text.specs.declared.fault.TheConstants.{MAX_LINE};
 ghost use Rattle.trace_text.specs.Reading.{ReadWhole, ReadFails};
@@ -8,13 +8,12 @@ ghost use Rattle.trace_text.specs.Serving.{trace_fault};
 ghost use Rattle.trace_text.specs.Requests.{requests_of};
 ghost use Rattle.shape_files.specs.ShapeFile.{bad_field};
 ghost use Rattle.register_sweeps.specs.Sweep.{new_machine};
-ghost use Rattle.register_sweeps.specs.Rounds.{rounds_row_of};
 ghost use Rattle.round_driver.specs.declared.driving.TheConstants.{MOST_LATENCY};
 ghost use Rattle.round_driver.specs.Rounds.{most_requests};
-ghost use Rattle.round_driver.specs.Tables.{table_of};
 ghost use Rattle.round_driver.specs.Walks.{is_request};
 ghost use Rattle.kroft_jobs.specs.Driving.{IsDriven, DrivesAll};
 ghost use Rattle.kroft_jobs.specs.Jobs.{swept};
+ghost use Rattle.kroft_jobs.specs.Sweeping.{IsCounted, AreCounted, SweepFails};
 
 use crate::fault::JobFault;
 use crate::jobs::{SWEEP_TURNS, swept_shapes};
@@ -107,7 +106,8 @@ impl<'a, O: Sink> MachineJob for DrivenRequests<'a, O> {
 }
 
 /// Drives the requests of a trace in rounds through a new machine of a shape whose fields are in
-/// range, over zeros, and counts, as [`rounds_table`] does.
+/// range, over zeros, and counts, as [`rounds_table`] does. Behind the rounds that are counted the requests
+/// are used up and nothing is on its way.
 pub fn summarize_requests<I: Source>(
     alloc: Global,
     tool: &ToolShape,
@@ -118,7 +118,7 @@ pub fn summarize_requests<I: Source>(
     requires latency { latency ≤ MOST_LATENCY }
     ensures table { IfOk result
         (λ table. (texts : List (List ℕ)) × ReadWhole I.gave trace_fault MAX_LINE input.old input.new texts
-        × (table ≡ table_of latency (new_machine tool.now) (requests_of texts))) }
+        × IsCounted latency (new_machine tool.now) (requests_of texts) table) }
     ensures fault { IfErr result
         (ReadFails I.gave I.failed trace_fault MAX_LINE input.old input.new) }
 {
@@ -127,7 +127,10 @@ pub fn summarize_requests<I: Source>(
 }
 
 /// The rows of the requests of a trace in rounds, with 1, 2, 4 and 8 registers and all else as the shape
-/// says, as [`sweep_rounds`] makes them.
+/// says, as [`sweep_rounds`] makes them. Each run is over in time.
+///
+/// All requests are read before the shape is judged, with 1 register in place of its own: so a fault of the
+/// trace goes before one of the shape. `TurnLimit` never comes, as the program's gate is always open.
 pub fn sweep_in_rounds<R: Threads + Sync, I: Source>(
     rt: &R,
     alloc: Global,
@@ -136,9 +139,10 @@ pub fn sweep_in_rounds<R: Threads + Sync, I: Source>(
     input: &mut I,
 ) -> Result<Vec<RoundsRow>, JobFault>
     requires latency { latency ≤ MOST_LATENCY }
-    ensures { IfOk result
+    ensures rows { IfOk result
         (λ rows. (texts : List (List ℕ)) × ReadWhole I.gave trace_fault MAX_LINE input.old input.new texts
-        × (rows.items ≡ map (rounds_row_of latency (requests_of texts)) (swept tool.now))) }
+        × AreCounted latency (swept tool.now) (requests_of texts) rows.items) }
+    ensures fault { IfErr result (SweepFails I.gave I.failed tool.now input.old input.new) }
 {
     let requests = read_requests(alloc, input)?;
     let rows = sweep_rounds(

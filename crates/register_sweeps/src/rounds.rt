@@ -4,9 +4,10 @@ ghost use Rattle.std.specs.Prelude.{⊤, ◌≡◌, ◌≤◌, length, map, Some
 ghost use Rattle.round_driver.specs.declared.driving.TheConstants.{MOST_LATENCY};
 ghost use Rattle.round_driver.specs.Rounds.{most_requests};
 ghost use Rattle.round_driver.specs.Tables.{table_of};
+ghost use Rattle.round_driver.specs.Walks.{RequestsEnd};
 ghost use Rattle.shape_files.specs.ShapeFile.{bad_field};
 ghost use Rattle.register_sweeps.specs.Sweep.{FaultSays, bad_from, new_machine};
-ghost use Rattle.register_sweeps.specs.Rounds.{rounds_row_of, rounds_row_text};
+ghost use Rattle.register_sweeps.specs.Rounds.{RunEnds, EachRunEnds, rounds_row_of, rounds_row_text};
 
 use crate::choice::{MachineJob, with_machine};
 use crate::sweeps::{SweepFault, SweepGate};
@@ -38,7 +39,7 @@ impl fmt::Display for RoundsRow {
 }
 
 /// The table of requests that are driven in rounds through a new machine of a shape whose fields are
-/// in range, over zeros, as [`summarize`] counts it.
+/// in range, over zeros, as [`summarize`] counts it. The run is over in time, as [`summarize`] has it.
 ///
 /// `AllocError` says that there was too little memory.
 pub fn rounds_table(
@@ -50,8 +51,9 @@ pub fn rounds_table(
     requires shape { bad_field tool.now ≡ None }
     requires latency { latency ≤ MOST_LATENCY }
     requires requests { length requests.now ≤ most_requests }
-    ensures { IfOk result
+    ensures table { IfOk result
         (λ table. table ≡ table_of latency (new_machine tool.now) requests.now) }
+    ensures over { OnOk result (RunEnds latency requests.now tool.now) }
 {
     let mut job = CountedRounds {
         alloc,
@@ -74,7 +76,7 @@ impl MachineJob for CountedRounds<'_> {
 
     ghost can = { λ s. (s.latency ≤ MOST_LATENCY) × (length s.requests.now ≤ most_requests) };
 
-    ghost done = { λ s machine t result. IfOk result (λ table. table ≡ table_of s.latency machine s.requests.now) };
+    ghost done = { λ s machine t result. (IfOk result (λ table. table ≡ table_of s.latency machine s.requests.now)) × OnOk result (RequestsEnd s.latency machine s.requests.now) };
 
     ghost holds_same = { λ s t. ⊤ };
 
@@ -101,6 +103,8 @@ impl RowMaker for RoundsRows<'_> {
 
     ghost gives = { λ s tool. rounds_row_of s.latency s.requests.now tool };
 
+    ghost shows = { λ s tool. RunEnds s.latency s.requests.now tool };
+
     fn make_row(&self, alloc: Global, tool: &ToolShape) -> Result<RoundsRow, AllocError> {
         let table = rounds_table(alloc, tool, self.latency, self.requests)?;
         Ok(RoundsRow {
@@ -111,7 +115,8 @@ impl RowMaker for RoundsRows<'_> {
 }
 
 /// The tables of these shapes, in their order, each by a thread of its own, so all at once: a new
-/// machine of the shape, over zeros, is driven in rounds, as [`rounds_table`] has it.
+/// machine of the shape, over zeros, is driven in rounds, as [`rounds_table`] has it. Each run is over in
+/// time.
 ///
 /// `latency` is as that of [`summarize`], [`MOST_LATENCY`](round_driver::MOST_LATENCY) at most.
 /// There may be at most 16,777,216 requests. Turns, gate and faults are those of
@@ -129,6 +134,7 @@ pub fn sweep_rounds<R: Threads + Sync, G: SweepGate>(
     requires requests { length requests.now ≤ most_requests }
     ensures rows { IfOk result
         (λ rows. rows.items ≡ map (rounds_row_of latency requests.now) shapes.now) }
+    ensures over { OnOk result (EachRunEnds latency requests.now shapes.now) }
     ensures good { OnOk result (bad_from 0 shapes.now ≡ None) }
     ensures fault { IfErr result (FaultSays shapes.now) }
 {

@@ -115,6 +115,8 @@ impl RowMaker for PumpedRows<'_> {
 
     ghost gives = { λ s tool. row_of s.events.now tool };
 
+    ghost shows = { λ s tool. ⊤ };
+
     fn make_row(&self, alloc: Global, tool: &ToolShape) -> Result<Row, AllocError> {
         row_of(alloc, tool, self.events)
     }

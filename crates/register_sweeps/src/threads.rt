@@ -1,7 +1,7 @@
 //! A row for each shape, each by a thread of its own.
 
 ghost use Rattle.std.specs.Prelude.{◌≡◌, ℕ, ◌<◌, length, map, Result, None, Ok, Err, IfOk, IfErr, OnOk, slice_index_or, true};
-ghost use Rattle.std.specs.List.{list_any};
+ghost use Rattle.std.specs.List.{All, list_any};
 ghost use Rattle.register_sweeps.specs.declared.sweeps.SweepFault.TheVariants.{OutOfMemory};
 ghost use Rattle.register_sweeps.specs.declared.threads.Stop.{Stop};
 ghost use Rattle.shape_files.specs.declared.shape_file.ToolShape.{ToolShape};
@@ -27,11 +27,14 @@ pub trait RowMaker: Sync {
     // The row of a shape.
     ghost gives: { Self → ToolShape → Self.Row };
 
+    // What a row that was made shows of its shape.
+    ghost shows: { Self → ToolShape → Type 0 };
+
     // Makes the row of a shape whose fields are in range.
     fn make_row(&self, alloc: Global, tool: &ToolShape) -> Result<Self::Row, AllocError>
         requires can { can self.now }
         requires shape { bad_field tool.now ≡ None }
-        ensures { IfOk result (λ row. row ≡ gives self.now tool.now) };
+        ensures { IfOk result (λ row. (row ≡ gives self.now tool.now) × shows self.now tool.now) };
 }
 
 // Why a thread gave no row.
@@ -66,7 +69,8 @@ fn row_in_turn<K: RowMaker, G: SweepGate>(
 ) -> Result<K::Row, Stop>
     requires can { K.can maker.now }
     requires shape { bad_field shape.now ≡ None }
-    ensures { IfOk result (λ row. row ≡ K.gives maker.now shape.now) }
+    ensures { IfOk result
+        (λ row. (row ≡ K.gives maker.now shape.now) × K.shows maker.now shape.now) }
 {
     for _turn in 0..turns {
         if gate.may(place) {
@@ -97,7 +101,8 @@ fn all_answers<R: Threads + Sync, K: RowMaker, G: SweepGate>(
     ensures each { IfOk result
         (λ v. (i : ℕ) (d : Result K.Row Stop) (t : ToolShape) → i < length shapes.now
         → IfOk (slice_index_or v.items i d)
-        (λ row. row ≡ K.gives maker.now (slice_index_or shapes.now i t))) }
+        (λ row. (row ≡ K.gives maker.now (slice_index_or shapes.now i t))
+        × K.shows maker.now (slice_index_or shapes.now i t))) }
 {
     thread::map_indices(
         rt,
@@ -108,8 +113,9 @@ fn all_answers<R: Threads + Sync, K: RowMaker, G: SweepGate>(
                 × ((i : ℕ) (t : ToolShape) → i < length shapes.now
                 → bad_field (slice_index_or shapes.now i t) ≡ None) }
             ensures { (t : ToolShape)
-                → IfOk result (λ row. row
-                ≡ K.gives maker.entry.now (slice_index_or shapes.entry.now place t)) }
+                → IfOk result (λ row.
+                (row ≡ K.gives maker.entry.now (slice_index_or shapes.entry.now place t))
+                × K.shows maker.entry.now (slice_index_or shapes.entry.now place t)) }
         { row_in_turn(alloc, maker, place, &shapes[place], turns, gate) },
     )
 }
@@ -155,6 +161,7 @@ pub fn rows_on_threads<R: Threads + Sync, K: RowMaker, G: SweepGate>(
 ) -> Result<Vec<K::Row>, SweepFault>
     requires { K.can maker.now }
     ensures rows { IfOk result (λ rows. rows.items ≡ map (K.gives maker.now) shapes.now) }
+    ensures shown { OnOk result (All (K.shows maker.now) shapes.now) }
     ensures good { OnOk result (bad_from 0 shapes.now ≡ None) }
     ensures fault { IfErr result (FaultSays shapes.now) }
 {

@@ -1,0 +1,41 @@
+-- What becomes of the requests of a trace that are counted in rounds, and why a sweep has no rows.
+use Rattle.std.specs.Prelude.{⊤, ◌≡◌, ℕ, List, map, Some, None}
+use Rattle.std.specs.List.{All}
+use Rattle.flat_model.specs.declared.Event.{Event}
+use Rattle.machine_core.specs.Machine.{MachineState}
+use Rattle.trace_text.specs.Reading.{ReadWhole, ReadStops}
+use Rattle.trace_text.specs.Serving.{trace_fault}
+use Rattle.trace_text.specs.declared.fault.TheConstants.{MAX_LINE}
+use Rattle.round_driver.specs.Tables.{table_of}
+use Rattle.round_driver.specs.Walks.{IsOverInTime}
+use Rattle.round_driver.specs.declared.table.Table.{Table}
+use Rattle.shape_files.specs.declared.shape_file.ToolShape.{ToolShape}
+use Rattle.shape_files.specs.declared.shape_file.ShapeFault.TheVariants as shape
+use Rattle.shape_files.specs.ShapeFile.{bad_field}
+use Rattle.register_sweeps.specs.declared.rounds.RoundsRow.{RoundsRow}
+use Rattle.register_sweeps.specs.Rounds.{rounds_row_of}
+use Rattle.register_sweeps.specs.Sweep.{new_machine}
+use Rattle.kroft_jobs.specs.declared.fault.JobFault.{JobFault}
+use Rattle.kroft_jobs.specs.declared.fault.JobFault.TheVariants.{Shape, Trace, TurnLimit, OutOfMemory}
+use Rattle.kroft_jobs.specs.Jobs.{with_registers}
+
+-- the table of these requests in rounds, in a run that is over in time
+abbrev pub IsCounted : (latency : ℕ) (s : MachineState) (requests : List Event) → Table → Type 0
+IsCounted latency s requests table = (table ≡ table_of latency s requests) × IsOverInTime latency s requests
+
+-- the rows of these requests in rounds on machines of these shapes, each of a run that is over in time
+abbrev pub AreCounted : (latency : ℕ) (shapes : List ToolShape) (requests : List Event) → List RoundsRow → Type 0
+AreCounted latency shapes requests rows =
+    (rows ≡ map (rounds_row_of latency requests) shapes) × All (λ t. IsOverInTime latency (new_machine t) requests) shapes
+
+-- Why a sweep over a trace has no rows. A fault of the trace goes before one of the shape, whose own number of registers
+-- doesn't matter: it isn't swept. Memory may be missing anywhere.
+abbrev pub SweepFails : {R : Type 0} (gave : R → List ℕ → R → Type 0) (failed : R → R → Type 0) (t : ToolShape) (input input' : R) → JobFault → Type 0
+SweepFails gave failed t input input' (Trace fault) =
+    (texts : List (List ℕ)) × ReadStops gave failed trace_fault MAX_LINE input input' texts fault
+SweepFails gave failed t input input' (Shape (shape.BadShape field)) =
+    (texts : List (List ℕ)) × ReadWhole gave trace_fault MAX_LINE input input' texts × (bad_field (with_registers t 1) ≡ Some field)
+SweepFails gave failed t input input' TurnLimit =
+    (texts : List (List ℕ)) × ReadWhole gave trace_fault MAX_LINE input input' texts × (bad_field (with_registers t 1) ≡ None)
+SweepFails gave failed t input input' OutOfMemory = ⊤
+SweepFails gave failed t input input' fault = ⊥
