@@ -6,11 +6,13 @@ use crate::fault::RunFault;
 use crate::gate::{Actor, Gate};
 use crate::idle::Idling;
 use station_parts::{BankSide, Stepped};
+use std::rt::Clock;
 use std::sync::atomic::{AtomicBool, Ordering};
 
 /// Serves commands, one in a turn, until the cache side has set the flag and a step after that finds
 /// nothing to serve.
-pub(crate) fn run_bank<G: Gate>(
+pub(crate) fn run_bank<R: Clock, G: Gate>(
+    rt: &R,
     gate: &G,
     number: u32,
     turns: u64,
@@ -19,7 +21,7 @@ pub(crate) fn run_bank<G: Gate>(
 ) -> Result<(), RunFault>
     ensures { bank_id bank.new ≡ bank_id bank.old }
 {
-    let mut idling = Idling::new();
+    let mut idling = Idling::new(3);
     for _turn in 0..turns {
         // The flag is read before the step, since a command that is sent before it is set is seen
         // by a step after that.
@@ -28,7 +30,7 @@ pub(crate) fn run_bank<G: Gate>(
         if is_done && stepped == Some(Stepped::Idle) {
             return Ok(());
         }
-        idling.end_turn(stepped == Some(Stepped::Did));
+        idling.end_turn(rt, stepped == Some(Stepped::Did));
     }
     Err(RunFault::TurnLimit)
 }

@@ -9,17 +9,20 @@ use crate::gate::{Actor, Gate};
 use crate::idle::Idling;
 use crate::round::Round;
 use station_parts::{CacheSide, Entry, Source, Stepped};
+use std::rt::Clock;
 use std::sync::atomic::{AtomicBool, Ordering};
 
 /// Goes round the sources, a step a turn, until every port is done and the unit is at rest; then it
 /// sets the flag. It must not set it in another case: banks end by it.
 pub(crate) fn run_cache<
+    R: Clock,
     G: Gate,
     const WAYS: usize,
     const WORDS: usize,
     const REGS: usize,
     const DEPTH: usize,
 >(
+    rt: &R,
     gate: &G,
     ports: u32,
     banks: u32,
@@ -33,14 +36,14 @@ pub(crate) fn run_cache<
 {
     let mut round = Round::new(ports, banks);
     let mut open_ports = ports;
-    let mut idling = Idling::new();
+    let mut idling = Idling::new(1);
     for _turn in 0..turns {
         let moved = take_turn(gate, &mut round, &mut open_ports, cache);
         if open_ports == 0 && cache.is_at_rest() {
             done.store(true, Ordering::SeqCst);
             return Ok(());
         }
-        idling.end_turn(moved);
+        idling.end_turn(rt, moved);
     }
     Err(RunFault::TurnLimit)
 }

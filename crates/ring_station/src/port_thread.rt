@@ -12,10 +12,12 @@ use crate::idle::Idling;
 use crate::talk::{Phase, Talk};
 use station_parts::{Ask, Port, Told};
 use std::alloc::AllocError;
+use std::rt::Clock;
 
 /// Runs a script in a port: in each turn the port offers an ask, or takes a telling, which goes into
 /// the list.
-pub(crate) fn run_port<G: Gate>(
+pub(crate) fn run_port<R: Clock, G: Gate>(
+    rt: &R,
     gate: &G,
     number: u32,
     script: &[Ask],
@@ -29,13 +31,13 @@ pub(crate) fn run_port<G: Gate>(
     ensures ran { OnOk result (HasRun script.now port.old port.new list.new.items) }
 {
     let mut talk = Talk::new();
-    let mut idling = Idling::new();
+    let mut idling = Idling::new(2);
     for _turn in 0..turns {
         let moved = take_turn(gate, number, script, &mut talk, port, list)?;
         if talk.is_over() {
             return Ok(());
         }
-        idling.end_turn(moved);
+        idling.end_turn(rt, moved);
     }
     Err(RunFault::TurnLimit)
 }

@@ -18,6 +18,7 @@ use crate::threads::run_all;
 use station_parts::{Ask, CacheSide, Station, Told};
 use std::alloc::{AllocError, Global};
 use std::mem::replace;
+use std::rt::Clock;
 use std::thread::Threads;
 
 /// Runs a new station to the end of its scripts: a thread for each port, which offers its script and
@@ -37,7 +38,7 @@ use std::thread::Threads;
 ///
 /// There is one script for each port. A script with `Done` in it comes to no end.
 pub fn run_threads<
-    R: Threads + Sync,
+    R: Clock + Threads + Sync,
     G: Gate,
     const WAYS: usize,
     const WORDS: usize,
@@ -103,7 +104,7 @@ pub fn run_threads<
 // Runs all parts, and says how that ended.
 #[tactic(auto, using(crate::proofs::CrewRunning::reserved_empty))]
 fn run_crew<
-    R: Threads + Sync,
+    R: Clock + Threads + Sync,
     G: Gate,
     const WAYS: usize,
     const WORDS: usize,

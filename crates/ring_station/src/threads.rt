@@ -16,13 +16,14 @@ use crate::fault::RunFault;
 use crate::gate::Gate;
 use crate::port_thread::run_port;
 use station_parts::{Ask, CacheSide};
+use std::rt::Clock;
 use std::sync::atomic::AtomicBool;
 use std::thread::{Threads, for_each_mut, join_mut};
 
 /// Runs the cache side, each port and each bank in a thread of its own, and joins them all. The
 /// result is how the run of the cache side ended; the ports and the banks note their own.
 pub(crate) fn run_all<
-    R: Threads + Sync,
+    R: Clock + Threads + Sync,
     G: Gate,
     const WAYS: usize,
     const WORDS: usize,
@@ -56,7 +57,7 @@ pub(crate) fn run_all<
             ensures same { cache_id cache.exit.now ≡ cache_id cache.entry.now }
             ensures rests { OnOk result (is_at_rest (cache_in cache.exit.now) ≡ true) }
             ensures no_turn { turns ≡ 0 → IsErr result }
-        { run_cache(gate, port_count, bank_count, turns, &done, cache) },
+        { run_cache(rt, gate, port_count, bank_count, turns, &done, cache) },
         &mut ||
             requires { IsSync R.row × (length scripts.now ≡ vec_len ports.now)
                 × (vec_len ports.now ≤ 16) × (vec_len banks.now ≤ 16)
@@ -69,7 +70,7 @@ pub(crate) fn run_all<
 }
 
 // Runs the ports and the banks.
-fn run_sides<R: Threads + Sync, G: Gate>(
+fn run_sides<R: Clock + Threads + Sync, G: Gate>(
     rt: &R,
     gate: &G,
     scripts: &[Vec<Ask>],
@@ -99,7 +100,7 @@ fn run_sides<R: Threads + Sync, G: Gate>(
     );
 }
 
-fn run_ports<R: Threads + Sync, G: Gate>(
+fn run_ports<R: Clock + Threads + Sync, G: Gate>(
     rt: &R,
     gate: &G,
     scripts: &[Vec<Ask>],
@@ -121,18 +122,33 @@ fn run_ports<R: Threads + Sync, G: Gate>(
                 × (run.old.list.items ≡ []) }
             ensures { (s : Vec Ask)
                 → RanScript (slice_index_or scripts.entry.now p s).items run.old run.new }
-        { run_one(gate, p as u32, scripts[p].as_slice(), turns, run) },
+        { run_one(rt, gate, p as u32, scripts[p].as_slice(), turns, run) },
     );
 }
 
-fn run_one<G: Gate>(gate: &G, number: u32, script: &[Ask], turns: u64, run: &mut PortRun)
+fn run_one<R: Clock, G: Gate>(
+    rt: &R,
+    gate: &G,
+    number: u32,
+    script: &[Ask],
+    turns: u64,
+    run: &mut PortRun,
+)
     requires { run.old.list.items ≡ [] }
     ensures { RanScript script.now run.old run.new }
 {
-    run.end = run_port(gate, number, script, turns, &mut run.port, &mut run.list);
+    run.end = run_port(
+        rt,
+        gate,
+        number,
+        script,
+        turns,
+        &mut run.port,
+        &mut run.list,
+    );
 }
 
-fn run_banks<R: Threads + Sync, G: Gate>(
+fn run_banks<R: Clock + Threads + Sync, G: Gate>(
     rt: &R,
     gate: &G,
     turns: u64,
@@ -150,6 +166,6 @@ fn run_banks<R: Threads + Sync, G: Gate>(
         &|b: usize, run: &mut BankRun|
             requires { b < 16 }
             ensures { bank_id run.new.bank ≡ bank_id run.old.bank }
-        { run.end = run_bank(gate, b as u32, turns, done, &mut run.bank) },
+        { run.end = run_bank(rt, gate, b as u32, turns, done, &mut run.bank) },
     );
 }

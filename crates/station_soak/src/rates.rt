@@ -67,7 +67,7 @@ pub fn tell_rates<R: AllocGlobal + Clock + Threads + Sync, W: Write>(
 }
 
 /// Serves the requests once. Says whether the audit, if there is one, was clean.
-pub fn serve_once<R: AllocGlobal + Threads + Sync>(
+pub fn serve_once<R: AllocGlobal + Clock + Threads + Sync>(
     rt: &R,
     server: Server,
     plan: &Plan,
@@ -92,7 +92,7 @@ fn best_time<R: AllocGlobal + Clock + Threads + Sync>(
     Ok((best, all_good))
 }
 
-fn serve<R: AllocGlobal + Threads + Sync>(
+fn serve<R: AllocGlobal + Clock + Threads + Sync>(
     rt: &R,
     server: Server,
     requests: &[Ask],

@@ -13,6 +13,7 @@ use ring_station::{
 use station_checks::{Findings, Outcome, read_journal};
 use std::alloc::{AllocError, Global};
 use std::io::Write;
+use std::rt::Clock;
 use std::thread::Threads;
 
 // So many stations pass between two lines that tell how far the soak is.
@@ -20,7 +21,7 @@ const STEP: u32 = 100;
 
 /// Runs so many stations, and tells of each in which something wrong was found, and in the end how
 /// many there were. Says whether there was none.
-pub fn soak<R: AllocGlobal + Threads + Sync, W: Write, E: Write>(
+pub fn soak<R: AllocGlobal + Clock + Threads + Sync, W: Write, E: Write>(
     rt: &R,
     output: &mut W,
     errors: &mut E,
@@ -52,7 +53,7 @@ pub fn soak<R: AllocGlobal + Threads + Sync, W: Write, E: Write>(
 
 // Runs the station of this number, with the least, the most or other ways, words of a block,
 // registers and places of the stack.
-fn run_any<R: AllocGlobal + Threads + Sync>(
+fn run_any<R: AllocGlobal + Clock + Threads + Sync>(
     rt: &R,
     seed: u64,
     number: u32,
@@ -90,7 +91,7 @@ macro_rules! run_station {
 }
 
 // One station with the least of each.
-fn run_least<R: AllocGlobal + Threads + Sync>(
+fn run_least<R: AllocGlobal + Clock + Threads + Sync>(
     rt: &R,
     mut draws: Draws,
 ) -> Result<Findings, SoakFault> {
@@ -98,7 +99,7 @@ fn run_least<R: AllocGlobal + Threads + Sync>(
 }
 
 // One station with the most of each.
-fn run_most<R: AllocGlobal + Threads + Sync>(
+fn run_most<R: AllocGlobal + Clock + Threads + Sync>(
     rt: &R,
     mut draws: Draws,
 ) -> Result<Findings, SoakFault> {
@@ -106,7 +107,7 @@ fn run_most<R: AllocGlobal + Threads + Sync>(
 }
 
 // One station with the program's usual numbers.
-fn run_common<R: AllocGlobal + Threads + Sync>(
+fn run_common<R: AllocGlobal + Clock + Threads + Sync>(
     rt: &R,
     mut draws: Draws,
 ) -> Result<Findings, SoakFault> {
@@ -114,7 +115,7 @@ fn run_common<R: AllocGlobal + Threads + Sync>(
 }
 
 // One station whose numbers are no powers of two.
-fn run_uneven<R: AllocGlobal + Threads + Sync>(
+fn run_uneven<R: AllocGlobal + Clock + Threads + Sync>(
     rt: &R,
     mut draws: Draws,
 ) -> Result<Findings, SoakFault> {
@@ -126,7 +127,7 @@ type Ran = Result<Vec<Vec<Told>>, RunFault>;
 
 // Runs a new station with scripts and a gate that are drawn.
 fn run_one<
-    R: AllocGlobal + Threads + Sync,
+    R: AllocGlobal + Clock + Threads + Sync,
     const WAYS: usize,
     const WORDS: usize,
     const REGS: usize,

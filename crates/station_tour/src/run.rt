@@ -6,6 +6,7 @@ use crate::fault::TourFault;
 use crate::gate::PatientGate;
 use ring_station::{Ask, Audit, Station, Told, audit, run_threads, station};
 use station_checks::{BLOCK_WORDS, DEPTH, ENTRIES, Plan, REGS, WAYS, shape};
+use std::rt::Clock;
 use std::thread::Threads;
 
 // Turns of each thread. A run uses them up only if its journal becomes full, and then in a minute
@@ -25,7 +26,7 @@ pub struct Ran {
 }
 
 /// Runs the scripts on threads, and audits the station.
-pub fn run_on_threads<R: AllocGlobal + Threads + Sync>(
+pub fn run_on_threads<R: AllocGlobal + Clock + Threads + Sync>(
     rt: &R,
     plan: &Plan,
     scripts: &[Vec<Ask>],

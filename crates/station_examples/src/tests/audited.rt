@@ -8,6 +8,7 @@ ghost use Rattle.station_parts.specs.Words.{journal_of, sizes_in};
 use super::{OpenGate, SHAPE, SmallStation, TURNS, load, scripts_of_two, zeros};
 use ring_station::{Ask, Audit, Gate, Told, audit, run_threads, station};
 use std::alloc::Global;
+use std::rt::Clock;
 use std::test::Fail;
 use std::thread::Threads;
 
@@ -21,7 +22,7 @@ struct Audited {
 
 // Runs a new station and audits it. Its journal is a run of flat memory, each list is what the
 // journal tells its port, and after a clean audit each accepted load has its value there.
-fn run_and_audit<R: Threads + Sync, G: Gate>(
+fn run_and_audit<R: Clock + Threads + Sync, G: Gate>(
     rt: &R,
     alloc: Global,
     scripts: &[Vec<Ask>],

@@ -6,6 +6,7 @@ use crate::fault::SoakFault;
 use crate::random_gate::RandomGate;
 use ring_station::{Ask, Audit, Station, audit, run_threads, station};
 use station_checks::{BLOCK_WORDS, DEPTH, ENTRIES, Plan, REGS, WAYS, shape};
+use std::rt::Clock;
 use std::thread::Threads;
 
 // Turns of each thread, which a run doesn't use up unless its journal becomes full.
@@ -15,7 +16,7 @@ const TURNS: u64 = 100_000_000;
 const PATIENCE: u32 = 200;
 
 /// Runs the scripts to their end. Says whether the audit is clean.
-pub fn ask_on_threads<R: AllocGlobal + Threads + Sync>(
+pub fn ask_on_threads<R: AllocGlobal + Clock + Threads + Sync>(
     rt: &R,
     plan: &Plan,
     scripts: &[Vec<Ask>],
