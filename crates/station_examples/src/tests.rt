@@ -17,6 +17,7 @@ mod on_threads;
 mod raw_banks;
 mod refused_makers;
 mod refused_runs;
+mod turns;
 mod waits_for_nobody;
 
 type SmallStation = Station<1, 4, 2, 2>;
