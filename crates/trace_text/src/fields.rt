@@ -1,6 +1,6 @@
 //! The fields of a line are read.
-ghost use Rattle.std.specs.Prelude.{◌≡◌, ◌≤◌, IfSome};
-ghost use Rattle.trace_text.specs.Fields.{begins_badly as starts_badly, number_of, nibble_of, bit_of, lanes_of, byte_from, word_of};
+ghost use Rattle.std.specs.Prelude.{◌≡◌, ◌≤◌, ◌∷◌, [], IfSome};
+ghost use Rattle.trace_text.specs.Fields.{begins_badly as starts_badly, number_after, number_of, nibble_of, bit_of, lanes_of, byte_from, word_of};
 
 use flat_model::{Lanes, Word};
 
@@ -10,6 +10,9 @@ pub fn number(text: &[u8], most: u32) -> Option<u32>
     ensures value { result ≡ number_of most text.now }
     ensures bound { IfSome result (λ n. n ≤ most) }
 {
+    if let [digit] = text {
+        return lone_digit(*digit, most);
+    }
     if begins_badly(text) {
         return None;
     }
@@ -24,6 +27,18 @@ pub fn number(text: &[u8], most: u32) -> Option<u32>
         }
     }
     Some(value as u32)
+}
+
+// The number of one digit, which most numbers of a trace are.
+#[inline(always)]
+fn lone_digit(digit: u8, most: u32) -> Option<u32>
+    ensures value { result ≡ number_after most 0 (digit ∷ []) }
+    ensures bound { IfSome result (λ n. n ≤ most) }
+{
+    if !digit.is_ascii_digit() || u32::from(digit - b'0') > most {
+        return None;
+    }
+    Some(u32::from(digit - b'0'))
 }
 
 fn begins_badly(text: &[u8]) -> bool
