@@ -1,5 +1,5 @@
 //! The lines of a trace.
-ghost use Rattle.std.specs.Prelude.{◌≡◌, ◌<◌, ◌++◌, length, ◌==◌, position, IfSome, IfNone, IfErr};
+ghost use Rattle.std.specs.Prelude.{◌≡◌, ◌≢◌, ℕ, ◌<◌, ◌++◌, List, length, ◌==◌, position, IfSome, IfNone, IfErr};
 ghost use Rattle.std.specs.Option.{option_map};
 ghost use Rattle.trace_text.specs.Lines.{IsSaid, line_of, ended_line_of, cut_of, name_of, command_told, BeginsNoCommand, command_named, one_number, bare as bare_line, load_of, store_of, arrive_of, line_from as line_made};
 
@@ -74,29 +74,40 @@ pub fn cut(text: &[u8]) -> (&[u8], Option<&[u8]>)
     }
 }
 
-impl Command {
-    // The word that names it.
-    fn name(self) -> &'static [u8]
-        ensures { result.now ≡ name_of self }
-    {
-        match self {
-            Command::Load => b"load",
-            Command::Store => b"store",
-            Command::Prefetch => b"prefetch",
-            Command::Evict => b"evict",
-            Command::Drain => b"drain",
-            Command::Serve => b"serve",
-            Command::Arrive => b"arrive",
-            Command::Process => b"process",
-            Command::Take => b"take",
-            Command::Register => b"reg",
-            Command::Bank => b"bank",
-            Command::Settled => b"settled",
-        }
+// What stands behind a name at the front.
+#[inline(always)]
+fn behind<'a>(text: &'a [u8], name: &[u8]) -> Option<&'a [u8]>
+    ensures some { IfSome result (λ rest. text.now ≡ name.now ++ rest.now) }
+    ensures none { IfNone result ((rest : List ℕ) → text.now ≢ name.now ++ rest) }
+{
+    text.strip_prefix(name)
+}
+
+// What stands behind a command's name. Each name stands in a call of its own, so that it is compared as the few
+// bytes that it is, and not as a slice of any length.
+#[inline(always)]
+fn behind_name(text: &[u8], command: Command) -> Option<&[u8]>
+    ensures some { IfSome result (λ rest. text.now ≡ name_of command ++ rest.now) }
+    ensures none { IfNone result ((rest : List ℕ) → text.now ≢ name_of command ++ rest) }
+{
+    match command {
+        Command::Load => behind(text, b"load"),
+        Command::Store => behind(text, b"store"),
+        Command::Prefetch => behind(text, b"prefetch"),
+        Command::Evict => behind(text, b"evict"),
+        Command::Drain => behind(text, b"drain"),
+        Command::Serve => behind(text, b"serve"),
+        Command::Arrive => behind(text, b"arrive"),
+        Command::Process => behind(text, b"process"),
+        Command::Take => behind(text, b"take"),
+        Command::Register => behind(text, b"reg"),
+        Command::Bank => behind(text, b"bank"),
+        Command::Settled => behind(text, b"settled"),
     }
 }
 
 // The one command whose name may have these as its first and its third byte.
+#[inline(always)]
 #[tactic(auto, unfolding(crate::specs::Lines::command_told))]
 fn command_told(first: u8, third: u8) -> Option<Command>
     ensures { result ≡ command_told first third }
@@ -119,6 +130,7 @@ fn command_told(first: u8, third: u8) -> Option<Command>
 }
 
 // The command whose name a text begins with, and what stands behind the name.
+#[inline(always)]
 fn begun_command(text: &[u8]) -> Option<(Command, &[u8])>
     ensures some { IfSome result (λ begun. text.now ≡ name_of begun.0 ++ begun.1.now) }
     ensures none { IfNone result (BeginsNoCommand text.now) }
@@ -127,11 +139,12 @@ fn begun_command(text: &[u8]) -> Option<(Command, &[u8])>
         return None;
     };
     let command = command_told(*first, *third)?;
-    let rest = text.strip_prefix(command.name())?;
+    let rest = behind_name(text, command)?;
     Some((command, rest))
 }
 
 // The command of a line, and the fields behind it.
+#[inline(always)]
 fn command_said(text: &[u8]) -> Option<(Command, Option<&[u8]>)>
     ensures command { option_map (λ said. said.0) result ≡ command_named (cut_of text.now).0 }
     ensures fields { IfSome result
@@ -161,6 +174,7 @@ fn bare(line: Line, fields: Option<&[u8]>) -> Option<Line>
     }
 }
 
+#[inline(always)]
 fn load(fields: Option<&[u8]>) -> Option<Line>
     ensures { result ≡ load_of (option_map (λ rest. rest.now) fields.entry) }
 {
@@ -173,6 +187,7 @@ fn load(fields: Option<&[u8]>) -> Option<Line>
     }))
 }
 
+#[inline(always)]
 fn store(fields: Option<&[u8]>) -> Option<Line>
     ensures { result ≡ store_of (option_map (λ rest. rest.now) fields.entry) }
 {
@@ -188,6 +203,7 @@ fn store(fields: Option<&[u8]>) -> Option<Line>
     }))
 }
 
+#[inline(always)]
 fn arrive(fields: Option<&[u8]>) -> Option<Line>
     ensures { result ≡ arrive_of (option_map (λ rest. rest.now) fields.entry) }
 {

@@ -1,6 +1,4 @@
-use Rattle.std.proofs.Common.{◌≢◌, ◌++◌, ℕ, List, None, sym, ap, ◌∙◌}
-use Rattle.std.proofs.lemmas.Bool.Decides.{Decides-eqb}
-use Rattle.std.proofs.lemmas.Slice.Eq.{strip_prefix_is}
+use Rattle.std.proofs.Common.{sym}
 use Rattle.trace_text.specs.Lines.{BeginsNoCommand}
 use Rattle.trace_text.proofs.Commands.{if_none, told_none, only_told}
 use Rattle.trace_text.proofs.lines.begun_command.Goals as goal
@@ -12,7 +10,5 @@ returns-in_err-command-clause-none c =
 pub returns-in_err-rest-clause-none : goal.returns-in_err-rest-clause-none
 returns-in_err-rest-clause-none c =
     let text = c.args.text.now in
-    let command = c.in_ok-command.command in
-    let other : (rest : List ℕ) → text ≢ c.name.result.now ++ rest = strip_prefix_is Decides-eqb text c.name.result.now None c.in_err-rest.ensures.cases in
     if_none c.from_residual-in_err-rest.result (BeginsNoCommand text)
-    (only_told text command (sym c.in_ok-command.ensures) (λ rest e. other rest (e ∙ ap (λ l. l ++ rest) (sym c.name.ensures))))
+    (only_told text c.in_ok-command.command (sym c.in_ok-command.ensures) c.in_err-rest.ensures.none)
