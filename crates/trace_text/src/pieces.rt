@@ -7,7 +7,7 @@ ghost use Rattle.trace_text.specs.Collecting.{Filled, BegunFault};
 use crate::fault::{MAX_LINES, TraceFault};
 use crate::lines::LineFault;
 use crate::streams::Source;
-use memchr::memchr;
+use memchr::memchr_iter;
 use std::io;
 
 /// A write or a flush was refused, or a read failed.
@@ -22,13 +22,13 @@ impl From<io::Error> for Failed {
     }
 }
 
-// The place of the first LF.
+// The place of the first LF. The iterator looks at the next 32 bytes first, which most lines end in.
 pub fn end_of_line(bytes: &[u8]) -> Option<usize>
     ensures some { IfSome result (λ at. (at < length bytes.now) × (slice_index bytes.now at ≡ 10)
         × ((k : ℕ) → k < at → slice_index bytes.now k ≢ 10)) }
     ensures none { IfNone result (HasNoEnd bytes.now) }
 {
-    memchr(b'\n', bytes)
+    memchr_iter(b'\n', bytes).next()
 }
 
 // The fault of the line that the last `left` bytes begin, whatever comes behind them: it is one line
