@@ -168,12 +168,10 @@ answered_back m (line.Register slot) fit = refl
 answered_back m (line.Bank at) fit = refl
 answered_back m line.Settled fit = refl
 
--- what is served for a line is read as the line and its answer
-pub pair_back : (m : MachineState) (text : List ℕ) (l : Line) → line_of text ≡ Ok l → IsFitReply (answer_to m l)
-    → pair_of (text ++ (codes " -> " ++ reply_text m l)) ≡ Ok (record { line = l; answer = answer_to m l })
+-- an arrow right behind a line that can be read is the first one
+pub read_behind : (text reply : List ℕ) (l : Line) → line_of text ≡ Ok l → pair_of (text ++ (codes " -> " ++ reply)) ≡ pair_with l reply
 unfolding pair_of
-pair_back m text l said fit =
-    let reply = reply_text m l in
+read_behind text reply l said =
     let served = text ++ (codes " -> " ++ reply) in
     let read = line_is text l said in
     let dashless : NoDash text = subst NoDash (sym read.1) (dashless_line l read.0) in
@@ -182,4 +180,8 @@ pair_back m text l said fit =
     ap (pair_cut served) (arrow_behind_line text reply dashless)
     ∙ ap (λ o. pair_from o (drop (length text + 4) served)) front
     ∙ ap (pair_with l) back
-    ∙ answered_back m l fit
+
+-- what is served for a line is read as the line and its answer
+pub pair_back : (m : MachineState) (text : List ℕ) (l : Line) → line_of text ≡ Ok l → IsFitReply (answer_to m l)
+    → pair_of (text ++ (codes " -> " ++ reply_text m l)) ≡ Ok (record { line = l; answer = answer_to m l })
+pair_back m text l said fit = read_behind text (reply_text m l) l said ∙ answered_back m l fit

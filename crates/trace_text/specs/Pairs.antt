@@ -1,5 +1,5 @@
 -- Lines as they are written: a command, ` -> ` and an answer.
-use Rattle.std.specs.Prelude.{ℕ, suc, ◌+◌, ◌==◌, if◌then◌else◌, Option, None, Some, Result, Ok, Err, List, [], ◌∷◌, length, take, drop, nat_eq, nat_lt, codes}
+use Rattle.std.specs.Prelude.{◌≡◌, ◌++◌, ℕ, suc, ◌+◌, ◌==◌, if◌then◌else◌, Option, None, Some, Result, Ok, Err, List, [], ◌∷◌, length, take, drop, nat_eq, nat_lt, codes}
 use Rattle.trace_text.specs.declared.fault.TheConstants.{MAX_PAIR}
 use Rattle.std.specs.List.{starts_with}
 use Rattle.std.specs.Option.{option_map, option_and_then}
@@ -84,6 +84,12 @@ arrow_in (b ∷ bs) = if starts_with nat_eq (b ∷ bs) (codes " -> ") then Some 
 abbrev pub answered_pair : Line → Option Answer → Result Pair LineFault
 answered_pair line None = Err Field
 answered_pair line (Some answer) = Ok (record { line = line; answer = Some answer })
+
+-- a text is this front, an arrow, and the text of this answer
+pub record IsAnswered (text front : List ℕ) (answer : Answer) : Type 0 where
+  pub reply : List ℕ
+  pub whole : text ≡ front ++ (codes " -> " ++ reply)
+  pub said : answer_of reply ≡ Some answer
 
 -- a line and the text of its answer, which is passed over where the line only shows something
 abbrev pub pair_with : Line → List ℕ → Result Pair LineFault

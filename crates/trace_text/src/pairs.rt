@@ -1,8 +1,8 @@
 //! Lines as a served trace has them: a command and its answer.
-ghost use Rattle.std.specs.Prelude.{◌≡◌, ◌≢◌, ℕ, ◌+◌, ◌<◌, ◌≤◌, length, slice_index, IfSome, IfNone, IfErr};
+ghost use Rattle.std.specs.Prelude.{◌≡◌, ◌≢◌, ℕ, ◌+◌, ◌<◌, ◌≤◌, List, Some, Ok, length, slice_index, IfSome, IfNone, IfErr};
 ghost use Rattle.std.specs.Option.{option_map};
 ghost use Rattle.trace_text.specs.Lines.{IsSaid};
-ghost use Rattle.trace_text.specs.Pairs.{cause_of, bare_answer as bare_of, value_of, refusal_of, answer_from as answer_made, answer_of, arrow_in, pair_with as pair_made, pair_of, ended_pair_of};
+ghost use Rattle.trace_text.specs.Pairs.{cause_of, bare_answer as bare_of, value_of, refusal_of, answer_from as answer_made, answer_of, IsAnswered, arrow_in, pair_with as pair_made, pair_of, ended_pair_of};
 
 use crate::fault::MAX_PAIR;
 use crate::fields::{number, word};
@@ -87,17 +87,11 @@ fn answer_from(kind: &[u8], fields: Option<&[u8]>) -> Option<Answer>
     }
 }
 
-// The answer whose text this is. Most lines have one of two answers, which are told before they are cut.
+// The answer whose text this is.
 #[tactic(auto, unfolding(crate::specs::Pairs::answer_of))]
 fn answer_said(text: &[u8]) -> Option<Answer>
     ensures { result ≡ answer_of text.now }
 {
-    if text == b"moved".as_slice() {
-        return Some(Answer::Moved);
-    }
-    if text == b"accepted".as_slice() {
-        return Some(Answer::Accepted);
-    }
     let (kind, fields) = cut(text);
     answer_from(kind, fields)
 }
@@ -142,9 +136,9 @@ fn pair_with(line: Line, answer: &[u8]) -> Result<Pair, LineFault>
     }
 }
 
-// What a line with its answer says, without its LF.
+// What a line with its answer says, by a search for the arrow.
 #[tactic(auto, unfolding(crate::specs::Pairs::pair_of))]
-pub fn pair_said(text: &[u8]) -> Result<Pair, LineFault>
+fn searched_pair(text: &[u8]) -> Result<Pair, LineFault>
     ensures pair { result ≡ pair_of text.now }
     ensures fault { IfErr result IsSaid }
 {
@@ -153,6 +147,46 @@ pub fn pair_said(text: &[u8]) -> Result<Pair, LineFault>
     };
     let line = line_said(&text[..at])?;
     pair_with(line, &text[at + 4..])
+}
+
+// What stands in front of the arrow and one of the two answers that most lines have, told by how the text ends.
+#[inline(always)]
+fn usual_answer(text: &[u8]) -> Option<(&[u8], Answer)>
+    ensures { IfSome result (λ usual. IsAnswered text.now usual.0.now usual.1) }
+{
+    if let Some(line) = text.strip_suffix(b" -> moved".as_slice()) {
+        return Some((line, Answer::Moved));
+    }
+    if let Some(line) = text.strip_suffix(b" -> accepted".as_slice()) {
+        return Some((line, Answer::Accepted));
+    }
+    None
+}
+
+fn answered(line: Line, answer: Answer) -> Pair
+    ensures { (reply : List ℕ) → answer_of reply ≡ Some answer → Ok result ≡ pair_made line reply }
+{
+    match line {
+        Line::Event(_) => Pair {
+            line,
+            answer: Some(answer),
+        },
+        _ => Pair { line, answer: None },
+    }
+}
+
+// What a line with its answer says, without its LF. A line that can be read has no hyphen, so an arrow right behind
+// it is the first one, and needs no search.
+pub fn pair_said(text: &[u8]) -> Result<Pair, LineFault>
+    ensures pair { result ≡ pair_of text.now }
+    ensures fault { IfErr result IsSaid }
+{
+    if let Some((front, answer)) = usual_answer(text) {
+        if let Ok(line) = line_said(front) {
+            return Ok(answered(line, answer));
+        }
+    }
+    searched_pair(text)
 }
 
 /// What a line of a served trace says. The bytes are those of one line with its LF: at most 768
