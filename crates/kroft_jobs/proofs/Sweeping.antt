@@ -1,79 +1,73 @@
--- Why a sweep has no rows, by the faults of its trace and of its shapes.
-use Rattle.std.proofs.Common.{◌≡◌, ℕ, Bool, true, false, List, [], ◌∷◌, length, map, Option, Some, None, refl, sym, ap, subst, ◌∙◌, inl, inr}
-use Rattle.std.specs.List.{All, list_all}
+-- Why a sweep has no rows, by the fault of its shapes; and what is counted of requests that were read.
+use Rattle.std.proofs.Common.{◌≡◌, ℕ, true, List, map, Option, Some, None, Result, Ok, Err, IfErr, IsErrAnd, refl, sym, ap, subst, ◌∙◌}
+use Rattle.std.specs.List.{list_all}
 use Rattle.std.specs.Option.{option_map, option_or}
 use Rattle.flat_model.specs.declared.Event.{Event}
 use Rattle.flat_model.specs.declared.ShapeField.{ShapeField}
-use Rattle.trace_text.specs.Reading.{ReadWhole, ReadStops, ReadFails}
+use Rattle.machine_core.specs.Machine.{MachineState}
+use Rattle.trace_text.specs.Reading.{ReadWhole}
 use Rattle.trace_text.specs.Serving.{trace_fault}
 use Rattle.trace_text.specs.declared.fault.TheConstants.{MAX_LINE}
-use Rattle.trace_text.specs.declared.fault.TraceFault.{TraceFault}
-use Rattle.trace_text.specs.declared.fault.TraceFault.TheVariants as trace
-use Rattle.round_driver.specs.Walks.{is_request, IsOverInTime}
+use Rattle.round_driver.specs.Tables.{table_of}
+use Rattle.round_driver.specs.Walks.{is_request, RequestsEnd}
+use Rattle.round_driver.specs.declared.table.Table.{Table}
 use Rattle.shape_files.specs.declared.shape_file.ToolShape.{ToolShape}
 use Rattle.shape_files.specs.ShapeFile.{bad_field}
 use Rattle.register_sweeps.specs.declared.rounds.RoundsRow.{RoundsRow}
 use Rattle.register_sweeps.specs.declared.sweeps.SweepFault.{SweepFault}
 use Rattle.register_sweeps.specs.declared.sweeps.SweepFault.TheVariants as sweep
 use Rattle.register_sweeps.specs.Rounds.{rounds_row_of, EachRunEnds}
-use Rattle.register_sweeps.specs.Sweep.{FaultSays, bad_from, new_machine}
-use Rattle.kroft_jobs.specs.Jobs.{swept, with_registers, of_trace, of_sweep}
-use Rattle.kroft_jobs.specs.Sweeping.{AreCounted, SweepFails}
+use Rattle.register_sweeps.specs.Sweep.{FaultSays, bad_from}
+use Rattle.kroft_jobs.specs.declared.fault.JobFault.{JobFault}
+use Rattle.kroft_jobs.specs.Jobs.{swept, with_registers, of_sweep}
+use Rattle.kroft_jobs.specs.Sweeping.{IsCounted, AreCounted, SweepFails}
 
 -- ---- which field of the swept shapes is out of its range
 
-same_pair : (f g : ShapeField) (place : ℕ) → Some (0, f) ≡ Some (place, g) → f ≡ g
-same_pair f g place h = ap (λ o. field_in o) h
-  where
-    field_in : Option (ℕ × ShapeField) → ShapeField
-    field_in None = f
-    field_in (Some p) = p.1
+-- the first of four shapes with a bad field, where all have this one
+abbrev first_of_four : Option ShapeField → Option (ℕ × ShapeField)
+first_of_four bad =
+    option_or (option_map (λ field. (0, field)) bad) (option_or (option_map (λ field. (1, field)) bad) (option_or (option_map (λ field. (2, field)) bad) (option_or (option_map (λ field. (3, field)) bad) None)))
 
--- what follows the first shape, where that has no field out of its range
-rest_after : Option ShapeField → Option (ℕ × ShapeField)
-rest_after o = option_or (option_map (λ field. (0, field)) o) (option_or (option_map (λ field. (1, field)) o) (option_or (option_map (λ field. (2, field)) o) (option_or (option_map (λ field. (3, field)) o) None)))
-
--- the swept shapes have the same field out of its range, if any: each number of registers is one that there may be
-all_alike : (t : ToolShape) → bad_from 0 (swept t) ≡ rest_after (bad_field (with_registers t 1))
+-- the swept shapes are alike in this, since each has a number of registers that there may be
+all_alike : (t : ToolShape) → bad_from 0 (swept t) ≡ first_of_four (bad_field (with_registers t 1))
 all_alike t = refl
 
-pub swept_bad : (t : ToolShape) (place : ℕ) (field : ShapeField) → bad_from 0 (swept t) ≡ Some (place, field) → bad_field (with_registers t 1) ≡ Some field
+not_none : {X : Type 0} {x : X} → Some x ≡ None → ⊥
+not_none h = cc
+
+swept_bad : (t : ToolShape) (place : ℕ) (field : ShapeField) → bad_from 0 (swept t) ≡ Some (place, field) → bad_field (with_registers t 1) ≡ Some field
 swept_bad t place field h = go (bad_field (with_registers t 1)) (sym (all_alike t) ∙ h)
   where
-    go : (o : Option ShapeField) → rest_after o ≡ Some (place, field) → o ≡ Some field
-    go (Some f) e = ap Some (same_pair f field place e)
-    go None e = cc
+    go : (bad : Option ShapeField) → first_of_four bad ≡ Some (place, field) → bad ≡ Some field
+    go (Some f) e = ap (λ (o : Option (ℕ × ShapeField)). option_map (λ p. p.1) o) e
+    go None e = absurd (not_none (sym e))
 
-pub swept_good : (t : ToolShape) → bad_from 0 (swept t) ≡ None → bad_field (with_registers t 1) ≡ None
+swept_good : (t : ToolShape) → bad_from 0 (swept t) ≡ None → bad_field (with_registers t 1) ≡ None
 swept_good t h = go (bad_field (with_registers t 1)) (sym (all_alike t) ∙ h)
   where
-    go : (o : Option ShapeField) → rest_after o ≡ None → o ≡ None
-    go (Some f) e = cc
+    go : (bad : Option ShapeField) → first_of_four bad ≡ None → bad ≡ None
+    go (Some f) e = absurd (not_none e)
     go None e = refl
 
--- ---- the faults
+-- ---- the fault of a sweep over a trace that was read
 
-module _ {R : Type 0} (gave : R → List ℕ → R → Type 0) (failed : R → R → Type 0) (t : ToolShape) (input input' : R) where
-  -- the trace wasn't read to its end
-  pub unread : (fault : TraceFault) → ReadFails gave failed trace_fault MAX_LINE input input' fault → SweepFails gave failed t input input' (of_trace fault)
-  unread trace.OutOfMemory h = tt
-  unread trace.Read (inl same) = cc
-  unread trace.Read (inr stops) = stops
-  unread trace.Write (inl same) = cc
-  unread trace.Write (inr stops) = stops
-  unread trace.TooManyLines (inl same) = cc
-  unread trace.TooManyLines (inr stops) = stops
-  unread (trace.Line n f) (inl same) = cc
-  unread (trace.Line n f) (inr stops) = stops
+module _ {R : Type 0} (gave : R → List ℕ → R → Type 0) (failed : R → R → Type 0) (t : ToolShape) (input input' : R) (texts : List (List ℕ)) (whole : ReadWhole gave trace_fault MAX_LINE input input' texts) where
+  fails : (fault : SweepFault) → FaultSays (swept t) fault → SweepFails gave failed t input input' (of_sweep fault)
+  fails (sweep.BadShape place field) says = (texts, whole, swept_bad t place field says)
+  fails sweep.TurnLimit says = (texts, whole, swept_good t says)
+  fails sweep.OutOfMemory says = tt
 
-  -- the trace was read, and the sweep over the shapes has a fault
-  pub unswept : (texts : List (List ℕ)) → ReadWhole gave trace_fault MAX_LINE input input' texts → (shapes : List ToolShape) → shapes ≡ swept t → (fault : SweepFault) → FaultSays shapes fault → SweepFails gave failed t input input' (of_sweep fault)
-  unswept texts whole shapes same (sweep.BadShape place field) says = (texts, whole, swept_bad t place field (sym (ap (bad_from 0) same) ∙ says))
-  unswept texts whole shapes same sweep.TurnLimit says = (texts, whole, swept_good t (sym (ap (bad_from 0) same) ∙ says))
-  unswept texts whole shapes same sweep.OutOfMemory says = tt
+  pub unswept : {X : Type 0} (shapes : List ToolShape) → shapes ≡ swept t → (fault : SweepFault) → FaultSays shapes fault → (result : Result X JobFault) → IsErrAnd result (λ told. told ≡ of_sweep fault) → IfErr result (SweepFails gave failed t input input')
+  unswept shapes same fault says (Ok rows) told = tt
+  unswept shapes same fault says (Err f) told =
+      subst (SweepFails gave failed t input input') (sym told) (fails fault (subst (λ ts. FaultSays ts fault) same says))
 
--- ---- the rows
+-- ---- what is counted of requests that were read
 
-pub counted : (latency : ℕ) (t : ToolShape) (requests said : List Event) (shapes : List ToolShape) (rows : List RoundsRow) → shapes ≡ swept t → requests ≡ said → list_all is_request said ≡ true → rows ≡ map (rounds_row_of latency requests) shapes → EachRunEnds latency requests shapes → AreCounted latency (swept t) said rows
-counted latency t requests said shapes rows same read all made ends =
-    subst (λ ts. AreCounted latency ts said rows) same (subst (λ events. list_all is_request events ≡ true → AreCounted latency shapes events rows) read (λ every. (made, λ i u l. ends i u l every)) all)
+pub table_counted : (latency : ℕ) (s : MachineState) (requests said : List Event) (table : Table) → requests ≡ said → list_all is_request requests ≡ true → table ≡ table_of latency s requests → RequestsEnd latency s requests → IsCounted latency s said table
+table_counted latency s requests said table read all made ends = subst (λ events. IsCounted latency s events table) read (made, ends all)
+
+pub rows_counted : (latency : ℕ) (t : ToolShape) (requests said : List Event) (shapes : List ToolShape) (rows : List RoundsRow) → requests ≡ said → list_all is_request requests ≡ true → shapes ≡ swept t → rows ≡ map (rounds_row_of latency requests) shapes → EachRunEnds latency requests shapes → AreCounted latency (swept t) said rows
+rows_counted latency t requests said shapes rows read all same made ends =
+    subst (λ events. AreCounted latency (swept t) events rows) read (subst (λ ts. AreCounted latency ts requests rows) same (made, λ i u inside. ends i u inside all))
