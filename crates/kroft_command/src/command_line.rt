@@ -262,7 +262,7 @@ event and behind each, with what the event changed, and why, in words. Left and 
 End step through it, and the space bar plays.
 With --text, in its place, lines of at most 80 columns for a terminal: * stands before what the
 step changed. With --vcd, a waveform (a value change dump) with one unit of time an event.
-A page has some 110 to 190 bytes an event. It shows the first 256 words of memory.
+A page has some 50 to 350 bytes an event, and 630 for a miss. It shows the first 256 words of memory.
 
 Statuses: 0 done, 2 the command line is wrong, 3 the shape file is wrong, 4 a line is faulty, there
 are too many events or a stream failed, 5 there is too little memory.
