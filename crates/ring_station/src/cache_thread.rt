@@ -36,7 +36,7 @@ pub(crate) fn run_cache<
 {
     let mut round = Round::new(ports, banks);
     let mut open_ports = ports;
-    let mut idling = Idling::new(1);
+    let mut idling = Idling::long_awake();
     for _turn in 0..turns {
         let moved = take_turn(gate, &mut round, &mut open_ports, cache);
         if open_ports == 0 && cache.is_at_rest() {

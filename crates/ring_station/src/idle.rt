@@ -4,30 +4,44 @@ use std::rt::Clock;
 use std::time::Duration;
 use std::{hint, thread};
 
-// So many turns in a row without a step are short, for the sake of a far end that is about to push
-// or pop. After them such a turn leaves the processor to another thread, since there may be fewer
-// processors than threads.
-const SHORT_TURNS: u32 = 64;
+// There may be fewer processors than threads. So one in so many turns without a step leaves the
+// processor to another thread. The others are short, since a far end may be about to push or pop,
+// and a thread that leaves its processor is long in coming back.
+const TURNS_A_YIELD: u64 = 16;
 
-// In one of so many turns in a row a thread sleeps. The others are no sleep, so that many turns without
-// a step are over soon.
-const TURNS_A_NAP: u32 = 128;
+// In one of so many such turns a thread sleeps: so it leaves the processors to those that have
+// something to do, and many turns are over soon all the same.
+const TURNS_A_NAP: u64 = 128;
 
-// The first sleep, and the longest one.
+// A thread for which all others wait makes so many turns before the first that may be a sleep.
+const TURNS_AWAKE: u64 = 1_024;
+
+// How long a thread sleeps at first, by how much longer each time, and at most, in nanoseconds. The
+// system mostly adds 50,000.
 const FIRST_NAP: u64 = 20_000;
 
-const LONGEST_NAP: u64 = 80_000;
+const LONGEST_NAP: u64 = 160_000;
 
 /// How many turns in a row went by without a step.
 #[derive(Drop)]
 pub(crate) struct Idling {
-    turns: u32,
-    kind: u64,
+    turns: u64,
+    // Turns before the first that may be a sleep.
+    awake: u64,
 }
 
 impl Idling {
-    pub(crate) fn new(kind: u64) -> Idling {
-        Idling { turns: 0, kind }
+    /// Before the first turn of a thread for which all others wait.
+    pub(crate) fn long_awake() -> Idling {
+        Idling {
+            turns: 0,
+            awake: TURNS_AWAKE,
+        }
+    }
+
+    /// Before the first turn of another thread.
+    pub(crate) fn new() -> Idling {
+        Idling { turns: 0, awake: 0 }
     }
 
     /// Ends a turn.
@@ -37,16 +51,18 @@ impl Idling {
             return;
         }
         self.turns = self.turns.saturating_add(1);
-        if self.turns < SHORT_TURNS {
-            hint::spin_loop();
-        } else if self.turns % TURNS_A_NAP != 0 {
+        if self.turns > self.awake && self.turns % TURNS_A_NAP == 0 {
+            thread::sleep(rt, nap_after(self.turns - self.awake));
+        } else if self.turns % TURNS_A_YIELD == 0 {
             thread::yield_now();
         } else {
-            let naps = u64::from(self.turns / TURNS_A_NAP);
-            thread::sleep(
-                rt,
-                Duration::from_nanos(naps.saturating_mul(FIRST_NAP).min(LONGEST_NAP)),
-            );
+            hint::spin_loop();
         }
     }
+}
+
+// How long a thread sleeps after so many turns in a row without a step in which it might have slept.
+fn nap_after(turns: u64) -> Duration {
+    let nanos = (turns / TURNS_A_NAP).saturating_mul(FIRST_NAP);
+    Duration::from_nanos(nanos.min(LONGEST_NAP))
 }

@@ -31,7 +31,7 @@ pub(crate) fn run_port<R: Clock, G: Gate>(
     ensures ran { OnOk result (HasRun script.now port.old port.new list.new.items) }
 {
     let mut talk = Talk::new();
-    let mut idling = Idling::new(2);
+    let mut idling = Idling::new();
     for _turn in 0..turns {
         let moved = take_turn(gate, number, script, &mut talk, port, list)?;
         if talk.is_over() {
