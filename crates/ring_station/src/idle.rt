@@ -11,7 +11,7 @@ const TURNS_A_YIELD: u64 = 16;
 
 // In one of so many such turns a thread sleeps: so it leaves the processors to those that have
 // something to do, and many turns are over soon all the same.
-const TURNS_A_NAP: u64 = 128;
+const TURNS_A_NAP: u64 = 256;
 
 // A thread for which all others wait makes so many turns before the first that may be a sleep.
 const TURNS_AWAKE: u64 = 1_024;
