@@ -9,8 +9,8 @@ use station_checks::{BLOCK_WORDS, DEPTH, ENTRIES, Plan, REGS, WAYS, shape};
 use std::rt::Clock;
 use std::thread::Threads;
 
-// Turns of each thread. A run uses them up only if its journal becomes full, and then in a minute
-// or so.
+// Turns of each thread. A run uses them up only if its journal becomes full, and then in some
+// minutes.
 const TURNS: u64 = 100_000_000;
 
 /// The station of a tour.
