@@ -56,7 +56,7 @@ may_of s event g = listed _ _ event (answered s event) (step_of s event g)
 
 -- ---- a pump lowers the weight
 
-pump_lighter : (s : MachineState) → Good s → 0 < weight s.machine → weight (pump_leaves s).machine < weight s.machine
+pub pump_lighter : (s : MachineState) → Good s → 0 < weight s.machine → weight (pump_leaves s).machine < weight s.machine
 unfolding pump_leaves after_event
 pump_lighter s g h = go (pumped s.sizes s.machine) refl
   where
@@ -66,7 +66,7 @@ pump_lighter s g h = go (pumped s.sizes s.machine) refl
 
 -- ---- at weight 0 a request ends
 
-at_rest : (s : MachineState) (event : Event) → Good s → is_request event ≡ true → weight s.machine ≡ 0 → is_end (answered s event) ≡ true
+pub at_rest : (s : MachineState) (event : Event) → Good s → is_request event ≡ true → weight s.machine ≡ 0 → is_end (answered s event) ≡ true
 unfolding answered
 at_rest s event g r rest = go event r (may_of s event g)
   where
@@ -373,7 +373,7 @@ counted_end event c ended loads r k h =
     }
 
 -- a request that has to wait leaves the course as it was
-waits : (event : Event) (c : Course) → is_request event ≡ true → ends event c ≡ false → ask event c ≡ c
+pub waits : (event : Event) (c : Course) → is_request event ≡ true → ends event c ≡ false → ask event c ≡ c
 unfolding answered after_event
 waits event c r h = λ i. record { state = record { sizes = c.state.sizes; machine = unchanged c.state.sizes c.state.machine event r h i }; row = end_waits c.row (answered c.state event) h i }
 
@@ -386,7 +386,7 @@ Served event c d ended loads = Counted d (ended + 1) (loads + loads_between even
 same_start : (event : Event) (old new row : Row) → old.accepted ≡ new.accepted → loads_between event old row ≡ loads_between event new row
 same_start event old new row e = ap (λ n. cond (is_load event) (row.accepted - n) 0) e
 
-ask_again_step : (n : ℕ) (event : Event) (c : Course) (b : Bool) → ends event (pump_and_wait c) ≡ b → ask_again (suc n) event c ≡ cond b (ask event (pump_and_wait c)) (ask_again n event (ask event (pump_and_wait c)))
+pub ask_again_step : (n : ℕ) (event : Event) (c : Course) (b : Bool) → ends event (pump_and_wait c) ≡ b → ask_again (suc n) event c ≡ cond b (ask event (pump_and_wait c)) (ask_again n event (ask event (pump_and_wait c)))
 unfolding ask_again
 ask_again_step n event c b e = ap (λ x. cond x (ask event (pump_and_wait c)) (ask_again n event (ask event (pump_and_wait c)))) e
 

@@ -3,4 +3,5 @@ pub mod Shapes
 pub mod Owing
 pub mod Requests
 pub mod Ending
+pub mod EnoughTurns
 pub mod Lawful

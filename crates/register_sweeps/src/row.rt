@@ -1,16 +1,21 @@
 //! One row of a sweep: a machine serves all requests, and what it took is counted.
 
-ghost use Rattle.std.specs.Prelude.{◌≡◌, ◌+◌, ◌*◌, ◌^◌, ◌<◌, ◌≤◌, length, true, Some};
+ghost use Rattle.std.specs.Prelude.{◌≡◌, ◌+◌, ◌*◌, ◌^◌, ◌<◌, ◌≤◌, length, true, false, IsTrue, Some};
 ghost use Rattle.std.specs.Fmt.{WritesOnOk};
 ghost use Rattle.machine_core.specs.Law.{most_weight};
-ghost use Rattle.machine_core.specs.AnyMachine.{weight_of};
+ghost use Rattle.machine_core.specs.Whole.{IsWholeState};
+ghost use Rattle.machine_core.specs.AnyMachine.{answered, weight_of};
 ghost use Rattle.round_driver.specs.Rounds.{most_requests};
 ghost use Rattle.register_sweeps.specs.Sweep as sweep;
 ghost use Rattle.register_sweeps.specs.Sweep.{course, total};
 
 use flat_model::{Answer, Cause, Event};
 use machine_core::AnyMachine;
+use round_driver::RoundMachine;
 use std::fmt;
+
+// As many turns as any weight at least: rows are counted of machines whose weight is below 2^32.
+const MOST_TURNS: u64 = u32::MAX as u64;
 
 /// What a sweep counted with one number of registers.
 #[derive(Clone, Copy, PartialEq, Eq, Debug, Default)]
@@ -128,17 +133,49 @@ fn pump_once<M: AnyMachine>(machine: &mut M, row: &mut Row)
     row.count_pump(told);
 }
 
+// Whether an event is a load, a store, a prefetch or an eviction.
+fn is_request(event: Event) -> bool
+    ensures { result ≡ sweep.is_request event }
+{
+    matches!(
+        event,
+        Event::Load { .. } | Event::Store { .. } | Event::Prefetch { .. } | Event::Evict { .. }
+    )
+}
+
+// How often an event that has to wait is asked again at most. It is as often as what is on its way
+// weighs; but to a whole machine a request ends by then, so any higher number does the same, and the
+// machine isn't weighed.
+fn most_turns<M: AnyMachine>(machine: &M, event: Event, is_whole: bool) -> u64
+    requires few { most_weight (M.state machine.now).sizes < 2 ^ 32 }
+    requires whole { IsTrue is_whole → IsWholeState (M.state machine.now) }
+    requires waits { IsTrue is_whole → IsTrue (sweep.is_request event)
+        → sweep.is_end (answered (M.state machine.now) event) ≡ false }
+    ensures few { result < 2 ^ 32 }
+    ensures same { (c : sweep.Course) → c.state ≡ M.state machine.now
+        → sweep.ask_again result event c ≡ sweep.ask_again (weight_of c.state) event c }
+{
+    if is_whole && is_request(event) {
+        MOST_TURNS
+    } else {
+        machine.weight()
+    }
+}
+
 // Asks a request again, after a pump each time, until it ends.
-fn ask_again<M: AnyMachine>(machine: &mut M, row: &mut Row, event: Event)
+fn ask_again<M: AnyMachine>(machine: &mut M, row: &mut Row, event: Event, is_whole: bool)
     requires few { most_weight (M.state machine.old).sizes < 2 ^ 32 }
     requires room { total row.old < 2 ^ 62 }
+    requires whole { IsTrue is_whole → IsWholeState (M.state machine.old) }
+    requires waits { IsTrue is_whole → IsTrue (sweep.is_request event)
+        → sweep.is_end (answered (M.state machine.old) event) ≡ false }
     ensures sizes { (M.state machine.new).sizes ≡ (M.state machine.old).sizes }
     ensures course { course (M.state machine.new) row.new
         ≡ sweep.ask_again (weight_of (M.state machine.old)) event
         (course (M.state machine.old) row.old) }
     ensures total { total row.new ≤ total row.old + 2 ^ 34 }
 {
-    for _turn in 0..machine.weight() {
+    for _turn in 0..most_turns(machine, event, is_whole) {
         pump_once(machine, row);
         row.waited += 1;
         if ask(machine, row, event) {
@@ -148,17 +185,19 @@ fn ask_again<M: AnyMachine>(machine: &mut M, row: &mut Row, event: Event)
 }
 
 // Serves a request to its end.
-fn serve<M: AnyMachine>(machine: &mut M, row: &mut Row, event: Event)
+fn serve<M: AnyMachine>(machine: &mut M, row: &mut Row, event: Event, is_whole: bool)
     requires few { most_weight (M.state machine.old).sizes < 2 ^ 32 }
     requires room { total row.old < 2 ^ 61 }
+    requires whole { IsTrue is_whole → IsWholeState (M.state machine.old) }
     ensures sizes { (M.state machine.new).sizes ≡ (M.state machine.old).sizes }
     ensures course { course (M.state machine.new) row.new
         ≡ sweep.serve event (course (M.state machine.old) row.old) }
     ensures total { total row.new ≤ total row.old + 2 ^ 35 }
+    ensures whole { IsTrue is_whole → IsWholeState (M.state machine.new) }
 {
     if !ask(machine, row, event) {
         row.stalled += 1;
-        ask_again(machine, row, event);
+        ask_again(machine, row, event, is_whole);
     }
 }
 
@@ -174,17 +213,43 @@ fn run_dry<M: AnyMachine>(machine: &mut M, row: &mut Row)
     }
 }
 
+// Serves all requests, and then pumps until there is nothing left to do. `is_whole` says that the
+// machine is known to be whole.
+fn count_all<M: AnyMachine>(machine: &mut M, regs: u32, events: &[Event], is_whole: bool) -> Row
+    requires few { most_weight (M.state machine.old).sizes < 2 ^ 32 }
+    requires events { length events.now ≤ most_requests }
+    requires whole { IsTrue is_whole → IsWholeState (M.state machine.old) }
+    ensures { result ≡ sweep.row_from (M.state machine.old) regs events.now }
+{
+    let mut row = Row::default();
+    row.regs = regs;
+    for event in events {
+        serve(machine, &mut row, *event, is_whole);
+    }
+    run_dry(machine, &mut row);
+    row
+}
+
 /// Serves all requests, and then pumps until there is nothing left to do.
 pub fn row_from<M: AnyMachine>(machine: &mut M, regs: u32, events: &[Event]) -> Row
     requires few { most_weight (M.state machine.old).sizes < 2 ^ 32 }
     requires events { length events.now ≤ most_requests }
     ensures { result ≡ sweep.row_from (M.state machine.old) regs events.now }
 {
-    let mut row = Row::default();
-    row.regs = regs;
-    for event in events {
-        serve(machine, &mut row, *event);
-    }
-    run_dry(machine, &mut row);
-    row
+    count_all(machine, regs, events, false)
+}
+
+// The same row, of a machine that says that it is whole: it isn't weighed for each request that has
+// to wait.
+pub(crate) fn whole_row_from<M: RoundMachine>(
+    machine: &mut M,
+    regs: u32,
+    events: &[Event],
+) -> Row
+    requires few { most_weight (M.state machine.old).sizes < 2 ^ 32 }
+    requires events { length events.now ≤ most_requests }
+    ensures { result ≡ sweep.row_from (M.state machine.old) regs events.now }
+{
+    machine.keeps_whole();
+    count_all(machine, regs, events, true)
 }
