@@ -1,5 +1,6 @@
 -- Steps of a run.
-use Rattle.std.proofs.Common.{◌≡◌, ℕ, take, drop, take-append-drop, Option, Some, None, List, [], ◌∷◌, ◌++◌, refl, sym, ◌∙◌, ap, append_assoc, append-nil, length-append, subst, arith}
+use Rattle.std.proofs.Common.{◌≡◌, ℕ, take, drop, take-append-drop, Option, Some, None, List, [], ◌∷◌, ◌++◌, length, ◌≤◌, refl, sym, ◌∙◌, ap, append_assoc, append-nil, length-append, subst, arith}
+use Rattle.std.proofs.lemmas.List.{take_all}
 use Rattle.std.specs.Option.{option_to_list, option_and_then}
 use Rattle.std.specs.List.{FoldsTo, concat, AllByRecursion}
 use Rattle.flat_model.specs.declared.Event.{Event}
@@ -148,3 +149,9 @@ partly_more {rest = rest} n rest' p q e = record {
   whole = p.whole ∙ ap (λ l. p.front ++ l) (sym (take-append-drop n rest)) ∙ sym (append_assoc p.front (take n rest) (drop n rest)) ∙ ap (λ l. (p.front ++ take n rest) ++ l) (sym e);
   moved = moved_more p.moved q;
 }
+
+-- all that was left moved at once
+pub partly_all : {S : Type 0} {step : S → List ℕ → S → Type 0} {r s t : S} {bytes rest : List ℕ} (n : ℕ)
+    → Partly step r bytes rest s → step s (take n rest) t → length rest ≤ n → Moves step r bytes t
+partly_all {step = step} {r = r} {s = s} {t = t} {rest = rest} n p q all =
+    subst (λ l. Moves step r l t) (sym p.whole) (moved_more p.moved (subst (λ l. step s l t) (take_all n rest all) q))

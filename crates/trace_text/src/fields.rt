@@ -13,6 +13,15 @@ pub fn number(text: &[u8], most: u32) -> Option<u32>
     if let [digit] = text {
         return lone_digit(*digit, most);
     }
+    number_of_digits(text, most)
+}
+
+// The number of several digits. It stands apart, so that the test for one digit is inlined.
+#[inline(never)]
+fn number_of_digits(text: &[u8], most: u32) -> Option<u32>
+    ensures value { result ≡ number_of most text.now }
+    ensures bound { IfSome result (λ n. n ≤ most) }
+{
     if begins_badly(text) {
         return None;
     }

@@ -38,6 +38,9 @@ pub struct Counts {
 
 /// Writes all bytes, in as many writes as it takes. [`Failed`] says that a write was refused, or took
 /// no byte: a front of the bytes may be written.
+// It is inlined, as is all that is called for each line: the program serves machines of eight shapes, so that a
+// compiler would keep one copy of each such function and call it.
+#[inline(always)]
 pub fn write_whole<W: Sink>(writer: &mut W, bytes: &[u8]) -> Result<(), Failed>
     ensures ok { OnOk result (Moves W.took writer.old bytes.now writer.new) }
     ensures err { OnErr result (Stopped W.took W.refused writer.old bytes.now writer.new) }
@@ -45,6 +48,7 @@ pub fn write_whole<W: Sink>(writer: &mut W, bytes: &[u8]) -> Result<(), Failed>
     let mut rest = bytes;
     while !rest.is_empty() {
         match writer.write_some(rest) {
+            Ok(n) if n == rest.len() => return Ok(()),
             Ok(0) => return Err(Failed),
             Ok(n) => rest = &rest[n..],
             Err(_) => return Err(Failed),
@@ -55,6 +59,7 @@ pub fn write_whole<W: Sink>(writer: &mut W, bytes: &[u8]) -> Result<(), Failed>
 
 impl Counts {
     // Counts a line, and its answer where it has one.
+    #[inline(always)]
     fn count(&mut self, answer: Option<Answer>)
         requires within { IsWithin self.old }
         requires more { self.old.lines < MAX_LINES }
@@ -76,6 +81,7 @@ impl Counts {
 
 impl LineText {
     // Applies a line and adds its answer's text at the end.
+    #[inline(always)]
     #[tactic(auto, unfolding(crate::specs::Texts::reply_text, crate::specs::Texts::after_line))]
     fn push_reply<M: AnyMachine>(&mut self, machine: &mut M, line: Line) -> Option<Answer>
         requires { length self.old + 675 ≤ MAX_PAIR }
@@ -112,6 +118,7 @@ pub struct Serving<'a, W, M> {
 
 impl<'a, W: Sink, M: AnyMachine> Serving<'a, W, M> {
     // Applies a line, and then writes it with its answer.
+    #[inline(always)]
     fn serve(&mut self, text: &[u8], line: Line) -> Result<(), Failed>
         requires short { length text.now ≤ MAX_LINE }
         requires said { line_of text.now ≡ Ok line }

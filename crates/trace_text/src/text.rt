@@ -29,6 +29,7 @@ impl Model for LineText {
 
 impl LineText {
     /// The bytes of the text.
+    #[inline(always)]
     pub fn as_bytes(&self) -> &[u8]
         ensures bytes { result.now ≡ self.now }
         ensures short { length result.now ≤ MAX_PAIR }
@@ -54,6 +55,7 @@ impl LineText {
     }
 
     /// One byte more, at the end.
+    #[inline(always)]
     pub fn push(&mut self, byte: u8)
         requires { length self.old < MAX_PAIR }
         ensures text { self.new ≡ self.old ++ byte ∷ [] }
@@ -64,6 +66,7 @@ impl LineText {
     }
 
     /// These bytes, at the end.
+    #[inline(always)]
     pub fn push_bytes(&mut self, bytes: &[u8])
         requires { length self.old + length bytes.now ≤ MAX_PAIR }
         ensures text { self.new ≡ self.old ++ bytes.now }
@@ -75,6 +78,7 @@ impl LineText {
     }
 
     // An answer's text, at the end.
+    #[inline(always)]
     #[tactic(auto, unfolding(crate::specs::Texts::answer_text))]
     pub(crate) fn push_answer(&mut self, answer: Answer)
         requires { length self.old + 25 ≤ MAX_PAIR }

@@ -1,6 +1,6 @@
 use Rattle.std.proofs.Common.{◌≡◌, ◌≤◌, drop, false}
 use Rattle.trace_text.specs.Fields.{begins_badly, number_after}
-use Rattle.trace_text.proofs.fields.number.Given as goal
+use Rattle.trace_text.proofs.fields.number_of_digits.Given as goal
 
 -- the number that the rest of the digits make of the value so far is that of them all
 abbrev pub invariant-loop-byte : goal.invariant-loop-byte
