@@ -99,6 +99,7 @@ impl<const WAYS: usize, const WORDS: usize, const REGS: usize, const DEPTH: usiz
     /// Gives a block up: its words with dirty lanes are queued, its frame is released, and its live
     /// register becomes obsolete. Refused where there is no such block (1), no frame holds it (11),
     /// or the write queue has too few free places (9); each leaves everything unchanged.
+    #[inline(never)]
     pub fn evict(&mut self, block: u32) -> Answer
         ensures answer { result ≡ (steps.evict_step self.old.sizes self.old.cache block).answer }
         ensures unit { self.new
@@ -135,6 +136,7 @@ impl<const WAYS: usize, const WORDS: usize, const REGS: usize, const DEPTH: usiz
     /// Takes the ready reply at `place`: its value. `Nothing` says that there is none, and changes
     /// nothing.
     #[tactic(auto, unfolding(crate::specs::Steps::take_step))]
+    #[inline(never)]
     pub fn take(&mut self, place: u32) -> Answer
         ensures answer { result ≡ (steps.take_step self.old.cache place).answer }
         ensures unit { self.new
@@ -179,6 +181,7 @@ impl<const WAYS: usize, const WORDS: usize, const REGS: usize, const DEPTH: usiz
     /// order, and where its register is live, the buffer's lanes outside the word's code take its
     /// bytes. `Nothing` says that there is no such place, and changes nothing.
     #[tactic(auto, unfolding(crate::specs::Steps::process_step))]
+    #[inline(never)]
     pub fn process(&mut self, place: u32) -> Answer
         ensures answer { result ≡ (steps.process_step self.old.cache place).answer }
         ensures unit { self.new

@@ -82,6 +82,7 @@ impl<const WAYS: usize, const WORDS: usize, const REGS: usize, const DEPTH: usiz
 
     /// Makes one event. A refusal names its cause and leaves everything unchanged; a stray word (13)
     /// never comes. The answer is one of flat memory.
+    #[inline(always)]
     pub fn apply(&mut self, event: Event) -> Answer
         ensures answer { result ≡ (machine.apply self.old.sizes self.old.machine event).answer }
         ensures machine { self.new

@@ -11,6 +11,7 @@ use flat_model::{Answer, Event};
 use memory_banks::Banks;
 
 /// Makes one event: its answer, and what it leaves of the unit and the banks.
+#[inline(always)]
 pub(crate) fn step<const WAYS: usize, const WORDS: usize, const REGS: usize, const DEPTH: usize>(
     unit: &mut CacheUnit<WAYS, WORDS, REGS, DEPTH>,
     banks: &mut Banks,
@@ -73,6 +74,7 @@ pub(crate) fn walk<const WAYS: usize, const WORDS: usize, const REGS: usize, con
 }
 
 // A request goes to the unit, and what it sends to the banks.
+#[inline(always)]
 fn ask<const WAYS: usize, const WORDS: usize, const REGS: usize, const DEPTH: usize>(
     unit: &mut CacheUnit<WAYS, WORDS, REGS, DEPTH>,
     banks: &mut Banks,
@@ -98,6 +100,7 @@ fn ask<const WAYS: usize, const WORDS: usize, const REGS: usize, const DEPTH: us
 }
 
 // The front of the write queue goes to its bank.
+#[inline(never)]
 fn drain<const WAYS: usize, const WORDS: usize, const REGS: usize, const DEPTH: usize>(
     unit: &mut CacheUnit<WAYS, WORDS, REGS, DEPTH>,
     banks: &mut Banks,
@@ -122,6 +125,7 @@ fn drain<const WAYS: usize, const WORDS: usize, const REGS: usize, const DEPTH: 
 }
 
 // The bank serves its first command.
+#[inline(never)]
 fn serve(banks: &mut Banks, bank: u32) -> Answer
     requires { length (bank_at banks.old.banks bank).answers ≤ 256 }
     ensures answer { (m : machine.Machine) → m.banks ≡ banks.old.banks
@@ -140,6 +144,7 @@ fn serve(banks: &mut Banks, bank: u32) -> Answer
 }
 
 // The bank's answer at a place goes to the unit, and stays where the unit refuses it.
+#[inline(never)]
 fn bring<const WAYS: usize, const WORDS: usize, const REGS: usize, const DEPTH: usize>(
     unit: &mut CacheUnit<WAYS, WORDS, REGS, DEPTH>,
     banks: &mut Banks,

@@ -19,6 +19,7 @@ impl<const WAYS: usize, const WORDS: usize, const REGS: usize, const DEPTH: usiz
     DEPTH,
 > {
     // The frame and the register that a miss on the block takes, or the first cause against it.
+    #[inline(always)]
     pub(super) fn find_places<L: Lines>(&self, lines: &L, block: u32) -> Result<Places, Cause>
         requires { block * WORDS + WORDS ≤ self.now.sizes.words }
         ensures refused { IfErr result
@@ -45,6 +46,7 @@ impl<const WAYS: usize, const WORDS: usize, const REGS: usize, const DEPTH: usiz
     }
 
     // Brings an absent block in, where no cause stands against it.
+    #[inline(never)]
     pub(super) fn fetch<L: Lines>(&mut self, lines: &mut L, block: u32, places: Places)
         requires absent { is_present self.old.cache block ≡ false }
         requires in_memory { block * WORDS + WORDS ≤ self.old.sizes.words }

@@ -30,6 +30,7 @@ impl<const WAYS: usize, const WORDS: usize, const REGS: usize, const DEPTH: usiz
     /// loads wait for the word (5); where the block is absent, no register is free (7), every way
     /// of its set is pending (8), the write queue has too few free places for the victim's dirty
     /// words (9), or a bank has too little room for its reads (10).
+    #[inline(always)]
     pub fn request<L: Lines>(&mut self, request: Request, lines: &mut L) -> Answer
         ensures answer { result
             ≡ (request_step self.old.sizes (L.room_of lines.old) self.old.cache request).answer }
@@ -74,6 +75,7 @@ impl<const WAYS: usize, const WORDS: usize, const REGS: usize, const DEPTH: usiz
         }
     }
 
+    #[inline(never)]
     fn load<L: Lines>(&mut self, tag: u16, at: u32, lines: &mut L) -> Answer
         ensures answer { result
             ≡ (load_step self.old.sizes (L.room_of lines.old) self.old.cache tag at).answer }
@@ -100,6 +102,7 @@ impl<const WAYS: usize, const WORDS: usize, const REGS: usize, const DEPTH: usiz
         }
     }
 
+    #[inline(never)]
     fn store<L: Lines>(&mut self, at: u32, word: Word, lanes: Lanes, lines: &mut L) -> Answer
         ensures answer { result
             ≡ (store_step self.old.sizes
@@ -127,6 +130,7 @@ impl<const WAYS: usize, const WORDS: usize, const REGS: usize, const DEPTH: usiz
         }
     }
 
+    #[inline(never)]
     fn prefetch<L: Lines>(&mut self, at: u32, lines: &mut L) -> Answer
         ensures answer { result
             ≡ (prefetch_step self.old.sizes (L.room_of lines.old) self.old.cache at).answer }
@@ -186,6 +190,7 @@ impl<const WAYS: usize, const WORDS: usize, const REGS: usize, const DEPTH: usiz
     // The block's frame; where no frame holds the block it is brought in first, or the first cause
     // against that is answered and nothing changes. No load waits yet for a word of a block that was
     // brought in.
+    #[inline(always)]
     fn make_present<L: Lines>(&mut self, lines: &mut L, block: u32) -> Result<u32, Cause>
         requires { block * self.old.sizes.block_words + self.old.sizes.block_words
             ≤ self.old.sizes.words }
