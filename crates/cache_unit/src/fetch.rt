@@ -35,6 +35,7 @@ pub fn choose_frame<const WAYS: usize, const WORDS: usize>(
 }
 
 /// How many words the frame owes to memory.
+#[inline(always)]
 pub fn words_owed<const WAYS: usize, const WORDS: usize>(
     directory: &Directory<WAYS, WORDS>,
     frame: u32,

@@ -60,10 +60,12 @@ impl<const WAYS: usize, const WORDS: usize, const REGS: usize, const DEPTH: usiz
     for Machine<WAYS, WORDS, REGS, DEPTH> {
     ghost state = { λ m. m };
 
+    #[inline(always)]
     fn apply(&mut self, event: Event) -> Answer {
         Machine::apply(self, event)
     }
 
+    #[inline(always)]
     fn pump(&mut self) -> Option<(Event, Answer)> {
         Machine::pump(self)
     }

@@ -11,6 +11,8 @@ use flat_model::{Answer, Event};
 use memory_banks::Banks;
 
 /// Makes one event: its answer, and what it leaves of the unit and the banks.
+// Each kind of event is a function that isn't inlined: a function pays at its entry for all its
+// locals, and so an event pays for its own alone.
 #[inline(always)]
 pub(crate) fn step<const WAYS: usize, const WORDS: usize, const REGS: usize, const DEPTH: usize>(
     unit: &mut CacheUnit<WAYS, WORDS, REGS, DEPTH>,

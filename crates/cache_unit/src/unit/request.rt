@@ -75,6 +75,7 @@ impl<const WAYS: usize, const WORDS: usize, const REGS: usize, const DEPTH: usiz
         }
     }
 
+    // Not inlined, as a store and a prefetch aren't: each pays for its own locals alone.
     #[inline(never)]
     fn load<L: Lines>(&mut self, tag: u16, at: u32, lines: &mut L) -> Answer
         ensures answer { result
