@@ -241,11 +241,7 @@ pub fn row_from<M: AnyMachine>(machine: &mut M, regs: u32, events: &[Event]) -> 
 
 // The same row, of a machine that says that it is whole: it isn't weighed for each request that has
 // to wait.
-pub(crate) fn whole_row_from<M: RoundMachine>(
-    machine: &mut M,
-    regs: u32,
-    events: &[Event],
-) -> Row
+pub(crate) fn whole_row_from<M: RoundMachine>(machine: &mut M, regs: u32, events: &[Event]) -> Row
     requires few { most_weight (M.state machine.old).sizes < 2 ^ 32 }
     requires events { length events.now ≤ most_requests }
     ensures { result ≡ sweep.row_from (M.state machine.old) regs events.now }
