@@ -10,6 +10,7 @@ use flat_model::{Lanes, Word, merge};
 use write_queue::{Queued, WriteQueue};
 
 /// How many words with dirty lanes the frame has.
+#[inline(always)]
 pub fn dirty_words<const WAYS: usize, const WORDS: usize>(
     directory: &Directory<WAYS, WORDS>,
     frame: u32,

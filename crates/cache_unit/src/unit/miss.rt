@@ -45,8 +45,8 @@ impl<const WAYS: usize, const WORDS: usize, const REGS: usize, const DEPTH: usiz
         Ok(Places { frame, slot })
     }
 
-    // Brings an absent block in, where no cause stands against it. Not inlined, so that a request that
-    // hits or is refused doesn't pay for its locals.
+    // Brings an absent block in, where no cause stands against it. Not inlined: a request that hits
+    // or is refused doesn't pay for its locals.
     #[inline(never)]
     pub(super) fn fetch<L: Lines>(&mut self, lines: &mut L, block: u32, places: Places)
         requires absent { is_present self.old.cache block ≡ false }
