@@ -6,7 +6,7 @@ ghost use Rattle.station_parts.specs.Words.{cache_in};
 
 use crate::fault::RunFault;
 use crate::gate::{Actor, Gate};
-use crate::idle::Idling;
+use crate::idle::{Idling, Turn};
 use crate::round::Round;
 use station_parts::{CacheSide, Entry, Source, Stepped};
 use std::rt::Clock;
@@ -36,39 +36,38 @@ pub(crate) fn run_cache<
 {
     let mut round = Round::new(ports, banks);
     let mut open_ports = ports;
-    let mut idling = Idling::long_awake();
+    let mut idling = Idling::of_cache();
     for _turn in 0..turns {
-        let moved = take_turn(gate, &mut round, &mut open_ports, cache);
+        let turn = take_turn(gate, &mut round, &mut open_ports, cache);
         if open_ports == 0 && cache.is_at_rest() {
             done.store(true, Ordering::SeqCst);
             return Ok(());
         }
-        idling.end_turn(rt, moved);
+        idling.end_turn(rt, turn);
     }
     Err(RunFault::TurnLimit)
 }
 
-// Makes a step on the next source, if the gate allows it, and notes whether that ended a port. Says
-// whether something was done.
+// Makes a step on the next source, if the gate allows it, and notes whether that ended a port.
 fn take_turn<G: Gate, const WAYS: usize, const WORDS: usize, const REGS: usize, const DEPTH: usize>(
     gate: &G,
     round: &mut Round,
     open_ports: &mut u32,
     cache: &mut CacheSide<WAYS, WORDS, REGS, DEPTH>,
-) -> bool
+) -> Turn
     ensures { cache_id cache.new ≡ cache_id cache.old }
 {
     if !gate.may(Actor::Cache) {
-        return false;
+        return Turn::Held;
     }
     let source = round.next();
     if cache.step(source) != Stepped::Did {
-        return false;
+        return Turn::Idle;
     }
     if is_ask(source) && has_just_ended(cache) {
         *open_ports = open_ports.saturating_sub(1);
     }
-    true
+    Turn::Moved
 }
 
 fn is_ask(source: Source) -> bool {

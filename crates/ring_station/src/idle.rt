@@ -1,20 +1,40 @@
 //! How a thread spends a turn in which it made no step.
+ghost use Rattle.std.specs.Prelude.{◌<◌};
 
 use std::rt::Clock;
 use std::time::Duration;
 use std::{hint, thread};
 
-// There may be fewer processors than threads. So one in so many turns without a step leaves the
-// processor to another thread. The others are short, since a far end may be about to push or pop,
-// and a thread that leaves its processor is long in coming back.
+// There may be fewer processors than threads. So one in so many turns in which a port or a bank found
+// nothing leaves the processor to another thread. The others are short, since a far end may be about
+// to push or pop, and a thread that leaves its processor is long in coming back.
 const TURNS_A_YIELD: u64 = 16;
+
+// The cache side, for which all others wait, leaves its processor at one in so many such turns.
+const CACHE_TURNS_A_YIELD: u64 = 32;
+
+// So many such turns in a row the cache side makes without a pause: in most of a round there is
+// nothing to do at a source, and something at a later one.
+const CACHE_TURNS_AT_ONCE: u64 = 8;
 
 // In one of so many such turns a thread sleeps: so it leaves the processors to those that have
 // something to do, and many turns are over soon all the same.
 const TURNS_A_NAP: u64 = 256;
 
-// A thread for which all others wait makes so many turns before the first that may be a sleep.
-const TURNS_AWAKE: u64 = 1_024;
+// The cache side makes so many turns before the first that may be a sleep.
+const CACHE_TURNS_AWAKE: u64 = 1_024;
+
+// Ports share so many turns between two sleeps: the more ports there are, the sooner each sleeps,
+// since the cache side then serves the others, and there are fewer threads on the processors.
+const TURNS_A_NAP_OF_ALL_PORTS: u64 = 768;
+
+const FEWEST_TURNS_A_NAP: u64 = 64;
+
+// A thread that the gate holds waits for no other one, so its turns go by fast. It leaves its
+// processor at one in so many of them, and sleeps at one in so many.
+const HELD_TURNS_A_YIELD: u64 = 128;
+
+const HELD_TURNS_A_NAP: u64 = 1_024;
 
 // How long a thread sleeps at first, by how much longer each time, and at most, in nanoseconds. The
 // system mostly adds 50,000.
@@ -22,47 +42,105 @@ const FIRST_NAP: u64 = 20_000;
 
 const LONGEST_NAP: u64 = 160_000;
 
+/// What a turn came to.
+#[derive(Clone, Copy, PartialEq, Eq, Debug)]
+pub(crate) enum Turn {
+    /// A step was made.
+    Moved,
+    /// The gate let the thread make none.
+    Held,
+    /// There was nothing to do.
+    Idle,
+}
+
 /// How many turns in a row went by without a step.
 #[derive(Drop)]
 pub(crate) struct Idling {
-    turns: u64,
+    // Turns in which the gate held the thread.
+    held: u64,
+    // Turns in which there was nothing to do.
+    idle: u64,
+    // So many of these at first are without a pause.
+    at_once: u64,
+    turns_a_yield: u64,
+    turns_a_nap: u64,
     // Turns before the first that may be a sleep.
     awake: u64,
+    ghost yields: { 0 < turns_a_yield },
+    ghost naps: { 0 < turns_a_nap },
 }
 
 impl Idling {
-    /// Before the first turn of a thread for which all others wait.
-    pub(crate) fn long_awake() -> Idling {
+    /// Before the first turn of the cache side.
+    pub(crate) fn of_cache() -> Idling {
         Idling {
-            turns: 0,
-            awake: TURNS_AWAKE,
+            held: 0,
+            idle: 0,
+            at_once: CACHE_TURNS_AT_ONCE,
+            turns_a_yield: CACHE_TURNS_A_YIELD,
+            turns_a_nap: TURNS_A_NAP,
+            awake: CACHE_TURNS_AWAKE,
         }
     }
 
-    /// Before the first turn of another thread.
-    pub(crate) fn new() -> Idling {
-        Idling { turns: 0, awake: 0 }
+    /// Before the first turn of one of so many ports.
+    pub(crate) fn of_port(ports: u32) -> Idling {
+        let share = TURNS_A_NAP_OF_ALL_PORTS / u64::from(ports.max(1));
+        Idling::sleeping_at(share.max(FEWEST_TURNS_A_NAP).min(TURNS_A_NAP))
+    }
+
+    /// Before the first turn of a bank.
+    pub(crate) fn of_bank() -> Idling {
+        Idling::sleeping_at(TURNS_A_NAP)
+    }
+
+    fn sleeping_at(turns_a_nap: u64) -> Idling
+        requires { 0 < turns_a_nap }
+    {
+        Idling {
+            held: 0,
+            idle: 0,
+            at_once: 0,
+            turns_a_yield: TURNS_A_YIELD,
+            turns_a_nap,
+            awake: 0,
+        }
     }
 
     /// Ends a turn.
-    pub(crate) fn end_turn<R: Clock>(&mut self, rt: &R, moved: bool) {
-        if moved {
-            self.turns = 0;
-            return;
+    pub(crate) fn end_turn<R: Clock>(&mut self, rt: &R, turn: Turn) {
+        match turn {
+            Turn::Moved => {
+                self.held = 0;
+                self.idle = 0;
+            }
+            Turn::Held => self.end_held(rt),
+            Turn::Idle => self.end_idle(rt),
         }
-        self.turns = self.turns.saturating_add(1);
-        if self.turns > self.awake && self.turns % TURNS_A_NAP == 0 {
-            thread::sleep(rt, nap_after(self.turns - self.awake));
-        } else if self.turns % TURNS_A_YIELD == 0 {
+    }
+
+    fn end_held<R: Clock>(&mut self, rt: &R) {
+        self.held = self.held.saturating_add(1);
+        if self.held % HELD_TURNS_A_NAP == 0 {
+            thread::sleep(rt, nap(self.held / HELD_TURNS_A_NAP));
+        } else if self.held % HELD_TURNS_A_YIELD == 0 {
             thread::yield_now();
-        } else {
+        }
+    }
+
+    fn end_idle<R: Clock>(&mut self, rt: &R) {
+        self.idle = self.idle.saturating_add(1);
+        if self.idle > self.awake && self.idle % self.turns_a_nap == 0 {
+            thread::sleep(rt, nap((self.idle - self.awake) / self.turns_a_nap));
+        } else if self.idle % self.turns_a_yield == 0 {
+            thread::yield_now();
+        } else if self.idle > self.at_once {
             hint::spin_loop();
         }
     }
 }
 
-// How long a thread sleeps after so many turns in a row without a step in which it might have slept.
-fn nap_after(turns: u64) -> Duration {
-    let nanos = (turns / TURNS_A_NAP).saturating_mul(FIRST_NAP);
-    Duration::from_nanos(nanos.min(LONGEST_NAP))
+// How long a thread sleeps for this time in a row.
+fn nap(time: u64) -> Duration {
+    Duration::from_nanos(time.saturating_mul(FIRST_NAP).min(LONGEST_NAP))
 }

@@ -8,18 +8,19 @@ ghost use Rattle.ring_station.specs.PortRuns.{IsOnItsWay, HasRun};
 
 use crate::fault::RunFault;
 use crate::gate::{Actor, Gate};
-use crate::idle::Idling;
+use crate::idle::{Idling, Turn};
 use crate::talk::{Phase, Talk};
 use station_parts::{Ask, Port, Told};
 use std::alloc::AllocError;
 use std::rt::Clock;
 
-/// Runs a script in a port: in each turn the port offers an ask, or takes a telling, which goes into
-/// the list.
+/// Runs a script in one of so many ports: in each turn the port offers an ask, or takes a telling,
+/// which goes into the list.
 pub(crate) fn run_port<R: Clock, G: Gate>(
     rt: &R,
     gate: &G,
     number: u32,
+    ports: u32,
     script: &[Ask],
     turns: u64,
     port: &mut Port,
@@ -31,19 +32,18 @@ pub(crate) fn run_port<R: Clock, G: Gate>(
     ensures ran { OnOk result (HasRun script.now port.old port.new list.new.items) }
 {
     let mut talk = Talk::new();
-    let mut idling = Idling::new();
+    let mut idling = Idling::of_port(ports);
     for _turn in 0..turns {
-        let moved = take_turn(gate, number, script, &mut talk, port, list)?;
+        let turn = take_turn(gate, number, script, &mut talk, port, list)?;
         if talk.is_over() {
             return Ok(());
         }
-        idling.end_turn(rt, moved);
+        idling.end_turn(rt, turn);
     }
     Err(RunFault::TurnLimit)
 }
 
-// Offers or takes once, if the gate allows it and there is something to offer or take. Says whether
-// it did.
+// Offers or takes once, if the gate allows it and there is something to offer or take.
 fn take_turn<G: Gate>(
     gate: &G,
     number: u32,
@@ -51,7 +51,7 @@ fn take_turn<G: Gate>(
     talk: &mut Talk,
     port: &mut Port,
     list: &mut Vec<Told>,
-) -> Result<bool, AllocError>
+) -> Result<Turn, AllocError>
     requires owed { talk.old.owed < u64.MAX }
     requires placed { talk.old.phase ≡ Phase.Awaiting → talk.old.next < length script.now }
     ensures on { (first : Port) → IsOnItsWay script.now talk.old first port.old list.old.items
@@ -60,17 +60,17 @@ fn take_turn<G: Gate>(
     ensures placed { talk.new.phase ≡ Phase.Awaiting → talk.new.next < length script.now }
 {
     if !gate.may(Actor::Port(number)) {
-        return Ok(false);
+        return Ok(Turn::Held);
     }
     match talk.phase {
         Phase::Offering => Ok(offer_next(script, talk, port)),
         Phase::Awaiting | Phase::Closing => take_one(gate, number, script, talk, port, list),
-        Phase::Astray => Ok(false),
+        Phase::Astray => Ok(Turn::Idle),
     }
 }
 
 // Offers the next ask, if there is a free place for it.
-fn offer_next(script: &[Ask], talk: &mut Talk, port: &mut Port) -> bool
+fn offer_next(script: &[Ask], talk: &mut Talk, port: &mut Port) -> Turn
     requires { talk.old.phase ≡ Phase.Offering }
     ensures on { (first : Port) (list : List Told) → IsOnItsWay script.now talk.old first port.old list
         → IsOnItsWay script.now talk.new first port.new list }
@@ -78,10 +78,10 @@ fn offer_next(script: &[Ask], talk: &mut Talk, port: &mut Port) -> bool
     ensures placed { talk.new.phase ≡ Phase.Awaiting → talk.new.next < length script.now }
 {
     if port.offer(talk.ask(script)).is_err() {
-        return false;
+        return Turn::Idle;
     }
     talk.note_offer(script);
-    true
+    Turn::Moved
 }
 
 // Takes a telling, if one is known and there is memory to note it.
@@ -92,7 +92,7 @@ fn take_one<G: Gate>(
     talk: &mut Talk,
     port: &mut Port,
     list: &mut Vec<Told>,
-) -> Result<bool, AllocError>
+) -> Result<Turn, AllocError>
     requires owed { talk.old.owed < u64.MAX }
     requires placed { talk.old.phase ≡ Phase.Awaiting → talk.old.next < length script.now }
     ensures on { (first : Port) → IsOnItsWay script.now talk.old first port.old list.old.items
@@ -102,10 +102,10 @@ fn take_one<G: Gate>(
 {
     list.reserve(1)?;
     let Some(told) = port.take() else {
-        return Ok(false);
+        return Ok(Turn::Idle);
     };
     gate.told(number, &told);
     talk.note(script, told);
     list.push_reserved(told);
-    Ok(true)
+    Ok(Turn::Moved)
 }

@@ -32,7 +32,12 @@ impl Round {
         let place = self.place;
         let ports = u64::from(self.ports);
         let banks = u64::from(self.banks);
-        self.place = (place + 1) % (ports + banks + OTHER_SOURCES);
+        let next = place + 1;
+        self.place = if next < ports + banks + OTHER_SOURCES {
+            next
+        } else {
+            0
+        };
         if place < ports {
             return Source::Ask(place as u32);
         }

@@ -122,7 +122,17 @@ fn run_ports<R: Clock + Threads + Sync, G: Gate>(
                 × (run.old.list.items ≡ []) }
             ensures { (s : Vec Ask)
                 → RanScript (slice_index_or scripts.entry.now p s).items run.old run.new }
-        { run_one(rt, gate, p as u32, scripts[p].as_slice(), turns, run) },
+        {
+            run_one(
+                rt,
+                gate,
+                p as u32,
+                threads as u32,
+                scripts[p].as_slice(),
+                turns,
+                run,
+            )
+        },
     );
 }
 
@@ -130,6 +140,7 @@ fn run_one<R: Clock, G: Gate>(
     rt: &R,
     gate: &G,
     number: u32,
+    ports: u32,
     script: &[Ask],
     turns: u64,
     run: &mut PortRun,
@@ -141,6 +152,7 @@ fn run_one<R: Clock, G: Gate>(
         rt,
         gate,
         number,
+        ports,
         script,
         turns,
         &mut run.port,

@@ -11,11 +11,11 @@ loop-turn-init g c = record {
   placed = λ w. let e : Offering ≡ Awaiting = sym c.new-talk.ensures.phase ∙ w in cc;
 }
 
-pub returns-in_err-moved-clause-same : goal.returns-in_err-moved-clause-same
-returns-in_err-moved-clause-same g c = (c.in_err-moved.ensures.on c.args.port.now c.loop-turn.invariant.on).same
+pub returns-in_err-turn-clause-same : goal.returns-in_err-turn-clause-same
+returns-in_err-turn-clause-same g c = (c.in_err-turn.ensures.on c.args.port.now c.loop-turn.invariant.on).same
 
-pub returns-in_err-moved-clause-took : goal.returns-in_err-moved-clause-took
-returns-in_err-moved-clause-took g c = (c.in_err-moved.ensures.on c.args.port.now c.loop-turn.invariant.on).taken_is
+pub returns-in_err-turn-clause-took : goal.returns-in_err-turn-clause-took
+returns-in_err-turn-clause-took g c = (c.in_err-turn.ensures.on c.args.port.now c.loop-turn.invariant.on).taken_is
 
 pub returns-then-is_over-clause-ran : goal.returns-then-is_over-clause-ran
 returns-then-is_over-clause-ran g c =
