@@ -112,6 +112,7 @@ fn run_ports<R: Clock + Threads + Sync, G: Gate>(
     requires lists { All (λ r. r.list.items ≡ []) ports.old }
     ensures { EachRanScript scripts.now ports.old ports.new }
 {
+    let count = ports.len() as u32;
     let threads = ports.len().max(1);
     for_each_mut(
         rt,
@@ -122,17 +123,7 @@ fn run_ports<R: Clock + Threads + Sync, G: Gate>(
                 × (run.old.list.items ≡ []) }
             ensures { (s : Vec Ask)
                 → RanScript (slice_index_or scripts.entry.now p s).items run.old run.new }
-        {
-            run_one(
-                rt,
-                gate,
-                p as u32,
-                threads as u32,
-                scripts[p].as_slice(),
-                turns,
-                run,
-            )
-        },
+        { run_one(rt, gate, p as u32, count, scripts[p].as_slice(), turns, run) },
     );
 }
 
