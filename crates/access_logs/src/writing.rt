@@ -17,7 +17,7 @@ use trace_text::{
 };
 
 /// How many words of memory a log's pages are mapped to at most.
-pub const MAX_WORDS: u32 = 1_048_576;
+pub const MAX_WORDS: u32 = flat_model::MAX_WORDS;
 
 // The writing of a log's requests.
 #[derive(Drop)]

@@ -1,6 +1,7 @@
 -- The frames, as lists.
 use Rattle.std.specs.Prelude.{ℕ, ◌≡◌, ◌<◌, ◌≤◌, ◌+◌, ◌*◌, ◌%◌, ◌/◌, Bool, true, false, not, ◌&&◌, ◌||◌, if◌then◌else◌, ◌==◌, nat_lt, List, [], ◌∷◌, ◌++◌, length, replicate, Option, Some, None, is_none, is_some, slice_set, slice_index_or}
 use Rattle.std.specs.List.{find, filter, range_with_len, list_all}
+use Rattle.flat_model.specs.declared.limits.TheConstants.{MAX_BLOCK_WORDS, MAX_WAYS, MAX_SETS}
 use Rattle.flat_model.specs.declared.Word.{Word}
 use Rattle.flat_model.specs.declared.Lanes.{Lanes}
 use Rattle.flat_model.specs.declared.ShapeField.{ShapeField}
@@ -67,11 +68,11 @@ times_in (g ∷ rest) f = (if g == f then 1 else 0) + times_in rest f
 -- of a set has exactly the frames of that set that hold a block, each once
 pub record IsWhole (ways words : ℕ) (d : Frames) : Type 0 where
   pub some_way : 0 < ways
-  pub few_ways : ways ≤ 8
+  pub few_ways : ways ≤ MAX_WAYS
   pub some_word : 0 < words
-  pub few_words : words ≤ 16
+  pub few_words : words ≤ MAX_BLOCK_WORDS
   pub some_set : 0 < length d.orders
-  pub few_sets : length d.orders ≤ 1024
+  pub few_sets : length d.orders ≤ MAX_SETS
   pub frames_there : length d.frames ≡ length d.orders * ways
   pub cells : (f block : ℕ) → (frame_at d.frames f).block ≡ Some block → length (frame_at d.frames f).cells ≡ words
   pub empty : (f : ℕ) → (frame_at d.frames f).block ≡ None → frame_at d.frames f ≡ empty_frame
@@ -84,9 +85,9 @@ pub record IsWhole (ways words : ℕ) (d : Frames) : Type 0 where
 -- the first number that is out of its range
 abbrev pub bad_field : ℕ → ℕ → ℕ → Option ShapeField
 bad_field ways words sets =
-    if words == 0 || nat_lt 16 words
+    if words == 0 || nat_lt MAX_BLOCK_WORDS words
     then Some BlockWords
-    else (if ways == 0 || nat_lt 8 ways then Some Ways else (if sets == 0 || nat_lt 1024 sets then Some Sets else None))
+    else (if ways == 0 || nat_lt MAX_WAYS ways then Some Ways else (if sets == 0 || nat_lt MAX_SETS sets then Some Sets else None))
 
 -- all frames are empty
 abbrev pub all_empty : ℕ → ℕ → Frames

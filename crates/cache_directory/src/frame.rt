@@ -2,12 +2,13 @@
 #![tactic(auto, unfolding(crate::specs::Frames::filled, crate::specs::Frames::written, crate::specs::Frames::settled, crate::specs::Frames::fresh_frame))]
 
 ghost use Rattle.std.specs.Prelude.{ℕ, ◌≡◌, ◌<◌, ◌≤◌, is_none, ◌++◌, [], ◌∷◌, length, slice_set, slice_index_or, replicate};
+ghost use Rattle.flat_model.specs.declared.limits.TheConstants.{MAX_BLOCK_WORDS, MAX_WAYS};
 ghost use Rattle.flat_model.specs.Places.{is_number};
 ghost use Rattle.cache_directory.specs.Frames.{empty_frame, cell_at, filled, written, settled, fresh_frame, zero_cell, without};
 
 use crate::Cell;
 use arrayvec::ArrayVec;
-use flat_model::{Lanes, Word, merge};
+use flat_model::{Lanes, MAX_BLOCK_WORDS, MAX_WAYS, Word, merge};
 use std::marker::Model;
 
 /// A frame: empty, or with a block and the cells of its words.
@@ -15,7 +16,7 @@ use std::marker::Model;
 pub struct Way {
     block: Option<u32>,
     pending: bool,
-    cells: ArrayVec<Cell, 16>,
+    cells: ArrayVec<Cell, MAX_BLOCK_WORDS>,
 }
 
 impl Model for Way {
@@ -81,7 +82,7 @@ impl Way {
 
     /// The frame holds the block, with zero words, none of them dirty, and waits for them.
     pub fn install(&mut self, words: u32, block: u32)
-        requires { words ≤ 16 }
+        requires { words ≤ MAX_BLOCK_WORDS }
         ensures { self.new ≡ fresh_frame words block }
     {
         self.block = Some(block);
@@ -145,15 +146,15 @@ fn cell_in(cells: &[Cell], i: u32) -> Cell
     cells[i as usize]
 }
 
-fn put_cell(cells: &mut ArrayVec<Cell, 16>, i: u32, cell: Cell)
+fn put_cell(cells: &mut ArrayVec<Cell, MAX_BLOCK_WORDS>, i: u32, cell: Cell)
     requires { i < length cells.old.items }
     ensures { cells.new.items ≡ slice_set cells.old.items i cell }
 {
     cells.as_mut_slice()[i as usize] = cell;
 }
 
-fn zero_cells(words: u32) -> ArrayVec<Cell, 16>
-    requires { words ≤ 16 }
+fn zero_cells(words: u32) -> ArrayVec<Cell, MAX_BLOCK_WORDS>
+    requires { words ≤ MAX_BLOCK_WORDS }
     ensures { result.items ≡ replicate words zero_cell }
 {
     let mut cells = ArrayVec::new();
@@ -166,7 +167,7 @@ fn zero_cells(words: u32) -> ArrayVec<Cell, 16>
 /// The frames of a set that hold a block, the one allocated longest ago first.
 #[derive(Drop)]
 pub struct Order {
-    frames: ArrayVec<u32, 8>,
+    frames: ArrayVec<u32, MAX_WAYS>,
 }
 
 impl Model for Order {
@@ -189,7 +190,7 @@ impl Order {
 
     /// The frame goes last.
     pub fn push(&mut self, frame: u32)
-        requires { length self.old < 8 }
+        requires { length self.old < MAX_WAYS }
         ensures { self.new ≡ self.old ++ frame ∷ [] }
     {
         self.frames.push(frame);
@@ -210,7 +211,7 @@ impl Order {
     }
 }
 
-fn remove_frame(frames: &mut ArrayVec<u32, 8>, frame: u32)
+fn remove_frame(frames: &mut ArrayVec<u32, MAX_WAYS>, frame: u32)
     ensures { frames.new.items ≡ without frames.old.items frame }
 {
     frames.retain(|f| *f != frame);

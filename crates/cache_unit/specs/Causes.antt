@@ -2,6 +2,7 @@
 use Rattle.std.specs.Prelude.{ℕ, ◌+◌, ◌-◌, ◌*◌, ◌%◌, Bool, false, ◌||◌, not, if◌then◌else◌, ◌==◌, nat_lt, nat_le, List, [], ◌∷◌, length, Option, Some, None, is_none, is_some, slice_index_or}
 use Rattle.std.specs.Option.{option_or}
 use Rattle.std.specs.List.{find, list_any, list_all, filter, range_with_len}
+use Rattle.miss_registers.specs.declared.TheConstants.{MAX_WAITING}
 use Rattle.flat_model.specs.declared.Word.{Word}
 use Rattle.flat_model.specs.declared.Lanes.{Lanes}
 use Rattle.flat_model.specs.declared.Cause.{Cause}
@@ -88,10 +89,10 @@ found_in c (Some slot) i buffer =
 abbrev pub found : Cache → ℕ → ℕ → Found
 found c block i = found_in c (live_for c block) i (cell_of c block i).word
 
--- four loads wait for the word already
+-- as many loads wait for the word already as may
 abbrev pub targets_full : Cache → ℕ → Found → Bool
 targets_full c i (Here w) = false
-targets_full c i (Coming slot) = nat_le 4 (length (field_at c slot i).waiting)
+targets_full c i (Coming slot) = nat_le MAX_WAITING (length (field_at c slot i).waiting)
 
 abbrev pub is_in_use : Cache → ℕ → Bool
 is_in_use c tag = list_any (λ t. t == tag) (tags c)

@@ -1,5 +1,6 @@
 -- The ranges of a machine's numbers, in the order of the checks.
 use Rattle.std.specs.Prelude.{ℕ, ◌+◌, ◌-◌, ◌/◌, ◌%◌, ◌&&◌, not, if◌then◌else◌, ◌==◌, Option, Some, None}
+use Rattle.flat_model.specs.declared.limits.TheConstants.{MAX_BLOCK_WORDS, MAX_WAYS, MAX_REGS, MAX_DEPTH, MAX_WORDS, MAX_SETS, MAX_BANKS, MAX_BANK_QUEUE, MAX_WRITE_QUEUE, MAX_REPLIES}
 use Rattle.flat_model.specs.declared.ShapeField.{ShapeField}
 use Rattle.flat_model.specs.declared.ShapeField.TheVariants.{BlockWords, Ways, Regs, Depth, Words, Sets, Banks, BankQueue, WriteQueue, Replies}
 use Rattle.flat_model.specs.Ranges.{is_between}
@@ -12,17 +13,17 @@ words_per_bank z = (z.block_words + z.banks - 1) / z.banks
 -- the first number of a part's shape that is out of its range
 abbrev pub bad_number : Sizes → Option ShapeField
 bad_number z =
-    if not (is_between z.words 1 1048576 && (z.words % z.block_words == 0)) then Some Words
-    else (if not (is_between z.sets 1 1024) then Some Sets
-    else (if not (is_between z.banks 1 16) then Some Banks
-    else (if not (is_between z.bank_queue (words_per_bank z) 64) then Some BankQueue
-    else (if not (is_between z.write_queue z.block_words 256) then Some WriteQueue
-    else (if not (is_between z.replies 1 64) then Some Replies else None)))))
+    if not (is_between z.words 1 MAX_WORDS && (z.words % z.block_words == 0)) then Some Words
+    else (if not (is_between z.sets 1 MAX_SETS) then Some Sets
+    else (if not (is_between z.banks 1 MAX_BANKS) then Some Banks
+    else (if not (is_between z.bank_queue (words_per_bank z) MAX_BANK_QUEUE) then Some BankQueue
+    else (if not (is_between z.write_queue z.block_words MAX_WRITE_QUEUE) then Some WriteQueue
+    else (if not (is_between z.replies 1 MAX_REPLIES) then Some Replies else None)))))
 
 -- the first number of a unit that is out of its range
 abbrev pub bad_field : Sizes → Option ShapeField
 bad_field z =
-    if not (is_between z.block_words 1 16) then Some BlockWords
-    else (if not (is_between z.ways 1 8) then Some Ways
-    else (if not (is_between z.regs 1 16) then Some Regs
-    else (if not (is_between z.depth 1 16) then Some Depth else bad_number z)))
+    if not (is_between z.block_words 1 MAX_BLOCK_WORDS) then Some BlockWords
+    else (if not (is_between z.ways 1 MAX_WAYS) then Some Ways
+    else (if not (is_between z.regs 1 MAX_REGS) then Some Regs
+    else (if not (is_between z.depth 1 MAX_DEPTH) then Some Depth else bad_number z)))

@@ -1,6 +1,7 @@
 -- What holds of the parts of a unit.
 use Rattle.std.specs.Prelude.{ℕ, ◌+◌, ◌*◌, ◌%◌, ◌<◌, ◌≤◌, ◌≡◌, Bool, true, false, ◌==◌, List, length, Some, slice_index_or}
 use Rattle.std.specs.List.{sum_by, count_by, All}
+use Rattle.flat_model.specs.declared.limits.TheConstants.{MAX_BLOCK_WORDS, MAX_WAYS, MAX_REGS, MAX_DEPTH, MAX_WORDS, MAX_SETS, MAX_BANKS, MAX_BANK_QUEUE, MAX_WRITE_QUEUE, MAX_REPLIES}
 use Rattle.flat_model.specs.Words.{zero_word}
 use Rattle.input_stack.specs.declared.Entry.{Entry}
 use Rattle.write_queue.specs.Queue.{Queue}
@@ -13,26 +14,26 @@ use Rattle.cache_unit.specs.State.{Sizes}
 -- each number of a unit is in its range
 pub record InRange (z : Sizes) : Type 0 where
   pub some_words : 1 ≤ z.block_words
-  pub few_words : z.block_words ≤ 16
+  pub few_words : z.block_words ≤ MAX_BLOCK_WORDS
   pub some_ways : 1 ≤ z.ways
-  pub few_ways : z.ways ≤ 8
+  pub few_ways : z.ways ≤ MAX_WAYS
   pub some_regs : 1 ≤ z.regs
-  pub few_regs : z.regs ≤ 16
+  pub few_regs : z.regs ≤ MAX_REGS
   pub some_depth : 1 ≤ z.depth
-  pub few_depth : z.depth ≤ 16
+  pub few_depth : z.depth ≤ MAX_DEPTH
   pub some_memory : 1 ≤ z.words
-  pub little_memory : z.words ≤ 1048576
+  pub little_memory : z.words ≤ MAX_WORDS
   pub whole_blocks : z.words % z.block_words ≡ 0
   pub some_sets : 1 ≤ z.sets
-  pub few_sets : z.sets ≤ 1024
+  pub few_sets : z.sets ≤ MAX_SETS
   pub some_banks : 1 ≤ z.banks
-  pub few_banks : z.banks ≤ 16
+  pub few_banks : z.banks ≤ MAX_BANKS
   pub enough_commands : z.block_words ≤ z.bank_queue * z.banks
-  pub few_commands : z.bank_queue ≤ 64
+  pub few_commands : z.bank_queue ≤ MAX_BANK_QUEUE
   pub enough_queue : z.block_words ≤ z.write_queue
-  pub short_queue : z.write_queue ≤ 256
+  pub short_queue : z.write_queue ≤ MAX_WRITE_QUEUE
   pub some_replies : 1 ≤ z.replies
-  pub few_replies : z.replies ≤ 64
+  pub few_replies : z.replies ≤ MAX_REPLIES
 
 abbrev pub no_entry : Entry
 no_entry = record { slot = 0; i = 0; word = zero_word }

@@ -1,5 +1,6 @@
 //! The cache unit.
 ghost use Rattle.std.specs.Prelude.{◌≡◌, ◌+◌, ◌≤◌, ◌++◌, length, false, Some};
+ghost use Rattle.cache_unit.specs.declared.unit.TheConstants.{REPLY_PLACES};
 ghost use Rattle.memory_banks.specs.Banks.{HasSent};
 ghost use Rattle.cache_directory.specs.Frames as dir;
 ghost use Rattle.cache_unit.specs.Steps as steps;
@@ -21,12 +22,15 @@ use crate::Reply;
 use crate::victim::{dirty_words, vacate};
 use arrayvec::ArrayVec;
 use cache_directory::Directory;
-use flat_model::{Answer, Cause, Lanes, Shape, Word, merge};
+use flat_model::{Answer, Cause, Lanes, MAX_REPLIES, Shape, Word, merge};
 use input_stack::{Entry, InputStack};
 use memory_banks::{Command, Lines};
 use miss_registers::{OwedList, RegisterFile};
 use std::marker::Model;
 use write_queue::{Queued, WriteQueue};
+
+// Room for every load that may be ready.
+const REPLY_PLACES: usize = MAX_REPLIES as usize;
 
 /// A cache of `WAYS` (1 to 8) frames of `WORDS` (1 to 16) words in each set, with `REGS` (1 to 16)
 /// registers for missing blocks and a stack of `DEPTH` (1 to 16) words that came from memory.
@@ -42,7 +46,7 @@ pub struct CacheUnit<const WAYS: usize, const WORDS: usize, const REGS: usize, c
     registers: RegisterFile<WORDS, REGS>,
     stack: InputStack<DEPTH>,
     queue: WriteQueue,
-    ready: ArrayVec<Reply, 64>,
+    ready: ArrayVec<Reply, REPLY_PLACES>,
 }
 
 impl<const WAYS: usize, const WORDS: usize, const REGS: usize, const DEPTH: usize> Model
@@ -235,8 +239,8 @@ fn fill_live<const WAYS: usize, const WORDS: usize>(
 }
 
 // The loads that waited for a word are answered, in their order.
-fn answer_all(ready: &mut ArrayVec<Reply, 64>, word: Word, send: &OwedList)
-    requires { length ready.old.items + length send.now ≤ 64 }
+fn answer_all(ready: &mut ArrayVec<Reply, REPLY_PLACES>, word: Word, send: &OwedList)
+    requires { length ready.old.items + length send.now ≤ REPLY_PLACES }
     ensures { ready.new.items ≡ ready.old.items ++ steps.answered word send.now }
 {
     for k in 0..send.len() {

@@ -1,5 +1,6 @@
 //! The words that a frame owes to memory when its block is given up.
 ghost use Rattle.std.specs.Prelude.{◌≡◌, ℕ, ◌+◌, ◌-◌, ◌*◌, ◌^◌, ◌<◌, ◌≤◌, ◌++◌, length, IsTrue, Some};
+ghost use Rattle.flat_model.specs.declared.limits.TheConstants.{MAX_BLOCK_WORDS};
 ghost use Rattle.cache_directory.specs.Frames.{IsWhole, frame_at, is_held};
 ghost use Rattle.write_queue.specs.Queue.{queue as queue_of};
 ghost use Rattle.cache_unit.specs.Causes.{dirty_from};
@@ -19,7 +20,7 @@ pub fn dirty_words<const WAYS: usize, const WORDS: usize>(
     requires held { IsTrue (is_held directory.now frame) }
     ensures count { (block at : ℕ)
         → result ≡ length (dirty_from block at (frame_at directory.now.frames frame).cells) }
-    ensures small { result ≤ 16 }
+    ensures small { result ≤ MAX_BLOCK_WORDS }
 {
     let mut count = 0;
     for i in 0..WORDS as u32 {

@@ -10,10 +10,15 @@ ghost use Rattle.flat_model.specs.Flat.{number};
 ghost use Rattle.flat_model.specs.Words.{no_lanes, merged, joined, has_any, has_all};
 
 mod display;
+mod limits;
 mod memory;
 mod operators;
 
 use bitflags::{Flag, Flags};
+pub use limits::{
+    MAX_BANK_QUEUE, MAX_BANKS, MAX_BLOCK_WORDS, MAX_DEPTH, MAX_REGS, MAX_REPLIES, MAX_SETS,
+    MAX_WAYS, MAX_WORDS, MAX_WRITE_QUEUE,
+};
 pub use memory::{FlatMemory, ReplayFault, StepFault};
 use std::alloc::AllocError;
 use thiserror::Error;

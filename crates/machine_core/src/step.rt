@@ -1,5 +1,6 @@
 //! One event, on a unit and its banks.
 ghost use Rattle.std.specs.Prelude.{◌≡◌, ℕ, ◌≤◌, [], length, slice_get, vec_capacity, take};
+ghost use Rattle.memory_banks.specs.declared.bank.TheConstants.{MAX_ANSWERS};
 ghost use Rattle.memory_banks.specs.Banks.{bank_at, room_in, all_sent};
 ghost use Rattle.memory_banks.specs.Memory.{with_banks};
 ghost use Rattle.cache_unit.specs.Steps as steps;
@@ -20,7 +21,7 @@ pub(crate) fn step<const WAYS: usize, const WORDS: usize, const REGS: usize, con
     event: Event,
 ) -> Answer
     requires limit { banks.old.limit ≡ unit.old.sizes.bank_queue }
-    requires few { (b : ℕ) → length (bank_at banks.old.banks b).answers ≤ 256 }
+    requires few { (b : ℕ) → length (bank_at banks.old.banks b).answers ≤ MAX_ANSWERS }
     ensures answer { result
         ≡ (machine.apply unit.old.sizes (machine_of unit.old banks.old) event).answer }
     ensures unit { unit.new
@@ -55,7 +56,7 @@ pub(crate) fn walk<const WAYS: usize, const WORDS: usize, const REGS: usize, con
     requires limit { banks.old.limit ≡ unit.old.sizes.bank_queue }
     requires few { (n b : ℕ)
         → length (bank_at (machine.walked unit.old.sizes (machine_of unit.old banks.old)
-        (take n events.now)).banks b).answers ≤ 256 }
+        (take n events.now)).banks b).answers ≤ MAX_ANSWERS }
     requires empty { answers.old.items ≡ [] }
     requires room { length events.now ≤ vec_capacity answers.old }
     ensures answers { answers.new.items
@@ -129,7 +130,7 @@ fn drain<const WAYS: usize, const WORDS: usize, const REGS: usize, const DEPTH: 
 // The bank serves its first command.
 #[inline(never)]
 fn serve(banks: &mut Banks, bank: u32) -> Answer
-    requires { length (bank_at banks.old.banks bank).answers ≤ 256 }
+    requires { length (bank_at banks.old.banks bank).answers ≤ MAX_ANSWERS }
     ensures answer { (m : machine.Machine) → m.banks ≡ banks.old.banks
         → result ≡ (machine.serve_from m bank (bank_at banks.old.banks bank).queue).answer }
     ensures cache { (m : machine.Machine) → m.banks ≡ banks.old.banks

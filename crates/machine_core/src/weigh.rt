@@ -1,5 +1,6 @@
 //! The weight of what is on its way.
 ghost use Rattle.std.specs.Prelude.{◌≡◌, ℕ, ◌<◌, ◌≤◌, ◌^◌, true, length};
+ghost use Rattle.flat_model.specs.declared.limits.TheConstants.{MAX_BANKS, MAX_REGS, MAX_BLOCK_WORDS};
 ghost use Rattle.memory_banks.specs.Banks.{bank_at};
 ghost use Rattle.cache_unit.specs.State.{register_at, field_at};
 ghost use Rattle.machine_core.specs.Pump.{total, bank_weight, field_weight, register_weight};
@@ -11,7 +12,7 @@ use memory_banks::Banks;
 /// answer.
 pub(crate) fn weight_of_banks(banks: &Banks, number: u32) -> u64
     requires number { length banks.now.banks ≡ number }
-    requires few { number ≤ 16 }
+    requires few { number ≤ MAX_BANKS }
     ensures value { result ≡ total bank_weight banks.now.banks }
     ensures small { result < 2 ^ 48 }
 {
@@ -38,8 +39,8 @@ pub(crate) fn weight_of_registers<
     const REGS: usize,
     const DEPTH: usize,
 >(unit: &CacheUnit<WAYS, WORDS, REGS, DEPTH>) -> u64
-    requires few { REGS ≤ 16 }
-    requires few_words { WORDS ≤ 16 }
+    requires few { REGS ≤ MAX_REGS }
+    requires few_words { WORDS ≤ MAX_BLOCK_WORDS }
     requires registers { length unit.now.cache.registers ≡ REGS }
     requires words { unit.now.sizes.block_words ≡ WORDS }
     requires fields { (s : ℕ) → (register_at unit.now.cache s).valid ≡ true
@@ -62,7 +63,7 @@ fn weight_of_register<const WAYS: usize, const WORDS: usize, const REGS: usize, 
     unit: &CacheUnit<WAYS, WORDS, REGS, DEPTH>,
     slot: u32,
 ) -> u64
-    requires few_words { WORDS ≤ 16 }
+    requires few_words { WORDS ≤ MAX_BLOCK_WORDS }
     requires slot { slot < length unit.now.cache.registers }
     requires words { unit.now.sizes.block_words ≡ WORDS }
     requires fields { (register_at unit.now.cache slot).valid ≡ true
@@ -80,7 +81,7 @@ fn weight_of_fields<const WAYS: usize, const WORDS: usize, const REGS: usize, co
     unit: &CacheUnit<WAYS, WORDS, REGS, DEPTH>,
     slot: u32,
 ) -> u64
-    requires few_words { WORDS ≤ 16 }
+    requires few_words { WORDS ≤ MAX_BLOCK_WORDS }
     requires slot { slot < length unit.now.cache.registers }
     requires words { unit.now.sizes.block_words ≡ WORDS }
     requires fields { length (register_at unit.now.cache slot).fields ≡ WORDS }

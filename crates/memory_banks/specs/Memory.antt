@@ -2,6 +2,7 @@
 use Rattle.std.specs.Prelude.{◌≡◌, ℕ, ◌+◌, ◌-◌, ◌/◌, ◌%◌, ◌<◌, ◌≤◌, Bool, true, false, ◌&&◌, not, nat_lt, ◌==◌, if◌then◌else◌, List, [], ◌∷◌, length, slice_set, Option, Some, None, refl}
 use Rattle.std.proofs.Common.{◌∙◌}
 use Rattle.std.specs.List.{remove}
+use Rattle.flat_model.specs.declared.limits.TheConstants.{MAX_WORDS, MAX_BANKS, MAX_BANK_QUEUE}
 use Rattle.flat_model.specs.declared.Word.{Word}
 use Rattle.flat_model.specs.declared.Shape.{Shape}
 use Rattle.flat_model.specs.declared.ShapeField.{ShapeField}
@@ -31,11 +32,11 @@ share_length words n b = (words + n - 1 - b) / n
 -- what is so of every memory
 pub record IsMemory (m : Memory) : Type 0 where
   pub some_words : 1 ≤ m.words
-  pub most_words : m.words ≤ 1048576
+  pub most_words : m.words ≤ MAX_WORDS
   pub some_banks : 1 ≤ length m.banks
-  pub most_banks : length m.banks ≤ 16
+  pub most_banks : length m.banks ≤ MAX_BANKS
   pub some_queue : 1 ≤ m.limit
-  pub most_queue : m.limit ≤ 64
+  pub most_queue : m.limit ≤ MAX_BANK_QUEUE
   pub spread : (b : ℕ) → b < length m.banks → length (bank_at m.banks b).words ≡ share_length m.words (length m.banks) b
   pub within : (b : ℕ) → length (bank_at m.banks b).queue ≤ m.limit
 
@@ -96,9 +97,9 @@ same_steps l m n p q =
 -- the first number of a shape that is out of its range for banks with an image of so many words
 abbrev pub bad_field : ℕ → Shape → Option ShapeField
 bad_field image shape =
-    if not (is_between shape.words 1 1048576) then Some Words
-    else (if not (is_between shape.banks 1 16) then Some Banks
-    else (if not (is_between shape.bank_queue 1 64) then Some BankQueue
+    if not (is_between shape.words 1 MAX_WORDS) then Some Words
+    else (if not (is_between shape.banks 1 MAX_BANKS) then Some Banks
+    else (if not (is_between shape.bank_queue 1 MAX_BANK_QUEUE) then Some BankQueue
     else (if not (image == shape.words) then Some Image else None)))
 
 -- the fault of a bad field; where there is none, only memory can be wanting

@@ -1,21 +1,24 @@
 //! One bank of memory.
 ghost use Rattle.std.specs.Prelude.{◌≡◌, ◌<◌, ◌≤◌, ◌↔◌, [], length, slice_get, IfOk, IsTrue};
 ghost use Rattle.std.specs.List.{count_by};
+ghost use Rattle.flat_model.specs.declared.limits.TheConstants.{MAX_BANKS, MAX_WORDS, MAX_BANK_QUEUE};
 ghost use Rattle.flat_model.specs.Flat.{word_at, stored};
+ghost use Rattle.memory_banks.specs.declared.bank.TheConstants.{MAX_ANSWERS};
 ghost use Rattle.memory_banks.specs.Banks.{with_command, share_of};
 ghost use Rattle.memory_banks.specs.Memory.{serve_bank, without_answer, is_read, is_idle};
 
 use crate::{BankAnswer, Command};
 use circular_buffer::HeapCircularBuffer;
-use flat_model::{Lanes, Word, merge};
+use flat_model::{Lanes, MAX_BANK_QUEUE, Word, merge};
 use std::alloc::{AllocError, Global};
 use std::marker::Model;
 
-/// The most commands that may wait at a bank.
-pub(crate) const MOST_QUEUED: u32 = 64;
+/// Answers that may stand in a bank before it serves: one for each word that a machine's registers
+/// may wait for.
+pub const MAX_ANSWERS: usize = 256;
 
-// The most answers that may stand in a bank: 256 before a serve, and one more.
-const MOST_ANSWERS: usize = 257;
+// Room for the answer of one more serve.
+const ANSWER_PLACES: usize = 257;
 
 /// A bank: its words, the commands that wait, and the answers that nobody has taken.
 #[derive(Drop)]
@@ -31,6 +34,8 @@ pub struct MemoryBank {
 impl Model for MemoryBank {
     ghost use Rattle.std.specs.Prelude.{◌≡◌, ◌≤◌, length, vec_capacity};
     ghost use Rattle.std.specs.List.{count_by};
+    ghost use Rattle.flat_model.specs.declared.limits.TheConstants.{MAX_BANK_QUEUE};
+    ghost use Rattle.memory_banks.specs.declared.bank.TheConstants.{ANSWER_PLACES};
     ghost use Rattle.memory_banks.specs.Banks.{Bank};
     ghost use Rattle.memory_banks.specs.Memory.{is_read};
 
@@ -39,11 +44,11 @@ impl Model for MemoryBank {
     ghost view = { λ a.
         record { words = a.words.items; queue = a.queue.items; answers = a.answers.items } };
 
-    ghost invariant = { λ a. (a.queue.capacity ≡ 64)
-        × (length a.queue.items ≤ 64)
+    ghost invariant = { λ a. (a.queue.capacity ≡ MAX_BANK_QUEUE)
+        × (length a.queue.items ≤ MAX_BANK_QUEUE)
         × (a.reads ≡ count_by is_read a.queue.items)
-        × (vec_capacity a.answers ≡ 257)
-        × (length a.answers.items ≤ 257) };
+        × (vec_capacity a.answers ≡ ANSWER_PLACES)
+        × (length a.answers.items ≤ ANSWER_PLACES) };
 }
 
 #[tactic(auto, unfolding(crate::specs::Banks::served, crate::specs::Banks::with_command))]
@@ -56,14 +61,14 @@ impl MemoryBank {
         bank: usize,
     ) -> Result<Self, AllocError>
         requires here { bank < banks }
-        requires few { banks ≤ 16 }
-        requires fits { length image.now ≤ 1048576 }
+        requires few { banks ≤ MAX_BANKS }
+        requires fits { length image.now ≤ MAX_WORDS }
         ensures { IfOk result (λ b. b
             ≡ record { words = share_of image.now banks bank; queue = []; answers = [] }) }
     {
         let words = share(alloc, image, banks, bank)?;
-        let queue = HeapCircularBuffer::with_capacity(alloc, MOST_QUEUED as usize)?;
-        let answers = Vec::with_capacity(alloc, MOST_ANSWERS)?;
+        let queue = HeapCircularBuffer::with_capacity(alloc, MAX_BANK_QUEUE as usize)?;
+        let answers = Vec::with_capacity(alloc, ANSWER_PLACES)?;
         Ok(MemoryBank {
             words,
             queue,
@@ -75,7 +80,7 @@ impl MemoryBank {
     /// How many commands wait.
     pub(crate) fn queued(&self) -> u32
         ensures value { result ≡ length self.now.queue }
-        ensures within { result ≤ 64 }
+        ensures within { result ≤ MAX_BANK_QUEUE }
     {
         self.queue.len() as u32
     }
@@ -110,7 +115,7 @@ impl MemoryBank {
 
     /// One more command, last.
     pub(crate) fn send(&mut self, command: Command)
-        requires { length self.old.queue < 64 }
+        requires { length self.old.queue < MAX_BANK_QUEUE }
         ensures { self.new ≡ with_command self.old command }
     {
         self.reads += u32::from(is_read(&command));
@@ -119,7 +124,7 @@ impl MemoryBank {
 
     /// Serves the first command, where there is one.
     pub(crate) fn serve(&mut self) -> bool
-        requires { length self.old.answers ≤ 256 }
+        requires { length self.old.answers ≤ MAX_ANSWERS }
         ensures moved { IsTrue result ↔ (0 < length self.old.queue) }
         ensures bank { self.new ≡ serve_bank self.old self.old.queue }
     {
@@ -193,8 +198,8 @@ fn store(words: &mut Vec<Word>, place: u32, word: Word, lanes: Lanes)
 // The words of an image that lie in a bank: every `banks`-th, from `bank` on.
 fn share(alloc: Global, image: &[Word], banks: usize, bank: usize) -> Result<Vec<Word>, AllocError>
     requires here { bank < banks }
-    requires few { banks ≤ 16 }
-    requires fits { length image.now ≤ 1048576 }
+    requires few { banks ≤ MAX_BANKS }
+    requires fits { length image.now ≤ MAX_WORDS }
     ensures { IfOk result (λ v. v.items ≡ share_of image.now banks bank) }
 {
     let count = (image.len() + banks - 1 - bank) / banks;

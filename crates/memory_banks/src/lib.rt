@@ -10,6 +10,7 @@ ghost use Rattle.memory_banks.specs.declared.Command.{Command};
 mod bank;
 mod memory;
 
+pub use bank::MAX_ANSWERS;
 #[doc(hidden)]
 pub use bank::MemoryBank;
 use flat_model::{Lanes, Word};

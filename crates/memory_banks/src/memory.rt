@@ -1,12 +1,13 @@
 //! The banks of a machine.
 ghost use Rattle.std.specs.Prelude.{◌≡◌, ℕ, ◌<◌, ◌≤◌, ◌↔◌, length, slice_get, slice_set, IfOk, IfErr, OnOk, IsTrue, None};
 ghost use Rattle.std.specs.List.{count_by, list_all};
+ghost use Rattle.flat_model.specs.declared.limits.TheConstants.{MAX_BANKS, MAX_WORDS};
+ghost use Rattle.memory_banks.specs.declared.bank.TheConstants.{MAX_ANSWERS};
 ghost use Rattle.memory_banks.specs.Banks.{bank_at, words_after, pending, opening_banks, room_in};
 ghost use Rattle.memory_banks.specs.Memory.{with_banks, IsMemory, word_in, is_read, is_idle, serve_in, without_answer, SameButQueues, bad_field, fault_of};
 
-use crate::bank::MOST_QUEUED;
 use crate::{BankAnswer, Command, Lines, MemoryBank};
-use flat_model::{MakeFault, Shape, ShapeField, Word};
+use flat_model::{MAX_BANK_QUEUE, MAX_BANKS, MAX_WORDS, MakeFault, Shape, ShapeField, Word};
 use std::alloc::{AllocError, Global};
 use std::marker::Model;
 
@@ -60,7 +61,7 @@ impl Banks {
     /// doesn't have answers the zero word, and a write there changes no word. `false` says that the
     /// queue is empty or the bank isn't there, and changes nothing.
     pub fn serve(&mut self, bank: u32) -> bool
-        requires { length (bank_at self.old.banks bank).answers ≤ 256 }
+        requires { length (bank_at self.old.banks bank).answers ≤ MAX_ANSWERS }
         ensures moved { IsTrue result ↔ (0 < length (bank_at self.old.banks bank).queue) }
         ensures banks { self.new ≡ with_banks self.old
             (serve_in self.old.banks bank (bank_at self.old.banks bank).queue) }
@@ -190,11 +191,11 @@ impl Lines for Banks {
 fn bad_field(image: usize, shape: &Shape) -> Option<ShapeField>
     ensures { result ≡ bad_field image shape.now }
 {
-    if shape.words < 1 || shape.words > 1_048_576 {
+    if shape.words < 1 || shape.words > MAX_WORDS {
         Some(ShapeField::Words)
-    } else if shape.banks < 1 || shape.banks > 16 {
+    } else if shape.banks < 1 || shape.banks > MAX_BANKS {
         Some(ShapeField::Banks)
-    } else if shape.bank_queue < 1 || shape.bank_queue > MOST_QUEUED {
+    } else if shape.bank_queue < 1 || shape.bank_queue > MAX_BANK_QUEUE {
         Some(ShapeField::BankQueue)
     } else if image != shape.words as usize {
         Some(ShapeField::Image)
@@ -205,8 +206,8 @@ fn bad_field(image: usize, shape: &Shape) -> Option<ShapeField>
 
 // The banks of an image, each with its share.
 fn opening_banks(alloc: Global, image: &[Word], banks: usize) -> Result<Vec<MemoryBank>, AllocError>
-    requires few { banks ≤ 16 }
-    requires fits { length image.now ≤ 1048576 }
+    requires few { banks ≤ MAX_BANKS }
+    requires fits { length image.now ≤ MAX_WORDS }
     ensures { IfOk result (λ v. v.items ≡ opening_banks image.now banks) }
 {
     let mut made = Vec::with_capacity(alloc, banks)?;

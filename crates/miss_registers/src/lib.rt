@@ -2,6 +2,7 @@
 #![tactic(auto)]
 
 ghost use Rattle.std.specs.Prelude.{◌≡◌, ◌<◌, ◌≤◌, ◌++◌, [], ◌∷◌, length, slice_get};
+ghost use Rattle.miss_registers.specs.declared.TheConstants.{MAX_WAITING};
 ghost use Rattle.miss_registers.specs.Views.{load_at_front};
 
 mod file;
@@ -69,6 +70,9 @@ struct Mark {
     code: Lanes,
 }
 
+/// How many loads may wait for one word.
+pub const MAX_WAITING: usize = 4;
+
 // A load that waits for word `i`.
 #[derive(Clone, Copy, Default)]
 struct Target {
@@ -76,10 +80,10 @@ struct Target {
     owed: Owed,
 }
 
-/// At most four loads, in their order.
+/// At most [`MAX_WAITING`] loads, in their order.
 #[derive(Drop)]
 pub struct OwedList {
-    items: ArrayVec<Owed, 4>,
+    items: ArrayVec<Owed, MAX_WAITING>,
 }
 
 impl Model for OwedList {
@@ -101,7 +105,7 @@ impl OwedList {
     }
 
     fn push(&mut self, owed: Owed)
-        requires { length self.old < 4 }
+        requires { length self.old < MAX_WAITING }
         ensures { self.new ≡ self.old ++ owed ∷ [] }
     {
         self.items.push(owed);
@@ -117,7 +121,7 @@ impl OwedList {
     /// How many loads there are: four at most.
     pub fn len(&self) -> u32
         ensures count { result ≡ length self.now }
-        ensures few { result ≤ 4 }
+        ensures few { result ≤ MAX_WAITING }
     {
         self.items.len() as u32
     }

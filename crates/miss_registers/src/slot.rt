@@ -1,16 +1,21 @@
 //! One register.
 ghost use Rattle.std.specs.Prelude.{◌≡◌, ◌<◌, ◌≤◌, ◌&&◌, ◌==◌, length, slice_set, slice_get, not, if◌then◌else◌, map, replicate, count_by, None, Some};
 ghost use Rattle.std.specs.List.{list_all, list_any, filter};
+ghost use Rattle.miss_registers.specs.declared.TheConstants.{MAX_WAITING};
+ghost use Rattle.flat_model.specs.declared.limits.TheConstants.{MAX_BLOCK_WORDS};
 ghost use Rattle.miss_registers.specs.Registers as spec;
 ghost use Rattle.miss_registers.specs.Views as shows;
 ghost use Rattle.miss_registers.specs.Waiting.{waiting_of, waits_elsewhere};
 ghost use Rattle.miss_registers.specs.Marks.{clear_mark, finished_mark, without_mark_code, mark_at, expects_in, in_stack_mark, noted_mark};
 ghost use Rattle.miss_registers.specs.Fields.{field_from};
 
-use crate::{FieldView, Mark, Owed, OwedList, RegisterView, Target, WordEnd};
+use crate::{FieldView, MAX_WAITING, Mark, Owed, OwedList, RegisterView, Target, WordEnd};
 use arrayvec::ArrayVec;
-use flat_model::Lanes;
+use flat_model::{Lanes, MAX_BLOCK_WORDS};
 use std::marker::Model;
+
+// Room for every load that may wait.
+const TARGET_PLACES: usize = MAX_BLOCK_WORDS * MAX_WAITING;
 
 /// A register: the block that it stands for, what is kept of each word, and the loads that wait.
 ///
@@ -22,8 +27,8 @@ pub struct Slot {
     obsolete: bool,
     block: u32,
     frame: u32,
-    marks: ArrayVec<Mark, 16>,
-    targets: ArrayVec<Target, 64>,
+    marks: ArrayVec<Mark, MAX_BLOCK_WORDS>,
+    targets: ArrayVec<Target, TARGET_PLACES>,
 }
 
 impl Model for Slot {
@@ -69,7 +74,7 @@ impl Slot {
 
     /// Takes the register for a block of so many words, all of them still to come.
     pub fn allocate(&mut self, words: u32, block: u32, frame: u32)
-        requires { words ≤ 16 }
+        requires { words ≤ MAX_BLOCK_WORDS }
         ensures { self.new ≡ spec.fresh words block frame }
     {
         self.valid = true;
@@ -83,7 +88,7 @@ impl Slot {
     /// One more load waits for word `i`, last in the word's list.
     pub fn await_word(&mut self, i: u32, owed: Owed)
         requires there { i < length self.old.fields }
-        requires room { length (spec.field_of self.old i).waiting < 4 }
+        requires room { length (spec.field_of self.old i).waiting < MAX_WAITING }
         ensures { self.new ≡ spec.awaited self.old i owed }
     {
         self.targets.push(Target { i, owed });
@@ -217,7 +222,7 @@ impl Slot {
 
 // The loads that wait for word `i`.
 fn waiting_for(targets: &[Target], i: u32) -> OwedList
-    requires { length (waiting_of targets.now i) ≤ 4 }
+    requires { length (waiting_of targets.now i) ≤ MAX_WAITING }
     ensures { result ≡ waiting_of targets.now i }
 {
     let mut send = OwedList::new();
@@ -230,7 +235,7 @@ fn waiting_for(targets: &[Target], i: u32) -> OwedList
 }
 
 // No load waits for word `i` any more.
-fn answer_word(targets: &mut ArrayVec<Target, 64>, i: u32)
+fn answer_word(targets: &mut ArrayVec<Target, TARGET_PLACES>, i: u32)
     ensures { targets.new.items ≡ filter (waits_elsewhere i) targets.old.items }
 {
     targets.retain(|target| target.i != i);
@@ -248,7 +253,7 @@ fn all_processed(marks: &[Mark]) -> bool
     marks.iter().all(|mark| mark.processed)
 }
 
-fn clear_codes(marks: &mut ArrayVec<Mark, 16>)
+fn clear_codes(marks: &mut ArrayVec<Mark, MAX_BLOCK_WORDS>)
     ensures { marks.new.items ≡ map without_mark_code marks.old.items }
 {
     clear_codes_of(marks.as_mut_slice());
@@ -263,7 +268,7 @@ fn clear_codes_of(marks: &mut [Mark])
     }
 }
 
-fn finish_mark(marks: &mut ArrayVec<Mark, 16>, i: u32)
+fn finish_mark(marks: &mut ArrayVec<Mark, MAX_BLOCK_WORDS>, i: u32)
     requires { i < length marks.old.items }
     ensures { marks.new.items ≡ slice_set marks.old.items i finished_mark }
 {
@@ -274,8 +279,8 @@ fn finish_mark(marks: &mut ArrayVec<Mark, 16>, i: u32)
     };
 }
 
-fn clear_marks(words: u32) -> ArrayVec<Mark, 16>
-    requires { words ≤ 16 }
+fn clear_marks(words: u32) -> ArrayVec<Mark, MAX_BLOCK_WORDS>
+    requires { words ≤ MAX_BLOCK_WORDS }
     ensures { result.items ≡ replicate words clear_mark }
 {
     let mut marks = ArrayVec::new();
@@ -291,7 +296,7 @@ fn expected_in(marks: &[Mark], i: u32) -> bool
     (i as usize) < marks.len() && !marks[i as usize].processed && !marks[i as usize].in_stack
 }
 
-fn put_in_stack(marks: &mut ArrayVec<Mark, 16>, i: u32)
+fn put_in_stack(marks: &mut ArrayVec<Mark, MAX_BLOCK_WORDS>, i: u32)
     requires { i < length marks.old.items }
     ensures { marks.new.items
         ≡ slice_set marks.old.items i (in_stack_mark (mark_at marks.old.items i)) }
@@ -300,7 +305,7 @@ fn put_in_stack(marks: &mut ArrayVec<Mark, 16>, i: u32)
     mark.in_stack = true;
 }
 
-fn join_code(marks: &mut ArrayVec<Mark, 16>, i: u32, lanes: Lanes)
+fn join_code(marks: &mut ArrayVec<Mark, MAX_BLOCK_WORDS>, i: u32, lanes: Lanes)
     requires { i < length marks.old.items }
     ensures { marks.new.items
         ≡ slice_set marks.old.items i (noted_mark (mark_at marks.old.items i) lanes) }
@@ -318,7 +323,7 @@ fn frame_shown(valid: bool, obsolete: bool, frame: u32) -> u32
 
 // How many words are processed.
 fn processed_in(marks: &[Mark]) -> u32
-    requires { length marks.now ≤ 16 }
+    requires { length marks.now ≤ MAX_BLOCK_WORDS }
     ensures { result ≡ count_by (λ m. m.processed) marks.now }
 {
     marks.iter().filter(|mark| mark.processed).count() as u32

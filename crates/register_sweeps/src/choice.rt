@@ -1,6 +1,7 @@
 //! The one choice among the eight machines of 1 or 2 ways and 1, 2, 4 or 8 registers.
 
 ghost use Rattle.std.specs.Prelude.{◌≡◌, ◌^◌, ◌<◌, ◌≤◌, None, IfOk};
+ghost use Rattle.flat_model.specs.declared.limits.TheConstants.{MAX_BANKS};
 ghost use Rattle.machine_core.specs.Machine.{MachineState};
 ghost use Rattle.machine_core.specs.Law.{most_weight};
 ghost use Rattle.shape_files.specs.ShapeFile.{bad_field};
@@ -29,7 +30,7 @@ pub trait MachineJob {
     /// Does it.
     fn work<M: PictureMachine>(&mut self, machine: &mut M) -> Self::Done
         requires can { can self.old }
-        requires banks { (M.state machine.old).sizes.banks ≤ 16 }
+        requires banks { (M.state machine.old).sizes.banks ≤ MAX_BANKS }
         requires few { most_weight (M.state machine.old).sizes < 2 ^ 32 }
         ensures done { done self.old (M.state machine.old) self.new result }
         ensures same { holds_same self.old self.new };
@@ -88,7 +89,7 @@ fn machine_of<const WAYS: usize, const REGS: usize>(
     requires ways { tool.now.ways ≡ WAYS }
     requires regs { tool.now.regs ≡ REGS }
     ensures machine { IfOk result (λ machine. machine ≡ new_machine tool.now) }
-    ensures banks { IfOk result (λ machine. machine.sizes.banks ≤ 16) }
+    ensures banks { IfOk result (λ machine. machine.sizes.banks ≤ MAX_BANKS) }
     ensures few { IfOk result (λ machine. most_weight machine.sizes < 2 ^ 32) }
 {
     let image = vec![in alloc; Word::default(); tool.shape.words as usize]?;

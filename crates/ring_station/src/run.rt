@@ -1,6 +1,8 @@
 //! Runs of a station on threads.
 ghost use Rattle.std.specs.Prelude.{◌≡◌, ◌<◌, ◌≤◌, ◌⊎◌, [], true, length, map, vec_len, Err, IfOk, IfErr, OnOk, IsOk, IsErr};
 ghost use Rattle.std.specs.List.{All};
+ghost use Rattle.station_parts.specs.declared.make.TheConstants.{MAX_PORTS};
+ghost use Rattle.flat_model.specs.declared.limits.TheConstants.{MAX_BANKS};
 ghost use Rattle.station_parts.specs.Ids.{port_id, bank_id, cache_id};
 ghost use Rattle.station_parts.specs.New.{IsNewPort};
 ghost use Rattle.station_parts.specs.Rest.{is_at_rest};
@@ -120,8 +122,8 @@ fn run_crew<
     banks: &mut Vec<BankRun>,
 ) -> Result<(), RunFault>
     requires scripts { length scripts.now ≡ vec_len ports.old }
-    requires few_ports { vec_len ports.old ≤ 16 }
-    requires few_banks { vec_len banks.old ≤ 16 }
+    requires few_ports { vec_len ports.old ≤ MAX_PORTS }
+    requires few_banks { vec_len banks.old ≤ MAX_BANKS }
     requires lists { All (λ r. r.list.items ≡ []) ports.old.items }
     requires ends { All (λ r. IsErr r.end) ports.old.items }
     ensures cache { cache_id cache.new ≡ cache_id cache.old }

@@ -3,6 +3,8 @@ ghost use Rattle.std.specs.Prelude.{◌≡◌, ◌<◌, ◌≤◌, ◌++◌, ℕ
 ghost use Rattle.std.specs.List.{All};
 ghost use Rattle.std.specs.Global.{Vec};
 ghost use Rattle.std.specs.Thread.{IsSync};
+ghost use Rattle.station_parts.specs.declared.make.TheConstants.{MAX_PORTS};
+ghost use Rattle.flat_model.specs.declared.limits.TheConstants.{MAX_BANKS};
 ghost use Rattle.station_journal.specs.declared.asks.Ask.{Ask};
 ghost use Rattle.station_parts.specs.Ids.{cache_id, bank_id};
 ghost use Rattle.station_parts.specs.Rest.{is_at_rest};
@@ -39,8 +41,8 @@ pub(crate) fn run_all<
     banks: &mut Vec<BankRun>,
 ) -> Result<(), RunFault>
     requires scripts { length scripts.now ≡ vec_len ports.old }
-    requires few_ports { vec_len ports.old ≤ 16 }
-    requires few_banks { vec_len banks.old ≤ 16 }
+    requires few_ports { vec_len ports.old ≤ MAX_PORTS }
+    requires few_banks { vec_len banks.old ≤ MAX_BANKS }
     requires lists { All (λ r. r.list.items ≡ []) ports.old.items }
     ensures cache { cache_id cache.new ≡ cache_id cache.old }
     ensures ports { EachRanScript scripts.now ports.old.items ports.new.items }
@@ -60,7 +62,7 @@ pub(crate) fn run_all<
         { run_cache(rt, gate, port_count, bank_count, turns, &done, cache) },
         &mut ||
             requires { IsSync R.row × (length scripts.now ≡ vec_len ports.now)
-                × (vec_len ports.now ≤ 16) × (vec_len banks.now ≤ 16)
+                × (vec_len ports.now ≤ MAX_PORTS) × (vec_len banks.now ≤ MAX_BANKS)
                 × All (λ r. r.list.items ≡ []) ports.now.items }
             ensures ports { EachRanScript scripts.entry.now ports.entry.now.items ports.exit.now.items }
             ensures banks { EachServed banks.entry.now.items banks.exit.now.items }
@@ -80,8 +82,8 @@ fn run_sides<R: Clock + Threads + Sync, G: Gate>(
     banks: &mut Vec<BankRun>,
 )
     requires scripts { length scripts.now ≡ vec_len ports.old }
-    requires few_ports { vec_len ports.old ≤ 16 }
-    requires few_banks { vec_len banks.old ≤ 16 }
+    requires few_ports { vec_len ports.old ≤ MAX_PORTS }
+    requires few_banks { vec_len banks.old ≤ MAX_BANKS }
     requires lists { All (λ r. r.list.items ≡ []) ports.old.items }
     ensures ports { EachRanScript scripts.now ports.old.items ports.new.items }
     ensures banks { EachServed banks.old.items banks.new.items }
@@ -90,11 +92,11 @@ fn run_sides<R: Clock + Threads + Sync, G: Gate>(
         rt,
         &mut ||
             requires { IsSync R.row × (length scripts.now ≡ vec_len ports.now)
-                × (vec_len ports.now ≤ 16) × All (λ r. r.list.items ≡ []) ports.now.items }
+                × (vec_len ports.now ≤ MAX_PORTS) × All (λ r. r.list.items ≡ []) ports.now.items }
             ensures { EachRanScript scripts.entry.now ports.entry.now.items ports.exit.now.items }
         { run_ports(rt, gate, scripts, turns, ports) },
         &mut ||
-            requires { IsSync R.row × (vec_len banks.now ≤ 16) }
+            requires { IsSync R.row × (vec_len banks.now ≤ MAX_BANKS) }
             ensures { EachServed banks.entry.now.items banks.exit.now.items }
         { run_banks(rt, gate, turns, done, banks) },
     );
@@ -108,7 +110,7 @@ fn run_ports<R: Clock + Threads + Sync, G: Gate>(
     ports: &mut [PortRun],
 )
     requires scripts { length scripts.now ≡ length ports.old }
-    requires few { length ports.old ≤ 16 }
+    requires few { length ports.old ≤ MAX_PORTS }
     requires lists { All (λ r. r.list.items ≡ []) ports.old }
     ensures { EachRanScript scripts.now ports.old ports.new }
 {
@@ -119,7 +121,7 @@ fn run_ports<R: Clock + Threads + Sync, G: Gate>(
         ports,
         threads,
         &|p: usize, run: &mut PortRun|
-            requires { (p < length scripts.now) × (length scripts.now ≤ 16)
+            requires { (p < length scripts.now) × (length scripts.now ≤ MAX_PORTS)
                 × (run.old.list.items ≡ []) }
             ensures { (s : Vec Ask)
                 → RanScript (slice_index_or scripts.entry.now p s).items run.old run.new }
@@ -158,7 +160,7 @@ fn run_banks<R: Clock + Threads + Sync, G: Gate>(
     done: &AtomicBool,
     banks: &mut [BankRun],
 )
-    requires { length banks.old ≤ 16 }
+    requires { length banks.old ≤ MAX_BANKS }
     ensures { EachServed banks.old banks.new }
 {
     let threads = banks.len().max(1);
@@ -167,7 +169,7 @@ fn run_banks<R: Clock + Threads + Sync, G: Gate>(
         banks,
         threads,
         &|b: usize, run: &mut BankRun|
-            requires { b < 16 }
+            requires { b < MAX_BANKS }
             ensures { bank_id run.new.bank ≡ bank_id run.old.bank }
         { run.end = run_bank(rt, gate, b as u32, turns, done, &mut run.bank) },
     );

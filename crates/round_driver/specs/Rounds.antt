@@ -1,6 +1,7 @@
 -- Rounds over a machine: what is made in each, and what is told of it.
 use Rattle.std.specs.Prelude.{◌≡◌, ◌<◌, ℕ, zero, suc, ◌+◌, ◌-◌, ◌*◌, Bool, true, false, not, ◌&&◌, if◌then◌else◌, nat_lt, ◌==◌, List, [], ◌∷◌, ◌++◌, length, replicate, Option, Some, None, is_none, slice_set, slice_index_or}
 use Rattle.std.specs.Option.{option_or}
+use Rattle.flat_model.specs.declared.limits.TheConstants.{MAX_BANKS}
 use Rattle.flat_model.specs.declared.Cause.TheVariants.{OutOfRange, NoLanes, NotPresent}
 use Rattle.flat_model.specs.declared.Event.{Event}
 use Rattle.flat_model.specs.declared.Event.TheVariants.{Load, Store, Prefetch, Drain, Serve, Arrive, Process, Take}
@@ -29,7 +30,7 @@ course s p notes = record { state = s; schedule = p; notes = notes }
 
 -- before the first round: no bank is busy
 abbrev pub opening : ℕ → Schedule
-opening latency = record { latency = latency; round = 0; begun = replicate 16 None; next = 0 }
+opening latency = record { latency = latency; round = 0; begun = replicate MAX_BANKS None; next = 0 }
 
 -- ---- one event
 

@@ -1,5 +1,6 @@
 //! Whole runs.
 ghost use Rattle.std.specs.Prelude.{◌≡◌, ◌≢◌, ◌≤◌, ◌<◌, ◌^◌, ◌+◌, ◌++◌, ℕ, List, length, IfOk, IfErr, OnOk};
+ghost use Rattle.flat_model.specs.declared.limits.TheConstants.{MAX_BANKS};
 ghost use Rattle.trace_text.specs.Streams.{Moves};
 ghost use Rattle.round_driver.specs.declared.driving.TheConstants.{MOST_LATENCY};
 ghost use Rattle.round_driver.specs.declared.note.Note.{Note as NoteValue};
@@ -34,15 +35,15 @@ fn round<'a, M: RoundMachine>(
     notes: &mut Notes,
     left: &'a [Event],
 ) -> &'a [Event]
-    requires banks { (M.state machine.old).sizes.banks ≤ 16 }
-    requires next { schedule.old.next ≤ 16 }
+    requires banks { (M.state machine.old).sizes.banks ≤ MAX_BANKS }
+    requires next { schedule.old.next ≤ MAX_BANKS }
     requires time { schedule.old.round < 2 ^ 62 }
     ensures run { (told : List NoteValue)
         → run_of (M.state machine.new) schedule.new result.now (told ++ notes.new.items)
         ≡ rounds.after_round (run_of (M.state machine.old) schedule.old left.now told) }
     ensures sizes { (M.state machine.new).sizes ≡ (M.state machine.old).sizes }
     ensures time { schedule.new.round ≡ schedule.old.round + 1 }
-    ensures next { schedule.new.next ≤ 16 }
+    ensures next { schedule.new.next ≤ MAX_BANKS }
 {
     notes.clear();
     schedule.round += 1;
@@ -99,7 +100,7 @@ pub fn drive<W: Sink, M: RoundMachine>(
     requests: &[Event],
     writer: &mut W,
 ) -> Result<u64, TraceFault>
-    requires banks { (M.state machine.old).sizes.banks ≤ 16 }
+    requires banks { (M.state machine.old).sizes.banks ≤ MAX_BANKS }
     requires latency { latency ≤ MOST_LATENCY }
     requires requests { length requests.now ≤ most_requests }
     ensures ok { IfOk result
@@ -143,7 +144,7 @@ pub fn summarize<M: RoundMachine>(
     latency: u64,
     requests: &[Event],
 ) -> Result<Table, AllocError>
-    requires banks { (M.state machine.old).sizes.banks ≤ 16 }
+    requires banks { (M.state machine.old).sizes.banks ≤ MAX_BANKS }
     requires latency { latency ≤ MOST_LATENCY }
     requires requests { length requests.now ≤ most_requests }
     ensures table { IfOk result

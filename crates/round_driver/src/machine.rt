@@ -3,6 +3,7 @@ ghost use Rattle.std.specs.Prelude.{◌≡◌, ◌≤◌};
 ghost use Rattle.machine_core.specs.Whole.{IsWholeState};
 ghost use Rattle.round_driver.specs.Machines as machines;
 
+use flat_model::MAX_REGS;
 use machine_core::{AnyMachine, Lookup, Machine};
 
 /// A machine that can be driven in rounds, whatever its four const numbers are.
@@ -67,7 +68,7 @@ impl<const WAYS: usize, const WORDS: usize, const REGS: usize, const DEPTH: usiz
 
     #[tactic(auto, unfolding(crate::specs::Machines::used_registers))]
     fn used_registers(&self) -> u32 {
-        used_among(self, 16)
+        used_among(self, MAX_REGS as u32)
     }
 }
 

@@ -1,5 +1,6 @@
 //! One round.
 ghost use Rattle.std.specs.Prelude.{◌≡◌, ℕ, ◌<◌, ◌≤◌, ◌+◌, ◌-◌, ◌^◌, [], drop, length, List, Some, IfSome};
+ghost use Rattle.flat_model.specs.declared.limits.TheConstants.{MAX_BANKS};
 ghost use Rattle.arrayvec.specs.ArrayVec.{array_vec_len};
 ghost use Rattle.round_driver.specs.Rounds.{course, Run};
 ghost use Rattle.round_driver.specs.Rounds as rounds;
@@ -63,7 +64,7 @@ fn attempt<M: RoundMachine>(machine: &mut M, schedule: &Schedule, notes: &mut No
 // A bank that has a command and isn't busy begins it.
 #[tactic(auto, unfolding(crate::specs::Rounds::begin))]
 fn begin<M: RoundMachine>(machine: &M, schedule: &mut Schedule, notes: &Notes, bank: u32)
-    requires bank { bank < 16 }
+    requires bank { bank < MAX_BANKS }
     ensures course { course (M.state machine.now) schedule.new notes.now.items
         ≡ rounds.begin bank (course (M.state machine.now) schedule.old notes.now.items) }
     ensures time { schedule.new.round ≡ schedule.old.round }
@@ -82,7 +83,7 @@ fn serve_due<M: RoundMachine>(
     notes: &mut Notes,
     bank: u32,
 )
-    requires bank { bank < 16 }
+    requires bank { bank < MAX_BANKS }
     requires room { array_vec_len notes.old < 24 }
     ensures course { course (M.state machine.new) schedule.new notes.new.items
         ≡ rounds.serve_due bank (course (M.state machine.old) schedule.old notes.old.items) }
@@ -99,13 +100,13 @@ fn serve_due<M: RoundMachine>(
 
 // Each bank, by number, begins a command and serves one that is due.
 fn bank_turns<M: RoundMachine>(machine: &mut M, schedule: &mut Schedule, notes: &mut Notes)
-    requires banks { (M.state machine.old).sizes.banks ≤ 16 }
+    requires banks { (M.state machine.old).sizes.banks ≤ MAX_BANKS }
     requires room { array_vec_len notes.old ≡ 0 }
     ensures course { course (M.state machine.new) schedule.new notes.new.items
         ≡ rounds.bank_turns (M.state machine.old).sizes.banks 0
         (course (M.state machine.old) schedule.old notes.old.items) }
     ensures sizes { (M.state machine.new).sizes ≡ (M.state machine.old).sizes }
-    ensures len { array_vec_len notes.new ≤ 16 }
+    ensures len { array_vec_len notes.new ≤ MAX_BANKS }
     ensures time { schedule.new.round ≡ schedule.old.round }
     ensures next { schedule.new.next ≡ schedule.old.next }
 {
@@ -130,10 +131,10 @@ fn first_with_answer<M: RoundMachine>(machine: &M, from: u32, to: u32) -> Option
 
 // The first bank with an answer, from the next one on and then from the first on.
 fn next_with_answer<M: RoundMachine>(machine: &M, next: u32) -> Option<u32>
-    requires banks { (M.state machine.now).sizes.banks ≤ 16 }
-    requires next { next ≤ 16 }
+    requires banks { (M.state machine.now).sizes.banks ≤ MAX_BANKS }
+    requires next { next ≤ MAX_BANKS }
     ensures bank { result ≡ rounds.next_with_answer (M.state machine.now) next }
-    ensures below { IfSome result (λ b. b < 16) }
+    ensures below { IfSome result (λ b. b < MAX_BANKS) }
 {
     match first_with_answer(machine, next, machine.bank_count()) {
         Some(bank) => Some(bank),
@@ -144,15 +145,15 @@ fn next_with_answer<M: RoundMachine>(machine: &M, next: u32) -> Option<u32>
 // The next bank's first answer arrives, if the stack has room.
 #[tactic(auto, unfolding(crate::specs::Rounds::arrive))]
 fn arrive<M: RoundMachine>(machine: &mut M, schedule: &mut Schedule, notes: &mut Notes)
-    requires banks { (M.state machine.old).sizes.banks ≤ 16 }
-    requires next { schedule.old.next ≤ 16 }
+    requires banks { (M.state machine.old).sizes.banks ≤ MAX_BANKS }
+    requires next { schedule.old.next ≤ MAX_BANKS }
     requires room { array_vec_len notes.old < 24 }
     ensures course { course (M.state machine.new) schedule.new notes.new.items
         ≡ rounds.arrive (course (M.state machine.old) schedule.old notes.old.items) }
     ensures sizes { (M.state machine.new).sizes ≡ (M.state machine.old).sizes }
     ensures len { array_vec_len notes.new ≤ array_vec_len notes.old + 1 }
     ensures time { schedule.new.round ≡ schedule.old.round }
-    ensures next { schedule.new.next ≤ 16 }
+    ensures next { schedule.new.next ≤ MAX_BANKS }
 {
     if !machine.has_stack_room() {
         return;
@@ -215,15 +216,15 @@ pub fn ask<M: RoundMachine>(
 // What a round moves before it asks.
 #[tactic(auto, unfolding(crate::specs::Rounds::moves))]
 pub fn moves<M: RoundMachine>(machine: &mut M, schedule: &mut Schedule, notes: &mut Notes)
-    requires banks { (M.state machine.old).sizes.banks ≤ 16 }
-    requires next { schedule.old.next ≤ 16 }
+    requires banks { (M.state machine.old).sizes.banks ≤ MAX_BANKS }
+    requires next { schedule.old.next ≤ MAX_BANKS }
     requires room { array_vec_len notes.old ≡ 0 }
     ensures course { course (M.state machine.new) schedule.new notes.new.items
         ≡ rounds.moves (course (M.state machine.old) schedule.old notes.old.items) }
     ensures sizes { (M.state machine.new).sizes ≡ (M.state machine.old).sizes }
     ensures len { array_vec_len notes.new ≤ 20 }
     ensures time { schedule.new.round ≡ schedule.old.round }
-    ensures next { schedule.new.next ≤ 16 }
+    ensures next { schedule.new.next ≤ MAX_BANKS }
 {
     bank_turns(machine, schedule, notes);
     arrive(machine, schedule, notes);

@@ -1,9 +1,12 @@
 //! Which banks are busy, and who comes next.
 ghost use Rattle.std.specs.Prelude.{◌≡◌, ◌<◌, ◌≤◌, ◌^◌, ◌+◌};
+ghost use Rattle.flat_model.specs.declared.limits.TheConstants.{MAX_BANKS};
 ghost use Rattle.round_driver.specs.Rounds as rounds;
 
+use flat_model::MAX_BANKS;
+
 /// The most banks of a machine.
-pub const MOST_BANKS: usize = 16;
+pub const MOST_BANKS: usize = MAX_BANKS as usize;
 
 // Where a run stands in time.
 #[derive(Clone, Copy)]
@@ -33,7 +36,7 @@ impl Schedule {
 
     // Whether a bank has begun no command.
     pub fn is_idle(&self, bank: u32) -> bool
-        requires { bank < 16 }
+        requires { bank < MAX_BANKS }
         ensures { result ≡ rounds.is_idle self.now bank }
     {
         self.begun[bank as usize].is_none()
@@ -41,7 +44,7 @@ impl Schedule {
 
     // A bank begins a command in this round.
     pub fn begin(&mut self, bank: u32)
-        requires { bank < 16 }
+        requires { bank < MAX_BANKS }
         ensures { self.new ≡ rounds.with_begun self.old bank (Some self.old.round) }
     {
         self.begun[bank as usize] = Some(self.round);
@@ -49,7 +52,7 @@ impl Schedule {
 
     // Whether a bank has had its command for as many rounds as it takes.
     pub fn is_due(&self, bank: u32) -> bool
-        requires { bank < 16 }
+        requires { bank < MAX_BANKS }
         ensures { result ≡ rounds.is_due self.now bank }
     {
         match self.begun[bank as usize] {
@@ -60,7 +63,7 @@ impl Schedule {
 
     // A bank is done with its command.
     pub fn end(&mut self, bank: u32)
-        requires { bank < 16 }
+        requires { bank < MAX_BANKS }
         ensures { self.new ≡ rounds.with_begun self.old bank None }
     {
         self.begun[bank as usize] = None;

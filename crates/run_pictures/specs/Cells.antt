@@ -2,6 +2,7 @@
 use Rattle.std.specs.Prelude.{◌≡◌, ℕ, Bool, false, ◌&&◌, not, if◌then◌else◌, ◌==◌, List, [], ◌++◌, codes, decimal, Option, Some, None, slice_get}
 use Rattle.std.specs.List.{list_any, range_with_len}
 use Rattle.std.specs.Str.{IsUtf8}
+use Rattle.flat_model.specs.declared.limits.TheConstants.{MAX_REGS}
 use Rattle.flat_model.specs.declared.Word.{Word}
 use Rattle.flat_model.specs.declared.Lanes.{Lanes}
 use Rattle.flat_model.specs.declared.Answer.{Answer}
@@ -100,9 +101,9 @@ lives_for block (Some r) = r.valid && (not r.obsolete && r.block == block)
 unfoldable pub is_live_for : MachineState → ℕ → ℕ → Bool
 is_live_for s slot block = lives_for block (register_shown s slot)
 
--- whether words of a block that a frame holds are on their way: a machine has at most 16 registers
+-- whether words of a block that a frame holds are on their way
 unfoldable pub is_pending : MachineState → ℕ → Bool
-is_pending s block = list_any (λ slot. is_live_for s slot block) (range_with_len 0 16)
+is_pending s block = list_any (λ slot. is_live_for s slot block) (range_with_len 0 MAX_REGS)
 
 abbrev pub block_text : ℕ → Bool → List ℕ
 block_text block pending = if pending then codes "block " ++ (decimal block ++ codes ", pending") else codes "block " ++ decimal block

@@ -7,7 +7,7 @@ ghost use Rattle.run_pictures.specs.Cells as cells;
 
 use crate::machine::PictureMachine;
 use crate::place::Place;
-use flat_model::{Answer, FlatMemory, Lanes, Word};
+use flat_model::{Answer, FlatMemory, Lanes, MAX_REGS, Word};
 use input_stack::Entry;
 use memory_banks::{BankAnswer, Command};
 use miss_registers::{FieldView, Owed, RegisterView};
@@ -194,7 +194,7 @@ fn is_live_for<M: PictureMachine>(machine: &M, slot: u32, block: u32) -> bool
 pub fn is_pending<M: PictureMachine>(machine: &M, block: u32) -> bool
     ensures { result ≡ cells.is_pending (M.state machine.now) block }
 {
-    (0..16).any(|slot| is_live_for(machine, slot, block))
+    (0..MAX_REGS as u32).any(|slot| is_live_for(machine, slot, block))
 }
 
 fn block_text(alloc: Global, block: u32, pending: bool) -> Result<String, AllocError>

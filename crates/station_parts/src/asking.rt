@@ -1,5 +1,6 @@
 //! What the cache side does for an ask.
 ghost use Rattle.std.specs.Prelude.{◌≡◌, ◌≢◌, ◌<◌, ◌+◌, ◌*◌, ◌%◌, ℕ, ◌∷◌, [], true};
+ghost use Rattle.station_parts.specs.declared.make.TheConstants.{MAX_PORTS};
 ghost use Rattle.station_parts.specs.Rows.{free_at};
 ghost use Rattle.station_journal.specs.Parts.{verdict, is_event_of, IsVerdict};
 ghost use Rattle.station_journal.specs.declared.asks.Told.TheVariants.{Value};
@@ -13,7 +14,7 @@ use station_journal::{Ask, Source, Told};
 
 // The tag under which the core knows a port's load.
 fn core_tag(port: u32, tag: u8) -> u16
-    requires { port < 16 }
+    requires { port < MAX_PORTS }
     ensures { result ≡ port * 256 + tag }
 {
     port as u16 * 256 + u16::from(tag)
@@ -21,7 +22,7 @@ fn core_tag(port: u32, tag: u8) -> u16
 
 /// The event that an ask is. Done is none.
 pub(crate) fn event_for(port: u32, ask: Ask) -> Event
-    requires few_ports { port < 16 }
+    requires few_ports { port < MAX_PORTS }
     requires not_done { ask ≢ Ask.Done }
     ensures event { result ≡ event_for port ask }
     ensures sourced { (ports : ℕ) → port < ports → is_event_of ports (Source.Ask port) result ≡ true }
@@ -45,7 +46,7 @@ pub(crate) fn answer_ask<
     const REGS: usize,
     const DEPTH: usize,
 >(unit: &mut CacheUnit<WAYS, WORDS, REGS, DEPTH>, row: &mut Row, port: u32, ask: Ask) -> Answer
-    requires few_ports { port < 16 }
+    requires few_ports { port < MAX_PORTS }
     requires not_done { ask ≢ Ask.Done }
     ensures steps { MakesStep
         (asked_step unit.old.sizes (free_at row.old.lines.items) port unit.old.cache ask)

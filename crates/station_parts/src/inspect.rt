@@ -2,6 +2,8 @@
 ghost use Rattle.std.specs.Prelude.{◌≡◌, ◌≢◌, IsTrue, List, ◌++◌, ◌≤◌, ◌<◌, length, map, position, IfSome, ◌^◌};
 ghost use Rattle.std.specs.Option.{ForSome};
 ghost use Rattle.std.specs.Global.{Vec};
+ghost use Rattle.station_parts.specs.declared.make.TheConstants.{MAX_PORTS};
+ghost use Rattle.flat_model.specs.declared.limits.TheConstants.{MAX_BANKS};
 ghost use Rattle.rtrb.specs.Ring.{received, sent, known_items, known_free};
 ghost use Rattle.cache_unit.specs.Views.{is_clean};
 ghost use Rattle.station_journal.specs.Journal.{IsBankTrue};
@@ -231,8 +233,8 @@ fn found<const WAYS: usize, const WORDS: usize, const REGS: usize, const DEPTH: 
     ports: &[Port],
     banks: &[BankSide],
 ) -> Audit
-    requires ports { length ports.now ≤ 16 }
-    requires banks { length banks.now ≤ 16 }
+    requires ports { length ports.now ≤ MAX_PORTS }
+    requires banks { length banks.now ≤ MAX_BANKS }
     ensures { result ≡ audit_of cache.now ports.now banks.now }
 {
     if cache.fault.is_some() {
@@ -253,8 +255,8 @@ fn first_left<const WAYS: usize, const WORDS: usize, const REGS: usize, const DE
     ports: &[Port],
     banks: &[BankSide],
 ) -> Option<Ring>
-    requires ports { length ports.now ≤ 16 }
-    requires banks { length banks.now ≤ 16 }
+    requires ports { length ports.now ≤ MAX_PORTS }
+    requires banks { length banks.now ≤ MAX_BANKS }
     ensures { result ≡ first_left cache.now ports.now banks.now }
 {
     let asks = first_held(&cache.asks);

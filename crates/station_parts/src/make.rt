@@ -1,5 +1,6 @@
 //! How a station is made.
 ghost use Rattle.std.specs.Prelude.{◌≡◌, ◌<◌, ◌≤◌, ◌+◌, length, IfOk, IfErr, OnOk, None};
+ghost use Rattle.flat_model.specs.declared.limits.TheConstants.{MAX_BANKS, MAX_BANK_QUEUE, MAX_WORDS};
 ghost use Rattle.memory_banks.specs.Memory.{fault_of};
 ghost use Rattle.flat_model.specs.declared.MakeFault.TheVariants.{OutOfMemory};
 ghost use Rattle.cache_unit.specs.Limits as limits;
@@ -157,9 +158,9 @@ struct BankEnds {
 }
 
 fn make_banks(alloc: Global, shape: &Shape) -> Result<BankEnds, AllocError>
-    requires words { shape.now.words ≤ 1048576 }
-    requires banks { shape.now.banks ≤ 16 }
-    requires queue { shape.now.bank_queue ≤ 64 }
+    requires words { shape.now.words ≤ MAX_WORDS }
+    requires banks { shape.now.banks ≤ MAX_BANKS }
+    requires queue { shape.now.bank_queue ≤ MAX_BANK_QUEUE }
     ensures new { IfOk result
         (λ e. AreNewBanks shape.now e.banks.items e.lines.items e.answers.items) }
     ensures number { IfOk result (λ e. length e.banks.items ≡ shape.now.banks) }
@@ -177,10 +178,10 @@ fn make_banks(alloc: Global, shape: &Shape) -> Result<BankEnds, AllocError>
 
 // Makes the two rings of one more bank, and its words.
 fn add_bank(alloc: Global, ends: &mut BankEnds, shape: &Shape, bank: u32) -> Result<(), AllocError>
-    requires words { shape.now.words ≤ 1048576 }
+    requires words { shape.now.words ≤ MAX_WORDS }
     requires there { bank < shape.now.banks }
-    requires few { shape.now.banks ≤ 16 }
-    requires queue { shape.now.bank_queue ≤ 64 }
+    requires few { shape.now.banks ≤ MAX_BANKS }
+    requires queue { shape.now.bank_queue ≤ MAX_BANK_QUEUE }
     requires new { AreNewBanks shape.now ends.old.banks.items ends.old.lines.items ends.old.answers.items }
     requires next { length ends.old.banks.items ≡ bank }
     ensures new { OnOk result

@@ -1,5 +1,6 @@
 //! The parts of a station.
 ghost use Rattle.std.specs.Prelude.{◌≡◌, ◌≤◌, ℕ, length, vec_capacity, None};
+ghost use Rattle.station_parts.specs.declared.make.TheConstants.{MAX_ENTRIES, MAX_PORTS};
 ghost use Rattle.cache_unit.specs.Shown.{sizes_of};
 ghost use Rattle.cache_unit.specs.Sound.{InRange};
 ghost use Rattle.station_parts.specs.Rows.{sent_at, popped_at, taken_at};
@@ -44,14 +45,14 @@ pub struct CacheSide<const WAYS: usize, const WORDS: usize, const REGS: usize, c
     ghost in_range: { InRange unit.sizes },
     ghost lines: { length row.lines.items ≡ unit.sizes.banks },
     ghost ends: { length answers.items ≡ unit.sizes.banks },
-    ghost small: { limit ≤ 1048576 },
+    ghost small: { limit ≤ MAX_ENTRIES },
     ghost within: { length journal.items ≤ limit },
     ghost reserved: { limit ≤ vec_capacity journal },
     ghost tells: { ∥ SideTells unit.sizes unit.cache (sent_at row.lines.items)
         (popped_at answers.items) fault journal.items ∥₁ },
     ghost counted: { fault ≡ None → (b : ℕ) → taken_at row.lines.items b
         ≡ length (popped_at answers.items b) },
-    ghost few_ports: { length asks.items ≤ 16 },
+    ghost few_ports: { length asks.items ≤ MAX_PORTS },
     ghost ports: { PortsTell asks.items tellings.items journal.items },
 }
 

@@ -1,6 +1,7 @@
 //! Whether anything is under way.
 ghost use Rattle.std.specs.Prelude.{◌≡◌, ◌≤◌, length, not};
 ghost use Rattle.std.specs.List.{list_all};
+ghost use Rattle.flat_model.specs.declared.limits.TheConstants.{MAX_REGS};
 ghost use Rattle.cache_unit.specs.State.{register_at};
 ghost use Rattle.station_parts.specs.Rest.{is_at_rest};
 ghost use Rattle.station_parts.specs.Words.{cache_in};
@@ -28,7 +29,7 @@ fn are_free<const WAYS: usize, const WORDS: usize, const REGS: usize, const DEPT
     unit: &CacheUnit<WAYS, WORDS, REGS, DEPTH>,
 ) -> bool
     requires number { length unit.now.cache.registers ≡ REGS }
-    requires few { REGS ≤ 16 }
+    requires few { REGS ≤ MAX_REGS }
     ensures { result ≡ list_all (λ r. not r.valid) unit.now.cache.registers }
 {
     for slot in 0..REGS as u32 {

@@ -1,6 +1,7 @@
 -- What is written for a line.
 use Rattle.std.specs.Prelude.{ℕ, Bool, if◌then◌else◌, Option, Some, None, List, [], ◌∷◌, ◌++◌, codes, decimal}
 use Rattle.std.specs.List.{flat_map, range_with_len}
+use Rattle.flat_model.specs.declared.limits.TheConstants.{MAX_BLOCK_WORDS}
 use Rattle.flat_model.specs.declared.Word.{Word}
 use Rattle.flat_model.specs.declared.Answer.{Answer}
 use Rattle.flat_model.specs.declared.Answer.TheVariants.{Accepted, Moved, Value, Nothing, Refused}
@@ -59,8 +60,7 @@ head_text r =
 
 abbrev pub register_text_from : MachineState → ℕ → Option RegisterView → List ℕ
 register_text_from s slot None = codes "none"
--- a block has at most 16 words
-register_text_from s slot (Some r) = head_text r ++ flat_map (field_text_at s slot) (range_with_len 0 16)
+register_text_from s slot (Some r) = head_text r ++ flat_map (field_text_at s slot) (range_with_len 0 MAX_BLOCK_WORDS)
 
 -- a register and each word of its block
 unfoldable pub register_text : MachineState → ℕ → List ℕ

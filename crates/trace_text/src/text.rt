@@ -2,10 +2,11 @@
 ghost use Rattle.std.specs.Prelude.{◌≡◌, ℕ, ◌+◌, ◌≤◌, ◌<◌, ◌++◌, ◌∷◌, [], List, Option, length, take};
 ghost use Rattle.trace_text.specs.declared.fault.TheConstants.{MAX_PAIR};
 ghost use Rattle.std.specs.List.{flat_map, range_with_len};
+ghost use Rattle.flat_model.specs.declared.limits.TheConstants.{MAX_BLOCK_WORDS};
 ghost use Rattle.trace_text.specs.Texts.{answer_text as text_of_answer, mark_text, marks_text, held_text, field_text, head_text, register_text as text_of_register, bank_text, settled_text, waiting_text, field_text_at};
 
 use crate::fault::MAX_PAIR;
-use flat_model::{Answer, Word};
+use flat_model::{Answer, MAX_BLOCK_WORDS, Word};
 use machine_core::AnyMachine;
 use miss_registers::{FieldView, RegisterView};
 use std::marker::Model;
@@ -182,10 +183,10 @@ impl LineText {
     fn push_fields<M: AnyMachine>(&mut self, machine: &M, slot: u32)
         requires { length self.old + 640 ≤ MAX_PAIR }
         ensures text { self.new
-            ≡ self.old ++ flat_map (field_text_at (M.state machine.now) slot) (range_with_len 0 16) }
+            ≡ self.old ++ flat_map (field_text_at (M.state machine.now) slot) (range_with_len 0 MAX_BLOCK_WORDS) }
         ensures len { length self.new ≤ length self.old + 640 }
     {
-        for i in 0..16 {
+        for i in 0..MAX_BLOCK_WORDS as u32 {
             self.push_field_at(machine, slot, i);
         }
     }

@@ -1,5 +1,6 @@
 -- The write queue, and what stands in it for one word.
 use Rattle.std.specs.Prelude.{ℕ, ◌≤◌, Bool, ◌&&◌, nat_le, if◌then◌else◌, ◌==◌, List, [], ◌∷◌, length}
+use Rattle.flat_model.specs.declared.limits.TheConstants.{MAX_WRITE_QUEUE}
 use Rattle.flat_model.specs.declared.Word.{Word}
 use Rattle.flat_model.specs.declared.Lanes.{Lanes}
 use Rattle.flat_model.specs.Words.{zero_word, no_lanes, joined, merged}
@@ -16,12 +17,12 @@ queue entries limit = record { entries = entries; limit = limit }
 
 -- whether a queue may take at most so many
 abbrev pub is_limit : ℕ → Bool
-is_limit n = nat_le 1 n && nat_le n 256
+is_limit n = nat_le 1 n && nat_le n MAX_WRITE_QUEUE
 
 -- what is so of every write queue
 pub record IsQueue (q : Queue) : Type 0 where
   pub some : 1 ≤ q.limit
-  pub most : q.limit ≤ 256
+  pub most : q.limit ≤ MAX_WRITE_QUEUE
   pub within : length q.entries ≤ q.limit
 
 -- the entries' bytes for a word laid over it, in their order

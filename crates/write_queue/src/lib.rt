@@ -10,7 +10,7 @@ ghost use Rattle.write_queue.specs.Queue.{queue, is_limit, IsQueue};
 ghost use Rattle.write_queue.specs.Queue as spec;
 
 use circular_buffer::HeapCircularBuffer;
-use flat_model::{Lanes, MakeFault, ShapeField, Word, merge};
+use flat_model::{Lanes, MAX_WRITE_QUEUE, MakeFault, ShapeField, Word, merge};
 use std::alloc::Global;
 use std::marker::Model;
 
@@ -62,7 +62,7 @@ impl WriteQueue {
         ensures fault { IfErr result (λ e. e ≡ (if is_limit cap then MakeFault.OutOfMemory
             else MakeFault.BadShape ShapeField.WriteQueue)) }
     {
-        if cap < 1 || cap > 256 {
+        if cap < 1 || cap > MAX_WRITE_QUEUE {
             return Err(MakeFault::BadShape(ShapeField::WriteQueue));
         }
         let waiting = HeapCircularBuffer::with_capacity(alloc, cap as usize)?;

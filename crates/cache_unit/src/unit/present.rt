@@ -12,7 +12,7 @@ ghost use Rattle.cache_unit.specs.Parts.{finding_of, noted_for};
 
 use crate::{CacheUnit, Reply};
 use flat_model::{Answer, Cause, Lanes, Word, merge};
-use miss_registers::RegisterFile;
+use miss_registers::{MAX_WAITING, RegisterFile};
 
 /// Where a load finds its word.
 #[derive(Clone, Copy)]
@@ -105,7 +105,7 @@ impl<const WAYS: usize, const WORDS: usize, const REGS: usize, const DEPTH: usiz
                 code,
                 waiting,
             } => {
-                if waiting >= 4 {
+                if waiting >= MAX_WAITING as u32 {
                     return Answer::Refused(Cause::TargetsFull);
                 }
                 self.registers.await_word(slot, i, tag, held, code);

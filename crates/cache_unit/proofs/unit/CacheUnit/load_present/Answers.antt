@@ -85,8 +85,8 @@ returns-in-Here-clause-unit g c =
     let e = ap (loaded now c.args.tag c.args.i buffer) (sym here) ∙ ap (load_present now c.args.tag c.args.block c.args.i) (sym not_full) in
     rw c.push.ensures.items (cache_by z now _ _ (λ y k. load_present k c.args.tag c.args.block c.args.i (targets_full k c.args.i (found k c.args.block c.args.i))) c.self.view_is e)
 
-pub returns-else-waiting-ge4-clause-unit : goal.returns-else-waiting-ge4-clause-unit
-returns-else-waiting-ge4-clause-unit g c =
+pub returns-else-waiting-clause-unit : goal.returns-else-waiting-clause-unit
+returns-else-waiting-clause-unit g c =
     let s = c.self.inside in
     let u = c.args.self.now in
     let z = sizes_of g.row.WAYS g.row.WORDS g.row.REGS g.row.DEPTH s.shape in

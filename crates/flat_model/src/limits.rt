@@ -1,0 +1,32 @@
+//! How large the numbers of a machine may be. The least is 1 for each but the two queues, which take a
+//! whole block.
+
+/// Words of a block.
+pub const MAX_BLOCK_WORDS: usize = 16;
+
+/// Ways of a set.
+pub const MAX_WAYS: usize = 8;
+
+/// Registers.
+pub const MAX_REGS: usize = 16;
+
+/// Places of the input stack.
+pub const MAX_DEPTH: usize = 16;
+
+/// Words of memory.
+pub const MAX_WORDS: u32 = 1_048_576;
+
+/// Sets of the cache.
+pub const MAX_SETS: u32 = 1024;
+
+/// Banks of memory.
+pub const MAX_BANKS: u32 = 16;
+
+/// Commands that wait at a bank.
+pub const MAX_BANK_QUEUE: u32 = 64;
+
+/// Words that wait in the write queue.
+pub const MAX_WRITE_QUEUE: u32 = 256;
+
+/// Loads that are awaited and ready together.
+pub const MAX_REPLIES: u32 = 64;
