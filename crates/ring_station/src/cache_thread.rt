@@ -60,8 +60,10 @@ fn take_turn<G: Gate, const WAYS: usize, const WORDS: usize, const REGS: usize, 
     if !gate.may(Actor::Cache) {
         return Turn::Held;
     }
-    let source = round.next();
-    if cache.step(source) != Stepped::Did {
+    let source = round.source();
+    let did = cache.step(source) == Stepped::Did;
+    round.go_on(did);
+    if !did {
         return Turn::Idle;
     }
     if is_ask(source) && has_just_ended(cache) {

@@ -26,9 +26,9 @@ const CACHE_TURNS_AWAKE: u64 = 1_024;
 
 // Ports share so many turns between two sleeps: the more ports there are, the sooner each sleeps,
 // since the cache side then serves the others, and there are fewer threads on the processors.
-const TURNS_A_NAP_OF_ALL_PORTS: u64 = 768;
+const TURNS_A_NAP_OF_ALL_PORTS: u64 = 512;
 
-const FEWEST_TURNS_A_NAP: u64 = 64;
+const FEWEST_TURNS_A_NAP: u64 = 32;
 
 // A thread that the gate holds waits for no other one, so its turns go by fast. It leaves its
 // processor at one in so many of them, and sleeps at one in so many.
