@@ -18,7 +18,7 @@ use std::marker::Model;
 pub const MAX_ANSWERS: usize = 256;
 
 // Room for the answer of one more serve.
-const ANSWER_PLACES: usize = 257;
+const ANSWER_PLACES: usize = MAX_ANSWERS + 1;
 
 /// A bank: its words, the commands that wait, and the answers that nobody has taken.
 #[derive(Drop)]

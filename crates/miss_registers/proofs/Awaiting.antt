@@ -1,16 +1,16 @@
 -- How many loads wait, after each step.
-use Rattle.std.proofs.Common.{◌≡◌, ℕ, suc, zero, ◌+◌, ◌*◌, ◌<◌, ◌≤◌, Bool, true, false, cond, List, [], ◌∷◌, ◌++◌, length, set, get_or, refl, ap, sym, ◌∙◌, inl, inr, arith, length-append}
+use Rattle.std.proofs.Common.{◌≡◌, ℕ, suc, ◌+◌, ◌*◌, ◌<◌, ◌≤◌, true, false, cond, List, [], ◌∷◌, length, set, get_or, refl, ap, sym, ◌∙◌, inl, inr, arith, length-append}
 use Rattle.std.specs.List.{flat_map, count_by}
-use Rattle.std.proofs.lemmas.Bool.{cases_lt, cases_Bool}
-use Rattle.std.proofs.lemmas.List.{get_or_past, length-map, nil_from_length}
+use Rattle.std.proofs.lemmas.Bool.{cases_Bool}
+use Rattle.std.proofs.lemmas.List.{length-map, nil_from_length}
 use Rattle.std.proofs.lemmas.List.Sums.{sum_by-cons}
 use Rattle.flat_model.specs.declared.Lanes.{Lanes}
 use Rattle.flat_model.specs.Words.{joined}
 use Rattle.miss_registers.specs.declared.Owed.{Owed}
-use Rattle.miss_registers.specs.Registers.{Field, Register, free_register, clear_field, register_at, field_of, with_field, is_live, awaited, noted, marked, finished, made_obsolete, fresh, expects, tags_of, tags_of_field, waiting_tags, tag_waits, has_tag}
+use Rattle.miss_registers.specs.Registers.{Field, Register, free_register, clear_field, register_at, field_of, with_field, awaited, noted, marked, finished, made_obsolete, fresh, expects, tags_of, tags_of_field, waiting_tags, tag_waits, has_tag}
 use Rattle.miss_registers.specs.Whole.{IsWholeRegister, IsWhole}
 use Rattle.miss_registers.proofs.Words.{in_stack_there, expects-parts}
-use Rattle.miss_registers.proofs.Counts.{flat_map-set_same, count-with_register, waiting_tags-same, tags_of-fresh, tags_of-obsolete, count-awaited_file, count-finished_file}
+use Rattle.miss_registers.proofs.Counts.{flat_map-set_same, waiting_tags-same, tags_of-fresh, tags_of-obsolete, count-awaited_file, count-finished_file}
 
 -- ---- few wait
 

@@ -262,8 +262,7 @@ fn clear_codes(marks: &mut ArrayVec<Mark, MAX_BLOCK_WORDS>)
 fn clear_codes_of(marks: &mut [Mark])
     ensures { marks.new ≡ map without_mark_code marks.old }
 {
-    for k in 0..marks.len() {
-        let mark = &mut marks[k];
+    for mark in marks {
         mark.code = Lanes::none();
     }
 }

@@ -1,4 +1,4 @@
-use Rattle.std.proofs.Common.{◌≡◌, ◌≤◌, ◌==◌, ◌%◌, ◌<◌, length, sym, arith, le-ltb}
+use Rattle.std.proofs.Common.{◌≤◌, ◌==◌, ◌%◌, length, sym, arith, le-ltb}
 use Rattle.std.specs.List.{filter, range_with_len}
 use Rattle.cache_unit.proofs.SentReads.{length-filter-range}
 use Rattle.cache_unit.proofs.reads.is_short.Goals as goal

@@ -1,4 +1,4 @@
-use Rattle.std.proofs.Common.{◌≡◌, ◌%◌, ◌==◌, nat_lt, length, sym, ap, ◌∙◌, arith, below_more}
+use Rattle.std.proofs.Common.{◌%◌, ◌==◌, nat_lt, length, sym, ap, ◌∙◌, arith, below_more}
 use Rattle.std.specs.List.{filter, range_with_len}
 use Rattle.cache_unit.specs.Reads.{is_short}
 use Rattle.cache_unit.proofs.Ranges.{any_found, none_found}

@@ -1,4 +1,4 @@
-use Rattle.std.proofs.Common.{◌≡◌, ℕ, true, if◌then◌else◌, ap, sym, ◌∙◌, is_some, refl, rules}
+use Rattle.std.proofs.Common.{◌≡◌, ℕ, if◌then◌else◌, ap, sym, ◌∙◌, is_some, refl, rules}
 use Rattle.cache_unit.specs.declared.Lookup.{Lookup}
 use Rattle.cache_unit.specs.declared.Lookup.TheVariants.{Hit, Join, Miss}
 use Rattle.cache_unit.specs.declared.unit.present.Finding.{Finding}

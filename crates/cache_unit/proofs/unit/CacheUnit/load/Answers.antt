@@ -1,9 +1,8 @@
 use Rattle.std.proofs.Common.{◌≡◌, ◌<◌, ◌==◌, ℕ, [], Some, None, length, refl, ap, ap₂, sym, ◌∙◌, subst, rules, Bool}
 use Rattle.std.specs.List.{list_any}
 use Rattle.memory_banks.specs.Banks.{HasSent}
-use Rattle.cache_unit.specs.State.{UnitState, Cache, block_of, place_in, cell_of, tags}
-use Rattle.cache_unit.specs.Causes.{found}
-use Rattle.cache_unit.specs.Steps.{Stepped, fetched, fetches, loaded}
+use Rattle.cache_unit.specs.State.{UnitState, Cache, block_of, place_in, tags}
+use Rattle.cache_unit.specs.Steps.{Stepped, fetched, fetches}
 use Rattle.cache_unit.specs.Requests.{absence_cause, is_full_for, load_answer, load_present}
 use Rattle.cache_unit.proofs.SentReads.{HasSent-none}
 use Rattle.cache_unit.proofs.Requesting.{load_outside, load_in_use, load_owes_all, load_absent, load_decided, absent_not_full, less_from, kept_by, made_by, sent_by}

@@ -1,4 +1,4 @@
-use Rattle.std.proofs.Common.{◌≡◌, ℕ, ◌<◌, nat_le, ◌++◌, [], ◌∷◌, true, false, Bool, List, length, set, ap, sym, ◌∙◌, lit<, subst, arith}
+use Rattle.std.proofs.Common.{◌≡◌, ℕ, ◌<◌, nat_le, ◌++◌, [], ◌∷◌, false, List, length, set, ap, sym, ◌∙◌, lit<, subst, arith}
 use Rattle.std.proofs.lemmas.Bool.Decides.{nat_tests}
 use Rattle.flat_model.specs.declared.Word.{Word}
 use Rattle.flat_model.specs.declared.Lanes.{Lanes}
@@ -12,7 +12,7 @@ use Rattle.cache_unit.specs.Causes.{Found, Here, Coming, found, is_in_use, targe
 use Rattle.cache_unit.specs.Steps.{loaded}
 use Rattle.cache_unit.specs.Parts.{finding_of}
 use Rattle.cache_unit.specs.Shown.{sizes_of, as_cache}
-use Rattle.cache_unit.specs.Requests.{load_answer, load_present}
+use Rattle.cache_unit.specs.Requests.{load_present}
 use Rattle.cache_unit.proofs.Requesting.{awaited_by_four, awaited_full}
 use Rattle.cache_unit.proofs.Stepping.{cache_by, IsSound-ready}
 use Rattle.cache_unit.proofs.Tags.{owes-added, owing-push, owing-awaited, not_waiting}

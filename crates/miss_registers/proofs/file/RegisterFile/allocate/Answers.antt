@@ -1,4 +1,4 @@
-use Rattle.std.proofs.Common.{◌≡◌, ◌∙◌, sym, arith}
+use Rattle.std.proofs.Common.{◌≡◌, ◌∙◌, sym}
 use Rattle.miss_registers.proofs.Whole.{allocated-whole}
 use Rattle.miss_registers.proofs.Awaiting.{awaiting-allocated}
 use Rattle.miss_registers.proofs.file.RegisterFile.allocate.Goals as goal

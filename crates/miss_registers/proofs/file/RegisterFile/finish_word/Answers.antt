@@ -1,4 +1,4 @@
-use Rattle.std.proofs.Common.{◌≡◌, ◌<◌, length, ◌∙◌, ap, sym, refl, arith}
+use Rattle.std.proofs.Common.{◌≡◌, ◌<◌, length, ◌∙◌, ap, refl, arith}
 use Rattle.std.proofs.lemmas.List.{get_or_default}
 use Rattle.miss_registers.specs.Registers.{free_register, register_at, field_at, waiting_tags}
 use Rattle.miss_registers.proofs.Words.{in_stack_there}
