@@ -21,7 +21,7 @@ pub(crate) fn run_bank<R: Clock, G: Gate>(
 ) -> Result<(), RunFault>
     ensures { bank_id bank.new ≡ bank_id bank.old }
 {
-    let mut idling = Idling::of_bank();
+    let mut idling = Idling::of_side();
     for _turn in 0..turns {
         // The flag is read before the step, since a command that is sent before it is set is seen
         // by a step after that.

@@ -5,30 +5,24 @@ use std::rt::Clock;
 use std::time::Duration;
 use std::{hint, thread};
 
-// There may be fewer processors than threads. So one in so many turns in which a port or a bank found
-// nothing leaves the processor to another thread. The others are short, since a far end may be about
-// to push or pop, and a thread that leaves its processor is long in coming back.
-const TURNS_A_YIELD: u64 = 16;
+// There may be fewer processors than threads, and mostly each thread waits for another one. So one in
+// so many turns in which a port or a bank found nothing leaves the processor to another thread. The
+// others are short, since a far end may be about to push or pop.
+const TURNS_A_YIELD: u64 = 2;
 
 // The cache side, for which all others wait, leaves its processor at one in so many such turns.
-const CACHE_TURNS_A_YIELD: u64 = 32;
+const CACHE_TURNS_A_YIELD: u64 = 8;
 
 // So many such turns in a row the cache side makes without a pause: in most of a round there is
 // nothing to do at a source, and something at a later one.
 const CACHE_TURNS_AT_ONCE: u64 = 8;
 
 // In one of so many such turns a thread sleeps: so it leaves the processors to those that have
-// something to do, and many turns are over soon all the same.
+// something to do, and many turns are over soon all the same. It is one that would be a yield.
 const TURNS_A_NAP: u64 = 256;
 
 // The cache side makes so many turns before the first that may be a sleep.
 const CACHE_TURNS_AWAKE: u64 = 1_024;
-
-// Ports share so many turns between two sleeps: the more ports there are, the sooner each sleeps,
-// since the cache side then serves the others, and there are fewer threads on the processors.
-const TURNS_A_NAP_OF_ALL_PORTS: u64 = 512;
-
-const FEWEST_TURNS_A_NAP: u64 = 32;
 
 // A thread that the gate holds waits for no other one, so its turns go by fast. It leaves its
 // processor at one in so many of them, and sleeps at one in so many.
@@ -63,11 +57,9 @@ pub(crate) struct Idling {
     // So many of these at first are without a pause.
     at_once: u64,
     turns_a_yield: u64,
-    turns_a_nap: u64,
     // Turns before the first that may be a sleep.
     awake: u64,
     ghost yields: { 0 < turns_a_yield },
-    ghost naps: { 0 < turns_a_nap },
 }
 
 impl Idling {
@@ -78,31 +70,17 @@ impl Idling {
             idle: 0,
             at_once: CACHE_TURNS_AT_ONCE,
             turns_a_yield: CACHE_TURNS_A_YIELD,
-            turns_a_nap: TURNS_A_NAP,
             awake: CACHE_TURNS_AWAKE,
         }
     }
 
-    /// Before the first turn of one of so many ports.
-    pub(crate) fn of_port(ports: u32) -> Idling {
-        let share = TURNS_A_NAP_OF_ALL_PORTS / u64::from(ports.max(1));
-        Idling::sleeping_at(share.max(FEWEST_TURNS_A_NAP).min(TURNS_A_NAP))
-    }
-
-    /// Before the first turn of a bank.
-    pub(crate) fn of_bank() -> Idling {
-        Idling::sleeping_at(TURNS_A_NAP)
-    }
-
-    fn sleeping_at(turns_a_nap: u64) -> Idling
-        requires { 0 < turns_a_nap }
-    {
+    /// Before the first turn of a port or a bank.
+    pub(crate) fn of_side() -> Idling {
         Idling {
             held: 0,
             idle: 0,
             at_once: 0,
             turns_a_yield: TURNS_A_YIELD,
-            turns_a_nap,
             awake: 0,
         }
     }
@@ -130,12 +108,15 @@ impl Idling {
 
     fn end_idle<R: Clock>(&mut self, rt: &R) {
         self.idle = self.idle.saturating_add(1);
-        if self.idle > self.awake && self.idle % self.turns_a_nap == 0 {
-            thread::sleep(rt, nap((self.idle - self.awake) / self.turns_a_nap));
-        } else if self.idle % self.turns_a_yield == 0 {
-            thread::yield_now();
-        } else if self.idle > self.at_once {
+        if self.idle <= self.at_once {
+            return;
+        }
+        if self.idle % self.turns_a_yield != 0 {
             hint::spin_loop();
+        } else if self.idle > self.awake && self.idle % TURNS_A_NAP == 0 {
+            thread::sleep(rt, nap((self.idle - self.awake) / TURNS_A_NAP));
+        } else {
+            thread::yield_now();
         }
     }
 }

@@ -14,13 +14,12 @@ use station_parts::{Ask, Port, Told};
 use std::alloc::AllocError;
 use std::rt::Clock;
 
-/// Runs a script in one of so many ports: in each turn the port offers an ask, or takes a telling,
+/// Runs a script in a port: in each turn the port offers an ask, or takes a telling,
 /// which goes into the list.
 pub(crate) fn run_port<R: Clock, G: Gate>(
     rt: &R,
     gate: &G,
     number: u32,
-    ports: u32,
     script: &[Ask],
     turns: u64,
     port: &mut Port,
@@ -32,7 +31,7 @@ pub(crate) fn run_port<R: Clock, G: Gate>(
     ensures ran { OnOk result (HasRun script.now port.old port.new list.new.items) }
 {
     let mut talk = Talk::new();
-    let mut idling = Idling::of_port(ports);
+    let mut idling = Idling::of_side();
     for _turn in 0..turns {
         let turn = take_turn(gate, number, script, &mut talk, port, list)?;
         if talk.is_over() {

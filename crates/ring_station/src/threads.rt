@@ -114,7 +114,6 @@ fn run_ports<R: Clock + Threads + Sync, G: Gate>(
     requires lists { All (λ r. r.list.items ≡ []) ports.old }
     ensures { EachRanScript scripts.now ports.old ports.new }
 {
-    let count = ports.len() as u32;
     let threads = ports.len().max(1);
     for_each_mut(
         rt,
@@ -125,7 +124,7 @@ fn run_ports<R: Clock + Threads + Sync, G: Gate>(
                 × (run.old.list.items ≡ []) }
             ensures { (s : Vec Ask)
                 → RanScript (slice_index_or scripts.entry.now p s).items run.old run.new }
-        { run_one(rt, gate, p as u32, count, scripts[p].as_slice(), turns, run) },
+        { run_one(rt, gate, p as u32, scripts[p].as_slice(), turns, run) },
     );
 }
 
@@ -133,7 +132,6 @@ fn run_one<R: Clock, G: Gate>(
     rt: &R,
     gate: &G,
     number: u32,
-    ports: u32,
     script: &[Ask],
     turns: u64,
     run: &mut PortRun,
@@ -145,7 +143,6 @@ fn run_one<R: Clock, G: Gate>(
         rt,
         gate,
         number,
-        ports,
         script,
         turns,
         &mut run.port,

@@ -86,21 +86,6 @@ impl RandomGate {
         Ok(RandomGate { holds })
     }
 
-    /// A gate that lets all go, but makes a port wait for so many turns before it offers an ask again.
-    pub fn open(alloc: Global, patience: u32) -> Result<RandomGate, AllocError> {
-        let mut holds = Vec::with_capacity(alloc, ACTORS as usize)?;
-        for _actor in 0..ACTORS {
-            holds.push(Hold {
-                openness: CHANCES,
-                longest: 1,
-                patience,
-                state: AtomicU32::new(0),
-                left: AtomicU32::new(0),
-            })?;
-        }
-        Ok(RandomGate { holds })
-    }
-
     fn hold(&self, place: u32) -> Option<&Hold> {
         self.holds.get(place as usize)
     }

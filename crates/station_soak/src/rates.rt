@@ -5,6 +5,7 @@ ghost use Rattle.std.specs.Prelude.{◌≡◌, ◌≤◌, IfOk, length, vec_len}
 mod by_core;
 mod by_hand;
 mod on_threads;
+mod patience;
 
 use crate::fault::SoakFault;
 use crate::rates::by_core::ask_core;
@@ -15,13 +16,27 @@ use rand_pcg::Pcg32;
 use ring_station::Ask;
 use station_checks::{BLOCK_WORDS, MOST_PORTS, Plan, WORDS, ask_by, bytes_of, per_second};
 use std::alloc::{AllocError, Global};
+use std::fmt;
+use std::fmt::{Display, Formatter};
 use std::io::Write;
 use std::rt::Clock;
 use std::thread::Threads;
 use std::time::{Duration, Instant};
 
-// Each rate is the best of so many runs.
-const RUNS: u32 = 5;
+// Each rate is the median of so many runs.
+const RUNS: u32 = 9;
+
+// Each is run once before any of them is run again, so that a machine that is slow for a while is slow
+// for all.
+const SERVERS: [Server; 7] = [
+    Server::Core,
+    Server::Hand,
+    Server::Threads { ports: 1 },
+    Server::Threads { ports: 2 },
+    Server::Threads { ports: 4 },
+    Server::Threads { ports: 8 },
+    Server::Threads { ports: 16 },
+];
 
 /// Who serves the requests.
 #[derive(Clone, Copy, PartialEq, Eq, Debug)]
@@ -34,34 +49,83 @@ pub enum Server {
     Threads { ports: u32 },
 }
 
+impl Display for Server {
+    fn fmt<W: fmt::Write>(&self, f: &mut Formatter<W>) -> fmt::Result {
+        match *self {
+            Server::Core => f.write_str("core"),
+            Server::Hand => f.write_str("station by hand"),
+            Server::Threads { ports: 1 } => f.write_str("station on threads, 1 port"),
+            Server::Threads { ports } => write!(f, "station on threads, {ports} ports"),
+        }
+    }
+}
+
+/// A server, and how long it took in each of its runs.
+#[derive(Drop)]
+struct Timing {
+    server: Server,
+    times: Vec<Duration>,
+}
+
+impl Timing {
+    // Every server, before its first run.
+    fn of_servers(alloc: Global) -> Result<Vec<Timing>, AllocError> {
+        let mut timings = Vec::new(alloc);
+        for server in SERVERS {
+            timings.push(Timing {
+                server,
+                times: Vec::new(alloc),
+            })?;
+        }
+        Ok(timings)
+    }
+
+    fn note(&mut self, time: Duration) -> Result<(), AllocError> {
+        self.times.push(time)?;
+        Ok(())
+    }
+
+    // The time in the middle.
+    fn median(&mut self) -> Duration {
+        self.times.sort_unstable();
+        let middle = self.times.len() / 2;
+        self.times.get(middle).copied().unwrap_or(Duration::MAX)
+    }
+}
+
 /// Tells how many asks a second each server serves. Says whether each audit was clean.
 pub fn tell_rates<R: AllocGlobal + Clock + Threads + Sync, W: Write>(
     rt: &R,
     out: &mut W,
     plan: &Plan,
 ) -> Result<bool, SoakFault> {
-    let requests = requests(rt.alloc(), plan)?;
-    let count = requests.len() as u64;
-    writeln!(out, "{count} requests, each rate the best of {RUNS} runs")?;
+    let alloc = rt.alloc();
+    let requests = requests(alloc, plan)?;
+    let mut timings = Timing::of_servers(alloc)?;
     let mut all_good = true;
-    let (took, is_good) = best_time(rt, Server::Core, &requests)?;
-    all_good &= is_good;
-    writeln!(out, "core: {} asks per second", per_second(count, took))?;
-    let (took, is_good) = best_time(rt, Server::Hand, &requests)?;
-    all_good &= is_good;
-    writeln!(
-        out,
-        "station by hand: {} asks per second",
-        per_second(count, took)
-    )?;
-    for ports in [1, 2, 4, 8, 16] {
-        let (took, is_good) = best_time(rt, Server::Threads { ports }, &requests)?;
-        all_good &= is_good;
-        let rate = per_second(count, took);
-        writeln!(
-            out,
-            "station on threads, {ports} ports: {rate} asks per second"
-        )?;
+    for _run in 0..RUNS {
+        all_good &= run_each(rt, &mut timings, &requests)?;
+    }
+    let count = requests.len() as u64;
+    writeln!(out, "{count} requests, each rate the median of {RUNS} runs")?;
+    for timing in &mut timings {
+        let rate = per_second(count, timing.median());
+        writeln!(out, "{}: {rate} asks per second", timing.server)?;
+    }
+    Ok(all_good)
+}
+
+// Runs each server once. Says whether all went well.
+fn run_each<R: AllocGlobal + Clock + Threads + Sync>(
+    rt: &R,
+    timings: &mut [Timing],
+    requests: &[Ask],
+) -> Result<bool, SoakFault> {
+    let mut all_good = true;
+    for timing in timings {
+        let begun = Instant::now(rt)?;
+        all_good &= serve(rt, timing.server, requests)?;
+        timing.note(begun.elapsed(rt)?)?;
     }
     Ok(all_good)
 }
@@ -74,22 +138,6 @@ pub fn serve_once<R: AllocGlobal + Clock + Threads + Sync>(
 ) -> Result<bool, SoakFault> {
     let requests = requests(rt.alloc(), plan)?;
     serve(rt, server, &requests)
-}
-
-// The shortest time of some runs, and whether all went well.
-fn best_time<R: AllocGlobal + Clock + Threads + Sync>(
-    rt: &R,
-    server: Server,
-    requests: &[Ask],
-) -> Result<(Duration, bool), SoakFault> {
-    let mut best = Duration::MAX;
-    let mut all_good = true;
-    for _run in 0..RUNS {
-        let begun = Instant::now(rt)?;
-        all_good &= serve(rt, server, requests)?;
-        best = best.min(begun.elapsed(rt)?);
-    }
-    Ok((best, all_good))
 }
 
 fn serve<R: AllocGlobal + Clock + Threads + Sync>(

@@ -3,7 +3,7 @@
 ghost use Rattle.std.specs.Prelude.{◌≡◌, length};
 
 use crate::fault::SoakFault;
-use crate::random_gate::RandomGate;
+use crate::rates::patience::Patience;
 use ring_station::{Ask, Audit, Station, audit, run_threads, station};
 use station_checks::{BLOCK_WORDS, DEPTH, ENTRIES, Plan, REGS, WAYS, shape};
 use std::rt::Clock;
@@ -13,7 +13,7 @@ use std::thread::Threads;
 const TURNS: u64 = 100_000_000;
 
 // Turns that a port lets go by before it offers an ask again: so few of them come too early.
-const PATIENCE: u32 = 200;
+const PATIENCE: u32 = 100;
 
 /// Runs the scripts to their end. Says whether the audit is clean.
 pub fn ask_on_threads<R: AllocGlobal + Clock + Threads + Sync>(
@@ -24,7 +24,7 @@ pub fn ask_on_threads<R: AllocGlobal + Clock + Threads + Sync>(
     requires { length scripts.now ≡ plan.now.ports }
 {
     let alloc = rt.alloc();
-    let gate = RandomGate::open(alloc, PATIENCE)?;
+    let gate = Patience::new(alloc, PATIENCE)?;
     let mut station: Station<WAYS, BLOCK_WORDS, REGS, DEPTH> = station(
         alloc,
         shape(),
