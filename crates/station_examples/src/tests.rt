@@ -3,8 +3,9 @@
 ghost use Rattle.std.specs.Prelude.{◌≡◌, vec_len, IfOk};
 
 use flat_model::{Shape, Word};
-use ring_station::{Actor, Ask, CacheSide, Gate, Station, Told};
+use ring_station::{Actor, Ask, CacheSide, Gate, Source, Station, Stepped, Told};
 use std::alloc::{AllocError, Global};
+use std::process::Abort;
 
 mod at_once;
 mod audited;
@@ -47,6 +48,13 @@ fn word(b0: u8, b1: u8, b2: u8, b3: u8) -> Word {
 
 fn load(tag: u8, at: u32) -> Ask {
     Ask::Load { tag, at }
+}
+
+// Asserts what the cache side's next steps find.
+fn steps(rt: &impl Abort, cache: &mut SmallCache, wanted: &[(Source, Stepped)]) {
+    for (source, stepped) in wanted {
+        assert_eq!(rt; cache.step(*source), *stepped);
+    }
 }
 
 // Lets every step be made.

@@ -9,8 +9,6 @@
 mod judge;
 mod load;
 mod own_order;
-#[cfg(test)]
-mod tests;
 
 pub use judge::{Verdict, judge_line};
 pub use load::first_load;

@@ -57,10 +57,6 @@ impl Gate for HeldBank {
     }
 }
 
-fn has(list: &[Told], wanted: Told) -> bool {
-    list.iter().any(|told| *told == wanted)
-}
-
 fn count_of(list: &[Told], wanted: Told) -> usize {
     list.iter().filter(|told| **told == wanted).count()
 }
@@ -88,32 +84,19 @@ pub(crate) fn two_scripts(alloc: Global) -> Result<Vec<Vec<Ask>>, AllocError>
 pub(crate) fn both_are_told(rt: &impl Abort, lists: &[Vec<Told>]) {
     assert_eq!(rt; lists.len(), 2);
     assert_eq!(rt; lists[0].len(), 6);
-    assert_eq!(rt; count_of(&lists[0], Told::Accepted), 4);
-    assert!(rt;
-        has(
-            &lists[0],
-            Told::Value {
-                tag: 1,
-                word: zeros()
-            }
-        )
-    );
-    assert!(rt;
-        has(
-            &lists[0],
-            Told::Value {
-                tag: 2,
-                word: STORED
-            }
-        )
-    );
-    let second = [
-        Told::Accepted,
-        Told::Value {
-            tag: 1,
-            word: zeros(),
-        },
-    ];
+    let first_value = Told::Value {
+        tag: 1,
+        word: zeros(),
+    };
+    let stored_value = Told::Value {
+        tag: 2,
+        word: STORED,
+    };
+    let counts = [(Told::Accepted, 4), (first_value, 1), (stored_value, 1)];
+    for (told, count) in counts {
+        assert_eq!(rt; count_of(&lists[0], told), count);
+    }
+    let second = [Told::Accepted, first_value];
     assert_eq!(rt; lists[1].as_slice(), second.as_slice());
 }
 

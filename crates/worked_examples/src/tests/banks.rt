@@ -3,7 +3,8 @@
 use super::fixture::small_machine;
 use super::play::{ARRIVED, plays};
 use flat_model::{Lanes, Word};
-use machine_core::{BankAnswer, Command};
+use machine_core::{BankAnswer, Command, Machine};
+use std::process::Abort;
 use std::test::Fail;
 
 /// The word of the image at an address: its first byte is its number.
@@ -26,13 +27,33 @@ fn answer(i: u32, word: Word) -> BankAnswer {
     BankAnswer { slot: 0, i, word }
 }
 
+/// Asserts what waits in these banks at these places.
+fn commands_stand<R: Abort>(
+    rt: &R,
+    machine: &Machine<1, 4, 2, 2>,
+    wanted: &[(u32, u32, Option<Command>)],
+) {
+    for (bank, place, command) in wanted {
+        assert_eq!(rt; machine.command_at(*bank, *place), *command);
+    }
+}
+
+/// Asserts which answers stand in these banks at these places.
+fn answers_stand<R: Abort>(
+    rt: &R,
+    machine: &Machine<1, 4, 2, 2>,
+    wanted: &[(u32, u32, Option<BankAnswer>)],
+) {
+    for (bank, place, answer) in wanted {
+        assert_eq!(rt; machine.answer_at(*bank, *place), *answer);
+    }
+}
+
 #[test]
 fn nothing_waits_at_first(rt: HostRuntime) -> Result<(), Fail> {
     let machine = small_machine(rt.alloc())?;
-    for bank in 0..3u32 {
-        assert_eq!(rt; machine.command_at(bank, 0), None);
-        assert_eq!(rt; machine.answer_at(bank, 0), None);
-    }
+    commands_stand(&rt, &machine, &[(0, 0, None), (1, 0, None), (2, 0, None)]);
+    answers_stand(&rt, &machine, &[(0, 0, None), (1, 0, None), (2, 0, None)]);
     Ok(())
 }
 
@@ -41,15 +62,18 @@ fn nothing_waits_at_first(rt: HostRuntime) -> Result<(), Fail> {
 fn reads_of_a_miss_wait_in_order(rt: HostRuntime) -> Result<(), Fail> {
     let mut machine = small_machine(rt.alloc())?;
     plays(&rt, rt.alloc(), &mut machine, &["load 1 5 -> accepted\n"])?;
-    assert_eq!(rt; machine.command_at(0, 0), Some(read(0, 2)));
-    assert_eq!(rt; machine.command_at(0, 1), Some(read(2, 3)));
-    assert_eq!(rt; machine.command_at(1, 0), Some(read(1, 2)));
-    assert_eq!(rt; machine.command_at(1, 1), Some(read(3, 3)));
     // Behind the last one nothing waits, and a third bank isn't there.
-    assert_eq!(rt; machine.command_at(0, 2), None);
-    assert_eq!(rt; machine.command_at(1, u32::MAX), None);
-    assert_eq!(rt; machine.command_at(2, 0), None);
-    assert_eq!(rt; machine.command_at(u32::MAX, 0), None);
+    let wanted = [
+        (0, 0, Some(read(0, 2))),
+        (0, 1, Some(read(2, 3))),
+        (0, 2, None),
+        (1, 0, Some(read(1, 2))),
+        (1, 1, Some(read(3, 3))),
+        (1, u32::MAX, None),
+        (2, 0, None),
+        (u32::MAX, 0, None),
+    ];
+    commands_stand(&rt, &machine, &wanted);
     Ok(())
 }
 
@@ -60,46 +84,46 @@ fn served_reads_stand_as_answers(rt: HostRuntime) -> Result<(), Fail> {
 serve 1 -> moved
 ";
     plays(&rt, rt.alloc(), &mut machine, &[served])?;
-    assert_eq!(rt; machine.command_at(1, 0), Some(read(3, 3)));
-    assert_eq!(rt; machine.command_at(1, 1), None);
-    assert_eq!(rt; machine.answer_at(1, 0), Some(answer(1, word(5))));
-    assert_eq!(rt; machine.answer_at(1, 1), None);
-    assert_eq!(rt; machine.answer_at(0, 0), None);
+    commands_stand(&rt, &machine, &[(1, 0, Some(read(3, 3))), (1, 1, None)]);
+    let first = answer(1, word(5));
+    answers_stand(
+        &rt,
+        &machine,
+        &[(1, 0, Some(first)), (1, 1, None), (0, 0, None)],
+    );
     plays(&rt, rt.alloc(), &mut machine, &["serve 1 -> moved\n"])?;
-    assert_eq!(rt; machine.command_at(1, 0), None);
-    assert_eq!(rt; machine.answer_at(1, 0), Some(answer(1, word(5))));
-    assert_eq!(rt; machine.answer_at(1, 1), Some(answer(3, word(7))));
-    assert_eq!(rt; machine.answer_at(1, 2), None);
-    assert_eq!(rt; machine.answer_at(2, 0), None);
-    assert_eq!(rt; machine.answer_at(u32::MAX, u32::MAX), None);
+    commands_stand(&rt, &machine, &[(1, 0, None)]);
+    let both = [
+        (1, 0, Some(first)),
+        (1, 1, Some(answer(3, word(7)))),
+        (1, 2, None),
+        (2, 0, None),
+        (u32::MAX, u32::MAX, None),
+    ];
+    answers_stand(&rt, &machine, &both);
     Ok(())
 }
 
-#[test]
-fn the_next_answer_stands_first_where_the_first_arrived(rt: HostRuntime) -> Result<(), Fail> {
+/// What stands in bank 1 behind its two answers, of which the one at this place has arrived.
+fn left_behind<R: Abort + AllocGlobal>(
+    rt: &R,
+    arrival: &str,
+    left: BankAnswer,
+) -> Result<(), Fail> {
     let lines = "load 1 5 -> accepted
 serve 1 -> moved
 serve 1 -> moved
 ";
     let mut machine = small_machine(rt.alloc())?;
-    plays(
-        &rt,
-        rt.alloc(),
-        &mut machine,
-        &[lines, "arrive 1 0 -> moved\n"],
-    )?;
-    assert_eq!(rt; machine.answer_at(1, 0), Some(answer(3, word(7))));
-    assert_eq!(rt; machine.answer_at(1, 1), None);
-    let mut machine = small_machine(rt.alloc())?;
-    plays(
-        &rt,
-        rt.alloc(),
-        &mut machine,
-        &[lines, "arrive 1 1 -> moved\n"],
-    )?;
-    assert_eq!(rt; machine.answer_at(1, 0), Some(answer(1, word(5))));
-    assert_eq!(rt; machine.answer_at(1, 1), None);
+    plays(rt, rt.alloc(), &mut machine, &[lines, arrival])?;
+    answers_stand(rt, &machine, &[(1, 0, Some(left)), (1, 1, None)]);
     Ok(())
+}
+
+#[test]
+fn the_next_answer_stands_first_where_the_first_arrived(rt: HostRuntime) -> Result<(), Fail> {
+    left_behind(&rt, "arrive 1 0 -> moved\n", answer(3, word(7)))?;
+    left_behind(&rt, "arrive 1 1 -> moved\n", answer(1, word(5)))
 }
 
 /// A dirty word of block 1 is drained while the reads of block 2, words 8 to 11, wait.
@@ -117,8 +141,13 @@ drain -> moved
         &mut machine,
         &["prefetch 4 -> accepted\n", ARRIVED, lines],
     )?;
-    assert_eq!(rt; machine.command_at(1, 0), Some(read(1, 4)));
-    assert_eq!(rt; machine.command_at(1, 1), Some(read(3, 5)));
+    let reads = [
+        (1, 0, Some(read(1, 4))),
+        (1, 1, Some(read(3, 5))),
+        (1, 3, None),
+        (0, 2, None),
+    ];
+    commands_stand(&rt, &machine, &reads);
     let Some(Command::Write { place, word, lanes }) = machine.command_at(1, 2) else {
         return Err(Fail::from("a write"));
     };
@@ -126,7 +155,5 @@ drain -> moved
     assert_eq!(rt; lanes, Lanes::LANE_1);
     // Only the byte in the lane counts.
     assert_eq!(rt; word.b1, 0xaa);
-    assert_eq!(rt; machine.command_at(1, 3), None);
-    assert_eq!(rt; machine.command_at(0, 2), None);
     Ok(())
 }

@@ -1,8 +1,10 @@
-//! What the examples share: a shape, an image, and the machine of the shape over it.
+//! What the examples share: shapes, images, machines, and the stored run.
 
 use flat_model::{MakeFault, Shape, Word};
 use machine_core::Machine;
 use std::alloc::{AllocError, Global};
+use std::test::Fail;
+use trace_text::Counts;
 
 /// The shape of most examples: 32 words, 2 sets, 2 banks, and queues of 4.
 pub const SMALL_SHAPE: Shape = Shape {
@@ -12,6 +14,52 @@ pub const SMALL_SHAPE: Shape = Shape {
     bank_queue: 4,
     write_queue: 4,
     replies: 4,
+};
+
+/// The program's own shape.
+pub const PROGRAM_SHAPE: Shape = Shape {
+    words: 64,
+    sets: 4,
+    banks: 4,
+    bank_queue: 8,
+    write_queue: 8,
+    replies: 8,
+};
+
+/// The trace of the stored run: a store comes between a load and its word.
+pub const STORED_INPUT: &str = "load 1 5
+store 5 1000 ff000000
+serve 1
+arrive 1 0
+process 0
+take 0
+load 2 5
+take 0
+reg 0
+settled
+";
+
+/// What the program's machine writes for [`STORED_INPUT`].
+pub const STORED_OUTPUT: &str = "load 1 5 -> accepted
+store 5 1000 ff000000 -> accepted
+serve 1 -> moved
+arrive 1 0 -> moved
+process 0 -> moved
+take 0 -> value 1 00000000
+load 2 5 -> accepted
+take 0 -> value 2 ff000000
+reg 0 -> V- 0000001 0002 01 [--- 0000 00000 0000 00000000] [--P 0000 00000 0000 00000000] [--- 0000 00000 0000 00000000] [--- 0000 00000 0000 00000000]
+settled -> no
+";
+
+/// What serving the stored run counts.
+pub const STORED_COUNTS: Counts = Counts {
+    lines: 10,
+    accepted: 3,
+    moved: 3,
+    values: 2,
+    nothing: 0,
+    refused: 0,
 };
 
 /// Words whose first byte is their number.
@@ -32,4 +80,10 @@ pub fn image(alloc: Global, words: u8) -> Result<Vec<Word>, AllocError> {
 pub fn small_machine(alloc: Global) -> Result<Machine<1, 4, 2, 2>, MakeFault> {
     let image = image(alloc, 32)?;
     Machine::new(alloc, SMALL_SHAPE, &image)
+}
+
+/// A machine of the program's default shape.
+pub fn default_machine(alloc: Global) -> Result<Machine<2, 4, 4, 4>, Fail> {
+    let image = vec![in alloc; Word::default(); 64]?;
+    Ok(Machine::new(alloc, PROGRAM_SHAPE, &image)?)
 }

@@ -4,7 +4,9 @@ use super::fixture::{SMALL_SHAPE, image, small_machine};
 use super::play::{ARRIVED, GOT, plays};
 use flat_model::{Answer, Cause, Event, Lanes, Shape, Word};
 use machine_core::Machine;
+use miss_registers::Owed;
 use std::alloc::{AllocError, Global};
+use std::process::Abort;
 use std::test::Fail;
 use trace_text::register_text;
 
@@ -19,6 +21,23 @@ fn machine_of<const WAYS: usize, const REGS: usize>(
 ) -> Result<Machine<WAYS, 4, REGS, 2>, Fail> {
     let image = image(alloc, 32)?;
     Ok(Machine::new(alloc, shape, &image)?)
+}
+
+/// Asserts that a new machine of the small shape answers the commands of these lines as they say.
+fn plays_anew<R: Abort + AllocGlobal>(rt: &R, pieces: &[&str]) -> Result<(), Fail> {
+    let mut machine = small_machine(rt.alloc())?;
+    plays(rt, rt.alloc(), &mut machine, pieces)
+}
+
+/// Asserts the text of the first register.
+fn first_register_reads<R: Abort>(
+    rt: &R,
+    machine: &Machine<1, 4, 2, 2>,
+    wanted: &str,
+) -> Result<(), Fail> {
+    let text = register_text(machine, 0);
+    assert_eq!(rt; std::str::from_utf8(text.as_bytes())?, wanted);
+    Ok(())
 }
 
 #[test]
@@ -41,10 +60,9 @@ process 0 -> moved
 take 0 -> value 1 05000000
 ";
 
-#[test]
-fn one_load(rt: HostRuntime) -> Result<(), Fail> {
-    let mut machine = small_machine(rt.alloc())?;
-    plays(&rt, rt.alloc(), &mut machine, &[ONE_LOAD])?;
+/// The events and answers of [`ONE_LOAD`], by one call, which either finds its memory or leaves the
+/// machine as it was.
+fn runs_one_load<R: Abort + AllocGlobal>(rt: &R) -> Result<(), Fail> {
     let events = [
         Event::Load { tag: 1, at: 5 },
         Event::Serve { bank: 1 },
@@ -63,7 +81,6 @@ fn one_load(rt: HostRuntime) -> Result<(), Fail> {
         Answer::Moved,
         value,
     ];
-    // By one call as well, which either finds its memory or leaves the machine as it was.
     let mut machine = small_machine(rt.alloc())?;
     let first: Result<Vec<Answer>, AllocError> = machine.run(rt.alloc(), &events);
     let answers = match first {
@@ -75,8 +92,13 @@ fn one_load(rt: HostRuntime) -> Result<(), Fail> {
 }
 
 #[test]
+fn one_load(rt: HostRuntime) -> Result<(), Fail> {
+    plays_anew(&rt, &[ONE_LOAD])?;
+    runs_one_load(&rt)
+}
+
+#[test]
 fn loads_answered_as_words_arrive(rt: HostRuntime) -> Result<(), Fail> {
-    let mut machine = small_machine(rt.alloc())?;
     let asked = "load 1 4 -> accepted
 load 2 5 -> accepted
 ";
@@ -86,12 +108,11 @@ arrive 0 0 -> moved
 process 0 -> moved
 take 0 -> value 1 04000000
 ";
-    plays(&rt, rt.alloc(), &mut machine, &[asked, GOT, taken])
+    plays_anew(&rt, &[asked, GOT, taken])
 }
 
 #[test]
 fn store_behind_a_waiting_load(rt: HostRuntime) -> Result<(), Fail> {
-    let mut machine = small_machine(rt.alloc())?;
     let asked = "load 1 5 -> accepted
 store 5 1000 ff000000 -> accepted
 ";
@@ -99,7 +120,7 @@ store 5 1000 ff000000 -> accepted
 load 2 5 -> accepted
 take 0 -> value 2 ff000000
 ";
-    plays(&rt, rt.alloc(), &mut machine, &[asked, GOT, taken])
+    plays_anew(&rt, &[asked, GOT, taken])
 }
 
 const PARTIAL_STORE: &str = "store 5 0100 00aa0000 -> accepted
@@ -110,11 +131,9 @@ load 1 5 -> accepted
 fn load_over_a_partial_store(rt: HostRuntime) -> Result<(), Fail> {
     let mut machine = small_machine(rt.alloc())?;
     plays(&rt, rt.alloc(), &mut machine, &[PARTIAL_STORE])?;
-    let text = register_text(&machine, 0);
-    assert_eq!(rt;
-        std::str::from_utf8(text.as_bytes())?,
-        "V- 0000001 0001 00 [--- 0000 00000 0000 00000000] [1-- 0100 00001 0100 00aa0000] [--- 0000 00000 0000 00000000] [--- 0000 00000 0000 00000000]"
-    );
+    let text =
+        "V- 0000001 0001 00 [--- 0000 00000 0000 00000000] [1-- 0100 00001 0100 00aa0000] [--- 0000 00000 0000 00000000] [--- 0000 00000 0000 00000000]";
+    first_register_reads(&rt, &machine, text)?;
     plays(
         &rt,
         rt.alloc(),
@@ -125,22 +144,19 @@ fn load_over_a_partial_store(rt: HostRuntime) -> Result<(), Fail> {
 
 #[test]
 fn load_of_a_full_store(rt: HostRuntime) -> Result<(), Fail> {
-    let mut machine = small_machine(rt.alloc())?;
     let lines = "store 5 1111 deadbeef -> accepted
 load 1 5 -> accepted
 take 0 -> value 1 deadbeef
 ";
-    plays(&rt, rt.alloc(), &mut machine, &[lines])
+    plays_anew(&rt, &[lines])
 }
 
 #[test]
 fn two_loads_of_one_word(rt: HostRuntime) -> Result<(), Fail> {
-    let mut machine = small_machine(rt.alloc())?;
     let both_wait = "load 1 5 -> accepted
 load 2 5 -> accepted
 ";
-    plays(&rt, rt.alloc(), &mut machine, &[both_wait])?;
-    let mut machine = small_machine(rt.alloc())?;
+    plays_anew(&rt, &[both_wait])?;
     let one_waits = "load 1 5 -> accepted
 serve 1 -> moved
 arrive 1 0 -> moved
@@ -149,7 +165,7 @@ take 0 -> value 2 05000000
 process 0 -> moved
 take 0 -> value 1 05000000
 ";
-    plays(&rt, rt.alloc(), &mut machine, &[one_waits])
+    plays_anew(&rt, &[one_waits])
 }
 
 #[test]
@@ -157,13 +173,7 @@ fn no_register_no_way(rt: HostRuntime) -> Result<(), Fail> {
     let two_misses = "load 1 0 -> accepted
 load 2 4 -> accepted
 ";
-    let mut machine = small_machine(rt.alloc())?;
-    plays(
-        &rt,
-        rt.alloc(),
-        &mut machine,
-        &[two_misses, "load 3 8 -> refused 7\n"],
-    )?;
+    plays_anew(&rt, &[two_misses, "load 3 8 -> refused 7\n"])?;
     let mut machine = machine_of::<1, 4>(rt.alloc(), SMALL_SHAPE)?;
     plays(
         &rt,
@@ -175,17 +185,11 @@ load 2 4 -> accepted
 
 #[test]
 fn hit_under_a_miss(rt: HostRuntime) -> Result<(), Fail> {
-    let mut machine = small_machine(rt.alloc())?;
     let lines = "load 2 4 -> accepted
 load 3 1 -> accepted
 take 0 -> value 3 01000000
 ";
-    plays(
-        &rt,
-        rt.alloc(),
-        &mut machine,
-        &["prefetch 0 -> accepted\n", ARRIVED, lines],
-    )
+    plays_anew(&rt, &["prefetch 0 -> accepted\n", ARRIVED, lines])
 }
 
 const EVICTED_WHILE_MISSING: &str = "load 1 5 -> accepted
@@ -199,7 +203,6 @@ load 2 5 -> accepted
 
 #[test]
 fn evicted_while_missing(rt: HostRuntime) -> Result<(), Fail> {
-    let mut machine = small_machine(rt.alloc())?;
     let rest = "arrive 1 0 -> moved
 process 0 -> moved
 take 0 -> value 1 05000000
@@ -210,17 +213,11 @@ arrive 1 1 -> moved
 process 0 -> moved
 take 0 -> value 2 ffffffff
 ";
-    plays(
-        &rt,
-        rt.alloc(),
-        &mut machine,
-        &[EVICTED_WHILE_MISSING, rest],
-    )
+    plays_anew(&rt, &[EVICTED_WHILE_MISSING, rest])
 }
 
 #[test]
 fn obsolete_register_leaves_the_buffer(rt: HostRuntime) -> Result<(), Fail> {
-    let mut machine = small_machine(rt.alloc())?;
     let rest = "serve 1 -> moved
 serve 1 -> moved
 serve 1 -> moved
@@ -233,17 +230,11 @@ take 0 -> value 1 05000000
 load 3 5 -> accepted
 take 0 -> value 3 ffffffff
 ";
-    plays(
-        &rt,
-        rt.alloc(),
-        &mut machine,
-        &[EVICTED_WHILE_MISSING, rest],
-    )
+    plays_anew(&rt, &[EVICTED_WHILE_MISSING, rest])
 }
 
 #[test]
 fn tag_in_use_until_taken(rt: HostRuntime) -> Result<(), Fail> {
-    let mut machine = small_machine(rt.alloc())?;
     let lines = "load 1 5 -> accepted
 serve 1 -> moved
 arrive 1 0 -> moved
@@ -252,12 +243,11 @@ load 1 6 -> refused 3
 take 0 -> value 1 05000000
 load 1 6 -> accepted
 ";
-    plays(&rt, rt.alloc(), &mut machine, &[lines])
+    plays_anew(&rt, &[lines])
 }
 
 #[test]
 fn replies_full(rt: HostRuntime) -> Result<(), Fail> {
-    let mut machine = small_machine(rt.alloc())?;
     let lines = "load 1 0 -> accepted
 load 2 1 -> accepted
 load 3 2 -> accepted
@@ -266,17 +256,11 @@ load 5 0 -> refused 4
 take 3 -> value 4 03000000
 load 5 0 -> accepted
 ";
-    plays(
-        &rt,
-        rt.alloc(),
-        &mut machine,
-        &["prefetch 0 -> accepted\n", ARRIVED, lines],
-    )
+    plays_anew(&rt, &["prefetch 0 -> accepted\n", ARRIVED, lines])
 }
 
 #[test]
 fn refused_miss_keeps_its_victim(rt: HostRuntime) -> Result<(), Fail> {
-    let mut machine = small_machine(rt.alloc())?;
     let stored = "store 0 1000 aa000000 -> accepted
 prefetch 4 -> accepted
 ";
@@ -292,17 +276,14 @@ load 1 8 -> accepted
 evict 0 -> refused 11
 load 3 0 -> refused 7
 ";
-    plays(
+    plays_anew(
         &rt,
-        rt.alloc(),
-        &mut machine,
         &["prefetch 0 -> accepted\n", ARRIVED, stored, ARRIVED, rest],
     )
 }
 
 #[test]
 fn write_queue_full(rt: HostRuntime) -> Result<(), Fail> {
-    let mut machine = small_machine(rt.alloc())?;
     let stored = "store 0 1000 01000000 -> accepted
 store 1 1000 02000000 -> accepted
 store 2 1000 03000000 -> accepted
@@ -316,17 +297,14 @@ load 1 12 -> refused 9
 drain -> moved
 evict 1 -> accepted
 ";
-    plays(
+    plays_anew(
         &rt,
-        rt.alloc(),
-        &mut machine,
         &["prefetch 0 -> accepted\n", ARRIVED, stored, ARRIVED, rest],
     )
 }
 
 #[test]
 fn drain_waits_for_room(rt: HostRuntime) -> Result<(), Fail> {
-    let mut machine = small_machine(rt.alloc())?;
     let rest = "store 0 1111 0a0b0c0d -> accepted
 evict 0 -> accepted
 prefetch 4 -> accepted
@@ -335,17 +313,11 @@ drain -> refused 10
 serve 0 -> moved
 drain -> moved
 ";
-    plays(
-        &rt,
-        rt.alloc(),
-        &mut machine,
-        &["prefetch 0 -> accepted\n", ARRIVED, rest],
-    )
+    plays_anew(&rt, &["prefetch 0 -> accepted\n", ARRIVED, rest])
 }
 
 #[test]
 fn stack_full(rt: HostRuntime) -> Result<(), Fail> {
-    let mut machine = small_machine(rt.alloc())?;
     let lines = "prefetch 0 -> accepted
 serve 0 -> moved
 serve 0 -> moved
@@ -356,12 +328,11 @@ arrive 1 0 -> refused 12
 process 0 -> moved
 arrive 1 0 -> moved
 ";
-    plays(&rt, rt.alloc(), &mut machine, &[lines])
+    plays_anew(&rt, &[lines])
 }
 
 #[test]
 fn nothing_to_do(rt: HostRuntime) -> Result<(), Fail> {
-    let mut machine = small_machine(rt.alloc())?;
     let lines = "drain -> nothing
 serve 0 -> nothing
 serve 2 -> nothing
@@ -369,12 +340,11 @@ arrive 0 0 -> nothing
 process 0 -> nothing
 take 0 -> nothing
 ";
-    plays(&rt, rt.alloc(), &mut machine, &[lines])
+    plays_anew(&rt, &[lines])
 }
 
 #[test]
 fn out_of_range_and_no_lanes(rt: HostRuntime) -> Result<(), Fail> {
-    let mut machine = small_machine(rt.alloc())?;
     let lines = "load 1 31 -> accepted
 load 1 32 -> refused 1
 load 1 30 -> refused 3
@@ -384,7 +354,7 @@ evict 8 -> refused 1
 evict 6 -> refused 11
 evict 7 -> accepted
 ";
-    plays(&rt, rt.alloc(), &mut machine, &[lines])
+    plays_anew(&rt, &[lines])
 }
 
 #[test]
@@ -437,20 +407,20 @@ fn thirteen_pumps(rt: HostRuntime) -> Result<(), Fail> {
     plays(&rt, rt.alloc(), &mut machine, &["load 1 5 -> accepted\n"])?;
     assert_eq!(rt; machine.weight(), 16);
     let weights = [15u64, 14, 12, 11, 10, 8, 7, 6, 5, 4, 3, 2, 0];
+    let mut tenth = None;
     for (count, weight) in weights.iter().enumerate() {
-        let (event, answer) = machine.pump().ok_or("a pump")?;
+        let pumped = machine.pump();
+        assert!(rt; pumped.is_some());
         assert_eq!(rt; machine.weight(), *weight);
         if count == 9 {
-            assert_eq!(rt; event, Event::Take { place: 0 });
-            assert_eq!(rt;
-                answer,
-                Answer::Value {
-                    tag: 1,
-                    word: word(5, 0, 0, 0)
-                }
-            );
+            tenth = pumped;
         }
     }
+    let value = Answer::Value {
+        tag: 1,
+        word: word(5, 0, 0, 0),
+    };
+    assert_eq!(rt; tenth, Some((Event::Take { place: 0 }, value)));
     assert!(rt; machine.pump().is_none());
     Ok(())
 }
@@ -551,16 +521,10 @@ load 4 7 -> refused 7
 
 #[test]
 fn dirty_victim(rt: HostRuntime) -> Result<(), Fail> {
-    let mut machine = small_machine(rt.alloc())?;
     let lines = "store 0 1000 aa000000 -> accepted
 load 1 8 -> accepted
 ";
-    plays(
-        &rt,
-        rt.alloc(),
-        &mut machine,
-        &["prefetch 0 -> accepted\n", ARRIVED, lines],
-    )
+    plays_anew(&rt, &["prefetch 0 -> accepted\n", ARRIVED, lines])
 }
 
 const FOUR_LOADS: &str = "load 1 5 -> accepted
@@ -570,40 +534,39 @@ load 3 5 -> accepted
 load 4 5 -> accepted
 ";
 
-#[test]
-fn four_loads_of_one_word(rt: HostRuntime) -> Result<(), Fail> {
+/// With 8 replies the fifth load is refused for the word until that has come, and each step lowers the
+/// weight.
+fn fifth_load_waits_for_the_word<R: Abort + AllocGlobal>(rt: &R) -> Result<(), Fail> {
     let mut shape = SMALL_SHAPE;
     shape.replies = 8;
     let mut machine = machine_of::<1, 2>(rt.alloc(), shape)?;
-    plays(
-        &rt,
-        rt.alloc(),
-        &mut machine,
-        &[FOUR_LOADS, "load 5 5 -> refused 5\n"],
-    )?;
-    assert_eq!(rt; machine.weight(), 19);
     let got = "serve 1 -> moved
 arrive 1 0 -> moved
 load 5 5 -> accepted
 ";
-    plays(&rt, rt.alloc(), &mut machine, &[got])?;
-    assert_eq!(rt; machine.weight(), 18);
-    plays(&rt, rt.alloc(), &mut machine, &["process 0 -> moved\n"])?;
-    assert_eq!(rt; machine.weight(), 17);
+    let steps = [
+        (FOUR_LOADS, 19),
+        ("load 5 5 -> refused 5\n", 19),
+        (got, 18),
+        ("process 0 -> moved\n", 17),
+    ];
+    for (lines, weight) in steps {
+        plays(rt, rt.alloc(), &mut machine, &[lines])?;
+        assert_eq!(rt; machine.weight(), weight);
+    }
     let taken = "take 0 -> value 5 ff000000
 take 0 -> value 1 05000000
 take 0 -> value 2 05000000
 take 0 -> value 3 ff000000
 take 0 -> value 4 ff000000
 ";
-    plays(&rt, rt.alloc(), &mut machine, &[taken])?;
-    let mut machine = small_machine(rt.alloc())?;
-    plays(
-        &rt,
-        rt.alloc(),
-        &mut machine,
-        &[FOUR_LOADS, "load 5 5 -> refused 4\n"],
-    )
+    plays(rt, rt.alloc(), &mut machine, &[taken])
+}
+
+#[test]
+fn four_loads_of_one_word(rt: HostRuntime) -> Result<(), Fail> {
+    fifth_load_waits_for_the_word(&rt)?;
+    plays_anew(&rt, &[FOUR_LOADS, "load 5 5 -> refused 4\n"])
 }
 
 #[test]
@@ -614,21 +577,19 @@ store 5 1000 ff000000 -> accepted
 load 3 5 -> accepted
 ";
     plays(&rt, rt.alloc(), &mut machine, &[lines])?;
-    let target = machine.target(0, 1, 1).ok_or("a second load")?;
-    assert_eq!(rt; target.tag, 3);
-    assert_eq!(rt; target.lanes, Lanes::LANE_0);
-    assert_eq!(rt; target.held, word(255, 0, 0, 0));
-    let text = register_text(&machine, 0);
-    assert_eq!(rt;
-        std::str::from_utf8(text.as_bytes())?,
-        "V- 0000001 0001 00 [--- 0000 00000 0000 00000000] [2-- 1000 00001 0000 00000000] [--- 0000 00000 0000 00000000] [--- 0000 00000 0000 00000000]"
-    );
-    Ok(())
+    let second = Owed {
+        tag: 3,
+        held: word(255, 0, 0, 0),
+        lanes: Lanes::LANE_0,
+    };
+    assert_eq!(rt; machine.target(0, 1, 1), Some(second));
+    let text =
+        "V- 0000001 0001 00 [--- 0000 00000 0000 00000000] [2-- 1000 00001 0000 00000000] [--- 0000 00000 0000 00000000] [--- 0000 00000 0000 00000000]";
+    first_register_reads(&rt, &machine, text)
 }
 
 #[test]
 fn miss_on_a_queued_block(rt: HostRuntime) -> Result<(), Fail> {
-    let mut machine = small_machine(rt.alloc())?;
     let lines = "store 5 1100 aabb0000 -> accepted
 evict 1 -> accepted
 load 1 5 -> accepted
@@ -655,26 +616,15 @@ bank 5 -> aacc0000
 evict 1 -> accepted
 drain -> nothing
 ";
-    plays(
-        &rt,
-        rt.alloc(),
-        &mut machine,
-        &["prefetch 4 -> accepted\n", ARRIVED, lines],
-    )
+    plays_anew(&rt, &["prefetch 4 -> accepted\n", ARRIVED, lines])
 }
 
 #[test]
 fn load_of_queued_bytes(rt: HostRuntime) -> Result<(), Fail> {
-    let mut machine = small_machine(rt.alloc())?;
     let lines = "store 5 1111 11223344 -> accepted
 evict 1 -> accepted
 load 1 5 -> accepted
 take 0 -> value 1 11223344
 ";
-    plays(
-        &rt,
-        rt.alloc(),
-        &mut machine,
-        &["prefetch 4 -> accepted\n", ARRIVED, lines],
-    )
+    plays_anew(&rt, &["prefetch 4 -> accepted\n", ARRIVED, lines])
 }

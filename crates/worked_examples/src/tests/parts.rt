@@ -114,20 +114,16 @@ fn makers_refuse_a_bad_shape(rt: HostRuntime) -> Result<(), Fail> {
     let image = image(alloc, 32)?;
     let mut short_banks = SMALL_SHAPE;
     short_banks.bank_queue = 1;
-    assert_eq!(rt;
-        refusal::<2>(alloc, short_banks, &image),
-        Some(ShapeField::BankQueue)
-    );
     let mut broken_block = SMALL_SHAPE;
     broken_block.words = 30;
-    assert_eq!(rt;
-        refusal::<2>(alloc, broken_block, &image),
-        Some(ShapeField::Words)
-    );
-    assert_eq!(rt;
-        refusal::<2>(alloc, SMALL_SHAPE, &short_image),
-        Some(ShapeField::Image)
-    );
+    let refused = [
+        (short_banks, image.as_slice(), ShapeField::BankQueue),
+        (broken_block, image.as_slice(), ShapeField::Words),
+        (SMALL_SHAPE, short_image.as_slice(), ShapeField::Image),
+    ];
+    for (shape, image, field) in refused {
+        assert_eq!(rt; refusal::<2>(alloc, shape, image), Some(field));
+    }
     assert_eq!(rt;
         refusal::<0>(alloc, broken_block, &image),
         Some(ShapeField::Regs)
@@ -151,13 +147,15 @@ fn unit_uses_the_arrived_word(rt: HostRuntime) -> Result<(), Fail> {
         word: word(0xaa, 0, 0, 0),
         lanes: Lanes::LANE_0,
     };
-    assert_eq!(rt; unit.request(store, &mut banks), Answer::Accepted);
     let load = Request::Load { tag: 1, at: 5 };
-    assert_eq!(rt; unit.request(load, &mut banks), Answer::Accepted);
+    for request in [store, load] {
+        assert_eq!(rt; unit.request(request, &mut banks), Answer::Accepted);
+    }
     let arrived = word(0xde, 0xad, 0xbe, 0xef);
     let stray = Answer::Refused(Cause::StrayWord);
-    assert_eq!(rt; unit.arrive(0, 1, arrived), Answer::Moved);
-    assert_eq!(rt; unit.arrive(0, 1, arrived), stray);
+    for answer in [Answer::Moved, stray] {
+        assert_eq!(rt; unit.arrive(0, 1, arrived), answer);
+    }
     assert_eq!(rt; unit.process(0), Answer::Moved);
     assert_eq!(rt; unit.arrive(0, 1, arrived), stray);
     let value = Answer::Value {
@@ -185,9 +183,14 @@ fn register_views(rt: HostRuntime) -> Result<(), Fail> {
     assert!(rt; unit.register(2).is_none());
     let five = word(5, 0, 0, 0);
     let stray = Answer::Refused(Cause::StrayWord);
-    assert_eq!(rt; unit.arrive(0, 1, five), Answer::Moved);
-    assert_eq!(rt; unit.arrive(0, 1, five), stray);
-    assert_eq!(rt; unit.arrive(1, 0, five), stray);
-    assert_eq!(rt; unit.arrive(0, 4, five), stray);
+    let arrivals = [
+        (0, 1, Answer::Moved),
+        (0, 1, stray),
+        (1, 0, stray),
+        (0, 4, stray),
+    ];
+    for (slot, i, answer) in arrivals {
+        assert_eq!(rt; unit.arrive(slot, i, five), answer);
+    }
     Ok(())
 }

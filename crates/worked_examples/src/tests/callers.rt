@@ -1,20 +1,11 @@
-//! The callers, run.
+//! The callers in `uses`, run.
 
-use crate::{Lookups, Verdict, count_lookups, first_load, judge_line};
+use super::fixture::{PROGRAM_SHAPE, image};
 use flat_model::FlatMemory;
-use machine_core::{Answer, Cause, Event, Lanes, Machine, Shape, Word};
-use std::alloc::{AllocError, Global};
+use machine_core::{Answer, Cause, Event, Lanes, Machine, Word};
 use std::test::Fail;
 use trace_text::{Line, LineFault, Pair, read_pair, written_line, written_pair};
-
-// 64 words whose first byte is their number.
-fn image(alloc: Global) -> Result<Vec<Word>, AllocError> {
-    let mut image = Vec::with_capacity(alloc, 64)?;
-    for b0 in 0..64 {
-        image.push(numbered(b0))?;
-    }
-    Ok(image)
-}
+use uses::{Lookups, Verdict, count_lookups, first_load, judge_line};
 
 fn numbered(b0: u8) -> Word {
     Word {
@@ -27,7 +18,7 @@ fn numbered(b0: u8) -> Word {
 
 #[test]
 fn a_first_load_gets_the_word_of_the_image(rt: HostRuntime) -> Result<(), Fail> {
-    let image = image(rt.alloc())?;
+    let image = image(rt.alloc(), 64)?;
     assert_eq!(rt; first_load(rt.alloc(), &image, 5)?, Some(numbered(5)));
     assert_eq!(rt; first_load(rt.alloc(), &image, 64)?, None);
     Ok(())
@@ -37,16 +28,8 @@ fn a_first_load_gets_the_word_of_the_image(rt: HostRuntime) -> Result<(), Fail> 
 // 1 are there at the third and the fourth. Memory has no word 64.
 #[test]
 fn lookups_are_hits_joins_and_misses(rt: HostRuntime) -> Result<(), Fail> {
-    let shape = Shape {
-        words: 64,
-        sets: 4,
-        banks: 4,
-        bank_queue: 8,
-        write_queue: 8,
-        replies: 8,
-    };
-    let image = image(rt.alloc())?;
-    let mut machine = Machine::new(rt.alloc(), shape, &image)?;
+    let image = image(rt.alloc(), 64)?;
+    let mut machine = Machine::new(rt.alloc(), PROGRAM_SHAPE, &image)?;
     let counted = count_lookups(&mut machine, &[0, 1, 3, 1, 64]);
     let expected = Lookups {
         hits: 2,
@@ -59,32 +42,19 @@ fn lookups_are_hits_joins_and_misses(rt: HostRuntime) -> Result<(), Fail> {
 
 #[test]
 fn a_run_is_judged_line_by_line(rt: HostRuntime) -> Result<(), Fail> {
-    let image = image(rt.alloc())?;
+    let image = image(rt.alloc(), 64)?;
     let mut memory = FlatMemory::new(rt.alloc(), &image)?;
-    assert_eq!(rt;
-        judge_line(&mut memory, b"load 1 5 -> accepted\n")?,
-        Verdict::Explained
-    );
-    assert_eq!(rt;
-        judge_line(&mut memory, b"load 1 6 -> accepted\n")?,
-        Verdict::Wrong
-    );
-    assert_eq!(rt;
-        judge_line(&mut memory, b"reg 0 -> none\n")?,
-        Verdict::Passed
-    );
-    assert_eq!(rt;
-        judge_line(&mut memory, b"take 0\n")?,
-        Verdict::Faulty(LineFault::Field)
-    );
-    assert_eq!(rt;
-        judge_line(&mut memory, b"take 0 -> value 1 06000000\n")?,
-        Verdict::Wrong
-    );
-    assert_eq!(rt;
-        judge_line(&mut memory, b"take 0 -> value 1 05000000\n")?,
-        Verdict::Explained
-    );
+    let lines = [
+        ("load 1 5 -> accepted\n", Verdict::Explained),
+        ("load 1 6 -> accepted\n", Verdict::Wrong),
+        ("reg 0 -> none\n", Verdict::Passed),
+        ("take 0\n", Verdict::Faulty(LineFault::Field)),
+        ("take 0 -> value 1 06000000\n", Verdict::Wrong),
+        ("take 0 -> value 1 05000000\n", Verdict::Explained),
+    ];
+    for (line, verdict) in lines {
+        assert_eq!(rt; judge_line(&mut memory, line.as_bytes())?, verdict);
+    }
     assert_eq!(rt; memory.due_word(1), None);
     Ok(())
 }

@@ -1,4 +1,0 @@
-//! The examples.
-
-mod reasons;
-mod rounds;
