@@ -229,7 +229,7 @@ fn a_line_too_long_and_a_cut_one(rt: HostRuntime) -> Result<(), Fail> {
 }
 
 #[test]
-fn failed_streams(rt: HostRuntime) -> Result<(), Fail> {
+fn a_failed_read_ends_the_requests(rt: HostRuntime) -> Result<(), Fail> {
     let mut input = FailsOnce {
         calls: 0,
         text: b"",
@@ -237,9 +237,13 @@ fn failed_streams(rt: HostRuntime) -> Result<(), Fail> {
     let mut written = Vec::new(rt.alloc());
     let mut told = Vec::new(rt.alloc());
     let status = tool(&rt, &DIN, &mut input, &mut written, &mut told);
-    assert_eq!(rt; status, 4);
-    assert_eq!(rt; input.calls, 1);
+    assert_eq!(rt; (status, input.calls), (4, 1));
     assert_eq!(rt; told.as_slice(), b"read failed\n".as_slice());
+    Ok(())
+}
+
+#[test]
+fn a_refused_write_or_flush_ends_the_requests(rt: HostRuntime) -> Result<(), Fail> {
     // The flush behind a page without room goes before that fault.
     let words = ["requests", "--from", "din", "--words", "1024"];
     for log in ["0 0\n", "0 0\n0 1000\n"] {

@@ -38,6 +38,13 @@ fn shown<R: Abort + AllocGlobal + Files + Threads + Sync>(
     Ok(written)
 }
 
+/// Asserts that a text has each of these parts.
+fn has_each<R: Abort>(rt: &R, text: &str, parts: &[&str]) {
+    for part in parts {
+        assert!(rt; text.contains(part), "{part}");
+    }
+}
+
 /// The five lines of the first trace: a miss, and the word that it waits for comes.
 const FIRST_RUN: &str = "load 1 4\nserve 0\narrive 0 0\nprocess 0\ntake 0\n";
 
@@ -229,9 +236,12 @@ fn wide_labels_keep_their_column(rt: HostRuntime) -> Result<(), Fail> {
     }
     let written = shown(&rt, "--text", shape, trace.as_str())?;
     let screens = written.as_str();
-    assert!(rt; screens.contains("\n* bank 15 command 10 read place 0: register 5, word 3\n"));
-    assert!(rt; screens.contains("\n* bank 15 command 11 write place 0: 1111 01020304\n"));
-    assert!(rt; screens.contains("\n* register 5         valid, block 3, "));
+    let parts = [
+        "\n* bank 15 command 10 read place 0: register 5, word 3\n",
+        "\n* bank 15 command 11 write place 0: 1111 01020304\n",
+        "\n* register 5         valid, block 3, ",
+    ];
+    has_each(&rt, screens, &parts);
     assert!(rt; screens.lines().all(|line| line.len() <= 80));
     Ok(())
 }
@@ -374,10 +384,13 @@ fn a_full_write_queue_and_its_reason(rt: HostRuntime) -> Result<(), Fail> {
     let shape = "sets = 1\nways = 1\nbanks = 1\nwrite_queue = 4\n";
     let screens = shown(&rt, "--text", shape, trace.as_str())?;
     let text = screens.as_str();
-    assert!(rt; text.contains("prefetch 8 -> refused 9\n"));
     assert!(rt; ends_in_words(text, "the write queue has 2 free places for 3 dirty words"));
-    assert!(rt; text.contains("\n  write queue 1      word 1, block 0: 1000 01000000\n"));
-    assert!(rt; text.contains("\n    word 2           01000000, dirty 1000\n"));
+    let parts = [
+        "prefetch 8 -> refused 9\n",
+        "\n  write queue 1      word 1, block 0: 1000 01000000\n",
+        "\n    word 2           01000000, dirty 1000\n",
+    ];
+    has_each(&rt, text, &parts);
     Ok(())
 }
 
@@ -405,12 +418,13 @@ fn a_load_holds_stored_bytes(rt: HostRuntime) -> Result<(), Fail> {
     let trace = "store 5 0100 00aa0000\nload 7 5\nevict 1\n";
     let screens = shown(&rt, "--text", "", trace)?;
     let text = screens.as_str();
-    assert!(rt; text.contains("\n*   word 1           missing, code 0100\n"));
-    assert!(rt;
-        text.contains("\n*     load           tag 7 is owed 00aa0000, holds 0100 00aa0000\n")
-    );
-    assert!(rt; text.contains("\n* register 0         obsolete, block 1, words came: 0\n"));
     assert!(rt; ends_in_words(text, "the frame of block 1 is given up"));
+    let parts = [
+        "\n*   word 1           missing, code 0100\n",
+        "\n*     load           tag 7 is owed 00aa0000, holds 0100 00aa0000\n",
+        "\n* register 0         obsolete, block 1, words came: 0\n",
+    ];
+    has_each(&rt, text, &parts);
     Ok(())
 }
 
@@ -425,17 +439,13 @@ fn a_page_has_its_steps(rt: HostRuntime) -> Result<(), Fail> {
     fs::remove_file(&rt, "page_of_a_test.toml")?;
     assert_eq!(rt; said.as_str(), "");
     let page = written.as_str();
-    assert!(rt; page.starts_with("<!DOCTYPE html>\n"));
-    assert!(rt; page.ends_with("</html>\n"));
-    assert!(rt;
-        page.contains(
-            "\nconst blockWords = 4;\nconst ways = 1;\nconst places = [\n'r0',\n'g0',\n'w0.0',\n'l0.0.0',\n"
-        )
-    );
-    assert!(rt; page.contains("\n[\"drain\",\"nothing\",\"the write queue is empty\",[]],\n"));
-    let refused =
-        "[\"load 1 4\",\"refused 1\",\"word 4 is outside memory, which has 4 words\",[]],\n];\n";
-    assert!(rt; page.contains(refused));
+    let parts = [
+        "\nconst blockWords = 4;\nconst ways = 1;\nconst places = [\n'r0',\n'g0',\n'w0.0',\n'l0.0.0',\n",
+        "\n[\"drain\",\"nothing\",\"the write queue is empty\",[]],\n",
+        "[\"load 1 4\",\"refused 1\",\"word 4 is outside memory, which has 4 words\",[]],\n];\n",
+    ];
+    has_each(&rt, page, &parts);
+    assert!(rt; page.starts_with("<!DOCTYPE html>\n") && page.ends_with("</html>\n"));
     assert!(rt; !page.contains("http"));
     Ok(())
 }
@@ -464,15 +474,12 @@ fn a_page_lists_what_a_bank_has(rt: HostRuntime) -> Result<(), Fail> {
     fs::remove_file(&rt, "banks_of_a_test.toml")?;
     assert_eq!(rt; said.as_str(), "");
     let page = written.as_str();
-    assert!(rt; page.contains(PLACES_OF_A_BANK));
     let missed =
         "[35,\"read place 4: register 0, word 0\"],[36,\"read place 5: register 0, word 1\"],[37,\"read place 6: register 0, word 2\"],[38,\"read place 7: register 0, word 3\"],";
-    assert!(rt; page.contains(missed));
     let drained = "[39,\"write place 5: 0100 00aa0000\"],]],\n";
-    assert!(rt; page.contains(drained));
     let served =
         "[\"serve 0\",\"moved\",\"bank 0 serves its first command\",[[35,\"read place 6: register 0, word 2\"],[36,\"read place 7: register 0, word 3\"],[37,\"write place 5: 0100 00aa0000\"],[38,\"\"],[41,\"register 0, word 1: 00000000\"],]],\n];\n";
-    assert!(rt; page.contains(served));
+    has_each(&rt, page, &[PLACES_OF_A_BANK, missed, drained, served]);
     Ok(())
 }
 
@@ -485,17 +492,18 @@ fn ten_thousand_events_are_shown_and_no_more(rt: HostRuntime) -> Result<(), Fail
     let (written, said) = told(&rt, &["show", "--vcd"], trace.as_str(), 0)?;
     assert_eq!(rt; said.as_str(), "");
     assert!(rt; written.as_str().ends_with("#9999\n#10000\n"));
-    trace.push_str("settled\n")?;
-    let (_, said) = told(&rt, &["show", "--vcd"], trace.as_str(), 0)?;
-    assert_eq!(rt; said.as_str(), "");
-    trace.push_str("drain\n")?;
-    let (written, said) = told(&rt, &["show", "--vcd"], trace.as_str(), 4)?;
-    assert_eq!(rt; written.as_str(), "");
-    assert_eq!(rt; said.as_str(), "too many events: 10000 at most are shown\n");
-    // A faulty line goes before.
-    trace.push_str("jump\n")?;
-    let (_, said) = told(&rt, &["show", "--vcd"], trace.as_str(), 4)?;
-    assert_eq!(rt; said.as_str(), "line 10003: unknown command\n");
+    // What only shows something is no event, and a faulty line goes before too many of them.
+    let lines = [
+        ("settled\n", 0, ""),
+        ("drain\n", 4, "too many events: 10000 at most are shown\n"),
+        ("jump\n", 4, "line 10003: unknown command\n"),
+    ];
+    for (line, status, wanted) in lines {
+        trace.push_str(line)?;
+        let (written, said) = told(&rt, &["show", "--vcd"], trace.as_str(), status)?;
+        assert_eq!(rt; said.as_str(), wanted);
+        assert_eq!(rt; written.as_str().is_empty(), status == 4);
+    }
     Ok(())
 }
 
