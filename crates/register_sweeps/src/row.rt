@@ -74,6 +74,7 @@ impl Row {
     }
 
     // Counts a pump by what it told.
+    #[inline(always)]
     fn count_pump(&mut self, told: Option<(Event, Answer)>)
         requires { total self.old < 2 ^ 63 }
         ensures row { self.new ≡ sweep.with_pumped self.old told }
@@ -88,6 +89,7 @@ impl Row {
     }
 
     // Counts an answer to a request, where it ends the request, and says whether it does.
+    #[inline(always)]
     fn count_end(&mut self, answer: Answer) -> bool
         requires { total self.old < 2 ^ 63 }
         ensures ends { result ≡ sweep.is_end answer }
@@ -109,6 +111,7 @@ impl Row {
 }
 
 // Asks a request once, and says whether it ended.
+#[inline(always)]
 fn ask<M: AnyMachine>(machine: &mut M, row: &mut Row, event: Event) -> bool
     requires { total row.old < 2 ^ 63 }
     ensures ends { result ≡ sweep.ends event (course (M.state machine.old) row.old) }
@@ -121,7 +124,8 @@ fn ask<M: AnyMachine>(machine: &mut M, row: &mut Row, event: Event) -> bool
     row.count_end(answer)
 }
 
-// Pumps once.
+// Pumps once. Like `ask` it is called in each turn, and pays for no frame of its own.
+#[inline(always)]
 fn pump_once<M: AnyMachine>(machine: &mut M, row: &mut Row)
     requires { total row.old < 2 ^ 63 }
     ensures course { course (M.state machine.new) row.new

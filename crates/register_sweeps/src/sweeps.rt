@@ -57,7 +57,9 @@ pub trait SweepGate: Sync {
 pub struct OpenGate;
 
 impl SweepGate for OpenGate {
-    fn may(&self, _place: usize) -> bool {
+    fn may(&self, _place: usize) -> bool
+        ensures { result ≡ true }
+    {
         true
     }
 
