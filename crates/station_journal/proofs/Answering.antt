@@ -1,7 +1,7 @@
 -- Where every port has had its whole conversation, no telling is left and nothing is owed.
 use Rattle.std.proofs.Common.{◌≡◌, ℕ, suc, ◌+◌, ◌/◌, ◌<◌, ◌≤◌, Bool, true, false, cond, not, ◌&&◌, ◌==◌, nat_lt, List, [], ◌∷◌, ◌++◌, length, None, refl, sym, ap, ap₂, ◌∙◌, arith, append-nil, length-append}
 use Rattle.std.specs.List.{filter, list_all}
-use Rattle.std.proofs.lemmas.Bool.{ltb-true, ltb-false}
+use Rattle.std.proofs.lemmas.Bool.{ltb-true, ltb-false, and_parts}
 use Rattle.std.proofs.lemmas.List.{nil_from_length}
 use Rattle.std.proofs.lemmas.List.Elements.{filter-append}
 use Rattle.std.proofs.lemmas.List.Folds.{list_all-append}
@@ -38,16 +38,12 @@ fit-first z brings (Ended port ∷ xs) ys s h = fit-first z brings xs ys s h
 fit-first z brings (Step source event answer ∷ xs) ys s h =
     (h.0, fit-first z brings xs ys (after_entry z brings s event (is_full answer)) h.1)
 
-and_left : (a b : Bool) → (a && b) ≡ true → a ≡ true
-and_left true b e = refl
-and_left false b e = cc
-
 pub asks_are_judged : AsksAreJudged
 asks_are_judged z before rest ports p lawful takes true_of_banks of =
     let flat = journal_is_flat z before lawful takes (fit-first z (true_word z) before rest (opening_stand z) true_of_banks) in
     let mine =
-    and_left (list_all (is_entry_of ports) before) (list_all (is_entry_of ports) rest)
-    (sym (list_all-append (is_entry_of ports) before rest) ∙ of) in
+    (and_parts (list_all (is_entry_of ports) before) (list_all (is_entry_of ports) rest)
+    (sym (list_all-append (is_entry_of ports) before rest) ∙ of)).0 in
     (journal_tallies p ports before (opening (zeros z)) flat.flat mine flat.runs).judged
 
 -- ---- lists

@@ -1,7 +1,8 @@
 -- What a port asked and was told by a journal, counted: each ask but Done has one verdict, and values
 -- go to the ports of their loads.
-use Rattle.std.proofs.Common.{◌≡◌, ℕ, ◌+◌, ◌-◌, ◌*◌, ◌/◌, Bool, true, false, cond, not, ◌&&◌, ◌==◌, nat_lt, List, [], ◌∷◌, ◌++◌, length, Some, refl, sym, ap, ap₂, ◌∙◌, arith, length-append}
+use Rattle.std.proofs.Common.{◌≡◌, ℕ, ◌+◌, ◌-◌, ◌*◌, ◌/◌, Bool, true, false, cond, not, ◌==◌, nat_lt, List, [], ◌∷◌, ◌++◌, length, Some, refl, sym, ap, ap₂, ◌∙◌, arith, length-append}
 use Rattle.std.specs.List.{list_all}
+use Rattle.std.proofs.lemmas.Bool.{and_parts}
 use Rattle.std.proofs.lemmas.List.Elements.{filter-append}
 use Rattle.miss_registers.proofs.Tags.{count_by-append}
 use Rattle.flat_model.specs.declared.Word.{Word}
@@ -81,14 +82,6 @@ same_port : (p port tag : ℕ) → (port == p) ≡ true → (tag / 256 == port) 
 same_port p port tag here same =
     ap (λ k. k == p) (eqb_true (tag / 256) port same) ∙ here
 
-and_left : (a b : Bool) → (a && b) ≡ true → a ≡ true
-and_left true b e = refl
-and_left false b e = cc
-
-and_right : (a b : Bool) → (a && b) ≡ true → b ≡ true
-and_right true b e = e
-and_right false b e = cc
-
 -- what a load of a port's ring adds to port p
 load_tallies : (p port tag at : ℕ) (answer : Answer) (f : Flat) → (tag / 256 == port) ≡ true
     → may_answer f (events.Load tag at) answer ≡ true → (t : Bool) → (port == p) ≡ t
@@ -145,7 +138,7 @@ entry_tallies : (p ports : ℕ) (source : Source) (event : Event) (answer : Answ
     → may_answer f event answer ≡ true
     → Tallies (asked_by p source event) (told_by p source answer) (load_by (is_of p) event answer) (value_by (is_of p) event answer)
 entry_tallies p ports (sources.Ask port) (events.Load tag at) answer f of may =
-    load_tallies p port tag at answer f (and_right (nat_lt port ports) (tag / 256 == port) of) may (port == p) refl
+    load_tallies p port tag at answer f (and_parts (nat_lt port ports) (tag / 256 == port) of).1 may (port == p) refl
 entry_tallies p ports (sources.Ask port) (events.Store at word lanes) answer f of may = store_tallies f at word lanes answer may (port == p)
 entry_tallies p ports (sources.Ask port) (events.Prefetch at) answer f of may = prefetch_tallies f at answer may (port == p)
 entry_tallies p ports (sources.Ask port) (events.Evict block) answer f of may = evict_tallies f block answer may (port == p)
@@ -165,10 +158,10 @@ zero_more : (n : ℕ) → 0 + n ≡ n
 zero_more n = omega arith
 
 pub first_of : (ports : ℕ) (e : Entry) (rest : List Entry) → IsOfPorts ports (e ∷ rest) → is_entry_of ports e ≡ true
-first_of ports e rest h = and_left (is_entry_of ports e) (list_all (is_entry_of ports) rest) h
+first_of ports e rest h = (and_parts (is_entry_of ports e) (list_all (is_entry_of ports) rest) h).0
 
 pub rest_of : (ports : ℕ) (e : Entry) (rest : List Entry) → IsOfPorts ports (e ∷ rest) → IsOfPorts ports rest
-rest_of ports e rest h = and_right (is_entry_of ports e) (list_all (is_entry_of ports) rest) h
+rest_of ports e rest h = (and_parts (is_entry_of ports e) (list_all (is_entry_of ports) rest) h).1
 
 ended_tallies : (p port : ℕ) → Tallies (cond (port == p) (Done ∷ []) []) [] 0 0
 ended_tallies p port = go (port == p)

@@ -1,5 +1,6 @@
 -- The tags that flat memory owes a value, counted along a run.
-use Rattle.std.proofs.Common.{◌≡◌, ℕ, ◌+◌, ◌/◌, ◌≤◌, Bool, true, false, cond, ◌&&◌, ◌==◌, nat_lt, List, [], ◌∷◌, length, Option, Some, None, is_some, is_none, refl, sym, ap, ◌∙◌, arith, eq-eqb}
+use Rattle.std.proofs.Common.{◌≡◌, ℕ, ◌+◌, ◌/◌, ◌≤◌, Bool, true, false, cond, ◌==◌, nat_lt, List, [], ◌∷◌, length, Option, Some, None, is_some, is_none, refl, sym, ap, ◌∙◌, arith, eq-eqb}
+use Rattle.std.proofs.lemmas.Bool.{and_parts}
 use Rattle.flat_model.specs.declared.Word.{Word}
 use Rattle.flat_model.specs.declared.Event.{Event}
 use Rattle.flat_model.specs.declared.Event.TheVariants.{Load, Store, Prefetch, Evict, Drain, Serve, Arrive, Process, Take}
@@ -72,14 +73,6 @@ pub record Balance (tags : List ℕ) (loads values : (ℕ → Bool) → ℕ) (g 
 
 -- ---- one step
 
-and_left : (a b : Bool) → (a && b) ≡ true → a ≡ true
-and_left true b e = refl
-and_left false b e = cc
-
-and_right : (a b : Bool) → (a && b) ≡ true → b ≡ true
-and_right true b e = e
-and_right false b e = cc
-
 -- a tag that is owed nothing is owed a value
 opened : (f : Flat) (tags : List ℕ) (tag at : ℕ) → AreOpen f tags → is_none (f.due tag) ≡ true
     → AreOpen (flat_after f (Load tag at) Accepted) (tag ∷ tags)
@@ -142,7 +135,7 @@ step_balance : (f : Flat) (event : Event) (answer : Answer) (tags : List ℕ) �
 step_balance f (Load t at) Accepted tags h may =
     record {
       left = t ∷ tags;
-      are_open = opened f tags t at h (and_right (nat_lt at (length f.mem)) (is_none (f.due t)) may);
+      are_open = opened f tags t at h (and_parts (nat_lt at (length f.mem)) (is_none (f.due t)) may).1;
       balance = λ q. omega arith;
     }
 step_balance f (Load t at) Moved tags h may = cc

@@ -1,5 +1,6 @@
 -- A recorded refusal for want of room is a step of flat memory that changes nothing.
 use Rattle.std.proofs.Common.{◌≡◌, ℕ, Bool, true, false, cond, not, ◌&&◌, nat_lt, length, Option, Some, None, is_none, refl, ap, subst, IsTrue}
+use Rattle.std.proofs.lemmas.Bool.{and_parts}
 use Rattle.flat_model.specs.declared.Word.{Word}
 use Rattle.flat_model.specs.declared.Lanes.{Lanes}
 use Rattle.flat_model.specs.declared.Cause.{Cause}
@@ -45,10 +46,6 @@ prefetch_full f g at e = go (nat_lt at (length f.mem)) e
 
 -- ---- where no other cause holds, the step accepts
 
-and_right : (a b : Bool) → (a && b) ≡ true → b ≡ true
-and_right true b e = e
-and_right false b e = cc
-
 no_cause : (o : Option Cause) → is_none o ≡ true → o ≡ None
 no_cause None e = refl
 no_cause (Some cause) e = cc
@@ -88,13 +85,13 @@ module _ (z : Sizes) (s : Stand) where
   pub full_ok : (f g : Flat) (event : Event) → IsTrue (may_be_full z s.cache event)
       → flat_step f event (step z (true_word z) s event).answer ≡ Some g → flat_step f event (Refused BankFull) ≡ Some f
   full_ok f g (Load tag at) may run =
-      let none = no_cause _ (and_right (not (is_present s.cache (block_of z at))) _ may) in
+      let none = no_cause _ (and_parts (not (is_present s.cache (block_of z at))) _ may).1 in
       load_full f g tag at (subst (λ a. flat_step f (Load tag at) a ≡ Some g) (load_accepted tag at none) run)
   full_ok f g (Store at word lanes) may run =
-      let none = no_cause _ (and_right (not (is_present s.cache (block_of z at))) _ may) in
+      let none = no_cause _ (and_parts (not (is_present s.cache (block_of z at))) _ may).1 in
       store_full f g at word lanes (subst (λ a. flat_step f (Store at word lanes) a ≡ Some g) (store_accepted at word lanes none) run)
   full_ok f g (Prefetch at) may run =
-      let none = no_cause _ (and_right (not (is_present s.cache (block_of z at))) _ may) in
+      let none = no_cause _ (and_parts (not (is_present s.cache (block_of z at))) _ may).1 in
       prefetch_full f g at (subst (λ a. flat_step f (Prefetch at) a ≡ Some g) (prefetch_accepted at none) run)
   full_ok f g (Evict block) may run = cc
   full_ok f g Drain may run = refl
