@@ -1,10 +1,11 @@
 -- What a `FlatMemory` shows, and what the faults of a replay say.
-use Rattle.std.specs.Prelude.{ℕ, ⊤, ◌≡◌, ◌≢◌, Bool, true, false, List, length, Some, None, IsSome, nat_eq}
+use Rattle.std.specs.Prelude.{ℕ, ⊤, ◌≡◌, ◌≢◌, Bool, true, false, List, length, Option, Some, None, IsSome, nat_eq, nat_lt}
 use Rattle.std.specs.HashMap.{get}
+use Rattle.flat_model.specs.declared.Word.{Word}
 use Rattle.flat_model.specs.declared.Event.{Event}
 use Rattle.flat_model.specs.declared.Event.TheVariants.{Load, Store, Prefetch, Take}
 use Rattle.flat_model.specs.declared.Answer.{Answer}
-use Rattle.flat_model.specs.declared.Answer.TheVariants.{Accepted}
+use Rattle.flat_model.specs.declared.Answer.TheVariants.{Accepted, Value}
 use Rattle.flat_model.specs.declared.memory.FlatMemory.{FlatMemory}
 use Rattle.flat_model.specs.declared.memory.ReplayFault.{ReplayFault}
 use Rattle.flat_model.specs.declared.memory.ReplayFault.TheVariants.{Lengths, Mismatch, OutOfMemory}
@@ -15,6 +16,15 @@ use Rattle.flat_model.specs.Flat.{Flat, first_fault, flat_run, flat_step}
 -- the flat memory that it stands for
 unfoldable pub shown : FlatMemory → Flat
 shown m = record { mem = m.words.items; due = get nat_eq m.due }
+
+-- what an event and its answer find there: whether there is a word at the address that the event points at, and what
+-- the tag of a load, or of a value that is taken, is owed
+abbrev pub Finds : Flat → Event → Answer → Bool → Option Word → Type 0
+Finds s (Load tag at) answer inside owed = (inside ≡ nat_lt at (length s.mem)) × (owed ≡ s.due tag)
+Finds s (Store at word lanes) answer inside owed = inside ≡ nat_lt at (length s.mem)
+Finds s (Prefetch at) answer inside owed = inside ≡ nat_lt at (length s.mem)
+Finds s (Take place) (Value tag word) inside owed = owed ≡ s.due tag
+Finds s event answer inside owed = ⊤
 
 -- an event that points at no word of memory and takes no value
 abbrev pub MovesOnly : Event → Type 0

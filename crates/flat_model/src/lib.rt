@@ -6,14 +6,16 @@
 #![tactic(auto)]
 
 ghost use Rattle.std.specs.Prelude.{⊤, ◌≡◌, ◌==◌, [], ◌∷◌, codes, bit_and, if◌then◌else◌};
-ghost use Rattle.flat_model.specs.Flat.{number};
+ghost use Rattle.flat_model.specs.Flat.{number, cause_of};
 ghost use Rattle.flat_model.specs.Words.{no_lanes, merged, joined, has_any, has_all};
 
+mod answers;
 mod display;
 mod limits;
 mod memory;
 mod operators;
 
+pub use answers::may_answer;
 use bitflags::{Flag, Flags};
 pub use limits::{
     MAX_BANK_QUEUE, MAX_BANKS, MAX_BLOCK_WORDS, MAX_DEPTH, MAX_REGS, MAX_REPLIES, MAX_SETS,
@@ -197,12 +199,35 @@ pub enum Cause {
     StrayWord = 13,
 }
 
+#[tactic(auto, unfolding(crate::specs::Flat::cause_of))]
 impl Cause {
     /// The number of the cause, 1 to 13, by which a trace shows it.
     pub fn number(self) -> u8
         ensures { result ≡ number self }
     {
         self as u8
+    }
+
+    /// The cause of a number, or `None` where no cause has it.
+    pub fn from_number(number: u32) -> Option<Cause>
+        ensures { result ≡ cause_of number }
+    {
+        match number {
+            1 => Some(Cause::OutOfRange),
+            2 => Some(Cause::NoLanes),
+            3 => Some(Cause::TagInUse),
+            4 => Some(Cause::RepliesFull),
+            5 => Some(Cause::TargetsFull),
+            6 => Some(Cause::BlockQueued),
+            7 => Some(Cause::NoRegister),
+            8 => Some(Cause::SetPending),
+            9 => Some(Cause::QueueFull),
+            10 => Some(Cause::BankFull),
+            11 => Some(Cause::NotPresent),
+            12 => Some(Cause::StackFull),
+            13 => Some(Cause::StrayWord),
+            _ => None,
+        }
     }
 }
 

@@ -1,14 +1,15 @@
 //! Flat memory as a value, and the replay of a run of events and answers over it.
 
-ghost use Rattle.std.specs.Prelude.{◌≡◌, ◌≢◌, Err, ◌+◌, true, length, None, Some, nat_lt, slice_get, IfOk, IfErr, OnOk, OnErr, ◌<◌, ◌≤◌};
+ghost use Rattle.std.specs.Prelude.{◌≡◌, ◌≢◌, Err, ◌+◌, true, length, replicate, None, Some, nat_lt, slice_get, IfOk, IfErr, OnOk, OnErr, ◌<◌, ◌≤◌};
 ghost use Rattle.std.specs.List.{count_by};
 ghost use Rattle.std.specs.HashMap.{spare};
-ghost use Rattle.flat_model.specs.Flat.{Flat, opening, word_at, stored, with_due, may_answer, flat_after, flat_run, number, flat_step, load_refusals, store_refusals, prefetch_refusals, is_owed};
-ghost use Rattle.flat_model.specs.Ranges.{is_between};
+ghost use Rattle.flat_model.specs.Flat.{Flat, opening, word_at, stored, with_due, may_answer, flat_after, flat_run, flat_step};
 ghost use Rattle.flat_model.specs.declared.memory.ReplayFault.TheVariants.{Lengths};
-ghost use Rattle.flat_model.specs.Memory.{shown, FaultIs, StepFaultIs, MovesOnly, is_load, more_owed};
+ghost use Rattle.flat_model.specs.Words.{zero_word};
+ghost use Rattle.flat_model.specs.Memory.{shown, FaultIs, StepFaultIs, is_load, more_owed};
 
-use crate::{Answer, Cause, Event, Lanes, Word, merge};
+use crate::answers::may_answer;
+use crate::{Answer, Event, Lanes, Word, merge};
 use std::alloc::{AllocError, Global};
 use std::collections::HashMap;
 use thiserror::Error;
@@ -77,6 +78,17 @@ impl FlatMemory {
         ensures { IfOk result (λ m. shown m ≡ opening image.now) }
     {
         let words = Vec::from_slice(alloc, image)?;
+        let due = HashMap::new(alloc);
+        Ok(FlatMemory { words, due })
+    }
+
+    /// Memory of so many words of zeros, in which no tag is owed a word. `AllocError` says that there
+    /// was too little memory: nothing is made.
+    pub fn zeros(alloc: Global, words: u32) -> Result<FlatMemory, AllocError>
+        ensures shown { IfOk result (λ m. shown m ≡ opening (replicate words zero_word)) }
+        ensures words { IfOk result (λ m. length (shown m).mem ≡ words) }
+    {
+        let words = vec![in alloc; Word::default(); words as usize]?;
         let due = HashMap::new(alloc);
         Ok(FlatMemory { words, due })
     }
@@ -198,61 +210,19 @@ impl FlatMemory {
     fn may_answer(&self, event: Event, answer: Answer) -> bool
         ensures { result ≡ may_answer (shown self.now) event answer }
     {
-        match event {
-            Event::Load { tag, at } => self.may_load(tag, at, answer),
-            Event::Store { at, word, lanes } => self.may_store(at, word, lanes, answer),
-            Event::Prefetch { at } => self.may_prefetch(at, answer),
-            Event::Take { place } => self.may_take(place, answer),
-            _ => may_move(event, answer),
-        }
-    }
-
-    // Whether this answer to a load is one of flat memory.
-    fn may_load(&self, tag: u16, at: u32, answer: Answer) -> bool
-        ensures { result ≡ may_answer (shown self.now) (Event.Load tag at) answer }
-    {
-        let inside = self.has_word(at);
-        let owed = self.due.contains_key(&tag);
-        match answer {
-            Answer::Accepted => inside && !owed,
-            Answer::Refused(cause) => load_refused(inside, owed, cause),
+        let inside = match event {
+            Event::Load { at, .. } | Event::Store { at, .. } | Event::Prefetch { at } => {
+                self.has_word(at)
+            }
             _ => false,
-        }
-    }
-
-    // Whether this answer to a store is one of flat memory.
-    fn may_store(&self, at: u32, word: Word, lanes: Lanes, answer: Answer) -> bool
-        ensures { result ≡ may_answer (shown self.now) (Event.Store at word lanes) answer }
-    {
-        let inside = self.has_word(at);
-        match answer {
-            Answer::Accepted => inside && lanes.has_any(),
-            Answer::Refused(cause) => store_refused(inside, lanes.has_any(), cause),
-            _ => false,
-        }
-    }
-
-    // Whether this answer to a prefetch is one of flat memory.
-    fn may_prefetch(&self, at: u32, answer: Answer) -> bool
-        ensures { result ≡ may_answer (shown self.now) (Event.Prefetch at) answer }
-    {
-        let inside = self.has_word(at);
-        match answer {
-            Answer::Accepted => inside,
-            Answer::Refused(cause) => prefetch_refused(inside, cause),
-            _ => false,
-        }
-    }
-
-    // Whether this answer to a take is one of flat memory.
-    fn may_take(&self, place: u32, answer: Answer) -> bool
-        ensures { result ≡ may_answer (shown self.now) (Event.Take place) answer }
-    {
-        match answer {
-            Answer::Nothing => true,
-            Answer::Value { tag, word } => is_owed(self.due_word(tag), word),
-            _ => false,
-        }
+        };
+        let owed = match (event, answer) {
+            (Event::Load { tag, .. }, _) | (Event::Take { .. }, Answer::Value { tag, .. }) => {
+                self.due_word(tag)
+            }
+            _ => None,
+        };
+        may_answer(event, answer, inside, owed)
     }
 
     // The change that a pair of flat memory makes.
@@ -314,83 +284,4 @@ fn is_load(event: &Event) -> bool
     ensures { result ≡ is_load event.now }
 {
     matches!(event, Event::Load { .. })
-}
-
-// Whether this answer to an event that points at no word and takes nothing is one of flat memory.
-fn may_move(event: Event, answer: Answer) -> bool
-    ensures { MovesOnly event → (s : Flat) → result ≡ may_answer s event answer }
-{
-    match answer {
-        Answer::Accepted => matches!(event, Event::Evict { .. }),
-        Answer::Moved | Answer::Nothing => !matches!(event, Event::Evict { .. }),
-        Answer::Value { .. } => false,
-        Answer::Refused(cause) => match event {
-            Event::Evict { .. } => {
-                matches!(
-                    cause,
-                    Cause::OutOfRange | Cause::QueueFull | Cause::NotPresent
-                )
-            }
-            Event::Drain => matches!(cause, Cause::BankFull),
-            Event::Arrive { .. } => matches!(cause, Cause::StackFull),
-            _ => false,
-        },
-    }
-}
-
-// Whether the word is the one that is owed.
-fn is_owed(owed: Option<Word>, word: Word) -> bool
-    ensures { result ≡ is_owed owed word }
-{
-    match owed {
-        Some(due) => due == word,
-        None => false,
-    }
-}
-
-// Whether this is a cause against bringing a block in.
-fn is_of_a_miss(cause: Cause) -> bool
-    ensures { result ≡ is_between (number cause) 6 10 }
-{
-    matches!(
-        cause,
-        Cause::BlockQueued
-            | Cause::NoRegister
-            | Cause::SetPending
-            | Cause::QueueFull
-            | Cause::BankFull
-    )
-}
-
-// Whether a load may be refused for this cause.
-fn load_refused(inside: bool, owed: bool, cause: Cause) -> bool
-    ensures { result ≡ load_refusals inside owed cause }
-{
-    match cause {
-        Cause::OutOfRange => !inside,
-        Cause::TagInUse => inside && owed,
-        Cause::RepliesFull | Cause::TargetsFull => inside && !owed,
-        _ => inside && !owed && is_of_a_miss(cause),
-    }
-}
-
-// Whether a store may be refused for this cause.
-fn store_refused(inside: bool, any_lane: bool, cause: Cause) -> bool
-    ensures { result ≡ store_refusals inside any_lane cause }
-{
-    match cause {
-        Cause::OutOfRange => !inside,
-        Cause::NoLanes => inside && !any_lane,
-        _ => inside && any_lane && is_of_a_miss(cause),
-    }
-}
-
-// Whether a prefetch may be refused for this cause.
-fn prefetch_refused(inside: bool, cause: Cause) -> bool
-    ensures { result ≡ prefetch_refusals inside cause }
-{
-    match cause {
-        Cause::OutOfRange => !inside,
-        _ => inside && is_of_a_miss(cause),
-    }
 }

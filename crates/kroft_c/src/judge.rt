@@ -1,13 +1,11 @@
 //! The judge: one step of flat memory at a time, over words and a table that the caller keeps.
-ghost use Rattle.std.specs.Prelude.{◌≡◌, ◌≢◌, true, Some, length, nat_lt, is_some, if◌then◌else◌};
-ghost use Rattle.flat_model.specs.Flat.{Flat, may_answer, flat_after, is_owed, load_refusals, store_refusals, prefetch_refusals, with_due, number};
-ghost use Rattle.flat_model.specs.Ranges.{is_between};
-ghost use Rattle.flat_model.specs.Memory.{MovesOnly};
+ghost use Rattle.std.specs.Prelude.{◌≡◌, ◌≢◌, true, Some, length, is_some, if◌then◌else◌};
+ghost use Rattle.flat_model.specs.Flat.{may_answer, flat_after, with_due};
 ghost use Rattle.kroft_c.specs.Rows.{event_of, answer_of};
 ghost use Rattle.kroft_c.specs.Judge.{flat, due_in, owed_by, owed_or, judged, status_of};
 
 use crate::rows::{AnswerRow, EventRow};
-use flat_model::{Answer, Cause, Event, Word, merge};
+use flat_model::{Answer, Event, Word, may_answer, merge};
 
 /// The entries of a table of what is owed: one for each tag.
 pub const TAGS: usize = 65_536;
@@ -57,7 +55,7 @@ pub extern "C" fn kroft_flat_step(
     if due.len() != TAGS {
         return NO_STEP;
     }
-    if !may_answer(words, due, event, answer) {
+    if !is_flat(words, due, event, answer) {
         return NOT_FLAT;
     }
     step(words, due, event, answer);
@@ -94,50 +92,23 @@ fn due_word(due: &[Due], tag: u16) -> Option<Word>
     }
 }
 
-// Whether there is a word at an address.
-fn has_word(words: &[Word], at: u32) -> bool
-    ensures { result ≡ nat_lt at (length words.now) }
-{
-    (at as usize) < words.len()
-}
-
 // Whether flat memory may give this answer to the event.
-fn may_answer(words: &[Word], due: &[Due], event: Event, answer: Answer) -> bool
+fn is_flat(words: &[Word], due: &[Due], event: Event, answer: Answer) -> bool
     ensures { result ≡ may_answer (flat words.now due.now) event answer }
 {
-    match event {
-        Event::Load { tag, at } => {
-            let inside = has_word(words, at);
-            let owed = due_word(due, tag).is_some();
-            match answer {
-                Answer::Accepted => inside && !owed,
-                Answer::Refused(cause) => may_refuse_load(inside, owed, cause),
-                _ => false,
-            }
+    let inside = match event {
+        Event::Load { at, .. } | Event::Store { at, .. } | Event::Prefetch { at } => {
+            (at as usize) < words.len()
         }
-        Event::Store { at, lanes, .. } => {
-            let inside = has_word(words, at);
-            match answer {
-                Answer::Accepted => inside && lanes.has_any(),
-                Answer::Refused(cause) => may_refuse_store(inside, lanes.has_any(), cause),
-                _ => false,
-            }
+        _ => false,
+    };
+    let owed = match (event, answer) {
+        (Event::Load { tag, .. }, _) | (Event::Take { .. }, Answer::Value { tag, .. }) => {
+            due_word(due, tag)
         }
-        Event::Prefetch { at } => {
-            let inside = has_word(words, at);
-            match answer {
-                Answer::Accepted => inside,
-                Answer::Refused(cause) => may_refuse_prefetch(inside, cause),
-                _ => false,
-            }
-        }
-        Event::Take { .. } => match answer {
-            Answer::Nothing => true,
-            Answer::Value { tag, word } => is_owed(due_word(due, tag), word),
-            _ => false,
-        },
-        _ => may_move(event, answer),
-    }
+        _ => None,
+    };
+    may_answer(event, answer, inside, owed)
 }
 
 // Makes the change of a pair that is one of flat memory.
@@ -167,83 +138,4 @@ fn set_due(due: &mut [Due], tag: u16, entry: Due)
     ensures { due_in due.new ≡ with_due (due_in due.old) tag (owed_by entry) }
 {
     due[tag as usize] = entry;
-}
-
-// Whether flat memory may give this answer to an event that points at no word and takes nothing.
-fn may_move(event: Event, answer: Answer) -> bool
-    ensures { MovesOnly event → (s : Flat) → result ≡ may_answer s event answer }
-{
-    match answer {
-        Answer::Accepted => matches!(event, Event::Evict { .. }),
-        Answer::Moved | Answer::Nothing => !matches!(event, Event::Evict { .. }),
-        Answer::Value { .. } => false,
-        Answer::Refused(cause) => match event {
-            Event::Evict { .. } => {
-                matches!(
-                    cause,
-                    Cause::OutOfRange | Cause::QueueFull | Cause::NotPresent
-                )
-            }
-            Event::Drain => matches!(cause, Cause::BankFull),
-            Event::Arrive { .. } => matches!(cause, Cause::StackFull),
-            _ => false,
-        },
-    }
-}
-
-// Whether the word is the one that is owed.
-fn is_owed(owed: Option<Word>, word: Word) -> bool
-    ensures { result ≡ is_owed owed word }
-{
-    match owed {
-        Some(due) => due == word,
-        None => false,
-    }
-}
-
-// Whether this is a cause against bringing a block in.
-fn is_of_a_miss(cause: Cause) -> bool
-    ensures { result ≡ is_between (number cause) 6 10 }
-{
-    matches!(
-        cause,
-        Cause::BlockQueued
-            | Cause::NoRegister
-            | Cause::SetPending
-            | Cause::QueueFull
-            | Cause::BankFull
-    )
-}
-
-// Whether a load may be refused for this cause.
-fn may_refuse_load(inside: bool, owed: bool, cause: Cause) -> bool
-    ensures { result ≡ load_refusals inside owed cause }
-{
-    match cause {
-        Cause::OutOfRange => !inside,
-        Cause::TagInUse => inside && owed,
-        Cause::RepliesFull | Cause::TargetsFull => inside && !owed,
-        _ => inside && !owed && is_of_a_miss(cause),
-    }
-}
-
-// Whether a store may be refused for this cause.
-fn may_refuse_store(inside: bool, any_lane: bool, cause: Cause) -> bool
-    ensures { result ≡ store_refusals inside any_lane cause }
-{
-    match cause {
-        Cause::OutOfRange => !inside,
-        Cause::NoLanes => inside && !any_lane,
-        _ => inside && any_lane && is_of_a_miss(cause),
-    }
-}
-
-// Whether a prefetch may be refused for this cause.
-fn may_refuse_prefetch(inside: bool, cause: Cause) -> bool
-    ensures { result ≡ prefetch_refusals inside cause }
-{
-    match cause {
-        Cause::OutOfRange => !inside,
-        _ => inside && is_of_a_miss(cause),
-    }
 }

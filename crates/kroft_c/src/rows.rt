@@ -1,6 +1,6 @@
 //! Events and answers as rows of plain numbers.
 ghost use Rattle.std.specs.Prelude.{◌≡◌};
-ghost use Rattle.kroft_c.specs.Rows.{event_of, answer_of, cause_of, event_row, answer_row, plain_event};
+ghost use Rattle.kroft_c.specs.Rows.{event_of, answer_of, event_row, answer_row, plain_event};
 
 use flat_model::{Answer, Cause, Event, Lanes, Word};
 
@@ -91,7 +91,7 @@ impl AnswerRow {
                 word: self.word,
             }),
             3 => Some(Answer::Nothing),
-            4 => Some(Answer::Refused(cause_with(self.cause)?)),
+            4 => Some(Answer::Refused(Cause::from_number(self.cause)?)),
             _ => None,
         }
     }
@@ -161,27 +161,5 @@ fn plain_event(kind: u32, at: u32, place: u32) -> EventRow
         at,
         place,
         word: ZERO_WORD,
-    }
-}
-
-// The cause with a number.
-fn cause_with(number: u32) -> Option<Cause>
-    ensures { result ≡ cause_of number }
-{
-    match number {
-        1 => Some(Cause::OutOfRange),
-        2 => Some(Cause::NoLanes),
-        3 => Some(Cause::TagInUse),
-        4 => Some(Cause::RepliesFull),
-        5 => Some(Cause::TargetsFull),
-        6 => Some(Cause::BlockQueued),
-        7 => Some(Cause::NoRegister),
-        8 => Some(Cause::SetPending),
-        9 => Some(Cause::QueueFull),
-        10 => Some(Cause::BankFull),
-        11 => Some(Cause::NotPresent),
-        12 => Some(Cause::StackFull),
-        13 => Some(Cause::StrayWord),
-        _ => None,
     }
 }

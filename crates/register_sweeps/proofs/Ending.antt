@@ -1,32 +1,32 @@
 -- Each request of a sweep ends, and each accepted load is paid.
 use Rattle.std.proofs.Common.{◌≡◌, ℕ, zero, suc, ◌+◌, ◌-◌, ◌<◌, ◌≤◌, Bool, true, false, cond, nat_lt, List, [], ◌∷◌, length, Option, Some, None, is_some, is_none, refl, sym, ap, subst, ◌∙◌, arith}
-use Rattle.std.proofs.lemmas.Grind.{common_steps}
 use Rattle.flat_model.specs.declared.Word.{Word}
-use Rattle.flat_model.specs.declared.Lanes.{Lanes}
 use Rattle.flat_model.specs.declared.Event.{Event}
 use Rattle.flat_model.specs.declared.Event.TheVariants.{Load, Store, Prefetch, Evict, Drain, Serve, Arrive, Process, Take}
 use Rattle.flat_model.specs.declared.Answer.{Answer}
 use Rattle.flat_model.specs.declared.Answer.TheVariants.{Accepted, Moved, Value, Nothing, Refused}
 use Rattle.flat_model.specs.declared.Cause.{Cause}
 use Rattle.flat_model.specs.declared.Cause.TheVariants.{OutOfRange, NoLanes, TagInUse, RepliesFull, TargetsFull, BlockQueued, NoRegister, SetPending, QueueFull, BankFull, NotPresent, StackFull, StrayWord}
-use Rattle.flat_model.specs.Words.{has_any}
+use Rattle.flat_model.specs.Memory.{is_load}
 use Rattle.flat_model.specs.Flat.{Flat, may_answer, flat_after, flat_step, word_at, is_owed}
 use Rattle.cache_unit.specs.State.{Sizes}
-use Rattle.machine_core.specs.Law.{IsLawful, HasRoom, ServesRequests}
+use Rattle.machine_core.specs.Law.{IsLawful, HasRoom}
 use Rattle.machine_core.specs.Machine.{Machine, MachineState, flat_of, flat_due}
 use Rattle.std.specs.Option.{option_map}
 use Rattle.std.specs.List.{list_all}
-use Rattle.std.proofs.lemmas.Bool.{and_parts}
+use Rattle.std.proofs.lemmas.Bool.{and_parts, true≢false as no}
 use Rattle.machine_core.specs.AnyMachine.{answered, after_event, after_some, pump_tells, pump_leaves, weight_of}
 use Rattle.machine_core.specs.Pump.{pumped, weight, when, first_event, has_items, lowest}
 use Rattle.machine_core.specs.Sound.{IsSound, IsBounded}
 use Rattle.machine_core.proofs.Contract.{sound_apply, bounded_apply, flat_apply, pumped_lowers, pumped_rests, pumped_at_rest, bound_at_rest}
-use Rattle.machine_core.proofs.Requests.{mem_length}
+use Rattle.round_driver.specs.Rounds.{is_end}
+use Rattle.round_driver.specs.Walks.{is_request}
+use Rattle.round_driver.proofs.Requests.{request_stays, request_ends}
 use Rattle.register_sweeps.specs.declared.row.Row.{Row}
-use Rattle.register_sweeps.specs.Sweep.{Course, course, with_pump, with_pumped, pump_once, is_end, with_end, ask, ends, stall, pump_and_wait, ask_again, serve, serve_all, pump_times, run_dry, is_request, is_load, loads_between, accepted_loads, empty_row, row_from}
+use Rattle.register_sweeps.specs.Sweep.{Course, course, with_pump, with_pumped, pump_once, with_end, ask, ends, stall, pump_and_wait, ask_again, serve, serve_all, pump_times, run_dry, loads_between, accepted_loads, empty_row, row_from}
 use Rattle.register_sweeps.proofs.Turns.{event_sizes, pump_sizes}
 use Rattle.register_sweeps.proofs.Owing.{Owing, owe, pay, all_paid}
-use Rattle.register_sweeps.proofs.Requests.{no, load_outside, store_outside, prefetch_outside, store_of_nothing, eviction_ends, unchanged, listed, changed}
+use Rattle.register_sweeps.proofs.Steps.{listed, changed}
 
 -- ---- a machine that keeps what machines keep
 
@@ -67,44 +67,7 @@ pump_lighter s g h = go (pumped s.sizes s.machine) refl
 -- ---- at weight 0 a request ends
 
 pub at_rest : (s : MachineState) (event : Event) → Good s → is_request event ≡ true → weight s.machine ≡ 0 → is_end (answered s event) ≡ true
-unfolding answered
-at_rest s event g r rest = go event r (may_of s event g)
-  where
-    f : Flat
-    f = flat_of s.sizes s.machine
-
-    words : (at : ℕ) (b : Bool) → nat_lt at s.sizes.words ≡ b → nat_lt at (length f.mem) ≡ b
-    words at b e = ap (λ n. nat_lt at n) (mem_length s.sizes s.machine) ∙ e
-
-    serves : ServesRequests s.sizes s.machine
-    serves = bound_at_rest s.sizes g.lawful g.roomy s.machine g.sound g.bounded rest
-
-    inside : (at : ℕ) → nat_lt at s.sizes.words ≡ true → at < s.sizes.words
-    inside at e = grind (arith, common_steps, e)
-
-    load : (tag at : ℕ) → may_answer f (Load tag at) (answered s (Load tag at)) ≡ true → (b : Bool) → nat_lt at s.sizes.words ≡ b → is_end (answered s (Load tag at)) ≡ true
-    load tag at may true e = ap is_end (serves.loads tag at (inside at e))
-    load tag at may false e = load_outside f tag at (answered s (Load tag at)) (words at false e) may
-
-    store : (at : ℕ) (word : Word) (lanes : Lanes) → may_answer f (Store at word lanes) (answered s (Store at word lanes)) ≡ true → (b : Bool) → nat_lt at s.sizes.words ≡ b → (some : Bool) → has_any lanes ≡ some → is_end (answered s (Store at word lanes)) ≡ true
-    store at word lanes may false e some l = store_outside f at word lanes (answered s (Store at word lanes)) (words at false e) may
-    store at word lanes may true e false l = store_of_nothing f at word lanes (answered s (Store at word lanes)) (words at true e) l may
-    store at word lanes may true e true l = ap is_end (serves.stores at word lanes (inside at e) l)
-
-    prefetch : (at : ℕ) → may_answer f (Prefetch at) (answered s (Prefetch at)) ≡ true → (b : Bool) → nat_lt at s.sizes.words ≡ b → is_end (answered s (Prefetch at)) ≡ true
-    prefetch at may true e = ap is_end (serves.prefetches at (inside at e))
-    prefetch at may false e = prefetch_outside f at (answered s (Prefetch at)) (words at false e) may
-
-    go : (event : Event) → is_request event ≡ true → may_answer f event (answered s event) ≡ true → is_end (answered s event) ≡ true
-    go (Load tag at) r may = load tag at may (nat_lt at s.sizes.words) refl
-    go (Store at word lanes) r may = store at word lanes may (nat_lt at s.sizes.words) refl (has_any lanes) refl
-    go (Prefetch at) r may = prefetch at may (nat_lt at s.sizes.words) refl
-    go (Evict block) r may = eviction_ends (answered s (Evict block)) (serves.evictions block)
-    go Drain r may = absurd (no (sym r))
-    go (Serve bank) r may = absurd (no (sym r))
-    go (Arrive bank place) r may = absurd (no (sym r))
-    go (Process place) r may = absurd (no (sym r))
-    go (Take place) r may = absurd (no (sym r))
+at_rest s event g r rest = request_ends s (bound_at_rest s.sizes g.lawful g.roomy s.machine g.sound g.bounded rest) event r
 
 -- ---- the counts and what is owed
 
@@ -374,8 +337,7 @@ counted_end event c ended loads r k h =
 
 -- a request that has to wait leaves the course as it was
 pub waits : (event : Event) (c : Course) → is_request event ≡ true → ends event c ≡ false → ask event c ≡ c
-unfolding answered after_event
-waits event c r h = λ i. record { state = record { sizes = c.state.sizes; machine = unchanged c.state.sizes c.state.machine event r h i }; row = end_waits c.row (answered c.state event) h i }
+waits event c r h = λ i. record { state = request_stays c.state event r h i; row = end_waits c.row (answered c.state event) h i }
 
 -- ---- a request is asked until it ends
 

@@ -1,5 +1,6 @@
 -- A request that waits at a whole machine ends within the machine's weight, so that more turns do the same.
 use Rattle.std.proofs.Common.{◌≡◌, ℕ, zero, suc, ◌<◌, ◌≤◌, Bool, true, false, Option, Some, None, refl, sym, ap, subst, ◌∙◌, arith}
+use Rattle.std.proofs.lemmas.Bool.{true≢false as no}
 use Rattle.flat_model.specs.declared.Event.{Event}
 use Rattle.machine_core.specs.Law.{most_weight}
 use Rattle.machine_core.specs.Machine.{MachineState}
@@ -8,8 +9,9 @@ use Rattle.machine_core.specs.Pump.{pumped, weight}
 use Rattle.machine_core.specs.Whole.{IsWholeState}
 use Rattle.machine_core.proofs.Contract.{sound_apply, bounded_apply, served_after_pumps}
 use Rattle.machine_core.proofs.Whole.{lawful, roomy}
-use Rattle.register_sweeps.specs.Sweep.{Course, pump_and_wait, is_end, ask, ends, ask_again, is_request}
-use Rattle.register_sweeps.proofs.Requests.{no}
+use Rattle.round_driver.specs.Rounds.{is_end}
+use Rattle.round_driver.specs.Walks.{is_request}
+use Rattle.register_sweeps.specs.Sweep.{Course, pump_and_wait, ask, ends, ask_again}
 use Rattle.register_sweeps.proofs.Ending.{Good, pump_lighter, at_rest, waits, ask_again_step}
 
 good : (s : MachineState) → IsWholeState s → Good s

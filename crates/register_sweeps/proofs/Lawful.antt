@@ -3,8 +3,7 @@ use Rattle.std.proofs.Common.{◌≡◌, ℕ, ◌≤◌, Bool, true, false, ◌=
 use Rattle.std.specs.List.{list_all}
 use Rattle.std.proofs.lemmas.Grind.{common_steps}
 use Rattle.std.proofs.lemmas.List.{length-replicate, get_or-map}
-use Rattle.std.proofs.lemmas.Bool.{le-leb}
-use Rattle.register_sweeps.proofs.Requests.{no}
+use Rattle.std.proofs.lemmas.Bool.{le-leb, true≢false as no}
 use Rattle.flat_model.specs.declared.Word.{Word}
 use Rattle.flat_model.specs.declared.Event.{Event}
 use Rattle.flat_model.specs.declared.ShapeField.{ShapeField}
@@ -20,10 +19,11 @@ use Rattle.machine_core.specs.Machine.{MachineState, opening}
 use Rattle.machine_core.proofs.Contract.{sound_opening, bounded_opening, flat_opening}
 use Rattle.machine_core.proofs.Whole.{lawful, roomy}
 use Rattle.shape_files.specs.declared.shape_file.ToolShape.{ToolShape}
+use Rattle.round_driver.specs.Walks.{is_request}
 use Rattle.register_sweeps.specs.declared.row.Row.{Row}
 use Rattle.register_sweeps.specs.declared.sweeps.SweepFault.{SweepFault}
 use Rattle.shape_files.specs.ShapeFile.{is_register_count, sizes_of, bad_field}
-use Rattle.register_sweeps.specs.Sweep.{new_machine, row_of, CountsAll, EachCountsAll, is_request, bad_from}
+use Rattle.register_sweeps.specs.Sweep.{new_machine, row_of, CountsAll, EachCountsAll, bad_from}
 use Rattle.register_sweeps.proofs.Ending.{Good, row_counts}
 use Rattle.register_sweeps.proofs.Shapes.{good_shape}
 

@@ -1,7 +1,7 @@
 pub mod Turns
 pub mod Shapes
 pub mod Owing
-pub mod Requests
+pub mod Steps
 pub mod Ending
 pub mod EnoughTurns
 pub mod Lawful

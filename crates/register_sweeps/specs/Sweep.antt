@@ -1,15 +1,16 @@
 -- What a sweep counts, over the walk of the machine.
-use Rattle.std.specs.Prelude.{⊤, ℕ, zero, suc, ◌≡◌, ◌<◌, ◌+◌, ◌-◌, Bool, true, false, if◌then◌else◌, List, [], ◌∷◌, ◌++◌, length, replicate, slice_index_or, codes, decimal, Option, Some, None}
+use Rattle.std.specs.Prelude.{⊤, ℕ, zero, suc, ◌≡◌, ◌<◌, ◌+◌, ◌-◌, Bool, if◌then◌else◌, List, [], ◌∷◌, ◌++◌, length, replicate, slice_index_or, codes, decimal, Option, Some, None}
 use Rattle.std.specs.Option.{option_map, option_or}
 use Rattle.flat_model.specs.declared.Cause.TheVariants.{OutOfRange, NoLanes, NotPresent}
 use Rattle.flat_model.specs.declared.Event.{Event}
-use Rattle.flat_model.specs.declared.Event.TheVariants.{Load, Store, Prefetch, Evict}
 use Rattle.flat_model.specs.declared.Answer.{Answer}
 use Rattle.flat_model.specs.declared.Answer.TheVariants.{Accepted, Value, Refused}
 use Rattle.flat_model.specs.declared.ShapeField.{ShapeField}
+use Rattle.flat_model.specs.Memory.{is_load}
 use Rattle.flat_model.specs.Words.{zero_word}
 use Rattle.machine_core.specs.Machine.{MachineState, opening}
 use Rattle.machine_core.specs.AnyMachine.{answered, after_event, pump_tells, pump_leaves, weight_of}
+use Rattle.round_driver.specs.Rounds.{is_end}
 use Rattle.shape_files.specs.declared.shape_file.ToolShape.{ToolShape}
 use Rattle.register_sweeps.specs.declared.row.Row.{Row}
 use Rattle.register_sweeps.specs.declared.sweeps.SweepFault.{SweepFault}
@@ -37,14 +38,6 @@ with_pumped row (Some told) = with_pump row told.1
 
 abbrev pub pump_once : Course → Course
 pump_once c = course (pump_leaves c.state) (with_pumped c.row (pump_tells c.state))
-
--- whether an answer ends a request: it was accepted, or refused for what no pump changes
-abbrev pub is_end : Answer → Bool
-is_end Accepted = true
-is_end (Refused OutOfRange) = true
-is_end (Refused NoLanes) = true
-is_end (Refused NotPresent) = true
-is_end answer = false
 
 abbrev pub with_end : Row → Answer → Row
 with_end row Accepted = record row { accepted = row.accepted + 1 }
@@ -111,17 +104,6 @@ abbrev pub row_of : List Event → ToolShape → Row
 row_of events t = row_from (new_machine t) t.regs events
 
 -- ---- what a row counts
-
-abbrev pub is_request : Event → Bool
-is_request (Load tag at) = true
-is_request (Store at word lanes) = true
-is_request (Prefetch at) = true
-is_request (Evict block) = true
-is_request event = false
-
-abbrev pub is_load : Event → Bool
-is_load (Load tag at) = true
-is_load event = false
 
 -- 1 where a request is a load and was accepted between these two counts
 abbrev pub loads_between : Event → Row → Row → ℕ

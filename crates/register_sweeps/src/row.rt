@@ -5,7 +5,8 @@ ghost use Rattle.std.specs.Fmt.{WritesOnOk};
 ghost use Rattle.machine_core.specs.Law.{most_weight};
 ghost use Rattle.machine_core.specs.Whole.{IsWholeState};
 ghost use Rattle.machine_core.specs.AnyMachine.{answered, weight_of};
-ghost use Rattle.round_driver.specs.Rounds.{most_requests};
+ghost use Rattle.round_driver.specs.Rounds.{is_end, most_requests};
+ghost use Rattle.round_driver.specs.Walks.{is_request};
 ghost use Rattle.register_sweeps.specs.Sweep as sweep;
 ghost use Rattle.register_sweeps.specs.Sweep.{course, total};
 
@@ -92,7 +93,7 @@ impl Row {
     #[inline(always)]
     fn count_end(&mut self, answer: Answer) -> bool
         requires { total self.old < 2 ^ 63 }
-        ensures ends { result ≡ sweep.is_end answer }
+        ensures ends { result ≡ is_end answer }
         ensures row { self.new ≡ sweep.with_end self.old answer }
         ensures total { total self.new ≤ total self.old + 1 }
     {
@@ -139,7 +140,7 @@ fn pump_once<M: AnyMachine>(machine: &mut M, row: &mut Row)
 
 // Whether an event is a load, a store, a prefetch or an eviction.
 fn is_request(event: Event) -> bool
-    ensures { result ≡ sweep.is_request event }
+    ensures { result ≡ is_request event }
 {
     matches!(
         event,
@@ -153,8 +154,8 @@ fn is_request(event: Event) -> bool
 fn most_turns<M: AnyMachine>(machine: &M, event: Event, is_whole: bool) -> u64
     requires few { most_weight (M.state machine.now).sizes < 2 ^ 32 }
     requires whole { IsTrue is_whole → IsWholeState (M.state machine.now) }
-    requires waits { IsTrue is_whole → IsTrue (sweep.is_request event)
-        → sweep.is_end (answered (M.state machine.now) event) ≡ false }
+    requires waits { IsTrue is_whole → IsTrue (is_request event)
+        → is_end (answered (M.state machine.now) event) ≡ false }
     ensures few { result < 2 ^ 32 }
     ensures same { (c : sweep.Course) → c.state ≡ M.state machine.now
         → sweep.ask_again result event c ≡ sweep.ask_again (weight_of c.state) event c }
@@ -171,8 +172,8 @@ fn ask_again<M: AnyMachine>(machine: &mut M, row: &mut Row, event: Event, is_who
     requires few { most_weight (M.state machine.old).sizes < 2 ^ 32 }
     requires room { total row.old < 2 ^ 62 }
     requires whole { IsTrue is_whole → IsWholeState (M.state machine.old) }
-    requires waits { IsTrue is_whole → IsTrue (sweep.is_request event)
-        → sweep.is_end (answered (M.state machine.old) event) ≡ false }
+    requires waits { IsTrue is_whole → IsTrue (is_request event)
+        → is_end (answered (M.state machine.old) event) ≡ false }
     ensures sizes { (M.state machine.new).sizes ≡ (M.state machine.old).sizes }
     ensures course { course (M.state machine.new) row.new
         ≡ sweep.ask_again (weight_of (M.state machine.old)) event

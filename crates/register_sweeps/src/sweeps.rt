@@ -3,9 +3,10 @@
 ghost use Rattle.std.specs.Prelude.{⊤, ◌≡◌, ◌≢◌, ◌∷◌, [], ◌≤◌, length, map, None, Err, IfOk, IfErr, OnOk, true};
 ghost use Rattle.std.specs.List.{list_all};
 ghost use Rattle.round_driver.specs.Rounds.{most_requests};
+ghost use Rattle.round_driver.specs.Walks.{is_request};
 ghost use Rattle.register_sweeps.specs.declared.sweeps.SweepFault.TheVariants.{TurnLimit};
 ghost use Rattle.shape_files.specs.ShapeFile.{bad_field};
-ghost use Rattle.register_sweeps.specs.Sweep.{FaultSays, CountsAll, EachCountsAll, is_request, bad_from, row_from, row_of};
+ghost use Rattle.register_sweeps.specs.Sweep.{FaultSays, CountsAll, EachCountsAll, bad_from, row_from, row_of};
 
 use crate::choice::{MachineJob, with_machine};
 use crate::row::{Row, whole_row_from};

@@ -1,11 +1,11 @@
 -- From what each thread did to what a run of the station did.
-use Rattle.std.proofs.Common.{◌≡◌, ℕ, ◌<◌, List, [], ◌++◌, length, map, slice_index_or, refl, sym, ap, ◌∙◌, subst, arith, append-nil}
-use Rattle.std.specs.Prelude.{IsOk, IsErr, OnOk, Result, Ok, Err}
+use Rattle.std.proofs.Common.{◌≡◌, ◌<◌, List, [], ◌++◌, slice_index_or, refl, sym, ap, ◌∙◌, subst, arith, append-nil}
+use Rattle.std.specs.Prelude.{IsErr, OnOk, Result, Ok, Err}
 use Rattle.std.specs.Global.{Vec}
 use Rattle.std.specs.List.{All}
 use Rattle.station_journal.specs.declared.asks.Ask.{Ask}
 use Rattle.ring_station.specs.declared.crew.PortRun.{PortRun}
-use Rattle.ring_station.specs.PortRuns.{HasRun, HaveRun}
+use Rattle.ring_station.specs.PortRuns.{HasRun}
 use Rattle.station_parts.specs.Ids.{port_id}
 use Rattle.station_parts.specs.Words.{taken}
 use Rattle.ring_station.specs.Crew.{RanScript, EachRanScript, EachIsSame}

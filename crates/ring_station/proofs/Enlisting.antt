@@ -1,5 +1,5 @@
 -- One more run for a port: its list is empty and it hasn't ended well, as those before it.
-use Rattle.std.proofs.Common.{◌≡◌, ℕ, ◌<◌, List, [], ◌∷◌, ◌++◌, suc, zero, arith, IsErr}
+use Rattle.std.proofs.Common.{◌≡◌, List, [], ◌∷◌, ◌++◌, suc, zero, arith, IsErr}
 use Rattle.std.specs.List.{All}
 use Rattle.std.proofs.lemmas.List.Elements.{All-append}
 use Rattle.ring_station.specs.declared.crew.PortRun.{PortRun}

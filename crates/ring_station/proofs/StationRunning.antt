@@ -10,7 +10,7 @@ use Rattle.station_journal.specs.declared.asks.Told.{Told}
 use Rattle.station_parts.specs.declared.port.Port.{Port}
 use Rattle.station_parts.specs.declared.bank.BankSide.{BankSide}
 use Rattle.station_parts.specs.declared.parts.CacheSide.{CacheSide}
-use Rattle.station_parts.specs.Ids.{PortId, BankId, port_id, bank_id, cache_id}
+use Rattle.station_parts.specs.Ids.{port_id, bank_id, cache_id}
 use Rattle.station_parts.specs.Station.{BelongTogether, AreOneStation}
 use Rattle.station_parts.specs.Words.{offered, taken}
 use Rattle.station_parts.specs.New.{IsNewPort}

@@ -1,4 +1,5 @@
 pub mod Turns
+pub mod Requests
 pub mod Runs
 pub mod Walks
 pub mod Moves

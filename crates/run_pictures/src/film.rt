@@ -3,13 +3,12 @@
 ghost use Rattle.std.specs.Prelude.{◌≡◌, OnOk, IfOk, Some};
 ghost use Rattle.flat_model.specs.Memory.{shown};
 ghost use Rattle.flat_model.specs.Flat.{flat_step};
-ghost use Rattle.trace_text.specs.Checks as checks;
 ghost use Rattle.run_pictures.specs.Pictures as pictures;
 
 use crate::cells::text_at;
 use crate::machine::{Extent, PictureMachine};
 use crate::place::{Place, places_of};
-use flat_model::{Answer, Event, FlatMemory, Word};
+use flat_model::{Answer, Event, FlatMemory};
 use std::alloc::{AllocError, Global};
 
 /// The picture as it stands, and the places that it has.
@@ -18,14 +17,6 @@ pub struct Film {
     flat: FlatMemory,
     places: Vec<Place>,
     texts: Vec<String>,
-}
-
-// The flat memory of a machine in which nothing has happened, over zeros.
-fn zeros(alloc: Global, extent: &Extent) -> Result<FlatMemory, AllocError>
-    ensures { IfOk result (λ flat. shown flat ≡ checks.zeros extent.now.words) }
-{
-    let image = vec![in alloc; Word::default(); extent.words as usize]?;
-    FlatMemory::new(alloc, image.as_slice())
 }
 
 // The text of each place.
@@ -74,7 +65,7 @@ impl Film {
     {
         let extent = machine.extent();
         let places = places_of(alloc, &extent)?;
-        let flat = zeros(alloc, &extent)?;
+        let flat = FlatMemory::zeros(alloc, extent.words)?;
         let texts = texts_of(alloc, machine, &flat, places.as_slice())?;
         Ok(Film {
             flat,

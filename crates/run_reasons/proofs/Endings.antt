@@ -1,14 +1,12 @@
 -- What is told where a reading ends.
-use Rattle.std.proofs.Common.{◌≡◌, ℕ, ◌+◌, ◌<◌, Option, Result, Ok, Err, List, [], ◌∷◌, ◌++◌, length, refl, sym, ap, subst}
+use Rattle.std.proofs.Common.{◌≡◌, ℕ, ◌+◌, Result, Ok, Err, List, [], ◌++◌, refl, sym, ap, subst}
 use Rattle.trace_text.specs.Streams.{Came, Moves}
-use Rattle.trace_text.specs.declared.lines.LineFault.{LineFault}
 use Rattle.trace_text.specs.declared.lines.LineFault.TheVariants.{Unknown, Field, TooLong, NotEnded}
 use Rattle.trace_text.specs.declared.fault.TraceFault.{TraceFault}
 use Rattle.trace_text.specs.declared.fault.TraceFault.TheVariants as fault
 use Rattle.run_reasons.specs.Runs.{IsFlatText, EndsIn, ReadSoFar, ReadInto, Explains, explained_by}
 use Rattle.run_reasons.specs.Lines.{HasRead, EndsWith}
 use Rattle.run_reasons.specs.declared.explain.Explanation.{Explanation}
-use Rattle.run_reasons.specs.declared.explain.Explanation.TheVariants as explained
 use Rattle.run_reasons.specs.declared.lines.Lines.{Lines}
 use Rattle.run_reasons.specs.declared.lines.Stop.{Stop}
 use Rattle.run_reasons.specs.declared.lines.Stop.TheVariants as stop

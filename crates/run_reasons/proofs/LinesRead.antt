@@ -1,15 +1,13 @@
 -- What a byte makes of the lines that were read.
-use Rattle.std.proofs.Common.{◌≡◌, ◌≢◌, ℕ, ◌+◌, ◌^◌, ◌<◌, ◌≤◌, Bool, Option, Some, None, Result, Ok, Err, OnOk, IfErr, List, [], ◌∷◌, ◌++◌, length, length-append, append-nil, append_assoc, refl, sym, ◌∙◌, ap, subst, arith}
+use Rattle.std.proofs.Common.{◌≡◌, ◌≢◌, ℕ, ◌+◌, ◌^◌, ◌<◌, ◌≤◌, Option, Some, None, Result, Ok, Err, OnOk, IfErr, List, [], ◌∷◌, ◌++◌, length, length-append, append-nil, append_assoc, refl, sym, ◌∙◌, ap, subst, arith}
 use Rattle.flat_model.specs.declared.Event.{Event}
 use Rattle.flat_model.specs.declared.Answer.{Answer}
-use Rattle.flat_model.specs.Flat.{Flat, flat_step}
-use Rattle.trace_text.specs.Streams.{HasNoEnd}
+use Rattle.flat_model.specs.Flat.{flat_step}
 use Rattle.trace_text.specs.Reading.{IsGood, Good, fault_of}
 use Rattle.trace_text.specs.Pairs.{pair_of}
 use Rattle.trace_text.specs.Recorded.{recorded}
-use Rattle.trace_text.specs.Checks.{step_of, step_with, zeros, pair_fault, JudgedFrom, IsJudged}
+use Rattle.trace_text.specs.Checks.{step_of, step_with, zeros, pair_fault, JudgedFrom}
 use Rattle.trace_text.specs.declared.check.Step.{Step}
-use Rattle.trace_text.specs.declared.check.CheckEnd.TheVariants as check
 use Rattle.trace_text.specs.declared.lines.LineFault.{LineFault}
 use Rattle.trace_text.specs.declared.lines.LineFault.TheVariants.{TooLong}
 use Rattle.trace_text.specs.declared.pairs.Pair.{Pair}

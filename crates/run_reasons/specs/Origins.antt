@@ -4,9 +4,9 @@ use Rattle.std.specs.Prelude.{ℕ, ◌+◌, ◌==◌, ◌&&◌, if◌then◌else
 use Rattle.flat_model.specs.declared.Word.{Word}
 use Rattle.flat_model.specs.declared.Lanes.{Lanes}
 use Rattle.flat_model.specs.declared.Event.{Event}
-use Rattle.flat_model.specs.declared.Event.TheVariants.{Load, Store, Prefetch, Evict, Drain, Serve, Arrive, Process, Take}
+use Rattle.flat_model.specs.declared.Event.TheVariants.{Load, Store, Take}
 use Rattle.flat_model.specs.declared.Answer.{Answer}
-use Rattle.flat_model.specs.declared.Answer.TheVariants.{Accepted, Moved, Value, Nothing, Refused}
+use Rattle.flat_model.specs.declared.Answer.TheVariants.{Accepted, Value}
 use Rattle.flat_model.specs.Words.{has, Lane0, Lane1, Lane2, Lane3}
 use Rattle.flat_model.specs.Flat.{Flat, word_at, flat_after}
 use Rattle.trace_text.specs.Pairs.{pair_of}

@@ -1,15 +1,13 @@
 -- How a recorded run is read, up to the first line that flat memory can't answer.
-use Rattle.std.specs.Prelude.{◌≡◌, ℕ, ◌+◌, ◌<◌, ◌≤◌, Option, Some, None, Result, Ok, Err, List, [], ◌∷◌, ◌++◌, length}
-use Rattle.std.specs.List.{AllByRecursion}
+use Rattle.std.specs.Prelude.{◌≡◌, ℕ, ◌+◌, ◌<◌, ◌≤◌, None, Result, Ok, Err, List, [], ◌∷◌, ◌++◌, length}
 use Rattle.flat_model.specs.Flat.{flat_step}
 use Rattle.trace_text.specs.Codes.{line_feed}
 use Rattle.trace_text.specs.Streams.{HasNoEnd, Came, Moves}
-use Rattle.trace_text.specs.Reading.{joined_texts, IsGood, Good, BeginsFaulty}
+use Rattle.trace_text.specs.Reading.{IsGood, Good, BeginsFaulty}
 use Rattle.trace_text.specs.Pairs.{pair_of}
 use Rattle.trace_text.specs.Recorded.{recorded}
 use Rattle.trace_text.specs.Checks.{zeros, pair_fault, JudgedFrom, IsJudged}
 use Rattle.trace_text.specs.declared.check.CheckEnd.TheVariants as check
-use Rattle.trace_text.specs.declared.lines.LineFault.{LineFault}
 use Rattle.trace_text.specs.declared.lines.LineFault.TheVariants.{NotEnded}
 use Rattle.trace_text.specs.declared.fault.TraceFault.{TraceFault}
 use Rattle.trace_text.specs.declared.fault.TraceFault.TheVariants as fault

@@ -1,5 +1,5 @@
 -- What an `Explainer` shows, and what the faults of a line say.
-use Rattle.std.specs.Prelude.{ℕ, ◌≡◌, Option, Some, None, List, slice_index_or}
+use Rattle.std.specs.Prelude.{ℕ, ◌≡◌, None, List, slice_index_or}
 use Rattle.flat_model.specs.declared.Event.{Event}
 use Rattle.flat_model.specs.declared.Answer.{Answer}
 use Rattle.flat_model.specs.Flat.{flat_step}

@@ -3,7 +3,6 @@
 ghost use Rattle.std.specs.Prelude.{◌≡◌, ◌<◌, ℕ, true, length, vec_len, replicate, slice_set, Some, IfOk, IfErr, OnOk, OnErr};
 ghost use Rattle.flat_model.specs.Flat.{Flat, word_at, may_answer, flat_step};
 ghost use Rattle.flat_model.specs.Memory as memory;
-ghost use Rattle.trace_text.specs.Checks.{zeros};
 ghost use Rattle.run_reasons.specs.Origins.{no_stores};
 
 use crate::origins::{AcceptedLoad, Stores, TagUse};
@@ -36,15 +35,6 @@ pub struct Explainer {
     ghost all_tags: { vec_len tags ≡ 65536 },
 }
 
-// Memory of so many words of zeros.
-fn zero_memory(alloc: Global, words: u32) -> Result<FlatMemory, AllocError>
-    ensures zeros { IfOk result (λ m. memory.shown m ≡ zeros words) }
-    ensures len { IfOk result (λ m. length (memory.shown m).mem ≡ words) }
-{
-    let image = vec![in alloc; Word::default(); words as usize]?;
-    FlatMemory::new(alloc, image.as_slice())
-}
-
 // So many words that no line has stored.
 fn no_stores(alloc: Global, words: u32) -> Result<Vec<Stores>, AllocError>
     ensures items { IfOk result (λ v. v.items ≡ replicate words no_stores) }
@@ -72,7 +62,7 @@ impl Explainer {
     pub fn new(alloc: Global, words: u32) -> Result<Explainer, AllocError>
         ensures { IfOk result (λ e. shown e ≡ beginning words) }
     {
-        let flat = zero_memory(alloc, words)?;
+        let flat = FlatMemory::zeros(alloc, words)?;
         let stores = no_stores(alloc, words)?;
         let tags = no_uses(alloc, TAGS)?;
         Ok(Explainer {

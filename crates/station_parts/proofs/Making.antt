@@ -36,7 +36,7 @@ use Rattle.station_parts.specs.Rows.{sent_at, free_at, taken_at, popped_at, rece
 use Rattle.station_parts.specs.Ports.{PortsTell}
 use Rattle.station_parts.specs.declared.parts.CacheSide.{CacheSide}
 use Rattle.station_parts.specs.Station.{AreOneStation, words_by_bank}
-use Rattle.station_parts.specs.Rings.{RingId, pushes_to, pops_from}
+use Rattle.station_parts.specs.Rings.{pushes_to, pops_from}
 use Rattle.station_parts.specs.Ids.{PortId, BankId, line_ring, port_id, bank_id}
 use Rattle.station_parts.specs.New.{bad_field, IsNewPort, IsNewBank, IsNewPopper, IsNewPusher, IsNewLine, IsNewCache, IsNewStation, AreNewPorts, AreNewBanks}
 

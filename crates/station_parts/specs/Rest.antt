@@ -2,7 +2,6 @@
 use Rattle.std.specs.Prelude.{Bool, ◌&&◌, ◌==◌, not, length}
 use Rattle.std.specs.List.{list_all}
 use Rattle.cache_unit.specs.State.{Cache, tags}
-use Rattle.cache_unit.specs.Views.{is_empty}
 
 -- no load is owed its value, the write queue is empty, and no register is valid
 abbrev pub is_at_rest : Cache → Bool

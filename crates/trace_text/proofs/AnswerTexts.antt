@@ -8,11 +8,11 @@ use Rattle.flat_model.specs.declared.Cause.{Cause}
 use Rattle.flat_model.specs.declared.Cause.TheVariants.{OutOfRange, NoLanes, TagInUse, RepliesFull, TargetsFull, BlockQueued, NoRegister, SetPending, QueueFull, BankFull, NotPresent, StackFull, StrayWord}
 use Rattle.flat_model.specs.declared.Answer.{Answer}
 use Rattle.flat_model.specs.declared.Answer.TheVariants.{Accepted, Moved, Value, Nothing, Refused}
-use Rattle.flat_model.specs.Flat.{number}
+use Rattle.flat_model.specs.Flat.{number, cause_of}
 use Rattle.trace_text.specs.Fields.{number_of, word_of, word_text}
 use Rattle.trace_text.specs.Lines.{cut_of, same, number_in}
 use Rattle.trace_text.specs.Texts.{answer_text}
-use Rattle.trace_text.specs.Pairs.{cause_of, bare_answer, value_answer, value_from, value_of, refusal, refusal_of, answer_from, answer_of}
+use Rattle.trace_text.specs.Pairs.{bare_answer, value_answer, value_from, value_of, refusal, refusal_of, answer_from, answer_of}
 use Rattle.trace_text.specs.Written.{IsTag, IsWord, IsFitAnswer}
 use Rattle.trace_text.proofs.Words.{word_read}
 use Rattle.trace_text.proofs.Cuts.{cut_front, cut_none, whole, cut_is, no_space, no_space_in}

@@ -1,13 +1,13 @@
 -- Lines as they are written: a command, ` -> ` and an answer.
-use Rattle.std.specs.Prelude.{◌≡◌, ◌++◌, ℕ, suc, ◌+◌, ◌==◌, if◌then◌else◌, Option, None, Some, Result, Ok, Err, List, [], ◌∷◌, length, take, drop, nat_eq, nat_lt, codes}
+use Rattle.std.specs.Prelude.{◌≡◌, ◌++◌, ℕ, suc, ◌+◌, if◌then◌else◌, Option, None, Some, Result, Ok, Err, List, [], ◌∷◌, length, take, drop, nat_eq, nat_lt, codes}
 use Rattle.trace_text.specs.declared.fault.TheConstants.{MAX_PAIR}
 use Rattle.std.specs.List.{starts_with}
 use Rattle.std.specs.Option.{option_map, option_and_then}
 use Rattle.flat_model.specs.declared.Word.{Word}
 use Rattle.flat_model.specs.declared.Cause.{Cause}
-use Rattle.flat_model.specs.declared.Cause.TheVariants.{OutOfRange, NoLanes, TagInUse, RepliesFull, TargetsFull, BlockQueued, NoRegister, SetPending, QueueFull, BankFull, NotPresent, StackFull, StrayWord}
 use Rattle.flat_model.specs.declared.Answer.{Answer}
 use Rattle.flat_model.specs.declared.Answer.TheVariants.{Accepted, Moved, Value, Nothing, Refused}
+use Rattle.flat_model.specs.Flat.{cause_of}
 use Rattle.trace_text.specs.Fields.{number_of, word_of}
 use Rattle.trace_text.specs.Lines.{cut_of, same, one_number, line_of, is_ended, without_end}
 use Rattle.trace_text.specs.declared.lines.Line.{Line}
@@ -17,24 +17,6 @@ use Rattle.trace_text.specs.declared.lines.LineFault.TheVariants.{Field, TooLong
 use Rattle.trace_text.specs.declared.pairs.Pair.{Pair}
 
 -- ---- answers
-
--- the cause of this number
-unfoldable pub cause_of : ℕ → Option Cause
-cause_of n =
-    if n == 1 then Some OutOfRange
-    else if n == 2 then Some NoLanes
-    else if n == 3 then Some TagInUse
-    else if n == 4 then Some RepliesFull
-    else if n == 5 then Some TargetsFull
-    else if n == 6 then Some BlockQueued
-    else if n == 7 then Some NoRegister
-    else if n == 8 then Some SetPending
-    else if n == 9 then Some QueueFull
-    else if n == 10 then Some BankFull
-    else if n == 11 then Some NotPresent
-    else if n == 12 then Some StackFull
-    else if n == 13 then Some StrayWord
-    else None
 
 abbrev pub bare_answer : Answer → Option (List ℕ) → Option Answer
 bare_answer answer None = Some answer

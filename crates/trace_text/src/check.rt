@@ -3,7 +3,7 @@ ghost use Rattle.std.specs.Prelude.{◌≡◌, ℕ, ◌<◌, List, OnOk, IfOk, I
 ghost use Rattle.trace_text.specs.declared.fault.TheConstants.{MAX_LINES, MAX_PAIR};
 ghost use Rattle.flat_model.specs.Memory.{shown};
 ghost use Rattle.trace_text.specs.Reading.{ReadWhole, ReadFails};
-ghost use Rattle.trace_text.specs.Checks.{step_with, pair_fault, zeros, IsJudged, JudgedFrom, Judges};
+ghost use Rattle.trace_text.specs.Checks.{step_with, pair_fault, IsJudged, JudgedFrom, Judges};
 
 use crate::fault::{BUFFER_LEN, MAX_PAIR, TraceFault};
 use crate::lines::Line;
@@ -11,8 +11,8 @@ use crate::pairs::{Pair, pair_said};
 use crate::pieces::Failed;
 use crate::reading::{Collector, Uncollected, read_lines};
 use crate::streams::Source;
-use flat_model::{Answer, Event, FlatMemory, StepFault, Word};
-use std::alloc::{AllocError, Global};
+use flat_model::{Answer, Event, FlatMemory, StepFault};
+use std::alloc::Global;
 
 /// What a check of a served trace found.
 #[derive(Clone, Copy, Debug, PartialEq, Eq)]
@@ -104,14 +104,6 @@ impl Collector for Checking {
     }
 }
 
-// Memory of so many words of zeros.
-fn zero_memory(alloc: Global, words: u32) -> Result<FlatMemory, AllocError>
-    ensures { IfOk result (λ memory. shown memory ≡ zeros words) }
-{
-    let image = vec![in alloc; Word::default(); words as usize]?;
-    FlatMemory::new(alloc, image.as_slice())
-}
-
 /// Reads a whole served trace, and judges its events and answers from `words` words of zeros on.
 /// Each line is read as by [`read_pair`](crate::read_pair). Behind a mismatch the rest is read too, so
 /// that a fault in a later line is the answer.
@@ -138,7 +130,7 @@ pub fn check_text<R: Source>(
         (ReadFails R.gave R.failed pair_fault MAX_PAIR reader.old reader.new) }
 {
     let mut checking = Checking {
-        memory: zero_memory(alloc, words)?,
+        memory: FlatMemory::zeros(alloc, words)?,
         steps: 0,
         mismatch: None,
     };

@@ -2,7 +2,7 @@
 ghost use Rattle.std.specs.Prelude.{◌≡◌, ◌≢◌, ℕ, ◌+◌, ◌<◌, ◌≤◌, List, Some, Ok, length, slice_index, IfSome, IfNone, IfErr};
 ghost use Rattle.std.specs.Option.{option_map};
 ghost use Rattle.trace_text.specs.Lines.{IsSaid};
-ghost use Rattle.trace_text.specs.Pairs.{cause_of, bare_answer as bare_of, value_of, refusal_of, answer_from as answer_made, answer_of, IsAnswered, arrow_in, pair_with as pair_made, pair_of, ended_pair_of};
+ghost use Rattle.trace_text.specs.Pairs.{bare_answer as bare_of, value_of, refusal_of, answer_from as answer_made, answer_of, IsAnswered, arrow_in, pair_with as pair_made, pair_of, ended_pair_of};
 
 use crate::fault::MAX_PAIR;
 use crate::fields::{number, word};
@@ -16,29 +16,6 @@ pub struct Pair {
     pub line: Line,
     /// The answer to an event; `None` for a line that only shows something.
     pub answer: Option<Answer>,
-}
-
-// The cause of this number.
-#[tactic(auto, unfolding(crate::specs::Pairs::cause_of))]
-fn cause(number: u32) -> Option<Cause>
-    ensures { result ≡ cause_of number }
-{
-    match number {
-        1 => Some(Cause::OutOfRange),
-        2 => Some(Cause::NoLanes),
-        3 => Some(Cause::TagInUse),
-        4 => Some(Cause::RepliesFull),
-        5 => Some(Cause::TargetsFull),
-        6 => Some(Cause::BlockQueued),
-        7 => Some(Cause::NoRegister),
-        8 => Some(Cause::SetPending),
-        9 => Some(Cause::QueueFull),
-        10 => Some(Cause::BankFull),
-        11 => Some(Cause::NotPresent),
-        12 => Some(Cause::StackFull),
-        13 => Some(Cause::StrayWord),
-        _ => None,
-    }
 }
 
 fn bare_answer(answer: Answer, fields: Option<&[u8]>) -> Option<Answer>
@@ -65,7 +42,7 @@ fn value(fields: Option<&[u8]>) -> Option<Answer>
 fn refused(fields: Option<&[u8]>) -> Option<Answer>
     ensures { result ≡ refusal_of (option_map (λ rest. rest.now) fields.entry) }
 {
-    Some(Answer::Refused(cause(one(fields)?)?))
+    Some(Answer::Refused(Cause::from_number(one(fields)?)?))
 }
 
 #[tactic(auto, unfolding(crate::specs::Pairs::answer_from))]

@@ -1,21 +1,11 @@
 //! The examples of a machine's banks: what waits and what stands in each, at its place.
 
-use super::fixture::small_machine;
+use super::fixture::{numbered, small_machine};
 use super::play::{ARRIVED, plays};
 use flat_model::{Lanes, Word};
 use machine_core::{BankAnswer, Command, Machine};
 use std::process::Abort;
 use std::test::Fail;
-
-/// The word of the image at an address: its first byte is its number.
-fn word(at: u8) -> Word {
-    Word {
-        b0: at,
-        b1: 0,
-        b2: 0,
-        b3: 0,
-    }
-}
 
 /// The read of word `i` for register 0, which lies at this place of its bank.
 fn read(i: u32, place: u32) -> Command {
@@ -85,7 +75,7 @@ serve 1 -> moved
 ";
     plays(&rt, rt.alloc(), &mut machine, &[served])?;
     commands_stand(&rt, &machine, &[(1, 0, Some(read(3, 3))), (1, 1, None)]);
-    let first = answer(1, word(5));
+    let first = answer(1, numbered(5));
     answers_stand(
         &rt,
         &machine,
@@ -95,7 +85,7 @@ serve 1 -> moved
     commands_stand(&rt, &machine, &[(1, 0, None)]);
     let both = [
         (1, 0, Some(first)),
-        (1, 1, Some(answer(3, word(7)))),
+        (1, 1, Some(answer(3, numbered(7)))),
         (1, 2, None),
         (2, 0, None),
         (u32::MAX, u32::MAX, None),
@@ -122,8 +112,8 @@ serve 1 -> moved
 
 #[test]
 fn the_next_answer_stands_first_where_the_first_arrived(rt: HostRuntime) -> Result<(), Fail> {
-    left_behind(&rt, "arrive 1 0 -> moved\n", answer(3, word(7)))?;
-    left_behind(&rt, "arrive 1 1 -> moved\n", answer(1, word(5)))
+    left_behind(&rt, "arrive 1 0 -> moved\n", answer(3, numbered(7)))?;
+    left_behind(&rt, "arrive 1 1 -> moved\n", answer(1, numbered(5)))
 }
 
 /// A dirty word of block 1 is drained while the reads of block 2, words 8 to 11, wait.

@@ -1,20 +1,11 @@
 //! The callers in `uses`, run.
 
-use super::fixture::{PROGRAM_SHAPE, image};
+use super::fixture::{PROGRAM_SHAPE, image, numbered};
 use flat_model::FlatMemory;
 use machine_core::{Answer, Cause, Event, Lanes, Machine, Word};
 use std::test::Fail;
 use trace_text::{Line, LineFault, Pair, read_pair, written_line, written_pair};
 use uses::{Lookups, Verdict, count_lookups, first_load, judge_line};
-
-fn numbered(b0: u8) -> Word {
-    Word {
-        b0,
-        b1: 0,
-        b2: 0,
-        b3: 0,
-    }
-}
 
 #[test]
 fn a_first_load_gets_the_word_of_the_image(rt: HostRuntime) -> Result<(), Fail> {

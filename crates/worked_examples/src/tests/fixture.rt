@@ -62,16 +62,21 @@ pub const STORED_COUNTS: Counts = Counts {
     refused: 0,
 };
 
+/// A word of these bytes.
+pub fn word(b0: u8, b1: u8, b2: u8, b3: u8) -> Word {
+    Word { b0, b1, b2, b3 }
+}
+
+/// A word whose first byte is its number, as in [`image`].
+pub fn numbered(b0: u8) -> Word {
+    word(b0, 0, 0, 0)
+}
+
 /// Words whose first byte is their number.
 pub fn image(alloc: Global, words: u8) -> Result<Vec<Word>, AllocError> {
     let mut image = Vec::with_capacity(alloc, words as usize)?;
     for b0 in 0..words {
-        image.push(Word {
-            b0,
-            b1: 0,
-            b2: 0,
-            b3: 0,
-        })?;
+        image.push(numbered(b0))?;
     }
     Ok(image)
 }

@@ -1,18 +1,14 @@
 //! The examples of the machine, as the lines that it is told and answers.
 
-use super::fixture::{SMALL_SHAPE, image, small_machine};
+use super::fixture::{SMALL_SHAPE, image, small_machine, word};
 use super::play::{ARRIVED, GOT, plays};
-use flat_model::{Answer, Cause, Event, Lanes, Shape, Word};
+use flat_model::{Answer, Cause, Event, Lanes, Shape};
 use machine_core::Machine;
 use miss_registers::Owed;
 use std::alloc::{AllocError, Global};
 use std::process::Abort;
 use std::test::Fail;
 use trace_text::register_text;
-
-fn word(b0: u8, b1: u8, b2: u8, b3: u8) -> Word {
-    Word { b0, b1, b2, b3 }
-}
 
 /// A machine of the small shape with another number of ways and registers.
 fn machine_of<const WAYS: usize, const REGS: usize>(

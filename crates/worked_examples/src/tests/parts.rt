@@ -1,6 +1,6 @@
 //! The examples of the parts: flat memory, the makers, and the cache unit over its banks.
 
-use super::fixture::{SMALL_SHAPE, image, small_machine};
+use super::fixture::{SMALL_SHAPE, image, small_machine, word};
 use cache_directory::{Choice, Directory};
 use cache_unit::{CacheUnit, Request};
 use flat_model::{
@@ -15,10 +15,6 @@ use std::test::Fail;
 use write_queue::WriteQueue;
 
 type Unit = CacheUnit<1, 4, 2, 2>;
-
-fn word(b0: u8, b1: u8, b2: u8, b3: u8) -> Word {
-    Word { b0, b1, b2, b3 }
-}
 
 #[test]
 fn replay(rt: HostRuntime) -> Result<(), Fail> {
@@ -131,17 +127,16 @@ fn makers_refuse_a_bad_shape(rt: HostRuntime) -> Result<(), Fail> {
     Ok(())
 }
 
-/// A unit of the small shape, and its banks.
-fn unit_and_banks(alloc: Global) -> Result<(Unit, Banks), MakeFault> {
+/// The banks of the small shape.
+fn small_banks(alloc: Global) -> Result<Banks, MakeFault> {
     let image = image(alloc, 32)?;
-    let unit = CacheUnit::new(alloc, &SMALL_SHAPE)?;
-    let banks = Banks::new(alloc, &image, &SMALL_SHAPE)?;
-    Ok((unit, banks))
+    Ok(Banks::new(alloc, &image, &SMALL_SHAPE)?)
 }
 
 #[test]
 fn unit_uses_the_arrived_word(rt: HostRuntime) -> Result<(), Fail> {
-    let (mut unit, mut banks) = unit_and_banks(rt.alloc())?;
+    let mut unit: Unit = CacheUnit::new(rt.alloc(), &SMALL_SHAPE)?;
+    let mut banks = small_banks(rt.alloc())?;
     let store = Request::Store {
         at: 5,
         word: word(0xaa, 0, 0, 0),
@@ -168,7 +163,8 @@ fn unit_uses_the_arrived_word(rt: HostRuntime) -> Result<(), Fail> {
 
 #[test]
 fn register_views(rt: HostRuntime) -> Result<(), Fail> {
-    let (mut unit, mut banks) = unit_and_banks(rt.alloc())?;
+    let mut unit: Unit = CacheUnit::new(rt.alloc(), &SMALL_SHAPE)?;
+    let mut banks = small_banks(rt.alloc())?;
     let load = Request::Load { tag: 1, at: 5 };
     assert_eq!(rt; unit.request(load, &mut banks), Answer::Accepted);
     let register = unit.register(0).ok_or("a register")?;

@@ -18,7 +18,8 @@ fn machine<const REGS: usize>(
     }
 }
 
-const SMALL: Shape = Shape {
+// The program's shape with shorter queues.
+const NARROW_SHAPE: Shape = Shape {
     words: 64,
     sets: 4,
     banks: 4,
@@ -63,7 +64,7 @@ fn one_stream_of_misses(rt: HostRuntime) -> Result<(), Fail> {
 // one word comes in each of the rounds 2 to 5; nothing moves in round 6.
 #[test]
 fn a_load_without_latency(rt: HostRuntime) -> Result<(), Fail> {
-    let mut machine = machine::<1>(rt.alloc(), SMALL)?;
+    let mut machine = machine::<1>(rt.alloc(), NARROW_SHAPE)?;
     let requests = [Event::Load { tag: 1, at: 0 }];
     let mut written = Vec::new(rt.alloc());
     let rounds = drive(rt.alloc(), &mut machine, 0, &requests, &mut written)?;
@@ -83,7 +84,7 @@ fn a_load_without_latency(rt: HostRuntime) -> Result<(), Fail> {
 // memory is denied in round 8. The last word comes in round 13, and nothing moves in round 14.
 #[test]
 fn a_table_of_four_requests(rt: HostRuntime) -> Result<(), Fail> {
-    let mut machine = machine::<1>(rt.alloc(), SMALL)?;
+    let mut machine = machine::<1>(rt.alloc(), NARROW_SHAPE)?;
     let requests = [
         Event::Load { tag: 1, at: 0 },
         Event::Load { tag: 2, at: 1 },
@@ -117,15 +118,21 @@ fn a_table_of_four_requests(rt: HostRuntime) -> Result<(), Fail> {
     Ok(())
 }
 
-#[test]
-fn a_run_is_flat(rt: HostRuntime) -> Result<(), Fail> {
-    let mut machine = machine::<2>(rt.alloc(), SMALL)?;
-    let mut requests = Vec::new(rt.alloc());
+// Forty loads all over memory, and behind each an eviction of its block.
+fn loads_and_evictions(alloc: Global) -> Result<Vec<Event>, AllocError> {
+    let mut requests = Vec::new(alloc);
     for tag in 0..40u16 {
         let at = u32::from(tag) * 7 % 64;
         requests.push(Event::Load { tag, at })?;
         requests.push(Event::Evict { block: at / 4 })?;
     }
+    Ok(requests)
+}
+
+#[test]
+fn a_run_is_flat(rt: HostRuntime) -> Result<(), Fail> {
+    let mut machine = machine::<2>(rt.alloc(), NARROW_SHAPE)?;
+    let requests = loads_and_evictions(rt.alloc())?;
     assert!(rt; requests.len() == 80);
     let mut written = Vec::new(rt.alloc());
     drive(
@@ -145,7 +152,7 @@ fn a_run_is_flat(rt: HostRuntime) -> Result<(), Fail> {
 // made with latency 0. The count adds the one in which nothing moves.
 #[test]
 fn a_drain_is_asked_to_the_last_round(rt: HostRuntime) -> Result<(), Fail> {
-    let mut machine = machine::<1>(rt.alloc(), SMALL)?;
+    let mut machine = machine::<1>(rt.alloc(), NARROW_SHAPE)?;
     let table = summarize(rt.alloc(), &mut machine, 0, &[Event::Drain])?;
     assert_eq!(rt; table.rounds, 5251);
     assert_eq!(rt; table.accepted, 0);

@@ -1,10 +1,11 @@
 //! Each call that takes memory, once at its largest size, or over 200,000 items where it has none.
 
-use super::fixture::default_machine;
+use super::fixture::{default_machine, image};
 use cache_directory::Directory;
 use flat_model::{Answer, Event, FlatMemory, Shape, Word};
 use machine_core::Machine;
 use memory_banks::{Banks, Lines};
+use std::alloc::{AllocError, Global};
 use std::test::Fail;
 use trace_text::{CheckEnd, check_text, read_requests};
 use write_queue::WriteQueue;
@@ -21,7 +22,7 @@ const LARGEST: Shape = Shape {
 const MANY: usize = 200_000;
 
 #[test]
-fn parts_of_the_largest_shape(rt: HostRuntime) -> Result<(), Fail> {
+fn memory_of_the_largest_shape(rt: HostRuntime) -> Result<(), Fail> {
     let alloc = rt.alloc();
     let image = vec![in alloc; Word::default(); 1_048_576]?;
     let memory = FlatMemory::new(alloc, &image)?;
@@ -29,6 +30,13 @@ fn parts_of_the_largest_shape(rt: HostRuntime) -> Result<(), Fail> {
     let banks = Banks::new(alloc, &image, &LARGEST)?;
     assert_eq!(rt; banks.room(15), 64);
     assert_eq!(rt; banks.word(1_048_575), Some(Word::default()));
+    Ok(())
+}
+
+#[test]
+fn parts_of_the_largest_shape(rt: HostRuntime) -> Result<(), Fail> {
+    let alloc = rt.alloc();
+    let image = vec![in alloc; Word::default(); 1_048_576]?;
     let queue = WriteQueue::new(alloc, 256)?;
     assert_eq!(rt; queue.room(), 256);
     let directory = Directory::<2, 4>::new(alloc, 1_024)?;
@@ -52,15 +60,7 @@ fn words_that_the_banks_do_not_share_evenly(rt: HostRuntime) -> Result<(), Fail>
         write_queue: 8,
         replies: 8,
     };
-    let mut image = Vec::with_capacity(rt.alloc(), 64)?;
-    for b0 in 0..64u8 {
-        image.push(Word {
-            b0,
-            b1: 0,
-            b2: 0,
-            b3: 0,
-        })?;
-    }
+    let image = image(rt.alloc(), 64)?;
     let banks = Banks::new(rt.alloc(), &image, &shape)?;
     for at in 0..64u32 {
         let wanted = image.get(at as usize).copied();
@@ -71,18 +71,30 @@ fn words_that_the_banks_do_not_share_evenly(rt: HostRuntime) -> Result<(), Fail>
 }
 
 #[test]
-fn long_runs(rt: HostRuntime) -> Result<(), Fail> {
+fn a_long_run(rt: HostRuntime) -> Result<(), Fail> {
     let mut machine = default_machine(rt.alloc())?;
     let events = vec![in rt.alloc(); Event::Drain; MANY]?;
     let answers = machine.run(rt.alloc(), &events)?;
     assert_eq!(rt; answers.len(), MANY);
     let mut memory = FlatMemory::new(rt.alloc(), &[Word::default(); 4])?;
     assert_eq!(rt; memory.replay(rt.alloc(), &events, &answers), Ok(()));
-    let mut loads = Vec::with_capacity(rt.alloc(), 60_000)?;
+    Ok(())
+}
+
+// Loads of one word under each tag below 60,000.
+fn loads_of_many_tags(alloc: Global) -> Result<Vec<Event>, AllocError> {
+    let mut loads = Vec::with_capacity(alloc, 60_000)?;
     for tag in 0..60_000u16 {
         loads.push(Event::Load { tag, at: 3 })?;
     }
+    Ok(loads)
+}
+
+#[test]
+fn replay_of_many_loads(rt: HostRuntime) -> Result<(), Fail> {
+    let loads = loads_of_many_tags(rt.alloc())?;
     let accepted = vec![in rt.alloc(); Answer::Accepted; 60_000]?;
+    let mut memory = FlatMemory::new(rt.alloc(), &[Word::default(); 4])?;
     assert_eq!(rt; memory.replay(rt.alloc(), &loads, &accepted), Ok(()));
     assert_eq!(rt; memory.due_word(59_999), Some(Word::default()));
     Ok(())

@@ -3,7 +3,7 @@ use Rattle.machine_core.specs.Machine.{MachineState}
 use Rattle.machine_core.specs.AnyMachine.{answered}
 use Rattle.machine_core.specs.Law.{most_weight}
 use Rattle.machine_core.specs.Whole.{IsWholeState}
-use Rattle.register_sweeps.specs.Sweep.{is_end}
+use Rattle.round_driver.specs.Rounds.{is_end}
 use Rattle.register_sweeps.proofs.EnoughTurns.{enough_turns}
 use Rattle.register_sweeps.proofs.row.most_turns.Goals as goal
 

@@ -1,4 +1,3 @@
-use Rattle.std.proofs.Common.{◌≡◌, length}
 use Rattle.ring_station.specs.Crew.{EachIsSame}
 use Rattle.ring_station.proofs.run.reserve_lists.Given as goal
 

@@ -1,4 +1,3 @@
-use Rattle.std.proofs.Common.{rules}
 use Rattle.ring_station.proofs.CrewRunning.{not_begun, begun_after}
 use Rattle.ring_station.proofs.run.run_crew.Goals as goal
 

@@ -1,4 +1,4 @@
-use Rattle.std.proofs.Common.{◌∙◌, ℕ, [], slice_index_or, refl, ap, arith}
+use Rattle.std.proofs.Common.{◌∙◌, [], slice_index_or, refl, ap, arith}
 use Rattle.std.proofs.Math.Logic.{∥∥₁_map}
 use Rattle.station_parts.specs.Rings.{pops_from}
 use Rattle.station_parts.specs.Ids.{line_ring}

@@ -14,7 +14,7 @@ returns g c =
     let s = g.M.AnyMachine.state c.args.machine.now in
     record {
       film = record {
-        owed = c.in_ok-flat.ensures ∙ ap (λ z. zeros z.words) c.extent-extent.ensures;
+        owed = c.in_ok-flat.ensures.shown ∙ ap (λ z. zeros z.words) c.extent-extent.ensures;
         picture = subst (λ places. IsPicture s (shown flat) places texts.items) c.as_slice.ensures.value c.in_ok-texts.ensures;
       };
       places = c.in_ok-places.ensures ∙ ap places_in c.extent-extent.ensures;

@@ -1,4 +1,4 @@
-use Rattle.std.proofs.Common.{◌≡◌, ℕ, ◌∷◌, [], ◌++◌, Ok, Err, List, ap, sym, ◌∙◌, arith}
+use Rattle.std.proofs.Common.{◌≡◌, Ok, Err, ap, sym, ◌∙◌, arith}
 use Rattle.trace_text.specs.Pairs.{pair_of, ended_pair_of}
 use Rattle.trace_text.specs.Checks.{zeros}
 use Rattle.trace_text.proofs.Held.{few_steps}

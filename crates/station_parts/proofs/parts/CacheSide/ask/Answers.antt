@@ -1,4 +1,4 @@
-use Rattle.std.proofs.Common.{rules, ℕ, ◌+◌, ◌<◌, ◌≤◌, ◌&&◌, not, true, nat_lt, ◌++◌, ◌∷◌, [], length, map, ◌∙◌, refl, sym, ap, ap₂, subst, subst₂, arith, add-zero, append-nil}
+use Rattle.std.proofs.Common.{rules, ℕ, ◌+◌, ◌≤◌, ◌&&◌, not, true, nat_lt, ◌++◌, ◌∷◌, [], length, map, ◌∙◌, refl, sym, ap, ap₂, subst, subst₂, arith, add-zero, append-nil}
 use Rattle.std.proofs.Math.Bool.{and-false}
 use Rattle.std.proofs.Math.Logic.{∥∥₁_map}
 use Rattle.std.proofs.lemmas.Bool.{lt-ltb, le-ltb}
