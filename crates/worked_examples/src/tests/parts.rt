@@ -73,6 +73,17 @@ fn replay_of_a_value_that_came_later(rt: HostRuntime) -> Result<(), Fail> {
     Ok(())
 }
 
+/// The banks of a shape of 32 words.
+fn banks_of(alloc: Global, shape: &Shape) -> Result<Banks, MakeFault> {
+    let image = image(alloc, 32)?;
+    Banks::new(alloc, &image, shape)
+}
+
+/// A unit of a shape, with one way, 4 words in a block and a stack of 2.
+fn unit_of(alloc: Global, shape: &Shape) -> Result<Unit, MakeFault> {
+    CacheUnit::new(alloc, shape)
+}
+
 #[test]
 fn makers(rt: HostRuntime) -> Result<(), Fail> {
     let alloc = rt.alloc();
@@ -85,11 +96,10 @@ fn makers(rt: HostRuntime) -> Result<(), Fail> {
     assert_eq!(rt; stack.len(), 0);
     let queue = WriteQueue::new(alloc, 4)?;
     assert_eq!(rt; queue.room(), 4);
-    let image = image(alloc, 32)?;
-    let banks = Banks::new(alloc, &image, &SMALL_SHAPE)?;
+    let banks = banks_of(alloc, &SMALL_SHAPE)?;
     assert_eq!(rt; banks.word(5), Some(word(5, 0, 0, 0)));
     assert!(rt; banks.idle());
-    let unit: Unit = CacheUnit::new(alloc, &SMALL_SHAPE)?;
+    let unit = unit_of(alloc, &SMALL_SHAPE)?;
     assert!(rt; unit.clean());
     Ok(())
 }
@@ -127,16 +137,10 @@ fn makers_refuse_a_bad_shape(rt: HostRuntime) -> Result<(), Fail> {
     Ok(())
 }
 
-/// The banks of the small shape.
-fn small_banks(alloc: Global) -> Result<Banks, MakeFault> {
-    let image = image(alloc, 32)?;
-    Ok(Banks::new(alloc, &image, &SMALL_SHAPE)?)
-}
-
 #[test]
 fn unit_uses_the_arrived_word(rt: HostRuntime) -> Result<(), Fail> {
-    let mut unit: Unit = CacheUnit::new(rt.alloc(), &SMALL_SHAPE)?;
-    let mut banks = small_banks(rt.alloc())?;
+    let mut unit = unit_of(rt.alloc(), &SMALL_SHAPE)?;
+    let mut banks = banks_of(rt.alloc(), &SMALL_SHAPE)?;
     let store = Request::Store {
         at: 5,
         word: word(0xaa, 0, 0, 0),
@@ -163,8 +167,8 @@ fn unit_uses_the_arrived_word(rt: HostRuntime) -> Result<(), Fail> {
 
 #[test]
 fn register_views(rt: HostRuntime) -> Result<(), Fail> {
-    let mut unit: Unit = CacheUnit::new(rt.alloc(), &SMALL_SHAPE)?;
-    let mut banks = small_banks(rt.alloc())?;
+    let mut unit = unit_of(rt.alloc(), &SMALL_SHAPE)?;
+    let mut banks = banks_of(rt.alloc(), &SMALL_SHAPE)?;
     let load = Request::Load { tag: 1, at: 5 };
     assert_eq!(rt; unit.request(load, &mut banks), Answer::Accepted);
     let register = unit.register(0).ok_or("a register")?;

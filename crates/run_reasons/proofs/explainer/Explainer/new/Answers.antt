@@ -27,7 +27,7 @@ unfolding shown
 returns c =
     let words = c.args.words in
     let mk : Flat → List Stores → (ℕ → TagUse) → Origins = λ f s t. record { flat = f; stores = s; tags = t } in
-    let flat : memory.shown c.in_ok-flat.flat ≡ zeros words = c.in_ok-flat.ensures.zeros in
+    let flat : memory.shown c.in_ok-flat.flat ≡ zeros words = c.in_ok-flat.ensures.shown in
     let stores : c.in_ok-stores.stores.items ≡ replicate words no_stores = c.in_ok-stores.ensures.items in
     let tags : c.in_ok-tags.tags.items ≡ replicate 65536 Never = c.in_ok-tags.ensures.items in
     ap (λ f. mk f c.in_ok-stores.stores.items (uses_in c.in_ok-tags.tags.items)) flat
