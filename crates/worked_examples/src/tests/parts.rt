@@ -9,7 +9,7 @@ use flat_model::{
 use input_stack::InputStack;
 use machine_core::Machine;
 use memory_banks::Banks;
-use miss_registers::RegisterFile;
+use miss_registers::{FieldView, RegisterFile, RegisterView};
 use std::alloc::Global;
 use std::test::Fail;
 use write_queue::WriteQueue;
@@ -171,16 +171,17 @@ fn register_views(rt: HostRuntime) -> Result<(), Fail> {
     let mut banks = banks_of(rt.alloc(), &SMALL_SHAPE)?;
     let load = Request::Load { tag: 1, at: 5 };
     assert_eq!(rt; unit.request(load, &mut banks), Answer::Accepted);
-    let register = unit.register(0).ok_or("a register")?;
-    assert!(rt; register.valid && !register.obsolete);
-    assert_eq!(rt;
-        (register.block, register.frame, register.processed),
-        (1, 1, 0)
-    );
-    let field = unit.field(0, 1).ok_or("a word's field")?;
-    assert!(rt; field.send);
-    assert_eq!(rt; (field.tag, field.targets), (1, 1));
-    assert!(rt; unit.register(2).is_none());
+    let live = RegisterView {
+        valid: true,
+        obsolete: false,
+        block: 1,
+        frame: 1,
+        processed: 0,
+    };
+    assert_eq!(rt; unit.register(0), Some(live));
+    let is_awaited = |field: FieldView| field.send && field.tag == 1 && field.targets == 1;
+    assert!(rt; unit.field(0, 1).is_some_and(is_awaited));
+    assert_eq!(rt; unit.register(2), None);
     let five = word(5, 0, 0, 0);
     let stray = Answer::Refused(Cause::StrayWord);
     let arrivals = [
