@@ -1,9 +1,13 @@
 //! That threads run at the same time: each of them waits for all.
 use super::{OpenGate, SHAPE, SmallStation, TURNS, one_script, scripts_of_two};
 use ring_station::{Actor, Audit, Entry, Gate, Told, audit, run_threads, station};
+use std::alloc::Global;
 use std::hint;
+use std::process::Abort;
 use std::sync::atomic::{AtomicBool, AtomicU64, Ordering};
 use std::test::Fail;
+use std::thread::Threads;
+use std::time::Clock;
 
 const ACTORS: u64 = 5;
 
@@ -65,6 +69,17 @@ impl Gate for Meeting {
     fn told(&self, _port: u32, _told: &Told) {}
 }
 
+// Asserts that each of five actors saw all five at their first turns.
+fn all_five_meet<R: Abort + Clock + Threads + Sync>(rt: &R, alloc: Global) -> Result<(), Fail> {
+    let mut all: SmallStation = station(alloc, SHAPE, 2, 100)?;
+    let scripts = scripts_of_two(alloc, &[], &[])?;
+    let meeting = Meeting::new();
+    let lists = run_threads(rt, alloc, &mut all, &scripts, TURNS, &meeting)?;
+    assert_eq!(rt; lists.len(), 2);
+    assert_eq!(rt; meeting.saw_all.load(Ordering::SeqCst), ACTORS);
+    Ok(())
+}
+
 #[test]
 fn empty_scripts_on_threads(rt: HostRuntime) -> Result<(), Fail> {
     let alloc = rt.alloc();
@@ -77,17 +92,5 @@ fn empty_scripts_on_threads(rt: HostRuntime) -> Result<(), Fail> {
     assert_eq!(rt; all.cache.entry(0), Some(Entry::Ended { port: 0 }));
     let found = audit(&mut all.cache, &mut all.ports, &mut all.banks);
     assert_eq!(rt; found, Audit::Clean);
-    Ok(())
-}
-
-#[test]
-fn all_five_actors_at_once(rt: HostRuntime) -> Result<(), Fail> {
-    let alloc = rt.alloc();
-    let mut all: SmallStation = station(alloc, SHAPE, 2, 100)?;
-    let scripts = scripts_of_two(alloc, &[], &[])?;
-    let meeting = Meeting::new();
-    let lists = run_threads(&rt, alloc, &mut all, &scripts, TURNS, &meeting)?;
-    assert_eq!(rt; lists.len(), 2);
-    assert_eq!(rt; meeting.saw_all.load(Ordering::SeqCst), ACTORS);
-    Ok(())
+    all_five_meet(&rt, alloc)
 }

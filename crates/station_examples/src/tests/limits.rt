@@ -1,7 +1,11 @@
 //! Runs that use up their turns.
 use super::{OpenGate, SHAPE, SmallStation, load, one_script};
 use ring_station::{Actor, Ask, Audit, Gate, RunFault, Told, audit, run_threads, station};
+use std::alloc::Global;
+use std::process::Abort;
 use std::test::Fail;
+use std::thread::Threads;
+use std::time::Clock;
 
 // Never lets bank 0 go.
 #[derive(Drop)]
@@ -15,24 +19,25 @@ impl Gate for SilentBank {
     fn told(&self, _port: u32, _told: &Told) {}
 }
 
-#[test]
-fn turn_limit(rt: HostRuntime) -> Result<(), Fail> {
-    let alloc = rt.alloc();
+// A bank that never goes: what it was sent is left.
+fn limit_at_a_silent_bank<R: Abort + Clock + Threads + Sync>(
+    rt: &R,
+    alloc: Global,
+) -> Result<(), Fail> {
     let mut all: SmallStation = station(alloc, SHAPE, 1, 100)?;
     let scripts = one_script(alloc, &[load(1, 0)])?;
-    let ended = run_threads(&rt, alloc, &mut all, &scripts, 100_000, &SilentBank);
+    let ended = run_threads(rt, alloc, &mut all, &scripts, 100_000, &SilentBank);
     assert!(rt; matches!(ended, Err(RunFault::TurnLimit)));
     let found = audit(&mut all.cache, &mut all.ports, &mut all.banks);
     assert!(rt; matches!(found, Audit::Left { .. }));
     Ok(())
 }
 
-#[test]
-fn no_turns(rt: HostRuntime) -> Result<(), Fail> {
-    let alloc = rt.alloc();
+// No turns: nothing has happened.
+fn limit_of_no_turns<R: Abort + Clock + Threads + Sync>(rt: &R, alloc: Global) -> Result<(), Fail> {
     let mut all: SmallStation = station(alloc, SHAPE, 1, 100)?;
     let scripts = one_script(alloc, &[])?;
-    let ended = run_threads(&rt, alloc, &mut all, &scripts, 0, &OpenGate);
+    let ended = run_threads(rt, alloc, &mut all, &scripts, 0, &OpenGate);
     assert!(rt; matches!(ended, Err(RunFault::TurnLimit)));
     assert_eq!(rt; all.cache.entries(), 0);
     let found = audit(&mut all.cache, &mut all.ports, &mut all.banks);
@@ -40,15 +45,24 @@ fn no_turns(rt: HostRuntime) -> Result<(), Fail> {
     Ok(())
 }
 
-#[test]
-fn full_journal(rt: HostRuntime) -> Result<(), Fail> {
-    let alloc = rt.alloc();
+// A journal of one entry, which the prefetch or Done takes.
+fn limit_at_a_full_journal<R: Abort + Clock + Threads + Sync>(
+    rt: &R,
+    alloc: Global,
+) -> Result<(), Fail> {
     let mut all: SmallStation = station(alloc, SHAPE, 1, 1)?;
     let scripts = one_script(alloc, &[Ask::Prefetch { at: 0 }])?;
-    let ended = run_threads(&rt, alloc, &mut all, &scripts, 100_000, &OpenGate);
+    let ended = run_threads(rt, alloc, &mut all, &scripts, 100_000, &OpenGate);
     assert!(rt; matches!(ended, Err(RunFault::TurnLimit)));
     assert!(rt; all.cache.entries() <= 1);
     Ok(())
+}
+
+#[test]
+fn turn_limit(rt: HostRuntime) -> Result<(), Fail> {
+    limit_at_a_silent_bank(&rt, rt.alloc())?;
+    limit_of_no_turns(&rt, rt.alloc())?;
+    limit_at_a_full_journal(&rt, rt.alloc())
 }
 
 // A script with Done in it comes to no end, and the station can be audited.

@@ -10,21 +10,14 @@ fn fault_of(alloc: Global, ports: u32, journal: u32) -> Option<MakeFault> {
 }
 
 #[test]
-fn journal_of_no_entry(rt: HostRuntime) {
-    assert_eq!(rt;
-        fault_of(rt.alloc(), 1, 0),
-        Some(MakeFault::BadShape(ShapeField::Journal))
-    );
-    assert_eq!(rt;
-        fault_of(rt.alloc(), 1, 1_048_577),
-        Some(MakeFault::BadShape(ShapeField::Journal))
-    );
-    assert_eq!(rt;
-        fault_of(rt.alloc(), 0, 0),
-        Some(MakeFault::BadShape(ShapeField::Ports))
-    );
-    assert_eq!(rt;
-        fault_of(rt.alloc(), 17, 0),
-        Some(MakeFault::BadShape(ShapeField::Ports))
-    );
+fn ports_are_asked_before_the_journal(rt: HostRuntime) {
+    let refused = [
+        (1, 1_048_577, ShapeField::Journal),
+        (0, 0, ShapeField::Ports),
+        (17, 0, ShapeField::Ports),
+    ];
+    for (ports, journal, field) in refused {
+        let fault = MakeFault::BadShape(field);
+        assert_eq!(rt; fault_of(rt.alloc(), ports, journal), Some(fault));
+    }
 }

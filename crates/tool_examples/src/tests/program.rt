@@ -180,17 +180,6 @@ fn shape_files(rt: HostRuntime) -> Result<(), Fail> {
     let behind = ["run", "--shape", SHAPE_FILE];
     let before = ["--shape", SHAPE_FILE, "run"];
     let joined = ["run", "--shape=kroft_tool_test_shape.toml"];
-    let texts = [
-        ("regs = 3", "shape: regs out of range\n"),
-        ("words = 30", "shape: words out of range\n"),
-        ("sets = \"4\"", "shape: sets is not a whole number\n"),
-        ("depth = 4", "shape: unknown key\n"),
-        ("regs =", "shape: not TOML\n"),
-    ];
-    for (text, errors) in texts {
-        fs::write(&rt, SHAPE_FILE, text)?;
-        ends(&rt, &behind, "load\n", (3, "", errors))?;
-    }
     let unreadable = (3, "", "shape: file not readable\n");
     fs::write(&rt, SHAPE_FILE, b"regs = 2 # \xff".as_slice())?;
     ends(&rt, &behind, "load\n", unreadable)?;

@@ -1,8 +1,40 @@
 //! The example of shape texts.
 
+use super::program::ends;
 use flat_model::ShapeField;
 use shape_files::{ShapeFault, ToolShape, read_shape};
+use std::fs;
+use std::process::Abort;
+use std::rt::Files;
 use std::test::Fail;
+use std::thread::Threads;
+
+/// A file of these tests' own: other tests write others.
+const SHAPE_FILE: &str = "kroft_tool_shape_texts.toml";
+
+/// Asserts what the program says of each text that is refused, before it reads its input.
+fn refused_shapes_are_told<R: Abort + AllocGlobal + Files + Threads + Sync>(
+    rt: &R,
+) -> Result<(), Fail> {
+    let texts = [
+        ("regs = 3", "shape: regs out of range\n"),
+        ("words = 30", "shape: words out of range\n"),
+        ("sets = \"4\"", "shape: sets is not a whole number\n"),
+        ("depth = 4", "shape: unknown key\n"),
+        ("regs =", "shape: not TOML\n"),
+    ];
+    for (text, errors) in texts {
+        fs::write(rt, SHAPE_FILE, text)?;
+        ends(
+            rt,
+            &["run", "--shape", SHAPE_FILE],
+            "load\n",
+            (3, "", errors),
+        )?;
+    }
+    fs::remove_file(rt, SHAPE_FILE)?;
+    Ok(())
+}
 
 #[test]
 fn shape_texts(rt: HostRuntime) -> Result<(), Fail> {
@@ -24,7 +56,7 @@ fn shape_texts(rt: HostRuntime) -> Result<(), Fail> {
     for (text, fault) in refused {
         assert_eq!(rt; read_shape(rt.alloc(), text), Err(fault), "{text}");
     }
-    Ok(())
+    refused_shapes_are_told(&rt)
 }
 
 #[test]

@@ -4,8 +4,10 @@ use flat_model::{Event, ShapeField};
 use register_sweeps::{OpenGate, Row, SweepFault, SweepGate, sweep, sweep_row};
 use shape_files::ToolShape;
 use std::alloc::Global;
+use std::process::Abort;
 use std::sync::atomic::{AtomicBool, AtomicU64, Ordering};
 use std::test::Fail;
+use std::thread::Threads;
 
 /// Holds the row at place 0 until the one at place 1 has ended.
 #[derive(Drop)]
@@ -118,6 +120,29 @@ fn rows_in_turn(alloc: Global, shapes: &[ToolShape]) -> Result<Vec<Row>, Fail> {
     Ok(rows)
 }
 
+/// Asserts that a sweep names its first bad shape, and that one of no shapes has no rows.
+fn sweeps_a_bad_shape_or_none<R: Abort + AllocGlobal + Threads + Sync>(rt: &R) -> Result<(), Fail> {
+    let alloc = rt.alloc();
+    let mut three_ways = with_registers(2);
+    three_ways.ways = 3;
+    let refused = sweep(
+        rt,
+        alloc,
+        &REQUESTS,
+        &[with_registers(1), three_ways],
+        5_000_000,
+        &OpenGate,
+    );
+    let fault = SweepFault::BadShape {
+        place: 1,
+        field: ShapeField::Ways,
+    };
+    assert!(rt; matches!(refused, Err(found) if found == fault));
+    let none = sweep(rt, alloc, &REQUESTS, &[], 5_000_000, &OpenGate)?;
+    assert!(rt; none.is_empty());
+    Ok(())
+}
+
 #[test]
 fn sweep_on_threads(rt: HostRuntime) -> Result<(), Fail> {
     let alloc = rt.alloc();
@@ -135,30 +160,7 @@ fn sweep_on_threads(rt: HostRuntime) -> Result<(), Fail> {
     let rows = sweep(&rt, alloc, &REQUESTS, &shapes, 5_000_000, &gate)?;
     assert_eq!(rt; rows.as_slice(), wanted.as_slice());
     assert!(rt; gate.saw_both());
-    Ok(())
-}
-
-#[test]
-fn sweep_of_a_bad_shape_or_none(rt: HostRuntime) -> Result<(), Fail> {
-    let alloc = rt.alloc();
-    let mut three_ways = with_registers(2);
-    three_ways.ways = 3;
-    let refused = sweep(
-        &rt,
-        alloc,
-        &REQUESTS,
-        &[with_registers(1), three_ways],
-        5_000_000,
-        &OpenGate,
-    );
-    let fault = SweepFault::BadShape {
-        place: 1,
-        field: ShapeField::Ways,
-    };
-    assert!(rt; matches!(refused, Err(found) if found == fault));
-    let none = sweep(&rt, alloc, &REQUESTS, &[], 5_000_000, &OpenGate)?;
-    assert!(rt; none.is_empty());
-    Ok(())
+    sweeps_a_bad_shape_or_none(&rt)
 }
 
 #[test]

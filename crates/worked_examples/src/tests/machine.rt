@@ -5,7 +5,7 @@ use super::play::{ARRIVED, GOT, plays};
 use flat_model::{Answer, Cause, Event, Lanes, Shape};
 use machine_core::Machine;
 use miss_registers::Owed;
-use std::alloc::{AllocError, Global};
+use std::alloc::Global;
 use std::process::Abort;
 use std::test::Fail;
 use trace_text::register_text;
@@ -56,9 +56,12 @@ process 0 -> moved
 take 0 -> value 1 05000000
 ";
 
-/// The events and answers of [`ONE_LOAD`], by one call, which either finds its memory or leaves the
-/// machine as it was.
-fn runs_one_load<R: Abort + AllocGlobal>(rt: &R) -> Result<(), Fail> {
+/// Asserts the answers of [`ONE_LOAD`] by one call, which either finds its memory or leaves the machine
+/// as it was.
+pub fn runs_one_load<R: Abort + AllocGlobal>(
+    rt: &R,
+    machine: &mut Machine<1, 4, 2, 2>,
+) -> Result<(), Fail> {
     let events = [
         Event::Load { tag: 1, at: 5 },
         Event::Serve { bank: 1 },
@@ -77,20 +80,21 @@ fn runs_one_load<R: Abort + AllocGlobal>(rt: &R) -> Result<(), Fail> {
         Answer::Moved,
         value,
     ];
-    let mut machine = small_machine(rt.alloc())?;
-    let first: Result<Vec<Answer>, AllocError> = machine.run(rt.alloc(), &events);
-    let answers = match first {
-        Ok(answers) => answers,
-        Err(_) => machine.run(rt.alloc(), &events)?,
-    };
-    assert_eq!(rt; answers.as_slice(), &wanted[..]);
+    let mut answers = machine.run(rt.alloc(), &events);
+    if answers.is_err() {
+        assert!(rt; machine.settled());
+        assert_eq!(rt; machine.weight(), 0);
+        answers = machine.run(rt.alloc(), &events);
+    }
+    assert_eq!(rt; answers?.as_slice(), &wanted[..]);
     Ok(())
 }
 
 #[test]
 fn one_load(rt: HostRuntime) -> Result<(), Fail> {
     plays_anew(&rt, &[ONE_LOAD])?;
-    runs_one_load(&rt)
+    let mut machine = small_machine(rt.alloc())?;
+    runs_one_load(&rt, &mut machine)
 }
 
 #[test]
@@ -435,26 +439,8 @@ fn machine_of_ones(alloc: Global) -> Result<Machine<1, 1, 1, 1>, Fail> {
     Ok(Machine::new(alloc, shape, &image)?)
 }
 
-#[test]
-fn smallest_machine(rt: HostRuntime) -> Result<(), Fail> {
-    let mut machine = machine_of_ones(rt.alloc())?;
-    let lines = "load 1 4 -> accepted
-load 2 5 -> refused 7
-load 1 5 -> refused 3
-serve 0 -> moved
-arrive 0 0 -> moved
-process 0 -> moved
-load 2 4 -> accepted
-load 3 4 -> refused 4
-take 1 -> value 2 04000000
-take 0 -> value 1 04000000
-load 1 8 -> refused 1
-";
-    plays(&rt, rt.alloc(), &mut machine, &[lines])
-}
-
-#[test]
-fn smallest_machine_runs_a_list(rt: HostRuntime) -> Result<(), Fail> {
+/// Asserts the answers of the smallest machine's lines by one call.
+fn smallest_machine_runs_them<R: Abort>(rt: &R, alloc: Global) -> Result<(), Fail> {
     let events = [
         Event::Load { tag: 1, at: 4 },
         Event::Load { tag: 2, at: 5 },
@@ -482,10 +468,29 @@ fn smallest_machine_runs_a_list(rt: HostRuntime) -> Result<(), Fail> {
         Answer::Value { tag: 1, word: four },
         Answer::Refused(Cause::OutOfRange),
     ];
-    let mut machine = machine_of_ones(rt.alloc())?;
-    let answers = machine.run(rt.alloc(), &events)?;
+    let mut machine = machine_of_ones(alloc)?;
+    let answers = machine.run(alloc, &events)?;
     assert_eq!(rt; answers.as_slice(), &wanted[..]);
     Ok(())
+}
+
+#[test]
+fn smallest_machine(rt: HostRuntime) -> Result<(), Fail> {
+    let mut machine = machine_of_ones(rt.alloc())?;
+    let lines = "load 1 4 -> accepted
+load 2 5 -> refused 7
+load 1 5 -> refused 3
+serve 0 -> moved
+arrive 0 0 -> moved
+process 0 -> moved
+load 2 4 -> accepted
+load 3 4 -> refused 4
+take 1 -> value 2 04000000
+take 0 -> value 1 04000000
+load 1 8 -> refused 1
+";
+    plays(&rt, rt.alloc(), &mut machine, &[lines])?;
+    smallest_machine_runs_them(&rt, rt.alloc())
 }
 
 #[test]

@@ -11,10 +11,38 @@ use machine_core::Machine;
 use memory_banks::Banks;
 use miss_registers::{FieldView, RegisterFile, RegisterView};
 use std::alloc::Global;
+use std::process::Abort;
 use std::test::Fail;
 use write_queue::WriteQueue;
 
 type Unit = CacheUnit<1, 4, 2, 2>;
+
+/// Asserts that a value that was stored behind its load isn't the one that the load is owed.
+fn replay_of_a_later_value<R: Abort>(rt: &R, alloc: Global, image: &[Word]) -> Result<(), Fail> {
+    let mut memory = FlatMemory::new(alloc, image)?;
+    let stored_later = [
+        Event::Load { tag: 1, at: 0 },
+        Event::Store {
+            at: 0,
+            word: word(255, 0, 0, 0),
+            lanes: Lanes::LANE_0,
+        },
+        Event::Take { place: 0 },
+    ];
+    let later_value = [
+        Answer::Accepted,
+        Answer::Accepted,
+        Answer::Value {
+            tag: 1,
+            word: word(255, 0, 0, 0),
+        },
+    ];
+    let late = memory.replay(alloc, &stored_later, &later_value);
+    assert_eq!(rt; late, Err(ReplayFault::Mismatch { place: 2 }));
+    assert_eq!(rt; memory.word(0), Some(word(0, 0, 0, 0)));
+    assert_eq!(rt; memory.due_word(1), None);
+    Ok(())
+}
 
 #[test]
 fn replay(rt: HostRuntime) -> Result<(), Fail> {
@@ -41,36 +69,7 @@ fn replay(rt: HostRuntime) -> Result<(), Fail> {
     assert_eq!(rt; accepted, Err(ReplayFault::Mismatch { place: 0 }));
     let refused = memory.replay(alloc, &outside, &[Answer::Refused(Cause::OutOfRange)]);
     assert_eq!(rt; refused, Ok(()));
-    Ok(())
-}
-
-#[test]
-fn replay_of_a_value_that_came_later(rt: HostRuntime) -> Result<(), Fail> {
-    let alloc = rt.alloc();
-    let image = [word(0, 0, 0, 0), word(1, 0, 0, 0)];
-    let mut memory = FlatMemory::new(alloc, &image)?;
-    let stored_later = [
-        Event::Load { tag: 1, at: 0 },
-        Event::Store {
-            at: 0,
-            word: word(255, 0, 0, 0),
-            lanes: Lanes::LANE_0,
-        },
-        Event::Take { place: 0 },
-    ];
-    let later_value = [
-        Answer::Accepted,
-        Answer::Accepted,
-        Answer::Value {
-            tag: 1,
-            word: word(255, 0, 0, 0),
-        },
-    ];
-    let late = memory.replay(alloc, &stored_later, &later_value);
-    assert_eq!(rt; late, Err(ReplayFault::Mismatch { place: 2 }));
-    assert_eq!(rt; memory.word(0), Some(word(0, 0, 0, 0)));
-    assert_eq!(rt; memory.due_word(1), None);
-    Ok(())
+    replay_of_a_later_value(&rt, alloc, &image)
 }
 
 /// The banks of a shape of 32 words.
@@ -84,26 +83,6 @@ fn unit_of(alloc: Global, shape: &Shape) -> Result<Unit, MakeFault> {
     CacheUnit::new(alloc, shape)
 }
 
-#[test]
-fn makers(rt: HostRuntime) -> Result<(), Fail> {
-    let alloc = rt.alloc();
-    let directory: Directory<1, 4> = Directory::new(alloc, 2)?;
-    assert_eq!(rt; directory.look(1), None);
-    assert_eq!(rt; directory.choose(1), Choice::Free(1));
-    let registers: RegisterFile<4, 2> = RegisterFile::new(alloc)?;
-    assert_eq!(rt; registers.free_slot(), Some(0));
-    let stack: InputStack<2> = InputStack::new()?;
-    assert_eq!(rt; stack.len(), 0);
-    let queue = WriteQueue::new(alloc, 4)?;
-    assert_eq!(rt; queue.room(), 4);
-    let banks = banks_of(alloc, &SMALL_SHAPE)?;
-    assert_eq!(rt; banks.word(5), Some(word(5, 0, 0, 0)));
-    assert!(rt; banks.idle());
-    let unit = unit_of(alloc, &SMALL_SHAPE)?;
-    assert!(rt; unit.clean());
-    Ok(())
-}
-
 /// The field that a machine of that shape is refused for.
 fn refusal<const REGS: usize>(alloc: Global, shape: Shape, image: &[Word]) -> Option<ShapeField> {
     let made: Result<Machine<1, 4, REGS, 2>, MakeFault> = Machine::new(alloc, shape, image);
@@ -113,9 +92,8 @@ fn refusal<const REGS: usize>(alloc: Global, shape: Shape, image: &[Word]) -> Op
     }
 }
 
-#[test]
-fn makers_refuse_a_bad_shape(rt: HostRuntime) -> Result<(), Fail> {
-    let alloc = rt.alloc();
+/// Asserts which field a machine is refused for.
+fn makers_refuse<R: Abort>(rt: &R, alloc: Global) -> Result<(), Fail> {
     let short_image = image(alloc, 31)?;
     let image = image(alloc, 32)?;
     let mut short_banks = SMALL_SHAPE;
@@ -135,6 +113,26 @@ fn makers_refuse_a_bad_shape(rt: HostRuntime) -> Result<(), Fail> {
         Some(ShapeField::Regs)
     );
     Ok(())
+}
+
+#[test]
+fn makers(rt: HostRuntime) -> Result<(), Fail> {
+    let alloc = rt.alloc();
+    let directory: Directory<1, 4> = Directory::new(alloc, 2)?;
+    assert_eq!(rt; directory.look(1), None);
+    assert_eq!(rt; directory.choose(1), Choice::Free(1));
+    let registers: RegisterFile<4, 2> = RegisterFile::new(alloc)?;
+    assert_eq!(rt; registers.free_slot(), Some(0));
+    let stack: InputStack<2> = InputStack::new()?;
+    assert_eq!(rt; stack.len(), 0);
+    let queue = WriteQueue::new(alloc, 4)?;
+    assert_eq!(rt; queue.room(), 4);
+    let banks = banks_of(alloc, &SMALL_SHAPE)?;
+    assert_eq!(rt; banks.word(5), Some(word(5, 0, 0, 0)));
+    assert!(rt; banks.idle());
+    let unit = unit_of(alloc, &SMALL_SHAPE)?;
+    assert!(rt; unit.clean());
+    makers_refuse(&rt, alloc)
 }
 
 #[test]

@@ -2,10 +2,13 @@
 //! answers want of memory and nothing else, nothing has changed, and a second call gives the answer of
 //! its example. With memory, as in a whole run of the tests, the first call gives that answer.
 
-use super::fixture::{PROGRAM_SHAPE, SMALL_SHAPE, STORED_COUNTS, STORED_INPUT, STORED_OUTPUT};
+use super::fixture::{
+    PROGRAM_SHAPE, SMALL_SHAPE, STORED_COUNTS, STORED_INPUT, STORED_OUTPUT, numbered,
+};
+use super::machine::runs_one_load;
 use cache_directory::Directory;
 use cache_unit::CacheUnit;
-use flat_model::{Answer, Event, FlatMemory, MakeFault, ReplayFault, ShapeField, Word};
+use flat_model::{Answer, Event, FlatMemory, Lanes, MakeFault, ReplayFault, ShapeField, Word};
 use machine_core::Machine;
 use memory_banks::Banks;
 use miss_registers::RegisterFile;
@@ -15,7 +18,7 @@ use std::test::Fail;
 use trace_text::{CheckEnd, TraceFault, check_text, read_requests, serve_text};
 use write_queue::WriteQueue;
 
-/// The words of the small image: the first byte of each is its number.
+/// The words of the small image: the first byte of each is its number. It takes no memory.
 fn small_image() -> [Word; 32] {
     let mut image = [Word::default(); 32];
     for (word, b0) in image.iter_mut().zip(0u8..) {
@@ -61,18 +64,29 @@ fn makers_may_find_no_memory(rt: HostRuntime) -> Result<(), Fail> {
 #[test]
 fn replay_may_find_no_memory(rt: HostRuntime) -> Result<(), Fail> {
     let alloc = rt.alloc();
-    let Ok(mut memory) = FlatMemory::new(alloc, &small_image()) else {
+    let image = [numbered(0), numbered(1)];
+    let Ok(mut memory) = FlatMemory::new(alloc, &image) else {
         return Ok(());
     };
-    let events = [Event::Load { tag: 1, at: 1 }];
-    let one = memory.word(1);
-    let mut replayed = memory.replay(alloc, &events, &[Answer::Accepted]);
+    let store = Event::Store {
+        at: 1,
+        word: numbered(9),
+        lanes: Lanes::LANE_0,
+    };
+    let load = Event::Load { tag: 1, at: 1 };
+    let events = [load, Event::Take { place: 0 }, store];
+    let value = Answer::Value {
+        tag: 1,
+        word: numbered(1),
+    };
+    let answers = [Answer::Accepted, value, Answer::Accepted];
+    let mut replayed = memory.replay(alloc, &events, &answers);
     if replayed == Err(ReplayFault::OutOfMemory) {
-        assert_eq!(rt; memory.due_word(1), None);
-        replayed = memory.replay(alloc, &events, &[Answer::Accepted]);
+        assert_eq!(rt; memory.word(1), Some(numbered(1)));
+        replayed = memory.replay(alloc, &events, &answers);
     }
     assert_eq!(rt; replayed, Ok(()));
-    assert_eq!(rt; memory.due_word(1), one);
+    assert_eq!(rt; memory.word(1), Some(numbered(9)));
     Ok(())
 }
 
@@ -97,16 +111,7 @@ fn run_may_find_no_memory(rt: HostRuntime) -> Result<(), Fail> {
     let Ok(mut machine) = Machine::<1, 4, 2, 2>::new(alloc, SMALL_SHAPE, &small_image()) else {
         return Ok(());
     };
-    let events = [Event::Load { tag: 1, at: 5 }, Event::Serve { bank: 1 }];
-    let mut answers = machine.run(alloc, &events);
-    if answers.is_err() {
-        assert!(rt; machine.settled());
-        assert_eq!(rt; machine.weight(), 0);
-        answers = machine.run(alloc, &events);
-    }
-    let wanted = [Answer::Accepted, Answer::Moved];
-    assert_eq!(rt; answers?.as_slice(), &wanted[..]);
-    Ok(())
+    runs_one_load(&rt, &mut machine)
 }
 
 #[test]

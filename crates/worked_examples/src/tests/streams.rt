@@ -9,7 +9,7 @@ use std::io::{Read, Write};
 use std::process::Abort;
 use std::test::Fail;
 use trace_text::{
-    CheckEnd, Line, LineFault, Pair, TraceFault, check_text, read_pair, read_requests, serve_text,
+    Line, LineFault, Pair, TraceFault, check_text, read_pair, read_requests, serve_text,
 };
 
 /// Gives its bytes, at most so many at a time, and then fails, or ends.
@@ -184,6 +184,28 @@ fn serves_until<R: Abort>(rt: &R, alloc: Global, room: usize) -> Result<Machine<
     Ok(machine)
 }
 
+/// Asserts that the line whose text was refused has been applied, and no line behind it.
+fn refused_line_is_applied<R: Abort>(rt: &R, alloc: Global) -> Result<(), Fail> {
+    for (room, code) in [(20usize, Lanes::none()), (21, Lanes::LANE_0)] {
+        let machine = serves_until(rt, alloc, room)?;
+        let field = machine.field(0, 1).ok_or("a word's field")?;
+        assert_eq!(rt; field.code, code);
+    }
+    Ok(())
+}
+
+/// Asserts what a check says of 768 letters with LF, and of 769 without.
+fn long_pairs_are_refused<R: Abort>(rt: &R, alloc: Global) -> Result<(), Fail> {
+    for (last, fault) in [(b'\n', LineFault::Field), (b'a', LineFault::TooLong)] {
+        let mut text = vec![in alloc; b'a'; 768]?;
+        text.push(last)?;
+        let number = 1;
+        let refused = check_text(alloc, &mut text.as_slice(), 64);
+        assert_eq!(rt; refused, Err(TraceFault::Line { number, fault }));
+    }
+    Ok(())
+}
+
 #[test]
 fn cut_input_and_failing_writer(rt: HostRuntime) -> Result<(), Fail> {
     for cut in 0..=STORED_INPUT.len() {
@@ -193,16 +215,12 @@ fn cut_input_and_failing_writer(rt: HostRuntime) -> Result<(), Fail> {
     for room in 0..STORED_OUTPUT.len() {
         serves_until(&rt, rt.alloc(), room)?;
     }
-    Ok(())
+    refused_line_is_applied(&rt, rt.alloc())?;
+    long_pairs_are_refused(&rt, rt.alloc())
 }
 
 #[test]
-fn writer_fails_between_two_lines(rt: HostRuntime) -> Result<(), Fail> {
-    for (room, code) in [(20usize, Lanes::none()), (21, Lanes::LANE_0)] {
-        let machine = serves_until(&rt, rt.alloc(), room)?;
-        let field = machine.field(0, 1).ok_or("a word's field")?;
-        assert_eq!(rt; field.code, code);
-    }
+fn writer_takes_no_byte(rt: HostRuntime) -> Result<(), Fail> {
     let mut machine = default_machine(rt.alloc())?;
     let mut reader = STORED_INPUT.as_bytes();
     let closed = serve_text(rt.alloc(), &mut reader, &mut Closed, &mut machine);
@@ -210,55 +228,35 @@ fn writer_fails_between_two_lines(rt: HostRuntime) -> Result<(), Fail> {
     Ok(())
 }
 
-#[test]
-fn pieces_of_the_stored_run(rt: HostRuntime) -> Result<(), Fail> {
-    for most in [1usize, 2, 3, 7, 64, 4096] {
-        let mut machine = default_machine(rt.alloc())?;
-        let mut reader = Pieces {
-            bytes: STORED_INPUT.as_bytes(),
-            most,
-            fails: false,
-        };
-        let mut writer = Limited {
-            taken: Vec::new(rt.alloc()),
-            room: 4096,
-            most,
-        };
-        let ended = serve_text(rt.alloc(), &mut reader, &mut writer, &mut machine);
-        assert_eq!(rt; ended, Ok(STORED_COUNTS));
-        assert_eq!(rt; writer.taken.as_slice(), STORED_OUTPUT.as_bytes());
-    }
+/// Asserts the counts and the text of the stored run, of which at most so many bytes come and go at once.
+fn serves_in_pieces<R: Abort>(rt: &R, alloc: Global, most: usize) -> Result<(), Fail> {
+    let mut machine = default_machine(alloc)?;
+    let mut reader = Pieces {
+        bytes: STORED_INPUT.as_bytes(),
+        most,
+        fails: false,
+    };
+    let mut writer = Limited {
+        taken: Vec::new(alloc),
+        room: 4096,
+        most,
+    };
+    let ended = serve_text(alloc, &mut reader, &mut writer, &mut machine);
+    assert_eq!(rt; ended, Ok(STORED_COUNTS));
+    assert_eq!(rt; writer.taken.as_slice(), STORED_OUTPUT.as_bytes());
     Ok(())
 }
 
+// What the whole program writes for it is asked in the examples of the program.
 #[test]
-fn long_pairs(rt: HostRuntime) -> Result<(), Fail> {
-    let mut text = Vec::new(rt.alloc());
-    for _ in 0..768 {
-        text.push(b'a')?;
+fn stored_run(rt: HostRuntime) -> Result<(), Fail> {
+    serves_in_pieces(&rt, rt.alloc(), 4096)
+}
+
+#[test]
+fn pieces_of_the_stored_run(rt: HostRuntime) -> Result<(), Fail> {
+    for most in [1usize, 2, 3, 7, 64] {
+        serves_in_pieces(&rt, rt.alloc(), most)?;
     }
-    text.push(b'\n')?;
-    let field = TraceFault::Line {
-        number: 1,
-        fault: LineFault::Field,
-    };
-    assert_eq!(rt;
-        check_text(rt.alloc(), &mut text.as_slice(), 64),
-        Err(field)
-    );
-    text.pop();
-    text.push(b'a')?;
-    let too_long = TraceFault::Line {
-        number: 1,
-        fault: LineFault::TooLong,
-    };
-    assert_eq!(rt;
-        check_text(rt.alloc(), &mut text.as_slice(), 64),
-        Err(too_long)
-    );
-    assert_eq!(rt;
-        check_text(rt.alloc(), &mut &b""[..], 64),
-        Ok(CheckEnd::Flat { steps: 0 })
-    );
     Ok(())
 }
