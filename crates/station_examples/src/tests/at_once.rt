@@ -4,10 +4,10 @@ use ring_station::{Actor, Audit, Entry, Gate, Told, audit, run_threads, station}
 use std::alloc::Global;
 use std::hint;
 use std::process::Abort;
+use std::rt::Clock;
 use std::sync::atomic::{AtomicBool, AtomicU64, Ordering};
 use std::test::Fail;
 use std::thread::Threads;
-use std::time::Clock;
 
 const ACTORS: u64 = 5;
 

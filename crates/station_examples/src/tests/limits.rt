@@ -3,9 +3,9 @@ use super::{OpenGate, SHAPE, SmallStation, load, one_script};
 use ring_station::{Actor, Ask, Audit, Gate, RunFault, Told, audit, run_threads, station};
 use std::alloc::Global;
 use std::process::Abort;
+use std::rt::Clock;
 use std::test::Fail;
 use std::thread::Threads;
-use std::time::Clock;
 
 // Never lets bank 0 go.
 #[derive(Drop)]
