@@ -25,11 +25,18 @@ __attribute__((constructor)) static void begin(void) {
     atomic_store(&calls, 0);
 }
 
-/* The program ends by this call, and runs no destructor. */
-void _exit(int status) {
+static void tell(void) {
     if (tells >= 0) {
         dprintf(tells, "allocations %ld\n", atomic_load(&calls));
     }
+}
+
+/* A program of tests ends by returning. */
+__attribute__((destructor)) static void end(void) { tell(); }
+
+/* The program itself ends by this call, and runs no destructor. */
+void _exit(int status) {
+    tell();
     for (;;) {
         syscall(SYS_exit_group, status);
     }
