@@ -12,7 +12,7 @@ use write_queue::WriteQueue;
 
 /// Gives each word of a block that was just installed its newest queued bytes: they go into the
 /// buffer, and the arriving word mustn't change them.
-pub fn begin_words<const WAYS: usize, const WORDS: usize, const REGS: usize>(
+pub(crate) fn begin_words<const WAYS: usize, const WORDS: usize, const REGS: usize>(
     directory: &mut Directory<WAYS, WORDS>,
     registers: &mut RegisterFile<WORDS, REGS>,
     queue: &WriteQueue,

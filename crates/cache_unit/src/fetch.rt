@@ -20,7 +20,7 @@ use write_queue::WriteQueue;
 
 /// The frame that the absent block takes: a free one of its set, else the resident one that was
 /// allocated longest ago; `None` where all are pending.
-pub fn choose_frame<const WAYS: usize, const WORDS: usize>(
+pub(crate) fn choose_frame<const WAYS: usize, const WORDS: usize>(
     directory: &Directory<WAYS, WORDS>,
     block: u32,
 ) -> Option<u32>
@@ -36,7 +36,7 @@ pub fn choose_frame<const WAYS: usize, const WORDS: usize>(
 
 /// How many words the frame owes to memory.
 #[inline(always)]
-pub fn words_owed<const WAYS: usize, const WORDS: usize>(
+pub(crate) fn words_owed<const WAYS: usize, const WORDS: usize>(
     directory: &Directory<WAYS, WORDS>,
     frame: u32,
 ) -> u32
@@ -52,7 +52,7 @@ pub fn words_owed<const WAYS: usize, const WORDS: usize>(
 
 /// Brings an absent block in: the frame is vacated and holds the block, with the newest queued
 /// bytes of its words; the register waits for them; and the reads go to the banks.
-pub fn bring_in<L: Lines, const WAYS: usize, const WORDS: usize, const REGS: usize>(
+pub(crate) fn bring_in<L: Lines, const WAYS: usize, const WORDS: usize, const REGS: usize>(
     directory: &mut Directory<WAYS, WORDS>,
     registers: &mut RegisterFile<WORDS, REGS>,
     queue: &mut WriteQueue,

@@ -12,13 +12,9 @@ fn words_in_bank(first: u32, words: u32, banks: u32, bank: u32) -> u32
     requires fits { first + words < 2 ^ 32 }
     ensures { result ≡ length (filter (λ at. at % banks == bank) (range_with_len first words)) }
 {
-    let mut count = 0;
-    for k in 0..words {
-        if (first + k) % banks == bank {
-            count += 1;
-        }
-    }
-    count
+    (first..first + words)
+        .filter(|at| *at % banks == bank)
+        .count() as u32
 }
 
 // Whether a bank with so much room has too little for its share of these words. One that has room
@@ -36,7 +32,7 @@ fn is_short(room: u32, first: u32, words: u32, banks: u32, bank: u32) -> bool
 }
 
 /// Whether some bank has less room than these words need.
-pub fn lacks_room<L: Lines>(lines: &L, first: u32, words: u32, banks: u32) -> bool
+pub(crate) fn lacks_room<L: Lines>(lines: &L, first: u32, words: u32, banks: u32) -> bool
     requires some { 0 < banks }
     requires fits { first + words < 2 ^ 32 }
     ensures { result ≡ list_any (is_short (L.room_of lines.now) first words banks)
@@ -51,7 +47,7 @@ pub fn lacks_room<L: Lines>(lines: &L, first: u32, words: u32, banks: u32) -> bo
 }
 
 /// Sends a read for each of these words, in their order, to its bank.
-pub fn send_reads<L: Lines>(lines: &mut L, slot: u32, first: u32, words: u32, banks: u32)
+pub(crate) fn send_reads<L: Lines>(lines: &mut L, slot: u32, first: u32, words: u32, banks: u32)
     requires some { 0 < banks }
     requires words { 0 < words }
     requires fits { first + words < 2 ^ 32 }

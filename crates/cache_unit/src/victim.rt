@@ -12,7 +12,7 @@ use write_queue::{Queued, WriteQueue};
 
 /// How many words with dirty lanes the frame has.
 #[inline(always)]
-pub fn dirty_words<const WAYS: usize, const WORDS: usize>(
+pub(crate) fn dirty_words<const WAYS: usize, const WORDS: usize>(
     directory: &Directory<WAYS, WORDS>,
     frame: u32,
 ) -> u32
@@ -63,7 +63,7 @@ fn queue_dirty_words<const WAYS: usize, const WORDS: usize>(
 
 /// Vacates the frame: where it holds a block, the block's dirty words are queued and the frame is
 /// released.
-pub fn vacate<const WAYS: usize, const WORDS: usize>(
+pub(crate) fn vacate<const WAYS: usize, const WORDS: usize>(
     directory: &mut Directory<WAYS, WORDS>,
     queue: &mut WriteQueue,
     frame: u32,

@@ -16,7 +16,7 @@ use miss_registers::{MAX_WAITING, RegisterFile};
 
 /// Where a load finds its word.
 #[derive(Clone, Copy)]
-pub enum Finding {
+pub(crate) enum Finding {
     /// The word is at hand.
     Here(Word),
     /// It is on its way to the register in `slot`, for which `waiting` loads wait: `held` are the

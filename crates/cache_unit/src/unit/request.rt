@@ -216,10 +216,7 @@ impl<const WAYS: usize, const WORDS: usize, const REGS: usize, const DEPTH: usiz
         if let Some(frame) = self.directory.look(block) {
             return Ok(frame);
         }
-        let places = match self.find_places(lines, block) {
-            Ok(places) => places,
-            Err(cause) => return Err(cause),
-        };
+        let places = self.find_places(lines, block)?;
         self.fetch(lines, block, places);
         Ok(places.frame)
     }

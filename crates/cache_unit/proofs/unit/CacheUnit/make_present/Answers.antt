@@ -1,8 +1,9 @@
-use Rattle.std.proofs.Common.{◌+◌, ◌*◌, ◌≤◌, ℕ, List, ◌&&◌, Some, None, ap, sym, ◌∙◌, subst, is_some, rules}
+use Rattle.std.proofs.Common.{◌+◌, ◌*◌, ◌≤◌, ℕ, List, ◌&&◌, Some, None, ap, sym, ◌∙◌, subst, is_some, rules, ◌≡◌, Result, Ok, Err, IfErr, IsErrAnd}
 use Rattle.memory_banks.specs.declared.Command.{Command}
 use Rattle.memory_banks.specs.Banks.{HasSent}
 use Rattle.cache_unit.specs.State.{UnitState, Cache, is_present, frame_of, tags}
 use Rattle.cache_unit.specs.Causes.{found, targets_full}
+use Rattle.cache_unit.specs.Requests.{absence_cause}
 use Rattle.cache_unit.specs.Shown.{sizes_of}
 use Rattle.cache_unit.proofs.Process.{frame_of-shown}
 use Rattle.cache_unit.proofs.FormsSound.{sound_shown}
@@ -49,14 +50,21 @@ returns-in-Some-clause-targets g c i =
     let here = ap (λ (v : UnitState). is_present v.cache c.args.block) (sym c.self.view_is) ∙ ap is_some look in
     sym (ap (λ b. b && targets_full u.cache i (found u.cache c.args.block i)) here)
 
-pub returns-in-Err-clause-cause : goal.returns-in-Err-clause-cause
-returns-in-Err-clause-cause g c =
+-- a refusal that is passed on is the same
+passed_on : {X E : Type 0} (r : Result X E) (e : E) (P : E → Type 0) → IsErrAnd r (λ f. f ≡ e) → P e → IfErr r P
+passed_on (Ok x) e P h p = tt
+passed_on (Err f) e P h p = rw h p
+
+pub returns-in_err-places-clause-cause : goal.returns-in_err-places-clause-cause
+returns-in_err-places-clause-cause g c =
     let s = c.self.inside in
     let u = c.args.self.now in
     let room = g.L.Lines.room_of c.args.lines.now in
     let look = frame_of-shown s.directory s.registers s.stack s.queue.entries s.ready.items c.args.block ∙ sym c.look.ensures.found ∙ c.in_default.is in
     let here = ap (λ (v : UnitState). is_present v.cache c.args.block) (sym c.self.view_is) ∙ ap is_some look in
-    absent_cause u.sizes room u.cache c.args.block (Some c.in-Err.cause) here c.in-Err.ensures.refused
+    let cause = c.in_err-places.field-0.0 in
+    let refused = absent_cause u.sizes room u.cache c.args.block (Some cause) here c.in_err-places.ensures.refused in
+    passed_on c.from_residual.result cause (λ e. absence_cause u.sizes room u.cache c.args.block ≡ Some e) c.from_residual.ensures.1 refused
 
 pub fetch-requires : goal.fetch-requires
 fetch-requires g c =
@@ -65,7 +73,7 @@ fetch-requires g c =
     let room = g.L.Lines.room_of c.args.lines.now in
     let look = frame_of-shown s.directory s.registers s.stack s.queue.entries s.ready.items c.args.block ∙ sym c.look.ensures.found ∙ c.in_default.is in
     let here = ap (λ (v : UnitState). is_present v.cache c.args.block) (sym c.self.view_is) ∙ ap is_some look in
-    let may = c.in-Ok.ensures.found in
+    let may = c.in_ok-places.ensures.found in
     let words = ap (λ (v : UnitState). v.sizes.block_words) c.self.view_is in
     let within = subst (λ n. c.args.block * n + n ≤ u.sizes.words) (sym words) c.requires in
     (search rules, (here, (within, may)))
@@ -78,7 +86,7 @@ returns-clause-tags_kept g c =
     let look = frame_of-shown s.directory s.registers s.stack s.queue.entries s.ready.items c.args.block ∙ sym c.look.ensures.found ∙ c.in_default.is in
     let here = ap (λ (v : UnitState). is_present v.cache c.args.block) (sym c.self.view_is) ∙ ap is_some look in
     let h = sound_shown (sizes_of g.row.WAYS g.row.WORDS g.row.REGS g.row.DEPTH s.shape) s.directory s.registers s.stack s.queue s.ready.items c.self.invariant u c.self.view_is in
-    let none = absent_cause u.sizes room u.cache c.args.block None here c.in-Ok.ensures.found.no_cause in
+    let none = absent_cause u.sizes room u.cache c.args.block None here c.in_ok-places.ensures.found.no_cause in
     ap (λ (v : UnitState). tags v.cache) c.fetch.ensures.unit ∙ tags_kept u.sizes room u.cache c.args.block h none
 
 pub returns-clause-targets : goal.returns-clause-targets
@@ -89,7 +97,7 @@ returns-clause-targets g c i =
     let look = frame_of-shown s.directory s.registers s.stack s.queue.entries s.ready.items c.args.block ∙ sym c.look.ensures.found ∙ c.in_default.is in
     let here = ap (λ (v : UnitState). is_present v.cache c.args.block) (sym c.self.view_is) ∙ ap is_some look in
     let h = sound_shown (sizes_of g.row.WAYS g.row.WORDS g.row.REGS g.row.DEPTH s.shape) s.directory s.registers s.stack s.queue s.ready.items c.self.invariant u c.self.view_is in
-    let none = absent_cause u.sizes room u.cache c.args.block None here c.in-Ok.ensures.found.no_cause in
+    let none = absent_cause u.sizes room u.cache c.args.block None here c.in_ok-places.ensures.found.no_cause in
     let full = ap (λ b. b && targets_full u.cache i (found u.cache c.args.block i)) here in
     ap (λ (v : UnitState). targets_full v.cache i (found v.cache c.args.block i)) c.fetch.ensures.unit ∙ targets_kept u.sizes room u.cache c.args.block h none i full ∙ sym full
 
@@ -106,5 +114,5 @@ returns-clause-held g c =
     let look = frame_of-shown s.directory s.registers s.stack s.queue.entries s.ready.items c.args.block ∙ sym c.look.ensures.found ∙ c.in_default.is in
     let none = ap (λ (v : UnitState). frame_of v.cache c.args.block) (sym c.self.view_is) ∙ look in
     let h = sound_shown (sizes_of g.row.WAYS g.row.WORDS g.row.REGS g.row.DEPTH s.shape) s.directory s.registers s.stack s.queue s.ready.items c.self.invariant u c.self.view_is in
-    let may = c.in-Ok.ensures.found in
+    let may = c.in_ok-places.ensures.found in
     ap (λ (v : UnitState). frame_of v.cache c.args.block) c.fetch.ensures.unit ∙ fetched_frame u.sizes u.cache h c.args.block _ _ none may.frame may.slot
