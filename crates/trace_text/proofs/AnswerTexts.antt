@@ -11,6 +11,7 @@ use Rattle.flat_model.specs.declared.Answer.TheVariants.{Accepted, Moved, Value,
 use Rattle.flat_model.specs.Flat.{number, cause_of}
 use Rattle.trace_text.specs.Fields.{number_of, word_of, word_text}
 use Rattle.trace_text.specs.Lines.{cut_of, same, number_in}
+use Rattle.trace_text.specs.declared.fields.TheConstants.{MAX_NUMBER, MAX_TAG}
 use Rattle.trace_text.specs.Texts.{answer_text}
 use Rattle.trace_text.specs.Pairs.{bare_answer, value_answer, value_from, value_of, refusal, refusal_of, answer_from, answer_of}
 use Rattle.trace_text.specs.Written.{IsTag, IsWord, IsFitAnswer}
@@ -56,7 +57,7 @@ cause_back NotPresent = refl
 cause_back StackFull = refl
 cause_back StrayWord = refl
 
-number_fits : (c : Cause) → number c ≤ 4294967295
+number_fits : (c : Cause) → number c ≤ MAX_NUMBER
 number_fits OutOfRange = omega arith
 number_fits NoLanes = omega arith
 number_fits TagInUse = omega arith
@@ -75,7 +76,7 @@ bare_is : (said : Answer) (kind : List ℕ) (fields : Option (List ℕ)) (a : An
 bare_is said kind None a shape e = let is : said ≡ a = cc in subst (IsAnswered kind None) is shape
 bare_is said kind (Some f) a shape e = cc
 
-value_join : (t w : List ℕ) (o : Option ℕ) (p : Option Word) (a : Answer) → number_of 65535 t ≡ o → word_of w ≡ p → value_answer o p ≡ Some a → IsAnswered (codes "value") (Some (t ++ 32 ∷ w)) a
+value_join : (t w : List ℕ) (o : Option ℕ) (p : Option Word) (a : Answer) → number_of MAX_TAG t ≡ o → word_of w ≡ p → value_answer o p ≡ Some a → IsAnswered (codes "value") (Some (t ++ 32 ∷ w)) a
 unfolding answer_text
 value_join t w (Some tag) (Some word) a eo ep e =
     let first = tag_is tag t eo in
@@ -89,7 +90,7 @@ value_join t w None p a eo ep e = cc
 
 value_cut : (f : List ℕ) (p : List ℕ × Option (List ℕ)) (a : Answer) → f ≡ whole p.0 p.1 → value_from p ≡ Some a → IsAnswered (codes "value") (Some f) a
 value_cut f (t, None) a is e = cc
-value_cut f (t, Some w) a is e = subst (λ x. IsAnswered (codes "value") (Some x) a) (sym is) (value_join t w (number_of 65535 t) (word_of w) a refl refl e)
+value_cut f (t, Some w) a is e = subst (λ x. IsAnswered (codes "value") (Some x) a) (sym is) (value_join t w (number_of MAX_TAG t) (word_of w) a refl refl e)
 
 value_is : (fields : Option (List ℕ)) (a : Answer) → value_of fields ≡ Some a → IsAnswered (codes "value") fields a
 value_is None a e = cc

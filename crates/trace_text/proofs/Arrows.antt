@@ -14,6 +14,7 @@ use Rattle.trace_text.specs.Texts.{reply_text}
 use Rattle.trace_text.specs.Serving.{answer_to}
 use Rattle.trace_text.specs.Pairs.{arrow_in, answered_pair, pair_with, pair_from, pair_cut, pair_of}
 use Rattle.trace_text.specs.Written.{line_text, IsFit, IsFitReply}
+use Rattle.trace_text.specs.declared.fields.TheConstants.{MAX_NUMBER}
 use Rattle.trace_text.specs.declared.lines.Line.{Line}
 use Rattle.trace_text.specs.declared.lines.Line.TheVariants as line
 use Rattle.trace_text.proofs.Written.{High, number_high, word_high, mask_high, line_is}
@@ -127,7 +128,7 @@ no_dash_in (b ∷ bs) e =
     let t = dash_test (b == 45) (no_dash bs) e in
     (λ is. let same : (b == 45) ≡ true = grind (arith, nat_tests) in cc, no_dash_in bs t.1)
 
-number_dashless : (n : ℕ) → n ≤ 4294967295 → NoDash (decimal n)
+number_dashless : (n : ℕ) → n ≤ MAX_NUMBER → NoDash (decimal n)
 number_dashless n le = high_dashless (decimal n) (number_high n le)
 
 pub dashless_line : (l : Line) → IsFit l → NoDash (line_text l)

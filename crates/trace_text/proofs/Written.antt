@@ -13,6 +13,7 @@ use Rattle.flat_model.specs.Words.{has, Lane0, Lane1, Lane2, Lane3}
 use Rattle.trace_text.specs.Fields.{is_digit, number_of, bit_of, bit_text, lanes_from, lanes_of, lanes_text, nibble_of, hex_digit, byte_from, byte_of, byte_text, word_from, word_of, word_text}
 use Rattle.trace_text.specs.Lines.{cut_of, same, name_of, command_named, number_in, one_number, bare, load_line, load_from, load_of, store_line, store_behind, store_from, store_of, arrive_line, arrive_from, arrive_of, line_from, or_field, said_by, line_of}
 use Rattle.trace_text.specs.Written.{line_text, IsNumber, IsTag, IsWord, IsFit}
+use Rattle.trace_text.specs.declared.fields.TheConstants.{MAX_NUMBER, MAX_TAG}
 use Rattle.trace_text.specs.declared.lines.Command.{Command}
 use Rattle.trace_text.specs.declared.lines.Command.TheVariants as command
 use Rattle.trace_text.specs.declared.lines.Line.{Line}
@@ -174,12 +175,12 @@ abbrev IsRead : List ℕ → Option (List ℕ) → Line → Type 0
 IsRead name fields l = IsFit l × (whole name fields ≡ line_text l)
 
 pub number_is : (n : ℕ) (text : List ℕ) → number_in text ≡ Some n → (text ≡ decimal n) × IsNumber n
-number_is n text e = number_read 4294967295 n text (lit< tt) e
+number_is n text e = number_read MAX_NUMBER n text (lit< tt) e
 
-pub tag_is : (n : ℕ) (text : List ℕ) → number_of 65535 text ≡ Some n → (text ≡ decimal n) × IsTag n
-tag_is n text e = number_read 65535 n text (lit< tt) e
+pub tag_is : (n : ℕ) (text : List ℕ) → number_of MAX_TAG text ≡ Some n → (text ≡ decimal n) × IsTag n
+tag_is n text e = number_read MAX_TAG n text (lit< tt) e
 
-load_join : (t a : List ℕ) (o p : Option ℕ) (l : Line) → number_of 65535 t ≡ o → number_in a ≡ p → load_line o p ≡ Some l → IsRead (codes "load") (Some (t ++ 32 ∷ a)) l
+load_join : (t a : List ℕ) (o p : Option ℕ) (l : Line) → number_of MAX_TAG t ≡ o → number_in a ≡ p → load_line o p ≡ Some l → IsRead (codes "load") (Some (t ++ 32 ∷ a)) l
 load_join t a (Some tag) (Some at) l eo ep e =
     let first = tag_is tag t eo in
     let second = number_is at a ep in
@@ -192,7 +193,7 @@ load_join t a None p l eo ep e = cc
 
 load_cut : (f : List ℕ) (p : List ℕ × Option (List ℕ)) (l : Line) → f ≡ whole p.0 p.1 → load_from p ≡ Some l → IsRead (codes "load") (Some f) l
 load_cut f (t, None) l is e = cc
-load_cut f (t, Some a) l is e = subst (λ x. IsRead (codes "load") (Some x) l) (sym is) (load_join t a (number_of 65535 t) (number_in a) l refl refl e)
+load_cut f (t, Some a) l is e = subst (λ x. IsRead (codes "load") (Some x) l) (sym is) (load_join t a (number_of MAX_TAG t) (number_in a) l refl refl e)
 
 load_is : (fields : Option (List ℕ)) (l : Line) → load_of fields ≡ Some l → IsRead (codes "load") fields l
 load_is None l e = cc
@@ -337,7 +338,7 @@ digits_high (b ∷ bs) e =
     let t = digits_taken (is_digit b) (all_digits bs) e in
     (leb-true 48 b (and_parts (nat_le 48 b) (nat_lt b 58) t.0).0, digits_high bs t.1)
 
-pub number_high : (n : ℕ) → n ≤ 4294967295 → High (decimal n)
+pub number_high : (n : ℕ) → n ≤ MAX_NUMBER → High (decimal n)
 number_high n le = digits_high (decimal n) (decimal_digits n (omega (arith, le)))
 
 hex_test : (n : ℕ) (t : Bool) → 48 ≤ cond t (48 + n) (87 + n)
@@ -359,7 +360,7 @@ bit_high false = omega arith
 pub mask_high : (m : Lanes) → High (lanes_text m)
 mask_high m = (bit_high (has m Lane0), (bit_high (has m Lane1), (bit_high (has m Lane2), (bit_high (has m Lane3), tt))))
 
-pub number_spaceless : (n : ℕ) → n ≤ 4294967295 → NoSpace (decimal n)
+pub number_spaceless : (n : ℕ) → n ≤ MAX_NUMBER → NoSpace (decimal n)
 number_spaceless n le = high_spaceless (decimal n) (number_high n le)
 
 mask_spaceless : (m : Lanes) → NoSpace (lanes_text m)
@@ -368,10 +369,10 @@ mask_spaceless m = high_spaceless (lanes_text m) (mask_high m)
 -- ---- what is written is read
 
 pub number_back : (n : ℕ) → IsNumber n → number_in (decimal n) ≡ Some n
-number_back n fit = number_written 4294967295 n (lit< tt) fit
+number_back n fit = number_written MAX_NUMBER n (lit< tt) fit
 
-pub tag_back : (n : ℕ) → IsTag n → number_of 65535 (decimal n) ≡ Some n
-tag_back n fit = number_written 65535 n (lit< tt) fit
+pub tag_back : (n : ℕ) → IsTag n → number_of MAX_TAG (decimal n) ≡ Some n
+tag_back n fit = number_written MAX_TAG n (lit< tt) fit
 
 step : (name fields : List ℕ) → no_space name ≡ true → line_of (name ++ 32 ∷ fields) ≡ said_by (command_named name) (Some fields)
 unfolding line_of

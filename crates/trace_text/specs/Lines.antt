@@ -1,6 +1,7 @@
 -- The lines of a trace.
 use Rattle.std.specs.Prelude.{◌≢◌, ◌++◌, ℕ, ◌+◌, ◌-◌, ◌==◌, Bool, ◌&&◌, if◌then◌else◌, Option, None, Some, Result, Ok, Err, List, length, take, drop, position, nat_eq, nat_lt, codes, slice_index}
 use Rattle.trace_text.specs.declared.fault.TheConstants.{MAX_LINE}
+use Rattle.trace_text.specs.declared.fields.TheConstants.{MAX_NUMBER, MAX_TAG}
 use Rattle.std.specs.Option.{option_map}
 use Rattle.std.specs.Cmp.Lexicographic.{pointwise}
 use Rattle.flat_model.specs.declared.Word.{Word}
@@ -83,7 +84,7 @@ command_named name =
 
 -- a number of 32 bits
 abbrev pub number_in : List ℕ → Option ℕ
-number_in = number_of 4294967295
+number_in = number_of MAX_NUMBER
 
 -- the one number that these fields are
 abbrev pub one_number : Option (List ℕ) → Option ℕ
@@ -101,7 +102,7 @@ load_line tag at = None
 
 abbrev pub load_from : List ℕ × Option (List ℕ) → Option Line
 load_from (tag, None) = None
-load_from (tag, Some at) = load_line (number_of 65535 tag) (number_in at)
+load_from (tag, Some at) = load_line (number_of MAX_TAG tag) (number_in at)
 
 -- `TAG AT`
 abbrev pub load_of : Option (List ℕ) → Option Line

@@ -1,6 +1,7 @@
 -- Lines as they are written: a command, ` -> ` and an answer.
 use Rattle.std.specs.Prelude.{◌≡◌, ◌++◌, ℕ, suc, ◌+◌, if◌then◌else◌, Option, None, Some, Result, Ok, Err, List, [], ◌∷◌, length, take, drop, nat_eq, nat_lt, codes}
 use Rattle.trace_text.specs.declared.fault.TheConstants.{MAX_PAIR}
+use Rattle.trace_text.specs.declared.fields.TheConstants.{MAX_TAG}
 use Rattle.std.specs.List.{starts_with}
 use Rattle.std.specs.Option.{option_map, option_and_then}
 use Rattle.flat_model.specs.declared.Word.{Word}
@@ -28,7 +29,7 @@ value_answer tag word = None
 
 abbrev pub value_from : List ℕ × Option (List ℕ) → Option Answer
 value_from (tag, None) = None
-value_from (tag, Some word) = value_answer (number_of 65535 tag) (word_of word)
+value_from (tag, Some word) = value_answer (number_of MAX_TAG tag) (word_of word)
 
 -- `TAG WORD`
 abbrev pub value_of : Option (List ℕ) → Option Answer

@@ -5,6 +5,7 @@ use Rattle.flat_model.specs.declared.Event.TheVariants.{Load, Store, Prefetch, E
 use Rattle.flat_model.specs.declared.Answer.{Answer}
 use Rattle.flat_model.specs.declared.Answer.TheVariants.{Accepted, Moved, Value, Nothing, Refused}
 use Rattle.trace_text.specs.Codes.{space}
+use Rattle.trace_text.specs.declared.fields.TheConstants.{MAX_NUMBER, MAX_TAG}
 use Rattle.trace_text.specs.Fields.{lanes_text, word_text}
 use Rattle.trace_text.specs.declared.lines.Line.{Line}
 use Rattle.trace_text.specs.declared.lines.Line.TheVariants as line
@@ -25,10 +26,10 @@ line_text (line.Bank at) = codes "bank " ++ decimal at
 line_text line.Settled = codes "settled"
 
 abbrev pub IsNumber : ℕ → Type 0
-IsNumber n = n ≤ 4294967295
+IsNumber n = n ≤ MAX_NUMBER
 
 abbrev pub IsTag : ℕ → Type 0
-IsTag tag = tag ≤ 65535
+IsTag tag = tag ≤ MAX_TAG
 
 abbrev pub IsWord : Word → Type 0
 IsWord w = (w.b0 < 256) × (w.b1 < 256) × (w.b2 < 256) × (w.b3 < 256)

@@ -24,7 +24,7 @@ pub enum CheckEnd {
     Mismatch { line: u64 },
 }
 
-// An event and its answer.
+// An event and its answer. It isn't exported, but `pub`, since definitions of crates above name it.
 #[derive(Clone, Copy)]
 pub struct Step {
     pub event: Event,
@@ -44,10 +44,10 @@ fn step_in(pair: Pair) -> Option<Step>
 // Flat memory behind the lines so far, or the line of the first mismatch. Nothing else is kept of the
 // lines: a fault in a later line goes before a mismatch, so they are read on.
 #[derive(Drop)]
-pub struct Checking {
-    pub memory: FlatMemory,
-    pub steps: u64,
-    pub mismatch: Option<u64>,
+pub(crate) struct Checking {
+    pub(crate) memory: FlatMemory,
+    pub(crate) steps: u64,
+    pub(crate) mismatch: Option<u64>,
 }
 
 impl Checking {

@@ -15,10 +15,10 @@ use std::alloc::Global;
 
 // The events of the lines so far: all are counted, and kept as long as there aren't too many.
 #[derive(Drop)]
-pub struct Events {
-    pub most: usize,
-    pub count: usize,
-    pub events: Vec<Event>,
+pub(crate) struct Events {
+    pub(crate) most: usize,
+    pub(crate) count: usize,
+    pub(crate) events: Vec<Event>,
 }
 
 // The event of a line, if it has one.
@@ -45,10 +45,8 @@ impl Events {
         if self.count > self.most {
             return Ok(());
         }
-        match self.events.push(event) {
-            Ok(()) => Ok(()),
-            Err(_) => Err(Uncollected::Halted),
-        }
+        self.events.push(event)?;
+        Ok(())
     }
 }
 

@@ -13,6 +13,10 @@ pub const MAX_LINE: usize = 64;
 /// How many bytes a line of a served trace has at most, LF not counted.
 pub const MAX_PAIR: usize = 768;
 
+/// How large the limit of a text's lines may be at most, in bytes, LF not counted: so the start of a
+/// line leaves room in the buffer for what comes next.
+pub const MAX_LINE_LIMIT: usize = 1000;
+
 /// How many bytes the buffer has through which a text is read.
 pub const BUFFER_LEN: usize = 4096;
 

@@ -4,6 +4,12 @@ ghost use Rattle.trace_text.specs.Fields.{begins_badly as starts_badly, number_a
 
 use flat_model::{Lanes, Word};
 
+/// The largest tag.
+pub(crate) const MAX_TAG: u32 = u16::MAX as u32;
+
+/// The largest of the other numbers of a line.
+pub(crate) const MAX_NUMBER: u32 = u32::MAX;
+
 /// The number whose decimal digits these are, at most `most`. `None` if they are none, or have a zero
 /// in front.
 pub fn number(text: &[u8], most: u32) -> Option<u32>
@@ -60,7 +66,7 @@ fn begins_badly(text: &[u8]) -> bool
     }
 }
 
-/// The value of a hexadecimal digit, `0` to `9` or `a` to `f`.
+/// The value of a hexadecimal digit, `0` to `9` or `a` to `f`. `None` for any other byte.
 pub fn nibble(byte: u8) -> Option<u8>
     ensures { result ≡ nibble_of byte }
 {
@@ -82,7 +88,7 @@ fn bit(byte: u8) -> Option<u8>
 }
 
 // The lanes of a mask of four digits, lane 0 first.
-pub fn lanes(text: &[u8]) -> Option<Lanes>
+pub(crate) fn lanes(text: &[u8]) -> Option<Lanes>
     ensures { result ≡ lanes_of text.now }
 {
     match text {
@@ -98,7 +104,7 @@ fn byte(high: u8, low: u8) -> Option<u8>
 }
 
 // The word of eight digits, byte 0 first.
-pub fn word(text: &[u8]) -> Option<Word>
+pub(crate) fn word(text: &[u8]) -> Option<Word>
     ensures { result ≡ word_of text.now }
 {
     match text {

@@ -32,7 +32,7 @@ mod writers;
 
 pub use check::{CheckEnd, check_text};
 pub use events::read_events;
-pub use fault::{BUFFER_LEN, MAX_LINES, MAX_PAIR, TraceFault};
+pub use fault::{BUFFER_LEN, MAX_LINE, MAX_LINE_LIMIT, MAX_LINES, MAX_PAIR, TraceFault};
 pub use fields::{nibble, number};
 pub use lines::{Line, LineFault, cut, read_line};
 pub use pairs::{Pair, read_pair};

@@ -4,7 +4,7 @@ ghost use Rattle.std.specs.Option.{option_map};
 ghost use Rattle.trace_text.specs.Lines.{IsSaid, line_of, ended_line_of, cut_of, name_of, command_told, BeginsNoCommand, command_named, one_number, bare as bare_line, load_of, store_of, arrive_of, line_from as line_made};
 
 use crate::fault::MAX_LINE;
-use crate::fields::{lanes, number, word};
+use crate::fields::{MAX_NUMBER, MAX_TAG, lanes, number, word};
 use flat_model::Event;
 use thiserror::Error;
 
@@ -159,10 +159,10 @@ fn command_said(text: &[u8]) -> Option<(Command, Option<&[u8]>)>
 }
 
 // The one number that stands behind the command.
-pub fn one(fields: Option<&[u8]>) -> Option<u32>
+pub(crate) fn one(fields: Option<&[u8]>) -> Option<u32>
     ensures { result ≡ one_number (option_map (λ rest. rest.now) fields.entry) }
 {
-    number(fields?, u32::MAX)
+    number(fields?, MAX_NUMBER)
 }
 
 fn bare(line: Line, fields: Option<&[u8]>) -> Option<Line>
@@ -179,8 +179,8 @@ fn load(fields: Option<&[u8]>) -> Option<Line>
     ensures { result ≡ load_of (option_map (λ rest. rest.now) fields.entry) }
 {
     let (tag, rest) = cut(fields?);
-    let tag = number(tag, 65_535);
-    let at = number(rest?, u32::MAX);
+    let tag = number(tag, MAX_TAG);
+    let at = number(rest?, MAX_NUMBER);
     Some(Line::Event(Event::Load {
         tag: tag? as u16,
         at: at?,
@@ -193,7 +193,7 @@ fn store(fields: Option<&[u8]>) -> Option<Line>
 {
     let (at, rest) = cut(fields?);
     let (mask, rest) = cut(rest?);
-    let at = number(at, u32::MAX);
+    let at = number(at, MAX_NUMBER);
     let mask = lanes(mask);
     let word = word(rest?);
     Some(Line::Event(Event::Store {
@@ -208,8 +208,8 @@ fn arrive(fields: Option<&[u8]>) -> Option<Line>
     ensures { result ≡ arrive_of (option_map (λ rest. rest.now) fields.entry) }
 {
     let (bank, rest) = cut(fields?);
-    let bank = number(bank, u32::MAX);
-    let place = number(rest?, u32::MAX);
+    let bank = number(bank, MAX_NUMBER);
+    let place = number(rest?, MAX_NUMBER);
     Some(Line::Event(Event::Arrive {
         bank: bank?,
         place: place?,
@@ -246,7 +246,7 @@ fn line_from(command: Command, fields: Option<&[u8]>) -> Option<Line>
 // What a line says, without its LF.
 #[inline(always)]
 #[tactic(auto, unfolding(crate::specs::Lines::line_of))]
-pub fn line_said(text: &[u8]) -> Result<Line, LineFault>
+pub(crate) fn line_said(text: &[u8]) -> Result<Line, LineFault>
     ensures said { result ≡ line_of text.now }
     ensures fault { IfErr result IsSaid }
 {

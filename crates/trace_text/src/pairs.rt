@@ -5,7 +5,7 @@ ghost use Rattle.trace_text.specs.Lines.{IsSaid};
 ghost use Rattle.trace_text.specs.Pairs.{bare_answer as bare_of, value_of, refusal_of, answer_from as answer_made, answer_of, IsAnswered, arrow_in, pair_with as pair_made, pair_of, ended_pair_of};
 
 use crate::fault::MAX_PAIR;
-use crate::fields::{number, word};
+use crate::fields::{MAX_TAG, number, word};
 use crate::lines::{Line, LineFault, cut, line_said, one};
 use flat_model::{Answer, Cause};
 
@@ -31,7 +31,7 @@ fn value(fields: Option<&[u8]>) -> Option<Answer>
     ensures { result ≡ value_of (option_map (λ rest. rest.now) fields.entry) }
 {
     let (tag, rest) = cut(fields?);
-    let tag = number(tag, 65_535);
+    let tag = number(tag, MAX_TAG);
     let word = word(rest?);
     Some(Answer::Value {
         tag: tag? as u16,
@@ -154,7 +154,7 @@ fn answered(line: Line, answer: Answer) -> Pair
 
 // What a line with its answer says, without its LF. A line that can be read has no hyphen, so an arrow right behind
 // it is the first one, and needs no search.
-pub fn pair_said(text: &[u8]) -> Result<Pair, LineFault>
+pub(crate) fn pair_said(text: &[u8]) -> Result<Pair, LineFault>
     ensures pair { result ≡ pair_of text.now }
     ensures fault { IfErr result IsSaid }
 {

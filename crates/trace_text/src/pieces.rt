@@ -23,7 +23,7 @@ impl From<io::Error> for Failed {
 }
 
 // The place of the first LF. The iterator looks at the next 32 bytes first, which most lines end in.
-pub fn end_of_line(bytes: &[u8]) -> Option<usize>
+pub(crate) fn end_of_line(bytes: &[u8]) -> Option<usize>
     ensures some { IfSome result (λ at. (at < length bytes.now) × (slice_index bytes.now at ≡ 10)
         × ((k : ℕ) → k < at → slice_index bytes.now k ≢ 10)) }
     ensures none { IfNone result (HasNoEnd bytes.now) }
@@ -33,7 +33,7 @@ pub fn end_of_line(bytes: &[u8]) -> Option<usize>
 
 // The fault of the line that the last `left` bytes begin, whatever comes behind them: it is one line
 // too many, or has more than `most` bytes.
-pub fn begun_fault(lines: u64, left: usize, most: usize) -> Option<TraceFault>
+pub(crate) fn begun_fault(lines: u64, left: usize, most: usize) -> Option<TraceFault>
     requires { lines ≤ MAX_LINES }
     ensures some { IfSome result (BegunFault lines left most) }
     ensures short { IfNone result (left ≤ most) }
@@ -52,7 +52,7 @@ pub fn begun_fault(lines: u64, left: usize, most: usize) -> Option<TraceFault>
 }
 
 // Moves what stands from `from` to `to` to the front.
-pub fn keep_end(bytes: &mut [u8], from: usize, to: usize)
+pub(crate) fn keep_end(bytes: &mut [u8], from: usize, to: usize)
     requires from { from ≤ to }
     requires to { to ≤ length bytes.old }
     ensures { take (to - from) bytes.new ≡ drop from (take to bytes.old) }
@@ -61,7 +61,11 @@ pub fn keep_end(bytes: &mut [u8], from: usize, to: usize)
 }
 
 // One read, behind the bytes that stand at the buffer's front.
-pub fn fill<R: Source>(reader: &mut R, buffer: &mut [u8], filled: usize) -> Result<usize, Failed>
+pub(crate) fn fill<R: Source>(
+    reader: &mut R,
+    buffer: &mut [u8],
+    filled: usize,
+) -> Result<usize, Failed>
     requires { filled < length buffer.old }
     ensures ok { IfOk result (Filled R.gave reader.old reader.new buffer.old buffer.new filled) }
     ensures err { OnErr result (R.failed reader.old reader.new) }

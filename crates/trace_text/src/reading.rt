@@ -1,6 +1,6 @@
 //! A text is read to its end, line by line: the one loop over pieces and lines.
 ghost use Rattle.std.specs.Prelude.{◌≡◌, ℕ, ◌+◌, ◌≤◌, ◌++◌, ◌∷◌, [], List, None, Option, length, OnOk, OnErr, IfOk, IfErr};
-ghost use Rattle.trace_text.specs.declared.fault.TheConstants.{BUFFER_LEN, MAX_LINES};
+ghost use Rattle.trace_text.specs.declared.fault.TheConstants.{BUFFER_LEN, MAX_LINES, MAX_LINE_LIMIT};
 ghost use Rattle.trace_text.specs.declared.lines.LineFault.{LineFault};
 ghost use Rattle.trace_text.specs.Collecting.{Misses, AllCollected, Misread, Reads, AfterPause};
 
@@ -8,6 +8,7 @@ use crate::fault::{MAX_LINES, TraceFault};
 use crate::lines::LineFault;
 use crate::pieces::{Failed, begun_fault, end_of_line, fill, keep_end};
 use crate::streams::Source;
+use std::alloc::AllocFailed;
 
 /// Why a line wasn't taken.
 #[derive(Clone, Copy)]
@@ -38,6 +39,16 @@ impl From<Failed> for Uncollected {
     }
 }
 
+impl<T: Drop> From<AllocFailed<T>> for Uncollected {
+    ghost use Rattle.trace_text.specs.declared.reading.Uncollected.TheVariants.{Halted};
+
+    ghost from_gives = { λ _failed miss. miss ≡ Halted };
+
+    fn from(_failed: AllocFailed<T>) -> Uncollected {
+        Uncollected::Halted
+    }
+}
+
 /// Why a text wasn't read to its end.
 #[derive(Clone, Copy)]
 pub enum Stop {
@@ -45,6 +56,16 @@ pub enum Stop {
     Fault(TraceFault),
     /// The collector stopped.
     Halted,
+}
+
+impl From<Failed> for Stop {
+    ghost use Rattle.trace_text.specs.declared.reading.Stop.TheVariants.{Halted};
+
+    ghost from_gives = { λ _failed stop. stop ≡ Halted };
+
+    fn from(_failed: Failed) -> Stop {
+        Stop::Halted
+    }
 }
 
 impl Stop {
@@ -83,7 +104,10 @@ pub trait Collector {
     // It still holds what it borrowed.
     ghost holds_same: { Self → Self → Type 0 };
 
-    /// Takes the line of this number, counted from 1, without its LF.
+    /// Takes the line of this number, counted from 1, without its LF. [`Uncollected::Fault`] is the
+    /// fault of the line, and leaves the collector as it was. [`Uncollected::Halted`] says that the
+    /// collector stopped at a line without a fault, which may be taken in part: [`read_lines`] gives
+    /// it no line more, and no pause.
     fn collect(&mut self, number: u64, text: &[u8]) -> Result<(), Uncollected>
         requires went { (start : Self) × (texts : List (List ℕ)) × went start texts self.old
             × (number ≡ length texts + 1) }
@@ -96,7 +120,9 @@ pub trait Collector {
         ensures miss { IfErr result (Misses stopped (fault_in text.now) self.old text.now self.new) }
         ensures same { (start : Self) → holds_same start self.old → holds_same start self.new };
 
-    /// What is due before the text's reader is waited for, and before a fault is told.
+    /// What is due before the text's reader is waited for, and before a fault is told. [`Failed`] says
+    /// that the collector stopped, all lines before taken: [`read_lines`] gives it no line more, and no
+    /// pause.
     fn pause(&mut self) -> Result<(), Failed>
         ensures ok { OnOk result (paused self.old self.new) }
         ensures kept { OnOk result
@@ -163,6 +189,10 @@ fn told<C: Collector>(collector: &mut C, fault: TraceFault) -> Stop
 
 /// Reads a text whose lines have at most `most` bytes, LF not counted, up to its first end, through a
 /// buffer. The collector pauses before each read, and so at the end, and before a fault is told.
+///
+/// `most` is at most [`MAX_LINE_LIMIT`](crate::MAX_LINE_LIMIT), and the buffer has
+/// [`BUFFER_LEN`](crate::BUFFER_LEN) bytes. [`Stop::Fault`] is the first fault of the text or its
+/// reader, the lines before it collected; [`Stop::Halted`] says that the collector stopped.
 pub fn read_lines<R: Source, C: Collector>(
     reader: &mut R,
     collector: &mut C,
@@ -170,7 +200,7 @@ pub fn read_lines<R: Source, C: Collector>(
     buffer: &mut [u8],
 ) -> Result<(), Stop>
     requires longest { most ≡ C.longest }
-    requires most { most ≤ 1000 }
+    requires most { most ≤ MAX_LINE_LIMIT }
     requires room { length buffer.old ≡ BUFFER_LEN }
     requires went { C.went collector.old [] collector.old }
     requires same { C.holds_same collector.old collector.old }
@@ -181,10 +211,7 @@ pub fn read_lines<R: Source, C: Collector>(
     let mut count = 0u64;
     let mut filled = 0usize;
     'pieces: loop {
-        match collector.pause() {
-            Ok(()) => {}
-            Err(_) => return Err(Stop::Halted),
-        }
+        collector.pause()?;
         let Ok(given) = fill(reader, buffer, filled) else {
             return Err(Stop::Fault(TraceFault::Read));
         };

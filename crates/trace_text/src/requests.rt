@@ -17,8 +17,8 @@ use std::alloc::Global;
 
 // The requests of the lines so far.
 #[derive(Drop)]
-pub struct Requests {
-    pub events: Vec<Event>,
+pub(crate) struct Requests {
+    pub(crate) events: Vec<Event>,
 }
 
 // The event of a line, where it is a request.
@@ -43,10 +43,8 @@ fn keep(events: &mut Vec<Event>, event: Option<Event>) -> Result<(), Uncollected
     let Some(event) = event else {
         return Ok(());
     };
-    match events.push(event) {
-        Ok(()) => Ok(()),
-        Err(_) => Err(Uncollected::Halted),
-    }
+    events.push(event)?;
+    Ok(())
 }
 
 impl Collector for Requests {

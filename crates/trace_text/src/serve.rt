@@ -1,6 +1,7 @@
 //! A trace is served: each line is applied, and its answer written, before the next.
 ghost use Rattle.std.specs.Prelude.{◌≡◌, ℕ, [], ◌+◌, ◌<◌, ◌≤◌, ◌++◌, length, Ok, OnOk, OnErr, Some};
 ghost use Rattle.trace_text.specs.declared.fault.TheConstants.{BUFFER_LEN, MAX_LINE, MAX_LINES, MAX_PAIR};
+ghost use Rattle.trace_text.specs.declared.text.TheConstants.{MAX_REGISTER_TEXT};
 ghost use Rattle.std.specs.Option.{option_to_list};
 ghost use Rattle.flat_model.specs.Flat.{flat_run};
 ghost use Rattle.trace_text.specs.Streams.{Moves, Stopped};
@@ -47,11 +48,10 @@ pub fn write_whole<W: Sink>(writer: &mut W, bytes: &[u8]) -> Result<(), Failed>
 {
     let mut rest = bytes;
     while !rest.is_empty() {
-        match writer.write_some(rest) {
-            Ok(n) if n == rest.len() => return Ok(()),
-            Ok(0) => return Err(Failed),
-            Ok(n) => rest = &rest[n..],
-            Err(_) => return Err(Failed),
+        match writer.write_some(rest)? {
+            n if n == rest.len() => return Ok(()),
+            0 => return Err(Failed),
+            n => rest = &rest[n..],
         }
     }
     Ok(())
@@ -84,10 +84,10 @@ impl LineText {
     #[inline(always)]
     #[tactic(auto, unfolding(crate::specs::Texts::reply_text, crate::specs::Texts::after_line))]
     fn push_reply<M: AnyMachine>(&mut self, machine: &mut M, line: Line) -> Option<Answer>
-        requires { length self.old + 675 ≤ MAX_PAIR }
+        requires { length self.old + MAX_REGISTER_TEXT ≤ MAX_PAIR }
         ensures answer { result ≡ answer_to (M.state machine.old) line }
         ensures text { self.new ≡ self.old ++ reply_text (M.state machine.old) line }
-        ensures len { length self.new ≤ length self.old + 675 }
+        ensures len { length self.new ≤ length self.old + MAX_REGISTER_TEXT }
         ensures after { M.state machine.new ≡ after_line (M.state machine.old) line }
         ensures runs { flat_run (flat (M.state machine.old)) (option_to_list (event_in line))
             (option_to_list (answer_to (M.state machine.old) line))
@@ -109,11 +109,11 @@ impl LineText {
 
 // A machine and a writer that serve the lines of a trace.
 #[derive(Drop)]
-pub struct Serving<'a, W, M> {
-    pub writer: &'a mut W,
-    pub machine: &'a mut M,
-    pub out: LineText,
-    pub counts: Counts,
+pub(crate) struct Serving<'a, W, M> {
+    pub(crate) writer: &'a mut W,
+    pub(crate) machine: &'a mut M,
+    pub(crate) out: LineText,
+    pub(crate) counts: Counts,
 }
 
 impl<'a, W: Sink, M: AnyMachine> Serving<'a, W, M> {

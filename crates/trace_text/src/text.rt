@@ -1,6 +1,7 @@
 //! The texts of answers and registers.
 ghost use Rattle.std.specs.Prelude.{◌≡◌, ℕ, ◌+◌, ◌≤◌, ◌<◌, ◌++◌, ◌∷◌, [], List, Option, length, take};
 ghost use Rattle.trace_text.specs.declared.fault.TheConstants.{MAX_PAIR};
+ghost use Rattle.trace_text.specs.declared.text.TheConstants.{MAX_HEAD_TEXT, MAX_FIELD_TEXT, MAX_FIELDS_TEXT, MAX_REGISTER_TEXT};
 ghost use Rattle.std.specs.List.{flat_map, range_with_len};
 ghost use Rattle.flat_model.specs.declared.limits.TheConstants.{MAX_BLOCK_WORDS};
 ghost use Rattle.trace_text.specs.Texts.{answer_text as text_of_answer, mark_text, marks_text, held_text, field_text, head_text, register_text as text_of_register, bank_text, settled_text, waiting_text, field_text_at};
@@ -10,6 +11,18 @@ use flat_model::{Answer, MAX_BLOCK_WORDS, Word};
 use machine_core::AnyMachine;
 use miss_registers::{FieldView, RegisterView};
 use std::marker::Model;
+
+/// How many bytes the part of a register before its words has at most.
+const MAX_HEAD_TEXT: usize = 35;
+
+/// How many bytes the part of a register for one word has at most.
+const MAX_FIELD_TEXT: usize = 40;
+
+/// How many bytes the parts of a register for all its words have at most.
+const MAX_FIELDS_TEXT: usize = MAX_BLOCK_WORDS * MAX_FIELD_TEXT;
+
+/// How many bytes the text of a register has at most.
+pub(crate) const MAX_REGISTER_TEXT: usize = MAX_HEAD_TEXT + MAX_FIELDS_TEXT;
 
 /// A text of at most 768 bytes, all of them ASCII.
 #[derive(Drop)]
@@ -55,7 +68,7 @@ impl LineText {
         self.len = 0;
     }
 
-    /// One byte more, at the end.
+    /// One byte more, at the end. There is room for it: the text has at most 768 bytes in all.
     #[inline(always)]
     pub fn push(&mut self, byte: u8)
         requires { length self.old < MAX_PAIR }
@@ -66,7 +79,7 @@ impl LineText {
         self.len += 1;
     }
 
-    /// These bytes, at the end.
+    /// These bytes, at the end. There is room for them: the text has at most 768 bytes in all.
     #[inline(always)]
     pub fn push_bytes(&mut self, bytes: &[u8])
         requires { length self.old + length bytes.now ≤ MAX_PAIR }
@@ -141,9 +154,9 @@ impl LineText {
 
     #[tactic(auto, unfolding(crate::specs::Texts::field_text))]
     fn push_field(&mut self, field: FieldView)
-        requires { length self.old + 40 ≤ MAX_PAIR }
+        requires { length self.old + MAX_FIELD_TEXT ≤ MAX_PAIR }
         ensures text { self.new ≡ self.old ++ field_text field }
-        ensures len { length self.new ≤ length self.old + 40 }
+        ensures len { length self.new ≤ length self.old + MAX_FIELD_TEXT }
     {
         self.push_bytes(b" [");
         self.push_marks(field);
@@ -156,9 +169,9 @@ impl LineText {
 
     #[tactic(auto, unfolding(crate::specs::Texts::head_text))]
     fn push_head(&mut self, register: RegisterView)
-        requires { length self.old + 35 ≤ MAX_PAIR }
+        requires { length self.old + MAX_HEAD_TEXT ≤ MAX_PAIR }
         ensures text { self.new ≡ self.old ++ head_text register }
-        ensures len { length self.new ≤ length self.old + 35 }
+        ensures len { length self.new ≤ length self.old + MAX_HEAD_TEXT }
     {
         self.push(mark(register.valid, b'V'));
         self.push(mark(register.obsolete, b'O'));
@@ -171,9 +184,9 @@ impl LineText {
     }
 
     fn push_field_at<M: AnyMachine>(&mut self, machine: &M, slot: u32, i: u32)
-        requires { length self.old + 40 ≤ MAX_PAIR }
+        requires { length self.old + MAX_FIELD_TEXT ≤ MAX_PAIR }
         ensures text { self.new ≡ self.old ++ field_text_at (M.state machine.now) slot i }
-        ensures len { length self.new ≤ length self.old + 40 }
+        ensures len { length self.new ≤ length self.old + MAX_FIELD_TEXT }
     {
         if let Some(field) = machine.field(slot, i) {
             self.push_field(field);
@@ -181,10 +194,10 @@ impl LineText {
     }
 
     fn push_fields<M: AnyMachine>(&mut self, machine: &M, slot: u32)
-        requires { length self.old + 640 ≤ MAX_PAIR }
+        requires { length self.old + MAX_FIELDS_TEXT ≤ MAX_PAIR }
         ensures text { self.new
             ≡ self.old ++ flat_map (field_text_at (M.state machine.now) slot) (range_with_len 0 MAX_BLOCK_WORDS) }
-        ensures len { length self.new ≤ length self.old + 640 }
+        ensures len { length self.new ≤ length self.old + MAX_FIELDS_TEXT }
     {
         for i in 0..MAX_BLOCK_WORDS as u32 {
             self.push_field_at(machine, slot, i);
@@ -194,9 +207,9 @@ impl LineText {
     // A register's text, at the end.
     #[tactic(auto, unfolding(crate::specs::Texts::register_text))]
     pub(crate) fn push_register<M: AnyMachine>(&mut self, machine: &M, slot: u32)
-        requires { length self.old + 675 ≤ MAX_PAIR }
+        requires { length self.old + MAX_REGISTER_TEXT ≤ MAX_PAIR }
         ensures text { self.new ≡ self.old ++ text_of_register (M.state machine.now) slot }
-        ensures len { length self.new ≤ length self.old + 675 }
+        ensures len { length self.new ≤ length self.old + MAX_REGISTER_TEXT }
     {
         match machine.register(slot) {
             None => self.push_bytes(b"none"),

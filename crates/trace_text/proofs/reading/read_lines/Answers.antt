@@ -1,37 +1,39 @@
 use Rattle.std.proofs.Common.{arith, ◌≡◌, ◌+◌, ◌-◌, ◌<◌, ◌∙◌, inl, inr, length, take, drop, sym, ap, length-take, length-drop}
+use Rattle.std.proofs.lemmas.Result.{err_from_is_err_and}
 use Rattle.trace_text.proofs.Readings.{reading_start, reading_still, reading_on, all_progress, misread_begun, reads_fault, reads_halted, reads_unpaused}
 use Rattle.trace_text.proofs.reading.read_lines.Goals as goal
 
 pub pieces-init : goal.pieces-init
 pieces-init g c = record { reading = reading_start c.args.reader.now c.args.collector.now c.requires.went; filled = omega arith; same = c.requires.same }
 
-pub returns-in-Err-clause-reads : goal.returns-in-Err-clause-reads
-returns-in-Err-clause-reads g c =
+pub returns-in_err-pause-clause-reads : goal.returns-in_err-pause-clause-reads
+returns-in_err-pause-clause-reads g c =
     let k = g.C.Collector in
-    reads_unpaused g.R.Source.failed k.stopped k.paused k.unpaused c.pause.new.self c.pieces.invariant.reading c.in-Err.ensures.err
+    let halted = err_from_is_err_and c.from_residual.result c.from_residual.ensures.1 in
+    rw (halted.1, halted.2) (reads_unpaused g.R.Source.failed k.stopped k.paused k.unpaused c.pause.new.self c.pieces.invariant.reading c.in_err-pause.ensures.err)
 
 pub returns-in-Err-Halted-clause-reads : goal.returns-in-Err-Halted-clause-reads
 returns-in-Err-Halted-clause-reads g c =
     let k = g.C.Collector in
-    let fill = c.in-Ok-fill.ensures.ok in
-    let reading = reading_still c.pieces.invariant.reading c.in-Ok.ensures.kept in
+    let fill = c.in-Ok.ensures.ok in
+    let reading = reading_still c.pieces.invariant.reading c.in_ok-pause.ensures.kept in
     reads_halted g.R.Source.failed k.stopped k.paused k.unpaused c.collect_ended.new.collector fill.bytes _ reading (fill.gives, omega (arith, fill.count)) fill.front (rw c.in-Err-Halted.field-0-is at c.in-Err-Halted.ensures.err)
 
 pub returns-in-Err-Fault-clause-reads : goal.returns-in-Err-Fault-clause-reads
 returns-in-Err-Fault-clause-reads g c =
     let k = g.C.Collector in
-    let fill = c.in-Ok-fill.ensures.ok in
-    let reading = reading_still c.pieces.invariant.reading c.in-Ok.ensures.kept in
+    let fill = c.in-Ok.ensures.ok in
+    let reading = reading_still c.pieces.invariant.reading c.in_ok-pause.ensures.kept in
     reads_fault g.R.Source.failed k.stopped k.paused k.unpaused c.collect_ended.new.collector c.told.new.collector fill.bytes _ c.in-Err-Fault.fault c.told.result
     reading (fill.gives, omega (arith, fill.count)) fill.front (rw c.in-Err-Fault.field-0-is at c.in-Err-Fault.ensures.err) c.told.ensures.stop
 
 pub returns-in-Some-clause-reads : goal.returns-in-Some-clause-reads
 returns-in-Some-clause-reads g c =
     let k = g.C.Collector in
-    let fill = c.in-Ok-fill.ensures.ok in
-    let reading = reading_still c.pieces.invariant.reading c.in-Ok.ensures.kept in
+    let fill = c.in-Ok.ensures.ok in
+    let reading = reading_still c.pieces.invariant.reading c.in_ok-pause.ensures.kept in
     let all = c.in-Ok-collect_ended.ensures.ok in
-    let whole = take (c.pieces.filled + c.in-Ok-fill.given) c.fill.new.buffer in
+    let whole = take (c.pieces.filled + c.in-Ok.given) c.fill.new.buffer in
     let left = c.in-Ok-collect_ended.left in
     let begun = misread_begun k.stopped left c.in-Some.fault all.collected all.unfinished (omega (arith, all.enough, length-drop (length whole - left) whole)) c.in-Some.ensures.some in
     reads_fault g.R.Source.failed k.stopped k.paused k.unpaused c.collect_ended.new.collector c.told-in-Some.new.collector fill.bytes whole c.in-Some.fault c.told-in-Some.result
@@ -39,12 +41,12 @@ returns-in-Some-clause-reads g c =
 
 pub pieces-preserved : goal.pieces-preserved
 pieces-preserved g c =
-    let fill = c.in-Ok-fill.ensures.ok in
-    let reading = reading_still c.pieces.invariant.reading c.in-Ok.ensures.kept in
+    let fill = c.in-Ok.ensures.ok in
+    let reading = reading_still c.pieces.invariant.reading c.in_ok-pause.ensures.kept in
     let all = c.in-Ok-collect_ended.ensures.ok in
-    let whole = take (c.pieces.filled + c.in-Ok-fill.given) c.fill.new.buffer in
+    let whole = take (c.pieces.filled + c.in-Ok.given) c.fill.new.buffer in
     let left = c.in-Ok-collect_ended.left in
-    let end = c.pieces.filled + c.in-Ok-fill.given in
+    let end = c.pieces.filled + c.in-Ok.given in
     let new = c.keep_end.new.bytes in
     let len : length whole ≡ end = omega (arith, length-take end c.fill.new.buffer, fill.within, c.fill.auto.buffer) in
     let back : left ≡ end - (end - left) = omega (arith, all.enough, len) in
@@ -60,9 +62,9 @@ pieces-preserved g c =
 
 pub pieces-smaller : goal.pieces-smaller
 pieces-smaller g c =
-    let fill = c.in-Ok-fill.ensures.ok in
+    let fill = c.in-Ok.ensures.ok in
     let all = c.in-Ok-collect_ended.ensures.ok in
-    let end = c.pieces.filled + c.in-Ok-fill.given in
+    let end = c.pieces.filled + c.in-Ok.given in
     let len : length (take end c.fill.new.buffer) ≡ end = omega (arith, length-take end c.fill.new.buffer, fill.within, c.fill.auto.buffer) in
     let short = c.in_default-begun_fault.ensures.short in
     elim (all_progress all) [

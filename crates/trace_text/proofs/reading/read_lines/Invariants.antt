@@ -1,4 +1,5 @@
 use Rattle.std.proofs.Common.{◌+◌, ◌-◌, ◌*◌, ◌≤◌, take}
+use Rattle.trace_text.specs.declared.fault.TheConstants.{MAX_LINES, MAX_LINE_LIMIT}
 use Rattle.trace_text.specs.Collecting.{Reading}
 use Rattle.trace_text.proofs.reading.read_lines.Given as goal
 
@@ -10,4 +11,4 @@ invariant-pieces g l = record {
 }
 
 abbrev pub decreases-pieces : goal.decreases-pieces
-decreases-pieces g l = (16777216 - l.count) * 1001 + (l.most - l.filled)
+decreases-pieces g l = (MAX_LINES - l.count) * (MAX_LINE_LIMIT + 1) + (l.most - l.filled)
