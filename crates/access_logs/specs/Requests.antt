@@ -6,15 +6,16 @@ use Rattle.flat_model.specs.declared.Event.TheVariants as event
 use Rattle.trace_text.specs.Codes.{line_feed}
 use Rattle.trace_text.specs.Written.{line_text}
 use Rattle.trace_text.specs.declared.lines.Line.TheVariants as line
+use Rattle.access_logs.specs.declared.requests.TheConstants.{TAGS}
 use Rattle.access_logs.specs.declared.access.Access.{Access}
 use Rattle.access_logs.specs.declared.access.AccessKind.{AccessKind}
 use Rattle.access_logs.specs.declared.access.AccessKind.TheVariants.{Load, Store, Modify}
 use Rattle.access_logs.specs.Accesses.{first_word_of, word_count_of, lanes_at, word_at}
 use Rattle.access_logs.specs.Pages.{memory_word}
 
--- the i-th tag behind this one: behind 65535 comes 0
+-- the i-th tag behind this one: behind the last comes 0
 abbrev pub tag_behind : ℕ → ℕ → ℕ
-tag_behind tag i = (tag + i) % 65536
+tag_behind tag i = (tag + i) % TAGS
 
 -- ---- the request of the i-th word that is touched
 

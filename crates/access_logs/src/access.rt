@@ -1,5 +1,6 @@
 //! Accesses, and the words that they touch.
 ghost use Rattle.std.specs.Prelude.{◌≡◌, ◌<◌, ◌≤◌, ◌^◌};
+ghost use Rattle.access_logs.specs.declared.access.TheConstants.{MAX_TOUCHED};
 ghost use Rattle.access_logs.specs.Accesses.{IsWithin, first_word_of, last_word_of, word_count_of, is_touched, lanes_at, word_at, byte_at, bit_at};
 
 use flat_model::{Lanes, Word};
@@ -9,6 +10,9 @@ pub const MAX_SIZE: u32 = 512;
 
 /// How many bytes a word has.
 const WORD_BYTES: u64 = 4;
+
+/// How many words an access touches at most: one more than its bytes fill, since it may begin within one.
+pub(crate) const MAX_TOUCHED: u64 = MAX_SIZE as u64 / WORD_BYTES + 1;
 
 /// What an access does.
 #[derive(Clone, Copy, Debug, PartialEq, Eq)]
@@ -52,7 +56,7 @@ impl Access {
     pub(crate) fn word_count(self) -> u64
         requires { IsWithin self }
         ensures count { result ≡ word_count_of self }
-        ensures few { result ≤ 129 }
+        ensures few { result ≤ MAX_TOUCHED }
     {
         self.last_word() - self.first_word() + 1
     }

@@ -15,7 +15,7 @@ pub const PAGE_WORDS: u64 = 1024;
 pub const MAX_PAGES: u32 = 1024;
 
 /// How many pages are kept: an access that finds no room has touched two more than memory has.
-const MAX_KEPT: usize = 1026;
+const MAX_KEPT: usize = MAX_PAGES as usize + 2;
 
 // A page, and its place among the pages.
 #[derive(Clone, Copy)]
@@ -26,7 +26,7 @@ struct Placed {
 
 // The pages so far. No page is twice among them.
 #[derive(Drop)]
-pub struct Pages {
+pub(crate) struct Pages {
     touched: ArrayVec<u64, MAX_KEPT>,
     // The page that was touched last: mostly it is the next one too, and then the list isn't searched.
     recent: Option<Placed>,
@@ -42,7 +42,7 @@ impl Model for Pages {
 
 impl Pages {
     // No page yet.
-    pub fn new() -> Pages
+    pub(crate) fn new() -> Pages
         ensures { result ≡ [] }
     {
         Pages {
@@ -52,9 +52,9 @@ impl Pages {
     }
 
     // How many there are.
-    pub fn len(&self) -> usize
+    pub(crate) fn len(&self) -> usize
         ensures count { result ≡ length self.now }
-        ensures few { result ≤ 1026 }
+        ensures few { result ≤ MAX_KEPT }
     {
         self.touched.len()
     }
@@ -62,7 +62,7 @@ impl Pages {
     // The place of a page.
     fn find(&self, page: u64) -> Option<usize>
         ensures place { result ≡ found_in self.now page }
-        ensures bound { IfSome result (λ place. place < 1026) }
+        ensures bound { IfSome result (λ place. place < MAX_KEPT) }
     {
         match self.recent {
             Some(recent) if recent.page == page => Some(recent.place),
@@ -72,7 +72,7 @@ impl Pages {
 
     // Touches a page: it is added if it isn't among them.
     fn touch(&mut self, page: u64)
-        requires { length self.old < 1026 }
+        requires { length self.old < MAX_KEPT }
         ensures pages { self.new ≡ with_page self.old page }
         ensures len { length self.new ≤ length self.old + 1 }
     {
@@ -86,7 +86,7 @@ impl Pages {
     }
 
     // Touches the pages of an access.
-    pub fn touch_all(&mut self, access: Access)
+    pub(crate) fn touch_all(&mut self, access: Access)
         requires within { IsWithin access }
         requires room { length self.old ≤ MAX_PAGES }
         ensures { self.new ≡ pages_after self.old access }
@@ -96,7 +96,7 @@ impl Pages {
     }
 
     // The word of memory that a word of the program is, whose page has been touched.
-    pub fn memory_word(&self, word: u64) -> u32
+    pub(crate) fn memory_word(&self, word: u64) -> u32
         ensures { result ≡ memory_word self.now word }
     {
         let place = self.find(word / PAGE_WORDS).unwrap_or(self.len());

@@ -2,6 +2,7 @@
 ghost use Rattle.std.specs.Prelude.{◌≡◌, ◌≤◌, ◌<◌, ◌^◌, length, OnOk, OnErr};
 ghost use Rattle.trace_text.specs.Streams.{Moves, Stopped};
 ghost use Rattle.flat_model.specs.declared.Event.TheVariants as event;
+ghost use Rattle.access_logs.specs.declared.access.TheConstants.{MAX_TOUCHED};
 ghost use Rattle.access_logs.specs.Accesses.{IsWithin};
 ghost use Rattle.access_logs.specs.Requests.{tag_behind, loads_of, stores_of, load_of, store_of, requests_of, request_text, requests_text, tag_after as next_tag};
 
@@ -11,11 +12,11 @@ use flat_model::{Lanes, Word};
 use trace_text::{Failed, LineText, Sink, write_whole};
 
 /// How many tags there are.
-const TAGS: u64 = 65_536;
+const TAGS: u64 = u16::MAX as u64 + 1;
 
 // The tag so many loads behind this one.
 fn tag_behind(tag: u16, loads: u64) -> u16
-    requires { loads ≤ 129 }
+    requires { loads ≤ MAX_TOUCHED }
     ensures { result ≡ tag_behind tag loads }
 {
     ((u64::from(tag) + loads) % TAGS) as u16
@@ -94,7 +95,7 @@ fn write_stores<W: Sink>(
 }
 
 // The tag of the next load behind an access.
-pub fn tag_after(tag: u16, access: Access) -> u16
+pub(crate) fn tag_after(tag: u16, access: Access) -> u16
     requires { IsWithin access }
     ensures { result ≡ next_tag tag access }
 {
@@ -105,7 +106,7 @@ pub fn tag_after(tag: u16, access: Access) -> u16
 }
 
 // Writes the requests of an access in the line of this number, with tags from this one on.
-pub fn write_access<W: Sink>(
+pub(crate) fn write_access<W: Sink>(
     writer: &mut W,
     out: &mut LineText,
     pages: &Pages,

@@ -21,18 +21,18 @@ pub const MAX_WORDS: u32 = flat_model::MAX_WORDS;
 
 // The writing of a log's requests.
 #[derive(Drop)]
-pub struct Writing<'a, W, F> {
-    pub writer: &'a mut W,
-    pub format: &'a F,
-    pub out: LineText,
+pub(crate) struct Writing<'a, W, F> {
+    pub(crate) writer: &'a mut W,
+    pub(crate) format: &'a F,
+    pub(crate) out: LineText,
     // How many pages there is room for.
-    pub room: u64,
-    pub pages: Pages,
+    pub(crate) room: u64,
+    pub(crate) pages: Pages,
     // The tag of the next load.
-    pub tag: u16,
+    pub(crate) tag: u16,
     // How many lines went before.
-    pub lines: u64,
-    pub no_room: Option<NoRoom>,
+    pub(crate) lines: u64,
+    pub(crate) no_room: Option<NoRoom>,
 }
 
 impl<'a, W: Sink, F: LogFormat> Writing<'a, W, F> {
