@@ -55,7 +55,7 @@ impl<const WAYS: usize, const WORDS: usize, const REGS: usize, const DEPTH: usiz
 > {
     /// A machine in which nothing has happened, over the words of the image. `BadShape` names the
     /// first number that is out of its range, the image's length last, before any memory is asked
-    /// for; `OutOfMemory` says that there was too little memory.
+    /// for; `OutOfMemory` says that there was too little memory. After either nothing is made.
     pub fn new(alloc: Global, shape: Shape, image: &[Word]) -> Result<Self, MakeFault>
         ensures ok { IfOk result
             (λ m. m ≡ record {
@@ -176,7 +176,8 @@ impl<const WAYS: usize, const WORDS: usize, const REGS: usize, const DEPTH: usiz
         self.unit.clean() && all_served(&self.banks, self.shape.banks)
     }
 
-    /// The word of memory at `at`, as it now stands in its bank; `None` exactly out of memory.
+    /// The word of memory at `at`, as it now stands in its bank; `None` exactly if memory has no such
+    /// word.
     pub fn bank_word(&self, at: u32) -> Option<Word>
         ensures { result ≡ bank_word_view self.now.sizes self.now.machine at }
     {
@@ -243,8 +244,8 @@ impl<const WAYS: usize, const WORDS: usize, const REGS: usize, const DEPTH: usiz
         self.banks.command_at(bank, place)
     }
 
-    /// The answer that stands at `place` in a bank, the one that an arrival with `later` 0 brings at 0;
-    /// `None` where none stands there or the bank isn't there.
+    /// The answer that stands at `place` in a bank, which an arrival with the same `place` brings, the
+    /// oldest one at 0; `None` where none stands there or the bank isn't there.
     pub fn answer_at(&self, bank: u32, place: u32) -> Option<BankAnswer>
         ensures { result ≡ slice_get (bank_at self.now.machine.banks bank).answers place }
     {
