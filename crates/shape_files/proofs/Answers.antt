@@ -3,10 +3,11 @@ use Rattle.std.proofs.Common.{◌≡◌, ◌≢◌, ℕ, ℤ, Bool, true, false,
 use Rattle.flat_model.specs.declared.ShapeField.{ShapeField}
 use Rattle.flat_model.specs.declared.ShapeField.TheVariants.{Ways, Regs, Words, Sets, Banks, BankQueue, WriteQueue, Replies}
 use Rattle.toml.specs.Data.{Members, no_members}
+use Rattle.shape_files.specs.declared.shape_file.TheConstants.{DEFAULT_SHAPE}
 use Rattle.shape_files.specs.declared.shape_file.ShapeFault.{ShapeFault}
 use Rattle.shape_files.specs.declared.shape_file.ShapeFault.TheVariants.{NotToml, UnknownKey, NotWhole, BadShape, OutOfMemory}
 use Rattle.shape_files.specs.declared.shape_file.Numbers.{Numbers}
-use Rattle.shape_files.specs.ShapeFile.{and_then, integer_at, whole, numbers_of, bad_field, shape_said, or_bad, shape_of, has_other_key, table_says, default_shape}
+use Rattle.shape_files.specs.ShapeFile.{and_then, integer_at, whole, numbers_of, bad_field, shape_said, or_bad, shape_of, has_other_key, table_says}
 
 -- whether an answer is not for want of memory
 abbrev pub has_room : {A : Type 0} → Result A ShapeFault → Bool
@@ -29,14 +30,14 @@ whole_room e n (Some None) = refl
 
 numbers_room : (ms : Members) → has_room (numbers_of ms) ≡ true
 numbers_room ms =
-    then_room _ _ (whole_room Ways default_shape.ways (integer_at (codes "ways") ms)) (λ ways.
-    then_room _ _ (whole_room Regs default_shape.regs (integer_at (codes "regs") ms)) (λ regs.
-    then_room _ _ (whole_room Words default_shape.shape.words (integer_at (codes "words") ms)) (λ words.
-    then_room _ _ (whole_room Sets default_shape.shape.sets (integer_at (codes "sets") ms)) (λ sets.
-    then_room _ _ (whole_room Banks default_shape.shape.banks (integer_at (codes "banks") ms)) (λ banks.
-    then_room _ _ (whole_room BankQueue default_shape.shape.bank_queue (integer_at (codes "bank_queue") ms)) (λ bank_queue.
-    then_room _ _ (whole_room WriteQueue default_shape.shape.write_queue (integer_at (codes "write_queue") ms)) (λ write_queue.
-    then_room _ _ (whole_room Replies default_shape.shape.replies (integer_at (codes "replies") ms)) (λ replies. refl))))))))
+    then_room _ _ (whole_room Ways DEFAULT_SHAPE.ways (integer_at (codes "ways") ms)) (λ ways.
+    then_room _ _ (whole_room Regs DEFAULT_SHAPE.regs (integer_at (codes "regs") ms)) (λ regs.
+    then_room _ _ (whole_room Words DEFAULT_SHAPE.shape.words (integer_at (codes "words") ms)) (λ words.
+    then_room _ _ (whole_room Sets DEFAULT_SHAPE.shape.sets (integer_at (codes "sets") ms)) (λ sets.
+    then_room _ _ (whole_room Banks DEFAULT_SHAPE.shape.banks (integer_at (codes "banks") ms)) (λ banks.
+    then_room _ _ (whole_room BankQueue DEFAULT_SHAPE.shape.bank_queue (integer_at (codes "bank_queue") ms)) (λ bank_queue.
+    then_room _ _ (whole_room WriteQueue DEFAULT_SHAPE.shape.write_queue (integer_at (codes "write_queue") ms)) (λ write_queue.
+    then_room _ _ (whole_room Replies DEFAULT_SHAPE.shape.replies (integer_at (codes "replies") ms)) (λ replies. refl))))))))
 
 shape_room : (n : Numbers) → has_room (shape_of n) ≡ true
 shape_room n = go (bad_field (shape_said n))
@@ -53,7 +54,7 @@ table_room ms = go (has_other_key ms)
     go false = then_room _ _ (numbers_room ms) shape_room
 
 -- a table without keys says the program's own shape
-pub no_key_is_default : table_says no_members ≡ Ok default_shape
+pub no_key_is_default : table_says no_members ≡ Ok DEFAULT_SHAPE
 no_key_is_default = refl
 
 -- a table is never refused for want of memory

@@ -1,5 +1,6 @@
 -- What a shape file says: the answer for every text that TOML's grammar takes.
 use Rattle.std.specs.Prelude.{ℕ, ℤ, pos, negsuc, Bool, false, ◌||◌, not, if◌then◌else◌, ◌==◌, ◌-◌, ◌^◌, nat_lt, List, ◌++◌, Option, Some, None, Result, Ok, Err, codes}
+use Rattle.std.specs.List.{list_any}
 use Rattle.std.specs.Option.{option_map}
 use Rattle.std.specs.Str.{bytes_eq}
 use Rattle.toml.specs.Data.{Members, no_members, member, get_member, as_integer}
@@ -9,14 +10,11 @@ use Rattle.flat_model.specs.Ranges.{is_between}
 use Rattle.cache_unit.specs.State.{Sizes}
 use Rattle.cache_unit.specs.Shown as shown
 use Rattle.cache_unit.specs.Limits.{bad_number}
+use Rattle.shape_files.specs.declared.shape_file.TheConstants.{BLOCK_WORDS, DEPTH, MOST_WAYS, REGISTER_COUNTS, DEFAULT_SHAPE}
 use Rattle.shape_files.specs.declared.shape_file.ToolShape.{ToolShape}
 use Rattle.shape_files.specs.declared.shape_file.ShapeFault.{ShapeFault}
 use Rattle.shape_files.specs.declared.shape_file.ShapeFault.TheVariants.{NotToml, UnknownKey, NotWhole, BadShape, OutOfMemory}
 use Rattle.shape_files.specs.declared.shape_file.Numbers.{Numbers}
-
--- the shape of a file that names no key
-abbrev pub default_shape : ToolShape
-default_shape = record { shape = record { words = 64; sets = 4; banks = 4; bank_queue = 8; write_queue = 8; replies = 8 }; ways = 2; regs = 4 }
 
 -- whether a shape file may have this key
 abbrev pub is_key : List ℕ → Bool
@@ -46,28 +44,28 @@ whole field default (Some None) = Err (NotWhole field)
 -- the numbers of a table, in the order in which they are asked for
 abbrev pub numbers_of : Members → Result Numbers ShapeFault
 numbers_of ms =
-    and_then (whole Ways default_shape.ways (integer_at (codes "ways") ms)) (λ ways.
-    and_then (whole Regs default_shape.regs (integer_at (codes "regs") ms)) (λ regs.
-    and_then (whole Words default_shape.shape.words (integer_at (codes "words") ms)) (λ words.
-    and_then (whole Sets default_shape.shape.sets (integer_at (codes "sets") ms)) (λ sets.
-    and_then (whole Banks default_shape.shape.banks (integer_at (codes "banks") ms)) (λ banks.
-    and_then (whole BankQueue default_shape.shape.bank_queue (integer_at (codes "bank_queue") ms)) (λ bank_queue.
-    and_then (whole WriteQueue default_shape.shape.write_queue (integer_at (codes "write_queue") ms)) (λ write_queue.
-    and_then (whole Replies default_shape.shape.replies (integer_at (codes "replies") ms)) (λ replies.
+    and_then (whole Ways DEFAULT_SHAPE.ways (integer_at (codes "ways") ms)) (λ ways.
+    and_then (whole Regs DEFAULT_SHAPE.regs (integer_at (codes "regs") ms)) (λ regs.
+    and_then (whole Words DEFAULT_SHAPE.shape.words (integer_at (codes "words") ms)) (λ words.
+    and_then (whole Sets DEFAULT_SHAPE.shape.sets (integer_at (codes "sets") ms)) (λ sets.
+    and_then (whole Banks DEFAULT_SHAPE.shape.banks (integer_at (codes "banks") ms)) (λ banks.
+    and_then (whole BankQueue DEFAULT_SHAPE.shape.bank_queue (integer_at (codes "bank_queue") ms)) (λ bank_queue.
+    and_then (whole WriteQueue DEFAULT_SHAPE.shape.write_queue (integer_at (codes "write_queue") ms)) (λ write_queue.
+    and_then (whole Replies DEFAULT_SHAPE.shape.replies (integer_at (codes "replies") ms)) (λ replies.
     Ok (record { ways = ways; regs = regs; words = words; sets = sets; banks = banks; bank_queue = bank_queue; write_queue = write_queue; replies = replies })))))))))
 
 -- the numbers of registers that there may be
 abbrev pub is_register_count : ℕ → Bool
-is_register_count n = (n == 1) || (n == 2) || (n == 4) || (n == 8)
+is_register_count n = list_any (λ count. count == n) REGISTER_COUNTS
 
--- the sizes of the machine of a shape: blocks of 4 words, an input stack of 4
+-- the sizes of the machine of a shape
 abbrev pub sizes_of : ToolShape → Sizes
-sizes_of t = shown.sizes_of t.ways 4 t.regs 4 t.shape
+sizes_of t = shown.sizes_of t.ways BLOCK_WORDS t.regs DEPTH t.shape
 
 -- the first field that is out of its range
 abbrev pub bad_field : ToolShape → Option ShapeField
 bad_field t =
-    if not (is_between t.ways 1 2) then Some Ways
+    if not (is_between t.ways 1 MOST_WAYS) then Some Ways
     else (if not (is_register_count t.regs) then Some Regs else bad_number (sizes_of t))
 
 -- a number as 32 bits have it; one that they haven't is out of every range, as the largest is

@@ -3,4 +3,7 @@
 
 mod shape_file;
 
-pub use shape_file::{ShapeFault, ToolShape, bad_field, read_shape, shape_of_table};
+pub use shape_file::{
+    BLOCK_WORDS, DEFAULT_SHAPE, DEPTH, MOST_WAYS, REGISTER_COUNTS, ShapeFault, ToolShape,
+    bad_field, read_shape, shape_of_table,
+};

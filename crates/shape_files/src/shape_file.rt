@@ -14,37 +14,51 @@ use std::error::Error;
 use std::fmt;
 use toml::Table;
 
+/// Words per block of each machine that the program makes.
+pub const BLOCK_WORDS: usize = 4;
+
+/// Arrived words that the input stack of each machine that the program makes has room for.
+pub const DEPTH: usize = 4;
+
+/// The most ways of a machine that the program makes.
+pub const MOST_WAYS: u32 = 2;
+
+/// The numbers of registers that a machine of the program may have.
+pub const REGISTER_COUNTS: [u32; 4] = [1, 2, 4, 8];
+
+/// The shape that a file says which names no key.
+pub const DEFAULT_SHAPE: ToolShape = ToolShape {
+    shape: Shape {
+        words: 64,
+        sets: 4,
+        banks: 4,
+        bank_queue: 8,
+        write_queue: 8,
+        replies: 8,
+    },
+    ways: 2,
+    regs: 4,
+};
+
 /// The shape of a machine that the program can make.
 #[derive(Clone, Copy, PartialEq, Eq, Debug)]
 pub struct ToolShape {
     /// The numbers that are given when the machine is made.
     pub shape: Shape,
-    /// Frames per set: 1 or 2.
+    /// Frames per set: 1 to [`MOST_WAYS`].
     pub ways: u32,
-    /// Registers: 1, 2, 4 or 8.
+    /// Registers: one of [`REGISTER_COUNTS`].
     pub regs: u32,
 }
 
 impl Default for ToolShape {
     ghost use Rattle.std.specs.Prelude.{◌≡◌};
-    ghost use Rattle.shape_files.specs.ShapeFile.{default_shape};
+    ghost use Rattle.shape_files.specs.declared.shape_file.TheConstants.{DEFAULT_SHAPE};
 
-    // What a shape file says that names no key.
-    ghost is_default = { λ tool. tool ≡ default_shape };
+    ghost is_default = { λ tool. tool ≡ DEFAULT_SHAPE };
 
     fn default() -> ToolShape {
-        ToolShape {
-            shape: Shape {
-                words: 64,
-                sets: 4,
-                banks: 4,
-                bank_queue: 8,
-                write_queue: 8,
-                replies: 8,
-            },
-            ways: 2,
-            regs: 4,
-        }
+        DEFAULT_SHAPE
     }
 }
 
@@ -201,7 +215,7 @@ fn whole(field: ShapeField, default: u32, found: Option<Option<i64>>) -> Result<
 fn numbers_of(table: &Table) -> Result<Numbers, ShapeFault>
     ensures { result ≡ numbers_of (table_view table.now) }
 {
-    let ToolShape { shape, ways, regs } = ToolShape::default();
+    let ToolShape { shape, ways, regs } = DEFAULT_SHAPE;
     let ways = whole(ShapeField::Ways, ways, integer_at(table, "ways"))?;
     let regs = whole(ShapeField::Regs, regs, integer_at(table, "regs"))?;
     let words = whole(ShapeField::Words, shape.words, integer_at(table, "words"))?;
@@ -238,21 +252,21 @@ fn numbers_of(table: &Table) -> Result<Numbers, ShapeFault>
 fn is_register_count(number: u32) -> bool
     ensures { result ≡ is_register_count number }
 {
-    number == 1 || number == 2 || number == 4 || number == 8
+    REGISTER_COUNTS.iter().any(|count| *count == number)
 }
 
-/// The first field of a shape that is out of its range: 1 or 2 ways, 1, 2, 4 or 8 registers, and
-/// the rest as every machine has them.
+/// The first field of a shape that is out of its range: 1 to [`MOST_WAYS`] ways, registers as
+/// [`REGISTER_COUNTS`] has them, and the rest as in every machine.
 pub fn bad_field(tool: &ToolShape) -> Option<ShapeField>
     ensures { result ≡ bad_field tool.now }
 {
-    if tool.ways < 1 || tool.ways > 2 {
+    if tool.ways < 1 || tool.ways > MOST_WAYS {
         Some(ShapeField::Ways)
     } else if !is_register_count(tool.regs) {
         Some(ShapeField::Regs)
     } else {
         // The ranges of the rest depend on the words of a block alone.
-        cache_unit::bad_field::<1, 4, 1, 4>(&tool.shape)
+        cache_unit::bad_field::<1, BLOCK_WORDS, 1, DEPTH>(&tool.shape)
     }
 }
 
