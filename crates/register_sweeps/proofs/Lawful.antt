@@ -18,6 +18,7 @@ use Rattle.cache_unit.proofs.Numbers as numbers
 use Rattle.machine_core.specs.Machine.{MachineState, opening}
 use Rattle.machine_core.proofs.Contract.{sound_opening, bounded_opening, flat_opening}
 use Rattle.machine_core.proofs.Whole.{lawful, roomy}
+use Rattle.shape_files.specs.declared.shape_file.TheConstants.{BLOCK_WORDS, DEPTH, MOST_WAYS}
 use Rattle.shape_files.specs.declared.shape_file.ToolShape.{ToolShape}
 use Rattle.round_driver.specs.Walks.{is_request}
 use Rattle.register_sweeps.specs.declared.row.Row.{Row}
@@ -36,9 +37,9 @@ inside : (n low high : ℕ) → low ≤ n → n ≤ high → is_between n low hi
 inside n low high above below = rw (le-leb low n above, le-leb n high below) refl
 
 some_registers : (n : ℕ) → is_register_count n ≡ true → (1 ≤ n) × (n ≤ 8)
-some_registers n h = go (n == 1) refl (n == 2) refl (n == 4) refl (n == 8) refl
+some_registers n h = go (1 == n) refl (2 == n) refl (4 == n) refl (8 == n) refl
   where
-    go : (a : Bool) → (n == 1) ≡ a → (b : Bool) → (n == 2) ≡ b → (c : Bool) → (n == 4) ≡ c → (d : Bool) → (n == 8) ≡ d → (1 ≤ n) × (n ≤ 8)
+    go : (a : Bool) → (1 == n) ≡ a → (b : Bool) → (2 == n) ≡ b → (c : Bool) → (4 == n) ≡ c → (d : Bool) → (8 == n) ≡ d → (1 ≤ n) × (n ≤ 8)
     go true e b f c i d j = let is : n ≡ 1 = grind (arith, common_steps, e) in (omega (arith, is), omega (arith, is))
     go false e true f c i d j = let is : n ≡ 2 = grind (arith, common_steps, f) in (omega (arith, is), omega (arith, is))
     go false e false f true i d j = let is : n ≡ 4 = grind (arith, common_steps, i) in (omega (arith, is), omega (arith, is))
@@ -50,9 +51,9 @@ some_registers n h = go (n == 1) refl (n == 2) refl (n == 4) refl (n == 8) refl
 -- a shape whose fields are in range has the sizes of a unit
 sizes_fit : (t : ToolShape) → bad_field t ≡ None → limits.bad_field (sizes_of t) ≡ None
 sizes_fit t h =
-    let ways = passed (is_between t.ways 1 2) Ways _ h in
+    let ways = passed (is_between t.ways 1 MOST_WAYS) Ways _ h in
     let regs = passed (is_register_count t.regs) Regs _ ways.1 in
-    let two = between t.ways 1 2 ways.0 in
+    let two = between t.ways 1 MOST_WAYS ways.0 in
     let eight = some_registers t.regs regs.0 in
     let few_ways = two.1 in
     let few_regs = eight.1 in
@@ -90,9 +91,9 @@ rows_count_all events ts (Ok rows) good said = λ requests i t row inside.
     subst (CountsAll events (get_or ts i t)) (sym each) (counts_all (get_or ts i t) events (good_shape ts 0 i t good inside) requests)
 
 -- a machine that is made over zeros is the new machine of its shape
-pub made : (t : ToolShape) (ways regs : ℕ) (image : List Word) (m : MachineState) → t.ways ≡ ways → t.regs ≡ regs → image ≡ replicate t.shape.words zero_word → m ≡ record { sizes = shown.sizes_of ways 4 regs 4 t.shape; machine = opening (shown.sizes_of ways 4 regs 4 t.shape) image } → m ≡ new_machine t
+pub made : (t : ToolShape) (ways regs : ℕ) (image : List Word) (m : MachineState) → t.ways ≡ ways → t.regs ≡ regs → image ≡ replicate t.shape.words zero_word → m ≡ record { sizes = shown.sizes_of ways BLOCK_WORDS regs DEPTH t.shape; machine = opening (shown.sizes_of ways BLOCK_WORDS regs DEPTH t.shape) image } → m ≡ new_machine t
 made t ways regs image m w r zeros h =
-    h ∙ ap (λ xs. record { sizes = shown.sizes_of ways 4 regs 4 t.shape; machine = opening (shown.sizes_of ways 4 regs 4 t.shape) xs }) zeros ∙ sym (ap₂ (λ a b. record { sizes = shown.sizes_of a 4 b 4 t.shape; machine = opening (shown.sizes_of a 4 b 4 t.shape) (replicate t.shape.words zero_word) }) w r)
+    h ∙ ap (λ xs. record { sizes = shown.sizes_of ways BLOCK_WORDS regs DEPTH t.shape; machine = opening (shown.sizes_of ways BLOCK_WORDS regs DEPTH t.shape) xs }) zeros ∙ sym (ap₂ (λ a b. record { sizes = shown.sizes_of a BLOCK_WORDS b DEPTH t.shape; machine = opening (shown.sizes_of a BLOCK_WORDS b DEPTH t.shape) (replicate t.shape.words zero_word) }) w r)
 
 -- a word of zero bytes
 pub zero_from : (w : Word) → w.b0 ≡ 0 → w.b1 ≡ 0 → w.b2 ≡ 0 → w.b3 ≡ 0 → w ≡ zero_word

@@ -10,7 +10,7 @@ ghost use Rattle.register_sweeps.specs.Sweep.{new_machine};
 use flat_model::{MakeFault, Word};
 use machine_core::Machine;
 use run_pictures::PictureMachine;
-use shape_files::ToolShape;
+use shape_files::{BLOCK_WORDS, DEPTH, ToolShape};
 use std::alloc::{AllocError, Global};
 
 /// What is done with a machine, whatever its numbers are.
@@ -27,7 +27,7 @@ pub trait MachineJob {
     // What it holds by reference it holds still.
     ghost holds_same: { Self → Self → Type 0 };
 
-    /// Does it.
+    /// Does the job with a new machine over zeros.
     fn work<M: PictureMachine>(&mut self, machine: &mut M) -> Self::Done
         requires can { can self.old }
         requires banks { (M.state machine.old).sizes.banks ≤ MAX_BANKS }
@@ -48,6 +48,8 @@ pub fn with_machine<J: MachineJob>(alloc: Global, tool: &ToolShape, job: &mut J)
     ensures done { J.done job.old (new_machine tool.now) job.new result }
     ensures same { J.holds_same job.old job.new }
 {
+    // No list of constants gives const arguments, so the numbers stand here again. That none is
+    // missing is proved.
     match (tool.ways, tool.regs) {
         (1, 1) => with_machine_of::<1, 1, J>(alloc, tool, job),
         (1, 2) => with_machine_of::<1, 2, J>(alloc, tool, job),
@@ -84,7 +86,7 @@ fn with_machine_of<const WAYS: usize, const REGS: usize, J: MachineJob>(
 fn machine_of<const WAYS: usize, const REGS: usize>(
     alloc: Global,
     tool: &ToolShape,
-) -> Result<Machine<WAYS, 4, REGS, 4>, AllocError>
+) -> Result<Machine<WAYS, BLOCK_WORDS, REGS, DEPTH>, AllocError>
     requires shape { bad_field tool.now ≡ None }
     requires ways { tool.now.ways ≡ WAYS }
     requires regs { tool.now.regs ≡ REGS }
@@ -93,7 +95,7 @@ fn machine_of<const WAYS: usize, const REGS: usize>(
     ensures few { IfOk result (λ machine. most_weight machine.sizes < 2 ^ 32) }
 {
     let image = vec![in alloc; Word::default(); tool.shape.words as usize]?;
-    match Machine::<WAYS, 4, REGS, 4>::new(alloc, tool.shape, image.as_slice()) {
+    match Machine::<WAYS, BLOCK_WORDS, REGS, DEPTH>::new(alloc, tool.shape, image.as_slice()) {
         Ok(machine) => Ok(machine),
         Err(MakeFault::OutOfMemory) => Err(AllocError),
         Err(MakeFault::BadShape(_)) => unreachable!(),

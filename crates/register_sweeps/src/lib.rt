@@ -15,5 +15,5 @@ mod threads;
 
 pub use choice::{MachineJob, with_machine};
 pub use rounds::{RoundsRow, rounds_table, sweep_rounds};
-pub use row::{Row, row_from};
+pub use row::Row;
 pub use sweeps::{OpenGate, SweepFault, SweepGate, sweep, sweep_row};

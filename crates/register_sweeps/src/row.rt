@@ -148,19 +148,19 @@ fn is_request(event: Event) -> bool
     )
 }
 
-// How often an event that has to wait is asked again at most. It is as often as what is on its way
-// weighs; but to a whole machine a request ends by then, so any higher number does the same, and the
+// How often an event that has to wait is asked again at most: as often as what is on its way weighs.
+// To a whole machine a request ends by then, so for one any higher number does the same, and the
 // machine isn't weighed.
-fn most_turns<M: AnyMachine>(machine: &M, event: Event, is_whole: bool) -> u64
+fn most_turns<M: AnyMachine>(machine: &M, event: Event) -> u64
     requires few { most_weight (M.state machine.now).sizes < 2 ^ 32 }
-    requires whole { IsTrue is_whole → IsWholeState (M.state machine.now) }
-    requires waits { IsTrue is_whole → IsTrue (is_request event)
+    requires whole { IsWholeState (M.state machine.now) }
+    requires waits { IsTrue (is_request event)
         → is_end (answered (M.state machine.now) event) ≡ false }
     ensures few { result < 2 ^ 32 }
     ensures same { (c : sweep.Course) → c.state ≡ M.state machine.now
         → sweep.ask_again result event c ≡ sweep.ask_again (weight_of c.state) event c }
 {
-    if is_whole && is_request(event) {
+    if is_request(event) {
         MOST_TURNS
     } else {
         machine.weight()
@@ -168,11 +168,11 @@ fn most_turns<M: AnyMachine>(machine: &M, event: Event, is_whole: bool) -> u64
 }
 
 // Asks a request again, after a pump each time, until it ends.
-fn ask_again<M: AnyMachine>(machine: &mut M, row: &mut Row, event: Event, is_whole: bool)
+fn ask_again<M: AnyMachine>(machine: &mut M, row: &mut Row, event: Event)
     requires few { most_weight (M.state machine.old).sizes < 2 ^ 32 }
     requires room { total row.old < 2 ^ 62 }
-    requires whole { IsTrue is_whole → IsWholeState (M.state machine.old) }
-    requires waits { IsTrue is_whole → IsTrue (is_request event)
+    requires whole { IsWholeState (M.state machine.old) }
+    requires waits { IsTrue (is_request event)
         → is_end (answered (M.state machine.old) event) ≡ false }
     ensures sizes { (M.state machine.new).sizes ≡ (M.state machine.old).sizes }
     ensures course { course (M.state machine.new) row.new
@@ -180,7 +180,7 @@ fn ask_again<M: AnyMachine>(machine: &mut M, row: &mut Row, event: Event, is_who
         (course (M.state machine.old) row.old) }
     ensures total { total row.new ≤ total row.old + 2 ^ 34 }
 {
-    for _turn in 0..most_turns(machine, event, is_whole) {
+    for _turn in 0..most_turns(machine, event) {
         pump_once(machine, row);
         row.waited += 1;
         if ask(machine, row, event) {
@@ -190,19 +190,19 @@ fn ask_again<M: AnyMachine>(machine: &mut M, row: &mut Row, event: Event, is_who
 }
 
 // Serves a request to its end.
-fn serve<M: AnyMachine>(machine: &mut M, row: &mut Row, event: Event, is_whole: bool)
+fn serve<M: AnyMachine>(machine: &mut M, row: &mut Row, event: Event)
     requires few { most_weight (M.state machine.old).sizes < 2 ^ 32 }
     requires room { total row.old < 2 ^ 61 }
-    requires whole { IsTrue is_whole → IsWholeState (M.state machine.old) }
+    requires whole { IsWholeState (M.state machine.old) }
     ensures sizes { (M.state machine.new).sizes ≡ (M.state machine.old).sizes }
     ensures course { course (M.state machine.new) row.new
         ≡ sweep.serve event (course (M.state machine.old) row.old) }
     ensures total { total row.new ≤ total row.old + 2 ^ 35 }
-    ensures whole { IsTrue is_whole → IsWholeState (M.state machine.new) }
+    ensures whole { IsWholeState (M.state machine.new) }
 {
     if !ask(machine, row, event) {
         row.stalled += 1;
-        ask_again(machine, row, event, is_whole);
+        ask_again(machine, row, event);
     }
 }
 
@@ -218,39 +218,28 @@ fn run_dry<M: AnyMachine>(machine: &mut M, row: &mut Row)
     }
 }
 
-// Serves all requests, and then pumps until there is nothing left to do. `is_whole` says that the
-// machine is known to be whole.
-fn count_all<M: AnyMachine>(machine: &mut M, regs: u32, events: &[Event], is_whole: bool) -> Row
+// Serves all requests, and then pumps until there is nothing left to do.
+fn count_all<M: AnyMachine>(machine: &mut M, regs: u32, events: &[Event]) -> Row
     requires few { most_weight (M.state machine.old).sizes < 2 ^ 32 }
     requires events { length events.now ≤ most_requests }
-    requires whole { IsTrue is_whole → IsWholeState (M.state machine.old) }
+    requires whole { IsWholeState (M.state machine.old) }
     ensures { result ≡ sweep.row_from (M.state machine.old) regs events.now }
 {
     let mut row = Row::default();
     row.regs = regs;
     for event in events {
-        serve(machine, &mut row, *event, is_whole);
+        serve(machine, &mut row, *event);
     }
     run_dry(machine, &mut row);
     row
 }
 
-/// Serves all requests, and then pumps until there is nothing left to do.
-pub fn row_from<M: AnyMachine>(machine: &mut M, regs: u32, events: &[Event]) -> Row
-    requires few { most_weight (M.state machine.old).sizes < 2 ^ 32 }
-    requires events { length events.now ≤ most_requests }
-    ensures { result ≡ sweep.row_from (M.state machine.old) regs events.now }
-{
-    count_all(machine, regs, events, false)
-}
-
-// The same row, of a machine that says that it is whole: it isn't weighed for each request that has
-// to wait.
-pub(crate) fn whole_row_from<M: RoundMachine>(machine: &mut M, regs: u32, events: &[Event]) -> Row
+// The row of a machine, which says itself that it is whole.
+pub(crate) fn row_from<M: RoundMachine>(machine: &mut M, regs: u32, events: &[Event]) -> Row
     requires few { most_weight (M.state machine.old).sizes < 2 ^ 32 }
     requires events { length events.now ≤ most_requests }
     ensures { result ≡ sweep.row_from (M.state machine.old) regs events.now }
 {
     machine.keeps_whole();
-    count_all(machine, regs, events, true)
+    count_all(machine, regs, events)
 }

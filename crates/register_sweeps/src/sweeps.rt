@@ -9,7 +9,7 @@ ghost use Rattle.shape_files.specs.ShapeFile.{bad_field};
 ghost use Rattle.register_sweeps.specs.Sweep.{FaultSays, CountsAll, EachCountsAll, bad_from, row_from, row_of};
 
 use crate::choice::{MachineJob, with_machine};
-use crate::row::{Row, whole_row_from};
+use crate::row::{Row, row_from};
 use crate::threads::{RowMaker, rows_on_threads};
 use flat_model::{Event, ShapeField};
 use run_pictures::PictureMachine;
@@ -97,7 +97,7 @@ impl MachineJob for CountedRow<'_> {
     ghost holds_same = { λ s t. ⊤ };
 
     fn work<M: PictureMachine>(&mut self, machine: &mut M) -> Result<Row, AllocError> {
-        Ok(whole_row_from(machine, self.regs, self.events))
+        Ok(row_from(machine, self.regs, self.events))
     }
 
     fn give_up(&mut self) -> Result<Row, AllocError> {

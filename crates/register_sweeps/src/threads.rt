@@ -17,7 +17,7 @@ use std::thread;
 use std::thread::Threads;
 
 // What makes a row of a shape.
-pub trait RowMaker: Sync {
+pub(crate) trait RowMaker: Sync {
     // A row.
     type Row: Copy + Send;
 
@@ -39,9 +39,15 @@ pub trait RowMaker: Sync {
 
 // Why a thread gave no row.
 #[derive(Clone, Copy, PartialEq, Eq, Debug)]
-pub enum Stop {
+pub(crate) enum Stop {
     TurnLimit,
     OutOfMemory,
+}
+
+impl From<AllocError> for Stop {
+    fn from(_fault: AllocError) -> Stop {
+        Stop::OutOfMemory
+    }
 }
 
 // The first shape with a bad field, and that field.
@@ -76,10 +82,7 @@ fn row_in_turn<K: RowMaker, G: SweepGate>(
         if gate.may(place) {
             let row = maker.make_row(alloc, shape);
             gate.ended(place);
-            return match row {
-                Ok(row) => Ok(row),
-                Err(_) => Err(Stop::OutOfMemory),
-            };
+            return Ok(row?);
         }
     }
     Err(Stop::TurnLimit)
@@ -151,7 +154,7 @@ fn all_rows<A: Copy>(alloc: Global, answers: &[Result<A, Stop>]) -> Result<Vec<A
 }
 
 // The rows of these shapes, in their order.
-pub fn rows_on_threads<R: Threads + Sync, K: RowMaker, G: SweepGate>(
+pub(crate) fn rows_on_threads<R: Threads + Sync, K: RowMaker, G: SweepGate>(
     rt: &R,
     alloc: Global,
     maker: &K,

@@ -1,4 +1,4 @@
-use Rattle.std.proofs.Common.{◌≡◌, ◌*◌, ◌^◌, ◌≤◌, IsTrue, drop}
+use Rattle.std.proofs.Common.{◌≡◌, ◌*◌, ◌^◌, ◌≤◌, drop}
 use Rattle.machine_core.specs.Whole.{IsWholeState}
 use Rattle.register_sweeps.specs.Sweep.{course, total, empty_row, serve_all}
 use Rattle.register_sweeps.proofs.row.count_all.Given as goal
@@ -6,4 +6,4 @@ use Rattle.register_sweeps.proofs.row.count_all.Given as goal
 -- the requests that are left do what all of them do
 abbrev pub invariant-loop-event : goal.invariant-loop-event
 invariant-loop-event g l =
-    (serve_all l.events (course (g.M.AnyMachine.state l.initial.machine) (empty_row l.regs)) ≡ serve_all (drop l.event-index l.events) (course (g.M.AnyMachine.state l.machine) l.row)) × (total l.row ≤ 2 ^ 35 * l.event-index) × ((g.M.AnyMachine.state l.machine).sizes ≡ (g.M.AnyMachine.state l.initial.machine).sizes) × (IsTrue l.is_whole → IsWholeState (g.M.AnyMachine.state l.machine))
+    (serve_all l.events (course (g.M.AnyMachine.state l.initial.machine) (empty_row l.regs)) ≡ serve_all (drop l.event-index l.events) (course (g.M.AnyMachine.state l.machine) l.row)) × (total l.row ≤ 2 ^ 35 * l.event-index) × ((g.M.AnyMachine.state l.machine).sizes ≡ (g.M.AnyMachine.state l.initial.machine).sizes) × IsWholeState (g.M.AnyMachine.state l.machine)

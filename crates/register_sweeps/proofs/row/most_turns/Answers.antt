@@ -11,8 +11,8 @@ pub returns-then-is_request-clause-same : goal.returns-then-is_request-clause-sa
 returns-then-is_request-clause-same g c = λ d here.
     let request = sym c.is_request.ensures ∙ c.if-is_request.true in
     let few = c.requires.few in
-    let whole = subst IsWholeState (sym here) (c.requires.whole c.if-is_whole.true) in
-    let waits = ap (λ (s : MachineState). is_end (answered s c.args.event)) here ∙ c.requires.waits c.if-is_whole.true request in
+    let whole = subst IsWholeState (sym here) c.requires.whole in
+    let waits = ap (λ (s : MachineState). is_end (answered s c.args.event)) here ∙ c.requires.waits request in
     let enough : most_weight (g.M.AnyMachine.state c.args.machine.now).sizes ≤ 4294967295 = omega (arith, few) in
     let enough_here : most_weight d.state.sizes ≤ 4294967295 = subst (λ (s : MachineState). most_weight s.sizes ≤ 4294967295) (sym here) enough in
     enough_turns 4294967295 c.args.event d request whole waits enough_here
