@@ -1,15 +1,17 @@
 -- What a job does, and how it ends.
-use Rattle.std.specs.Prelude.{ℕ, Option, Some, None, List, [], ◌∷◌, ◌++◌, map, codes, decimal}
+use Rattle.std.specs.Prelude.{ℕ, Option, Some, None, List, ◌++◌, map, codes, decimal}
 use Rattle.trace_text.specs.declared.check.CheckEnd.{CheckEnd}
 use Rattle.trace_text.specs.declared.check.CheckEnd.TheVariants.{Flat, Mismatch}
 use Rattle.trace_text.specs.declared.fault.TraceFault.{TraceFault}
 use Rattle.trace_text.specs.declared.fault.TraceFault.TheVariants as trace
+use Rattle.shape_files.specs.declared.shape_file.TheConstants.{REGISTER_COUNTS}
 use Rattle.shape_files.specs.declared.shape_file.ToolShape.{ToolShape}
 use Rattle.shape_files.specs.declared.shape_file.ShapeFault.{ShapeFault}
 use Rattle.shape_files.specs.declared.shape_file.ShapeFault.TheVariants as shape
 use Rattle.shape_files.specs.ShapeFile.{fault_text as shape_text}
 use Rattle.register_sweeps.specs.declared.sweeps.SweepFault.{SweepFault}
 use Rattle.register_sweeps.specs.declared.sweeps.SweepFault.TheVariants as sweep
+use Rattle.run_pictures.specs.declared.drawn.TheConstants.{MOST_EVENTS}
 use Rattle.run_pictures.specs.declared.show.ShowFault.{ShowFault}
 use Rattle.run_pictures.specs.declared.show.ShowFault.TheVariants as show
 use Rattle.kroft_jobs.specs.declared.fault.JobFault.{JobFault}
@@ -20,7 +22,7 @@ abbrev pub with_registers : ToolShape → ℕ → ToolShape
 with_registers t regs = record t { regs = regs }
 
 abbrev pub swept : ToolShape → List ToolShape
-swept t = map (with_registers t) (1 ∷ 2 ∷ 4 ∷ 8 ∷ [])
+swept t = map (with_registers t) REGISTER_COUNTS
 
 -- the text of what a check found
 abbrev pub verdict_text : CheckEnd → List ℕ
@@ -46,7 +48,7 @@ abbrev pub fault_text : JobFault → Option (List ℕ)
 fault_text ShapeUnreadable = Some (codes "shape: file not readable")
 fault_text (Shape fault) = Some (shape_text fault)
 fault_text (Trace fault) = None
-fault_text TooManyEvents = Some (codes "too many events: 10000 at most are shown")
+fault_text TooManyEvents = Some (codes "too many events: " ++ decimal MOST_EVENTS ++ codes " at most are shown")
 fault_text TurnLimit = Some (codes "turn limit")
 fault_text OutOfMemory = Some (codes "out of memory")
 

@@ -4,7 +4,7 @@ ghost use Rattle.std.specs.Prelude.{◌≡◌};
 ghost use Rattle.kroft_jobs.specs.Jobs.{status_of};
 
 use register_sweeps::SweepFault;
-use run_pictures::ShowFault;
+use run_pictures::{MOST_EVENTS, ShowFault};
 use shape_files::ShapeFault;
 use std::alloc::AllocError;
 use std::error::Error;
@@ -20,7 +20,7 @@ pub enum JobFault {
     Shape(ShapeFault),
     /// What the trace says, or a failed read or write.
     Trace(TraceFault),
-    /// The trace has more events than are drawn.
+    /// The trace has more events than are drawn, which are [`MOST_EVENTS`] at most.
     TooManyEvents,
     /// The thread of a sweep used up its turns.
     TurnLimit,
@@ -40,7 +40,9 @@ impl fmt::Display for JobFault {
             JobFault::ShapeUnreadable => f.write_str("shape: file not readable"),
             JobFault::Shape(fault) => write!(f, "{fault}"),
             JobFault::Trace(fault) => write!(f, "{fault}"),
-            JobFault::TooManyEvents => f.write_str("too many events: 10000 at most are shown"),
+            JobFault::TooManyEvents => {
+                write!(f, "too many events: {MOST_EVENTS} at most are shown")
+            }
             JobFault::TurnLimit => f.write_str("turn limit"),
             JobFault::OutOfMemory => f.write_str("out of memory"),
         }

@@ -17,7 +17,7 @@ use crate::fault::JobFault;
 use register_sweeps::{MachineJob, OpenGate, Row, sweep, with_machine};
 use run_pictures::PictureMachine;
 use run_reasons::{Explanation, explain_text};
-use shape_files::ToolShape;
+use shape_files::{REGISTER_COUNTS, ToolShape};
 use std::alloc::Global;
 use std::fmt;
 use std::thread::Threads;
@@ -25,8 +25,8 @@ use trace_text::{
     CheckEnd, Counts, Sink, Source, TraceFault, check_text, read_requests, serve_text,
 };
 
-/// Turns of each thread of the program's sweep. Its gate is always open, so one is enough.
-pub const SWEEP_TURNS: u64 = 1_000_000;
+// Turns of each thread of the program's sweep. Its gate is always open, so one is enough.
+pub(crate) const SWEEP_TURNS: u64 = 1_000_000;
 
 /// Serves a trace on a new machine of a shape whose fields are in range, over zeros, as
 /// `serve_text` does.
@@ -107,7 +107,7 @@ pub fn explain<I: Source>(
 pub struct Verdict(pub CheckEnd);
 
 impl Verdict {
-    /// The status with which the program ends.
+    /// The status with which the program ends: 0 for a flat run, 1 for a mismatch.
     pub fn status(self) -> u8
         ensures { result ≡ verdict_status self.0 }
     {
@@ -154,15 +154,15 @@ pub fn sweep_registers<R: Threads + Sync, I: Source>(
     Ok(rows)
 }
 
-// The shapes of a sweep: with 1, 2, 4 and 8 registers.
-pub fn swept_shapes(tool: &ToolShape) -> [ToolShape; 4]
+// The shapes of a sweep: with each number of registers that a machine may have.
+pub(crate) fn swept_shapes(tool: &ToolShape) -> [ToolShape; 4]
     ensures { result ≡ swept tool.now }
 {
     [
-        with_registers(tool, 1),
-        with_registers(tool, 2),
-        with_registers(tool, 4),
-        with_registers(tool, 8),
+        with_registers(tool, REGISTER_COUNTS[0]),
+        with_registers(tool, REGISTER_COUNTS[1]),
+        with_registers(tool, REGISTER_COUNTS[2]),
+        with_registers(tool, REGISTER_COUNTS[3]),
     ]
 }
 

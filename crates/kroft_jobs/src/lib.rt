@@ -11,6 +11,6 @@ mod pictures;
 mod rounds;
 
 pub use fault::JobFault;
-pub use jobs::{SWEEP_TURNS, Verdict, check, explain, serve, sweep_registers};
+pub use jobs::{Verdict, check, explain, serve, sweep_registers};
 pub use pictures::show;
 pub use rounds::{drive_requests, summarize_requests, sweep_in_rounds};

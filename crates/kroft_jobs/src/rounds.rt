@@ -31,7 +31,7 @@ use trace_text::{Sink, Source, TraceFault, read_requests};
 /// requests are used up and nothing is on its way. The output isn't flushed.
 ///
 /// All requests are read before anything is written: a fault of the trace leaves the output as it is.
-/// A write that is refused ends the run at once.
+/// A write that is refused ends the run at once. `latency` is in rounds, at most `MOST_LATENCY`.
 pub fn drive_requests<I: Source, O: Sink>(
     alloc: Global,
     tool: &ToolShape,
@@ -107,7 +107,7 @@ impl<'a, O: Sink> MachineJob for DrivenRequests<'a, O> {
 
 /// Drives the requests of a trace in rounds through a new machine of a shape whose fields are in
 /// range, over zeros, and counts, as [`rounds_table`] does. Behind the rounds that are counted the requests
-/// are used up and nothing is on its way.
+/// are used up and nothing is on its way. `latency` is in rounds, at most `MOST_LATENCY`.
 pub fn summarize_requests<I: Source>(
     alloc: Global,
     tool: &ToolShape,
@@ -127,7 +127,8 @@ pub fn summarize_requests<I: Source>(
 }
 
 /// The rows of the requests of a trace in rounds, with 1, 2, 4 and 8 registers and all else as the shape
-/// says, as [`sweep_rounds`] makes them. Each run is over in time.
+/// says, as [`sweep_rounds`] makes them. Each run is over in time. `latency` is in rounds, at most
+/// `MOST_LATENCY`.
 ///
 /// All requests are read before the shape is judged, with 1 register in place of its own: so a fault of the
 /// trace goes before one of the shape. `TurnLimit` never comes, as the program's gate is always open.
