@@ -14,7 +14,7 @@ use std::alloc::{AllocError, Global};
 
 /// The format of a log.
 #[derive(Clone, Copy, PartialEq, Eq, Debug)]
-pub enum LogName {
+pub(crate) enum LogName {
     /// What valgrind's lackey writes.
     Lackey,
     /// Dinero's `din`.
@@ -23,7 +23,7 @@ pub enum LogName {
 
 /// What the program is asked to do with the trace on its input.
 #[derive(Clone, Copy, PartialEq, Eq, Debug)]
-pub enum Task {
+pub(crate) enum Task {
     /// Serve its lines on a new machine.
     Run,
     /// Judge its lines, as `Run` writes them, against flat memory.
@@ -52,14 +52,15 @@ pub enum Task {
     },
     /// Draw the machine at each of its events.
     Show {
-        /// As what.
+        /// A page, screens or a waveform.
         form: Form,
     },
 }
 
 /// What the words of the command line ask for.
 #[derive(Clone, Copy, PartialEq, Eq, Debug)]
-pub struct CommandLine<'a> {
+pub(crate) struct CommandLine<'a> {
+    /// What is done with the trace.
     pub task: Task,
     /// The path of the shape file, where one is given.
     pub shape_file: Option<&'a str>,
@@ -126,9 +127,9 @@ A line has at most 64 bytes, a trace at most 16777216 lines.
 'reg' shows a register as
   V- 0000001 0001 00 [--- 0000 00000 0000 00000000] [1-- 0100 00001 0100 00aa0000] ..
 V: it is in use, O: its block was given up; then the block, the frame and how many words of it
-came. For each word: how many loads wait for it (or -), I: it stands in the input stack, P: it
-came; the bytes that were stored meanwhile; and of the first load that waits its tag, the
-bytes that it holds already, and their values.
+were processed. For each word: how many loads wait for it (or -), I: it stands in the input stack,
+P: it was processed; the bytes that the arriving word leaves alone; and of the first load that
+waits its tag, the bytes that it holds already, and their values.
 
 Statuses: 0 all lines were served, 2 the command line is wrong, 3 the shape file is wrong,
 4 a line is faulty or a stream failed, 5 there is too little memory.
@@ -140,12 +141,16 @@ Example:
 
 const CHECK_NOTES: &str =
     "Reads lines from standard input as 'run' writes them, from whatever machine or simulator:
-a line of a trace ('kroft run --help' lists them), ' -> ', and its answer, one of
+a line of a trace ('kroft run --help' explains them), ' -> ', and its answer. The lines:
+  load TAG AT, store AT MASK WORD, prefetch AT, evict BLOCK, drain, serve BANK,
+  arrive BANK PLACE, process PLACE, take PLACE, reg SLOT, bank AT, settled
+The answers:
   accepted, moved, nothing, refused N (1 to 13), value TAG WORD
 What stands behind the ' -> ' of 'reg', 'bank' and 'settled' is passed over. A line has at
 most 768 bytes.
 Writes 'flat run, N steps', or 'mismatch at line N' for the first line that flat memory
-doesn't explain. Memory begins with zeros; of a shape file only the words matter.
+doesn't explain. Flat memory is words with no cache: a load is owed the word as it stood when the
+load was accepted. Memory begins with zeros; of a shape file only the words matter.
 
 Statuses: 0 the run is flat, 1 it isn't, 2 the command line is wrong, 3 the shape file is wrong,
 4 a line is faulty or a stream failed, 5 there is too little memory.
@@ -157,6 +162,8 @@ Example:
 const SWEEP_NOTES: &str =
     "Reads a trace from standard input ('kroft run --help' lists its lines), and keeps its
   load TAG AT, store AT MASK WORD, prefetch AT and evict BLOCK
+The other lines are passed over: drain, serve BANK, arrive BANK PLACE, process PLACE, take PLACE,
+reg SLOT, bank AT, settled.
 Writes a row for 1, 2, 4 and 8 registers: how many requests were accepted, denied and stalled,
 how many pumps the stalled ones waited for, and how many pumps and values there were in all.
 A pump is one step of the machine's own driver: it counts work, and not time, and stalled
@@ -205,9 +212,10 @@ refused with 3 to 10 is asked again in the next round. A round is a step of this
 time of any hardware.
 Writes each request with its answer, and each other event that did something, as 'check' reads
 them. With --summary, in their place, one line of counts: rounds, the last of which moves nothing;
-requests accepted and denied; of those accepted how many found their word (hits), a block under
-way (joins) or neither (misses); requests that stalled; rounds lost by each cause; loads answered,
-their mean and longest wait in rounds; the most registers in use at once; words written back.
+requests accepted and denied; of those accepted how many found their word at hand (hits) or on its
+way (joins), or asked for its block (misses); requests that stalled; rounds lost by each cause;
+loads answered, their mean and longest wait in rounds; the most registers in use at once; words
+written back.
 
 Statuses: 0 done, 2 the command line is wrong, 3 the shape file is wrong, 4 a line is faulty or a
 stream failed, 5 there is too little memory.
@@ -526,7 +534,7 @@ fn show_task(rest: &ArgMatches<'_>) -> Task
 
 /// Reads the words behind the program's name. Help and the version come as an error too, which
 /// says that it belongs on the standard output.
-pub fn read_words<'a>(alloc: Global, words: &'a [&'a str]) -> Result<CommandLine<'a>, Error>
+pub(crate) fn read_words<'a>(alloc: Global, words: &'a [&'a str]) -> Result<CommandLine<'a>, Error>
     ensures { IfOk result (λ asked. IsInRange asked.task) }
 {
     let mut command = program(alloc)?;

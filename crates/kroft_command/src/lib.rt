@@ -6,5 +6,4 @@ mod command_line;
 mod fault;
 mod program;
 
-pub use command_line::{CommandLine, LogName, Task, read_words};
 pub use program::tool;
