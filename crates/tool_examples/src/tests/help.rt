@@ -123,25 +123,39 @@ fn help_of_show(rt: HostRuntime) -> Result<(), Fail> {
     Ok(())
 }
 
+/// The lines of a trace.
+const LINES: [&str; 12] = [
+    "load TAG AT",
+    "store AT MASK WORD",
+    "prefetch AT",
+    "evict BLOCK",
+    "drain",
+    "serve BANK",
+    "arrive BANK PLACE",
+    "process PLACE",
+    "take PLACE",
+    "reg SLOT",
+    "bank AT",
+    "settled",
+];
+
 #[test]
 fn help_lists_every_line(rt: HostRuntime) -> Result<(), Fail> {
     let help = output_of(&rt, &["run", "--help"], "", 0)?;
-    let lines = [
-        "  load TAG AT ",
-        "  store AT MASK WORD ",
-        "  prefetch AT ",
-        "  evict BLOCK ",
-        "  drain ",
-        "  serve BANK ",
-        "  arrive BANK PLACE ",
-        "  process PLACE ",
-        "  take PLACE ",
-        "  reg SLOT ",
-        "  bank AT ",
-        "  settled ",
-    ];
-    for line in lines {
-        assert!(rt; help.as_str().contains(line), "{line}");
+    for line in LINES {
+        let listed = format!(in rt.alloc(); "  {line} ")?;
+        assert!(rt; help.as_str().contains(listed.as_str()), "{line}");
+    }
+    Ok(())
+}
+
+#[test]
+fn other_help_names_every_line(rt: HostRuntime) -> Result<(), Fail> {
+    for name in ["check", "sweep"] {
+        let help = output_of(&rt, &[name, "--help"], "", 0)?;
+        for line in LINES {
+            assert!(rt; help.as_str().contains(line), "{name}: {line}");
+        }
     }
     Ok(())
 }

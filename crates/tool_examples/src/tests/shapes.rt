@@ -1,8 +1,9 @@
-//! The example of shape texts.
+//! The examples of shape texts, and of a table.
 
 use super::program::ends;
+use super::sweeps::with_registers;
 use flat_model::ShapeField;
-use shape_files::{ShapeFault, ToolShape, read_shape};
+use shape_files::{ShapeFault, ToolShape, read_shape, shape_of_table};
 use std::fs;
 use std::process::Abort;
 use std::rt::Files;
@@ -57,6 +58,13 @@ fn shape_texts(rt: HostRuntime) -> Result<(), Fail> {
         assert_eq!(rt; read_shape(rt.alloc(), text), Err(fault), "{text}");
     }
     refused_shapes_are_told(&rt)
+}
+
+#[test]
+fn tables(rt: HostRuntime) -> Result<(), Fail> {
+    let table = toml::table_from_str(rt.alloc(), "regs = 2")?;
+    assert_eq!(rt; shape_of_table(&table), Ok(with_registers(2)));
+    Ok(())
 }
 
 #[test]
