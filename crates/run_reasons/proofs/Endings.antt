@@ -1,5 +1,5 @@
 -- What is told where a reading ends.
-use Rattle.std.proofs.Common.{◌≡◌, ℕ, ◌+◌, Result, Ok, Err, List, [], ◌++◌, refl, sym, ap, subst}
+use Rattle.std.proofs.Common.{◌≡◌, ℕ, ◌+◌, Result, Ok, Err, List, [], ◌++◌, sym, ap, subst}
 use Rattle.trace_text.specs.Streams.{Came, Moves}
 use Rattle.trace_text.specs.declared.lines.LineFault.TheVariants.{Unknown, Field, TooLong, NotEnded}
 use Rattle.trace_text.specs.declared.fault.TraceFault.{TraceFault}

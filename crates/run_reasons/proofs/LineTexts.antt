@@ -10,6 +10,7 @@ use Rattle.trace_text.specs.Reading.{joined_texts, IsGood, Good, BeginsFaulty, f
 use Rattle.trace_text.specs.Lines.{IsSaid, cut_of, command_named, is_ended, without_end, said_by, or_field, line_of, line_from}
 use Rattle.trace_text.specs.Pairs.{pair_of, pair_cut, pair_from, pair_with, answered_pair, answer_of, arrow_in, ended_pair_of}
 use Rattle.trace_text.specs.Checks.{pair_fault}
+use Rattle.trace_text.specs.declared.fault.TheConstants.{MAX_PAIR}
 use Rattle.trace_text.specs.declared.lines.Line.{Line}
 use Rattle.trace_text.specs.declared.lines.Line.TheVariants as line
 use Rattle.trace_text.specs.declared.lines.LineFault.{LineFault}
@@ -22,11 +23,11 @@ use Rattle.trace_text.proofs.Serving.{all_then}
 ended_test : (n k : ℕ) → 0 < n → k ≡ 10 → (nat_lt 0 n && (k == 10)) ≡ true
 ended_test n k some is = grind (arith, nat_tests)
 
-not_longer : (n : ℕ) → n ≤ 768 → nat_lt 768 n ≡ false
+not_longer : (n : ℕ) → n ≤ MAX_PAIR → nat_lt MAX_PAIR n ≡ false
 not_longer n le = grind (arith, nat_tests)
 
 -- what a line says with its LF is what it says without
-pub ended_pair : (text : List ℕ) → length text ≤ 768 → ended_pair_of (text ++ 10 ∷ []) ≡ pair_of text
+pub ended_pair : (text : List ℕ) → length text ≤ MAX_PAIR → ended_pair_of (text ++ 10 ∷ []) ≡ pair_of text
 ended_pair text short =
     let b : List ℕ = text ++ 10 ∷ [] in
     let at : length b - 1 ≡ length text = omega (arith, length-append text (10 ∷ [])) in
@@ -34,7 +35,7 @@ ended_pair text short =
     let last : slice_index b (length b - 1) ≡ 10 = ap (λ k. get_or b k 0) at ∙ get_or-append_seam text 10 [] 0 in
     let is : is_ended b ≡ true = ended_test (length b) (slice_index b (length b - 1)) some last in
     let front : without_end b ≡ text = ap (λ t. cond t (take (length b - 1) b) b) is ∙ ap (λ k. take k b) at ∙ take-append_seam text (10 ∷ []) in
-    let whole : List ℕ → Bool → Result Pair LineFault = λ w t. cond (nat_lt 768 (length w)) (Err TooLong) (cond t (pair_of w) (Err NotEnded)) in
+    let whole : List ℕ → Bool → Result Pair LineFault = λ w t. cond (nat_lt MAX_PAIR (length w)) (Err TooLong) (cond t (pair_of w) (Err NotEnded)) in
     ap (λ w. whole w (is_ended b)) front ∙ ap (λ t. whole text t) is ∙ ap (λ t. cond t (Err TooLong) (pair_of text)) (not_longer (length text) short)
 
 -- ---- the faults of a line that has ended
@@ -80,10 +81,10 @@ pub pair_said : (text : List ℕ) (f : LineFault) → pair_of text ≡ Err f →
 unfolding pair_of
 pair_said text f e = cut_said text (arrow_in text) f e
 
-pub begins_said : (text : List ℕ) (f : LineFault) → length text ≤ 768 → HasNoEnd text → pair_of text ≡ Err f → BeginsFaulty pair_fault 768 (text ++ 10 ∷ []) f
+pub begins_said : (text : List ℕ) (f : LineFault) → length text ≤ MAX_PAIR → HasNoEnd text → pair_of text ≡ Err f → BeginsFaulty pair_fault MAX_PAIR (text ++ 10 ∷ []) f
 begins_said text f short none e = go f (pair_said text f e) (ap fault_of e)
   where
-    go : (g : LineFault) → IsSaid g → pair_fault text ≡ Some g → BeginsFaulty pair_fault 768 (text ++ 10 ∷ []) g
+    go : (g : LineFault) → IsSaid g → pair_fault text ≡ Some g → BeginsFaulty pair_fault MAX_PAIR (text ++ 10 ∷ []) g
     go Unknown is fault = (text, [], refl, short, none, fault)
     go Field is fault = (text, [], refl, short, none, fault)
     go TooLong is fault = absurd is
@@ -108,8 +109,8 @@ at_end bytes b k ne none lt e = go (nat_lt k (length bytes)) refl
 pub none_more : (bytes : List ℕ) (b : ℕ) → b ≢ 10 → HasNoEnd bytes → HasNoEnd (bytes ++ b ∷ [])
 none_more bytes b ne none k lt e = at_end bytes b k ne none (omega (arith, lt, length-append bytes (b ∷ []))) e
 
-pub begins_long : (bytes : List ℕ) → length bytes ≡ 769 → HasNoEnd bytes → BeginsFaulty pair_fault 768 bytes TooLong
-begins_long bytes long none = (omega (arith, long), subst HasNoEnd (sym (take_all 769 bytes (omega (arith, long)))) none)
+pub begins_long : (bytes : List ℕ) → length bytes ≡ MAX_PAIR + 1 → HasNoEnd bytes → BeginsFaulty pair_fault MAX_PAIR bytes TooLong
+begins_long bytes long none = (omega (arith, long), subst HasNoEnd (sym (take_all (MAX_PAIR + 1) bytes (omega (arith, long)))) none)
 
 -- ---- lines
 

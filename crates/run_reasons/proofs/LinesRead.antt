@@ -8,6 +8,7 @@ use Rattle.trace_text.specs.Pairs.{pair_of}
 use Rattle.trace_text.specs.Recorded.{recorded}
 use Rattle.trace_text.specs.Checks.{step_of, step_with, zeros, pair_fault, JudgedFrom}
 use Rattle.trace_text.specs.declared.check.Step.{Step}
+use Rattle.trace_text.specs.declared.fault.TheConstants.{MAX_PAIR}
 use Rattle.trace_text.specs.declared.lines.LineFault.{LineFault}
 use Rattle.trace_text.specs.declared.lines.LineFault.TheVariants.{TooLong}
 use Rattle.trace_text.specs.declared.pairs.Pair.{Pair}
@@ -18,7 +19,6 @@ use Rattle.run_reasons.specs.Reasons.{mismatch_at}
 use Rattle.run_reasons.specs.Shown.{shown}
 use Rattle.run_reasons.specs.Runs.{most_lines, IsFlat, IsFlatText, IsMismatch, EndsAt, EndsIn}
 use Rattle.run_reasons.specs.Lines.{HasRead, StepEnds, bytes_left}
-use Rattle.run_reasons.specs.declared.reason.Mismatch.{Mismatch}
 use Rattle.run_reasons.specs.declared.lines.Lines.{Lines}
 use Rattle.run_reasons.specs.declared.lines.Stop.{Stop}
 use Rattle.run_reasons.specs.declared.lines.Stop.TheVariants as stop
@@ -49,7 +49,7 @@ recorded_step pair event answer e = ap (λ (p : Pair). step_with p.line p.answer
 
 -- ---- a byte that ends no line
 
-pub read_char : {words : ℕ} {bytes : List ℕ} (r r' : Lines) (b : ℕ) → HasRead words bytes r → b ≢ 10 → length r.pending.items + 1 ≤ 768 → r.count < most_lines
+pub read_char : {words : ℕ} {bytes : List ℕ} (r r' : Lines) (b : ℕ) → HasRead words bytes r → b ≢ 10 → length r.pending.items + 1 ≤ MAX_PAIR → r.count < most_lines
     → r'.pending.items ≡ r.pending.items ++ b ∷ [] → r'.count ≡ r.count → r'.steps ≡ r.steps → shown r'.explainer ≡ shown r.explainer
     → HasRead words (bytes ++ b ∷ []) r'
 read_char {words = words} {bytes = bytes} r r' b h ne short few pending count steps explainer =
@@ -132,7 +132,7 @@ ends_in {words = words} {bytes = bytes} r b why h ends = record {
   found = r.pending.items ++ b ∷ [];
   more = [];
   steps = r.steps;
-  good = subst (Good pair_fault 768 (bytes ++ b ∷ []) h.texts) (sym (append-nil (r.pending.items ++ b ∷ []))) (good_more (b ∷ []) h.text.good);
+  good = subst (Good pair_fault MAX_PAIR (bytes ++ b ∷ []) h.texts) (sym (append-nil (r.pending.items ++ b ∷ []))) (good_more (b ∷ []) h.text.good);
   flat = h.text.flat;
   ends = ends;
 }
@@ -144,7 +144,7 @@ ends_more {words = words} {bytes = bytes} why more p = record {
   found = p.found;
   more = p.more ++ more;
   steps = p.steps;
-  good = subst (Good pair_fault 768 (bytes ++ more) p.texts) (append_assoc p.found p.more more) (good_more more p.good);
+  good = subst (Good pair_fault MAX_PAIR (bytes ++ more) p.texts) (append_assoc p.found p.more more) (good_more more p.good);
   flat = p.flat;
   ends = p.ends;
 }
@@ -152,7 +152,7 @@ ends_more {words = words} {bytes = bytes} why more p = record {
 pub ends_too_many : {words : ℕ} {bytes : List ℕ} (r : Lines) (b : ℕ) → HasRead words bytes r → r.count ≡ most_lines → EndsIn words (bytes ++ b ∷ []) (stop.Fault fault.TooManyLines)
 ends_too_many r b h full = ends_in r b (stop.Fault fault.TooManyLines) h (sym h.number ∙ full, omega (arith, length-append r.pending.items (b ∷ [])))
 
-pub ends_long : {words : ℕ} {bytes : List ℕ} (r : Lines) (b number : ℕ) → HasRead words bytes r → b ≢ 10 → length r.pending.items ≡ 768 → number ≡ r.count + 1 → EndsIn words (bytes ++ b ∷ []) (stop.Fault (fault.Line number TooLong))
+pub ends_long : {words : ℕ} {bytes : List ℕ} (r : Lines) (b number : ℕ) → HasRead words bytes r → b ≢ 10 → length r.pending.items ≡ MAX_PAIR → number ≡ r.count + 1 → EndsIn words (bytes ++ b ∷ []) (stop.Fault (fault.Line number TooLong))
 ends_long r b number h ne long at =
     let found : List ℕ = r.pending.items ++ b ∷ [] in
     ends_in r b (stop.Fault (fault.Line number TooLong)) h
@@ -162,7 +162,7 @@ pub ends_faulty : {words : ℕ} {bytes : List ℕ} (r : Lines) (number : ℕ) (f
 ends_faulty r number f h at said =
     ends_in r 10 (stop.Fault (fault.Line number f)) h (omega (arith, at, h.number), begins_said r.pending.items f h.text.short h.text.unfinished said)
 
-mismatch_ends : (words : ℕ) (texts : List (List ℕ)) (text : List ℕ) (steps : ℕ) (pair : Pair) (event : Event) (answer : Answer) → IsFlat words texts steps → IsGood pair_fault 768 text
+mismatch_ends : (words : ℕ) (texts : List (List ℕ)) (text : List ℕ) (steps : ℕ) (pair : Pair) (event : Event) (answer : Answer) → IsFlat words texts steps → IsGood pair_fault MAX_PAIR text
     → pair_of text ≡ Ok pair → pair ≡ recorded event answer → flat_step (origins_of words texts).flat event answer ≡ None
     → IsMismatch words texts (text ++ 10 ∷ []) (mismatch_at (origins_of words texts) (length texts + 1) event answer)
 mismatch_ends words texts text steps pair event answer flat good read is none =
@@ -190,7 +190,7 @@ ends_step {words = words} r pair event answer number (stop.Mismatch m) h read is
     let none : flat_step o.flat event answer ≡ None = ap (λ (x : Origins). flat_step x.flat event answer) (sym h.origins) ∙ ends.0 in
     let same : m ≡ mismatch_at o (length h.texts + 1) event answer =
     ends.1 ∙ ap (λ (x : Origins). mismatch_at x number event answer) h.origins ∙ ap (λ n. mismatch_at o n event answer) place in
-    let good : IsGood pair_fault 768 r.pending.items = (h.text.short, h.text.unfinished, no_fault r.pending.items pair read) in
+    let good : IsGood pair_fault MAX_PAIR r.pending.items = (h.text.short, h.text.unfinished, no_fault r.pending.items pair read) in
     ends_in r 10 (stop.Mismatch m) h (subst (IsMismatch words h.texts (r.pending.items ++ 10 ∷ [])) (sym same) (mismatch_ends words h.texts r.pending.items r.steps pair event answer h.text.flat good read is none))
 ends_step {words = words} {bytes = bytes} r pair event answer number (stop.Fault f) h read is at ends =
     subst (λ x. EndsIn words (bytes ++ 10 ∷ []) (stop.Fault x)) (sym ends) (ends_in r 10 (stop.Fault fault.OutOfMemory) h tt)
@@ -209,5 +209,5 @@ if_err (Err e) f p = f e p
 pub left_less : {words : ℕ} {bytes : List ℕ} (r r' : Lines) (number : ℕ) → HasRead words bytes r → number < 2 ^ 64 → number ≡ r.count + 1 → r'.count ≡ number → r'.pending.items ≡ [] → bytes_left r' + 1 ≤ bytes_left r
 left_less r r' number h fits at count pending =
     let none : length r'.pending.items ≡ 0 = ap length pending in
-    let short : length r.pending.items ≤ 768 = h.text.short in
+    let short : length r.pending.items ≤ MAX_PAIR = h.text.short in
     omega (arith, fits, at, count, none, short)

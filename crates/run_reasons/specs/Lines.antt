@@ -4,6 +4,7 @@ use Rattle.flat_model.specs.declared.Event.{Event}
 use Rattle.flat_model.specs.declared.Answer.{Answer}
 use Rattle.flat_model.specs.Flat.{flat_step}
 use Rattle.trace_text.specs.declared.lines.LineFault.TheVariants.{NotEnded}
+use Rattle.trace_text.specs.declared.fault.TheConstants.{MAX_PAIR}
 use Rattle.trace_text.specs.declared.fault.TraceFault.{TraceFault}
 use Rattle.trace_text.specs.declared.fault.TraceFault.TheVariants as fault
 use Rattle.run_reasons.specs.declared.explain.Explanation.{Explanation}
@@ -12,6 +13,7 @@ use Rattle.run_reasons.specs.Origins.{Origins, origins_of}
 use Rattle.run_reasons.specs.Reasons.{mismatch_at}
 use Rattle.run_reasons.specs.Shown.{shown}
 use Rattle.run_reasons.specs.Runs.{most_lines, IsFlatText}
+use Rattle.run_reasons.specs.declared.lines.TheConstants.{MAX_ENDED}
 use Rattle.run_reasons.specs.declared.lines.Lines.{Lines}
 use Rattle.run_reasons.specs.declared.lines.Stop.{Stop}
 use Rattle.run_reasons.specs.declared.lines.Stop.TheVariants.{Mismatch, Fault}
@@ -26,7 +28,7 @@ pub record HasRead (words : ℕ) (bytes : List ℕ) (r : Lines) : Type 0 where
 
 -- how many bytes more can be read, at most
 abbrev pub bytes_left : Lines → ℕ
-bytes_left r = (most_lines - r.count) * 769 + (768 - length r.pending.items)
+bytes_left r = (most_lines - r.count) * MAX_ENDED + (MAX_PAIR - length r.pending.items)
 
 -- why a step ends a reading: its pair isn't listed, or there was too little memory
 abbrev pub StepEnds : Origins → ℕ → Event → Answer → Stop → Type 0

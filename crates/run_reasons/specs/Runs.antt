@@ -9,6 +9,7 @@ use Rattle.trace_text.specs.Recorded.{recorded}
 use Rattle.trace_text.specs.Checks.{zeros, pair_fault, JudgedFrom, IsJudged}
 use Rattle.trace_text.specs.declared.check.CheckEnd.TheVariants as check
 use Rattle.trace_text.specs.declared.lines.LineFault.TheVariants.{NotEnded}
+use Rattle.trace_text.specs.declared.fault.TheConstants.{MAX_PAIR}
 use Rattle.trace_text.specs.declared.fault.TraceFault.{TraceFault}
 use Rattle.trace_text.specs.declared.fault.TraceFault.TheVariants as fault
 use Rattle.run_reasons.specs.Origins.{origins_of}
@@ -31,8 +32,8 @@ IsFlat words texts steps = JudgedFrom (zeros words) texts steps None (origins_of
 
 -- These bytes are the lines of a flat run of so many steps, and the start of another line.
 pub record IsFlatText (words : ℕ) (bytes : List ℕ) (texts : List (List ℕ)) (pending : List ℕ) (steps : ℕ) : Type 0 where
-  pub good : Good pair_fault 768 bytes texts pending
-  pub short : length pending ≤ 768
+  pub good : Good pair_fault MAX_PAIR bytes texts pending
+  pub short : length pending ≤ MAX_PAIR
   pub unfinished : HasNoEnd pending
   pub flat : IsFlat words texts steps
 
@@ -40,7 +41,7 @@ pub record IsFlatText (words : ℕ) (bytes : List ℕ) (texts : List (List ℕ))
 pub record IsMismatch (words : ℕ) (texts : List (List ℕ)) (found : List ℕ) (m : Mismatch) : Type 0 where
   pub text : List ℕ
   pub ended : found ≡ text ++ line_feed ∷ []
-  pub good : IsGood pair_fault 768 text
+  pub good : IsGood pair_fault MAX_PAIR text
   pub pair : pair_of text ≡ Ok (recorded m.event m.answer)
   pub not_flat : flat_step (origins_of words texts).flat m.event m.answer ≡ None
   pub why : m ≡ mismatch_at (origins_of words texts) (length texts + 1) m.event m.answer
@@ -50,7 +51,7 @@ pub record IsMismatch (words : ℕ) (texts : List (List ℕ)) (found : List ℕ)
 -- one too many.
 abbrev pub EndsAt : ℕ → List (List ℕ) → List ℕ → Stop → Type 0
 EndsAt words texts found (stop.Mismatch m) = IsMismatch words texts found m
-EndsAt words texts found (stop.Fault (fault.Line n f)) = (n ≡ length texts + 1) × BeginsFaulty pair_fault 768 found f
+EndsAt words texts found (stop.Fault (fault.Line n f)) = (n ≡ length texts + 1) × BeginsFaulty pair_fault MAX_PAIR found f
 EndsAt words texts found (stop.Fault fault.TooManyLines) = (length texts ≡ most_lines) × (0 < length found)
 EndsAt words texts found (stop.Fault fault.OutOfMemory) = Unit {0}
 EndsAt words texts found (stop.Fault fault.Read) = ⊥
@@ -62,7 +63,7 @@ pub record EndsIn (words : ℕ) (bytes : List ℕ) (why : Stop) : Type 0 where
   pub found : List ℕ
   pub more : List ℕ
   pub steps : ℕ
-  pub good : Good pair_fault 768 bytes texts (found ++ more)
+  pub good : Good pair_fault MAX_PAIR bytes texts (found ++ more)
   pub flat : IsFlat words texts steps
   pub ends : EndsAt words texts found why
 

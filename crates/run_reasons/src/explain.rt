@@ -8,10 +8,7 @@ use crate::lines::{Lines, Stop};
 use crate::reason::Mismatch;
 use std::alloc::Global;
 use std::fmt;
-use trace_text::{Source, TraceFault};
-
-/// How many bytes the buffer has through which a text is read.
-const BUFFER_LEN: usize = 4096;
+use trace_text::{BUFFER_LEN, Source, TraceFault};
 
 /// What became of a recorded run.
 #[derive(Clone, Copy, PartialEq, Eq, Debug)]
@@ -26,7 +23,7 @@ pub enum Explanation {
 }
 
 impl Explanation {
-    /// The status with which a program ends that tells it: 0 for a flat run, and 1.
+    /// The status with which a program ends that tells it: 0 for a flat run, 1 for a mismatch.
     pub fn status(&self) -> u8
         ensures { result ≡ status_of self.now }
     {

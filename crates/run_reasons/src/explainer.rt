@@ -4,14 +4,15 @@ ghost use Rattle.std.specs.Prelude.{◌≡◌, ◌<◌, ℕ, true, length, vec_l
 ghost use Rattle.flat_model.specs.Flat.{Flat, word_at, may_answer, flat_step};
 ghost use Rattle.flat_model.specs.Memory as memory;
 ghost use Rattle.run_reasons.specs.Origins.{no_stores};
+ghost use Rattle.run_reasons.specs.declared.explainer.TheConstants.{TAGS};
 
 use crate::origins::{AcceptedLoad, Stores, TagUse};
 use crate::reason::{Mismatch, Reason, WrongWord, is_ever, is_out_of_range, never, tag_reason};
 use flat_model::{Answer, Event, FlatMemory, Lanes, StepFault, Word};
 use std::alloc::{AllocError, Global};
 
-/// How many tags there are.
-pub const TAGS: usize = 65_536;
+// How many tags there are: they are numbers of 16 bits.
+const TAGS: usize = u16::MAX as usize + 1;
 
 /// Why a line wasn't read. After each of these the explainer is as it was.
 #[derive(Clone, Copy, PartialEq, Eq, Debug)]
@@ -32,7 +33,7 @@ pub struct Explainer {
     tags: Vec<TagUse>,
     ghost all_words: { length (memory.shown flat).mem ≡ words },
     ghost all_stores: { vec_len stores ≡ words },
-    ghost all_tags: { vec_len tags ≡ 65536 },
+    ghost all_tags: { vec_len tags ≡ TAGS },
 }
 
 // So many words that no line has stored.
@@ -238,7 +239,7 @@ impl Explainer {
             TagUse::Never => Reason::NeverLoaded { tag },
             TagUse::Loaded(load) => {
                 let now = self.word_at(load.at);
-                let later = self.stores_at(load.at).later(load.line, now, got);
+                let later = self.stores_at(load.at).later_stores(load.line, now, got);
                 Reason::WrongWord(WrongWord {
                     tag,
                     load,

@@ -13,28 +13,25 @@ use crate::reason::Mismatch;
 use arrayvec::ArrayVec;
 use flat_model::{Answer, Event};
 use std::alloc::{AllocError, Global};
-use trace_text::{Line, LineFault, Pair, TraceFault, read_pair};
-
-/// How many bytes a line has at most, LF not counted.
-pub const MAX_PAIR: usize = 768;
+use trace_text::{Line, LineFault, MAX_PAIR, Pair, TraceFault, read_pair};
 
 // The bytes of a line, with its LF.
-const MAX_ENDED: usize = 769;
+const MAX_ENDED: usize = MAX_PAIR + 1;
 
 // Why the bytes so far are the last ones that are read.
 #[derive(Clone, Copy)]
-pub enum Stop {
+pub(crate) enum Stop {
     Mismatch(Mismatch),
     Fault(TraceFault),
 }
 
 // The lines so far, and the bytes of the one that hasn't ended.
 #[derive(Drop)]
-pub struct Lines {
-    pub explainer: Explainer,
-    pub pending: ArrayVec<u8, MAX_ENDED>,
-    pub count: u64,
-    pub steps: u64,
+pub(crate) struct Lines {
+    pub(crate) explainer: Explainer,
+    pub(crate) pending: ArrayVec<u8, MAX_ENDED>,
+    pub(crate) count: u64,
+    pub(crate) steps: u64,
 }
 
 // The event of a line and its answer; nothing where the line only shows something.
@@ -52,7 +49,7 @@ impl Lines {
     ghost use Rattle.run_reasons.specs.Lines.{HasRead, StepEnds, bytes_left};
 
     // No line yet, over so many words of zeros.
-    pub fn new(alloc: Global, words: u32) -> Result<Lines, AllocError>
+    pub(crate) fn new(alloc: Global, words: u32) -> Result<Lines, AllocError>
         ensures { IfOk result (λ lines. HasRead words [] lines) }
     {
         Ok(Lines {
@@ -64,7 +61,7 @@ impl Lines {
     }
 
     // Reads these bytes, up to the first line that ends the reading.
-    pub fn read(&mut self, bytes: &[u8]) -> Result<(), Stop>
+    pub(crate) fn read(&mut self, bytes: &[u8]) -> Result<(), Stop>
         requires { (words : ℕ) × (before : List ℕ) × HasRead words before self.old }
         ensures ok { OnOk result ((words : ℕ) (before : List ℕ) → HasRead words before self.old
             → HasRead words (before ++ bytes.now) self.new) }
@@ -74,15 +71,13 @@ impl Lines {
             → HasRead words before self.old → EndsIn words (before ++ bytes.now) stop) }
     {
         for byte in bytes {
-            if let Err(stop) = self.read_byte(*byte) {
-                return Err(stop);
-            }
+            self.read_byte(*byte)?;
         }
         Ok(())
     }
 
     // The fault of the line that hasn't ended, if there is one, where the input ends.
-    pub fn unfinished(&self) -> Option<TraceFault>
+    pub(crate) fn unfinished(&self) -> Option<TraceFault>
         requires { (words : ℕ) × (before : List ℕ) × HasRead words before self.now }
         ensures some { IfSome result (λ fault. (0 < length self.now.pending.items)
             × (fault ≡ TraceFault.Line (self.now.count + 1) LineFault.NotEnded)) }

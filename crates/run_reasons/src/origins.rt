@@ -70,7 +70,7 @@ impl Stores {
 
     /// Of these lines, those behind `load` that stored the bytes of `got` where they stand in `now`
     /// still; 0 for each other byte.
-    pub fn later(self, load: u64, now: Word, got: Word) -> Stores
+    pub fn later_stores(self, load: u64, now: Word, got: Word) -> Stores
         ensures { result ≡ later_stores load now got self }
     {
         Stores {

@@ -83,7 +83,7 @@ pub struct WrongWord {
 }
 
 // Whether flat memory can ever answer the event so, whatever it holds.
-pub fn is_ever(event: Event, answer: Answer) -> bool
+pub(crate) fn is_ever(event: Event, answer: Answer) -> bool
     ensures { result ≡ is_ever event answer }
 {
     match answer {
@@ -140,7 +140,7 @@ fn is_between(n: u8, low: u8, high: u8) -> bool
 }
 
 // The reason against an answer that the event never gets.
-pub fn never(answer: Answer) -> Reason
+pub(crate) fn never(answer: Answer) -> Reason
     ensures { result ≡ never answer }
 {
     match answer {
@@ -150,14 +150,14 @@ pub fn never(answer: Answer) -> Reason
 }
 
 // Whether the event was refused since its word isn't in memory.
-pub fn is_out_of_range(answer: Answer) -> bool
+pub(crate) fn is_out_of_range(answer: Answer) -> bool
     ensures { result ≡ is_out_of_range answer }
 {
     matches!(answer, Answer::Refused(Cause::OutOfRange))
 }
 
 // The reason against a request under this tag: it is in use, or it isn't.
-pub fn tag_reason(tag: u16, state: TagUse) -> Reason
+pub(crate) fn tag_reason(tag: u16, state: TagUse) -> Reason
     ensures { result ≡ tag_reason tag state }
 {
     match state {

@@ -6,6 +6,7 @@ use Rattle.std.proofs.lemmas.Bool.Decides.{nat_tests}
 use Rattle.flat_model.specs.Flat.{Flat}
 use Rattle.flat_model.specs.Memory as memory
 use Rattle.trace_text.specs.Checks.{zeros}
+use Rattle.run_reasons.specs.declared.explainer.TheConstants.{TAGS}
 use Rattle.run_reasons.specs.declared.origins.Stores.{Stores}
 use Rattle.run_reasons.specs.declared.origins.TagUse.{TagUse}
 use Rattle.run_reasons.specs.declared.origins.TagUse.TheVariants.{Never}
@@ -29,8 +30,8 @@ returns c =
     let mk : Flat → List Stores → (ℕ → TagUse) → Origins = λ f s t. record { flat = f; stores = s; tags = t } in
     let flat : memory.shown c.in_ok-flat.flat ≡ zeros words = c.in_ok-flat.ensures.shown in
     let stores : c.in_ok-stores.stores.items ≡ replicate words no_stores = c.in_ok-stores.ensures.items in
-    let tags : c.in_ok-tags.tags.items ≡ replicate 65536 Never = c.in_ok-tags.ensures.items in
+    let tags : c.in_ok-tags.tags.items ≡ replicate TAGS Never = c.in_ok-tags.ensures.items in
     ap (λ f. mk f c.in_ok-stores.stores.items (uses_in c.in_ok-tags.tags.items)) flat
     ∙ ap (λ s. mk (zeros words) s (uses_in c.in_ok-tags.tags.items)) stores
     ∙ ap (λ l. mk (zeros words) (replicate words no_stores) (uses_in l)) tags
-    ∙ ap (mk (zeros words) (replicate words no_stores)) (never_used 65536)
+    ∙ ap (mk (zeros words) (replicate words no_stores)) (never_used TAGS)
