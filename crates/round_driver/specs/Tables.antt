@@ -11,6 +11,7 @@ use Rattle.cache_unit.specs.declared.Lookup.TheVariants.{Hit, Join, Miss}
 use Rattle.machine_core.specs.Machine.{MachineState}
 use Rattle.round_driver.specs.Rounds.{whole_run}
 use Rattle.round_driver.specs.declared.note.Note.{Note}
+use Rattle.round_driver.specs.declared.table.TheConstants.{TAGS}
 use Rattle.round_driver.specs.declared.table.Table.{Table}
 use Rattle.round_driver.specs.declared.table.LostRounds.{LostRounds}
 use Rattle.round_driver.specs.declared.table.Counter.{Counter}
@@ -139,12 +140,8 @@ empty_table =
       written = 0;
     }
 
--- tags are numbers of 16 bits
-unfoldable pub tag_count : ℕ
-tag_count = 65536
-
 abbrev pub nothing : Counting
-nothing = record { table = empty_table; since = replicate tag_count 0; is_stalled = false }
+nothing = record { table = empty_table; since = replicate TAGS 0; is_stalled = false }
 
 abbrev pub counted_all : Counting → List Note → Counting
 counted_all c [] = c

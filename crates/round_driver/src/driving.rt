@@ -25,7 +25,7 @@ pub const MOST_LATENCY: u64 = 1_000;
 
 /// More moves than there can be while nothing new is asked: each makes what is on its way lighter,
 /// and the most that a machine has on its way weighs 2,624.
-pub const MOST_MOVES: u64 = 2_625;
+pub(crate) const MOST_MOVES: u64 = 2_625;
 
 // One round: what is told of it stands in `notes`, and the requests that are left come back.
 #[tactic(auto, unfolding(crate::specs::Rounds::after_round))]

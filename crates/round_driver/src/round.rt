@@ -2,6 +2,7 @@
 ghost use Rattle.std.specs.Prelude.{◌≡◌, ℕ, ◌<◌, ◌≤◌, ◌+◌, ◌-◌, ◌^◌, [], drop, length, List, Some, IfSome};
 ghost use Rattle.flat_model.specs.declared.limits.TheConstants.{MAX_BANKS};
 ghost use Rattle.arrayvec.specs.ArrayVec.{array_vec_len};
+ghost use Rattle.round_driver.specs.declared.round.TheConstants.{MOST_NOTES};
 ghost use Rattle.round_driver.specs.Rounds.{course, Run};
 ghost use Rattle.round_driver.specs.Rounds as rounds;
 ghost use Rattle.round_driver.specs.Machines as machines;
@@ -15,10 +16,10 @@ use machine_core::Lookup;
 
 /// The most that is told of a round: of each bank, one arrival, the stack, the replies, the write
 /// queue, and one request.
-pub const MOST_NOTES: usize = 24;
+pub(crate) const MOST_NOTES: usize = 24;
 
 // What is told of a round.
-pub type Notes = ArrayVec<Note, MOST_NOTES>;
+pub(crate) type Notes = ArrayVec<Note, MOST_NOTES>;
 
 // Whether an answer says that something was done.
 fn is_done(answer: Answer) -> bool
@@ -31,7 +32,7 @@ fn is_done(answer: Answer) -> bool
 }
 
 // Whether an answer ends a request.
-pub fn is_end(answer: Answer) -> bool
+fn is_end(answer: Answer) -> bool
     ensures { result ≡ rounds.is_end answer }
 {
     matches!(
@@ -43,7 +44,7 @@ pub fn is_end(answer: Answer) -> bool
 // Makes an event, and tells it if it did something.
 #[tactic(auto, unfolding(crate::specs::Rounds::attempt, machine_core::specs::AnyMachine::answered, machine_core::specs::AnyMachine::after_event))]
 fn attempt<M: RoundMachine>(machine: &mut M, schedule: &Schedule, notes: &mut Notes, event: Event)
-    requires room { array_vec_len notes.old < 24 }
+    requires room { array_vec_len notes.old < MOST_NOTES }
     ensures course { course (M.state machine.new) schedule.now notes.new.items
         ≡ rounds.attempt event (course (M.state machine.old) schedule.now notes.old.items) }
     ensures sizes { (M.state machine.new).sizes ≡ (M.state machine.old).sizes }
@@ -84,7 +85,7 @@ fn serve_due<M: RoundMachine>(
     bank: u32,
 )
     requires bank { bank < MAX_BANKS }
-    requires room { array_vec_len notes.old < 24 }
+    requires room { array_vec_len notes.old < MOST_NOTES }
     ensures course { course (M.state machine.new) schedule.new notes.new.items
         ≡ rounds.serve_due bank (course (M.state machine.old) schedule.old notes.old.items) }
     ensures sizes { (M.state machine.new).sizes ≡ (M.state machine.old).sizes }
@@ -147,7 +148,7 @@ fn next_with_answer<M: RoundMachine>(machine: &M, next: u32) -> Option<u32>
 fn arrive<M: RoundMachine>(machine: &mut M, schedule: &mut Schedule, notes: &mut Notes)
     requires banks { (M.state machine.old).sizes.banks ≤ MAX_BANKS }
     requires next { schedule.old.next ≤ MAX_BANKS }
-    requires room { array_vec_len notes.old < 24 }
+    requires room { array_vec_len notes.old < MOST_NOTES }
     ensures course { course (M.state machine.new) schedule.new notes.new.items
         ≡ rounds.arrive (course (M.state machine.old) schedule.old notes.old.items) }
     ensures sizes { (M.state machine.new).sizes ≡ (M.state machine.old).sizes }
@@ -188,13 +189,13 @@ fn registers_behind<M: RoundMachine>(machine: &M, answer: Answer, found: Option<
 
 // Asks a request and tells it, and says whether that ended it.
 #[tactic(auto, unfolding(crate::specs::Rounds::ask, machine_core::specs::AnyMachine::after_event))]
-pub fn ask<M: RoundMachine>(
+pub(crate) fn ask<M: RoundMachine>(
     machine: &mut M,
     schedule: &Schedule,
     notes: &mut Notes,
     event: Event,
 ) -> bool
-    requires room { array_vec_len notes.old < 24 }
+    requires room { array_vec_len notes.old < MOST_NOTES }
     ensures ends { result
         ≡ rounds.ends event (course (M.state machine.old) schedule.now notes.old.items) }
     ensures course { course (M.state machine.new) schedule.now notes.new.items
@@ -215,14 +216,14 @@ pub fn ask<M: RoundMachine>(
 
 // What a round moves before it asks.
 #[tactic(auto, unfolding(crate::specs::Rounds::moves))]
-pub fn moves<M: RoundMachine>(machine: &mut M, schedule: &mut Schedule, notes: &mut Notes)
+pub(crate) fn moves<M: RoundMachine>(machine: &mut M, schedule: &mut Schedule, notes: &mut Notes)
     requires banks { (M.state machine.old).sizes.banks ≤ MAX_BANKS }
     requires next { schedule.old.next ≤ MAX_BANKS }
     requires room { array_vec_len notes.old ≡ 0 }
     ensures course { course (M.state machine.new) schedule.new notes.new.items
         ≡ rounds.moves (course (M.state machine.old) schedule.old notes.old.items) }
     ensures sizes { (M.state machine.new).sizes ≡ (M.state machine.old).sizes }
-    ensures len { array_vec_len notes.new ≤ 20 }
+    ensures len { array_vec_len notes.new ≤ MAX_BANKS + 4 }
     ensures time { schedule.new.round ≡ schedule.old.round }
     ensures next { schedule.new.next ≤ MAX_BANKS }
 {

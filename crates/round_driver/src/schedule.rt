@@ -6,24 +6,24 @@ ghost use Rattle.round_driver.specs.Rounds as rounds;
 use flat_model::MAX_BANKS;
 
 /// The most banks of a machine.
-pub const MOST_BANKS: usize = MAX_BANKS as usize;
+pub(crate) const MOST_BANKS: usize = MAX_BANKS as usize;
 
 // Where a run stands in time.
 #[derive(Clone, Copy)]
-pub struct Schedule {
+pub(crate) struct Schedule {
     // The rounds that a bank takes for a command, beyond the one in which it begins.
-    pub latency: u64,
+    pub(crate) latency: u64,
     // The round under way, counted from 1.
-    pub round: u64,
+    pub(crate) round: u64,
     // The round in which each bank began its first command; none for a bank that isn't busy.
-    pub begun: [Option<u64>; MOST_BANKS],
+    pub(crate) begun: [Option<u64>; MOST_BANKS],
     // The bank behind the one whose answer arrived last.
-    pub next: u32,
+    pub(crate) next: u32,
 }
 
 impl Schedule {
     // Before the first round.
-    pub fn new(latency: u64) -> Schedule
+    pub(crate) fn new(latency: u64) -> Schedule
         ensures { result ≡ rounds.opening latency }
     {
         Schedule {
@@ -35,7 +35,7 @@ impl Schedule {
     }
 
     // Whether a bank has begun no command.
-    pub fn is_idle(&self, bank: u32) -> bool
+    pub(crate) fn is_idle(&self, bank: u32) -> bool
         requires { bank < MAX_BANKS }
         ensures { result ≡ rounds.is_idle self.now bank }
     {
@@ -43,7 +43,7 @@ impl Schedule {
     }
 
     // A bank begins a command in this round.
-    pub fn begin(&mut self, bank: u32)
+    pub(crate) fn begin(&mut self, bank: u32)
         requires { bank < MAX_BANKS }
         ensures { self.new ≡ rounds.with_begun self.old bank (Some self.old.round) }
     {
@@ -51,7 +51,7 @@ impl Schedule {
     }
 
     // Whether a bank has had its command for as many rounds as it takes.
-    pub fn is_due(&self, bank: u32) -> bool
+    pub(crate) fn is_due(&self, bank: u32) -> bool
         requires { bank < MAX_BANKS }
         ensures { result ≡ rounds.is_due self.now bank }
     {
@@ -62,7 +62,7 @@ impl Schedule {
     }
 
     // A bank is done with its command.
-    pub fn end(&mut self, bank: u32)
+    pub(crate) fn end(&mut self, bank: u32)
         requires { bank < MAX_BANKS }
         ensures { self.new ≡ rounds.with_begun self.old bank None }
     {

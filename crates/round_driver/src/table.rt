@@ -1,5 +1,7 @@
 //! What a run of rounds counted.
 ghost use Rattle.std.specs.Prelude.{◌≡◌, ◌<◌, ◌≤◌, ◌+◌, ◌*◌, ◌^◌, length, IfOk};
+ghost use Rattle.round_driver.specs.declared.round.TheConstants.{MOST_NOTES};
+ghost use Rattle.round_driver.specs.declared.table.TheConstants.{TAGS};
 ghost use Rattle.round_driver.specs.Tables as tables;
 ghost use Rattle.round_driver.specs.Tables.{counting, total};
 
@@ -83,30 +85,24 @@ impl LostRounds {
     }
 }
 
-// How many tags there are.
-#[tactic(auto, unfolding(crate::specs::Tables::tag_count))]
-fn tag_count() -> usize
-    ensures tags { result ≡ tables.tag_count }
-    ensures many { 65536 ≤ result }
-{
-    65_536
-}
+// How many tags there are: they are numbers of 16 bits.
+const TAGS: usize = u16::MAX as usize + 1;
 
 // The counts so far, when each tag's load was accepted, and whether the request at hand has stalled.
 #[derive(Drop)]
-pub struct Counter {
-    pub table: Table,
-    pub since: Vec<u64>,
-    pub is_stalled: bool,
+pub(crate) struct Counter {
+    pub(crate) table: Table,
+    pub(crate) since: Vec<u64>,
+    pub(crate) is_stalled: bool,
 }
 
 impl Counter {
     // Nothing is counted.
-    pub fn new(alloc: Global) -> Result<Counter, AllocError>
+    pub(crate) fn new(alloc: Global) -> Result<Counter, AllocError>
         ensures nothing { IfOk result (λ c. counting c ≡ tables.nothing) }
-        ensures tags { IfOk result (λ c. 65536 ≤ length c.since.items) }
+        ensures tags { IfOk result (λ c. TAGS ≤ length c.since.items) }
     {
-        let since = vec![in alloc; 0u64; tag_count()]?;
+        let since = vec![in alloc; 0u64; TAGS]?;
         Ok(Counter {
             table: Table::default(),
             since,
@@ -134,12 +130,12 @@ impl Counter {
     // Counts a request that was accepted.
     fn count_accepted(&mut self, note: &Note)
         requires room { total self.old.table < 2 ^ 61 }
-        requires tags { 65536 ≤ length self.old.since.items }
+        requires tags { TAGS ≤ length self.old.since.items }
         ensures accepted { counting self.new
             ≡ tables.with_accepted (counting self.old) note.now }
         ensures total { total self.new.table ≤ total self.old.table + 2 }
         ensures waited { self.new.table.waited ≡ self.old.table.waited }
-        ensures tags { 65536 ≤ length self.new.since.items }
+        ensures tags { TAGS ≤ length self.new.since.items }
     {
         self.table.accepted += 1;
         self.is_stalled = false;
@@ -172,7 +168,7 @@ impl Counter {
     fn count_value(&mut self, tag: u16, round: u64)
         requires room { total self.old.table < 2 ^ 61 }
         requires waits { self.old.table.waited < 2 ^ 127 }
-        requires tags { 65536 ≤ length self.old.since.items }
+        requires tags { TAGS ≤ length self.old.since.items }
         ensures value { counting self.new ≡ tables.with_value (counting self.old) tag round }
         ensures total { total self.new.table ≤ total self.old.table + 1 }
         ensures waited { self.new.table.waited ≤ self.old.table.waited + 2 ^ 64 }
@@ -189,11 +185,11 @@ impl Counter {
     fn count(&mut self, note: &Note)
         requires room { total self.old.table < 2 ^ 61 }
         requires waits { self.old.table.waited < 2 ^ 127 }
-        requires tags { 65536 ≤ length self.old.since.items }
+        requires tags { TAGS ≤ length self.old.since.items }
         ensures counts { counting self.new ≡ tables.counted (counting self.old) note.now }
         ensures total { total self.new.table ≤ total self.old.table + 2 }
         ensures waited { self.new.table.waited ≤ self.old.table.waited + 2 ^ 64 }
-        ensures tags { 65536 ≤ length self.new.since.items }
+        ensures tags { TAGS ≤ length self.new.since.items }
     {
         match note.answer {
             Answer::Accepted => self.count_accepted(note),
@@ -209,16 +205,16 @@ impl Counter {
     }
 
     // Counts what was told of a round.
-    pub fn count_all(&mut self, notes: &[Note])
-        requires few { length notes.now ≤ 24 }
+    pub(crate) fn count_all(&mut self, notes: &[Note])
+        requires few { length notes.now ≤ MOST_NOTES }
         requires room { total self.old.table < 2 ^ 60 }
         requires waits { self.old.table.waited < 2 ^ 126 }
-        requires tags { 65536 ≤ length self.old.since.items }
+        requires tags { TAGS ≤ length self.old.since.items }
         ensures counts { counting self.new
             ≡ tables.counted_all (counting self.old) notes.now }
-        ensures total { total self.new.table ≤ total self.old.table + 48 }
-        ensures waited { self.new.table.waited ≤ self.old.table.waited + 24 * 2 ^ 64 }
-        ensures tags { 65536 ≤ length self.new.since.items }
+        ensures total { total self.new.table ≤ total self.old.table + 2 * MOST_NOTES }
+        ensures waited { self.new.table.waited ≤ self.old.table.waited + MOST_NOTES * 2 ^ 64 }
+        ensures tags { TAGS ≤ length self.new.since.items }
     {
         for note in notes {
             self.count(note);
@@ -226,7 +222,7 @@ impl Counter {
     }
 
     // The table of a run of so many rounds.
-    pub fn table_after(&self, rounds: u64) -> Table
+    pub(crate) fn table_after(&self, rounds: u64) -> Table
         ensures { result ≡ tables.with_rounds (counting self.now) rounds }
     {
         Table {

@@ -16,7 +16,7 @@ fn line_of(alloc: Global, note: &Note) -> Result<String, AllocError>
 }
 
 // The lines of these notes.
-pub fn round_text(alloc: Global, notes: &[Note]) -> Result<String, AllocError>
+pub(crate) fn round_text(alloc: Global, notes: &[Note]) -> Result<String, AllocError>
     ensures { IfOk result (λ text. string_bytes text ≡ run_text notes.now) }
 {
     let mut text = String::new(alloc);

@@ -1,6 +1,8 @@
 use Rattle.std.proofs.Common.{◌≡◌, ◌*◌, ◌^◌, ◌≤◌, length}
 use Rattle.round_driver.specs.Rounds.{run_of, start_of, rounds_until_over}
 use Rattle.round_driver.specs.Tables.{counting, nothing, counted_all, total}
+use Rattle.round_driver.specs.declared.round.TheConstants.{MOST_NOTES}
+use Rattle.round_driver.specs.declared.table.TheConstants.{TAGS}
 use Rattle.round_driver.proofs.driving.summarize.Given as goal
 
 -- so many rounds were made, and what was told of them is counted
@@ -13,7 +15,7 @@ invariant-loop-turn g l =
       sizes : (g.M.AnyMachine.state l.machine).sizes ≡ (g.M.AnyMachine.state l.initial.machine).sizes;
       time : l.schedule.round ≡ l._turn;
       next : l.schedule.next ≤ 16;
-      total : total l.counter.table ≤ 48 * l._turn;
-      waited : l.counter.table.waited ≤ 24 * 2 ^ 64 * l._turn;
-      tags : 65536 ≤ length l.counter.since.items;
+      total : total l.counter.table ≤ 2 * MOST_NOTES * l._turn;
+      waited : l.counter.table.waited ≤ MOST_NOTES * 2 ^ 64 * l._turn;
+      tags : TAGS ≤ length l.counter.since.items;
     }

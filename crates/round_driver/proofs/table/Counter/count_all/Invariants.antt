@@ -1,5 +1,6 @@
 use Rattle.std.proofs.Common.{◌≡◌, ◌+◌, ◌*◌, ◌^◌, ◌≤◌, drop, length}
 use Rattle.round_driver.specs.Tables.{counting, counted_all, total}
+use Rattle.round_driver.specs.declared.table.TheConstants.{TAGS}
 use Rattle.round_driver.proofs.table.Counter.count_all.Given as goal
 
 -- the notes that are left count what all of them do
@@ -9,5 +10,5 @@ invariant-loop-note l =
       counts : counted_all (counting l.initial.self) l.notes ≡ counted_all (counting l.self) (drop l.note-index l.notes);
       total : total l.self.table ≤ total l.initial.self.table + 2 * l.note-index;
       waited : l.self.table.waited ≤ l.initial.self.table.waited + 2 ^ 64 * l.note-index;
-      tags : 65536 ≤ length l.self.since.items;
+      tags : TAGS ≤ length l.self.since.items;
     }
