@@ -9,12 +9,13 @@ use Rattle.cache_unit.specs.State.{Sizes, Cache, UnitState}
 use Rattle.cache_unit.specs.Steps.{Stepped, load_step, store_step, prefetch_step, evict_step}
 use Rattle.station_journal.specs.declared.asks.Ask.{Ask}
 use Rattle.station_journal.specs.declared.asks.Ask.TheVariants.{Load, Store, Prefetch, Evict, Done}
+use Rattle.station_parts.specs.declared.asking.TheConstants.{PORT_TAGS}
 use Rattle.station_parts.specs.declared.row.Line.{Line}
 use Rattle.station_parts.specs.Rows.{sent_at, free_at, OnlySent}
 
 -- the event that an ask of a port is; Done is none
 abbrev pub event_for : ℕ → Ask → Event
-event_for port (Load tag at) = events.Load (port * 256 + tag) at
+event_for port (Load tag at) = events.Load (port * PORT_TAGS + tag) at
 event_for port (Store at word lanes) = events.Store at word lanes
 event_for port (Prefetch at) = events.Prefetch at
 event_for port (Evict block) = events.Evict block
@@ -22,7 +23,7 @@ event_for port Done = events.Drain
 
 -- what it makes of the unit, with the rooms that are known
 abbrev pub asked_step : Sizes → (ℕ → ℕ) → ℕ → Cache → Ask → Stepped
-asked_step z room port c (Load tag at) = load_step z room c (port * 256 + tag) at
+asked_step z room port c (Load tag at) = load_step z room c (port * PORT_TAGS + tag) at
 asked_step z room port c (Store at word lanes) = store_step z room c at word lanes
 asked_step z room port c (Prefetch at) = prefetch_step z room c at
 asked_step z room port c (Evict block) = evict_step z c block

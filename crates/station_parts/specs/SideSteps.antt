@@ -27,6 +27,7 @@ use Rattle.station_journal.specs.declared.journal.Entry.TheVariants.{Step, Ended
 use Rattle.station_journal.specs.declared.journal.SideFault.{SideFault}
 use Rattle.station_journal.specs.declared.journal.SideFault.TheVariants.{Uncalled, Stray}
 use Rattle.station_journal.specs.Parts.{asks_of, told_of}
+use Rattle.station_parts.specs.declared.asking.TheConstants.{PORT_TAGS}
 use Rattle.station_parts.specs.declared.parts.Stepped.{Stepped}
 use Rattle.station_parts.specs.declared.parts.Stepped.TheVariants.{Did, Idle, JournalFull, Faulted}
 use Rattle.station_parts.specs.Rows.{only}
@@ -43,7 +44,7 @@ can_drain z places (front ∷ rest) = nat_lt 0 (places (front.at % z.banks))
 -- the port of the reply's tag has a free place for its value
 abbrev pub can_tell : (ℕ → ℕ) → Option Reply → Bool
 can_tell places None = false
-can_tell places (Some reply) = nat_lt 0 (places (reply.tag / 256))
+can_tell places (Some reply) = nat_lt 0 (places (reply.tag / PORT_TAGS))
 
 -- the source has an item, and there is room for what it makes, as far as this is known
 abbrev pub has_work : Source → SideState → Known → Bool

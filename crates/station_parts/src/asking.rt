@@ -12,12 +12,15 @@ use cache_unit::{CacheUnit, Request};
 use flat_model::{Answer, Event, Word};
 use station_journal::{Ask, Source, Told};
 
+/// How many tags a port has: the core's tag of a port's load is `port * PORT_TAGS + tag`.
+pub const PORT_TAGS: u16 = 256;
+
 // The tag under which the core knows a port's load.
 fn core_tag(port: u32, tag: u8) -> u16
     requires { port < MAX_PORTS }
-    ensures { result ≡ port * 256 + tag }
+    ensures { result ≡ port * PORT_TAGS + tag }
 {
-    port as u16 * 256 + u16::from(tag)
+    port as u16 * PORT_TAGS + u16::from(tag)
 }
 
 /// The event that an ask is. Done is none.
@@ -82,10 +85,10 @@ pub(crate) fn verdict_of(answer: Answer) -> Told
 
 /// What a port is told of a value.
 pub(crate) fn value_told(tag: u16, word: Word) -> Told
-    ensures { result ≡ Value (tag % 256) word }
+    ensures { result ≡ Value (tag % PORT_TAGS) word }
 {
     Told::Value {
-        tag: (tag % 256) as u8,
+        tag: (tag % PORT_TAGS) as u8,
         word,
     }
 }

@@ -18,6 +18,7 @@ mod row;
 mod side;
 mod views;
 
+pub use asking::PORT_TAGS;
 pub use bank::BankSide;
 pub use inspect::audit;
 pub use make::{MAX_ENTRIES, MAX_PORTS, station};

@@ -4,7 +4,7 @@ ghost use Rattle.station_parts.specs.Ids.{cache_id};
 ghost use Rattle.station_parts.specs.SideState.{state_of};
 ghost use Rattle.station_parts.specs.SideSteps.{has_work, refusal_of, StepMakes};
 
-use crate::asking::{answer_ask, event_for, value_told, verdict_of};
+use crate::asking::{PORT_TAGS, answer_ask, event_for, value_told, verdict_of};
 use crate::ends::{look_at, pop_at, push_at};
 use crate::parts::{CacheSide, Stepped};
 use flat_model::{Answer, Event};
@@ -135,7 +135,7 @@ impl<const WAYS: usize, const WORDS: usize, const REGS: usize, const DEPTH: usiz
         let Some(Answer::Value { tag, word }) = self.unit.reply(place) else {
             return Stepped::Idle;
         };
-        let port = u32::from(tag / 256);
+        let port = u32::from(tag / PORT_TAGS);
         if look_at(&mut self.tellings, port) == 0 {
             return Stepped::Idle;
         }
