@@ -7,7 +7,7 @@ ghost use Rattle.station_checks.specs.Checks.{is_flat, AreTold, told_list};
 
 use flat_model::{Answer, Event, FlatMemory, ReplayFault, Word};
 use station_journal::{Entry, Source, Told};
-use station_parts::CacheSide;
+use station_parts::{CacheSide, PORT_TAGS};
 use std::alloc::{AllocError, Global};
 
 /// The entries of a journal, oldest first. `AllocError` says that there was too little memory.
@@ -97,9 +97,9 @@ fn telling_of(entry: Entry, port: usize) -> Option<Told>
         (Source::Ask(asker), Answer::Refused(cause)) if asker as usize == port => {
             Some(Told::Refused(cause))
         }
-        (Source::Reply(_), Answer::Value { tag, word }) if usize::from(tag / 256) == port => {
+        (Source::Reply(_), Answer::Value { tag, word }) if usize::from(tag / PORT_TAGS) == port => {
             Some(Told::Value {
-                tag: (tag % 256) as u8,
+                tag: (tag % PORT_TAGS) as u8,
                 word,
             })
         }

@@ -2,12 +2,14 @@
 ghost use Rattle.std.specs.Prelude.{◌≡◌, ◌≤◌, ◌<◌, true, IfOk, vec_len};
 ghost use Rattle.std.specs.List.{All};
 ghost use Rattle.station_journal.specs.Conversation.{is_request};
+ghost use Rattle.station_parts.specs.declared.make.TheConstants.{MAX_PORTS};
 ghost use Rattle.station_checks.specs.Scripts.{AreRequests};
 
 use flat_model::{Lanes, Shape, Word};
 use rand_core::utils::NextWord;
 use rand_pcg::Pcg32;
 use station_journal::Ask;
+use station_parts::{MAX_ENTRIES, MAX_PORTS, PORT_TAGS};
 use std::alloc::{AllocError, Global};
 
 /// Words of a block.
@@ -25,11 +27,11 @@ pub const DEPTH: usize = 4;
 /// Words of memory. Each port has some of its own, so there are more than ports.
 pub const WORDS: u32 = 64;
 
-/// How many ports there may be.
-pub const MOST_PORTS: u32 = 16;
+/// How many ports there may be, as many as a station has at most.
+pub const MOST_PORTS: u32 = MAX_PORTS;
 
 /// Entries that a journal takes, the most that it may.
-pub const ENTRIES: u32 = 1_048_576;
+pub const ENTRIES: u32 = MAX_ENTRIES;
 
 // Words of memory for each port that there may be. They are few, so that a port loads what it has
 // stored, and words of one block belong to different ports.
@@ -54,13 +56,14 @@ pub struct Plan {
     pub ports: u32,
     /// Of each port.
     pub asks: u32,
+    /// What the scripts are made by: equal plans have equal scripts.
     pub seed: u64,
     ghost some: { 1 ≤ ports },
-    ghost few: { ports ≤ 16 },
+    ghost few: { ports ≤ MAX_PORTS },
 }
 
 impl Plan {
-    /// A plan, with as many ports as there may be at least and at most.
+    /// A plan; fewer ports than 1 count as 1, and more than 16 as 16.
     pub fn new(ports: u32, asks: u32, seed: u64) -> Plan {
         Plan {
             ports: ports.clamp(1, MOST_PORTS),
@@ -69,7 +72,7 @@ impl Plan {
         }
     }
 
-    /// The script of each port, in the order of their numbers.
+    /// The script of each port, in the order of their numbers. `AllocError`: too little memory.
     pub fn scripts(&self, alloc: Global) -> Result<Vec<Vec<Ask>>, AllocError>
         ensures number { IfOk result (λ scripts. vec_len scripts ≡ self.now.ports) }
         ensures requests { IfOk result (λ scripts. All (λ s. AreRequests s.items) scripts.items) }
@@ -82,7 +85,7 @@ impl Plan {
     }
 
     fn script(&self, alloc: Global, port: u32) -> Result<Vec<Ask>, AllocError>
-        requires { port < 16 }
+        requires { port < MAX_PORTS }
         ensures { IfOk result (λ script. AreRequests script.items) }
     {
         let mut random = Pcg32::new(self.seed, u64::from(port));
@@ -97,13 +100,14 @@ impl Plan {
 // A port loads and stores words of its own, so what it is told doesn't depend on the others; their
 // blocks it shares with them.
 fn own_ask(random: &mut Pcg32, port: u32, number: u32) -> Ask
-    requires { port < 16 }
+    requires { port < MAX_PORTS }
     ensures { is_request result ≡ true }
 {
     let pick = random.next_word();
     let at = pick / 8 % OWN_WORDS * MOST_PORTS + port;
     let word = bytes_of(random.next_word());
-    ask_by(pick, (number % 256) as u8, at, word, BLOCK_WORDS as u32)
+    let tag = (number % u32::from(PORT_TAGS)) as u8;
+    ask_by(pick, tag, at, word, BLOCK_WORDS as u32)
 }
 
 /// An ask by a picked number: half of them are loads, a quarter stores, and the others prefetches

@@ -127,7 +127,7 @@ fn asks_again(told: Told) -> bool {
     }
 }
 
-/// How many a second, rounded down.
+/// How many a second, rounded down; 0 if no time passed.
 pub fn per_second(count: u64, took: Duration) -> u128 {
     let nanos = took.as_nanos();
     if nanos == 0 {
