@@ -1,12 +1,14 @@
 //! The words of the command line.
-use crate::fault::TourFault;
-use clap::{Arg, ArgAction, Command};
+use crate::fault::StationFault;
+use crate::rates::Server;
+use clap::{Arg, ArgAction, ArgMatches, Command};
 use station_checks::Plan;
+use station_parts::MAX_PORTS;
 use std::alloc::{AllocError, Global};
 
-/// What is to be shown.
+/// What is to be shown of a tour.
 #[derive(Clone, Copy, PartialEq, Eq, Debug)]
-pub enum Show {
+pub(crate) enum Show {
     /// What the ports were told, and what the audit found.
     Story,
     /// The journal, as a recorded run.
@@ -15,10 +17,22 @@ pub enum Show {
 
 /// What the words of the command line ask for.
 #[derive(Clone, Copy, PartialEq, Eq, Debug)]
-pub struct CommandLine {
-    pub plan: Plan,
-    pub show: Show,
+pub(crate) enum Job {
+    /// The ports of a plan are run, and this is told of them.
+    Tour { plan: Plan, show: Show },
+    /// So many stations at random are run.
+    Soak { stations: u32, seed: u64 },
+    /// The requests of a plan are served, to tell how many asks a second.
+    Rates { plan: Plan },
+    /// They are served once, and nothing is told.
+    Once { plan: Plan, server: Server },
 }
+
+const NAME: &str = "kroft-station";
+
+const SOAK: &str = "soak";
+
+const RATES: &str = "rates";
 
 const NOTES: &str =
     "Standard output has what no schedule of the threads changes: each ask with what came of it,
@@ -33,13 +47,18 @@ Statuses:
   5  there is too little memory, or a thread came to its limit
 
 Example: the journal, judged by the checker
-  $ station_tour --journal | ./kroft check";
+  $ ./kroft-station --journal | ./kroft check";
+
+const SOAK_NOTES: &str =
+    "Standard error has each station in which something wrong was found, and how far a soak is.
+The status is 1 if there was one: a station whose audit isn't clean, whose journal isn't flat, or
+one of whose ports' lists isn't the journal's part of it.";
 
 // An argument that takes a whole number.
-fn number<'a>(alloc: Global, name: &'a str, value: &'a str, most: i64, help: &'a str) -> Arg<'a> {
+fn number<'a>(alloc: Global, name: &'a str, most: i64, help: &'a str) -> Arg<'a> {
     Arg::new(alloc, name)
         .long(name)
-        .value_name(value)
+        .value_name("N")
         .action(ArgAction::Set)
         .value_parser(clap::value_parser!(u32).range(1..=most))
         .help(help)
@@ -52,56 +71,137 @@ fn flag<'a>(alloc: Global, name: &'a str, help: &'a str) -> Arg<'a> {
         .help(help)
 }
 
+fn asks<'a>(alloc: Global) -> Arg<'a> {
+    number(
+        alloc,
+        "asks",
+        10_000,
+        "How often each port asks [default: 12]",
+    )
+}
+
+fn seed<'a>(alloc: Global) -> Arg<'a> {
+    number(
+        alloc,
+        "seed",
+        i64::from(u32::MAX),
+        "What the numbers and scripts are drawn by [default: 1]",
+    )
+}
+
+// The subcommand that runs stations at random.
+fn soak_command<'a>(alloc: Global) -> Result<Command<'a>, AllocError> {
+    Command::new(alloc, SOAK)
+        .about("Run stations at random on threads, and look at each")
+        .after_help(SOAK_NOTES)
+        .arg(number(
+            alloc,
+            "stations",
+            1_000_000,
+            "How many stations are run [default: 4]",
+        ))?
+        .arg(seed(alloc))
+}
+
+// The subcommand that measures.
+fn rates_command<'a>(alloc: Global) -> Result<Command<'a>, AllocError> {
+    Command::new(alloc, RATES)
+        .about("Tell how many asks a second are served, of the asks of sixteen ports")
+        .arg(asks(alloc))?
+        .arg(seed(alloc))?
+        .arg(flag(
+            alloc,
+            "core-once",
+            "Serve the asks once by the core, and tell nothing",
+        ))?
+        .arg(flag(
+            alloc,
+            "hand-once",
+            "Serve them once by a station that is stepped by hand, and tell nothing",
+        ))
+}
+
 // The program's whole command line.
 fn program<'a>(alloc: Global) -> Result<Command<'a>, AllocError> {
-    Command::new(alloc, "station_tour")
+    Command::new(alloc, NAME)
         .version("0.1.0")
         .about("Ports on threads over one lockup-free cache, and an audit of what they were told")
         .after_help(NOTES)
         .no_binary_name(true)
-        .bin_name("station_tour")?
+        .bin_name(NAME)?
+        .disable_help_subcommand(true)
+        .args_conflicts_with_subcommands(true)
         .arg(number(
             alloc,
             "ports",
-            "N",
-            16,
+            i64::from(MAX_PORTS),
             "How many ports ask, 1 to 16 [default: 4]",
         ))?
-        .arg(number(
-            alloc,
-            "asks",
-            "N",
-            10_000,
-            "How often each port asks [default: 12]",
-        ))?
-        .arg(number(
-            alloc,
-            "seed",
-            "N",
-            4_294_967_295,
-            "What the scripts are made by [default: 1]",
-        ))?
+        .arg(asks(alloc))?
+        .arg(seed(alloc))?
         .arg(flag(
             alloc,
             "journal",
             "Write the journal alone, as a recorded run",
-        ))
+        ))?
+        .subcommand(soak_command(alloc)?)?
+        .subcommand(rates_command(alloc)?)
 }
 
 /// Reads the words behind the program's name. Help and the version come as a fault too.
-pub fn read_words(alloc: Global, words: &[&str]) -> Result<CommandLine, TourFault> {
+pub(crate) fn read_words(alloc: Global, words: &[&str]) -> Result<Job, StationFault> {
     let mut command = program(alloc)?;
     let matches = command.try_get_matches_from_mut(words)?;
-    let ports = matches.get_one::<u32>("ports").unwrap_or(4);
+    Ok(match matches.subcommand() {
+        Some((SOAK, rest)) => soak_job(rest),
+        Some((_, rest)) => rates_job(rest),
+        None => tour_job(&matches),
+    })
+}
+
+// The plan for so many ports, with the asks and the seed that are asked for.
+fn plan_of(ports: u32, matches: &ArgMatches<'_>) -> Plan {
     let asks = matches.get_one::<u32>("asks").unwrap_or(12);
-    let seed = matches.get_one::<u32>("seed").unwrap_or(1);
+    Plan::new(ports, asks, seed_of(matches))
+}
+
+fn seed_of(matches: &ArgMatches<'_>) -> u64 {
+    u64::from(matches.get_one::<u32>("seed").unwrap_or(1))
+}
+
+fn tour_job(matches: &ArgMatches<'_>) -> Job {
+    let ports = matches.get_one::<u32>("ports").unwrap_or(4);
     let show = if matches.get_flag("journal") {
         Show::Journal
     } else {
         Show::Story
     };
-    Ok(CommandLine {
-        plan: Plan::new(ports, asks, u64::from(seed)),
+    Job::Tour {
+        plan: plan_of(ports, matches),
         show,
-    })
+    }
+}
+
+fn soak_job(matches: &ArgMatches<'_>) -> Job {
+    Job::Soak {
+        stations: matches.get_one::<u32>("stations").unwrap_or(4),
+        seed: seed_of(matches),
+    }
+}
+
+fn rates_job(matches: &ArgMatches<'_>) -> Job {
+    let plan = plan_of(MAX_PORTS, matches);
+    if matches.get_flag("core-once") {
+        Job::Once {
+            plan,
+            server: Server::Core,
+        }
+    } else if matches.get_flag("hand-once") {
+        Job::Once {
+            plan,
+            server: Server::Hand,
+        }
+    } else {
+        Job::Rates { plan }
+    }
 }

@@ -1,4 +1,4 @@
-//! Why a tour ends without having told all.
+//! Why the program ends without having told all.
 
 use flat_model::MakeFault;
 use ring_station::RunFault;
@@ -6,9 +6,9 @@ use std::alloc::AllocError;
 use std::io;
 use thiserror::Error;
 
-/// Why a tour ends without having told all.
+/// Why the program ends without having told all.
 #[derive(Debug, Drop, Error)]
-pub enum TourFault {
+pub(crate) enum StationFault {
     /// The words of the command line, or help that was asked for.
     #[error("{0}")]
     CommandLine(clap::Error),
@@ -26,50 +26,50 @@ pub enum TourFault {
     OutOfMemory,
 }
 
-impl TourFault {
+impl StationFault {
     /// The status with which the program ends.
-    pub fn status(&self) -> u8 {
+    pub(crate) fn status(&self) -> u8 {
         match self {
-            TourFault::CommandLine(_) => 2,
-            TourFault::Shape => 3,
-            TourFault::Io(_) => 4,
-            TourFault::TurnLimit | TourFault::OutOfMemory => 5,
+            StationFault::CommandLine(_) => 2,
+            StationFault::Shape => 3,
+            StationFault::Io(_) => 4,
+            StationFault::TurnLimit | StationFault::OutOfMemory => 5,
         }
     }
 }
 
-impl From<AllocError> for TourFault {
-    fn from(_fault: AllocError) -> TourFault {
-        TourFault::OutOfMemory
+impl From<AllocError> for StationFault {
+    fn from(_fault: AllocError) -> StationFault {
+        StationFault::OutOfMemory
     }
 }
 
-impl From<clap::Error> for TourFault {
-    fn from(fault: clap::Error) -> TourFault {
-        TourFault::CommandLine(fault)
+impl From<clap::Error> for StationFault {
+    fn from(fault: clap::Error) -> StationFault {
+        StationFault::CommandLine(fault)
     }
 }
 
-impl From<io::Error> for TourFault {
-    fn from(fault: io::Error) -> TourFault {
-        TourFault::Io(fault)
+impl From<io::Error> for StationFault {
+    fn from(fault: io::Error) -> StationFault {
+        StationFault::Io(fault)
     }
 }
 
-impl From<MakeFault> for TourFault {
-    fn from(fault: MakeFault) -> TourFault {
+impl From<MakeFault> for StationFault {
+    fn from(fault: MakeFault) -> StationFault {
         match fault {
-            MakeFault::BadShape(_) => TourFault::Shape,
-            MakeFault::OutOfMemory => TourFault::OutOfMemory,
+            MakeFault::BadShape(_) => StationFault::Shape,
+            MakeFault::OutOfMemory => StationFault::OutOfMemory,
         }
     }
 }
 
-impl From<RunFault> for TourFault {
-    fn from(fault: RunFault) -> TourFault {
+impl From<RunFault> for StationFault {
+    fn from(fault: RunFault) -> StationFault {
         match fault {
-            RunFault::TurnLimit => TourFault::TurnLimit,
-            RunFault::OutOfMemory => TourFault::OutOfMemory,
+            RunFault::TurnLimit => StationFault::TurnLimit,
+            RunFault::OutOfMemory => StationFault::OutOfMemory,
         }
     }
 }

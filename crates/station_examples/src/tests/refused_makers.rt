@@ -6,8 +6,8 @@ use ring_station::station;
 
 #[test]
 fn station_may_find_no_memory(rt: HostRuntime) {
-    let first = station::<1, 4, 2, 2>(rt.alloc(), SHAPE, 2, 100);
-    let second = station::<1, 4, 2, 2>(rt.alloc(), SHAPE, 2, 100);
+    let first = station::<1, 4, 2, 2>(rt.alloc(), SHAPE, 1, 100);
+    let second = station::<1, 4, 2, 2>(rt.alloc(), SHAPE, 1, 100);
     assert!(rt; first.is_ok() || second.is_ok());
     if let Err(fault) = first {
         assert_eq!(rt; fault, MakeFault::OutOfMemory);

@@ -2,31 +2,32 @@
 
 use crossbeam_utils::CachePadded;
 use ring_station::{Actor, Gate, Told};
-use station_checks::{MOST_PORTS, passes};
+use station_checks::passes;
+use station_parts::MAX_PORTS;
 use std::alloc::{AllocError, Global};
 use std::sync::atomic::{AtomicU32, Ordering};
 
 /// Holds nobody, but that a port lets some turns go by before it offers an ask again.
 #[derive(Drop)]
-pub struct Patience {
+pub(crate) struct PatientGate {
     turns: u32,
     // For how many turns each port is still held. Only the port's own thread changes its number, so
     // each has cache lines of its own: others would wait for them at every turn.
     left: Vec<CachePadded<AtomicU32>>,
 }
 
-impl Patience {
+impl PatientGate {
     /// A gate for as many ports as a station has at most, with so many turns.
-    pub fn new(alloc: Global, turns: u32) -> Result<Patience, AllocError> {
-        let mut left = Vec::with_capacity(alloc, MOST_PORTS as usize)?;
-        for _port in 0..MOST_PORTS {
+    pub(crate) fn new(alloc: Global, turns: u32) -> Result<PatientGate, AllocError> {
+        let mut left = Vec::with_capacity(alloc, MAX_PORTS as usize)?;
+        for _port in 0..MAX_PORTS {
             left.push(CachePadded::new(AtomicU32::new(0)))?;
         }
-        Ok(Patience { turns, left })
+        Ok(PatientGate { turns, left })
     }
 }
 
-impl Gate for Patience {
+impl Gate for PatientGate {
     fn may(&self, actor: Actor) -> bool {
         let Actor::Port(port) = actor else {
             return true;

@@ -4,11 +4,12 @@ ghost use Rattle.std.specs.List.{All};
 ghost use Rattle.station_journal.specs.Conversation.{is_request};
 ghost use Rattle.station_checks.specs.Scripts.{AreRequests};
 
-use flat_model::{Lanes, Shape};
+use flat_model::{Lanes, MAX_BANK_QUEUE, MAX_BANKS, MAX_REPLIES, MAX_SETS, Shape};
 use rand_core::utils::NextWord;
 use rand_pcg::Pcg32;
 use ring_station::Ask;
 use station_checks::bytes_of;
+use station_parts::{MAX_ENTRIES, MAX_PORTS};
 use std::alloc::{AllocError, Global};
 
 // The most blocks of memory that a trial has mostly, and in a few trials.
@@ -19,9 +20,7 @@ const MANY_BLOCKS: u32 = 65_536;
 // The most asks of a port.
 const ASKS: u32 = 40;
 
-// Entries and turns that are enough.
-const LARGE_JOURNAL: u32 = 1_048_576;
-
+// Turns that are enough.
 const MANY_TURNS: u64 = 5_000_000;
 
 // The most entries of a journal that is to become full, and the turns of such a trial.
@@ -34,25 +33,25 @@ const FEW_TURNS: u32 = 5_000;
 
 /// Numbers at random, by a seed and the number of a station.
 #[derive(Drop)]
-pub struct Draws {
+pub(crate) struct Draws {
     random: Pcg32,
 }
 
 impl Draws {
-    pub fn new(seed: u64, number: u32) -> Draws {
+    pub(crate) fn new(seed: u64, number: u32) -> Draws {
         Draws {
             random: Pcg32::new(seed, u64::from(number)),
         }
     }
 
     /// Any number.
-    pub fn word(&mut self) -> u32 {
+    pub(crate) fn word(&mut self) -> u32 {
         self.random.next_word()
     }
 
     /// A number from the least to the most: each of these two in one of four draws, and all numbers
     /// alike in the others.
-    pub fn between(&mut self, least: u32, most: u32) -> u32
+    pub(crate) fn between(&mut self, least: u32, most: u32) -> u32
         requires { least ≤ most }
         ensures least { least ≤ result }
         ensures most { result ≤ most }
@@ -75,40 +74,40 @@ impl Draws {
 
 /// The numbers of a station, and what its threads may do.
 #[derive(Clone, Copy, PartialEq, Eq, Debug)]
-pub struct Trial {
-    pub shape: Shape,
-    /// 1 to 16.
-    pub ports: u32,
+pub(crate) struct Trial {
+    pub(crate) shape: Shape,
+    /// From 1 to [`MAX_PORTS`].
+    pub(crate) ports: u32,
     /// Entries that the journal takes.
-    pub journal: u32,
+    pub(crate) journal: u32,
     /// Turns of each thread.
-    pub turns: u64,
+    pub(crate) turns: u64,
     // Words of a block.
     block_words: u32,
 }
 
 impl Trial {
     /// A trial with so many words in a block.
-    pub fn draw(draws: &mut Draws, block_words: u32) -> Trial {
+    pub(crate) fn draw(draws: &mut Draws, block_words: u32) -> Trial {
         let block_words = block_words.clamp(1, 16);
         let most_blocks = if draws.one_in(32) {
             MANY_BLOCKS
         } else {
             FEW_BLOCKS
         };
-        let banks = draws.between(1, 16);
+        let banks = draws.between(1, MAX_BANKS);
         let shape = Shape {
             words: draws.between(1, most_blocks).saturating_mul(block_words),
-            sets: draws.between(1, 1_024),
+            sets: draws.between(1, MAX_SETS),
             banks,
-            bank_queue: draws.between(block_words.div_ceil(banks), 64),
+            bank_queue: draws.between(block_words.div_ceil(banks), MAX_BANK_QUEUE),
             write_queue: draws.between(block_words, 256),
-            replies: draws.between(1, 64),
+            replies: draws.between(1, MAX_REPLIES),
         };
         let (journal, turns) = draw_limits(draws);
         Trial {
             shape,
-            ports: draws.between(1, 16),
+            ports: draws.between(1, MAX_PORTS),
             journal,
             turns,
             block_words,
@@ -116,7 +115,11 @@ impl Trial {
     }
 
     /// A script for each port.
-    pub fn scripts(&self, alloc: Global, draws: &mut Draws) -> Result<Vec<Vec<Ask>>, AllocError>
+    pub(crate) fn scripts(
+        &self,
+        alloc: Global,
+        draws: &mut Draws,
+    ) -> Result<Vec<Vec<Ask>>, AllocError>
         ensures number { IfOk result (λ scripts. vec_len scripts ≡ self.now.ports) }
         ensures requests { IfOk result (λ scripts. All (λ s. AreRequests s.items) scripts.items) }
     {
@@ -170,7 +173,7 @@ impl Trial {
 fn draw_limits(draws: &mut Draws) -> (u32, u64) {
     match draws.word() % 32 {
         0 => (draws.between(1, SMALL_JOURNAL), TURNS_FOR_SMALL),
-        1 => (LARGE_JOURNAL, u64::from(draws.between(0, FEW_TURNS))),
-        _ => (LARGE_JOURNAL, MANY_TURNS),
+        1 => (MAX_ENTRIES, u64::from(draws.between(0, FEW_TURNS))),
+        _ => (MAX_ENTRIES, MANY_TURNS),
     }
 }

@@ -3,7 +3,7 @@ use Rattle.std.specs.List.{All}
 use Rattle.std.specs.Global.{Vec}
 use Rattle.station_journal.specs.declared.asks.Ask.{Ask}
 use Rattle.station_checks.specs.Scripts.{AreRequests}
-use Rattle.station_soak.proofs.trial.Trial.scripts.Given as goal
+use Rattle.station_tour.proofs.soak.trial.Trial.scripts.Given as goal
 
 abbrev pub invariant-loop-port : goal.invariant-loop-port
 invariant-loop-port l =

@@ -1,6 +1,6 @@
 //! A station with one port, stepped by hand on one thread.
 
-use crate::fault::SoakFault;
+use crate::fault::StationFault;
 use ring_station::{Ask, BankSide, CacheSide, Port, Source, Station, Stepped, Told, station};
 use station_checks::{BLOCK_WORDS, DEPTH, ENTRIES, REGS, WAYS, passes, shape};
 use std::alloc::Global;
@@ -12,7 +12,7 @@ const TURNS: u32 = 1_000_000;
 
 /// Asks each request, again after each step of another part if what is in its way passes, and then
 /// steps until nothing is to be done. Says whether all came to rest.
-pub fn ask_by_hand(alloc: Global, requests: &[Ask]) -> Result<bool, SoakFault> {
+pub(crate) fn ask_by_hand(alloc: Global, requests: &[Ask]) -> Result<bool, StationFault> {
     let mut station: Station<WAYS, BLOCK_WORDS, REGS, DEPTH> = station(alloc, shape(), 1, ENTRIES)?;
     let Station {
         cache,
@@ -38,10 +38,10 @@ fn ask_one(
     port: &mut Port,
     banks: &mut [BankSide],
     ask: Ask,
-) -> Result<(), SoakFault> {
+) -> Result<(), StationFault> {
     for _turn in 0..TURNS {
         if port.offer(ask).is_err() {
-            return Err(SoakFault::TurnLimit);
+            return Err(StationFault::TurnLimit);
         }
         cache.step(Source::Ask(0));
         match port.take() {
@@ -49,10 +49,10 @@ fn ask_one(
                 move_on(cache, port, banks);
             }
             Some(_) => return Ok(()),
-            None => return Err(SoakFault::TurnLimit),
+            None => return Err(StationFault::TurnLimit),
         }
     }
-    Err(SoakFault::TurnLimit)
+    Err(StationFault::TurnLimit)
 }
 
 // Makes the first step that is possible, in the order in which the core's driver makes them: a

@@ -5,16 +5,16 @@ ghost use Rattle.std.specs.Prelude.{◌≡◌, ◌≤◌, IfOk, length, vec_len}
 mod by_core;
 mod by_hand;
 mod on_threads;
-mod patience;
 
-use crate::fault::SoakFault;
+use crate::fault::StationFault;
 use crate::rates::by_core::ask_core;
 use crate::rates::by_hand::ask_by_hand;
 use crate::rates::on_threads::ask_on_threads;
 use rand_core::utils::NextWord;
 use rand_pcg::Pcg32;
 use ring_station::Ask;
-use station_checks::{BLOCK_WORDS, MOST_PORTS, Plan, WORDS, ask_by, bytes_of, per_second};
+use station_checks::{BLOCK_WORDS, Plan, WORDS, ask_by, bytes_of, per_second};
+use station_parts::{MAX_PORTS, PORT_TAGS};
 use std::alloc::{AllocError, Global};
 use std::fmt;
 use std::fmt::{Display, Formatter};
@@ -40,7 +40,7 @@ const SERVERS: [Server; 7] = [
 
 /// Who serves the requests.
 #[derive(Clone, Copy, PartialEq, Eq, Debug)]
-pub enum Server {
+pub(crate) enum Server {
     /// The core, moved by its driver, on one thread.
     Core,
     /// A station with one port, stepped by hand on one thread.
@@ -94,11 +94,11 @@ impl Timing {
 }
 
 /// Tells how many asks a second each server serves. Says whether each audit was clean.
-pub fn tell_rates<R: AllocGlobal + Clock + Threads + Sync, W: Write>(
+pub(crate) fn tell_rates<R: AllocGlobal + Clock + Threads + Sync, W: Write>(
     rt: &R,
     out: &mut W,
     plan: &Plan,
-) -> Result<bool, SoakFault> {
+) -> Result<bool, StationFault> {
     let alloc = rt.alloc();
     let requests = requests(alloc, plan)?;
     let mut timings = Timing::of_servers(alloc)?;
@@ -120,7 +120,7 @@ fn run_each<R: AllocGlobal + Clock + Threads + Sync>(
     rt: &R,
     timings: &mut [Timing],
     requests: &[Ask],
-) -> Result<bool, SoakFault> {
+) -> Result<bool, StationFault> {
     let mut all_good = true;
     for timing in timings {
         let begun = Instant::now(rt)?;
@@ -131,11 +131,11 @@ fn run_each<R: AllocGlobal + Clock + Threads + Sync>(
 }
 
 /// Serves the requests once. Says whether the audit, if there is one, was clean.
-pub fn serve_once<R: AllocGlobal + Clock + Threads + Sync>(
+pub(crate) fn serve_once<R: AllocGlobal + Clock + Threads + Sync>(
     rt: &R,
     server: Server,
     plan: &Plan,
-) -> Result<bool, SoakFault> {
+) -> Result<bool, StationFault> {
     let requests = requests(rt.alloc(), plan)?;
     serve(rt, server, &requests)
 }
@@ -144,7 +144,7 @@ fn serve<R: AllocGlobal + Clock + Threads + Sync>(
     rt: &R,
     server: Server,
     requests: &[Ask],
-) -> Result<bool, SoakFault> {
+) -> Result<bool, StationFault> {
     let alloc = rt.alloc();
     match server {
         Server::Core => ask_core(alloc, requests),
@@ -162,12 +162,12 @@ fn serve<R: AllocGlobal + Clock + Threads + Sync>(
 fn requests(alloc: Global, plan: &Plan) -> Result<Vec<Ask>, AllocError> {
     let mut random = Pcg32::new(plan.seed, 0);
     let mut asks = Vec::new(alloc);
-    for number in 0..u64::from(plan.asks) * u64::from(MOST_PORTS) {
+    for number in 0..u64::from(plan.asks) * u64::from(MAX_PORTS) {
         let pick = random.next_word();
         let word = bytes_of(random.next_word());
         asks.push(ask_by(
             pick,
-            (number % 256) as u8,
+            (number % u64::from(PORT_TAGS)) as u8,
             pick / 8 % WORDS,
             word,
             BLOCK_WORDS as u32,

@@ -1,5 +1,5 @@
 use Rattle.station_checks.specs.Scripts.{AreRequests}
-use Rattle.station_soak.proofs.trial.Trial.script.Given as goal
+use Rattle.station_tour.proofs.soak.trial.Trial.script.Given as goal
 
 abbrev pub invariant-loop-number : goal.invariant-loop-number
 invariant-loop-number l = AreRequests l.asks.items

@@ -1,18 +1,20 @@
 //! A gate that holds the threads of a run at random.
 
-use crate::trial::Draws;
+use crate::soak::trial::Draws;
+use flat_model::MAX_BANKS;
 use ring_station::{Actor, Gate, Told};
 use station_checks::passes;
+use station_parts::MAX_PORTS;
 use std::alloc::{AllocError, Global};
 use std::sync::atomic::{AtomicU32, Ordering};
 
 // The cache side, and as many ports and banks as a station has at most.
-const ACTORS: u32 = 1 + 16 + 16;
+const ACTORS: u32 = 1 + MAX_PORTS + MAX_BANKS;
 
 // The places of the first port and of the first bank.
 const FIRST_PORT: u32 = 1;
 
-const FIRST_BANK: u32 = 17;
+const FIRST_BANK: u32 = 1 + MAX_PORTS;
 
 // Of so many turns in which an actor isn't held, some let it go.
 const CHANCES: u32 = 64;
@@ -65,13 +67,13 @@ impl Hold {
 
 /// Holds each actor in some of its turns.
 #[derive(Drop)]
-pub struct RandomGate {
+pub(crate) struct RandomGate {
     holds: Vec<Hold>,
 }
 
 impl RandomGate {
     /// A gate that never holds some of the actors, and others often.
-    pub fn draw(alloc: Global, draws: &mut Draws) -> Result<RandomGate, AllocError> {
+    pub(crate) fn draw(alloc: Global, draws: &mut Draws) -> Result<RandomGate, AllocError> {
         let mut holds = Vec::with_capacity(alloc, ACTORS as usize)?;
         let patience = draws.between(50, 500);
         for _actor in 0..ACTORS {

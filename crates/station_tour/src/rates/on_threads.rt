@@ -2,8 +2,8 @@
 
 ghost use Rattle.std.specs.Prelude.{◌≡◌, length};
 
-use crate::fault::SoakFault;
-use crate::rates::patience::Patience;
+use crate::fault::StationFault;
+use crate::patience::PatientGate;
 use ring_station::{Ask, Audit, Station, audit, run_threads, station};
 use station_checks::{BLOCK_WORDS, DEPTH, ENTRIES, Plan, REGS, WAYS, shape};
 use std::rt::Clock;
@@ -16,15 +16,15 @@ const TURNS: u64 = 100_000_000;
 const PATIENCE: u32 = 100;
 
 /// Runs the scripts to their end. Says whether the audit is clean.
-pub fn ask_on_threads<R: AllocGlobal + Clock + Threads + Sync>(
+pub(crate) fn ask_on_threads<R: AllocGlobal + Clock + Threads + Sync>(
     rt: &R,
     plan: &Plan,
     scripts: &[Vec<Ask>],
-) -> Result<bool, SoakFault>
+) -> Result<bool, StationFault>
     requires { length scripts.now ≡ plan.now.ports }
 {
     let alloc = rt.alloc();
-    let gate = Patience::new(alloc, PATIENCE)?;
+    let gate = PatientGate::new(alloc, PATIENCE)?;
     let mut station: Station<WAYS, BLOCK_WORDS, REGS, DEPTH> = station(
         alloc,
         shape(),

@@ -4,9 +4,12 @@
 ghost use Rattle.std.specs.Prelude.{◌≡◌, vec_len};
 ghost use Rattle.station_parts.specs.Station.{AreOneStation};
 
-use crate::fault::SoakFault;
-use crate::random_gate::RandomGate;
-use crate::trial::{Draws, Trial};
+mod random_gate;
+mod trial;
+
+use crate::fault::StationFault;
+use crate::soak::random_gate::RandomGate;
+use crate::soak::trial::{Draws, Trial};
 use ring_station::{
     BankSide, CacheSide, Port, RunFault, Station, Told, audit, run_threads, station,
 };
@@ -21,13 +24,13 @@ const STEP: u32 = 100;
 
 /// Runs so many stations, and tells of each in which something wrong was found, and in the end how
 /// many there were. Says whether there was none.
-pub fn soak<R: AllocGlobal + Clock + Threads + Sync, W: Write, E: Write>(
+pub(crate) fn soak<R: AllocGlobal + Clock + Threads + Sync, W: Write, E: Write>(
     rt: &R,
     output: &mut W,
     errors: &mut E,
     stations: u32,
     seed: u64,
-) -> Result<bool, SoakFault> {
+) -> Result<bool, StationFault> {
     let mut failed: u32 = 0;
     let mut turn_limits: u32 = 0;
     for number in 0..stations {
@@ -57,7 +60,7 @@ fn run_any<R: AllocGlobal + Clock + Threads + Sync>(
     rt: &R,
     seed: u64,
     number: u32,
-) -> Result<Findings, SoakFault> {
+) -> Result<Findings, StationFault> {
     let draws = Draws::new(seed, number);
     match number % 4 {
         0 => run_least(rt, draws),
@@ -94,7 +97,7 @@ macro_rules! run_station {
 fn run_least<R: AllocGlobal + Clock + Threads + Sync>(
     rt: &R,
     mut draws: Draws,
-) -> Result<Findings, SoakFault> {
+) -> Result<Findings, StationFault> {
     run_station!(rt, draws, 1, 1, 1, 1)
 }
 
@@ -102,7 +105,7 @@ fn run_least<R: AllocGlobal + Clock + Threads + Sync>(
 fn run_most<R: AllocGlobal + Clock + Threads + Sync>(
     rt: &R,
     mut draws: Draws,
-) -> Result<Findings, SoakFault> {
+) -> Result<Findings, StationFault> {
     run_station!(rt, draws, 8, 16, 16, 16)
 }
 
@@ -110,7 +113,7 @@ fn run_most<R: AllocGlobal + Clock + Threads + Sync>(
 fn run_common<R: AllocGlobal + Clock + Threads + Sync>(
     rt: &R,
     mut draws: Draws,
-) -> Result<Findings, SoakFault> {
+) -> Result<Findings, StationFault> {
     run_station!(rt, draws, 2, 4, 4, 4)
 }
 
@@ -118,7 +121,7 @@ fn run_common<R: AllocGlobal + Clock + Threads + Sync>(
 fn run_uneven<R: AllocGlobal + Clock + Threads + Sync>(
     rt: &R,
     mut draws: Draws,
-) -> Result<Findings, SoakFault> {
+) -> Result<Findings, StationFault> {
     run_station!(rt, draws, 3, 2, 5, 1)
 }
 
@@ -156,13 +159,13 @@ fn look_at<const WAYS: usize, const WORDS: usize, const REGS: usize, const DEPTH
     banks: &mut [BankSide],
     words: u32,
     ran: Ran,
-) -> Result<Findings, SoakFault>
+) -> Result<Findings, StationFault>
     requires { AreOneStation cache.old ports.old banks.old }
 {
     let lists = match ran {
         Ok(lists) => Some(lists),
         Err(RunFault::TurnLimit) => None,
-        Err(RunFault::OutOfMemory) => return Err(SoakFault::OutOfMemory),
+        Err(RunFault::OutOfMemory) => return Err(StationFault::OutOfMemory),
     };
     let audit = audit(cache, ports, banks);
     let journal = read_journal(alloc, cache)?;

@@ -1,6 +1,6 @@
 //! The core, asked and moved on one thread.
 
-use crate::fault::SoakFault;
+use crate::fault::StationFault;
 use flat_model::{Answer, Event, Word};
 use machine_core::Machine;
 use ring_station::Ask;
@@ -14,7 +14,7 @@ type Core = Machine<WAYS, BLOCK_WORDS, REGS, DEPTH>;
 
 /// Asks each request, again after each step of the driver if what is in its way passes. Says
 /// whether the machine then came to rest.
-pub fn ask_core(alloc: Global, requests: &[Ask]) -> Result<bool, SoakFault> {
+pub(crate) fn ask_core(alloc: Global, requests: &[Ask]) -> Result<bool, StationFault> {
     let image = vec![in alloc; Word::default(); WORDS as usize]?;
     let mut core = Core::new(alloc, shape(), &image)?;
     for ask in requests {
@@ -30,7 +30,7 @@ pub fn ask_core(alloc: Global, requests: &[Ask]) -> Result<bool, SoakFault> {
     Ok(false)
 }
 
-fn ask_one(core: &mut Core, event: Event) -> Result<(), SoakFault> {
+fn ask_one(core: &mut Core, event: Event) -> Result<(), StationFault> {
     for _turn in 0..TURNS {
         match core.apply(event) {
             Answer::Refused(cause) if passes(cause) => {
@@ -39,7 +39,7 @@ fn ask_one(core: &mut Core, event: Event) -> Result<(), SoakFault> {
             _ => return Ok(()),
         }
     }
-    Err(SoakFault::TurnLimit)
+    Err(StationFault::TurnLimit)
 }
 
 // The event of a port's ask, for the port 0.
