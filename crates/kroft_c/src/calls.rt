@@ -8,13 +8,11 @@ ghost use Rattle.kroft_c.specs.Calls.{apply_status, apply_row, applied, IsFlat, 
 
 use crate::handle::Handle;
 use crate::rows::{AnswerRow, EventRow, answer_row, event_row};
+use crate::status::{CLOSED, DONE};
 use crate::views::{FieldRow, RegisterRow, TargetRow, field_row, register_row, target_row};
 use flat_model::Word;
 use machine_core::AnyMachine;
 use std::alloc::Global;
-
-/// The call was made.
-const DONE: u32 = 0;
 
 /// There is no such word, register or load, or no event to make.
 const NOT_THERE: u32 = 0;
@@ -24,9 +22,6 @@ const FOUND: u32 = 1;
 
 /// A row says nothing.
 const NO_EVENT: u32 = 2;
-
-/// No machine is behind the handle.
-const CLOSED: u32 = 3;
 
 /// Makes one event.
 ///

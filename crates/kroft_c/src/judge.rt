@@ -8,7 +8,7 @@ use crate::rows::{AnswerRow, EventRow};
 use flat_model::{Answer, Event, Word, may_answer, merge};
 
 /// The entries of a table of what is owed: one for each tag.
-pub const TAGS: usize = 65_536;
+pub const TAGS: usize = u16::MAX as usize + 1;
 
 /// Flat memory gives this answer.
 const EXPLAINED: u32 = 0;

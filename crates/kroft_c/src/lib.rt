@@ -9,6 +9,7 @@ mod judge;
 mod listed;
 mod open;
 mod rows;
+mod status;
 mod views;
 
 pub use calls::{

@@ -7,15 +7,10 @@ ghost use Rattle.kroft_c.specs.Opening.{field_number, fault_number, open_fault, 
 
 use crate::handle::Handle;
 use crate::listed::{Listed, OpenFault};
+use crate::status::{CLOSED, DONE};
 use crate::views::ShapeRow;
 use flat_model::{ShapeField, Word};
 use std::alloc::Global;
-
-/// The call was made.
-const DONE: u32 = 0;
-
-/// No machine is behind the handle.
-const CLOSED: u32 = 3;
 
 /// The list has no such machine.
 const NOT_LISTED: u32 = 100;

@@ -4,6 +4,9 @@ ghost use Rattle.uses.specs.Lookups.{total, counted};
 
 use machine_core::{Event, Lookup, Machine};
 
+// How many tags there are.
+const TAGS: usize = u16::MAX as usize + 1;
+
 /// What the requests found.
 #[derive(Clone, Copy, PartialEq, Eq, Debug, Default)]
 pub struct Lookups {
@@ -43,7 +46,7 @@ pub fn count_lookups(machine: &mut Machine<2, 4, 4, 4>, addresses: &[u32]) -> Lo
     for k in 0..addresses.len() {
         let at = addresses[k];
         lookups.count(machine.find(at));
-        let tag = (k % 65_536) as u16;
+        let tag = (k % TAGS) as u16;
         machine.apply(Event::Load { tag, at });
         move_bank(machine, 3 - (k % 4) as u32);
     }
