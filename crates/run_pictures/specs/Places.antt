@@ -1,10 +1,11 @@
 -- The places of a picture, and their names.
 use Rattle.std.specs.Prelude.{ℕ, ◌*◌, if◌then◌else◌, nat_lt, List, [], ◌∷◌, ◌++◌, codes, decimal}
 use Rattle.std.specs.List.{flat_map, range_with_len}
+use Rattle.miss_registers.specs.declared.TheConstants.{MAX_WAITING}
 use Rattle.run_pictures.specs.Extents.{fitted}
 use Rattle.run_pictures.specs.declared.machine.Extent.{Extent}
 use Rattle.run_pictures.specs.declared.place.Place.{Place}
-use Rattle.run_pictures.specs.declared.place.TheConstants.{MOST_LOADS, MOST_MEMORY}
+use Rattle.run_pictures.specs.declared.place.TheConstants.{MOST_MEMORY}
 use Rattle.run_pictures.specs.declared.place.Place.TheVariants.{Register, Line, Field, Load, Frame, Cell, Stack, Queue, Command, Answer, Reply, Memory}
 
 -- a place's name: a letter, and its numbers with a point between them
@@ -33,7 +34,7 @@ load_place slot i place = Load slot i place ∷ []
 
 -- a word of a register, and the loads that may wait for it
 abbrev pub field_places : ℕ → ℕ → List Place
-field_places slot i = Field slot i ∷ of_each (load_place slot i) MOST_LOADS
+field_places slot i = Field slot i ∷ of_each (load_place slot i) MAX_WAITING
 
 abbrev pub register_places : Extent → ℕ → List Place
 register_places z slot = Register slot ∷ (Line slot ∷ of_each (field_places slot) z.block_words)

@@ -8,18 +8,18 @@ use write_queue::Queued;
 
 /// What of the machine before an event can't be seen behind it.
 #[derive(Clone, Copy)]
-pub struct Before {
+pub(crate) struct Before {
     /// What a request's word was found to be.
-    pub found: Option<Lookup>,
+    pub(crate) found: Option<Lookup>,
     /// The write queue's front.
-    pub front: Option<Queued>,
+    pub(crate) front: Option<Queued>,
     /// The word of the input stack that is to be processed.
-    pub entry: Option<Entry>,
+    pub(crate) entry: Option<Entry>,
 }
 
 impl Before {
     /// What is seen before an event.
-    pub fn new<M: PictureMachine>(machine: &M, event: Event) -> Before {
+    pub(crate) fn new<M: PictureMachine>(machine: &M, event: Event) -> Before {
         Before {
             found: found_by(machine, event),
             front: machine.queue_entry(0),

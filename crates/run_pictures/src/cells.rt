@@ -191,7 +191,7 @@ fn is_live_for<M: PictureMachine>(machine: &M, slot: u32, block: u32) -> bool
 
 /// Whether words of a block that a frame holds are on their way.
 #[tactic(auto, unfolding(crate::specs::Cells::is_pending))]
-pub fn is_pending<M: PictureMachine>(machine: &M, block: u32) -> bool
+pub(crate) fn is_pending<M: PictureMachine>(machine: &M, block: u32) -> bool
     ensures { result ≡ cells.is_pending (M.state machine.now) block }
 {
     (0..MAX_REGS as u32).any(|slot| is_live_for(machine, slot, block))

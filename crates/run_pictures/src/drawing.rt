@@ -28,7 +28,7 @@ pub enum Form {
 
 // A run as it is drawn.
 #[derive(Drop)]
-pub enum Drawing {
+pub(crate) enum Drawing {
     Page(Page),
     Screens(Screens),
     Waveform(Waveform),
@@ -36,7 +36,7 @@ pub enum Drawing {
 
 impl Drawing {
     // The drawing of a machine before its first event.
-    pub fn new<M: PictureMachine>(
+    pub(crate) fn new<M: PictureMachine>(
         alloc: Global,
         machine: &M,
         form: Form,
@@ -51,7 +51,7 @@ impl Drawing {
     }
 
     // Draws a step, behind which the machine stands.
-    pub fn draw<M: PictureMachine>(
+    pub(crate) fn draw<M: PictureMachine>(
         &mut self,
         alloc: Global,
         machine: &M,
@@ -68,7 +68,7 @@ impl Drawing {
     }
 
     // The whole text.
-    pub fn finish(self) -> Result<String, AllocError>
+    pub(crate) fn finish(self) -> Result<String, AllocError>
         ensures { IfOk result (λ text. string_bytes text ≡ whole_text self) }
     {
         match self {

@@ -43,14 +43,14 @@ fn draw_events<M: PictureMachine>(
 ) -> Result<(), AllocError>
     ensures { OnOk result (Follows 1 (M.state machine.old) events.now drawing.old drawing.new) }
 {
-    for k in 0..events.len() {
-        draw_event(alloc, machine, k + 1, events[k], drawing)?;
+    for (k, event) in events.iter().enumerate() {
+        draw_event(alloc, machine, k + 1, *event, drawing)?;
     }
     Ok(())
 }
 
 /// The text of the walk of a machine over these events.
-pub fn draw_run<M: PictureMachine>(
+pub(crate) fn draw_run<M: PictureMachine>(
     alloc: Global,
     machine: &mut M,
     form: Form,

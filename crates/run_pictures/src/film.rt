@@ -13,7 +13,7 @@ use std::alloc::{AllocError, Global};
 
 /// The picture as it stands, and the places that it has.
 #[derive(Drop)]
-pub struct Film {
+pub(crate) struct Film {
     flat: FlatMemory,
     places: Vec<Place>,
     texts: Vec<String>,
@@ -38,7 +38,7 @@ fn texts_of<M: PictureMachine>(
 
 /// Whether the place of this number has another text than before, or a first one.
 #[tactic(auto, unfolding(crate::specs::Pictures::is_changed))]
-pub fn is_changed(before: &[String], after: &[String], k: usize) -> bool
+pub(crate) fn is_changed(before: &[String], after: &[String], k: usize) -> bool
     ensures { result ≡ pictures.is_changed before.now after.now k }
 {
     match (before.get(k), after.get(k)) {
@@ -52,15 +52,12 @@ pub fn is_changed(before: &[String], after: &[String], k: usize) -> bool
 fn step_flat(flat: &mut FlatMemory, event: Event, answer: Answer) -> Result<(), AllocError>
     ensures { OnOk result (flat_step (shown flat.old) event answer ≡ Some (shown flat.new)) }
 {
-    match flat.step(event, answer) {
-        Ok(()) => Ok(()),
-        Err(_) => Err(AllocError),
-    }
+    flat.step(event, answer).map_err(|_fault| AllocError)
 }
 
 impl Film {
     /// The film of a machine in which nothing has happened, over zeros, before its first event.
-    pub fn new<M: PictureMachine>(alloc: Global, machine: &M) -> Result<Film, AllocError>
+    pub(crate) fn new<M: PictureMachine>(alloc: Global, machine: &M) -> Result<Film, AllocError>
         ensures { IfOk result (λ film. pictures.Begins (M.state machine.now) film) }
     {
         let extent = machine.extent();
@@ -75,21 +72,21 @@ impl Film {
     }
 
     /// The places of its pictures.
-    pub fn places(&self) -> &[Place]
+    pub(crate) fn places(&self) -> &[Place]
         ensures { result.now ≡ self.now.places.items }
     {
         self.places.as_slice()
     }
 
     /// The text of each place, as it stands.
-    pub fn texts(&self) -> &[String]
+    pub(crate) fn texts(&self) -> &[String]
         ensures { result.now ≡ self.now.texts.items }
     {
         self.texts.as_slice()
     }
 
     /// Draws the machine behind an event. The texts of the picture before come back.
-    pub fn advance<M: PictureMachine>(
+    pub(crate) fn advance<M: PictureMachine>(
         &mut self,
         alloc: Global,
         machine: &M,

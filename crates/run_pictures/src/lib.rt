@@ -26,6 +26,6 @@ pub use cells::text_at;
 pub use drawing::Form;
 pub use drawn::MOST_EVENTS;
 pub use machine::{Extent, PictureMachine};
-pub use place::{Place, places_of};
+pub use place::Place;
 pub use show::{ShowFault, show_text};
 pub use signal::Signal;

@@ -14,7 +14,7 @@ use std::alloc::{AllocError, Global};
 
 /// A page, up to the step that was drawn last.
 #[derive(Drop)]
-pub struct Page {
+pub(crate) struct Page {
     film: Film,
     text: String,
 }
@@ -110,7 +110,7 @@ fn push_event(text: &mut String, step: &Step) -> Result<(), AllocError>
 
 impl Page {
     /// The page of a machine before its first event.
-    pub fn new<M: PictureMachine>(alloc: Global, machine: &M) -> Result<Page, AllocError>
+    pub(crate) fn new<M: PictureMachine>(alloc: Global, machine: &M) -> Result<Page, AllocError>
         ensures { IfOk result (λ page. pages.PageOpens PAGE_HEAD.now (M.state machine.now) page) }
     {
         let film = Film::new(alloc, machine)?;
@@ -122,7 +122,7 @@ impl Page {
     }
 
     /// Draws a step, behind which the machine stands.
-    pub fn draw<M: PictureMachine>(
+    pub(crate) fn draw<M: PictureMachine>(
         &mut self,
         alloc: Global,
         machine: &M,
@@ -137,7 +137,7 @@ impl Page {
     }
 
     /// The whole text.
-    pub fn finish(self) -> Result<String, AllocError>
+    pub(crate) fn finish(self) -> Result<String, AllocError>
         ensures { IfOk result (λ text. string_bytes text ≡ string_bytes self.text ++ PAGE_END.now) }
     {
         let mut text = self.text;

@@ -2,7 +2,7 @@
 //! The script puts texts into places, and computes no state.
 
 /// The page up to its data.
-pub const PAGE_HEAD: &str = "<!DOCTYPE html>
+pub(crate) const PAGE_HEAD: &str = "<!DOCTYPE html>
 <html lang='en'>
 <head>
 <meta charset='utf-8'>
@@ -84,7 +84,7 @@ window.onerror = (told) => { document.body.dataset.fault = String(told); };
 ";
 
 /// The page behind its data.
-pub const PAGE_END: &str = "];
+pub(crate) const PAGE_END: &str = "];
 const find = (id) => document.getElementById(id);
 const spots = places.map((name) => {
   const spot = document.createElement('div');

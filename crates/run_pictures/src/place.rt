@@ -1,18 +1,17 @@
 //! The places of a picture.
 ghost use Rattle.std.specs.Prelude.{◌≡◌, ◌*◌, ◌++◌, Some, OnOk, IfOk};
+ghost use Rattle.miss_registers.specs.declared.TheConstants.{MAX_WAITING};
 ghost use Rattle.run_pictures.specs.Extents.{fitted};
 ghost use Rattle.run_pictures.specs.Places as spots;
 ghost use Rattle.run_pictures.specs.declared.machine.Extent.{Extent as ExtentValue};
 
 use crate::machine::Extent;
+use miss_registers::MAX_WAITING;
 use std::alloc::{AllocError, Global};
 use std::fmt;
 
 /// The most words of memory that are drawn, from the first one on.
-pub const MOST_MEMORY: u32 = 256;
-
-/// The most loads that wait for a word.
-pub const MOST_LOADS: u32 = 4;
+pub(crate) const MOST_MEMORY: u32 = 256;
 
 /// A place of a picture: what of the machine is drawn there. Numbers count from 0.
 #[derive(Clone, Copy, PartialEq, Eq, Debug)]
@@ -69,9 +68,9 @@ impl fmt::Display for Place {
 
 // The loads that may wait for a word.
 fn push_loads(places: &mut Vec<Place>, slot: u32, i: u32) -> Result<(), AllocError>
-    ensures { OnOk result (places.new.items ≡ places.old.items ++ spots.of_each (spots.load_place slot i) MOST_LOADS) }
+    ensures { OnOk result (places.new.items ≡ places.old.items ++ spots.of_each (spots.load_place slot i) MAX_WAITING) }
 {
-    for place in 0..MOST_LOADS {
+    for place in 0..MAX_WAITING as u32 {
         places.push(Place::Load { slot, i, place })?;
     }
     Ok(())
@@ -228,7 +227,7 @@ fn push_memory(places: &mut Vec<Place>, extent: &Extent) -> Result<(), AllocErro
 /// words and waiting loads, the frames with their words, the input stack, the write queue, the commands
 /// and answers of each bank, the ready values, and the first 256 words of memory. `AllocError` says that
 /// there was too little memory.
-pub fn places_of(alloc: Global, extent: &Extent) -> Result<Vec<Place>, AllocError>
+pub(crate) fn places_of(alloc: Global, extent: &Extent) -> Result<Vec<Place>, AllocError>
     ensures { IfOk result (λ places. places.items ≡ spots.places_in extent.now) }
 {
     let mut places = Vec::new(alloc);

@@ -11,7 +11,7 @@ use std::alloc::{AllocError, Global};
 
 /// What an event did, or why it didn't, in words. The machine stands behind the event: a refusal, and
 /// an event that found nothing to do, left it as it was.
-pub fn words_of<M: PictureMachine>(
+pub(crate) fn words_of<M: PictureMachine>(
     alloc: Global,
     machine: &M,
     before: Before,

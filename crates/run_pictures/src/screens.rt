@@ -123,14 +123,14 @@ fn push_head(screen: &mut String, step: &Step) -> Result<(), AllocError>
 
 /// Screens, up to that of the step that was drawn last.
 #[derive(Drop)]
-pub struct Screens {
+pub(crate) struct Screens {
     film: Film,
     text: String,
 }
 
 impl Screens {
     /// The screen of a machine before its first event.
-    pub fn new<M: PictureMachine>(alloc: Global, machine: &M) -> Result<Screens, AllocError>
+    pub(crate) fn new<M: PictureMachine>(alloc: Global, machine: &M) -> Result<Screens, AllocError>
         ensures { IfOk result (λ first. screens.ScreensOpen (M.state machine.now) first) }
     {
         let film = Film::new(alloc, machine)?;
@@ -140,7 +140,7 @@ impl Screens {
     }
 
     /// Draws a step, behind which the machine stands.
-    pub fn draw<M: PictureMachine>(
+    pub(crate) fn draw<M: PictureMachine>(
         &mut self,
         alloc: Global,
         machine: &M,
@@ -161,7 +161,7 @@ impl Screens {
     }
 
     /// The whole text.
-    pub fn finish(self) -> String
+    pub(crate) fn finish(self) -> String
         ensures { string_bytes result ≡ string_bytes self.text }
     {
         self.text

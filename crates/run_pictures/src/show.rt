@@ -16,7 +16,7 @@ pub enum ShowFault {
     #[error("{0}")]
     Trace(TraceFault),
     /// The trace has more than 10,000 events.
-    #[error("too many events: 10000 at most are shown")]
+    #[error("too many events: {most} at most are shown", most = MOST_EVENTS)]
     TooManyEvents,
     /// There was too little memory.
     #[error("out of memory")]

@@ -142,8 +142,9 @@ fn push_banks(signals: &mut Vec<Signal>, extent: &Extent) -> Result<(), AllocErr
     Ok(())
 }
 
-/// The signals of a machine, in the order in which they are declared.
-pub fn signals_of(alloc: Global, extent: &Extent) -> Result<Vec<Signal>, AllocError>
+/// The signals of a machine, in the order in which they are declared. `AllocError` says that there was
+/// too little memory.
+pub(crate) fn signals_of(alloc: Global, extent: &Extent) -> Result<Vec<Signal>, AllocError>
     ensures { IfOk result (λ signals. signals.items ≡ waves.signals_in extent.now) }
 {
     let mut signals = Vec::new(alloc);

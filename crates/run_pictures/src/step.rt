@@ -10,20 +10,20 @@ use std::alloc::{AllocError, Global};
 
 /// One step of a run: an event that was made.
 #[derive(Drop)]
-pub struct Step {
+pub(crate) struct Step {
     /// Its number, counted from 1.
-    pub number: usize,
+    pub(crate) number: usize,
     /// The event.
-    pub event: Event,
+    pub(crate) event: Event,
     /// Its answer.
-    pub answer: Answer,
+    pub(crate) answer: Answer,
     /// What it did, or why it didn't, in words.
-    pub words: String,
+    pub(crate) words: String,
 }
 
 impl Step {
     /// The step of an event with its answer. The machine stands behind it.
-    pub fn new<M: PictureMachine>(
+    pub(crate) fn new<M: PictureMachine>(
         alloc: Global,
         machine: &M,
         number: usize,

@@ -112,7 +112,7 @@ fn push_changes(
 
 /// A waveform, up to the event that was drawn last.
 #[derive(Drop)]
-pub struct Waveform {
+pub(crate) struct Waveform {
     signals: Vec<Signal>,
     values: Vec<u32>,
     text: String,
@@ -120,7 +120,7 @@ pub struct Waveform {
 
 impl Waveform {
     /// The waveform of a machine before its first event.
-    pub fn new<M: PictureMachine>(alloc: Global, machine: &M) -> Result<Waveform, AllocError>
+    pub(crate) fn new<M: PictureMachine>(alloc: Global, machine: &M) -> Result<Waveform, AllocError>
         ensures { IfOk result (λ wave. waves.WaveOpens (M.state machine.now) wave) }
     {
         let signals = signals_of(alloc, &machine.extent())?;
@@ -137,7 +137,7 @@ impl Waveform {
     }
 
     /// Draws a step, behind which the machine stands.
-    pub fn draw<M: PictureMachine>(
+    pub(crate) fn draw<M: PictureMachine>(
         &mut self,
         alloc: Global,
         machine: &M,
@@ -161,7 +161,7 @@ impl Waveform {
     }
 
     /// The whole text.
-    pub fn finish(self) -> String
+    pub(crate) fn finish(self) -> String
         ensures { string_bytes result ≡ string_bytes self.text }
     {
         self.text
