@@ -13,7 +13,7 @@ use miss_registers::{FieldView, RegisterFile, RegisterView};
 use std::alloc::Global;
 use std::process::Abort;
 use std::test::Fail;
-use write_queue::WriteQueue;
+use write_queue::{Queued, WriteQueue};
 
 type Unit = CacheUnit<1, 4, 2, 2>;
 
@@ -133,6 +133,22 @@ fn makers(rt: HostRuntime) -> Result<(), Fail> {
     let unit = unit_of(alloc, &SMALL_SHAPE)?;
     assert!(rt; unit.clean());
     makers_refuse(&rt, alloc)
+}
+
+#[test]
+fn block_that_waits_in_the_write_queue(rt: HostRuntime) -> Result<(), Fail> {
+    let mut queue = WriteQueue::new(rt.alloc(), 4)?;
+    queue.push(Queued {
+        block: 1,
+        at: 5,
+        word: word(5, 0, 0, 0),
+        lanes: Lanes::LANE_0,
+    });
+    assert!(rt; queue.holds_block(1));
+    assert!(rt; !queue.holds_block(0));
+    queue.pop();
+    assert!(rt; !queue.holds_block(1));
+    Ok(())
 }
 
 #[test]

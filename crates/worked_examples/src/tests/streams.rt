@@ -1,7 +1,7 @@
 //! The examples of lines, and of readers and writers that fail.
 
-use super::fixture::{STORED_COUNTS, STORED_INPUT, STORED_OUTPUT, default_machine};
-use flat_model::{Event, Lanes, Word};
+use super::fixture::{STORED_COUNTS, STORED_INPUT, STORED_OUTPUT, default_machine, numbered};
+use flat_model::{Answer, Cause, Event, Lanes, Word};
 use machine_core::Machine;
 use std::alloc::Global;
 use std::io;
@@ -9,7 +9,8 @@ use std::io::{Read, Write};
 use std::process::Abort;
 use std::test::Fail;
 use trace_text::{
-    Line, LineFault, Pair, TraceFault, check_text, read_pair, read_requests, serve_text,
+    Line, LineFault, Pair, TraceFault, answer_text, check_text, read_line, read_pair,
+    read_requests, serve_text,
 };
 
 /// Gives its bytes, at most so many at a time, and then fails, or ends.
@@ -69,6 +70,38 @@ impl Write for Closed {
     fn flush(&mut self) -> io::Result<()> {
         Ok(())
     }
+}
+
+#[test]
+fn single_lines(rt: HostRuntime) -> Result<(), Fail> {
+    let lines = [
+        ("drain\n", Ok(Line::Event(Event::Drain))),
+        ("reg 3\n", Ok(Line::Register(3))),
+        ("drain", Err(LineFault::NotEnded)),
+        ("drain \n", Err(LineFault::Field)),
+        (" drain\n", Err(LineFault::Unknown)),
+    ];
+    for (text, said) in lines {
+        assert_eq!(rt; read_line(text.as_bytes()), said, "{text}");
+    }
+    Ok(())
+}
+
+#[test]
+fn single_answers(rt: HostRuntime) -> Result<(), Fail> {
+    let value = Answer::Value {
+        tag: 7,
+        word: numbered(5),
+    };
+    let answers = [
+        (Answer::Accepted, "accepted"),
+        (Answer::Refused(Cause::QueueFull), "refused 9"),
+        (value, "value 7 05000000"),
+    ];
+    for (answer, text) in answers {
+        assert_eq!(rt; answer_text(answer).as_bytes(), text.as_bytes());
+    }
+    Ok(())
 }
 
 #[test]
