@@ -195,6 +195,38 @@ fn shape_files(rt: HostRuntime) -> Result<(), Fail> {
     ends(&rt, &behind, "", unreadable)
 }
 
+// The input stack of the program's machine has four places.
+#[test]
+fn fifth_word_finds_a_full_stack(rt: HostRuntime) -> Result<(), Fail> {
+    let input = "prefetch 0
+prefetch 4
+serve 0
+serve 0
+serve 1
+serve 2
+serve 3
+arrive 0 0
+arrive 1 0
+arrive 2 0
+arrive 3 0
+arrive 0 0
+";
+    let output = "prefetch 0 -> accepted
+prefetch 4 -> accepted
+serve 0 -> moved
+serve 0 -> moved
+serve 1 -> moved
+serve 2 -> moved
+serve 3 -> moved
+arrive 0 0 -> moved
+arrive 1 0 -> moved
+arrive 2 0 -> moved
+arrive 3 0 -> moved
+arrive 0 0 -> refused 12
+";
+    ends(&rt, &["run"], input, (0, output, ""))
+}
+
 #[test]
 fn empty_inputs(rt: HostRuntime) -> Result<(), Fail> {
     ends(&rt, &["run"], "", (0, "", ""))?;

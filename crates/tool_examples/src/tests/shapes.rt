@@ -2,7 +2,7 @@
 
 use super::program::ends;
 use super::sweeps::with_registers;
-use flat_model::ShapeField;
+use flat_model::{Shape, ShapeField};
 use shape_files::{ShapeFault, ToolShape, read_shape, shape_of_table};
 use std::fs;
 use std::process::Abort;
@@ -39,7 +39,18 @@ fn refused_shapes_are_told<R: Abort + AllocGlobal + Files + Threads + Sync>(
 
 #[test]
 fn shape_texts(rt: HostRuntime) -> Result<(), Fail> {
-    let defaults = ToolShape::default();
+    let defaults = ToolShape {
+        shape: Shape {
+            words: 64,
+            sets: 4,
+            banks: 4,
+            bank_queue: 8,
+            write_queue: 8,
+            replies: 8,
+        },
+        ways: 2,
+        regs: 4,
+    };
     assert_eq!(rt; read_shape(rt.alloc(), ""), Ok(defaults));
     let two_registers = ToolShape {
         shape: defaults.shape,
