@@ -44,18 +44,14 @@ pub fn tool<R: AllocGlobal + Files + Threads + Sync, I: Read, O: Write, E: Write
 
 // Writes a text to the output.
 fn put<O: Write, D: fmt::Display + Drop>(output: &mut O, text: D) -> Result<(), JobFault> {
-    match write!(output, "{text}") {
-        Ok(()) => Ok(()),
-        Err(_) => Err(JobFault::Trace(TraceFault::Write)),
-    }
+    write!(output, "{text}").map_err(|_| JobFault::Trace(TraceFault::Write))
 }
 
 // Sees what was written through to its end.
 fn finish<O: Write>(output: &mut O) -> Result<(), JobFault> {
-    match output.flush() {
-        Ok(()) => Ok(()),
-        Err(_) => Err(JobFault::Trace(TraceFault::Write)),
-    }
+    output
+        .flush()
+        .map_err(|_| JobFault::Trace(TraceFault::Write))
 }
 
 // Does what the words ask for.

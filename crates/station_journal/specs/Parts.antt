@@ -9,6 +9,7 @@ use Rattle.station_journal.specs.declared.journal.Source.{Source}
 use Rattle.station_journal.specs.declared.journal.Source.TheVariants as sources
 use Rattle.station_journal.specs.declared.journal.Entry.{Entry}
 use Rattle.station_journal.specs.declared.journal.Entry.TheVariants.{Step, Ended}
+use Rattle.station_journal.specs.declared.asks.TheConstants.{PORT_TAGS}
 use Rattle.station_journal.specs.declared.asks.Ask.{Ask}
 use Rattle.station_journal.specs.declared.asks.Ask.TheVariants.{Load, Store, Prefetch, Evict, Done}
 use Rattle.station_journal.specs.declared.asks.Told.{Told}
@@ -16,7 +17,7 @@ use Rattle.station_journal.specs.declared.asks.Told.TheVariants.{Accepted, Refus
 
 -- the ask that an event of port p came from
 abbrev pub ask_of : ℕ → Event → List Ask
-ask_of p (events.Load tag at) = Load (tag - p * 256) at ∷ []
+ask_of p (events.Load tag at) = Load (tag - p * PORT_TAGS) at ∷ []
 ask_of p (events.Store at word lanes) = Store at word lanes ∷ []
 ask_of p (events.Prefetch at) = Prefetch at ∷ []
 ask_of p (events.Evict block) = Evict block ∷ []
@@ -41,7 +42,7 @@ verdict answer = []
 
 -- what port p is told of a value
 abbrev pub value_for : ℕ → Answer → List Told
-value_for p (answers.Value tag word) = if tag / 256 == p then Value (tag - p * 256) word ∷ [] else []
+value_for p (answers.Value tag word) = if tag / PORT_TAGS == p then Value (tag - p * PORT_TAGS) word ∷ [] else []
 value_for p answer = []
 
 abbrev pub told_by : ℕ → Source → Answer → List Told
@@ -69,7 +70,7 @@ IsVerdict answer = IsTrue (is_verdict answer)
 -- the events that a source makes, in a station with so many ports: an ask is of a port of the
 -- station, and a load stands under a tag of its port
 abbrev pub is_event_of : ℕ → Source → Event → Bool
-is_event_of ports (sources.Ask port) (events.Load tag at) = nat_lt port ports && (tag / 256 == port)
+is_event_of ports (sources.Ask port) (events.Load tag at) = nat_lt port ports && (tag / PORT_TAGS == port)
 is_event_of ports (sources.Ask port) (events.Store at word lanes) = nat_lt port ports
 is_event_of ports (sources.Ask port) (events.Prefetch at) = nat_lt port ports
 is_event_of ports (sources.Ask port) (events.Evict block) = nat_lt port ports

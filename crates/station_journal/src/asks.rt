@@ -2,6 +2,9 @@
 
 use flat_model::{Cause, Lanes, Word};
 
+/// How many tags a port has: the core's tag of a port's load is `port * PORT_TAGS + tag`.
+pub const PORT_TAGS: u16 = 256;
+
 /// What a port asks of the cache.
 #[derive(Clone, Copy, PartialEq, Eq, Debug)]
 pub enum Ask {

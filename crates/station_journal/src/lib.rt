@@ -5,5 +5,5 @@ mod asks;
 mod journal;
 pub mod laws;
 
-pub use asks::{Ask, Told};
+pub use asks::{Ask, PORT_TAGS, Told};
 pub use journal::{Entry, SideFault, Source};

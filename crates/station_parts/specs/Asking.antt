@@ -9,7 +9,7 @@ use Rattle.cache_unit.specs.State.{Sizes, Cache, UnitState}
 use Rattle.cache_unit.specs.Steps.{Stepped, load_step, store_step, prefetch_step, evict_step}
 use Rattle.station_journal.specs.declared.asks.Ask.{Ask}
 use Rattle.station_journal.specs.declared.asks.Ask.TheVariants.{Load, Store, Prefetch, Evict, Done}
-use Rattle.station_parts.specs.declared.asking.TheConstants.{PORT_TAGS}
+use Rattle.station_journal.specs.declared.asks.TheConstants.{PORT_TAGS}
 use Rattle.station_parts.specs.declared.row.Line.{Line}
 use Rattle.station_parts.specs.Rows.{sent_at, free_at, OnlySent}
 

@@ -27,7 +27,7 @@ use Rattle.station_journal.specs.declared.journal.Entry.TheVariants.{Step, Ended
 use Rattle.station_journal.specs.declared.journal.SideFault.{SideFault}
 use Rattle.station_journal.specs.declared.journal.SideFault.TheVariants.{Uncalled, Stray}
 use Rattle.station_journal.specs.Parts.{asks_of, told_of}
-use Rattle.station_parts.specs.declared.asking.TheConstants.{PORT_TAGS}
+use Rattle.station_journal.specs.declared.asks.TheConstants.{PORT_TAGS}
 use Rattle.station_parts.specs.declared.parts.Stepped.{Stepped}
 use Rattle.station_parts.specs.declared.parts.Stepped.TheVariants.{Did, Idle, JournalFull, Faulted}
 use Rattle.station_parts.specs.Rows.{only}

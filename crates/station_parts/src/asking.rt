@@ -3,6 +3,7 @@ ghost use Rattle.std.specs.Prelude.{◌≡◌, ◌≢◌, ◌<◌, ◌+◌, ◌*
 ghost use Rattle.station_parts.specs.declared.make.TheConstants.{MAX_PORTS};
 ghost use Rattle.station_parts.specs.Rows.{free_at};
 ghost use Rattle.station_journal.specs.Parts.{verdict, is_event_of, IsVerdict};
+ghost use Rattle.station_journal.specs.declared.asks.TheConstants.{PORT_TAGS};
 ghost use Rattle.station_journal.specs.declared.asks.Told.TheVariants.{Value};
 ghost use Rattle.station_parts.specs.Asking.{event_for, asked_step, MakesStep};
 ghost use Rattle.station_parts.specs.SideSteps.{EventForms};
@@ -10,10 +11,7 @@ ghost use Rattle.station_parts.specs.SideSteps.{EventForms};
 use crate::lines::Row;
 use cache_unit::{CacheUnit, Request};
 use flat_model::{Answer, Event, Word};
-use station_journal::{Ask, Source, Told};
-
-/// How many tags a port has: the core's tag of a port's load is `port * PORT_TAGS + tag`.
-pub const PORT_TAGS: u16 = 256;
+use station_journal::{Ask, PORT_TAGS, Source, Told};
 
 // The tag under which the core knows a port's load.
 fn core_tag(port: u32, tag: u8) -> u16

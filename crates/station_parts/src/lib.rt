@@ -18,11 +18,10 @@ mod row;
 mod side;
 mod views;
 
-pub use asking::PORT_TAGS;
 pub use bank::BankSide;
 pub use inspect::audit;
 pub use make::{MAX_ENTRIES, MAX_PORTS, station};
 pub use parts::{Audit, CacheSide, Ring, Station, Stepped};
 pub use port::{ASK_PLACES, Port, TELLING_PLACES};
 pub use raw::RawBank;
-pub use station_journal::{Ask, Entry, SideFault, Source, Told};
+pub use station_journal::{Ask, Entry, PORT_TAGS, SideFault, Source, Told};

@@ -4,11 +4,11 @@ ghost use Rattle.station_parts.specs.Ids.{cache_id};
 ghost use Rattle.station_parts.specs.SideState.{state_of};
 ghost use Rattle.station_parts.specs.SideSteps.{has_work, refusal_of, StepMakes};
 
-use crate::asking::{PORT_TAGS, answer_ask, event_for, value_told, verdict_of};
+use crate::asking::{answer_ask, event_for, value_told, verdict_of};
 use crate::ends::{look_at, pop_at, push_at};
 use crate::parts::{CacheSide, Stepped};
 use flat_model::{Answer, Event};
-use station_journal::{Ask, Entry, SideFault, Source};
+use station_journal::{Ask, Entry, PORT_TAGS, SideFault, Source};
 
 impl<const WAYS: usize, const WORDS: usize, const REGS: usize, const DEPTH: usize> CacheSide<
     WAYS,
