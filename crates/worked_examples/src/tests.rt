@@ -2,6 +2,7 @@
 
 mod banks;
 mod callers;
+mod faults;
 mod fixture;
 mod input_end;
 mod machine;

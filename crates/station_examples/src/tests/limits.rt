@@ -79,3 +79,15 @@ fn done_in_a_script(rt: HostRuntime) -> Result<(), Fail> {
     );
     Ok(())
 }
+
+#[test]
+fn runs_say_what_they_lack(rt: HostRuntime) -> Result<(), Fail> {
+    let faults = [
+        (RunFault::TurnLimit, "turn limit"),
+        (RunFault::OutOfMemory, "out of memory"),
+    ];
+    for (fault, text) in faults {
+        assert_eq!(rt; format!(in rt.alloc(); "{fault}")?.as_str(), text);
+    }
+    Ok(())
+}

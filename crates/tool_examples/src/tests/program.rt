@@ -3,6 +3,7 @@
 use super::stored::{STORED_INPUT, STORED_OUTPUT};
 use kroft_command::tool;
 use std::fs;
+use std::io::Read;
 use std::process::Abort;
 use std::rt::Files;
 use std::test::Fail;
@@ -15,10 +16,20 @@ pub fn ends<R: Abort + AllocGlobal + Files + Threads + Sync>(
     input: &str,
     wanted: (u8, &str, &str),
 ) -> Result<(), Fail> {
+    ends_over(rt, words, &mut input.as_bytes(), wanted)
+}
+
+/// Asserts the same over a reader.
+pub fn ends_over<R: Abort + AllocGlobal + Files + Threads + Sync, I: Read>(
+    rt: &R,
+    words: &[&str],
+    input: &mut I,
+    wanted: (u8, &str, &str),
+) -> Result<(), Fail> {
     let (status, output, errors) = wanted;
     let mut written = Vec::new(rt.alloc());
     let mut told = Vec::new(rt.alloc());
-    let ended = tool(rt, words, &mut input.as_bytes(), &mut written, &mut told);
+    let ended = tool(rt, words, input, &mut written, &mut told);
     assert_eq!(rt; std::str::from_utf8(told.as_slice())?, errors);
     assert_eq!(rt; std::str::from_utf8(written.as_slice())?, output);
     assert_eq!(rt; ended, status);

@@ -1,9 +1,13 @@
-//! The largest shape that the program can make, long shape files, and sweeps and jobs of many lines.
+//! The largest shape that the program can make, long shape files, sweeps and jobs of many lines, and the room for
+//! what is read.
 
+use super::program::ends_over;
 use flat_model::Event;
 use kroft_command::tool;
 use register_sweeps::{OpenGate, Row, sweep, sweep_row};
 use shape_files::read_shape;
+use std::io;
+use std::io::Read;
 use std::process::Abort;
 use std::rt::Files;
 use std::test::Fail;
@@ -111,4 +115,41 @@ regs 8 accepted 0 denied 100000 stalled 0 waited 0 pumps 0 values 0
     let table = "rounds 100001 accepted 0 denied 100000 hits 0 joins 0 misses 0 stalled 0 \
         lost 3:0 4:0 5:0 7:0 8:0 9:0 10:0 values 0 mean 0.00 longest 0 registers 0 written 0\n";
     writes(&rt, &["drive", "--summary"], trace.as_str(), table)
+}
+
+/// A text that is a page again and again. Each read gives one page.
+#[derive(Drop)]
+struct Repeated<'a> {
+    page: &'a [u8],
+    pages: u32,
+    /// How many bytes the largest read had room for.
+    room: usize,
+}
+
+impl Read for Repeated<'_> {
+    fn read(&mut self, buf: &mut [u8]) -> io::Result<usize> {
+        self.room = self.room.max(buf.len());
+        if self.pages == 0 {
+            return Ok(0);
+        }
+        self.pages -= 1;
+        let n = self.page.len().min(buf.len());
+        buf[..n].copy_from_slice(&self.page[..n]);
+        Ok(n)
+    }
+}
+
+// A page of 2,176 bytes has to fit at once; what is read is let go before the next one.
+#[test]
+fn one_buffer_of_4096_bytes(rt: HostRuntime) -> Result<(), Fail> {
+    let page = "drain -> nothing\n".repeat(rt.alloc(), 128)?;
+    let mut text = Repeated {
+        page: page.as_bytes(),
+        pages: 1_000,
+        room: 0,
+    };
+    let wanted = (0, "flat run, 128000 steps\n", "");
+    ends_over(&rt, &["check"], &mut text, wanted)?;
+    assert_eq!(rt; text.room, 4_096);
+    Ok(())
 }

@@ -171,3 +171,20 @@ fn sweep_of_no_turns(rt: HostRuntime) -> Result<(), Fail> {
     assert!(rt; matches!(stopped, Err(SweepFault::TurnLimit)));
     Ok(())
 }
+
+#[test]
+fn sweeps_say_what_they_lack(rt: HostRuntime) -> Result<(), Fail> {
+    let field = ShapeField::Ways;
+    let faults = [
+        (
+            SweepFault::BadShape { place: 1, field },
+            "shape 1: Ways is out of range",
+        ),
+        (SweepFault::TurnLimit, "turn limit"),
+        (SweepFault::OutOfMemory, "out of memory"),
+    ];
+    for (fault, text) in faults {
+        assert_eq!(rt; format!(in rt.alloc(); "{fault}")?.as_str(), text);
+    }
+    Ok(())
+}
