@@ -246,6 +246,32 @@ fn wide_labels_keep_their_column(rt: HostRuntime) -> Result<(), Fail> {
     Ok(())
 }
 
+/// Word 255 comes to its bank and is drawn; so does word 256, which isn't.
+#[test]
+fn the_first_256_words_of_memory_are_drawn(rt: HostRuntime) -> Result<(), Fail> {
+    let trace = "store 255 1111 01020304
+evict 63
+drain
+serve 3
+serve 3
+store 256 1111 05060708
+evict 64
+drain
+serve 0
+serve 0
+serve 0
+";
+    let written = shown(&rt, "--text", "words = 512\n", trace)?;
+    let drawn = [
+        "\n* memory 255         01020304\n",
+        "\n* bank 0 command 0   write place 64: 1111 05060708\n",
+        "\n* bank 0 command 0   -\n",
+    ];
+    has_each(&rt, written.as_str(), &drawn);
+    assert!(rt; !written.as_str().contains("memory 256"));
+    Ok(())
+}
+
 /// One register and one bank: four reads wait at it, one is served, and its word comes.
 const WAVEFORM: &str = "$timescale 1 ns $end
 $scope module kroft $end
