@@ -174,3 +174,30 @@ fn a_trace_named_as_a_word_is_refused(rt: HostRuntime) -> Result<(), Fail> {
     }
     Ok(())
 }
+
+#[test]
+fn words_that_do_not_go_together_are_refused(rt: HostRuntime) -> Result<(), Fail> {
+    let refusals: [(&[&str], &str); 3] = [
+        (
+            &["--shape", "a", "run", "--shape", "b"],
+            "the argument '--shape <FILE>' cannot be used multiple times",
+        ),
+        (
+            &["--shape", "a", "requests", "--from", "din"],
+            "the argument '--shape <FILE>' cannot be used with 'requests': it takes '--words <N>'",
+        ),
+        (
+            &["requests", "--from", "din", "--words", "6"],
+            "invalid value for '--words <N>': it is no multiple of 4",
+        ),
+    ];
+    for (words, why) in refusals {
+        let mut output = Vec::new(rt.alloc());
+        let mut errors = Vec::new(rt.alloc());
+        let status = tool(&rt, words, &mut &b""[..], &mut output, &mut errors);
+        assert_eq!(rt; (status, output.len()), (2, 0));
+        let told = std::str::from_utf8(errors.as_slice())?;
+        assert!(rt; told.contains(why), "{why}");
+    }
+    Ok(())
+}

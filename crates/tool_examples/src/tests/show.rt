@@ -420,6 +420,51 @@ fn a_full_write_queue_and_its_reason(rt: HostRuntime) -> Result<(), Fail> {
     Ok(())
 }
 
+/// Whether the words of block 1 have come makes the difference between a hit and a join.
+#[test]
+fn each_request_and_what_it_found(rt: HostRuntime) -> Result<(), Fail> {
+    let stories = [
+        (
+            "load 1 4\n",
+            "the word is on its way: the load waits for it",
+            "a hit: the value stands ready",
+        ),
+        (
+            "store 5 1000 01000000\n",
+            "the word is on its way: the code keeps the stored bytes from it",
+            "a hit: the frame's word is changed",
+        ),
+        (
+            "prefetch 6\n",
+            "the word is on its way already",
+            "the word is in its frame already",
+        ),
+    ];
+    for (request, joined, hit) in stories {
+        for (comes, words) in [("", joined), (BLOCK_COMES, hit)] {
+            let trace = format!(in rt.alloc(); "prefetch 4\n{comes}{request}")?;
+            let screens = shown(&rt, "--text", "banks = 1\n", trace.as_str())?;
+            assert!(rt; ends_in_words(screens.as_str(), words), "{words}");
+        }
+    }
+    Ok(())
+}
+
+/// Bank 1 has a read of word 5 before its bytes are to be written there.
+#[test]
+fn where_a_drain_leads(rt: HostRuntime) -> Result<(), Fail> {
+    let stories = [
+        ("", "the bytes 0100 of word 5 go to bank 1"),
+        ("bank_queue = 1\n", "bank 1 has no room for a command"),
+    ];
+    for (shape, words) in stories {
+        let trace = "store 5 0100 00aa0000\nevict 1\ndrain\n";
+        let screens = shown(&rt, "--text", shape, trace)?;
+        assert!(rt; ends_in_words(screens.as_str(), words), "{words}");
+    }
+    Ok(())
+}
+
 #[test]
 fn what_finds_nothing_to_do(rt: HostRuntime) -> Result<(), Fail> {
     let stories = [
