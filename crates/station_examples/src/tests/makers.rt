@@ -1,7 +1,7 @@
 //! Stations that can't be made, and the largest one that can.
 use super::SHAPE;
 use flat_model::{Answer, Event, MakeFault, Shape, ShapeField, Word};
-use ring_station::{Ask, Entry, Source, Stepped, Told, station};
+use ring_station::{Ask, Entry, Source, Station, Stepped, Told, station};
 use std::alloc::Global;
 use std::test::Fail;
 
@@ -35,26 +35,32 @@ const LARGEST: Shape = Shape {
 // The last port asks for the last word under its last tag, 255, which the core knows as 15 * 256 + 255.
 #[test]
 fn the_largest_station(rt: HostRuntime) -> Result<(), Fail> {
-    let mut all = station::<8, 16, 16, 16>(rt.alloc(), LARGEST, 16, 1_048_576)?;
+    let Station {
+        mut cache,
+        mut ports,
+        mut banks,
+    } = station::<8, 16, 16, 16>(rt.alloc(), LARGEST, 16, 1_048_576)?;
+    let mut port = ports.remove(15);
+    let mut bank = banks.remove(15);
     let at = 1_048_575;
-    assert_eq!(rt; all.ports[15].offer(Ask::Load { tag: 255, at }), Ok(()));
-    assert_eq!(rt; all.cache.step(Source::Ask(15)), Stepped::Did);
-    assert_eq!(rt; all.banks[15].step(), Stepped::Did);
+    assert_eq!(rt; port.offer(Ask::Load { tag: 255, at }), Ok(()));
+    assert_eq!(rt; cache.step(Source::Ask(15)), Stepped::Did);
+    assert_eq!(rt; bank.step(), Stepped::Did);
     for source in [Source::Word(15), Source::Stack(0), Source::Reply(0)] {
-        assert_eq!(rt; all.cache.step(source), Stepped::Did);
+        assert_eq!(rt; cache.step(source), Stepped::Did);
     }
     let asked = Entry::Step {
         source: Source::Ask(15),
         event: Event::Load { tag: 4_095, at },
         answer: Answer::Accepted,
     };
-    assert_eq!(rt; all.cache.entry(0), Some(asked));
+    assert_eq!(rt; cache.entry(0), Some(asked));
     let value = Told::Value {
         tag: 255,
         word: Word::default(),
     };
     for told in [Told::Accepted, value] {
-        assert_eq!(rt; all.ports[15].take(), Some(told));
+        assert_eq!(rt; port.take(), Some(told));
     }
     Ok(())
 }
