@@ -56,7 +56,7 @@ making_files() {
 # the lines of crates.txt.
 sum_of() {
   {
-    crates_below "$1" | while IFS= read -r crate; do grep "^$crate[ :]" crates.txt; done
+    crates_below "$1" | while IFS= read -r crate; do grep "^${crate}[ :]" crates.txt || :; done
     # (unquoted: names without spaces; not each crate has each folder)
     { find $(source_folders "$1") $(making_files "$1") -type f -print0 2>/dev/null || :; } | LC_ALL=C sort -z | xargs -0 sha256sum
   } | sha256sum | cut -d ' ' -f 1
