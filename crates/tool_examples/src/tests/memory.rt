@@ -2,28 +2,12 @@
 //! and nothing else, nothing has changed, and a second call gives the answer of its example. With
 //! memory, as in a whole run of the tests, the first call gives that answer.
 
-use super::stored::{STORED_INPUT, STORED_OUTPUT};
 use super::sweeps::{REQUESTS, row_of_three_loads, with_registers};
-use flat_model::ShapeField;
 use kroft_command::tool;
 use register_sweeps::{OpenGate, SweepFault, sweep, sweep_rounds, sweep_row};
 use shape_files::{ShapeFault, read_shape};
 use std::io::Cursor;
 use std::test::Fail;
-
-#[test]
-fn a_bad_shape_comes_before_memory(rt: HostRuntime) -> Result<(), Fail> {
-    let mut three_ways = with_registers(2);
-    three_ways.ways = 3;
-    let shapes = [with_registers(1), three_ways];
-    let refused = sweep(&rt, rt.alloc(), &REQUESTS, &shapes, 1_000, &OpenGate);
-    let fault = SweepFault::BadShape {
-        place: 1,
-        field: ShapeField::Ways,
-    };
-    assert!(rt; matches!(refused, Err(found) if found == fault));
-    Ok(())
-}
 
 #[test]
 fn a_shape_text_may_find_no_memory(rt: HostRuntime) -> Result<(), Fail> {
@@ -49,9 +33,8 @@ fn a_row_may_find_no_memory(rt: HostRuntime) -> Result<(), Fail> {
 
 #[test]
 fn a_sweep_may_find_no_memory(rt: HostRuntime) -> Result<(), Fail> {
-    let alloc = rt.alloc();
     let shapes = [with_registers(1), with_registers(2)];
-    match sweep(&rt, alloc, &REQUESTS, &shapes, 1_000_000, &OpenGate) {
+    match sweep(&rt, rt.alloc(), &REQUESTS, &shapes, 1_000_000, &OpenGate) {
         Ok(rows) => {
             let wanted = [row_of_three_loads(1), row_of_three_loads(2)];
             assert_eq!(rt; rows.as_slice(), &wanted[..]);
@@ -70,6 +53,32 @@ fn a_sweep_in_rounds_may_find_no_memory(rt: HostRuntime) -> Result<(), Fail> {
     }
     Ok(())
 }
+
+/// The stored run: a store comes between a load and its word.
+const STORED_INPUT: &str = "load 1 5
+store 5 1000 ff000000
+serve 1
+arrive 1 0
+process 0
+take 0
+load 2 5
+take 0
+reg 0
+settled
+";
+
+/// What the program's machine writes for it.
+const STORED_OUTPUT: &str = "load 1 5 -> accepted
+store 5 1000 ff000000 -> accepted
+serve 1 -> moved
+arrive 1 0 -> moved
+process 0 -> moved
+take 0 -> value 1 00000000
+load 2 5 -> accepted
+take 0 -> value 2 ff000000
+reg 0 -> V- 0000001 0002 01 [--- 0000 00000 0000 00000000] [--P 0000 00000 0000 00000000] [--- 0000 00000 0000 00000000] [--- 0000 00000 0000 00000000]
+settled -> no
+";
 
 /// The bytes that were written.
 fn written(stream: &Cursor<[u8; 1024]>) -> Option<&[u8]> {
