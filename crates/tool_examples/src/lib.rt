@@ -1,5 +1,5 @@
-//! The worked examples of shape files, of sweeps, of jobs, and of the program over its words and
-//! streams: what each gives, where memory is refused, and at its largest size.
+//! The worked examples of what no run of the program shows: values of the libraries that it is made
+//! of, streams that fail, threads that are held at gates, refused memory, and the largest sizes.
 #![tactic(auto)]
 
 #[cfg(test)]

@@ -1,14 +1,6 @@
-//! The examples, each under its name, and what they share.
+//! The examples, in tables.
 
-mod help;
-mod jobs;
-mod program;
-mod refusals;
-mod requests;
-mod rounds;
+mod memory;
 mod shapes;
-mod show;
-mod sizes;
-mod stored;
+mod streams;
 mod sweeps;
-mod turns;

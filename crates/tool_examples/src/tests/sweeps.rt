@@ -1,31 +1,87 @@
-//! The example of a sweep on threads.
+//! Sweeps on threads, in the order that a gate gives them, at their limits and at their largest sizes.
 
-use flat_model::{Event, ShapeField};
-use register_sweeps::{OpenGate, Row, SweepFault, SweepGate, sweep, sweep_row};
-use shape_files::ToolShape;
+use flat_model::Event;
+use register_sweeps::{OpenGate, Row, SweepFault, SweepGate, sweep, sweep_rounds, sweep_row};
+use shape_files::{ToolShape, read_shape};
 use std::alloc::Global;
+use std::fmt::Display;
 use std::process::Abort;
 use std::sync::atomic::{AtomicBool, AtomicU64, Ordering};
 use std::test::Fail;
 use std::thread::Threads;
 
-/// Holds the row at place 0 until the one at place 1 has ended.
+/// When a gate lets the thread of a row go on.
+#[derive(Clone, Copy)]
+enum Opens {
+    AtOnce,
+    /// For the row at place 0 when the one at place 1 has ended.
+    SecondFirst,
+    /// When both rows have asked.
+    BothThere,
+    /// At the ask of this number, counted from 1.
+    AtAsk(u64),
+}
+
+/// A gate for two rows, and what it has seen of them.
 #[derive(Drop)]
-pub struct SecondFirst {
+struct Gate {
+    opens: Opens,
+    asks: AtomicU64,
+    came: [AtomicBool; 2],
+    there: AtomicU64,
+    both_seen: AtomicU64,
     second_ended: AtomicBool,
 }
 
-impl SecondFirst {
-    pub fn new() -> SecondFirst {
-        SecondFirst {
+impl Gate {
+    fn new(opens: Opens) -> Gate {
+        Gate {
+            opens,
+            asks: AtomicU64::new(0),
+            came: [AtomicBool::new(false), AtomicBool::new(false)],
+            there: AtomicU64::new(0),
+            both_seen: AtomicU64::new(0),
             second_ended: AtomicBool::new(false),
+        }
+    }
+
+    /// At the first ask for a place, waits in it until there was one for the other place too.
+    fn meet(&self, place: usize) {
+        if place >= 2 || self.came[place].swap(true, Ordering::SeqCst) {
+            return;
+        }
+        self.there.fetch_add(1, Ordering::SeqCst);
+        for _ in 0..200_000_000u64 {
+            if self.there.load(Ordering::SeqCst) == 2 {
+                self.both_seen.fetch_add(1, Ordering::SeqCst);
+                break;
+            }
+        }
+    }
+
+    /// How many asks there were, if one of them is to open the gate; how many rows saw the other one
+    /// begin before they went on, if they wait for it.
+    fn seen(&self) -> u64 {
+        match self.opens {
+            Opens::AtAsk(_) => self.asks.load(Ordering::SeqCst),
+            Opens::BothThere => self.both_seen.load(Ordering::SeqCst),
+            Opens::AtOnce | Opens::SecondFirst => 0,
         }
     }
 }
 
-impl SweepGate for SecondFirst {
+impl SweepGate for Gate {
     fn may(&self, place: usize) -> bool {
-        place != 0 || self.second_ended.load(Ordering::SeqCst)
+        let before = self.asks.fetch_add(1, Ordering::SeqCst);
+        match self.opens {
+            Opens::AtOnce => true,
+            Opens::SecondFirst => place != 0 || self.second_ended.load(Ordering::SeqCst),
+            Opens::BothThere => {
+                self.meet(place);
+                true
+            }
+            Opens::AtAsk(ask) => before.saturating_add(1) == ask,
+        }
     }
 
     fn ended(&self, place: usize) {
@@ -33,47 +89,6 @@ impl SweepGate for SecondFirst {
             self.second_ended.store(true, Ordering::SeqCst);
         }
     }
-}
-
-/// Its first call for each place adds one to a count, and reads it in place until it is 2.
-#[derive(Drop)]
-pub struct BothThere {
-    came: [AtomicBool; 2],
-    there: AtomicU64,
-    read: [AtomicU64; 2],
-}
-
-impl BothThere {
-    pub fn new() -> BothThere {
-        BothThere {
-            came: [AtomicBool::new(false), AtomicBool::new(false)],
-            there: AtomicU64::new(0),
-            read: [AtomicU64::new(0), AtomicU64::new(0)],
-        }
-    }
-
-    /// Whether each row had begun before the other ended.
-    pub fn saw_both(&self) -> bool {
-        self.read[0].load(Ordering::SeqCst) == 2 && self.read[1].load(Ordering::SeqCst) == 2
-    }
-}
-
-impl SweepGate for BothThere {
-    fn may(&self, place: usize) -> bool {
-        if place < 2 && !self.came[place].swap(true, Ordering::SeqCst) {
-            self.there.fetch_add(1, Ordering::SeqCst);
-            for _ in 0..200_000_000u64 {
-                let there = self.there.load(Ordering::SeqCst);
-                self.read[place].store(there, Ordering::SeqCst);
-                if there == 2 {
-                    break;
-                }
-            }
-        }
-        true
-    }
-
-    fn ended(&self, _place: usize) {}
 }
 
 pub const REQUESTS: [Event; 3] = [
@@ -111,80 +126,143 @@ pub fn row_of_three_loads(regs: u32) -> Row {
     }
 }
 
-/// The rows of one thread.
-fn rows_in_turn(alloc: Global, shapes: &[ToolShape]) -> Result<Vec<Row>, Fail> {
-    let mut rows = Vec::new(alloc);
-    for shape in shapes {
-        rows.push(sweep_row(alloc, shape, &REQUESTS)?)?;
+/// The rows of the three loads with one and with two registers.
+const ROWS: &str = "regs 1 accepted 3 denied 0 stalled 2 waited 26 pumps 39 values 3
+regs 2 accepted 3 denied 0 stalled 1 waited 23 pumps 39 values 3
+";
+
+const SECOND_ROW: &str = "regs 2 accepted 3 denied 0 stalled 1 waited 23 pumps 39 values 3\n";
+
+// The first block's words come in the rounds 12 to 15. With one register the next load is accepted as
+// they have all come, 14 rounds behind the one before it, so each waits 11 rounds. With two the second
+// load's reads are begun in round 13, and the third load, which is accepted in round 15, has its own
+// begun in round 24.
+const ROUNDS: &str = "regs 1 rounds 44 accepted 3 denied 0 hits 0 joins 0 misses 3 stalled 2 \
+lost 3:0 4:0 5:0 7:26 8:0 9:0 10:0 values 3 mean 11.00 longest 11 registers 1 written 0
+regs 2 rounds 38 accepted 3 denied 0 hits 0 joins 0 misses 3 stalled 1 \
+lost 3:0 4:0 5:0 7:12 8:0 9:0 10:0 values 3 mean 17.00 longest 21 registers 2 written 0
+";
+
+/// The rows, one a line, or the fault.
+fn text_of<D: Display + Drop>(
+    alloc: Global,
+    rows: Result<Vec<D>, SweepFault>,
+) -> Result<String, Fail> {
+    let mut text = String::new(alloc);
+    match rows {
+        Ok(rows) => {
+            for row in rows.iter() {
+                let line = format!(in alloc; "{row}\n")?;
+                text.push_str(line.as_str())?;
+            }
+        }
+        Err(fault) => text.push_str(format!(in alloc; "{fault}")?.as_str())?,
     }
-    Ok(rows)
+    Ok(text)
 }
 
-/// Asserts that a sweep names its first bad shape, and that one of no shapes has no rows.
-fn sweeps_a_bad_shape_or_none<R: Abort + AllocGlobal + Threads + Sync>(rt: &R) -> Result<(), Fail> {
+/// What a sweep of the three loads gives, by pumps or in rounds.
+fn swept<R: Abort + AllocGlobal + Threads + Sync>(
+    rt: &R,
+    in_rounds: bool,
+    gate: &Gate,
+    shapes: &[ToolShape],
+    turns: u64,
+) -> Result<String, Fail> {
     let alloc = rt.alloc();
+    if in_rounds {
+        let rows = sweep_rounds(rt, alloc, 10, &REQUESTS, shapes, turns, gate);
+        return text_of(alloc, rows);
+    }
+    text_of(alloc, sweep(rt, alloc, &REQUESTS, shapes, turns, gate))
+}
+
+// A thread has as many turns as it is given: no fewer and no more.
+#[test]
+fn sweeps_on_threads(rt: HostRuntime) -> Result<(), Fail> {
     let mut three_ways = with_registers(2);
     three_ways.ways = 3;
-    let refused = sweep(
-        rt,
-        alloc,
-        &REQUESTS,
-        &[with_registers(1), three_ways],
-        5_000_000,
-        &OpenGate,
-    );
-    let fault = SweepFault::BadShape {
-        place: 1,
-        field: ShapeField::Ways,
-    };
-    assert!(rt; matches!(refused, Err(found) if found == fault));
-    let none = sweep(rt, alloc, &REQUESTS, &[], 5_000_000, &OpenGate)?;
-    assert!(rt; none.is_empty());
-    Ok(())
-}
-
-#[test]
-fn sweep_on_threads(rt: HostRuntime) -> Result<(), Fail> {
-    let alloc = rt.alloc();
-    let shapes = [with_registers(1), with_registers(2)];
-    let wanted = rows_in_turn(alloc, &shapes)?;
-    assert_eq!(rt;
-        wanted.as_slice(),
-        &[row_of_three_loads(1), row_of_three_loads(2)][..]
-    );
-    let gate = SecondFirst::new();
-    let rows = sweep(&rt, alloc, &REQUESTS, &shapes, 5_000_000, &gate)?;
-    assert_eq!(rt; rows.as_slice(), wanted.as_slice());
-
-    let gate = BothThere::new();
-    let rows = sweep(&rt, alloc, &REQUESTS, &shapes, 5_000_000, &gate)?;
-    assert_eq!(rt; rows.as_slice(), wanted.as_slice());
-    assert!(rt; gate.saw_both());
-    sweeps_a_bad_shape_or_none(&rt)
-}
-
-#[test]
-fn sweep_of_no_turns(rt: HostRuntime) -> Result<(), Fail> {
-    let gate = SecondFirst::new();
-    let shapes = [with_registers(1)];
-    let stopped = sweep(&rt, rt.alloc(), &REQUESTS, &shapes, 1_000, &gate);
-    assert!(rt; matches!(stopped, Err(SweepFault::TurnLimit)));
-    Ok(())
-}
-
-#[test]
-fn sweeps_say_what_they_lack(rt: HostRuntime) -> Result<(), Fail> {
-    let field = ShapeField::Ways;
-    let faults = [
-        (
-            SweepFault::BadShape { place: 1, field },
-            "shape 1: Ways is out of range",
-        ),
-        (SweepFault::TurnLimit, "turn limit"),
-        (SweepFault::OutOfMemory, "out of memory"),
+    let (one, second) = ([with_registers(1)], [with_registers(2)]);
+    let both = [with_registers(1), with_registers(2)];
+    let bad = [with_registers(1), three_ways];
+    let none: [ToolShape; 0] = [];
+    let (ways, limit) = ("shape 1: Ways is out of range", "turn limit");
+    let sweeps: [(bool, Opens, &[ToolShape], u64, u64, &str); 13] = [
+        (false, Opens::SecondFirst, &both, 5_000_000, 0, ROWS),
+        (false, Opens::BothThere, &both, 5_000_000, 2, ROWS),
+        (true, Opens::SecondFirst, &both, 5_000_000, 0, ROUNDS),
+        (true, Opens::BothThere, &both, 5_000_000, 2, ROUNDS),
+        (false, Opens::AtAsk(1), &second, 1, 1, SECOND_ROW),
+        (false, Opens::AtAsk(10), &second, 10, 10, SECOND_ROW),
+        (false, Opens::AtAsk(10), &second, 9, 9, limit),
+        (false, Opens::SecondFirst, &one, 1_000, 0, limit),
+        (true, Opens::SecondFirst, &one, 1_000, 0, limit),
+        (false, Opens::AtOnce, &bad, 1_000, 0, ways),
+        (false, Opens::AtOnce, &bad, 5_000_000, 0, ways),
+        (true, Opens::AtOnce, &bad, 1_000, 0, ways),
+        (false, Opens::AtOnce, &none, 5_000_000, 0, ""),
     ];
-    for (fault, text) in faults {
-        assert_eq!(rt; format!(in rt.alloc(); "{fault}")?.as_str(), text);
+    for (in_rounds, opens, shapes, turns, seen, told) in sweeps {
+        let gate = Gate::new(opens);
+        let text = swept(&rt, in_rounds, &gate, shapes, turns)?;
+        assert_eq!(rt; (text.as_str(), gate.seen()), (told, seen), "{turns} turns");
+    }
+    let fault = format!(in rt.alloc(); "{}", SweepFault::OutOfMemory)?;
+    assert_eq!(rt; fault.as_str(), "out of memory");
+    Ok(())
+}
+
+const LARGEST: &str = "words = 1048576
+sets = 1024
+ways = 2
+regs = 8
+banks = 16
+bank_queue = 64
+write_queue = 256
+replies = 64
+";
+
+/// The row of one load of the last word, on the largest machine.
+const LAST_LOAD: Row = Row {
+    regs: 8,
+    accepted: 1,
+    denied: 0,
+    stalled: 0,
+    waited: 0,
+    pumps: 13,
+    values: 1,
+};
+
+/// The row of 200,000 evictions of a block that isn't there.
+const MANY_DENIED: Row = Row {
+    regs: 4,
+    accepted: 0,
+    denied: 200_000,
+    stalled: 0,
+    waited: 0,
+    pumps: 0,
+    values: 0,
+};
+
+#[test]
+fn rows_up_to_the_largest(rt: HostRuntime) -> Result<(), Fail> {
+    let alloc = rt.alloc();
+    let largest = read_shape(alloc, LARGEST)?;
+    let last = [Event::Load {
+        tag: 1,
+        at: 1_048_575,
+    }];
+    let many = vec![in alloc; Event::Evict { block: 0 }; 200_000]?;
+    let rows: [(ToolShape, &[Event], Row); 4] = [
+        (with_registers(1), &REQUESTS, row_of_three_loads(1)),
+        (with_registers(2), &REQUESTS, row_of_three_loads(2)),
+        (largest, &last, LAST_LOAD),
+        (with_registers(4), many.as_slice(), MANY_DENIED),
+    ];
+    for (shape, requests, row) in rows {
+        assert_eq!(rt; sweep_row(alloc, &shape, requests), Ok(row));
+        let swept = sweep(&rt, alloc, requests, &[shape, shape], 1, &OpenGate)?;
+        assert_eq!(rt; swept.as_slice(), &[row, row][..]);
     }
     Ok(())
 }
