@@ -5,13 +5,13 @@
 use super::fixture::{
     PROGRAM_SHAPE, SMALL_SHAPE, STORED_COUNTS, STORED_INPUT, STORED_OUTPUT, numbered,
 };
-use super::machine::runs_one_load;
 use cache_directory::Directory;
 use cache_unit::CacheUnit;
 use flat_model::{Answer, Event, FlatMemory, Lanes, MakeFault, ReplayFault, ShapeField, Word};
 use machine_core::Machine;
 use memory_banks::Banks;
 use miss_registers::RegisterFile;
+use run_reasons::{Explanation, explain_text};
 use std::io::Cursor;
 use std::process::Abort;
 use std::test::Fail;
@@ -111,7 +111,27 @@ fn run_may_find_no_memory(rt: HostRuntime) -> Result<(), Fail> {
     let Ok(mut machine) = Machine::<1, 4, 2, 2>::new(alloc, SMALL_SHAPE, &small_image()) else {
         return Ok(());
     };
-    runs_one_load(&rt, &mut machine)
+    let events = [
+        Event::Load { tag: 1, at: 5 },
+        Event::Serve { bank: 1 },
+        Event::Arrive { bank: 1, place: 0 },
+        Event::Process { place: 0 },
+        Event::Take { place: 0 },
+    ];
+    let value = Answer::Value {
+        tag: 1,
+        word: numbered(5),
+    };
+    let moved = Answer::Moved;
+    let wanted = [Answer::Accepted, moved, moved, moved, value];
+    let mut answers = machine.run(alloc, &events);
+    if answers.is_err() {
+        assert!(rt; machine.settled());
+        assert_eq!(rt; machine.weight(), 0);
+        answers = machine.run(alloc, &events);
+    }
+    assert_eq!(rt; answers?.as_slice(), &wanted[..]);
+    Ok(())
 }
 
 #[test]
@@ -158,5 +178,17 @@ fn reading_requests_may_find_no_memory(rt: HostRuntime) -> Result<(), Fail> {
     }
     let wanted = [(1, 0), (2, 4), (3, 8)].map(|(tag, at)| Event::Load { tag, at });
     assert_eq!(rt; requests?.as_slice(), &wanted[..]);
+    Ok(())
+}
+
+// A refused allocation is told, and a second call gives the answer.
+#[test]
+fn a_reading_may_find_no_memory(rt: HostRuntime) -> Result<(), Fail> {
+    let run = "load 1 4 -> accepted\ntake 0 -> value 1 00000000\n";
+    let mut told = explain_text(rt.alloc(), &mut run.as_bytes(), 64);
+    if told == Err(TraceFault::OutOfMemory) {
+        told = explain_text(rt.alloc(), &mut run.as_bytes(), 64);
+    }
+    assert_eq!(rt; told, Ok(Explanation::Flat { steps: 2 }));
     Ok(())
 }
