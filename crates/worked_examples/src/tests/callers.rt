@@ -1,6 +1,6 @@
 //! The callers in `uses`, run, and what faults say of themselves.
 
-use super::fixture::{PROGRAM_SHAPE, image, numbered};
+use super::fixture::{PROGRAM_SHAPE, image, numbered, same};
 use flat_model::{FlatMemory, MakeFault, ReplayFault, ShapeField, StepFault};
 use machine_core::Machine;
 use std::test::Fail;
@@ -11,7 +11,12 @@ use uses::{Lookups, Verdict, count_lookups, first_load, judge_line};
 fn a_first_load_gets_the_word_of_the_image(rt: HostRuntime) -> Result<(), Fail> {
     let image = image(rt.alloc(), 64)?;
     for (at, word) in [(5, Some(numbered(5))), (64, None)] {
-        assert_eq!(rt; first_load(rt.alloc(), &image, at)?, word, "word {at}");
+        same(
+            &rt,
+            "a_first_load_gets_the_word_of_the_image",
+            first_load(rt.alloc(), &image, at)?,
+            word,
+        );
     }
     Ok(())
 }
@@ -28,7 +33,7 @@ fn lookups_are_hits_joins_and_misses(rt: HostRuntime) -> Result<(), Fail> {
         joins: 1,
         misses: 1,
     };
-    assert_eq!(rt; counted, expected);
+    same(&rt, "lookups_are_hits_joins_and_misses", counted, expected);
     Ok(())
 }
 
@@ -45,9 +50,19 @@ fn a_run_is_judged_line_by_line(rt: HostRuntime) -> Result<(), Fail> {
         ("take 0 -> value 1 05000000\n", Verdict::Explained),
     ];
     for (line, verdict) in lines {
-        assert_eq!(rt; judge_line(&mut memory, line.as_bytes())?, verdict);
+        same(
+            &rt,
+            "a_run_is_judged_line_by_line",
+            judge_line(&mut memory, line.as_bytes())?,
+            verdict,
+        );
     }
-    assert_eq!(rt; memory.due_word(1), None);
+    same(
+        &rt,
+        "a_run_is_judged_line_by_line",
+        memory.due_word(1),
+        None,
+    );
     Ok(())
 }
 
@@ -90,7 +105,12 @@ fn makers_and_replays_say_what_they_lack(rt: HostRuntime) -> Result<(), Fail> {
             Fault::Replay(fault) => format!(in alloc; "{fault}"),
             Fault::Step(fault) => format!(in alloc; "{fault}"),
         }?;
-        assert_eq!(rt; said.as_str(), *text);
+        same(
+            &rt,
+            "makers_and_replays_say_what_they_lack",
+            said.as_str(),
+            *text,
+        );
     }
     Ok(())
 }

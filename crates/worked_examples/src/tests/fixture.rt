@@ -3,8 +3,10 @@
 use flat_model::{MakeFault, Shape, Word};
 use machine_core::Machine;
 use std::alloc::{AllocError, Global};
+use std::fmt::Debug;
 use std::io;
 use std::io::Read;
+use std::process::Abort;
 use std::test::Fail;
 use trace_text::Counts;
 
@@ -63,6 +65,13 @@ pub const STORED_COUNTS: Counts = Counts {
     nothing: 0,
     refused: 0,
 };
+
+/// Asserts that what a row's case gave is what the row says. The name of the row is told where it isn't.
+///
+/// It stands once, since each `assert_eq!` with a text takes the checker some seconds.
+pub fn same<R: Abort, T: PartialEq + Debug + Drop>(rt: &R, name: &str, found: T, wanted: T) {
+    assert_eq!(rt; found, wanted, "{name}");
+}
 
 /// A word of zeros.
 pub const ZERO: Word = Word {

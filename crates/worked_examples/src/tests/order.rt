@@ -1,6 +1,6 @@
 //! The order in which a trace is read, and its answers are written and flushed.
 
-use super::fixture::default_machine;
+use super::fixture::{default_machine, same};
 use std::alloc::Global;
 use std::cell::RefCell;
 use std::io;
@@ -103,7 +103,7 @@ drain
 fn order_of_reads_writes_and_flushes(rt: HostRuntime) -> Result<(), Fail> {
     for (name, pieces, wanted) in LOGS {
         let log = log_of(rt.alloc(), pieces)?;
-        assert_eq!(rt; std::str::from_utf8(log.as_slice())?, *wanted, "{name}");
+        same(&rt, name, std::str::from_utf8(log.as_slice())?, *wanted);
     }
     Ok(())
 }

@@ -1,6 +1,6 @@
 //! The parts: what waits in those of a machine, flat memory, the makers, and the cache unit over its banks.
 
-use super::fixture::{SMALL_SHAPE, ZERO, image, numbered, small_machine};
+use super::fixture::{SMALL_SHAPE, ZERO, image, numbered, same, small_machine};
 use super::stories::{ARRIVED, joined, told};
 use cache_directory::{Choice, Directory};
 use cache_unit::{CacheUnit, Request};
@@ -137,13 +137,14 @@ fn stands<R: Abort>(
     let mut machine = small_machine(alloc)?;
     let lines = joined(alloc, lines)?;
     let told = told(alloc, &mut machine, lines.as_str())?;
-    assert_eq!(rt;
+    same(
+        rt,
+        name,
         std::str::from_utf8(told.as_slice())?,
         lines.as_str(),
-        "{name}"
     );
     for look in looks {
-        assert_eq!(rt; look.seen(&machine), *look, "{name}");
+        same(rt, name, look.seen(&machine), *look);
     }
     Ok(())
 }
@@ -317,13 +318,14 @@ const REPLAYS: &[(&str, &[Event], &[Answer], Result<(), ReplayFault>)] = &[
 fn replay(rt: HostRuntime) -> Result<(), Fail> {
     for (name, events, answers, wanted) in REPLAYS {
         let mut memory = FlatMemory::new(rt.alloc(), &[numbered(0), numbered(1)])?;
-        assert_eq!(rt;
+        same(
+            &rt,
+            name,
             memory.replay(rt.alloc(), events, answers),
             *wanted,
-            "{name}"
         );
-        assert_eq!(rt; memory.word(0), Some(numbered(0)), "{name}");
-        assert_eq!(rt; memory.due_word(1), None, "{name}");
+        same(&rt, name, memory.word(0), Some(numbered(0)));
+        same(&rt, name, memory.due_word(1), None);
     }
     Ok(())
 }
@@ -366,7 +368,7 @@ fn makers_refuse_shapes(rt: HostRuntime) -> Result<(), Fail> {
             0 => refusal::<0>(rt.alloc(), shape, words),
             _ => refusal::<2>(rt.alloc(), shape, words),
         }?;
-        assert_eq!(rt; found, Some(field));
+        same(&rt, "makers_refuse_shapes", found, Some(field));
     }
     Ok(())
 }
@@ -375,14 +377,14 @@ fn makers_refuse_shapes(rt: HostRuntime) -> Result<(), Fail> {
 fn makers(rt: HostRuntime) -> Result<(), Fail> {
     let alloc = rt.alloc();
     let directory: Directory<1, 4> = Directory::new(alloc, 2)?;
-    assert_eq!(rt; directory.look(1), None);
-    assert_eq!(rt; directory.choose(1), Choice::Free(1));
+    same(&rt, "makers", directory.look(1), None);
+    same(&rt, "makers", directory.choose(1), Choice::Free(1));
     let registers: RegisterFile<4, 2> = RegisterFile::new(alloc)?;
-    assert_eq!(rt; registers.free_slot(), Some(0));
+    same(&rt, "makers", registers.free_slot(), Some(0));
     let stack: InputStack<2> = InputStack::new()?;
-    assert_eq!(rt; stack.len(), 0);
+    same(&rt, "makers", stack.len(), 0);
     let banks = banks_of(alloc, &SMALL_SHAPE)?;
-    assert_eq!(rt; banks.word(5), Some(numbered(5)));
+    same(&rt, "makers", banks.word(5), Some(numbered(5)));
     assert!(rt; banks.idle());
     let unit: Unit = CacheUnit::new(alloc, &SMALL_SHAPE)?;
     assert!(rt; unit.clean());
@@ -392,7 +394,7 @@ fn makers(rt: HostRuntime) -> Result<(), Fail> {
 #[test]
 fn block_that_waits_in_the_write_queue(rt: HostRuntime) -> Result<(), Fail> {
     let mut queue = WriteQueue::new(rt.alloc(), 4)?;
-    assert_eq!(rt; queue.room(), 4);
+    same(&rt, "block_that_waits_in_the_write_queue", queue.room(), 4);
     queue.push(Queued {
         block: 1,
         at: 5,
@@ -400,7 +402,12 @@ fn block_that_waits_in_the_write_queue(rt: HostRuntime) -> Result<(), Fail> {
         lanes: Lanes::LANE_0,
     });
     for (block, waits) in [(1, true), (0, false)] {
-        assert_eq!(rt; queue.holds_block(block), waits, "block {block}");
+        same(
+            &rt,
+            "block_that_waits_in_the_write_queue",
+            queue.holds_block(block),
+            waits,
+        );
     }
     queue.pop();
     assert!(rt; !queue.holds_block(1));
@@ -519,7 +526,7 @@ fn cache_units(rt: HostRuntime) -> Result<(), Fail> {
         let mut unit: Unit = CacheUnit::new(rt.alloc(), &SMALL_SHAPE)?;
         let mut banks = banks_of(rt.alloc(), &SMALL_SHAPE)?;
         for call in *calls {
-            assert_eq!(rt; call.made(&mut unit, &mut banks), *call, "{name}");
+            same(&rt, name, call.made(&mut unit, &mut banks), *call);
         }
     }
     Ok(())

@@ -1,6 +1,6 @@
 //! Runs with one mismatch of each kind, their texts, and readers that fail.
 
-use super::fixture::{Behind, Script, ZERO};
+use super::fixture::{Behind, Script, ZERO, same};
 use flat_model::{Answer, Event, Lanes, Word};
 use run_reasons::{Explainer, Mismatch, ReadFault, Reason, explain_text};
 use std::alloc::Global;
@@ -278,10 +278,10 @@ fn ends<R: Abort>(
         match explain_text(alloc, &mut input, 64) {
             Ok(explanation) => {
                 let text = format!(in alloc; "{explanation}")?;
-                assert_eq!(rt; Ok(text.as_str()), told, "{name}, in pieces of {most}");
-                assert_eq!(rt; explanation.status(), status, "{name}, in pieces of {most}");
+                same(rt, name, Ok(text.as_str()), told);
+                same(rt, name, explanation.status(), status);
             }
-            Err(fault) => assert_eq!(rt; Err(fault), told, "{name}, in pieces of {most}"),
+            Err(fault) => same(rt, name, Err(fault), told),
         }
     }
     Ok(())
@@ -529,7 +529,12 @@ fn a_line_that_is_refused_changes_nothing(rt: HostRuntime) -> Result<(), Fail> {
                 reason: *reason,
             })),
         };
-        assert_eq!(rt; explainer.read(line, event, answer), wanted, "line {line}");
+        same(
+            &rt,
+            "a_line_that_is_refused_changes_nothing",
+            explainer.read(line, event, answer),
+            wanted,
+        );
     }
     Ok(())
 }

@@ -3,7 +3,7 @@
 //! its example. With memory, as in a whole run of the tests, the first call gives that answer.
 
 use super::fixture::{
-    PROGRAM_SHAPE, SMALL_SHAPE, STORED_COUNTS, STORED_INPUT, STORED_OUTPUT, numbered,
+    PROGRAM_SHAPE, SMALL_SHAPE, STORED_COUNTS, STORED_INPUT, STORED_OUTPUT, numbered, same,
 };
 use cache_directory::Directory;
 use cache_unit::CacheUnit;
@@ -32,10 +32,10 @@ fn small_image() -> [Word; 32] {
 fn makes<R: Abort, T: Drop>(rt: &R, first: Result<T, MakeFault>, second: Result<T, MakeFault>) {
     assert!(rt; first.is_ok() || second.is_ok());
     if let Err(fault) = first {
-        assert_eq!(rt; fault, MakeFault::OutOfMemory);
+        same(rt, "makes", fault, MakeFault::OutOfMemory);
     }
     if let Err(fault) = second {
-        assert_eq!(rt; fault, MakeFault::OutOfMemory);
+        same(rt, "makes", fault, MakeFault::OutOfMemory);
     }
 }
 
@@ -82,11 +82,21 @@ fn replay_may_find_no_memory(rt: HostRuntime) -> Result<(), Fail> {
     let answers = [Answer::Accepted, value, Answer::Accepted];
     let mut replayed = memory.replay(alloc, &events, &answers);
     if replayed == Err(ReplayFault::OutOfMemory) {
-        assert_eq!(rt; memory.word(1), Some(numbered(1)));
+        same(
+            &rt,
+            "replay_may_find_no_memory",
+            memory.word(1),
+            Some(numbered(1)),
+        );
         replayed = memory.replay(alloc, &events, &answers);
     }
-    assert_eq!(rt; replayed, Ok(()));
-    assert_eq!(rt; memory.word(1), Some(numbered(9)));
+    same(&rt, "replay_may_find_no_memory", replayed, Ok(()));
+    same(
+        &rt,
+        "replay_may_find_no_memory",
+        memory.word(1),
+        Some(numbered(9)),
+    );
     Ok(())
 }
 
@@ -95,7 +105,12 @@ fn some_refusals_come_before_memory(rt: HostRuntime) -> Result<(), Fail> {
     let alloc = rt.alloc();
     if let Ok(mut memory) = FlatMemory::new(alloc, &small_image()) {
         let uneven = memory.replay(alloc, &[Event::Drain], &[]);
-        assert_eq!(rt; uneven, Err(ReplayFault::Lengths));
+        same(
+            &rt,
+            "some_refusals_come_before_memory",
+            uneven,
+            Err(ReplayFault::Lengths),
+        );
     }
     let mut short_banks = SMALL_SHAPE;
     short_banks.bank_queue = 1;
@@ -127,10 +142,15 @@ fn run_may_find_no_memory(rt: HostRuntime) -> Result<(), Fail> {
     let mut answers = machine.run(alloc, &events);
     if answers.is_err() {
         assert!(rt; machine.settled());
-        assert_eq!(rt; machine.weight(), 0);
+        same(&rt, "run_may_find_no_memory", machine.weight(), 0);
         answers = machine.run(alloc, &events);
     }
-    assert_eq!(rt; answers?.as_slice(), &wanted[..]);
+    same(
+        &rt,
+        "run_may_find_no_memory",
+        answers?.as_slice(),
+        &wanted[..],
+    );
     Ok(())
 }
 
@@ -146,14 +166,24 @@ fn serving_may_find_no_memory(rt: HostRuntime) -> Result<(), Fail> {
     let mut writer = Cursor::new([0u8; 1024]);
     let mut ended = serve_text(alloc, &mut reader, &mut writer, &mut machine);
     if ended == Err(TraceFault::OutOfMemory) {
-        assert_eq!(rt; reader, STORED_INPUT.as_bytes());
-        assert_eq!(rt; writer.position(), 0);
+        same(
+            &rt,
+            "serving_may_find_no_memory",
+            reader,
+            STORED_INPUT.as_bytes(),
+        );
+        same(&rt, "serving_may_find_no_memory", writer.position(), 0);
         assert!(rt; machine.settled());
         ended = serve_text(alloc, &mut reader, &mut writer, &mut machine);
     }
-    assert_eq!(rt; ended, Ok(STORED_COUNTS));
+    same(&rt, "serving_may_find_no_memory", ended, Ok(STORED_COUNTS));
     let end = writer.position().min(1024) as usize;
-    assert_eq!(rt; &writer.get_ref()[..end], STORED_OUTPUT.as_bytes());
+    same(
+        &rt,
+        "serving_may_find_no_memory",
+        &writer.get_ref()[..end],
+        STORED_OUTPUT.as_bytes(),
+    );
     Ok(())
 }
 
@@ -164,7 +194,12 @@ fn checking_may_find_no_memory(rt: HostRuntime) -> Result<(), Fail> {
     if ended == Err(TraceFault::OutOfMemory) {
         ended = check_text(alloc, &mut STORED_OUTPUT.as_bytes(), 64);
     }
-    assert_eq!(rt; ended, Ok(CheckEnd::Flat { steps: 8 }));
+    same(
+        &rt,
+        "checking_may_find_no_memory",
+        ended,
+        Ok(CheckEnd::Flat { steps: 8 }),
+    );
     Ok(())
 }
 
@@ -177,7 +212,12 @@ fn reading_requests_may_find_no_memory(rt: HostRuntime) -> Result<(), Fail> {
         requests = read_requests(alloc, &mut trace.as_slice());
     }
     let wanted = [(1, 0), (2, 4), (3, 8)].map(|(tag, at)| Event::Load { tag, at });
-    assert_eq!(rt; requests?.as_slice(), &wanted[..]);
+    same(
+        &rt,
+        "reading_requests_may_find_no_memory",
+        requests?.as_slice(),
+        &wanted[..],
+    );
     Ok(())
 }
 
@@ -189,6 +229,11 @@ fn a_reading_may_find_no_memory(rt: HostRuntime) -> Result<(), Fail> {
     if told == Err(TraceFault::OutOfMemory) {
         told = explain_text(rt.alloc(), &mut run.as_bytes(), 64);
     }
-    assert_eq!(rt; told, Ok(Explanation::Flat { steps: 2 }));
+    same(
+        &rt,
+        "a_reading_may_find_no_memory",
+        told,
+        Ok(Explanation::Flat { steps: 2 }),
+    );
     Ok(())
 }

@@ -1,6 +1,6 @@
 //! Runs of rounds.
 
-use super::fixture::ZERO;
+use super::fixture::{ZERO, same};
 use machine_core::{Event, Machine, Shape};
 use round_driver::{LostRounds, Table, drive, summarize};
 use std::alloc::{AllocError, Global};
@@ -60,7 +60,7 @@ fn one_stream_of_misses(rt: HostRuntime) -> Result<(), Fail> {
             4 => rounds_of::<4>(rt.alloc(), &requests),
             _ => rounds_of::<8>(rt.alloc(), &requests),
         }?;
-        assert_eq!(rt; rounds, wanted, "with {registers} registers");
+        same(&rt, "one_stream_of_misses", rounds, wanted);
     }
     Ok(())
 }
@@ -173,9 +173,9 @@ fn tables_of_rounds(rt: HostRuntime) -> Result<(), Fail> {
         let name = rounds.name;
         let mut machine = machine::<1>(rt.alloc(), NARROW_SHAPE)?;
         let table = summarize(rt.alloc(), &mut machine, rounds.latency, rounds.requests)?;
-        assert_eq!(rt; table, rounds.table, "{name}");
+        same(&rt, name, table, rounds.table);
         let shown = format!(in rt.alloc(); "{table}")?;
-        assert_eq!(rt; shown.as_str(), rounds.shown, "{name}");
+        same(&rt, name, shown.as_str(), rounds.shown);
     }
     Ok(())
 }
@@ -186,7 +186,7 @@ fn a_load_without_latency(rt: HostRuntime) -> Result<(), Fail> {
     let requests = [Event::Load { tag: 1, at: 0 }];
     let mut written = Vec::new(rt.alloc());
     let rounds = drive(rt.alloc(), &mut machine, 0, &requests, &mut written)?;
-    assert_eq!(rt; rounds, 6);
+    same(&rt, "a_load_without_latency", rounds, 6);
     let wanted = "load 1 0 -> accepted
 serve 0 -> moved
 serve 1 -> moved
@@ -202,7 +202,12 @@ process 0 -> moved
 arrive 3 0 -> moved
 process 0 -> moved
 ";
-    assert_eq!(rt; std::str::from_utf8(written.as_slice())?, wanted);
+    same(
+        &rt,
+        "a_load_without_latency",
+        std::str::from_utf8(written.as_slice())?,
+        wanted,
+    );
     Ok(())
 }
 
@@ -219,6 +224,6 @@ fn a_run_is_flat(rt: HostRuntime) -> Result<(), Fail> {
     drive(rt.alloc(), &mut machine, 3, &requests, &mut written)?;
     let verdict = check_text(rt.alloc(), &mut written.as_slice(), 64)?;
     assert!(rt; matches!(verdict, CheckEnd::Flat { .. }));
-    assert_eq!(rt; machine.weight(), 0);
+    same(&rt, "a_run_is_flat", machine.weight(), 0);
     Ok(())
 }

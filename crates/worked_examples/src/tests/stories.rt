@@ -4,7 +4,7 @@
 //! tells what is on its way, `pump` makes the driver's event and tells it with its answer, and `changed`
 //! tells which of the words of memory aren't those of the image.
 
-use super::fixture::{SMALL_SHAPE, image, numbered};
+use super::fixture::{SMALL_SHAPE, image, numbered, same};
 use flat_model::{Answer, Event, Shape};
 use machine_core::{AnyMachine, Machine};
 use std::alloc::Global;
@@ -678,19 +678,16 @@ fn plays<R: Abort, const WAYS: usize, const WORDS: usize, const REGS: usize, con
     let image = image(alloc, shape.words.min(32) as u8)?;
     let mut machine = Machine::<WAYS, WORDS, REGS, DEPTH>::new(alloc, shape, &image)?;
     let told = told(alloc, &mut machine, lines.as_str())?;
-    assert_eq!(rt;
+    same(
+        rt,
+        name,
         std::str::from_utf8(told.as_slice())?,
         lines.as_str(),
-        "{name}"
     );
     let mut machine = Machine::<WAYS, WORDS, REGS, DEPTH>::new(alloc, shape, &image)?;
     let (events, answers) = recorded(alloc, lines.as_str())?;
     let answered = machine.run(alloc, &events)?;
-    assert_eq!(rt;
-        answered.as_slice(),
-        answers.as_slice(),
-        "{name}, by one call"
-    );
+    same(rt, name, answered.as_slice(), answers.as_slice());
     Ok(())
 }
 

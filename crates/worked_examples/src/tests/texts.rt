@@ -1,7 +1,7 @@
 //! Traces as text: single lines and pairs, and texts whose readers and writers come in pieces, end or fail.
 
 use super::fixture::{
-    Behind, STORED_COUNTS, STORED_INPUT, STORED_OUTPUT, Script, ZERO, default_machine,
+    Behind, STORED_COUNTS, STORED_INPUT, STORED_OUTPUT, Script, ZERO, default_machine, same,
 };
 use flat_model::{Answer, Cause, Event, Lanes, Word};
 use machine_core::Machine;
@@ -28,9 +28,14 @@ const LINES: &[(&str, Result<Line, LineFault>)] = &[
 #[test]
 fn single_lines(rt: HostRuntime) -> Result<(), Fail> {
     for (text, said) in LINES {
-        assert_eq!(rt; read_line(text.as_bytes()), *said, "{text}");
+        same(&rt, text, read_line(text.as_bytes()), *said);
         if let Ok(line) = said {
-            assert_eq!(rt; written_line(rt.alloc(), *line)?.as_str(), *text);
+            same(
+                &rt,
+                "single_lines",
+                written_line(rt.alloc(), *line)?.as_str(),
+                *text,
+            );
         }
     }
     Ok(())
@@ -55,7 +60,7 @@ const PAIRS: &[(&str, Result<Pair, LineFault>)] = &[
 #[test]
 fn single_pairs(rt: HostRuntime) {
     for (text, said) in PAIRS {
-        assert_eq!(rt; read_pair(text.as_bytes()), *said, "{text}");
+        same(&rt, text, read_pair(text.as_bytes()), *said);
     }
 }
 
@@ -119,14 +124,24 @@ fn shows<R: Abort>(
 ) -> Result<(), Fail> {
     let text = format!(in alloc; "{event_shown} -> {answer_shown}\n")?;
     let shown = format!(in alloc; "{event} -> {answer}\n")?;
-    assert_eq!(rt; shown.as_str(), text.as_str());
-    assert_eq!(rt; written_pair(alloc, event, answer)?.as_str(), text.as_str());
-    assert_eq!(rt; answer_text(answer).as_bytes(), answer_shown.as_bytes());
+    same(rt, "shows", shown.as_str(), text.as_str());
+    same(
+        rt,
+        "shows",
+        written_pair(alloc, event, answer)?.as_str(),
+        text.as_str(),
+    );
+    same(
+        rt,
+        "shows",
+        answer_text(answer).as_bytes(),
+        answer_shown.as_bytes(),
+    );
     let pair = Pair {
         line: Line::Event(event),
         answer: Some(answer),
     };
-    assert_eq!(rt; read_pair(text.as_bytes()), Ok(pair));
+    same(rt, "shows", read_pair(text.as_bytes()), Ok(pair));
     Ok(())
 }
 
@@ -213,9 +228,9 @@ fn served_texts(rt: HostRuntime) -> Result<(), Fail> {
         let mut output = Vec::new(rt.alloc());
         let mut reader = Script::new(served.text, 64, served.behind);
         let ended = serve_text(rt.alloc(), &mut reader, &mut output, &mut machine);
-        assert_eq!(rt; ended, served.ended, "{name}");
-        assert_eq!(rt; output.as_slice(), served.written.as_bytes(), "{name}");
-        assert_eq!(rt; reader.reads, 2, "{name}");
+        same(&rt, name, ended, served.ended);
+        same(&rt, name, output.as_slice(), served.written.as_bytes());
+        same(&rt, name, reader.reads, 2);
     }
     Ok(())
 }
@@ -225,8 +240,13 @@ fn checked_up_to_the_first_end(rt: HostRuntime) {
     for behind in [Behind::Text("drain -> nothing\n"), Behind::Failure] {
         let mut reader = Script::new("drain -> nothing\n", 64, [Behind::End, behind]);
         let end = check_text(rt.alloc(), &mut reader, 64);
-        assert_eq!(rt; end, Ok(CheckEnd::Flat { steps: 1 }));
-        assert_eq!(rt; reader.reads, 2);
+        same(
+            &rt,
+            "checked_up_to_the_first_end",
+            end,
+            Ok(CheckEnd::Flat { steps: 1 }),
+        );
+        same(&rt, "checked_up_to_the_first_end", reader.reads, 2);
     }
 }
 
@@ -265,8 +285,8 @@ fn collected_requests(rt: HostRuntime) -> Result<(), Fail> {
     for (name, text, behind, wanted) in COLLECTED {
         let mut reader = Script::new(text, 4096, [Behind::End, *behind]);
         let requests = read_requests(rt.alloc(), &mut reader)?;
-        assert_eq!(rt; requests.as_slice(), *wanted, "{name}");
-        assert_eq!(rt; reader.reads, 2, "{name}");
+        same(&rt, name, requests.as_slice(), *wanted);
+        same(&rt, name, reader.reads, 2);
     }
     Ok(())
 }
@@ -309,11 +329,12 @@ fn stored_run_in_pieces(rt: HostRuntime) -> Result<(), Fail> {
             fails: true,
         };
         let ended = serve_text(rt.alloc(), &mut reader, &mut writer, &mut machine);
-        assert_eq!(rt; ended, Ok(STORED_COUNTS), "in pieces of {most}");
-        assert_eq!(rt;
+        same(&rt, "stored_run_in_pieces", ended, Ok(STORED_COUNTS));
+        same(
+            &rt,
+            "stored_run_in_pieces",
             writer.taken.as_slice(),
             STORED_OUTPUT.as_bytes(),
-            "in pieces of {most}"
         );
     }
     Ok(())
@@ -341,10 +362,11 @@ fn cut_input(rt: HostRuntime) -> Result<(), Fail> {
         let mut reader = input;
         let ended = serve_text(rt.alloc(), &mut reader, &mut output, &mut machine);
         let (lines, answers) = answers_to(rt.alloc(), input)?;
-        assert_eq!(rt;
+        same(
+            &rt,
+            "cut_input",
             output.as_slice(),
             answers.as_str().as_bytes(),
-            "{cut} bytes"
         );
         let wanted = match input.last() {
             None | Some(b'\n') => Ok(lines),
@@ -353,7 +375,7 @@ fn cut_input(rt: HostRuntime) -> Result<(), Fail> {
                 fault: LineFault::NotEnded,
             }),
         };
-        assert_eq!(rt; ended.map(|counts| counts.lines), wanted, "{cut} bytes");
+        same(&rt, "cut_input", ended.map(|counts| counts.lines), wanted);
     }
     Ok(())
 }
@@ -375,9 +397,9 @@ fn serves_until<R: Abort>(
     };
     let mut reader = STORED_INPUT.as_bytes();
     let ended = serve_text(alloc, &mut reader, &mut writer, &mut machine);
-    assert_eq!(rt; ended, Err(TraceFault::Write), "room for {room}");
+    same(rt, "serves_until", ended, Err(TraceFault::Write));
     let front = STORED_OUTPUT.as_bytes().get(..room);
-    assert_eq!(rt; Some(writer.taken.as_slice()), front, "room for {room}");
+    same(rt, "serves_until", Some(writer.taken.as_slice()), front);
     Ok(machine)
 }
 
@@ -389,8 +411,8 @@ fn failing_writer(rt: HostRuntime) -> Result<(), Fail> {
         let machine = serves_until(&rt, rt.alloc(), room, true)?;
         let field = machine.field(0, 1).ok_or("a word's field")?;
         match room {
-            20 => assert_eq!(rt; field.code, Lanes::none()),
-            21 => assert_eq!(rt; field.code, Lanes::LANE_0),
+            20 => same(&rt, "failing_writer", field.code, Lanes::none()),
+            21 => same(&rt, "failing_writer", field.code, Lanes::LANE_0),
             _ => {}
         }
     }
@@ -406,7 +428,12 @@ fn long_pairs_are_refused(rt: HostRuntime) -> Result<(), Fail> {
         text.push(last)?;
         let number = 1;
         let refused = check_text(rt.alloc(), &mut text.as_slice(), 64);
-        assert_eq!(rt; refused, Err(TraceFault::Line { number, fault }));
+        same(
+            &rt,
+            "long_pairs_are_refused",
+            refused,
+            Err(TraceFault::Line { number, fault }),
+        );
     }
     Ok(())
 }
