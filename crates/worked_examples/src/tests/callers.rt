@@ -13,7 +13,7 @@ fn a_first_load_gets_the_word_of_the_image(rt: HostRuntime) -> Result<(), Fail> 
     for (at, word) in [(5, Some(numbered(5))), (64, None)] {
         same(
             &rt,
-            "a_first_load_gets_the_word_of_the_image",
+            "the first load",
             first_load(rt.alloc(), &image, at)?,
             word,
         );
@@ -33,7 +33,7 @@ fn lookups_are_hits_joins_and_misses(rt: HostRuntime) -> Result<(), Fail> {
         joins: 1,
         misses: 1,
     };
-    same(&rt, "lookups_are_hits_joins_and_misses", counted, expected);
+    same(&rt, "lookups", counted, expected);
     Ok(())
 }
 
@@ -52,17 +52,12 @@ fn a_run_is_judged_line_by_line(rt: HostRuntime) -> Result<(), Fail> {
     for (line, verdict) in lines {
         same(
             &rt,
-            "a_run_is_judged_line_by_line",
+            line,
             judge_line(&mut memory, line.as_bytes())?,
             verdict,
         );
     }
-    same(
-        &rt,
-        "a_run_is_judged_line_by_line",
-        memory.due_word(1),
-        None,
-    );
+    same(&rt, "what tag 1 is owed", memory.due_word(1), None);
     Ok(())
 }
 
@@ -105,12 +100,7 @@ fn makers_and_replays_say_what_they_lack(rt: HostRuntime) -> Result<(), Fail> {
             Fault::Replay(fault) => format!(in alloc; "{fault}"),
             Fault::Step(fault) => format!(in alloc; "{fault}"),
         }?;
-        same(
-            &rt,
-            "makers_and_replays_say_what_they_lack",
-            said.as_str(),
-            *text,
-        );
+        same(&rt, text, said.as_str(), *text);
     }
     Ok(())
 }

@@ -368,7 +368,7 @@ fn makers_refuse_shapes(rt: HostRuntime) -> Result<(), Fail> {
             0 => refusal::<0>(rt.alloc(), shape, words),
             _ => refusal::<2>(rt.alloc(), shape, words),
         }?;
-        same(&rt, "makers_refuse_shapes", found, Some(field));
+        same(&rt, "the field", found, Some(field));
     }
     Ok(())
 }
@@ -377,14 +377,14 @@ fn makers_refuse_shapes(rt: HostRuntime) -> Result<(), Fail> {
 fn makers(rt: HostRuntime) -> Result<(), Fail> {
     let alloc = rt.alloc();
     let directory: Directory<1, 4> = Directory::new(alloc, 2)?;
-    same(&rt, "makers", directory.look(1), None);
-    same(&rt, "makers", directory.choose(1), Choice::Free(1));
+    same(&rt, "a look", directory.look(1), None);
+    same(&rt, "a choice", directory.choose(1), Choice::Free(1));
     let registers: RegisterFile<4, 2> = RegisterFile::new(alloc)?;
-    same(&rt, "makers", registers.free_slot(), Some(0));
+    same(&rt, "a free slot", registers.free_slot(), Some(0));
     let stack: InputStack<2> = InputStack::new()?;
-    same(&rt, "makers", stack.len(), 0);
+    same(&rt, "the stack", stack.len(), 0);
     let banks = banks_of(alloc, &SMALL_SHAPE)?;
-    same(&rt, "makers", banks.word(5), Some(numbered(5)));
+    same(&rt, "word 5", banks.word(5), Some(numbered(5)));
     assert!(rt; banks.idle());
     let unit: Unit = CacheUnit::new(alloc, &SMALL_SHAPE)?;
     assert!(rt; unit.clean());
@@ -394,7 +394,7 @@ fn makers(rt: HostRuntime) -> Result<(), Fail> {
 #[test]
 fn block_that_waits_in_the_write_queue(rt: HostRuntime) -> Result<(), Fail> {
     let mut queue = WriteQueue::new(rt.alloc(), 4)?;
-    same(&rt, "block_that_waits_in_the_write_queue", queue.room(), 4);
+    same(&rt, "room", queue.room(), 4);
     queue.push(Queued {
         block: 1,
         at: 5,
@@ -402,12 +402,7 @@ fn block_that_waits_in_the_write_queue(rt: HostRuntime) -> Result<(), Fail> {
         lanes: Lanes::LANE_0,
     });
     for (block, waits) in [(1, true), (0, false)] {
-        same(
-            &rt,
-            "block_that_waits_in_the_write_queue",
-            queue.holds_block(block),
-            waits,
-        );
+        same(&rt, "holds_block", queue.holds_block(block), waits);
     }
     queue.pop();
     assert!(rt; !queue.holds_block(1));

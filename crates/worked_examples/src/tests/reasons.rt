@@ -493,9 +493,10 @@ const VALUE: Answer = Answer::Value { tag: 1, word: ZERO };
 
 /// Lines that an explainer reads, and what it finds. One that it refuses changes nothing: it goes on as if the
 /// line hadn't been.
-const READ: &[(u64, Event, Answer, Option<Reason>)] = &[
-    (1, LOAD, Answer::Accepted, None),
+const READ: &[(&str, u64, Event, Answer, Option<Reason>)] = &[
+    ("a load", 1, LOAD, Answer::Accepted, None),
     (
+        "a store",
         2,
         Event::Store {
             at: 2,
@@ -506,19 +507,26 @@ const READ: &[(u64, Event, Answer, Option<Reason>)] = &[
         None,
     ),
     (
+        "a load of a tag in use",
         3,
         LOAD,
         Answer::Accepted,
         Some(Reason::TagInUse { tag: 1, line: 1 }),
     ),
-    (4, TAKE, VALUE, None),
-    (5, TAKE, VALUE, Some(Reason::Taken { tag: 1, line: 4 })),
+    ("its value", 4, TAKE, VALUE, None),
+    (
+        "its value again",
+        5,
+        TAKE,
+        VALUE,
+        Some(Reason::Taken { tag: 1, line: 4 }),
+    ),
 ];
 
 #[test]
 fn a_line_that_is_refused_changes_nothing(rt: HostRuntime) -> Result<(), Fail> {
     let mut explainer = Explainer::new(rt.alloc(), 8)?;
-    for (line, event, answer, reason) in READ {
+    for (name, line, event, answer, reason) in READ {
         let (line, event, answer) = (*line, *event, *answer);
         let wanted = match reason {
             None => Ok(()),
@@ -529,12 +537,7 @@ fn a_line_that_is_refused_changes_nothing(rt: HostRuntime) -> Result<(), Fail> {
                 reason: *reason,
             })),
         };
-        same(
-            &rt,
-            "a_line_that_is_refused_changes_nothing",
-            explainer.read(line, event, answer),
-            wanted,
-        );
+        same(&rt, name, explainer.read(line, event, answer), wanted);
     }
     Ok(())
 }

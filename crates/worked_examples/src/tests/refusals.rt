@@ -32,10 +32,10 @@ fn small_image() -> [Word; 32] {
 fn makes<R: Abort, T: Drop>(rt: &R, first: Result<T, MakeFault>, second: Result<T, MakeFault>) {
     assert!(rt; first.is_ok() || second.is_ok());
     if let Err(fault) = first {
-        same(rt, "makes", fault, MakeFault::OutOfMemory);
+        same(rt, "the first", fault, MakeFault::OutOfMemory);
     }
     if let Err(fault) = second {
-        same(rt, "makes", fault, MakeFault::OutOfMemory);
+        same(rt, "the second", fault, MakeFault::OutOfMemory);
     }
 }
 
@@ -82,21 +82,11 @@ fn replay_may_find_no_memory(rt: HostRuntime) -> Result<(), Fail> {
     let answers = [Answer::Accepted, value, Answer::Accepted];
     let mut replayed = memory.replay(alloc, &events, &answers);
     if replayed == Err(ReplayFault::OutOfMemory) {
-        same(
-            &rt,
-            "replay_may_find_no_memory",
-            memory.word(1),
-            Some(numbered(1)),
-        );
+        same(&rt, "word 1, as it was", memory.word(1), Some(numbered(1)));
         replayed = memory.replay(alloc, &events, &answers);
     }
-    same(&rt, "replay_may_find_no_memory", replayed, Ok(()));
-    same(
-        &rt,
-        "replay_may_find_no_memory",
-        memory.word(1),
-        Some(numbered(9)),
-    );
+    same(&rt, "the replay", replayed, Ok(()));
+    same(&rt, "word 1", memory.word(1), Some(numbered(9)));
     Ok(())
 }
 
@@ -105,12 +95,7 @@ fn some_refusals_come_before_memory(rt: HostRuntime) -> Result<(), Fail> {
     let alloc = rt.alloc();
     if let Ok(mut memory) = FlatMemory::new(alloc, &small_image()) {
         let uneven = memory.replay(alloc, &[Event::Drain], &[]);
-        same(
-            &rt,
-            "some_refusals_come_before_memory",
-            uneven,
-            Err(ReplayFault::Lengths),
-        );
+        same(&rt, "the lengths", uneven, Err(ReplayFault::Lengths));
     }
     let mut short_banks = SMALL_SHAPE;
     short_banks.bank_queue = 1;
@@ -142,15 +127,10 @@ fn run_may_find_no_memory(rt: HostRuntime) -> Result<(), Fail> {
     let mut answers = machine.run(alloc, &events);
     if answers.is_err() {
         assert!(rt; machine.settled());
-        same(&rt, "run_may_find_no_memory", machine.weight(), 0);
+        same(&rt, "the weight", machine.weight(), 0);
         answers = machine.run(alloc, &events);
     }
-    same(
-        &rt,
-        "run_may_find_no_memory",
-        answers?.as_slice(),
-        &wanted[..],
-    );
+    same(&rt, "the answers", answers?.as_slice(), &wanted[..]);
     Ok(())
 }
 
@@ -166,21 +146,16 @@ fn serving_may_find_no_memory(rt: HostRuntime) -> Result<(), Fail> {
     let mut writer = Cursor::new([0u8; 1024]);
     let mut ended = serve_text(alloc, &mut reader, &mut writer, &mut machine);
     if ended == Err(TraceFault::OutOfMemory) {
-        same(
-            &rt,
-            "serving_may_find_no_memory",
-            reader,
-            STORED_INPUT.as_bytes(),
-        );
-        same(&rt, "serving_may_find_no_memory", writer.position(), 0);
+        same(&rt, "the reader", reader, STORED_INPUT.as_bytes());
+        same(&rt, "the writer", writer.position(), 0);
         assert!(rt; machine.settled());
         ended = serve_text(alloc, &mut reader, &mut writer, &mut machine);
     }
-    same(&rt, "serving_may_find_no_memory", ended, Ok(STORED_COUNTS));
+    same(&rt, "the counts", ended, Ok(STORED_COUNTS));
     let end = writer.position().min(1024) as usize;
     same(
         &rt,
-        "serving_may_find_no_memory",
+        "what was written",
         &writer.get_ref()[..end],
         STORED_OUTPUT.as_bytes(),
     );
@@ -194,12 +169,7 @@ fn checking_may_find_no_memory(rt: HostRuntime) -> Result<(), Fail> {
     if ended == Err(TraceFault::OutOfMemory) {
         ended = check_text(alloc, &mut STORED_OUTPUT.as_bytes(), 64);
     }
-    same(
-        &rt,
-        "checking_may_find_no_memory",
-        ended,
-        Ok(CheckEnd::Flat { steps: 8 }),
-    );
+    same(&rt, "the check", ended, Ok(CheckEnd::Flat { steps: 8 }));
     Ok(())
 }
 
@@ -212,12 +182,7 @@ fn reading_requests_may_find_no_memory(rt: HostRuntime) -> Result<(), Fail> {
         requests = read_requests(alloc, &mut trace.as_slice());
     }
     let wanted = [(1, 0), (2, 4), (3, 8)].map(|(tag, at)| Event::Load { tag, at });
-    same(
-        &rt,
-        "reading_requests_may_find_no_memory",
-        requests?.as_slice(),
-        &wanted[..],
-    );
+    same(&rt, "the requests", requests?.as_slice(), &wanted[..]);
     Ok(())
 }
 
@@ -231,7 +196,7 @@ fn a_reading_may_find_no_memory(rt: HostRuntime) -> Result<(), Fail> {
     }
     same(
         &rt,
-        "a_reading_may_find_no_memory",
+        "the explanation",
         told,
         Ok(Explanation::Flat { steps: 2 }),
     );

@@ -60,7 +60,7 @@ fn one_stream_of_misses(rt: HostRuntime) -> Result<(), Fail> {
             4 => rounds_of::<4>(rt.alloc(), &requests),
             _ => rounds_of::<8>(rt.alloc(), &requests),
         }?;
-        same(&rt, "one_stream_of_misses", rounds, wanted);
+        same(&rt, "rounds", rounds, wanted);
     }
     Ok(())
 }
@@ -186,7 +186,7 @@ fn a_load_without_latency(rt: HostRuntime) -> Result<(), Fail> {
     let requests = [Event::Load { tag: 1, at: 0 }];
     let mut written = Vec::new(rt.alloc());
     let rounds = drive(rt.alloc(), &mut machine, 0, &requests, &mut written)?;
-    same(&rt, "a_load_without_latency", rounds, 6);
+    same(&rt, "rounds", rounds, 6);
     let wanted = "load 1 0 -> accepted
 serve 0 -> moved
 serve 1 -> moved
@@ -204,7 +204,7 @@ process 0 -> moved
 ";
     same(
         &rt,
-        "a_load_without_latency",
+        "the run",
         std::str::from_utf8(written.as_slice())?,
         wanted,
     );
@@ -224,6 +224,6 @@ fn a_run_is_flat(rt: HostRuntime) -> Result<(), Fail> {
     drive(rt.alloc(), &mut machine, 3, &requests, &mut written)?;
     let verdict = check_text(rt.alloc(), &mut written.as_slice(), 64)?;
     assert!(rt; matches!(verdict, CheckEnd::Flat { .. }));
-    same(&rt, "a_run_is_flat", machine.weight(), 0);
+    same(&rt, "the weight", machine.weight(), 0);
     Ok(())
 }

@@ -28,15 +28,15 @@ fn memory_of_the_largest_shape(rt: HostRuntime) -> Result<(), Fail> {
     let memory = FlatMemory::new(alloc, &image)?;
     same(
         &rt,
-        "memory_of_the_largest_shape",
+        "flat memory",
         memory.word(1_048_575),
         Some(Word::default()),
     );
     let banks = Banks::new(alloc, &image, &LARGEST)?;
-    same(&rt, "memory_of_the_largest_shape", banks.room(15), 64);
+    same(&rt, "room", banks.room(15), 64);
     same(
         &rt,
-        "memory_of_the_largest_shape",
+        "the banks",
         banks.word(1_048_575),
         Some(Word::default()),
     );
@@ -48,25 +48,15 @@ fn parts_of_the_largest_shape(rt: HostRuntime) -> Result<(), Fail> {
     let alloc = rt.alloc();
     let image = vec![in alloc; Word::default(); 1_048_576]?;
     let queue = WriteQueue::new(alloc, 256)?;
-    same(&rt, "parts_of_the_largest_shape", queue.room(), 256);
+    same(&rt, "room", queue.room(), 256);
     let directory = Directory::<2, 4>::new(alloc, 1_024)?;
-    same(
-        &rt,
-        "parts_of_the_largest_shape",
-        directory.look(1_023),
-        None,
-    );
+    same(&rt, "a look", directory.look(1_023), None);
     let mut machine = Machine::<2, 4, 8, 4>::new(alloc, LARGEST, &image)?;
     let load = Event::Load {
         tag: 1,
         at: 1_048_575,
     };
-    same(
-        &rt,
-        "parts_of_the_largest_shape",
-        machine.apply(load),
-        Answer::Accepted,
-    );
+    same(&rt, "the load", machine.apply(load), Answer::Accepted);
     Ok(())
 }
 
@@ -84,19 +74,9 @@ fn words_that_the_banks_do_not_share_evenly(rt: HostRuntime) -> Result<(), Fail>
     let banks = Banks::new(rt.alloc(), &image, &shape)?;
     for at in 0..64u32 {
         let wanted = image.get(at as usize).copied();
-        same(
-            &rt,
-            "words_that_the_banks_do_not_share_evenly",
-            banks.word(at),
-            wanted,
-        );
+        same(&rt, "a word", banks.word(at), wanted);
     }
-    same(
-        &rt,
-        "words_that_the_banks_do_not_share_evenly",
-        banks.word(64),
-        None,
-    );
+    same(&rt, "word 64", banks.word(64), None);
     Ok(())
 }
 
@@ -105,11 +85,11 @@ fn a_long_run(rt: HostRuntime) -> Result<(), Fail> {
     let mut machine = default_machine(rt.alloc())?;
     let events = vec![in rt.alloc(); Event::Drain; MANY]?;
     let answers = machine.run(rt.alloc(), &events)?;
-    same(&rt, "a_long_run", answers.len(), MANY);
+    same(&rt, "answers", answers.len(), MANY);
     let mut memory = FlatMemory::new(rt.alloc(), &[Word::default(); 4])?;
     same(
         &rt,
-        "a_long_run",
+        "the replay",
         memory.replay(rt.alloc(), &events, &answers),
         Ok(()),
     );
@@ -132,13 +112,13 @@ fn replay_of_many_loads(rt: HostRuntime) -> Result<(), Fail> {
     let mut memory = FlatMemory::new(rt.alloc(), &[Word::default(); 4])?;
     same(
         &rt,
-        "replay_of_many_loads",
+        "the replay",
         memory.replay(rt.alloc(), &loads, &accepted),
         Ok(()),
     );
     same(
         &rt,
-        "replay_of_many_loads",
+        "the last tag",
         memory.due_word(59_999),
         Some(Word::default()),
     );
@@ -154,14 +134,9 @@ fn long_texts(rt: HostRuntime) -> Result<(), Fail> {
         run.extend_from_slice(b"prefetch 1 -> accepted\n")?;
     }
     let requests = read_requests(rt.alloc(), &mut trace.as_slice())?;
-    same(&rt, "long_texts", requests.len(), MANY);
+    same(&rt, "requests", requests.len(), MANY);
     let end = check_text(rt.alloc(), &mut run.as_slice(), 1_048_576);
-    same(
-        &rt,
-        "long_texts",
-        end,
-        Ok(CheckEnd::Flat { steps: 200_000 }),
-    );
+    same(&rt, "the check", end, Ok(CheckEnd::Flat { steps: 200_000 }));
     Ok(())
 }
 
@@ -179,37 +154,22 @@ fn machine_of_the_largest_numbers(rt: HostRuntime) -> Result<(), Fail> {
         tag: 65_535,
         word: Word::default(),
     };
+    same(&rt, "load", machine.apply(load), Answer::Accepted);
     same(
         &rt,
-        "machine_of_the_largest_numbers",
-        machine.apply(load),
-        Answer::Accepted,
-    );
-    same(
-        &rt,
-        "machine_of_the_largest_numbers",
+        "serve",
         machine.apply(Event::Serve { bank: 15 }),
         Answer::Moved,
     );
     let arrival = Event::Arrive { bank: 15, place: 0 };
+    same(&rt, "arrive", machine.apply(arrival), Answer::Moved);
     same(
         &rt,
-        "machine_of_the_largest_numbers",
-        machine.apply(arrival),
-        Answer::Moved,
-    );
-    same(
-        &rt,
-        "machine_of_the_largest_numbers",
+        "process",
         machine.apply(Event::Process { place: 0 }),
         Answer::Moved,
     );
-    same(
-        &rt,
-        "machine_of_the_largest_numbers",
-        machine.apply(Event::Take { place: 0 }),
-        value,
-    );
+    same(&rt, "take", machine.apply(Event::Take { place: 0 }), value);
     Ok(())
 }
 
@@ -225,17 +185,12 @@ fn check_of_every_tag(rt: HostRuntime) -> Result<(), Fail> {
         run.push_str(format!(in alloc; "take 0 -> value {tag} 00000000\n")?.as_str())?;
     }
     let end = check_text(alloc, &mut run.as_bytes(), 4);
-    same(
-        &rt,
-        "check_of_every_tag",
-        end,
-        Ok(CheckEnd::Flat { steps: 131_072 }),
-    );
+    same(&rt, "all taken", end, Ok(CheckEnd::Flat { steps: 131_072 }));
     run.push_str("take 0 -> value 0 00000000\n")?;
     let end = check_text(alloc, &mut run.as_bytes(), 4);
     same(
         &rt,
-        "check_of_every_tag",
+        "one too many",
         end,
         Ok(CheckEnd::Mismatch { line: 131_073 }),
     );

@@ -30,12 +30,7 @@ fn single_lines(rt: HostRuntime) -> Result<(), Fail> {
     for (text, said) in LINES {
         same(&rt, text, read_line(text.as_bytes()), *said);
         if let Ok(line) = said {
-            same(
-                &rt,
-                "single_lines",
-                written_line(rt.alloc(), *line)?.as_str(),
-                *text,
-            );
+            same(&rt, text, written_line(rt.alloc(), *line)?.as_str(), *text);
         }
     }
     Ok(())
@@ -124,16 +119,16 @@ fn shows<R: Abort>(
 ) -> Result<(), Fail> {
     let text = format!(in alloc; "{event_shown} -> {answer_shown}\n")?;
     let shown = format!(in alloc; "{event} -> {answer}\n")?;
-    same(rt, "shows", shown.as_str(), text.as_str());
+    same(rt, event_shown, shown.as_str(), text.as_str());
     same(
         rt,
-        "shows",
+        event_shown,
         written_pair(alloc, event, answer)?.as_str(),
         text.as_str(),
     );
     same(
         rt,
-        "shows",
+        event_shown,
         answer_text(answer).as_bytes(),
         answer_shown.as_bytes(),
     );
@@ -141,7 +136,7 @@ fn shows<R: Abort>(
         line: Line::Event(event),
         answer: Some(answer),
     };
-    same(rt, "shows", read_pair(text.as_bytes()), Ok(pair));
+    same(rt, event_shown, read_pair(text.as_bytes()), Ok(pair));
     Ok(())
 }
 
@@ -240,13 +235,8 @@ fn checked_up_to_the_first_end(rt: HostRuntime) {
     for behind in [Behind::Text("drain -> nothing\n"), Behind::Failure] {
         let mut reader = Script::new("drain -> nothing\n", 64, [Behind::End, behind]);
         let end = check_text(rt.alloc(), &mut reader, 64);
-        same(
-            &rt,
-            "checked_up_to_the_first_end",
-            end,
-            Ok(CheckEnd::Flat { steps: 1 }),
-        );
-        same(&rt, "checked_up_to_the_first_end", reader.reads, 2);
+        same(&rt, "the check", end, Ok(CheckEnd::Flat { steps: 1 }));
+        same(&rt, "reads", reader.reads, 2);
     }
 }
 
@@ -329,10 +319,10 @@ fn stored_run_in_pieces(rt: HostRuntime) -> Result<(), Fail> {
             fails: true,
         };
         let ended = serve_text(rt.alloc(), &mut reader, &mut writer, &mut machine);
-        same(&rt, "stored_run_in_pieces", ended, Ok(STORED_COUNTS));
+        same(&rt, "the counts", ended, Ok(STORED_COUNTS));
         same(
             &rt,
-            "stored_run_in_pieces",
+            "what was written",
             writer.taken.as_slice(),
             STORED_OUTPUT.as_bytes(),
         );
@@ -364,7 +354,7 @@ fn cut_input(rt: HostRuntime) -> Result<(), Fail> {
         let (lines, answers) = answers_to(rt.alloc(), input)?;
         same(
             &rt,
-            "cut_input",
+            "what was written",
             output.as_slice(),
             answers.as_str().as_bytes(),
         );
@@ -375,7 +365,7 @@ fn cut_input(rt: HostRuntime) -> Result<(), Fail> {
                 fault: LineFault::NotEnded,
             }),
         };
-        same(&rt, "cut_input", ended.map(|counts| counts.lines), wanted);
+        same(&rt, "the lines", ended.map(|counts| counts.lines), wanted);
     }
     Ok(())
 }
@@ -397,9 +387,9 @@ fn serves_until<R: Abort>(
     };
     let mut reader = STORED_INPUT.as_bytes();
     let ended = serve_text(alloc, &mut reader, &mut writer, &mut machine);
-    same(rt, "serves_until", ended, Err(TraceFault::Write));
+    same(rt, "the fault", ended, Err(TraceFault::Write));
     let front = STORED_OUTPUT.as_bytes().get(..room);
-    same(rt, "serves_until", Some(writer.taken.as_slice()), front);
+    same(rt, "what was written", Some(writer.taken.as_slice()), front);
     Ok(machine)
 }
 
@@ -411,8 +401,8 @@ fn failing_writer(rt: HostRuntime) -> Result<(), Fail> {
         let machine = serves_until(&rt, rt.alloc(), room, true)?;
         let field = machine.field(0, 1).ok_or("a word's field")?;
         match room {
-            20 => same(&rt, "failing_writer", field.code, Lanes::none()),
-            21 => same(&rt, "failing_writer", field.code, Lanes::LANE_0),
+            20 => same(&rt, "room for 20", field.code, Lanes::none()),
+            21 => same(&rt, "room for 21", field.code, Lanes::LANE_0),
             _ => {}
         }
     }
@@ -430,7 +420,7 @@ fn long_pairs_are_refused(rt: HostRuntime) -> Result<(), Fail> {
         let refused = check_text(rt.alloc(), &mut text.as_slice(), 64);
         same(
             &rt,
-            "long_pairs_are_refused",
+            "the check",
             refused,
             Err(TraceFault::Line { number, fault }),
         );
