@@ -1,17 +1,23 @@
-//! The callers in `uses`, run.
+//! The callers in `uses`, run, and what faults say of themselves.
 
-use super::fixture::{PROGRAM_SHAPE, image, numbered};
-use flat_model::FlatMemory;
-use machine_core::{Answer, Cause, Event, Lanes, Machine, Word};
+use super::fixture::{PROGRAM_SHAPE, image, numbered, same};
+use flat_model::{FlatMemory, MakeFault, ReplayFault, ShapeField, StepFault};
+use machine_core::Machine;
 use std::test::Fail;
-use trace_text::{Line, LineFault, Pair, read_pair, written_line, written_pair};
+use trace_text::LineFault;
 use uses::{Lookups, Verdict, count_lookups, first_load, judge_line};
 
 #[test]
 fn a_first_load_gets_the_word_of_the_image(rt: HostRuntime) -> Result<(), Fail> {
     let image = image(rt.alloc(), 64)?;
-    assert_eq!(rt; first_load(rt.alloc(), &image, 5)?, Some(numbered(5)));
-    assert_eq!(rt; first_load(rt.alloc(), &image, 64)?, None);
+    for (at, word) in [(5, Some(numbered(5))), (64, None)] {
+        same(
+            &rt,
+            "the first load",
+            first_load(rt.alloc(), &image, at)?,
+            word,
+        );
+    }
     Ok(())
 }
 
@@ -27,7 +33,7 @@ fn lookups_are_hits_joins_and_misses(rt: HostRuntime) -> Result<(), Fail> {
         joins: 1,
         misses: 1,
     };
-    assert_eq!(rt; counted, expected);
+    same(&rt, "lookups", counted, expected);
     Ok(())
 }
 
@@ -44,53 +50,57 @@ fn a_run_is_judged_line_by_line(rt: HostRuntime) -> Result<(), Fail> {
         ("take 0 -> value 1 05000000\n", Verdict::Explained),
     ];
     for (line, verdict) in lines {
-        assert_eq!(rt; judge_line(&mut memory, line.as_bytes())?, verdict);
+        same(
+            &rt,
+            line,
+            judge_line(&mut memory, line.as_bytes())?,
+            verdict,
+        );
     }
-    assert_eq!(rt; memory.due_word(1), None);
+    same(&rt, "what tag 1 is owed", memory.due_word(1), None);
     Ok(())
 }
 
-// What the run of a machine is written as, and that each line of it is read back.
-#[test]
-fn a_run_is_recorded(rt: HostRuntime) -> Result<(), Fail> {
-    let event = Event::Load { tag: 1, at: 5 };
-    let text = written_pair(rt.alloc(), event, Answer::Accepted)?;
-    assert_eq!(rt; text.as_str(), "load 1 5 -> accepted\n");
-    let pair = Pair {
-        line: Line::Event(event),
-        answer: Some(Answer::Accepted),
-    };
-    assert_eq!(rt; read_pair(text.as_bytes()), Ok(pair));
-    let line = written_line(rt.alloc(), Line::Bank(7))?;
-    assert_eq!(rt; line.as_str(), "bank 7\n");
-    Ok(())
+/// A fault of a part.
+#[derive(Clone, Copy)]
+enum Fault {
+    Make(MakeFault),
+    Replay(ReplayFault),
+    Step(StepFault),
 }
 
+const TEXTS: &[(Fault, &str)] = &[
+    (
+        Fault::Make(MakeFault::BadShape(ShapeField::Words)),
+        "Words is out of range",
+    ),
+    (Fault::Make(MakeFault::OutOfMemory), "out of memory"),
+    (
+        Fault::Replay(ReplayFault::Lengths),
+        "as many answers as events are needed",
+    ),
+    (
+        Fault::Replay(ReplayFault::Mismatch { place: 2 }),
+        "the answer at place 2 is not one of flat memory",
+    ),
+    (Fault::Replay(ReplayFault::OutOfMemory), "out of memory"),
+    (
+        Fault::Step(StepFault::Mismatch),
+        "the answer is not one of flat memory",
+    ),
+    (Fault::Step(StepFault::OutOfMemory), "out of memory"),
+];
+
 #[test]
-fn events_and_answers_show_as_in_a_trace(rt: HostRuntime) -> Result<(), Fail> {
-    let store = Event::Store {
-        at: 5,
-        word: Word {
-            b0: 7,
-            b1: 0xab,
-            b2: 0,
-            b3: 0xff,
-        },
-        lanes: Lanes::LANE_0,
-    };
-    let shown = format!(in rt.alloc(); "{store}")?;
-    assert_eq!(rt; shown.as_str(), "store 5 1000 07ab00ff");
-    let arrive = Event::Arrive { bank: 1, place: 0 };
-    let shown = format!(in rt.alloc(); "{arrive}")?;
-    assert_eq!(rt; shown.as_str(), "arrive 1 0");
-    let value = Answer::Value {
-        tag: 1,
-        word: numbered(5),
-    };
-    let shown = format!(in rt.alloc(); "{value}")?;
-    assert_eq!(rt; shown.as_str(), "value 1 05000000");
-    let refused = Answer::Refused(Cause::TagInUse);
-    let shown = format!(in rt.alloc(); "{refused}")?;
-    assert_eq!(rt; shown.as_str(), "refused 3");
+fn makers_and_replays_say_what_they_lack(rt: HostRuntime) -> Result<(), Fail> {
+    let alloc = rt.alloc();
+    for (fault, text) in TEXTS {
+        let said = match fault {
+            Fault::Make(fault) => format!(in alloc; "{fault}"),
+            Fault::Replay(fault) => format!(in alloc; "{fault}"),
+            Fault::Step(fault) => format!(in alloc; "{fault}"),
+        }?;
+        same(&rt, text, said.as_str(), *text);
+    }
     Ok(())
 }

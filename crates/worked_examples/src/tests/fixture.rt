@@ -3,6 +3,10 @@
 use flat_model::{MakeFault, Shape, Word};
 use machine_core::Machine;
 use std::alloc::{AllocError, Global};
+use std::fmt::Debug;
+use std::io;
+use std::io::Read;
+use std::process::Abort;
 use std::test::Fail;
 use trace_text::Counts;
 
@@ -62,6 +66,21 @@ pub const STORED_COUNTS: Counts = Counts {
     refused: 0,
 };
 
+/// Asserts that what a row's case gave is what the row says. The name of the row is told where it isn't.
+///
+/// It stands once, since each `assert_eq!` with a text takes the checker some seconds.
+pub fn same<R: Abort, T: PartialEq + Debug + Drop>(rt: &R, name: &str, found: T, wanted: T) {
+    assert_eq!(rt; found, wanted, "{name}");
+}
+
+/// A word of zeros.
+pub const ZERO: Word = Word {
+    b0: 0,
+    b1: 0,
+    b2: 0,
+    b3: 0,
+};
+
 /// A word of these bytes.
 pub fn word(b0: u8, b1: u8, b2: u8, b3: u8) -> Word {
     Word { b0, b1, b2, b3 }
@@ -91,4 +110,62 @@ pub fn small_machine(alloc: Global) -> Result<Machine<1, 4, 2, 2>, MakeFault> {
 pub fn default_machine(alloc: Global) -> Result<Machine<2, 4, 4, 4>, Fail> {
     let image = vec![in alloc; Word::default(); 64]?;
     Ok(Machine::new(alloc, PROGRAM_SHAPE, &image)?)
+}
+
+/// What a reader does in a read behind its text.
+#[derive(Clone, Copy)]
+pub enum Behind {
+    End,
+    Failure,
+    Text(&'static str),
+}
+
+/// Gives its text, at most so many bytes in a read, and then does what is behind it, one each in a read,
+/// and the last one in each further read.
+#[derive(Drop)]
+pub struct Script<'a> {
+    text: &'a [u8],
+    most: usize,
+    behind: [Behind; 2],
+    done: usize,
+    /// How often it was read.
+    pub reads: usize,
+}
+
+impl<'a> Script<'a> {
+    /// A reader that hasn't been read.
+    pub fn new(text: &'a str, most: usize, behind: [Behind; 2]) -> Script<'a> {
+        Script {
+            text: text.as_bytes(),
+            most,
+            behind,
+            done: 0,
+            reads: 0,
+        }
+    }
+
+    // What is done in the next read behind the text.
+    fn next_behind(&mut self) -> Behind {
+        let behind = self.behind[self.done.min(1)];
+        self.done = self.done.saturating_add(1);
+        behind
+    }
+}
+
+impl Read for Script<'_> {
+    fn read(&mut self, buf: &mut [u8]) -> io::Result<usize> {
+        self.reads = self.reads.saturating_add(1);
+        if self.text.is_empty() {
+            match self.next_behind() {
+                Behind::End => {}
+                Behind::Failure => return Err(io::Error::from(io::ErrorKind::Other)),
+                Behind::Text(text) => self.text = text.as_bytes(),
+            }
+        }
+        let n = buf.len().min(self.most).min(self.text.len());
+        let (given, rest) = self.text.split_at(n);
+        buf[..n].copy_from_slice(given);
+        self.text = rest;
+        Ok(n)
+    }
 }

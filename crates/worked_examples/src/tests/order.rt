@@ -1,6 +1,6 @@
 //! The order in which a trace is read, and its answers are written and flushed.
 
-use super::fixture::default_machine;
+use super::fixture::{default_machine, same};
 use std::alloc::Global;
 use std::cell::RefCell;
 use std::io;
@@ -75,29 +75,35 @@ fn log_of(alloc: Global, pieces: &[&str]) -> Result<Vec<u8>, Fail> {
     Ok(log.into_inner())
 }
 
-#[test]
-fn each_answer_is_written_before_the_next_read(rt: HostRuntime) -> Result<(), Fail> {
-    let pieces = ["load 1 4\n", "serve 0\narr", "ive 0 0\n"];
-    let log = log_of(rt.alloc(), &pieces)?;
-    let wanted = "!<load 1 4
+/// What a reader gives in its reads, and the log of serving it.
+const LOGS: &[(&str, &[&str], &str)] = &[
+    (
+        "each_answer_is_written_before_the_next_read",
+        &["load 1 4\n", "serve 0\narr", "ive 0 0\n"],
+        "!<load 1 4
 >load 1 4 -> acce>pted
 !<serve 0
 arr>serve 0 -> moved>
 !<ive 0 0
 >arrive 0 0 -> mo>ved
-!<";
-    assert_eq!(rt; std::str::from_utf8(log.as_slice())?, wanted);
-    Ok(())
-}
-
-#[test]
-fn answers_are_flushed_before_a_fault(rt: HostRuntime) -> Result<(), Fail> {
-    let log = log_of(rt.alloc(), &["drain\njump\ndrain\n"])?;
-    let wanted = "!<drain
+!<",
+    ),
+    (
+        "answers_are_flushed_before_a_fault",
+        &["drain\njump\ndrain\n"],
+        "!<drain
 jump
 drain
 >drain -> nothing>
-!";
-    assert_eq!(rt; std::str::from_utf8(log.as_slice())?, wanted);
+!",
+    ),
+];
+
+#[test]
+fn order_of_reads_writes_and_flushes(rt: HostRuntime) -> Result<(), Fail> {
+    for (name, pieces, wanted) in LOGS {
+        let log = log_of(rt.alloc(), pieces)?;
+        same(&rt, name, std::str::from_utf8(log.as_slice())?, *wanted);
+    }
     Ok(())
 }

@@ -1,75 +1,333 @@
-//! The examples of the parts: flat memory, the makers, and the cache unit over its banks.
+//! The parts: what waits in those of a machine, flat memory, the makers, and the cache unit over its banks.
 
-use super::fixture::{SMALL_SHAPE, image, small_machine, word};
+use super::fixture::{SMALL_SHAPE, ZERO, image, numbered, same, small_machine};
+use super::stories::{ARRIVED, joined, told};
 use cache_directory::{Choice, Directory};
 use cache_unit::{CacheUnit, Request};
 use flat_model::{
-    Answer, Cause, Event, FlatMemory, Lanes, MakeFault, ReplayFault, Shape, ShapeField, Word,
+    Answer, Cause, Event, FlatMemory, Lanes, MakeFault, ReplayFault, Shape, ShapeField, Word, merge,
 };
 use input_stack::InputStack;
-use machine_core::Machine;
+use machine_core::{BankAnswer, Command, Machine};
 use memory_banks::Banks;
-use miss_registers::{FieldView, RegisterFile, RegisterView};
+use miss_registers::{Owed, RegisterFile, RegisterView};
 use std::alloc::Global;
 use std::process::Abort;
 use std::test::Fail;
 use write_queue::{Queued, WriteQueue};
 
-type Unit = CacheUnit<1, 4, 2, 2>;
+/// What stands at a place of a machine's parts.
+#[derive(Clone, Copy, PartialEq, Eq, Debug)]
+enum Look {
+    /// What waits in this bank at this place.
+    Command(u32, u32, Option<Command>),
+    /// Which answer stands in this bank at this place.
+    Answer(u32, u32, Option<BankAnswer>),
+    /// What this register owes for this word at this place.
+    Target(u32, u32, u32, Option<Owed>),
+}
 
-/// Asserts that a value that was stored behind its load isn't the one that the load is owed.
-fn replay_of_a_later_value<R: Abort>(rt: &R, alloc: Global, image: &[Word]) -> Result<(), Fail> {
-    let mut memory = FlatMemory::new(alloc, image)?;
-    let stored_later = [
-        Event::Load { tag: 1, at: 0 },
-        Event::Store {
-            at: 0,
-            word: word(255, 0, 0, 0),
-            lanes: Lanes::LANE_0,
+// The reads of words 4 to 7 for register 0: they lie in banks 0, 1, 0 and 1, two of them in each, at places 2
+// and 3.
+const READ_4: Option<Command> = Some(Command::Read {
+    slot: 0,
+    i: 0,
+    place: 2,
+});
+
+const READ_5: Option<Command> = Some(Command::Read {
+    slot: 0,
+    i: 1,
+    place: 2,
+});
+
+const READ_6: Option<Command> = Some(Command::Read {
+    slot: 0,
+    i: 2,
+    place: 3,
+});
+
+const READ_7: Option<Command> = Some(Command::Read {
+    slot: 0,
+    i: 3,
+    place: 3,
+});
+
+// The reads of words 9 and 11, in bank 1.
+const READ_9: Option<Command> = Some(Command::Read {
+    slot: 0,
+    i: 1,
+    place: 4,
+});
+
+const READ_11: Option<Command> = Some(Command::Read {
+    slot: 0,
+    i: 3,
+    place: 5,
+});
+
+/// A byte of word 5, written back.
+const WRITE_5: Option<Command> = Some(Command::Write {
+    place: 2,
+    word: Word { b1: 0xaa, ..ZERO },
+    lanes: Lanes::LANE_1,
+});
+
+// The answers to the reads of words 5 and 7.
+const ANSWER_5: Option<BankAnswer> = Some(BankAnswer {
+    slot: 0,
+    i: 1,
+    word: Word { b0: 5, ..ZERO },
+});
+
+const ANSWER_7: Option<BankAnswer> = Some(BankAnswer {
+    slot: 0,
+    i: 3,
+    word: Word { b0: 7, ..ZERO },
+});
+
+/// What tag 3 is owed: a byte of it was stored before.
+const OWED_TO_TAG_3: Option<Owed> = Some(Owed {
+    tag: 3,
+    held: Word { b0: 255, ..ZERO },
+    lanes: Lanes::LANE_0,
+});
+
+/// A command without the bytes that don't count: those of a write in no lane.
+fn counted(command: Command) -> Command {
+    match command {
+        Command::Write { place, word, lanes } => Command::Write {
+            place,
+            word: merge(Word::default(), word, lanes),
+            lanes,
         },
-        Event::Take { place: 0 },
-    ];
-    let later_value = [
-        Answer::Accepted,
-        Answer::Accepted,
-        Answer::Value {
-            tag: 1,
-            word: word(255, 0, 0, 0),
-        },
-    ];
-    let late = memory.replay(alloc, &stored_later, &later_value);
-    assert_eq!(rt; late, Err(ReplayFault::Mismatch { place: 2 }));
-    assert_eq!(rt; memory.word(0), Some(word(0, 0, 0, 0)));
-    assert_eq!(rt; memory.due_word(1), None);
+        read => read,
+    }
+}
+
+impl Look {
+    /// What stands there in this machine.
+    fn seen(self, machine: &Machine<1, 4, 2, 2>) -> Look {
+        match self {
+            Look::Command(bank, place, _) => {
+                Look::Command(bank, place, machine.command_at(bank, place).map(counted))
+            }
+            Look::Answer(bank, place, _) => {
+                Look::Answer(bank, place, machine.answer_at(bank, place))
+            }
+            Look::Target(slot, i, place, _) => {
+                Look::Target(slot, i, place, machine.target(slot, i, place))
+            }
+        }
+    }
+}
+
+const MISSED: &str = "load 1 5 -> accepted\n";
+
+const SERVED: &str = "serve 1 -> moved\n";
+
+/// Asserts what stands in a machine of the small shape that has answered these lines as they say.
+fn stands<R: Abort>(
+    rt: &R,
+    alloc: Global,
+    name: &str,
+    lines: &[&str],
+    looks: &[Look],
+) -> Result<(), Fail> {
+    let mut machine = small_machine(alloc)?;
+    let lines = joined(alloc, lines)?;
+    let told = told(alloc, &mut machine, lines.as_str())?;
+    same(
+        rt,
+        name,
+        std::str::from_utf8(told.as_slice())?,
+        lines.as_str(),
+    );
+    for look in looks {
+        same(rt, name, look.seen(&machine), *look);
+    }
     Ok(())
 }
 
+/// What machines that have answered these lines show.
+const STANDING: &[(&str, &[&str], &[Look])] = &[
+    (
+        "nothing_waits_at_first",
+        &[],
+        &[
+            Look::Command(0, 0, None),
+            Look::Command(1, 0, None),
+            Look::Command(2, 0, None),
+            Look::Answer(0, 0, None),
+            Look::Answer(1, 0, None),
+            Look::Answer(2, 0, None),
+        ],
+    ),
+    (
+        // Behind the last one nothing waits, and a third bank isn't there.
+        "reads_of_a_miss_wait_in_order",
+        &[MISSED],
+        &[
+            Look::Command(0, 0, READ_4),
+            Look::Command(0, 1, READ_6),
+            Look::Command(0, 2, None),
+            Look::Command(1, 0, READ_5),
+            Look::Command(1, 1, READ_7),
+            Look::Command(1, u32::MAX, None),
+            Look::Command(2, 0, None),
+            Look::Command(u32::MAX, 0, None),
+        ],
+    ),
+    (
+        "served_reads_stand_as_answers: one",
+        &[MISSED, SERVED],
+        &[
+            Look::Command(1, 0, READ_7),
+            Look::Command(1, 1, None),
+            Look::Answer(1, 0, ANSWER_5),
+            Look::Answer(1, 1, None),
+            Look::Answer(0, 0, None),
+        ],
+    ),
+    (
+        "served_reads_stand_as_answers: both",
+        &[MISSED, SERVED, SERVED],
+        &[
+            Look::Command(1, 0, None),
+            Look::Answer(1, 0, ANSWER_5),
+            Look::Answer(1, 1, ANSWER_7),
+            Look::Answer(1, 2, None),
+            Look::Answer(2, 0, None),
+            Look::Answer(u32::MAX, u32::MAX, None),
+        ],
+    ),
+    (
+        "the_next_answer_stands_first_where_the_first_arrived",
+        &[MISSED, SERVED, SERVED, "arrive 1 0 -> moved\n"],
+        &[Look::Answer(1, 0, ANSWER_7), Look::Answer(1, 1, None)],
+    ),
+    (
+        "the_next_answer_stands_first_where_the_first_arrived: and where the second did",
+        &[MISSED, SERVED, SERVED, "arrive 1 1 -> moved\n"],
+        &[Look::Answer(1, 0, ANSWER_5), Look::Answer(1, 1, None)],
+    ),
+    (
+        // A dirty word of block 1 is drained while the reads of block 2, words 8 to 11, wait.
+        "a_write_waits_behind_reads",
+        &[
+            "prefetch 4 -> accepted\n",
+            ARRIVED,
+            "store 5 0100 00aa0000 -> accepted
+evict 1 -> accepted
+prefetch 8 -> accepted
+drain -> moved
+",
+        ],
+        &[
+            Look::Command(1, 0, READ_9),
+            Look::Command(1, 1, READ_11),
+            Look::Command(1, 2, WRITE_5),
+            Look::Command(1, 3, None),
+            Look::Command(0, 2, None),
+        ],
+    ),
+    (
+        "two_targets_shown",
+        &[
+            MISSED,
+            "store 5 1000 ff000000 -> accepted\nload 3 5 -> accepted\n",
+        ],
+        &[Look::Target(0, 1, 1, OWED_TO_TAG_3)],
+    ),
+];
+
+#[test]
+fn what_stands_in_a_machine(rt: HostRuntime) -> Result<(), Fail> {
+    for (name, lines, looks) in STANDING {
+        stands(&rt, rt.alloc(), name, lines, looks)?;
+    }
+    Ok(())
+}
+
+const LOAD_0: Event = Event::Load { tag: 1, at: 0 };
+
+const LOAD_1: Event = Event::Load { tag: 1, at: 1 };
+
+const LOAD_2: Event = Event::Load { tag: 1, at: 2 };
+
+const STORE_0: Event = Event::Store {
+    at: 0,
+    word: Word { b0: 255, ..ZERO },
+    lanes: Lanes::LANE_0,
+};
+
+const TAKE: Event = Event::Take { place: 0 };
+
+const VALUE_1: Answer = Answer::Value {
+    tag: 1,
+    word: Word { b0: 1, ..ZERO },
+};
+
+const VALUE_255: Answer = Answer::Value {
+    tag: 1,
+    word: Word { b0: 255, ..ZERO },
+};
+
+/// Events and answers over a memory of the words 0 and 1, and what becomes of their replay.
+const REPLAYS: &[(&str, &[Event], &[Answer], Result<(), ReplayFault>)] = &[
+    (
+        "a first load",
+        &[LOAD_1, TAKE],
+        &[Answer::Accepted, VALUE_1],
+        Ok(()),
+    ),
+    (
+        "nothing is owed",
+        &[TAKE],
+        &[VALUE_1],
+        Err(ReplayFault::Mismatch { place: 0 }),
+    ),
+    (
+        "fewer answers than events",
+        &[LOAD_0],
+        &[],
+        Err(ReplayFault::Lengths),
+    ),
+    (
+        "outside, and accepted",
+        &[LOAD_2],
+        &[Answer::Accepted],
+        Err(ReplayFault::Mismatch { place: 0 }),
+    ),
+    (
+        "outside, and refused",
+        &[LOAD_2],
+        &[Answer::Refused(Cause::OutOfRange)],
+        Ok(()),
+    ),
+    // A value that was stored behind its load isn't the one that the load is owed.
+    (
+        "a later value",
+        &[LOAD_0, STORE_0, TAKE],
+        &[Answer::Accepted, Answer::Accepted, VALUE_255],
+        Err(ReplayFault::Mismatch { place: 2 }),
+    ),
+];
+
 #[test]
 fn replay(rt: HostRuntime) -> Result<(), Fail> {
-    let alloc = rt.alloc();
-    let image = [word(0, 0, 0, 0), word(1, 0, 0, 0)];
-    let first_load = [Event::Load { tag: 1, at: 1 }, Event::Take { place: 0 }];
-    let first_value = [
-        Answer::Accepted,
-        Answer::Value {
-            tag: 1,
-            word: word(1, 0, 0, 0),
-        },
-    ];
-    let mut memory = FlatMemory::new(alloc, &image)?;
-    assert_eq!(rt; memory.replay(alloc, &first_load, &first_value), Ok(()));
-
-    let mut memory = FlatMemory::new(alloc, &image)?;
-    let unowed = memory.replay(alloc, &first_load[1..], &first_value[1..]);
-    assert_eq!(rt; unowed, Err(ReplayFault::Mismatch { place: 0 }));
-    let uneven = memory.replay(alloc, &[Event::Load { tag: 1, at: 0 }], &[]);
-    assert_eq!(rt; uneven, Err(ReplayFault::Lengths));
-    let outside = [Event::Load { tag: 1, at: 2 }];
-    let accepted = memory.replay(alloc, &outside, &[Answer::Accepted]);
-    assert_eq!(rt; accepted, Err(ReplayFault::Mismatch { place: 0 }));
-    let refused = memory.replay(alloc, &outside, &[Answer::Refused(Cause::OutOfRange)]);
-    assert_eq!(rt; refused, Ok(()));
-    replay_of_a_later_value(&rt, alloc, &image)
+    for (name, events, answers, wanted) in REPLAYS {
+        let mut memory = FlatMemory::new(rt.alloc(), &[numbered(0), numbered(1)])?;
+        same(
+            &rt,
+            name,
+            memory.replay(rt.alloc(), events, answers),
+            *wanted,
+        );
+        same(&rt, name, memory.word(0), Some(numbered(0)));
+        same(&rt, name, memory.due_word(1), None);
+    }
+    Ok(())
 }
 
 /// The banks of a shape of 32 words.
@@ -78,40 +336,40 @@ fn banks_of(alloc: Global, shape: &Shape) -> Result<Banks, MakeFault> {
     Banks::new(alloc, &image, shape)
 }
 
-/// A unit of a shape, with one way, 4 words in a block and a stack of 2.
-fn unit_of(alloc: Global, shape: &Shape) -> Result<Unit, MakeFault> {
-    CacheUnit::new(alloc, shape)
-}
-
 /// The field that a machine of that shape is refused for.
-fn refusal<const REGS: usize>(alloc: Global, shape: Shape, image: &[Word]) -> Option<ShapeField> {
-    let made: Result<Machine<1, 4, REGS, 2>, MakeFault> = Machine::new(alloc, shape, image);
-    match made {
-        Err(MakeFault::BadShape(field)) => Some(field),
-        _ => None,
+fn refusal<const REGS: usize>(
+    alloc: Global,
+    shape: Shape,
+    words: u8,
+) -> Result<Option<ShapeField>, Fail> {
+    let image = image(alloc, words)?;
+    match Machine::<1, 4, REGS, 2>::new(alloc, shape, &image) {
+        Err(MakeFault::BadShape(field)) => Ok(Some(field)),
+        _ => Ok(None),
     }
 }
 
-/// Asserts which field a machine is refused for.
-fn makers_refuse<R: Abort>(rt: &R, alloc: Global) -> Result<(), Fail> {
-    let short_image = image(alloc, 31)?;
-    let image = image(alloc, 32)?;
-    let mut short_banks = SMALL_SHAPE;
-    short_banks.bank_queue = 1;
-    let mut broken_block = SMALL_SHAPE;
-    broken_block.words = 30;
+#[test]
+fn makers_refuse_shapes(rt: HostRuntime) -> Result<(), Fail> {
+    let small = SMALL_SHAPE;
+    let short_banks = Shape {
+        bank_queue: 1,
+        ..small
+    };
+    let broken_block = Shape { words: 30, ..small };
     let refused = [
-        (short_banks, image.as_slice(), ShapeField::BankQueue),
-        (broken_block, image.as_slice(), ShapeField::Words),
-        (SMALL_SHAPE, short_image.as_slice(), ShapeField::Image),
+        (2, short_banks, 32, ShapeField::BankQueue),
+        (2, broken_block, 32, ShapeField::Words),
+        (2, small, 31, ShapeField::Image),
+        (0, broken_block, 32, ShapeField::Regs),
     ];
-    for (shape, image, field) in refused {
-        assert_eq!(rt; refusal::<2>(alloc, shape, image), Some(field));
+    for (registers, shape, words, field) in refused {
+        let found = match registers {
+            0 => refusal::<0>(rt.alloc(), shape, words),
+            _ => refusal::<2>(rt.alloc(), shape, words),
+        }?;
+        same(&rt, "the field", found, Some(field));
     }
-    assert_eq!(rt;
-        refusal::<0>(alloc, broken_block, &image),
-        Some(ShapeField::Regs)
-    );
     Ok(())
 }
 
@@ -119,93 +377,152 @@ fn makers_refuse<R: Abort>(rt: &R, alloc: Global) -> Result<(), Fail> {
 fn makers(rt: HostRuntime) -> Result<(), Fail> {
     let alloc = rt.alloc();
     let directory: Directory<1, 4> = Directory::new(alloc, 2)?;
-    assert_eq!(rt; directory.look(1), None);
-    assert_eq!(rt; directory.choose(1), Choice::Free(1));
+    same(&rt, "a look", directory.look(1), None);
+    same(&rt, "a choice", directory.choose(1), Choice::Free(1));
     let registers: RegisterFile<4, 2> = RegisterFile::new(alloc)?;
-    assert_eq!(rt; registers.free_slot(), Some(0));
+    same(&rt, "a free slot", registers.free_slot(), Some(0));
     let stack: InputStack<2> = InputStack::new()?;
-    assert_eq!(rt; stack.len(), 0);
-    let queue = WriteQueue::new(alloc, 4)?;
-    assert_eq!(rt; queue.room(), 4);
+    same(&rt, "the stack", stack.len(), 0);
     let banks = banks_of(alloc, &SMALL_SHAPE)?;
-    assert_eq!(rt; banks.word(5), Some(word(5, 0, 0, 0)));
+    same(&rt, "word 5", banks.word(5), Some(numbered(5)));
     assert!(rt; banks.idle());
-    let unit = unit_of(alloc, &SMALL_SHAPE)?;
+    let unit: Unit = CacheUnit::new(alloc, &SMALL_SHAPE)?;
     assert!(rt; unit.clean());
-    makers_refuse(&rt, alloc)
+    Ok(())
 }
 
 #[test]
 fn block_that_waits_in_the_write_queue(rt: HostRuntime) -> Result<(), Fail> {
     let mut queue = WriteQueue::new(rt.alloc(), 4)?;
+    same(&rt, "room", queue.room(), 4);
     queue.push(Queued {
         block: 1,
         at: 5,
-        word: word(5, 0, 0, 0),
+        word: numbered(5),
         lanes: Lanes::LANE_0,
     });
-    assert!(rt; queue.holds_block(1));
-    assert!(rt; !queue.holds_block(0));
+    for (block, waits) in [(1, true), (0, false)] {
+        same(&rt, "holds_block", queue.holds_block(block), waits);
+    }
     queue.pop();
     assert!(rt; !queue.holds_block(1));
     Ok(())
 }
 
-#[test]
-fn unit_uses_the_arrived_word(rt: HostRuntime) -> Result<(), Fail> {
-    let mut unit = unit_of(rt.alloc(), &SMALL_SHAPE)?;
-    let mut banks = banks_of(rt.alloc(), &SMALL_SHAPE)?;
-    let store = Request::Store {
-        at: 5,
-        word: word(0xaa, 0, 0, 0),
-        lanes: Lanes::LANE_0,
-    };
-    let load = Request::Load { tag: 1, at: 5 };
-    for request in [store, load] {
-        assert_eq!(rt; unit.request(request, &mut banks), Answer::Accepted);
-    }
-    let arrived = word(0xde, 0xad, 0xbe, 0xef);
-    let stray = Answer::Refused(Cause::StrayWord);
-    for answer in [Answer::Moved, stray] {
-        assert_eq!(rt; unit.arrive(0, 1, arrived), answer);
-    }
-    assert_eq!(rt; unit.process(0), Answer::Moved);
-    assert_eq!(rt; unit.arrive(0, 1, arrived), stray);
-    let value = Answer::Value {
-        tag: 1,
-        word: word(0xaa, 0xad, 0xbe, 0xef),
-    };
-    assert_eq!(rt; unit.take(0), value);
-    Ok(())
+type Unit = CacheUnit<1, 4, 2, 2>;
+
+/// A call of a cache unit, and what it answers or shows.
+#[derive(Clone, Copy, PartialEq, Eq, Debug)]
+enum Call {
+    Request(Request, Answer),
+    /// The word of the register in a slot at a place of its block comes.
+    Arrive(u32, u32, Word, Answer),
+    Process(u32, Answer),
+    Take(u32, Answer),
+    /// What the register in a slot shows.
+    Register(u32, Option<RegisterView>),
+    /// Of a word of a register: whether a load waits for it, the tag of the first one, and how many do.
+    Waits(u32, u32, Option<(bool, u16, u32)>),
 }
 
+impl Call {
+    /// The call as this unit answers it.
+    fn made(self, unit: &mut Unit, banks: &mut Banks) -> Call {
+        match self {
+            Call::Request(request, _) => Call::Request(request, unit.request(request, banks)),
+            Call::Arrive(slot, i, word, _) => {
+                Call::Arrive(slot, i, word, unit.arrive(slot, i, word))
+            }
+            Call::Process(place, _) => Call::Process(place, unit.process(place)),
+            Call::Take(place, _) => Call::Take(place, unit.take(place)),
+            Call::Register(slot, _) => Call::Register(slot, unit.register(slot)),
+            Call::Waits(slot, i, _) => {
+                let field = unit.field(slot, i);
+                Call::Waits(slot, i, field.map(|it| (it.send, it.tag, it.targets)))
+            }
+        }
+    }
+}
+
+const STRAY: Answer = Answer::Refused(Cause::StrayWord);
+
+const WORD_5: Word = Word { b0: 5, ..ZERO };
+
+const BYTE_AA: Word = Word { b0: 0xaa, ..ZERO };
+
+const DEADBEEF: Word = Word {
+    b0: 0xde,
+    b1: 0xad,
+    b2: 0xbe,
+    b3: 0xef,
+};
+
+const AAADBEEF: Word = Word {
+    b0: 0xaa,
+    b1: 0xad,
+    b2: 0xbe,
+    b3: 0xef,
+};
+
+/// Calls of a unit of the small shape over its banks.
+const CALLS: &[(&str, &[Call])] = &[
+    (
+        "unit_uses_the_arrived_word",
+        &[
+            Call::Request(
+                Request::Store {
+                    at: 5,
+                    word: BYTE_AA,
+                    lanes: Lanes::LANE_0,
+                },
+                Answer::Accepted,
+            ),
+            Call::Request(Request::Load { tag: 1, at: 5 }, Answer::Accepted),
+            Call::Arrive(0, 1, DEADBEEF, Answer::Moved),
+            Call::Arrive(0, 1, DEADBEEF, STRAY),
+            Call::Process(0, Answer::Moved),
+            Call::Arrive(0, 1, DEADBEEF, STRAY),
+            Call::Take(
+                0,
+                Answer::Value {
+                    tag: 1,
+                    word: AAADBEEF,
+                },
+            ),
+        ],
+    ),
+    (
+        "register_views",
+        &[
+            Call::Request(Request::Load { tag: 1, at: 5 }, Answer::Accepted),
+            Call::Register(
+                0,
+                Some(RegisterView {
+                    valid: true,
+                    obsolete: false,
+                    block: 1,
+                    frame: 1,
+                    processed: 0,
+                }),
+            ),
+            Call::Waits(0, 1, Some((true, 1, 1))),
+            Call::Register(2, None),
+            Call::Arrive(0, 1, WORD_5, Answer::Moved),
+            Call::Arrive(0, 1, WORD_5, STRAY),
+            Call::Arrive(1, 0, WORD_5, STRAY),
+            Call::Arrive(0, 4, WORD_5, STRAY),
+        ],
+    ),
+];
+
 #[test]
-fn register_views(rt: HostRuntime) -> Result<(), Fail> {
-    let mut unit = unit_of(rt.alloc(), &SMALL_SHAPE)?;
-    let mut banks = banks_of(rt.alloc(), &SMALL_SHAPE)?;
-    let load = Request::Load { tag: 1, at: 5 };
-    assert_eq!(rt; unit.request(load, &mut banks), Answer::Accepted);
-    let live = RegisterView {
-        valid: true,
-        obsolete: false,
-        block: 1,
-        frame: 1,
-        processed: 0,
-    };
-    assert_eq!(rt; unit.register(0), Some(live));
-    let is_awaited = |field: FieldView| field.send && field.tag == 1 && field.targets == 1;
-    assert!(rt; unit.field(0, 1).is_some_and(is_awaited));
-    assert_eq!(rt; unit.register(2), None);
-    let five = word(5, 0, 0, 0);
-    let stray = Answer::Refused(Cause::StrayWord);
-    let arrivals = [
-        (0, 1, Answer::Moved),
-        (0, 1, stray),
-        (1, 0, stray),
-        (0, 4, stray),
-    ];
-    for (slot, i, answer) in arrivals {
-        assert_eq!(rt; unit.arrive(slot, i, five), answer);
+fn cache_units(rt: HostRuntime) -> Result<(), Fail> {
+    for (name, calls) in CALLS {
+        let mut unit: Unit = CacheUnit::new(rt.alloc(), &SMALL_SHAPE)?;
+        let mut banks = banks_of(rt.alloc(), &SMALL_SHAPE)?;
+        for call in *calls {
+            same(&rt, name, call.made(&mut unit, &mut banks), *call);
+        }
     }
     Ok(())
 }

@@ -1,204 +1,467 @@
 //! Runs with one mismatch of each kind, their texts, and readers that fail.
 
+use super::fixture::{Behind, Script, ZERO, same};
 use flat_model::{Answer, Event, Lanes, Word};
-use run_reasons::{Explainer, Explanation, Mismatch, ReadFault, Reason, explain_text};
+use run_reasons::{Explainer, Mismatch, ReadFault, Reason, explain_text};
 use std::alloc::Global;
-use std::io;
-use std::io::Read;
 use std::process::Abort;
 use std::test::Fail;
 use trace_text::{LineFault, TraceFault};
 
-/// Gives its bytes, at most so many at a time, and then ends, or fails.
-#[derive(Drop)]
-struct Pieces<'a> {
-    bytes: &'a [u8],
-    most: usize,
-    fails: bool,
+/// A run whose last line is a mismatch.
+struct Told {
+    name: &'static str,
+    before: &'static str,
+    line: &'static str,
+    number: u64,
+    why: &'static str,
 }
 
-impl Read for Pieces<'_> {
-    fn read(&mut self, buf: &mut [u8]) -> io::Result<usize> {
-        if self.bytes.is_empty() && self.fails {
-            return Err(io::Error::from(io::ErrorKind::Other));
+const SHOWN: &str = "bank 0 -> 00000000\n";
+
+const OTHER: &str = "load 4 0 -> accepted\n";
+
+const LOADED: &str = "load 4 0 -> accepted
+load 5 8 -> accepted
+";
+
+const PAID: &str = "load 4 0 -> accepted
+load 5 8 -> accepted
+take 1 -> value 5 00000000
+";
+
+const OUTSIDE: &str = "word 64 is outside memory, which has 64 words: it is refused 1";
+
+const INSIDE: &str = "word 63 is in memory, which has 64 words";
+
+const NEVER_LOADED: &str = "tag 5 is owed nothing: it was never loaded";
+
+const IN_USE: &str = "tag 5 is in use since line 2: it is refused 3 until its value is taken";
+
+const TAKEN: &str = "tag 5 is owed nothing: its value was taken in line 3";
+
+const EVER: &str = "an_answer_or_a_cause_that_an_event_never_gets";
+
+const THERE: &str = "a_word_or_a_lane_that_is_there_or_not";
+
+const TAG: &str = "a_tag_that_is_in_use_or_not";
+
+const TOLD: &[Told] = &[
+    Told {
+        name: EVER,
+        before: SHOWN,
+        line: "load 1 4 -> moved",
+        number: 2,
+        why: "a load never gets this answer: it gets accepted, or refused 1 or 3 to 10",
+    },
+    Told {
+        name: EVER,
+        before: SHOWN,
+        line: "load 1 4 -> refused 11",
+        number: 2,
+        why: "a load never gets refused 11: it gets accepted, or refused 1 or 3 to 10",
+    },
+    Told {
+        name: EVER,
+        before: SHOWN,
+        line: "store 4 1000 07000000 -> refused 3",
+        number: 2,
+        why: "a store never gets refused 3: it gets accepted, or refused 1, 2 or 6 to 10",
+    },
+    Told {
+        name: EVER,
+        before: SHOWN,
+        line: "prefetch 4 -> refused 2",
+        number: 2,
+        why: "a prefetch never gets refused 2: it gets accepted, or refused 1 or 6 to 10",
+    },
+    Told {
+        name: EVER,
+        before: SHOWN,
+        line: "evict 4 -> nothing",
+        number: 2,
+        why: "an evict never gets this answer: it gets accepted, or refused 1, 9 or 11",
+    },
+    Told {
+        name: EVER,
+        before: SHOWN,
+        line: "drain -> accepted",
+        number: 2,
+        why: "a drain never gets this answer: it gets moved, nothing or refused 10",
+    },
+    Told {
+        name: EVER,
+        before: SHOWN,
+        line: "serve 0 -> refused 10",
+        number: 2,
+        why: "a serve never gets refused 10: it gets moved or nothing",
+    },
+    Told {
+        name: EVER,
+        before: SHOWN,
+        line: "arrive 0 0 -> refused 13",
+        number: 2,
+        why: "an arrive never gets refused 13: it gets moved, nothing or refused 12",
+    },
+    Told {
+        name: EVER,
+        before: SHOWN,
+        line: "process 0 -> value 1 00000000",
+        number: 2,
+        why: "a process never gets this answer: it gets moved or nothing",
+    },
+    Told {
+        name: EVER,
+        before: SHOWN,
+        line: "take 0 -> moved",
+        number: 2,
+        why: "a take never gets this answer: it gets a value or nothing",
+    },
+    Told {
+        name: THERE,
+        before: "",
+        line: "load 1 64 -> accepted",
+        number: 1,
+        why: OUTSIDE,
+    },
+    Told {
+        name: THERE,
+        before: "",
+        line: "load 1 64 -> refused 7",
+        number: 1,
+        why: OUTSIDE,
+    },
+    Told {
+        name: THERE,
+        before: "",
+        line: "store 64 1000 07000000 -> accepted",
+        number: 1,
+        why: OUTSIDE,
+    },
+    Told {
+        name: THERE,
+        before: "",
+        line: "store 64 0000 07000000 -> refused 2",
+        number: 1,
+        why: OUTSIDE,
+    },
+    Told {
+        name: THERE,
+        before: "",
+        line: "prefetch 64 -> accepted",
+        number: 1,
+        why: OUTSIDE,
+    },
+    Told {
+        name: THERE,
+        before: "",
+        line: "load 1 63 -> refused 1",
+        number: 1,
+        why: INSIDE,
+    },
+    Told {
+        name: THERE,
+        before: "",
+        line: "store 63 1000 07000000 -> refused 1",
+        number: 1,
+        why: INSIDE,
+    },
+    Told {
+        name: THERE,
+        before: "",
+        line: "prefetch 63 -> refused 1",
+        number: 1,
+        why: INSIDE,
+    },
+    Told {
+        name: THERE,
+        before: "",
+        line: "store 3 0000 07000000 -> accepted",
+        number: 1,
+        why: "the store has no lanes: it is refused 2",
+    },
+    Told {
+        name: THERE,
+        before: "",
+        line: "store 3 0100 07000000 -> refused 2",
+        number: 1,
+        why: "the store has lanes",
+    },
+    Told {
+        name: TAG,
+        before: OTHER,
+        line: "take 0 -> value 5 00000000",
+        number: 2,
+        why: NEVER_LOADED,
+    },
+    Told {
+        name: TAG,
+        before: OTHER,
+        line: "load 5 8 -> refused 3",
+        number: 2,
+        why: NEVER_LOADED,
+    },
+    Told {
+        name: TAG,
+        before: LOADED,
+        line: "load 5 12 -> accepted",
+        number: 3,
+        why: IN_USE,
+    },
+    Told {
+        name: TAG,
+        before: LOADED,
+        line: "load 5 12 -> refused 7",
+        number: 3,
+        why: IN_USE,
+    },
+    Told {
+        name: TAG,
+        before: PAID,
+        line: "take 0 -> value 5 00000000",
+        number: 4,
+        why: TAKEN,
+    },
+    Told {
+        name: TAG,
+        before: PAID,
+        line: "load 5 8 -> refused 3",
+        number: 4,
+        why: TAKEN,
+    },
+    // Byte 0 was stored twice before the load and once after it, byte 1 once after the load with another
+    // value than the one that came, byte 2 never, and byte 3 is right. The store of word 8 is no part of it.
+    Told {
+        name: "a_wrong_word_is_explained_byte_by_byte",
+        before: "store 9 1001 0a00000d -> accepted
+store 9 1000 0b000000 -> accepted
+load 7 9 -> accepted
+store 9 1100 0c0e0000 -> accepted
+store 8 1111 01020304 -> accepted
+",
+        line: "take 0 -> value 7 0c01020d",
+        number: 6,
+        why: "the load of line 3 (tag 7, word 9) is owed 0b00000d
+byte 0: owed 0b, stored in line 2; got 0c, stored in line 4, after the load
+byte 1: owed 00, of the initial zeros; got 01, which no last store put there
+byte 2: owed 00, of the initial zeros; got 02, which no last store put there",
+    },
+    // A stale byte: the one that the load's store had replaced.
+    Told {
+        name: "a_byte_from_before_the_last_store",
+        before: "store 9 1000 0a000000 -> accepted
+store 9 1000 0b000000 -> accepted
+load 7 9 -> accepted
+",
+        line: "take 0 -> value 7 0a000000",
+        number: 4,
+        why: "the load of line 3 (tag 7, word 9) is owed 0b000000
+byte 0: owed 0b, stored in line 2; got 0a, which no last store put there",
+    },
+];
+
+/// How many bytes come at once, at most.
+const PIECES: [usize; 5] = [1, 5, 7, 100, 4096];
+
+/// Asserts that a run over 64 words, with this behind it, is told so, in whatever pieces it comes.
+fn ends<R: Abort>(
+    rt: &R,
+    alloc: Global,
+    name: &str,
+    run: &str,
+    behind: Behind,
+    told: Result<&str, TraceFault>,
+    status: u8,
+) -> Result<(), Fail> {
+    for most in PIECES {
+        let mut input = Script::new(run, most, [behind, behind]);
+        match explain_text(alloc, &mut input, 64) {
+            Ok(explanation) => {
+                let text = format!(in alloc; "{explanation}")?;
+                same(rt, name, Ok(text.as_str()), told);
+                same(rt, name, explanation.status(), status);
+            }
+            Err(fault) => same(rt, name, Err(fault), told),
         }
-        let n = buf.len().min(self.most).min(self.bytes.len());
-        let (given, rest) = self.bytes.split_at(n);
-        buf[..n].copy_from_slice(given);
-        self.bytes = rest;
-        Ok(n)
-    }
-}
-
-// What becomes of a run over 64 words, in pieces of at most so many bytes.
-fn explained(alloc: Global, run: &str, most: usize) -> Result<Explanation, TraceFault> {
-    let mut input = Pieces {
-        bytes: run.as_bytes(),
-        most,
-        fails: false,
-    };
-    explain_text(alloc, &mut input, 64)
-}
-
-// The run is told so, in whatever pieces it comes.
-fn is_told(rt: &impl Abort, alloc: Global, run: &str, told: &str, status: u8) -> Result<(), Fail> {
-    for most in [1, 7, 4096] {
-        let explanation = explained(alloc, run, most)?;
-        let text = format!(in alloc; "{explanation}")?;
-        assert_eq!(rt; text.as_str(), told, "in pieces of {most}");
-        assert_eq!(rt; explanation.status(), status);
     }
     Ok(())
 }
 
 #[test]
-fn a_flat_run_is_counted(rt: HostRuntime) -> Result<(), Fail> {
-    let run = "load 1 4 -> accepted\n\
-        settled -> no\n\
-        store 4 1000 07000000 -> accepted\n\
-        take 0 -> value 1 00000000\n";
-    is_told(&rt, rt.alloc(), run, "flat run, 3 steps", 0)?;
-    is_told(&rt, rt.alloc(), "", "flat run, 0 steps", 0)
-}
-
-#[test]
-fn an_answer_or_a_cause_that_an_event_never_gets(rt: HostRuntime) -> Result<(), Fail> {
-    let lines = [
-        (
-            "load 1 4 -> moved",
-            "a load never gets this answer: it gets accepted, or refused 1 or 3 to 10",
-        ),
-        (
-            "load 1 4 -> refused 11",
-            "a load never gets refused 11: it gets accepted, or refused 1 or 3 to 10",
-        ),
-        (
-            "store 4 1000 07000000 -> refused 3",
-            "a store never gets refused 3: it gets accepted, or refused 1, 2 or 6 to 10",
-        ),
-        (
-            "prefetch 4 -> refused 2",
-            "a prefetch never gets refused 2: it gets accepted, or refused 1 or 6 to 10",
-        ),
-        (
-            "evict 4 -> nothing",
-            "an evict never gets this answer: it gets accepted, or refused 1, 9 or 11",
-        ),
-        (
-            "drain -> accepted",
-            "a drain never gets this answer: it gets moved, nothing or refused 10",
-        ),
-        (
-            "serve 0 -> refused 10",
-            "a serve never gets refused 10: it gets moved or nothing",
-        ),
-        (
-            "arrive 0 0 -> refused 13",
-            "an arrive never gets refused 13: it gets moved, nothing or refused 12",
-        ),
-        (
-            "process 0 -> value 1 00000000",
-            "a process never gets this answer: it gets moved or nothing",
-        ),
-        (
-            "take 0 -> moved",
-            "a take never gets this answer: it gets a value or nothing",
-        ),
-    ];
-    for (line, why) in lines {
-        let run = format!(in rt.alloc(); "bank 0 -> 00000000\n{line}\n")?;
-        let told = format!(in rt.alloc(); "mismatch at line 2: {line}\n{why}")?;
-        is_told(&rt, rt.alloc(), run.as_str(), told.as_str(), 1)?;
-    }
-    Ok(())
-}
-
-#[test]
-fn a_word_or_a_lane_that_is_there_or_not(rt: HostRuntime) -> Result<(), Fail> {
-    let outside = "word 64 is outside memory, which has 64 words: it is refused 1";
-    let inside = "word 63 is in memory, which has 64 words";
-    let lines = [
-        ("load 1 64 -> accepted", outside),
-        ("load 1 64 -> refused 7", outside),
-        ("store 64 1000 07000000 -> accepted", outside),
-        ("store 64 0000 07000000 -> refused 2", outside),
-        ("prefetch 64 -> accepted", outside),
-        ("load 1 63 -> refused 1", inside),
-        ("store 63 1000 07000000 -> refused 1", inside),
-        ("prefetch 63 -> refused 1", inside),
-        (
-            "store 3 0000 07000000 -> accepted",
-            "the store has no lanes: it is refused 2",
-        ),
-        ("store 3 0100 07000000 -> refused 2", "the store has lanes"),
-    ];
-    for (line, why) in lines {
-        let run = format!(in rt.alloc(); "{line}\n")?;
-        let told = format!(in rt.alloc(); "mismatch at line 1: {line}\n{why}")?;
-        is_told(&rt, rt.alloc(), run.as_str(), told.as_str(), 1)?;
-    }
-    Ok(())
-}
-
-#[test]
-fn a_tag_that_is_in_use_or_not(rt: HostRuntime) -> Result<(), Fail> {
-    let never = "tag 5 is owed nothing: it was never loaded";
-    let in_use = "tag 5 is in use since line 2: it is refused 3 until its value is taken";
-    let taken = "tag 5 is owed nothing: its value was taken in line 3";
-    let other = "load 4 0 -> accepted\n";
-    let loaded = "load 4 0 -> accepted\nload 5 8 -> accepted\n";
-    let paid = "load 4 0 -> accepted\nload 5 8 -> accepted\ntake 1 -> value 5 00000000\n";
-    let runs = [
-        (other, 2, "take 0 -> value 5 00000000", never),
-        (other, 2, "load 5 8 -> refused 3", never),
-        (loaded, 3, "load 5 12 -> accepted", in_use),
-        (loaded, 3, "load 5 12 -> refused 7", in_use),
-        (paid, 4, "take 0 -> value 5 00000000", taken),
-        (paid, 4, "load 5 8 -> refused 3", taken),
-    ];
-    for (before, n, line, why) in runs {
+fn mismatches(rt: HostRuntime) -> Result<(), Fail> {
+    for Told {
+        name,
+        before,
+        line,
+        number,
+        why,
+    } in TOLD {
         let run = format!(in rt.alloc(); "{before}{line}\n")?;
-        let told = format!(in rt.alloc(); "mismatch at line {n}: {line}\n{why}")?;
-        is_told(&rt, rt.alloc(), run.as_str(), told.as_str(), 1)?;
+        let told = format!(in rt.alloc(); "mismatch at line {number}: {line}\n{why}")?;
+        ends(
+            &rt,
+            rt.alloc(),
+            name,
+            run.as_str(),
+            Behind::End,
+            Ok(told.as_str()),
+            1,
+        )?;
     }
     Ok(())
 }
 
-// Byte 0 was stored twice before the load and once after it, byte 1 once after the load with another
-// value than the one that came, byte 2 never, and byte 3 is right. The store of word 8 is no part of it.
+/// Runs, what their readers do behind them, and what is told of them.
+const ENDS: &[(&str, &str, Behind, Result<&str, TraceFault>, u8)] = &[
+    (
+        "a_flat_run_is_counted",
+        "load 1 4 -> accepted
+settled -> no
+store 4 1000 07000000 -> accepted
+take 0 -> value 1 00000000
+",
+        Behind::End,
+        Ok("flat run, 3 steps"),
+        0,
+    ),
+    (
+        "a_flat_run_is_counted: no line",
+        "",
+        Behind::End,
+        Ok("flat run, 0 steps"),
+        0,
+    ),
+    (
+        "the_first_mismatch_is_told_at_once: before the reader fails",
+        "load 1 4 -> accepted
+take 0 -> value 1 01000000
+",
+        Behind::Failure,
+        Ok(
+            "mismatch at line 2: take 0 -> value 1 01000000
+the load of line 1 (tag 1, word 4) is owed 00000000
+byte 0: owed 00, of the initial zeros; got 01, which no last store put there",
+        ),
+        1,
+    ),
+    (
+        "the_first_mismatch_is_told_at_once: before a later one and a faulty line",
+        "take 0 -> moved
+take 0 -> accepted
+nonsense
+",
+        Behind::End,
+        Ok(
+            "mismatch at line 1: take 0 -> moved
+a take never gets this answer: it gets a value or nothing",
+        ),
+        1,
+    ),
+    (
+        "a_faulty_line_ends_a_reading: no answer",
+        "drain -> moved\nnonsense\n",
+        Behind::End,
+        Err(TraceFault::Line {
+            number: 2,
+            fault: LineFault::Field,
+        }),
+        0,
+    ),
+    (
+        "a_faulty_line_ends_a_reading: no command",
+        "nonsense -> moved\ntake 0 -> moved\n",
+        Behind::End,
+        Err(TraceFault::Line {
+            number: 1,
+            fault: LineFault::Unknown,
+        }),
+        0,
+    ),
+    (
+        "a_faulty_line_ends_a_reading: no line feed",
+        "drain -> moved\ndrain -> moved",
+        Behind::End,
+        Err(TraceFault::Line {
+            number: 2,
+            fault: LineFault::NotEnded,
+        }),
+        0,
+    ),
+    (
+        "a_faulty_line_ends_a_reading: an empty line",
+        "drain -> moved\n\n",
+        Behind::End,
+        Err(TraceFault::Line {
+            number: 2,
+            fault: LineFault::Field,
+        }),
+        0,
+    ),
+    (
+        "a_failed_read_is_told: at once",
+        "",
+        Behind::Failure,
+        Err(TraceFault::Read),
+        0,
+    ),
+    (
+        "a_failed_read_is_told: behind a line",
+        "drain -> moved\n",
+        Behind::Failure,
+        Err(TraceFault::Read),
+        0,
+    ),
+    (
+        "a_failed_read_is_told: in a line",
+        "drain -> moved\ndra",
+        Behind::Failure,
+        Err(TraceFault::Read),
+        0,
+    ),
+];
+
 #[test]
-fn a_wrong_word_is_explained_byte_by_byte(rt: HostRuntime) -> Result<(), Fail> {
-    let run = "store 9 1001 0a00000d -> accepted\n\
-        store 9 1000 0b000000 -> accepted\n\
-        load 7 9 -> accepted\n\
-        store 9 1100 0c0e0000 -> accepted\n\
-        store 8 1111 01020304 -> accepted\n\
-        take 0 -> value 7 0c01020d\n";
-    let told = "mismatch at line 6: take 0 -> value 7 0c01020d\n\
-        the load of line 3 (tag 7, word 9) is owed 0b00000d\n\
-        byte 0: owed 0b, stored in line 2; got 0c, stored in line 4, after the load\n\
-        byte 1: owed 00, of the initial zeros; got 01, which no last store put there\n\
-        byte 2: owed 00, of the initial zeros; got 02, which no last store put there";
-    is_told(&rt, rt.alloc(), run, told, 1)
+fn ends_of_readings(rt: HostRuntime) -> Result<(), Fail> {
+    for (name, run, behind, told, status) in ENDS {
+        ends(&rt, rt.alloc(), name, run, *behind, *told, *status)?;
+    }
+    Ok(())
 }
 
-// A stale byte: the one that the load's store had replaced.
+// A line of 768 bytes is read, and one of 769 isn't, whether it ends or not.
 #[test]
-fn a_byte_from_before_the_last_store(rt: HostRuntime) -> Result<(), Fail> {
-    let run = "store 9 1000 0a000000 -> accepted\n\
-        store 9 1000 0b000000 -> accepted\n\
-        load 7 9 -> accepted\n\
-        take 0 -> value 7 0a000000\n";
-    let told = "mismatch at line 4: take 0 -> value 7 0a000000\n\
-        the load of line 3 (tag 7, word 9) is owed 0b000000\n\
-        byte 0: owed 0b, stored in line 2; got 0a, which no last store put there";
-    is_told(&rt, rt.alloc(), run, told, 1)
+fn a_faulty_line_ends_a_reading(rt: HostRuntime) -> Result<(), Fail> {
+    let too_long = Err(TraceFault::Line {
+        number: 1,
+        fault: LineFault::TooLong,
+    });
+    let lines = [
+        (768, "\n", Ok("flat run, 0 steps")),
+        (769, "\n", too_long),
+        (769, "", too_long),
+    ];
+    for (length, end, told) in lines {
+        let mut line = String::from_str(rt.alloc(), "settled -> ")?;
+        for _ in line.len()..length {
+            line.push('x')?;
+        }
+        line.push_str(end)?;
+        ends(
+            &rt,
+            rt.alloc(),
+            "a long line",
+            line.as_str(),
+            Behind::End,
+            told,
+            0,
+        )?;
+    }
+    Ok(())
 }
 
 #[test]
 fn a_load_is_told_by_its_line(rt: HostRuntime) -> Result<(), Fail> {
-    let alloc = rt.alloc();
-    let mut run = String::new(alloc);
+    let mut run = String::new(rt.alloc());
     for line in 1..=6248 {
         run.push_str(match line {
             4062 => "store 38 1111 7d61caed -> accepted\n",
@@ -208,128 +471,73 @@ fn a_load_is_told_by_its_line(rt: HostRuntime) -> Result<(), Fail> {
             _ => "drain -> nothing\n",
         })?;
     }
-    let told = "mismatch at line 6248: take 0 -> value 137 a661caed\n\
-        the load of line 6239 (tag 137, word 38) is owed 7d61caed\n\
-        byte 0: owed 7d, stored in line 4062; got a6, stored in line 6240, after the load";
-    is_told(&rt, alloc, run.as_str(), told, 1)
+    let told = "mismatch at line 6248: take 0 -> value 137 a661caed
+the load of line 6239 (tag 137, word 38) is owed 7d61caed
+byte 0: owed 7d, stored in line 4062; got a6, stored in line 6240, after the load";
+    ends(
+        &rt,
+        rt.alloc(),
+        "a long run",
+        run.as_str(),
+        Behind::End,
+        Ok(told),
+        1,
+    )
 }
 
-#[test]
-fn the_first_mismatch_is_told_at_once(rt: HostRuntime) -> Result<(), Fail> {
-    let run = "load 1 4 -> accepted\ntake 0 -> value 1 01000000\n";
-    let mut input = Pieces {
-        bytes: run.as_bytes(),
-        most: 4096,
-        fails: true,
-    };
-    let told = explain_text(rt.alloc(), &mut input, 64)?;
-    assert!(rt; matches!(told, Explanation::Mismatch(found) if found.line == 2));
-    // Neither a later mismatch nor a faulty line goes before it.
-    let later = "take 0 -> moved\ntake 0 -> accepted\nnonsense\n";
-    let told = explained(rt.alloc(), later, 4096)?;
-    let first = Mismatch {
-        line: 1,
-        event: Event::Take { place: 0 },
-        answer: Answer::Moved,
-        reason: Reason::NeverAnswered,
-    };
-    assert_eq!(rt; told, Explanation::Mismatch(first));
-    Ok(())
-}
+const LOAD: Event = Event::Load { tag: 1, at: 2 };
 
-#[test]
-fn a_faulty_line_ends_a_reading(rt: HostRuntime) -> Result<(), Fail> {
-    let faults = [
-        ("drain -> moved\nnonsense\n", 2, LineFault::Field),
-        (
-            "nonsense -> moved\ntake 0 -> moved\n",
-            1,
-            LineFault::Unknown,
-        ),
-        ("drain -> moved\ndrain -> moved", 2, LineFault::NotEnded),
-        ("drain -> moved\n\n", 2, LineFault::Field),
-    ];
-    for (run, number, fault) in faults {
-        for most in [1, 4096] {
-            let said = explained(rt.alloc(), run, most);
-            assert_eq!(rt; said, Err(TraceFault::Line { number, fault }), "of {run:?}");
-        }
-    }
-    // A line of 768 bytes is read, and one of 769 isn't, whether it ends or not.
-    let mut long = String::from_str(rt.alloc(), "settled -> ")?;
-    for _ in long.len()..768 {
-        long.push_str("x")?;
-    }
-    let whole = format!(in rt.alloc(); "{long}\n")?;
-    assert_eq!(rt;
-        explained(rt.alloc(), whole.as_str(), 100),
-        Ok(Explanation::Flat { steps: 0 })
-    );
-    long.push_str("x")?;
-    let fault = LineFault::TooLong;
-    let too_long = Err(TraceFault::Line { number: 1, fault });
-    assert_eq!(rt; explained(rt.alloc(), long.as_str(), 100), too_long);
-    Ok(())
-}
+const TAKE: Event = Event::Take { place: 0 };
 
-#[test]
-fn a_failed_read_is_told(rt: HostRuntime) -> Result<(), Fail> {
-    for run in ["", "drain -> moved\n", "drain -> moved\ndra"] {
-        let mut input = Pieces {
-            bytes: run.as_bytes(),
-            most: 5,
-            fails: true,
-        };
-        let said = explain_text(rt.alloc(), &mut input, 64);
-        assert_eq!(rt; said, Err(TraceFault::Read));
-    }
-    Ok(())
-}
+const VALUE: Answer = Answer::Value { tag: 1, word: ZERO };
 
-// An explainer that refused a line goes on as if the line hadn't been.
+/// Lines that an explainer reads, and what it finds. One that it refuses changes nothing: it goes on as if the
+/// line hadn't been.
+const READ: &[(&str, u64, Event, Answer, Option<Reason>)] = &[
+    ("a load", 1, LOAD, Answer::Accepted, None),
+    (
+        "a store",
+        2,
+        Event::Store {
+            at: 2,
+            word: Word { b0: 9, ..ZERO },
+            lanes: Lanes::LANE_0,
+        },
+        Answer::Accepted,
+        None,
+    ),
+    (
+        "a load of a tag in use",
+        3,
+        LOAD,
+        Answer::Accepted,
+        Some(Reason::TagInUse { tag: 1, line: 1 }),
+    ),
+    ("its value", 4, TAKE, VALUE, None),
+    (
+        "its value again",
+        5,
+        TAKE,
+        VALUE,
+        Some(Reason::Taken { tag: 1, line: 4 }),
+    ),
+];
+
 #[test]
 fn a_line_that_is_refused_changes_nothing(rt: HostRuntime) -> Result<(), Fail> {
     let mut explainer = Explainer::new(rt.alloc(), 8)?;
-    let load = Event::Load { tag: 1, at: 2 };
-    let store = Event::Store {
-        at: 2,
-        word: Word {
-            b0: 9,
-            ..Word::default()
-        },
-        lanes: Lanes::LANE_0,
-    };
-    let value = Answer::Value {
-        tag: 1,
-        word: Word::default(),
-    };
-    let take = Event::Take { place: 0 };
-    assert_eq!(rt; explainer.read(1, load, Answer::Accepted), Ok(()));
-    assert_eq!(rt; explainer.read(2, store, Answer::Accepted), Ok(()));
-    let refused = explainer.read(3, load, Answer::Accepted);
-    assert!(rt; matches!(refused, Err(ReadFault::Mismatch(_))));
-    assert_eq!(rt; explainer.read(4, take, value), Ok(()));
-    let again = Mismatch {
-        line: 5,
-        event: take,
-        answer: value,
-        reason: Reason::Taken { tag: 1, line: 4 },
-    };
-    assert_eq!(rt;
-        explainer.read(5, take, value),
-        Err(ReadFault::Mismatch(again))
-    );
-    Ok(())
-}
-
-// A refused allocation is told, and a second call gives the answer.
-#[test]
-fn a_reading_may_find_no_memory(rt: HostRuntime) -> Result<(), Fail> {
-    let run = "load 1 4 -> accepted\ntake 0 -> value 1 00000000\n";
-    let mut told = explained(rt.alloc(), run, 4096);
-    if told == Err(TraceFault::OutOfMemory) {
-        told = explained(rt.alloc(), run, 4096);
+    for (name, line, event, answer, reason) in READ {
+        let (line, event, answer) = (*line, *event, *answer);
+        let wanted = match reason {
+            None => Ok(()),
+            Some(reason) => Err(ReadFault::Mismatch(Mismatch {
+                line,
+                event,
+                answer,
+                reason: *reason,
+            })),
+        };
+        same(&rt, name, explainer.read(line, event, answer), wanted);
     }
-    assert_eq!(rt; told, Ok(Explanation::Flat { steps: 2 }));
     Ok(())
 }

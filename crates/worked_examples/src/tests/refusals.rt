@@ -3,15 +3,15 @@
 //! its example. With memory, as in a whole run of the tests, the first call gives that answer.
 
 use super::fixture::{
-    PROGRAM_SHAPE, SMALL_SHAPE, STORED_COUNTS, STORED_INPUT, STORED_OUTPUT, numbered,
+    PROGRAM_SHAPE, SMALL_SHAPE, STORED_COUNTS, STORED_INPUT, STORED_OUTPUT, numbered, same,
 };
-use super::machine::runs_one_load;
 use cache_directory::Directory;
 use cache_unit::CacheUnit;
 use flat_model::{Answer, Event, FlatMemory, Lanes, MakeFault, ReplayFault, ShapeField, Word};
 use machine_core::Machine;
 use memory_banks::Banks;
 use miss_registers::RegisterFile;
+use run_reasons::{Explanation, explain_text};
 use std::io::Cursor;
 use std::process::Abort;
 use std::test::Fail;
@@ -32,10 +32,10 @@ fn small_image() -> [Word; 32] {
 fn makes<R: Abort, T: Drop>(rt: &R, first: Result<T, MakeFault>, second: Result<T, MakeFault>) {
     assert!(rt; first.is_ok() || second.is_ok());
     if let Err(fault) = first {
-        assert_eq!(rt; fault, MakeFault::OutOfMemory);
+        same(rt, "the first", fault, MakeFault::OutOfMemory);
     }
     if let Err(fault) = second {
-        assert_eq!(rt; fault, MakeFault::OutOfMemory);
+        same(rt, "the second", fault, MakeFault::OutOfMemory);
     }
 }
 
@@ -82,11 +82,11 @@ fn replay_may_find_no_memory(rt: HostRuntime) -> Result<(), Fail> {
     let answers = [Answer::Accepted, value, Answer::Accepted];
     let mut replayed = memory.replay(alloc, &events, &answers);
     if replayed == Err(ReplayFault::OutOfMemory) {
-        assert_eq!(rt; memory.word(1), Some(numbered(1)));
+        same(&rt, "word 1, as it was", memory.word(1), Some(numbered(1)));
         replayed = memory.replay(alloc, &events, &answers);
     }
-    assert_eq!(rt; replayed, Ok(()));
-    assert_eq!(rt; memory.word(1), Some(numbered(9)));
+    same(&rt, "the replay", replayed, Ok(()));
+    same(&rt, "word 1", memory.word(1), Some(numbered(9)));
     Ok(())
 }
 
@@ -95,7 +95,7 @@ fn some_refusals_come_before_memory(rt: HostRuntime) -> Result<(), Fail> {
     let alloc = rt.alloc();
     if let Ok(mut memory) = FlatMemory::new(alloc, &small_image()) {
         let uneven = memory.replay(alloc, &[Event::Drain], &[]);
-        assert_eq!(rt; uneven, Err(ReplayFault::Lengths));
+        same(&rt, "the lengths", uneven, Err(ReplayFault::Lengths));
     }
     let mut short_banks = SMALL_SHAPE;
     short_banks.bank_queue = 1;
@@ -111,7 +111,27 @@ fn run_may_find_no_memory(rt: HostRuntime) -> Result<(), Fail> {
     let Ok(mut machine) = Machine::<1, 4, 2, 2>::new(alloc, SMALL_SHAPE, &small_image()) else {
         return Ok(());
     };
-    runs_one_load(&rt, &mut machine)
+    let events = [
+        Event::Load { tag: 1, at: 5 },
+        Event::Serve { bank: 1 },
+        Event::Arrive { bank: 1, place: 0 },
+        Event::Process { place: 0 },
+        Event::Take { place: 0 },
+    ];
+    let value = Answer::Value {
+        tag: 1,
+        word: numbered(5),
+    };
+    let moved = Answer::Moved;
+    let wanted = [Answer::Accepted, moved, moved, moved, value];
+    let mut answers = machine.run(alloc, &events);
+    if answers.is_err() {
+        assert!(rt; machine.settled());
+        same(&rt, "the weight", machine.weight(), 0);
+        answers = machine.run(alloc, &events);
+    }
+    same(&rt, "the answers", answers?.as_slice(), &wanted[..]);
+    Ok(())
 }
 
 #[test]
@@ -126,14 +146,19 @@ fn serving_may_find_no_memory(rt: HostRuntime) -> Result<(), Fail> {
     let mut writer = Cursor::new([0u8; 1024]);
     let mut ended = serve_text(alloc, &mut reader, &mut writer, &mut machine);
     if ended == Err(TraceFault::OutOfMemory) {
-        assert_eq!(rt; reader, STORED_INPUT.as_bytes());
-        assert_eq!(rt; writer.position(), 0);
+        same(&rt, "the reader", reader, STORED_INPUT.as_bytes());
+        same(&rt, "the writer", writer.position(), 0);
         assert!(rt; machine.settled());
         ended = serve_text(alloc, &mut reader, &mut writer, &mut machine);
     }
-    assert_eq!(rt; ended, Ok(STORED_COUNTS));
+    same(&rt, "the counts", ended, Ok(STORED_COUNTS));
     let end = writer.position().min(1024) as usize;
-    assert_eq!(rt; &writer.get_ref()[..end], STORED_OUTPUT.as_bytes());
+    same(
+        &rt,
+        "what was written",
+        &writer.get_ref()[..end],
+        STORED_OUTPUT.as_bytes(),
+    );
     Ok(())
 }
 
@@ -144,7 +169,7 @@ fn checking_may_find_no_memory(rt: HostRuntime) -> Result<(), Fail> {
     if ended == Err(TraceFault::OutOfMemory) {
         ended = check_text(alloc, &mut STORED_OUTPUT.as_bytes(), 64);
     }
-    assert_eq!(rt; ended, Ok(CheckEnd::Flat { steps: 8 }));
+    same(&rt, "the check", ended, Ok(CheckEnd::Flat { steps: 8 }));
     Ok(())
 }
 
@@ -157,6 +182,23 @@ fn reading_requests_may_find_no_memory(rt: HostRuntime) -> Result<(), Fail> {
         requests = read_requests(alloc, &mut trace.as_slice());
     }
     let wanted = [(1, 0), (2, 4), (3, 8)].map(|(tag, at)| Event::Load { tag, at });
-    assert_eq!(rt; requests?.as_slice(), &wanted[..]);
+    same(&rt, "the requests", requests?.as_slice(), &wanted[..]);
+    Ok(())
+}
+
+// A refused allocation is told, and a second call gives the answer.
+#[test]
+fn a_reading_may_find_no_memory(rt: HostRuntime) -> Result<(), Fail> {
+    let run = "load 1 4 -> accepted\ntake 0 -> value 1 00000000\n";
+    let mut told = explain_text(rt.alloc(), &mut run.as_bytes(), 64);
+    if told == Err(TraceFault::OutOfMemory) {
+        told = explain_text(rt.alloc(), &mut run.as_bytes(), 64);
+    }
+    same(
+        &rt,
+        "the explanation",
+        told,
+        Ok(Explanation::Flat { steps: 2 }),
+    );
     Ok(())
 }

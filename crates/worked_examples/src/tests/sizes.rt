@@ -1,6 +1,6 @@
 //! Each call that takes memory, once at its largest size, or over 200,000 items where it has none.
 
-use super::fixture::{default_machine, image};
+use super::fixture::{default_machine, image, same};
 use cache_directory::Directory;
 use flat_model::{Answer, Event, FlatMemory, Shape, Word};
 use machine_core::Machine;
@@ -26,10 +26,20 @@ fn memory_of_the_largest_shape(rt: HostRuntime) -> Result<(), Fail> {
     let alloc = rt.alloc();
     let image = vec![in alloc; Word::default(); 1_048_576]?;
     let memory = FlatMemory::new(alloc, &image)?;
-    assert_eq!(rt; memory.word(1_048_575), Some(Word::default()));
+    same(
+        &rt,
+        "flat memory",
+        memory.word(1_048_575),
+        Some(Word::default()),
+    );
     let banks = Banks::new(alloc, &image, &LARGEST)?;
-    assert_eq!(rt; banks.room(15), 64);
-    assert_eq!(rt; banks.word(1_048_575), Some(Word::default()));
+    same(&rt, "room", banks.room(15), 64);
+    same(
+        &rt,
+        "the banks",
+        banks.word(1_048_575),
+        Some(Word::default()),
+    );
     Ok(())
 }
 
@@ -38,15 +48,15 @@ fn parts_of_the_largest_shape(rt: HostRuntime) -> Result<(), Fail> {
     let alloc = rt.alloc();
     let image = vec![in alloc; Word::default(); 1_048_576]?;
     let queue = WriteQueue::new(alloc, 256)?;
-    assert_eq!(rt; queue.room(), 256);
+    same(&rt, "room", queue.room(), 256);
     let directory = Directory::<2, 4>::new(alloc, 1_024)?;
-    assert_eq!(rt; directory.look(1_023), None);
+    same(&rt, "a look", directory.look(1_023), None);
     let mut machine = Machine::<2, 4, 8, 4>::new(alloc, LARGEST, &image)?;
     let load = Event::Load {
         tag: 1,
         at: 1_048_575,
     };
-    assert_eq!(rt; machine.apply(load), Answer::Accepted);
+    same(&rt, "the load", machine.apply(load), Answer::Accepted);
     Ok(())
 }
 
@@ -64,9 +74,9 @@ fn words_that_the_banks_do_not_share_evenly(rt: HostRuntime) -> Result<(), Fail>
     let banks = Banks::new(rt.alloc(), &image, &shape)?;
     for at in 0..64u32 {
         let wanted = image.get(at as usize).copied();
-        assert_eq!(rt; banks.word(at), wanted, "{at}");
+        same(&rt, "a word", banks.word(at), wanted);
     }
-    assert_eq!(rt; banks.word(64), None);
+    same(&rt, "word 64", banks.word(64), None);
     Ok(())
 }
 
@@ -75,9 +85,14 @@ fn a_long_run(rt: HostRuntime) -> Result<(), Fail> {
     let mut machine = default_machine(rt.alloc())?;
     let events = vec![in rt.alloc(); Event::Drain; MANY]?;
     let answers = machine.run(rt.alloc(), &events)?;
-    assert_eq!(rt; answers.len(), MANY);
+    same(&rt, "answers", answers.len(), MANY);
     let mut memory = FlatMemory::new(rt.alloc(), &[Word::default(); 4])?;
-    assert_eq!(rt; memory.replay(rt.alloc(), &events, &answers), Ok(()));
+    same(
+        &rt,
+        "the replay",
+        memory.replay(rt.alloc(), &events, &answers),
+        Ok(()),
+    );
     Ok(())
 }
 
@@ -95,8 +110,18 @@ fn replay_of_many_loads(rt: HostRuntime) -> Result<(), Fail> {
     let loads = loads_of_many_tags(rt.alloc())?;
     let accepted = vec![in rt.alloc(); Answer::Accepted; 60_000]?;
     let mut memory = FlatMemory::new(rt.alloc(), &[Word::default(); 4])?;
-    assert_eq!(rt; memory.replay(rt.alloc(), &loads, &accepted), Ok(()));
-    assert_eq!(rt; memory.due_word(59_999), Some(Word::default()));
+    same(
+        &rt,
+        "the replay",
+        memory.replay(rt.alloc(), &loads, &accepted),
+        Ok(()),
+    );
+    same(
+        &rt,
+        "the last tag",
+        memory.due_word(59_999),
+        Some(Word::default()),
+    );
     Ok(())
 }
 
@@ -109,9 +134,9 @@ fn long_texts(rt: HostRuntime) -> Result<(), Fail> {
         run.extend_from_slice(b"prefetch 1 -> accepted\n")?;
     }
     let requests = read_requests(rt.alloc(), &mut trace.as_slice())?;
-    assert_eq!(rt; requests.len(), MANY);
+    same(&rt, "requests", requests.len(), MANY);
     let end = check_text(rt.alloc(), &mut run.as_slice(), 1_048_576);
-    assert_eq!(rt; end, Ok(CheckEnd::Flat { steps: 200_000 }));
+    same(&rt, "the check", end, Ok(CheckEnd::Flat { steps: 200_000 }));
     Ok(())
 }
 
@@ -129,12 +154,22 @@ fn machine_of_the_largest_numbers(rt: HostRuntime) -> Result<(), Fail> {
         tag: 65_535,
         word: Word::default(),
     };
-    assert_eq!(rt; machine.apply(load), Answer::Accepted);
-    assert_eq!(rt; machine.apply(Event::Serve { bank: 15 }), Answer::Moved);
+    same(&rt, "load", machine.apply(load), Answer::Accepted);
+    same(
+        &rt,
+        "serve",
+        machine.apply(Event::Serve { bank: 15 }),
+        Answer::Moved,
+    );
     let arrival = Event::Arrive { bank: 15, place: 0 };
-    assert_eq!(rt; machine.apply(arrival), Answer::Moved);
-    assert_eq!(rt; machine.apply(Event::Process { place: 0 }), Answer::Moved);
-    assert_eq!(rt; machine.apply(Event::Take { place: 0 }), value);
+    same(&rt, "arrive", machine.apply(arrival), Answer::Moved);
+    same(
+        &rt,
+        "process",
+        machine.apply(Event::Process { place: 0 }),
+        Answer::Moved,
+    );
+    same(&rt, "take", machine.apply(Event::Take { place: 0 }), value);
     Ok(())
 }
 
@@ -150,9 +185,14 @@ fn check_of_every_tag(rt: HostRuntime) -> Result<(), Fail> {
         run.push_str(format!(in alloc; "take 0 -> value {tag} 00000000\n")?.as_str())?;
     }
     let end = check_text(alloc, &mut run.as_bytes(), 4);
-    assert_eq!(rt; end, Ok(CheckEnd::Flat { steps: 131_072 }));
+    same(&rt, "all taken", end, Ok(CheckEnd::Flat { steps: 131_072 }));
     run.push_str("take 0 -> value 0 00000000\n")?;
     let end = check_text(alloc, &mut run.as_bytes(), 4);
-    assert_eq!(rt; end, Ok(CheckEnd::Mismatch { line: 131_073 }));
+    same(
+        &rt,
+        "one too many",
+        end,
+        Ok(CheckEnd::Mismatch { line: 131_073 }),
+    );
     Ok(())
 }
