@@ -1,25 +1,16 @@
-//! Stations that are stepped by hand on one thread, each to its last answer, and runs of stations on
-//! threads of their own.
-ghost use Rattle.std.specs.Prelude.{◌≡◌, vec_len, IfOk};
-
+//! Stations that are stepped by hand on one thread, and runs of stations on threads of their own:
+//! each case is a row of a table, which one loop walks.
 use flat_model::{Shape, Word};
-use ring_station::{Actor, Ask, CacheSide, Gate, Source, Station, Stepped, Told};
+use ring_station::{Ask, CacheSide, Station, Told};
 use std::alloc::{AllocError, Global};
-use std::process::Abort;
 
-mod at_once;
 mod audited;
 mod by_hand;
 mod checks;
-mod full;
-mod limits;
-mod makers;
+mod gates;
+mod largest;
 mod on_threads;
-mod raw_banks;
-mod refused_makers;
-mod refused_runs;
-mod turns;
-mod waits_for_nobody;
+mod refused;
 
 type SmallStation = Station<1, 4, 2, 2>;
 
@@ -38,52 +29,26 @@ const SHAPE: Shape = Shape {
 // So many turns that a run doesn't come to its limit unless it hangs.
 const TURNS: u64 = 5_000_000;
 
-fn zeros() -> Word {
-    Word::default()
-}
+const ZEROS: Word = Word {
+    b0: 0,
+    b1: 0,
+    b2: 0,
+    b3: 0,
+};
 
-fn word(b0: u8, b1: u8, b2: u8, b3: u8) -> Word {
-    Word { b0, b1, b2, b3 }
-}
+const LOAD_5: Ask = Ask::Load { tag: 1, at: 5 };
 
-fn load(tag: u8, at: u32) -> Ask {
-    Ask::Load { tag, at }
-}
+// What a load under the tag 1 is told that reads memory as it was at first.
+const VALUE: Told = Told::Value {
+    tag: 1,
+    word: ZEROS,
+};
 
-// Asserts what the cache side's next steps find.
-fn steps(rt: &impl Abort, cache: &mut SmallCache, wanted: &[(Source, Stepped)]) {
-    for (source, stepped) in wanted {
-        assert_eq!(rt; cache.step(*source), *stepped);
-    }
-}
-
-// Lets every step be made.
-#[derive(Drop)]
-struct OpenGate;
-
-impl Gate for OpenGate {
-    fn may(&self, _actor: Actor) -> bool {
-        true
-    }
-
-    fn told(&self, _port: u32, _told: &Told) {}
-}
-
-// A script for the one port of a station.
-fn one_script(alloc: Global, asks: &[Ask]) -> Result<Vec<Vec<Ask>>, AllocError>
-    ensures { IfOk result (λ scripts. vec_len scripts ≡ 1) }
-{
+// A script for each port.
+fn scripts_of(alloc: Global, rows: &[&[Ask]]) -> Result<Vec<Vec<Ask>>, AllocError> {
     let mut scripts = Vec::new(alloc);
-    scripts.push(asks.to_vec(alloc)?)?;
-    Ok(scripts)
-}
-
-// A script for each of two ports.
-fn scripts_of_two(alloc: Global, first: &[Ask], second: &[Ask]) -> Result<Vec<Vec<Ask>>, AllocError>
-    ensures { IfOk result (λ scripts. vec_len scripts ≡ 2) }
-{
-    let mut scripts = Vec::new(alloc);
-    scripts.push(first.to_vec(alloc)?)?;
-    scripts.push(second.to_vec(alloc)?)?;
+    for row in rows {
+        scripts.push(row.to_vec(alloc)?)?;
+    }
     Ok(scripts)
 }

@@ -5,7 +5,8 @@ ghost use Rattle.station_parts.specs.Promises.{IsFlatRun, PaysLoads};
 ghost use Rattle.station_parts.specs.Runs.{AreAnswered};
 ghost use Rattle.station_parts.specs.Words.{journal_of, sizes_in};
 
-use super::{OpenGate, SHAPE, SmallStation, TURNS, load, scripts_of_two, zeros};
+use super::gates::{Rule, RuledGate};
+use super::{LOAD_5, SHAPE, SmallStation, TURNS, VALUE, scripts_of};
 use ring_station::{Ask, Audit, Gate, Told, audit, run_threads, station};
 use std::alloc::Global;
 use std::rt::Clock;
@@ -49,19 +50,15 @@ fn run_and_audit<R: Clock + Threads + Sync, G: Gate>(
 #[test]
 fn run_with_its_audit(rt: HostRuntime) -> Result<(), Fail> {
     let alloc = rt.alloc();
-    let scripts = scripts_of_two(alloc, &[load(1, 5)], &[load(1, 5)])?;
-    let run = run_and_audit(&rt, alloc, &scripts, &OpenGate)?;
+    let scripts = scripts_of(alloc, &[&[LOAD_5], &[LOAD_5]])?;
+    assert_eq!(rt; scripts.len(), 2);
+    let run = run_and_audit(&rt, alloc, &scripts, &RuledGate::new(Rule::Open))?;
     assert_eq!(rt; run.found, Audit::Clean);
-    let told = [
-        Told::Accepted,
-        Told::Value {
-            tag: 1,
-            word: zeros(),
-        },
-    ];
+    let told = [Told::Accepted, VALUE];
     assert_eq!(rt; run.lists.len(), 2);
-    assert_eq!(rt; run.lists[0].as_slice(), told.as_slice());
-    assert_eq!(rt; run.lists[1].as_slice(), told.as_slice());
+    for list in &run.lists {
+        assert_eq!(rt; list.as_slice(), told.as_slice());
+    }
     // For each port an ask, a reply and its end, and four words that come and are processed.
     assert_eq!(rt; run.station.cache.entries(), 14);
     Ok(())

@@ -1,155 +1,527 @@
-//! A load goes through a station by hand, with an audit after each step.
-ghost use Rattle.std.specs.Prelude.{◌≡◌, ◌<◌, length, vec_len, map};
+//! Stations that are stepped by hand. A story is a row: what is done with the parts, one move after
+//! another, and what comes of each.
+ghost use Rattle.std.specs.Prelude.{◌≡◌, length, vec_len, map};
 ghost use Rattle.station_parts.specs.Ids.{port_id, bank_id, cache_id};
 ghost use Rattle.station_parts.specs.Station.{AreOneStation};
 
-use super::{SHAPE, SmallCache, SmallStation, load, zeros};
+use super::{LOAD_5, SHAPE, SmallCache, SmallStation, VALUE, ZEROS};
+use flat_model::{Cause, Word};
+use memory_banks::{BankAnswer, Command};
 use ring_station::{
-    Ask, Audit, BankSide, Port, Ring, Source, Station, Stepped, Told, audit, station,
+    Ask, Audit, BankSide, Port, RawBank, Ring, SideFault, Source, Station, Stepped, Told, audit,
+    station,
 };
 use std::process::Abort;
 use std::test::Fail;
 
-// A word of the bank comes, and is processed.
-fn word_comes(rt: &impl Abort, cache: &mut SmallCache, bank: u32)
-    ensures { cache_id cache.new ≡ cache_id cache.old }
-{
-    assert_eq!(rt; cache.step(Source::Word(bank)), Stepped::Did);
-    assert_eq!(rt; cache.step(Source::Stack(0)), Stepped::Did);
+/// What is done with one part of a station, and what has to come of it.
+#[derive(Clone, Copy)]
+enum Move {
+    /// The port offers an ask, and it goes.
+    Offer(Ask),
+    /// The port offers an ask, and it comes back.
+    Back(Ask),
+    /// The port takes what it is told.
+    Take(Option<Told>),
+    /// The cache side makes a step.
+    Did(Source),
+    /// The cache side makes no step, for this reason.
+    DidNot(Source, Stepped),
+    /// The bank with this number serves a command.
+    Serve(usize),
+    /// So many entries stand in the journal.
+    Entries(u32),
+    /// The raw bank does something.
+    Raw(RawMove),
 }
+
+/// What is done with a bank that is served by hand.
+#[derive(Clone, Copy)]
+enum RawMove {
+    /// A command is popped, if there is one.
+    Pop(Option<Command>),
+    /// An answer is pushed.
+    Push(BankAnswer),
+    /// An answer is pushed, and comes back.
+    Back(BankAnswer),
+}
+
+/// Moves that are made so many times, and what an audit finds behind them, if there is one.
+#[derive(Clone, Copy)]
+struct Stage {
+    times: u32,
+    moves: &'static [Move],
+    audit: Option<Audit>,
+}
+
+/// A station with one port, and what is done with it.
+#[derive(Clone, Copy)]
+struct Story {
+    name: &'static str,
+    /// Entries that the journal takes.
+    journal: u32,
+    stages: &'static [Stage],
+    /// Whether the cache side has to be settled in the end. It may be where this is `false`.
+    settled: bool,
+}
+
+/// A station of which one bank is served by hand, and what is done with it.
+#[derive(Clone, Copy)]
+struct RawStory {
+    name: &'static str,
+    /// The bank's number.
+    bank: usize,
+    journal: u32,
+    stages: &'static [Stage],
+    /// Why the cache side is faulted in the end.
+    fault: SideFault,
+}
+
+// Each stage is once and without an audit, if it doesn't say otherwise.
+const ONCE: Stage = Stage {
+    times: 1,
+    moves: &[],
+    audit: None,
+};
+
+const ACCEPTED: Move = Move::Take(Some(Told::Accepted));
+
+// Four words come from the banks, each of which is processed.
+const WORDS_COME: [Move; 8] = [
+    Move::Did(Source::Word(0)),
+    Move::Did(Source::Stack(0)),
+    Move::Did(Source::Word(0)),
+    Move::Did(Source::Stack(0)),
+    Move::Did(Source::Word(1)),
+    Move::Did(Source::Stack(0)),
+    Move::Did(Source::Word(1)),
+    Move::Did(Source::Stack(0)),
+];
 
 // The first commands of the banks are served, two each.
-fn banks_serve(rt: &impl Abort, banks: &mut Vec<BankSide>)
-    requires { vec_len banks.old ≡ 2 }
-    ensures { map bank_id banks.new.items ≡ map bank_id banks.old.items }
-{
-    assert_eq!(rt; banks[0].step(), Stepped::Did);
-    assert_eq!(rt; banks[0].step(), Stepped::Did);
-    assert_eq!(rt; banks[1].step(), Stepped::Did);
-    assert_eq!(rt; banks[1].step(), Stepped::Did);
-}
+const BANKS_SERVE: [Move; 4] = [
+    Move::Serve(0),
+    Move::Serve(0),
+    Move::Serve(1),
+    Move::Serve(1),
+];
 
-// The load is asked, answered for and sent to the banks.
-fn load_is_asked(rt: &impl Abort, station: &mut SmallStation)
-    requires one { AreOneStation station.old.cache station.old.ports.items station.old.banks.items }
-    requires ports { vec_len station.old.ports ≡ 1 }
-    requires banks { vec_len station.old.banks ≡ 2 }
-    ensures one { AreOneStation station.new.cache station.new.ports.items station.new.banks.items }
-    ensures ports { vec_len station.new.ports ≡ 1 }
-    ensures banks { vec_len station.new.banks ≡ 2 }
-{
-    let Station {
-        cache,
-        ports,
-        banks,
-    } = station;
-    assert_eq!(rt; ports[0].offer(load(1, 5)), Ok(()));
-    assert_eq!(rt;
-        audit(cache, ports, banks),
-        Audit::Left {
-            ring: Ring::Asks(0)
-        }
-    );
-    assert_eq!(rt; cache.step(Source::Ask(0)), Stepped::Did);
-    assert_eq!(rt;
-        audit(cache, ports, banks),
-        Audit::Left {
-            ring: Ring::Told(0)
-        }
-    );
-    assert_eq!(rt; ports[0].take(), Some(Told::Accepted));
-    assert_eq!(rt;
-        audit(cache, ports, banks),
-        Audit::Left {
-            ring: Ring::Commands(0)
-        }
-    );
-}
-
-// Its words come, and its value is told.
-fn value_is_told(rt: &impl Abort, station: &mut SmallStation)
-    requires one { AreOneStation station.old.cache station.old.ports.items station.old.banks.items }
-    requires ports { vec_len station.old.ports ≡ 1 }
-    requires banks { vec_len station.old.banks ≡ 2 }
-    ensures one { AreOneStation station.new.cache station.new.ports.items station.new.banks.items }
-    ensures ports { vec_len station.new.ports ≡ 1 }
-{
-    let Station {
-        cache,
-        ports,
-        banks,
-    } = station;
-    banks_serve(rt, banks);
-    assert_eq!(rt;
-        audit(cache, ports, banks),
-        Audit::Left {
-            ring: Ring::Answers(0)
-        }
-    );
-    word_comes(rt, cache, 0);
-    word_comes(rt, cache, 0);
-    word_comes(rt, cache, 1);
-    word_comes(rt, cache, 1);
-    assert_eq!(rt; audit(cache, ports, banks), Audit::Owed { count: 1 });
-    assert_eq!(rt; cache.step(Source::Reply(0)), Stepped::Did);
-}
-
-#[test]
-fn station_by_hand(rt: HostRuntime) -> Result<(), Fail> {
-    let mut station = station::<1, 4, 2, 2>(rt.alloc(), SHAPE, 1, 100)?;
-    load_is_asked(&rt, &mut station);
-    value_is_told(&rt, &mut station);
-    let told = Told::Value {
-        tag: 1,
-        word: zeros(),
-    };
-    assert_eq!(rt; station.ports[0].take(), Some(told));
-    let found = audit(&mut station.cache, &mut station.ports, &mut station.banks);
-    assert_eq!(rt; found, Audit::Clean);
-    assert!(rt; station.cache.settled());
-    Ok(())
-}
-
-fn serves_two(rt: &impl Abort, bank: &mut BankSide) {
-    assert_eq!(rt; bank.step(), Stepped::Did);
-    assert_eq!(rt; bank.step(), Stepped::Did);
-}
+// A load goes through the station, with an audit after each step.
+const LOAD: [Stage; 6] = [
+    Stage {
+        moves: &[Move::Offer(LOAD_5)],
+        audit: Some(Audit::Left {
+            ring: Ring::Asks(0),
+        }),
+        ..ONCE
+    },
+    Stage {
+        moves: &[Move::Did(Source::Ask(0))],
+        audit: Some(Audit::Left {
+            ring: Ring::Told(0),
+        }),
+        ..ONCE
+    },
+    Stage {
+        moves: &[ACCEPTED],
+        audit: Some(Audit::Left {
+            ring: Ring::Commands(0),
+        }),
+        ..ONCE
+    },
+    Stage {
+        moves: &BANKS_SERVE,
+        audit: Some(Audit::Left {
+            ring: Ring::Answers(0),
+        }),
+        ..ONCE
+    },
+    Stage {
+        moves: &WORDS_COME,
+        audit: Some(Audit::Owed { count: 1 }),
+        ..ONCE
+    },
+    Stage {
+        moves: &[Move::Did(Source::Reply(0)), Move::Take(Some(VALUE))],
+        audit: Some(Audit::Clean),
+        ..ONCE
+    },
+];
 
 // The block of the word at `at` is asked for, and comes.
-fn block_comes(
-    rt: &impl Abort,
-    cache: &mut SmallCache,
-    port: &mut Port,
-    first: &mut BankSide,
-    second: &mut BankSide,
-    at: u32,
-) {
-    assert_eq!(rt; port.offer(Ask::Prefetch { at }), Ok(()));
-    assert_eq!(rt; cache.step(Source::Ask(0)), Stepped::Did);
-    assert_eq!(rt; port.take(), Some(Told::Accepted));
-    serves_two(rt, first);
-    serves_two(rt, second);
-    word_comes(rt, cache, 0);
-    word_comes(rt, cache, 0);
-    word_comes(rt, cache, 1);
-    word_comes(rt, cache, 1);
+macro_rules! block_comes {
+    ($at:literal) => {
+        Stage {
+            moves: &[
+                Move::Offer(Ask::Prefetch { at: $at }),
+                Move::Did(Source::Ask(0)),
+                ACCEPTED,
+                Move::Serve(0),
+                Move::Serve(0),
+                Move::Serve(1),
+                Move::Serve(1),
+                Move::Did(Source::Word(0)),
+                Move::Did(Source::Stack(0)),
+                Move::Did(Source::Word(0)),
+                Move::Did(Source::Stack(0)),
+                Move::Did(Source::Word(1)),
+                Move::Did(Source::Stack(0)),
+                Move::Did(Source::Word(1)),
+                Move::Did(Source::Stack(0)),
+            ],
+            ..ONCE
+        }
+    };
 }
 
 // A bank's ring takes four commands, and a miss sends it two: the third miss goes where the cache
 // side has looked at what the banks have served, with no audit in between.
-#[test]
-fn served_commands_make_room(rt: HostRuntime) -> Result<(), Fail> {
+const THREE_BLOCKS: [Stage; 3] = [block_comes!(0), block_comes!(4), block_comes!(8)];
+
+const FULL_JOURNAL: [Stage; 1] = [Stage {
+    moves: &[
+        Move::Offer(Ask::Prefetch { at: 0 }),
+        Move::Offer(Ask::Prefetch { at: 4 }),
+        Move::Did(Source::Ask(0)),
+        Move::DidNot(Source::Ask(0), Stepped::JournalFull),
+        Move::Take(Some(Told::Accepted)),
+        Move::Take(None),
+    ],
+    ..ONCE
+}];
+
+// An ask that is refused, as its word is out of memory.
+const OUTSIDE: Ask = Ask::Prefetch { at: 32 };
+
+// A ring of asks has 16 places.
+const FULL_ASKS: [Stage; 2] = [
+    Stage {
+        times: 16,
+        moves: &[Move::Offer(OUTSIDE)],
+        ..ONCE
+    },
+    Stage {
+        moves: &[Move::Back(OUTSIDE)],
+        ..ONCE
+    },
+];
+
+// A ring of verdicts back to the port has 64.
+const FULL_VERDICTS: [Stage; 2] = [
+    Stage {
+        times: 64,
+        moves: &[Move::Offer(OUTSIDE), Move::Did(Source::Ask(0))],
+        ..ONCE
+    },
+    Stage {
+        moves: &[
+            Move::Offer(OUTSIDE),
+            Move::DidNot(Source::Ask(0), Stepped::Idle),
+            Move::Entries(64),
+            Move::Take(Some(Told::Refused(Cause::OutOfRange))),
+            Move::Did(Source::Ask(0)),
+            Move::Offer(Ask::Done),
+            Move::Back(Ask::Done),
+        ],
+        ..ONCE
+    },
+];
+
+const STORIES: [Story; 5] = [
+    Story {
+        name: "a load, audited at each step",
+        journal: 100,
+        stages: &LOAD,
+        settled: true,
+    },
+    Story {
+        name: "served commands make room",
+        journal: 100,
+        stages: &THREE_BLOCKS,
+        settled: true,
+    },
+    Story {
+        name: "a full journal",
+        journal: 1,
+        stages: &FULL_JOURNAL,
+        settled: false,
+    },
+    Story {
+        name: "a full ring of asks",
+        journal: 100,
+        stages: &FULL_ASKS,
+        settled: false,
+    },
+    Story {
+        name: "a full ring of verdicts",
+        journal: 100,
+        stages: &FULL_VERDICTS,
+        settled: false,
+    },
+];
+
+// An answer for word 0 of register 0.
+const UNCALLED: BankAnswer = BankAnswer {
+    slot: 0,
+    i: 0,
+    word: ZEROS,
+};
+
+// Nobody has asked for the word.
+const UNCALLED_WORD: [Stage; 1] = [Stage {
+    moves: &[
+        Move::Raw(RawMove::Push(UNCALLED)),
+        Move::DidNot(Source::Word(0), Stepped::Faulted),
+        Move::DidNot(Source::Drain, Stepped::Faulted),
+        Move::Entries(0),
+    ],
+    ..ONCE
+}];
+
+// A ring of answers has four places here.
+const TOO_MANY_ANSWERS: [Stage; 2] = [
+    Stage {
+        times: 4,
+        moves: &[Move::Raw(RawMove::Push(UNCALLED))],
+        ..ONCE
+    },
+    Stage {
+        moves: &[
+            Move::Raw(RawMove::Back(UNCALLED)),
+            Move::DidNot(Source::Word(0), Stepped::Faulted),
+        ],
+        ..ONCE
+    },
+];
+
+const WRONG: Word = Word {
+    b0: 0xde,
+    b1: 0xad,
+    b2: 0xbe,
+    b3: 0xef,
+};
+
+// What bank 1 answers in the place of word 5.
+const WRONG_WORD: BankAnswer = BankAnswer {
+    slot: 0,
+    i: 1,
+    word: WRONG,
+};
+
+const FIRST_READ: Command = Command::Read {
+    slot: 0,
+    i: 1,
+    place: 2,
+};
+
+const SECOND_READ: Command = Command::Read {
+    slot: 0,
+    i: 3,
+    place: 3,
+};
+
+// A load of word 5 is answered with another word, which goes to it. A second one, for which nobody
+// waits, makes the side faulted for good.
+const WRONG_ANSWER: [Stage; 3] = [
+    Stage {
+        moves: &[
+            Move::Offer(LOAD_5),
+            Move::Did(Source::Ask(0)),
+            Move::Take(Some(Told::Accepted)),
+            Move::Raw(RawMove::Pop(Some(FIRST_READ))),
+            Move::Raw(RawMove::Pop(Some(SECOND_READ))),
+            Move::Raw(RawMove::Pop(None)),
+            Move::Raw(RawMove::Push(WRONG_WORD)),
+        ],
+        ..ONCE
+    },
+    Stage {
+        moves: &[
+            Move::Did(Source::Word(1)),
+            Move::Did(Source::Stack(0)),
+            Move::Did(Source::Reply(0)),
+            Move::Take(Some(Told::Value {
+                tag: 1,
+                word: WRONG,
+            })),
+            Move::Raw(RawMove::Push(WRONG_WORD)),
+            Move::DidNot(Source::Word(1), Stepped::Faulted),
+            Move::Entries(4),
+        ],
+        ..ONCE
+    },
+    Stage {
+        moves: &[
+            Move::DidNot(Source::Drain, Stepped::Faulted),
+            Move::Offer(Ask::Prefetch { at: 0 }),
+            Move::Take(None),
+        ],
+        ..ONCE
+    },
+];
+
+const RAW_STORIES: [RawStory; 3] = [
+    RawStory {
+        name: "an uncalled word",
+        bank: 0,
+        journal: 8,
+        stages: &UNCALLED_WORD,
+        fault: SideFault::Uncalled { bank: 0 },
+    },
+    RawStory {
+        name: "too many answers",
+        bank: 0,
+        journal: 8,
+        stages: &TOO_MANY_ANSWERS,
+        fault: SideFault::Uncalled { bank: 0 },
+    },
+    RawStory {
+        name: "a wrong answer, and a stray one",
+        bank: 1,
+        journal: 100,
+        stages: &WRONG_ANSWER,
+        fault: SideFault::Stray {
+            bank: 1,
+            slot: 0,
+            i: 1,
+        },
+    },
+];
+
+// Asserts what comes of a move of the raw bank.
+fn move_raw(rt: &impl Abort, raw: &mut Option<RawBank>, it: RawMove) {
+    let Some(bank) = raw else {
+        assert!(rt; false, "no bank is raw");
+        return;
+    };
+    match it {
+        RawMove::Pop(command) => assert_eq!(rt; bank.pop(), command),
+        RawMove::Push(answer) => assert_eq!(rt; bank.push(answer), Ok(())),
+        RawMove::Back(answer) => assert_eq!(rt; bank.push(answer), Err(answer)),
+    }
+}
+
+// A bank serves the first command that it knows.
+fn serve(rt: &impl Abort, banks: &mut [BankSide], bank: usize)
+    ensures { map bank_id banks.new ≡ map bank_id banks.old }
+{
+    assert!(rt; bank < banks.len(), "no bank {bank}");
+    assert_eq!(rt; banks[bank].step(), Stepped::Did);
+}
+
+// Asserts what comes of a move.
+fn make_move(
+    rt: &impl Abort,
+    cache: &mut SmallCache,
+    port: &mut Port,
+    banks: &mut [BankSide],
+    raw: &mut Option<RawBank>,
+    it: Move,
+)
+    ensures cache { cache_id cache.new ≡ cache_id cache.old }
+    ensures port { port_id port.new ≡ port_id port.old }
+    ensures banks { map bank_id banks.new ≡ map bank_id banks.old }
+{
+    match it {
+        Move::Offer(ask) => assert_eq!(rt; port.offer(ask), Ok(())),
+        Move::Back(ask) => assert_eq!(rt; port.offer(ask), Err(ask)),
+        Move::Take(told) => assert_eq!(rt; port.take(), told),
+        Move::Did(source) => assert_eq!(rt; cache.step(source), Stepped::Did),
+        Move::DidNot(source, why) => assert_eq!(rt; cache.step(source), why),
+        Move::Serve(bank) => serve(rt, banks, bank),
+        Move::Entries(count) => assert_eq!(rt; cache.entries(), count),
+        Move::Raw(raw_move) => move_raw(rt, raw, raw_move),
+    }
+}
+
+fn make_moves(
+    rt: &impl Abort,
+    cache: &mut SmallCache,
+    port: &mut Port,
+    banks: &mut [BankSide],
+    raw: &mut Option<RawBank>,
+    moves: &[Move],
+)
+    ensures cache { cache_id cache.new ≡ cache_id cache.old }
+    ensures port { port_id port.new ≡ port_id port.old }
+    ensures banks { map bank_id banks.new ≡ map bank_id banks.old }
+{
+    for it in moves {
+        make_move(rt, cache, port, banks, raw, *it);
+    }
+}
+
+// Makes a stage's moves as often as it says.
+fn make_stage(
+    rt: &impl Abort,
+    cache: &mut SmallCache,
+    port: &mut Port,
+    banks: &mut [BankSide],
+    raw: &mut Option<RawBank>,
+    stage: &Stage,
+)
+    ensures cache { cache_id cache.new ≡ cache_id cache.old }
+    ensures port { port_id port.new ≡ port_id port.old }
+    ensures banks { map bank_id banks.new ≡ map bank_id banks.old }
+{
+    for _time in 0..stage.times {
+        make_moves(rt, cache, port, banks, raw, stage.moves);
+    }
+}
+
+// Makes a stage's moves with a whole station, and its audit.
+fn make_audited(rt: &impl Abort, station: &mut SmallStation, stage: &Stage)
+    requires one { AreOneStation station.old.cache station.old.ports.items station.old.banks.items }
+    requires ports { vec_len station.old.ports ≡ 1 }
+    ensures one { AreOneStation station.new.cache station.new.ports.items station.new.banks.items }
+    ensures ports { vec_len station.new.ports ≡ 1 }
+{
     let Station {
-        mut cache,
-        mut ports,
-        mut banks,
-    } = station::<1, 4, 2, 2>(rt.alloc(), SHAPE, 1, 100)?;
-    let mut port = ports.pop().ok_or("no port")?;
-    let mut second = banks.pop().ok_or("no bank")?;
-    let mut first = banks.pop().ok_or("no bank")?;
-    block_comes(&rt, &mut cache, &mut port, &mut first, &mut second, 0);
-    block_comes(&rt, &mut cache, &mut port, &mut first, &mut second, 4);
-    block_comes(&rt, &mut cache, &mut port, &mut first, &mut second, 8);
-    assert!(rt; cache.settled());
+        cache,
+        ports,
+        banks,
+    } = station;
+    make_stage(rt, cache, &mut ports[0], banks, &mut None, stage);
+    if let Some(found) = stage.audit {
+        assert_eq!(rt; audit(cache, ports, banks), found);
+    }
+}
+
+fn walk(rt: &impl Abort, station: &mut SmallStation, stages: &[Stage])
+    requires one { AreOneStation station.old.cache station.old.ports.items station.old.banks.items }
+    requires ports { vec_len station.old.ports ≡ 1 }
+{
+    for stage in stages {
+        make_audited(rt, station, stage);
+    }
+}
+
+#[test]
+fn stations_by_hand(rt: HostRuntime) -> Result<(), Fail> {
+    for story in &STORIES {
+        let mut all = station::<1, 4, 2, 2>(rt.alloc(), SHAPE, 1, story.journal)?;
+        walk(&rt, &mut all, story.stages);
+        assert_eq!(rt; all.cache.fault(), None, "{}", story.name);
+        assert!(rt; all.cache.settled() || !story.settled, "{}", story.name);
+    }
+    Ok(())
+}
+
+#[test]
+fn raw_banks(rt: HostRuntime) -> Result<(), Fail> {
+    for story in &RAW_STORIES {
+        let Station {
+            mut cache,
+            mut ports,
+            mut banks,
+        } = station::<1, 4, 2, 2>(rt.alloc(), SHAPE, 1, story.journal)?;
+        let mut port = ports.pop().ok_or("no port")?;
+        assert!(rt; story.bank < banks.len(), "{}", story.name);
+        let mut raw = Some(banks.remove(story.bank).into_raw());
+        for stage in story.stages {
+            make_stage(&rt, &mut cache, &mut port, &mut banks, &mut raw, stage);
+        }
+        assert_eq!(rt; cache.fault(), Some(story.fault), "{}", story.name);
+    }
     Ok(())
 }

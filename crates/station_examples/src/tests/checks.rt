@@ -1,6 +1,7 @@
 //! What is found of a journal and of lists, and the texts, which no contract says.
+use super::{ZEROS, scripts_of};
 use flat_model::{Answer, Cause, Event, Lanes, Word};
-use ring_station::{Ask, Audit, Entry, Ring, Source, Told};
+use ring_station::{Ask, Audit, Entry, Ring, RunFault, Source, Told};
 use station_checks::{Findings, Plan, are_told, is_flat, tell_journal, tell_run, tell_story};
 use std::alloc::{AllocError, Global};
 use std::test::Fail;
@@ -55,26 +56,48 @@ fn lists(alloc: Global, value: Word) -> Result<Vec<Vec<Told>>, AllocError> {
     Ok(lists)
 }
 
+// What is found of a journal with this value of a load, over so many words of memory, where the load's
+// port was told the word that was stored.
+const FOUND: [(Word, u32, bool, bool); 3] = [
+    (STORED, 8, true, true),
+    (ZEROS, 8, false, false),
+    (STORED, 6, false, true),
+];
+
+// Findings of a run that came to its end, and of one that gave no lists.
+fn findings(
+    alloc: Global,
+    journal: &[Entry],
+    words: u32,
+    told: &[Vec<Told>],
+) -> Result<[Findings; 2], AllocError> {
+    let whole = Findings::of_run(alloc, Audit::Clean, journal, words, Some(told))?;
+    let without_lists = Findings::of_run(alloc, Audit::Clean, journal, words, None)?;
+    Ok([whole, without_lists])
+}
+
 #[test]
 fn a_load_behind_a_store(rt: HostRuntime) -> Result<(), Fail> {
     let alloc = rt.alloc();
-    assert!(rt; is_flat(alloc, &journal(STORED), 8)?);
-    assert!(rt; !is_flat(alloc, &journal(Word::default()), 8)?);
-    assert!(rt; !is_flat(alloc, &journal(STORED), 6)?);
     let told = lists(alloc, STORED)?;
-    assert!(rt; are_told(alloc, &journal(STORED), &told)?);
-    assert!(rt; !are_told(alloc, &journal(Word::default()), &told)?);
-    let found = Findings::of_run(alloc, Audit::Clean, &journal(STORED), 8, Some(&told))?;
-    assert_eq!(rt;
-        found,
-        Findings {
+    for (value, words, flat, tells) in FOUND {
+        let journal = journal(value);
+        assert_eq!(rt; is_flat(alloc, &journal, words)?, flat);
+        assert_eq!(rt; are_told(alloc, &journal, &told)?, tells);
+        let found = Findings {
             audit: Audit::Clean,
-            is_flat: true,
-            are_told: Some(true)
-        }
-    );
-    let found = Findings::of_run(alloc, Audit::Clean, &journal(STORED), 8, None)?;
-    assert_eq!(rt; found.are_told, None);
+            is_flat: flat,
+            are_told: Some(tells),
+        };
+        let without_lists = Findings {
+            are_told: None,
+            ..found
+        };
+        assert_eq!(rt;
+            findings(alloc, &journal, words, &told)?,
+            [found, without_lists]
+        );
+    }
     Ok(())
 }
 
@@ -105,23 +128,21 @@ fn list() -> [Told; 5] {
     ]
 }
 
-#[test]
-fn story_of_a_list(rt: HostRuntime) -> Result<(), Fail> {
-    let alloc = rt.alloc();
-    let mut scripts = Vec::new(alloc);
-    scripts.push(script().to_vec(alloc)?)?;
-    let mut lists = Vec::new(alloc);
-    lists.push(list().to_vec(alloc)?)?;
-    let findings = Findings {
-        audit: Audit::Left {
-            ring: Ring::Asks(0),
-        },
-        is_flat: false,
-        are_told: Some(false),
-    };
-    let mut out = Vec::new(alloc);
-    tell_story(&mut out, &Plan::new(1, 4, 7), &scripts, &lists, &findings)?;
-    let wanted = "1 ports, 4 asks each, seed 7
+// A text that tells of a run.
+#[derive(Clone, Copy)]
+enum Text {
+    /// Each ask with what came of it, the audit's answer, and whether the journal is flat.
+    Story,
+    /// How the journal ends, how many asks were offered again, and asks per second.
+    Run,
+    /// The journal as a recorded run, of which a port's end is no line.
+    Journal,
+}
+
+const TEXTS: [(Text, &str); 3] = [
+    (
+        Text::Story,
+        "1 ports, 4 asks each, seed 7
 
 port 0
   load 1 5 -> aabbccdd
@@ -131,46 +152,69 @@ port 0
 
 audit: Left { ring: Asks(0) }
 journal: not flat
-";
-    assert_eq!(rt; std::str::from_utf8(out.as_slice())?, wanted);
-    Ok(())
-}
-
-#[test]
-fn end_of_a_run(rt: HostRuntime) -> Result<(), Fail> {
-    let alloc = rt.alloc();
-    let mut lists = Vec::new(alloc);
-    lists.push(list().to_vec(alloc)?)?;
-    let mut out = Vec::new(alloc);
-    let took = Duration::from_millis(500);
-    tell_run(
-        &mut out,
-        &Plan::new(1, 4, 7),
-        &journal(STORED),
-        &lists,
-        took,
-    )?;
-    let wanted = "the journal has 4 entries, and ends with
+",
+    ),
+    (
+        Text::Run,
+        "the journal has 4 entries, and ends with
   store 6 1111 aabbccdd -> accepted
   load 3 6 -> accepted
   port 1 has ended
   take 0 -> value 3 aabbccdd
 1 asks were offered again
 8 asks per second
-";
-    assert_eq!(rt; std::str::from_utf8(out.as_slice())?, wanted);
-    Ok(())
-}
-
-// A port's end is no line of a recorded run.
-#[test]
-fn journal_without_ends(rt: HostRuntime) -> Result<(), Fail> {
-    let mut out = Vec::new(rt.alloc());
-    tell_journal(&mut out, &journal(STORED))?;
-    let wanted = "store 6 1111 aabbccdd -> accepted
+",
+    ),
+    (
+        Text::Journal,
+        "store 6 1111 aabbccdd -> accepted
 load 3 6 -> accepted
 take 0 -> value 3 aabbccdd
-";
-    assert_eq!(rt; std::str::from_utf8(out.as_slice())?, wanted);
+",
+    ),
+];
+
+const FINDINGS: Findings = Findings {
+    audit: Audit::Left {
+        ring: Ring::Asks(0),
+    },
+    is_flat: false,
+    are_told: Some(false),
+};
+
+fn told(alloc: Global, text: Text) -> Result<Vec<u8>, Fail> {
+    let scripts = scripts_of(alloc, &[&script()])?;
+    let lists = [list().to_vec(alloc)?];
+    let plan = Plan::new(1, 4, 7);
+    let journal = journal(STORED);
+    let mut out = Vec::new(alloc);
+    match text {
+        Text::Story => tell_story(&mut out, &plan, &scripts, &lists, &FINDINGS)?,
+        Text::Run => tell_run(
+            &mut out,
+            &plan,
+            &journal,
+            &lists,
+            Duration::from_millis(500),
+        )?,
+        Text::Journal => tell_journal(&mut out, &journal)?,
+    }
+    Ok(out)
+}
+
+const FAULTS: [(RunFault, &str); 2] = [
+    (RunFault::TurnLimit, "turn limit"),
+    (RunFault::OutOfMemory, "out of memory"),
+];
+
+#[test]
+fn texts_of_a_run(rt: HostRuntime) -> Result<(), Fail> {
+    for (text, wanted) in TEXTS {
+        let out = told(rt.alloc(), text)?;
+        assert_eq!(rt; out.as_slice(), wanted.as_bytes());
+    }
+    for (fault, wanted) in FAULTS {
+        assert_eq!(rt; format!(in rt.alloc(); "{fault}")?.as_str(), wanted);
+    }
     Ok(())
 }

@@ -1,13 +1,84 @@
-//! Runs that come to their end.
-ghost use Rattle.std.specs.Prelude.{◌≡◌, vec_len, IfOk};
+//! Runs on threads. A row has the station, the scripts of its ports, the gate's rule, and what is to be
+//! found behind the run.
+ghost use Rattle.std.specs.Prelude.{◌≡◌};
+ghost use Rattle.station_parts.specs.Ids.{cache_id};
 
-use super::{OpenGate, SHAPE, SmallStation, TURNS, load, one_script, scripts_of_two, zeros};
-use flat_model::{Cause, Lanes, Word};
-use ring_station::{Actor, Ask, Audit, Gate, Told, audit, run_threads, station};
-use std::alloc::{AllocError, Global};
+use super::gates::{Rule, RuledGate};
+use super::{LOAD_5, SHAPE, SmallCache, SmallStation, TURNS, VALUE, scripts_of};
+use flat_model::{Answer, Cause, Event, Lanes, Word};
+use ring_station::{
+    Ask, Audit, BankSide, Entry, RunFault, Source, Told, audit, run_threads, station,
+};
+use std::alloc::Global;
 use std::process::Abort;
-use std::sync::atomic::{AtomicBool, Ordering};
+use std::rt::Clock;
 use std::test::Fail;
+use std::thread::Threads;
+
+/// What a port is told in a run.
+#[derive(Clone, Copy)]
+pub(crate) enum Tellings {
+    /// These, in this order.
+    InOrder(&'static [Told]),
+    /// These, in any order.
+    InAnyOrder(&'static [Told]),
+    /// The first and the last of these at the ends, the others between them, and at least so many
+    /// refusals of a tag in use.
+    WithRefusals {
+        least: usize,
+        others: &'static [Told],
+    },
+}
+
+/// What is to be found behind a run.
+#[derive(Clone, Copy)]
+enum Fact {
+    /// What the audit finds.
+    Audit(Audit),
+    /// The audit finds that something is left.
+    Left,
+    /// So many entries stand in the journal.
+    Entries(u32),
+    /// The journal's first entry.
+    First(Entry),
+    /// The cache side is settled.
+    Settled,
+    /// The word at a place of a bank.
+    Word { bank: usize, place: u32, word: Word },
+    /// How many actors saw what they waited for in the gate.
+    Met(u64),
+    /// How often the cache side, the two ports and the two banks asked the gate.
+    Turns([u64; 5]),
+}
+
+/// A run of a new station with a port for each script.
+#[derive(Clone, Copy)]
+pub(crate) struct Run {
+    name: &'static str,
+    pub(crate) rule: Rule,
+    /// Entries that the journal takes.
+    pub(crate) journal: u32,
+    /// Turns of each thread.
+    turns: u64,
+    pub(crate) scripts: &'static [&'static [Ask]],
+    /// What the ports are told; `None` for a run that comes to its limit.
+    pub(crate) lists: Option<&'static [Tellings]>,
+    /// Steps that the cache side makes by hand behind the run, if it can.
+    then: &'static [Source],
+    facts: &'static [Fact],
+}
+
+// Each row begins with these numbers.
+const RUN: Run = Run {
+    name: "",
+    rule: Rule::Open,
+    journal: 100,
+    turns: TURNS,
+    scripts: &[],
+    lists: None,
+    then: &[],
+    facts: &[],
+};
 
 const STORED: Word = Word {
     b0: 0xee,
@@ -16,145 +87,319 @@ const STORED: Word = Word {
     b3: 0xbb,
 };
 
-// Port 0 asks for a word that a held bank has; port 1 is served from the other bank meanwhile.
-#[derive(Drop)]
-pub(crate) struct HeldBank {
-    first_accepted: AtomicBool,
-    second_accepted: AtomicBool,
-    second_has_value: AtomicBool,
-}
+const STORE: Ask = Ask::Store {
+    at: 5,
+    word: STORED,
+    lanes: Lanes(15),
+};
 
-impl HeldBank {
-    pub(crate) fn new() -> HeldBank {
-        HeldBank {
-            first_accepted: AtomicBool::new(false),
-            second_accepted: AtomicBool::new(false),
-            second_has_value: AtomicBool::new(false),
-        }
-    }
-}
+const NO_LANE: Ask = Ask::Store {
+    at: 0,
+    word: STORED,
+    lanes: Lanes(0),
+};
 
-impl Gate for HeldBank {
-    fn may(&self, actor: Actor) -> bool {
-        match actor {
-            Actor::Port(0) => {
-                !self.first_accepted.load(Ordering::SeqCst)
-                    || self.second_accepted.load(Ordering::SeqCst)
-            }
-            Actor::Port(1) => self.first_accepted.load(Ordering::SeqCst),
-            Actor::Bank(1) => self.second_has_value.load(Ordering::SeqCst),
-            _ => true,
-        }
-    }
+// What a port is told whose one load reads zeros.
+const ONE_LOAD: [Told; 2] = [Told::Accepted, VALUE];
 
-    fn told(&self, port: u32, told: &Told) {
-        match (port, told) {
-            (0, Told::Accepted) => self.first_accepted.store(true, Ordering::SeqCst),
-            (1, Told::Accepted) => self.second_accepted.store(true, Ordering::SeqCst),
-            (1, Told::Value { .. }) => self.second_has_value.store(true, Ordering::SeqCst),
-            _ => {}
-        }
-    }
-}
+// Two loads under the same tag, the second of which waits for the value of the first.
+const SAME_TAG: [Ask; 2] = [LOAD_5, Ask::Load { tag: 1, at: 9 }];
+
+const TWO_LOADS: [Told; 4] = [Told::Accepted, VALUE, Told::Accepted, VALUE];
+
+/// Port 0 asks for a word that a held bank has; port 1 is served from the other bank meanwhile.
+pub(crate) const HELD_BANK: Run = Run {
+    name: "a held bank",
+    rule: Rule::HeldBank,
+    journal: 1_000,
+    scripts: &[
+        &[
+            LOAD_5,
+            STORE,
+            Ask::Load { tag: 2, at: 5 },
+            Ask::Evict { block: 1 },
+        ],
+        &[Ask::Load { tag: 1, at: 8 }],
+    ],
+    lists: Some(&[
+        Tellings::InAnyOrder(&[
+            Told::Accepted,
+            Told::Accepted,
+            Told::Accepted,
+            Told::Accepted,
+            VALUE,
+            Told::Value {
+                tag: 2,
+                word: STORED,
+            },
+        ]),
+        Tellings::InOrder(&ONE_LOAD),
+    ]),
+    facts: &[
+        Fact::Audit(Audit::Clean),
+        Fact::Settled,
+        Fact::Word {
+            bank: 1,
+            place: 2,
+            word: STORED,
+        },
+    ],
+    ..RUN
+};
+
+/// The second load's tag is in use until the first one has its value, which the gate keeps back.
+pub(crate) const OFTEN_REFUSED: Run = Run {
+    name: "more refusals than memory is reserved for",
+    rule: Rule::HeldUntilRefused,
+    journal: 1_000,
+    scripts: &[&SAME_TAG, &[]],
+    lists: Some(&[
+        Tellings::WithRefusals {
+            least: 20,
+            others: &TWO_LOADS,
+        },
+        Tellings::InOrder(&[]),
+    ]),
+    facts: &[Fact::Audit(Audit::Clean)],
+    ..RUN
+};
+
+const ENDED: Entry = Entry::Ended { port: 0 };
+
+const PREFETCHED: Entry = Entry::Step {
+    source: Source::Ask(0),
+    event: Event::Prefetch { at: 0 },
+    answer: Answer::Accepted,
+};
+
+const RUNS: [Run; 12] = [
+    Run {
+        name: "an empty script",
+        scripts: &[&[]],
+        lists: Some(&[Tellings::InOrder(&[])]),
+        facts: &[
+            Fact::Entries(1),
+            Fact::First(ENDED),
+            Fact::Audit(Audit::Clean),
+        ],
+        ..RUN
+    },
+    Run {
+        name: "all five threads run at the same time",
+        rule: Rule::Meeting,
+        scripts: &[&[], &[]],
+        lists: Some(&[Tellings::InOrder(&[]), Tellings::InOrder(&[])]),
+        facts: &[Fact::Met(5)],
+        ..RUN
+    },
+    Run {
+        name: "a part that dwells on its step holds no other one up",
+        rule: Rule::Dwelling,
+        scripts: &[&[LOAD_5], &[Ask::Load { tag: 1, at: 8 }]],
+        lists: Some(&[Tellings::InOrder(&ONE_LOAD), Tellings::InOrder(&ONE_LOAD)]),
+        facts: &[Fact::Met(1), Fact::Audit(Audit::Clean)],
+        ..RUN
+    },
+    HELD_BANK,
+    OFTEN_REFUSED,
+    // A load with a tag that still waits is refused, and offered again until it is accepted.
+    Run {
+        name: "a refused ask is offered again",
+        journal: 100_000,
+        scripts: &[&SAME_TAG],
+        lists: Some(&[Tellings::WithRefusals {
+            least: 0,
+            others: &TWO_LOADS,
+        }]),
+        ..RUN
+    },
+    // Refusals that no wait would change are told once, and the script goes on.
+    Run {
+        name: "refusals that stay",
+        scripts: &[&[
+            Ask::Load { tag: 1, at: 32 },
+            NO_LANE,
+            Ask::Evict { block: 3 },
+        ]],
+        lists: Some(&[Tellings::InOrder(&[
+            Told::Refused(Cause::OutOfRange),
+            Told::Refused(Cause::NoLanes),
+            Told::Refused(Cause::NotPresent),
+        ])]),
+        ..RUN
+    },
+    // What a bank was sent that never goes is left.
+    Run {
+        name: "a silent bank",
+        rule: Rule::SilentBank,
+        turns: 100_000,
+        scripts: &[&[Ask::Load { tag: 1, at: 0 }]],
+        facts: &[Fact::Left],
+        ..RUN
+    },
+    // Nothing has happened.
+    Run {
+        name: "no turns",
+        turns: 0,
+        scripts: &[&[]],
+        facts: &[Fact::Entries(0), Fact::Audit(Audit::Clean)],
+        ..RUN
+    },
+    // The prefetch takes the journal's one entry, and Done finds none.
+    Run {
+        name: "a full journal",
+        journal: 1,
+        turns: 100_000,
+        scripts: &[&[Ask::Prefetch { at: 0 }]],
+        then: &[Source::Ask(0)],
+        facts: &[Fact::Entries(1), Fact::First(PREFETCHED)],
+        ..RUN
+    },
+    // The port waits for a verdict on its Done, and offers nothing behind it.
+    Run {
+        name: "a script with Done in it comes to no end",
+        turns: 1_000,
+        scripts: &[&[Ask::Done, Ask::Load { tag: 1, at: 0 }]],
+        then: &[Source::Ask(0)],
+        facts: &[
+            Fact::Entries(1),
+            Fact::First(ENDED),
+            Fact::Audit(Audit::Clean),
+        ],
+        ..RUN
+    },
+    Run {
+        name: "each turn asks the gate",
+        rule: Rule::Closed,
+        turns: 1_001,
+        scripts: &[&[Ask::Load { tag: 1, at: 0 }]],
+        facts: &[
+            Fact::Turns([1_001, 1_001, 0, 1_001, 1_001]),
+            Fact::Entries(0),
+            Fact::Audit(Audit::Clean),
+        ],
+        ..RUN
+    },
+];
 
 fn count_of(list: &[Told], wanted: Told) -> usize {
     list.iter().filter(|told| **told == wanted).count()
 }
 
-fn all_lanes() -> Lanes {
-    Lanes::LANE_0
-        .joined(Lanes::LANE_1)
-        .joined(Lanes::LANE_2)
-        .joined(Lanes::LANE_3)
-}
-
-pub(crate) fn two_scripts(alloc: Global) -> Result<Vec<Vec<Ask>>, AllocError>
-    ensures { IfOk result (λ scripts. vec_len scripts ≡ 2) }
-{
-    let store = Ask::Store {
-        at: 5,
-        word: STORED,
-        lanes: all_lanes(),
-    };
-    let first = [load(1, 5), store, load(2, 5), Ask::Evict { block: 1 }];
-    scripts_of_two(alloc, &first, &[load(1, 8)])
-}
-
-// What the two ports take.
-pub(crate) fn both_are_told(rt: &impl Abort, lists: &[Vec<Told>]) {
-    assert_eq!(rt; lists.len(), 2);
-    assert_eq!(rt; lists[0].len(), 6);
-    let first_value = Told::Value {
-        tag: 1,
-        word: zeros(),
-    };
-    let stored_value = Told::Value {
-        tag: 2,
-        word: STORED,
-    };
-    let counts = [(Told::Accepted, 4), (first_value, 1), (stored_value, 1)];
-    for (told, count) in counts {
-        assert_eq!(rt; count_of(&lists[0], told), count);
+// Asserts that a list has as many of each of these as they are.
+fn has_each(rt: &impl Abort, list: &[Told], wanted: &[Told]) {
+    for told in wanted {
+        assert_eq!(rt; count_of(list, *told), count_of(wanted, *told));
     }
-    let second = [Told::Accepted, first_value];
-    assert_eq!(rt; lists[1].as_slice(), second.as_slice());
 }
 
-#[test]
-fn station_on_threads(rt: HostRuntime) -> Result<(), Fail> {
-    let alloc = rt.alloc();
-    let mut all: SmallStation = station(alloc, SHAPE, 2, 1_000)?;
-    let scripts = two_scripts(alloc)?;
-    let lists = run_threads(&rt, alloc, &mut all, &scripts, TURNS, &HeldBank::new())?;
-    both_are_told(&rt, &lists);
+fn has_refusals(rt: &impl Abort, list: &[Told], least: usize, others: &[Told]) {
+    let refusals = count_of(list, Told::Refused(Cause::TagInUse));
+    assert!(rt; refusals >= least);
+    assert_eq!(rt; Some(list.len()), refusals.checked_add(others.len()));
+    assert_eq!(rt; list.first(), others.first());
+    assert_eq!(rt; list.last(), others.last());
+}
+
+// Asserts that a port was told what it had to be.
+fn is_told(rt: &impl Abort, list: &[Told], wanted: &Tellings) {
+    match wanted {
+        Tellings::InOrder(wanted) => assert_eq!(rt; list, *wanted),
+        Tellings::InAnyOrder(wanted) => {
+            assert_eq!(rt; list.len(), wanted.len());
+            has_each(rt, list, wanted);
+        }
+        Tellings::WithRefusals { least, others } => {
+            has_refusals(rt, list, *least, others);
+            has_each(rt, list, others);
+        }
+    }
+}
+
+/// Asserts that the ports of a run were told what they had to be.
+pub(crate) fn are_told(rt: &impl Abort, lists: &[Vec<Told>], wanted: &[Tellings]) {
+    assert_eq!(rt; lists.len(), wanted.len());
+    for (list, tellings) in lists.iter().zip(wanted) {
+        is_told(rt, list.as_slice(), tellings);
+    }
+}
+
+// Asserts how a run ended.
+fn has_ended(rt: &impl Abort, ended: Result<Vec<Vec<Told>>, RunFault>, run: &Run) {
+    match (ended, run.lists) {
+        (Ok(lists), Some(wanted)) => are_told(rt, &lists, wanted),
+        (Ok(_), None) => assert!(rt; false, "{} came to its end", run.name),
+        (Err(fault), None) => assert_eq!(rt; fault, RunFault::TurnLimit, "{}", run.name),
+        (Err(fault), Some(_)) => assert!(rt; false, "{}: {fault}", run.name),
+    }
+}
+
+// Makes the steps that are possible.
+fn step_on(cache: &mut SmallCache, sources: &[Source])
+    ensures { cache_id cache.new ≡ cache_id cache.old }
+{
+    for source in sources {
+        cache.step(*source);
+    }
+}
+
+// What stands behind a run, to be looked at.
+#[derive(Clone, Copy)]
+struct Behind<'a> {
+    cache: &'a SmallCache,
+    banks: &'a [BankSide],
+    gate: &'a RuledGate,
+    found: Audit,
+}
+
+impl Behind<'_> {
+    fn shows(&self, fact: &Fact) -> bool {
+        match *fact {
+            Fact::Audit(wanted) => self.found == wanted,
+            Fact::Left => matches!(self.found, Audit::Left { .. }),
+            Fact::Entries(count) => self.cache.entries() == count,
+            Fact::First(entry) => self.cache.entry(0) == Some(entry),
+            Fact::Settled => self.cache.settled(),
+            Fact::Word { bank, place, word } => self.word_at(bank, place) == Some(word),
+            Fact::Met(actors) => self.gate.met() == actors,
+            Fact::Turns(turns) => self.gate.turns() == turns,
+        }
+    }
+
+    fn word_at(&self, bank: usize, place: u32) -> Option<Word> {
+        self.banks.get(bank)?.word(place)
+    }
+}
+
+fn make_run<R: Abort + Clock + Threads + Sync>(
+    rt: &R,
+    alloc: Global,
+    run: &Run,
+) -> Result<(), Fail> {
+    let scripts = scripts_of(alloc, run.scripts)?;
+    let mut all: SmallStation = station(alloc, SHAPE, scripts.len() as u32, run.journal)?;
+    assert_eq!(rt; scripts.len(), all.ports.len());
+    let gate = RuledGate::new(run.rule);
+    let ended = run_threads(rt, alloc, &mut all, &scripts, run.turns, &gate);
+    has_ended(rt, ended, run);
+    step_on(&mut all.cache, run.then);
     let found = audit(&mut all.cache, &mut all.ports, &mut all.banks);
-    assert_eq!(rt; found, Audit::Clean);
-    assert!(rt; all.cache.settled());
-    assert_eq!(rt; all.banks.len(), 2);
-    assert_eq!(rt; all.banks[1].word(2), Some(STORED));
+    let behind = Behind {
+        cache: &all.cache,
+        banks: &all.banks,
+        gate: &gate,
+        found,
+    };
+    for (number, fact) in run.facts.iter().enumerate() {
+        assert!(rt; behind.shows(fact), "{}: fact {number}", run.name);
+    }
     Ok(())
 }
 
-// A load with a tag that still waits is refused, and offered again until it is accepted.
 #[test]
-fn refused_ask_is_offered_again(rt: HostRuntime) -> Result<(), Fail> {
-    let alloc = rt.alloc();
-    let mut all: SmallStation = station(alloc, SHAPE, 1, 100_000)?;
-    let scripts = one_script(alloc, &[load(1, 5), load(1, 9)])?;
-    let lists = run_threads(&rt, alloc, &mut all, &scripts, TURNS, &OpenGate)?;
-    assert_eq!(rt; lists.len(), 1);
-    let value = Told::Value {
-        tag: 1,
-        word: zeros(),
-    };
-    let refused = count_of(&lists[0], Told::Refused(Cause::TagInUse));
-    assert_eq!(rt; Some(lists[0].len()), refused.checked_add(4));
-    assert_eq!(rt; count_of(&lists[0], Told::Accepted), 2);
-    assert_eq!(rt; count_of(&lists[0], value), 2);
-    assert_eq!(rt; lists[0].first(), Some(&Told::Accepted));
-    assert_eq!(rt; lists[0].last(), Some(&value));
-    Ok(())
-}
-
-// Refusals that no wait would change are told once, and the script goes on.
-#[test]
-fn refusals_that_stay(rt: HostRuntime) -> Result<(), Fail> {
-    let alloc = rt.alloc();
-    let mut all: SmallStation = station(alloc, SHAPE, 1, 100)?;
-    let no_lane = Ask::Store {
-        at: 0,
-        word: STORED,
-        lanes: Lanes::none(),
-    };
-    let asks = [load(1, 32), no_lane, Ask::Evict { block: 3 }];
-    let scripts = one_script(alloc, &asks)?;
-    let lists = run_threads(&rt, alloc, &mut all, &scripts, TURNS, &OpenGate)?;
-    assert_eq!(rt; lists.len(), 1);
-    let refusals = [
-        Told::Refused(Cause::OutOfRange),
-        Told::Refused(Cause::NoLanes),
-        Told::Refused(Cause::NotPresent),
-    ];
-    assert_eq!(rt; lists[0].as_slice(), refusals.as_slice());
+fn runs_on_threads(rt: HostRuntime) -> Result<(), Fail> {
+    for run in &RUNS {
+        make_run(&rt, rt.alloc(), run)?;
+    }
     Ok(())
 }

@@ -1,0 +1,194 @@
+//! A gate that holds the threads of a run by a rule, and counts what it sees.
+use ring_station::{Actor, Gate, Told};
+use std::hint;
+use std::sync::atomic::{AtomicBool, AtomicU64, Ordering};
+
+/// Whom a gate holds.
+#[derive(Clone, Copy, PartialEq, Eq, Debug)]
+pub(crate) enum Rule {
+    /// Nobody.
+    Open,
+    /// All, for ever.
+    Closed,
+    /// Bank 0, for ever.
+    SilentBank,
+    /// Bank 1, which has port 0's word, until port 1 has been served from the other bank meanwhile.
+    HeldBank,
+    /// Bank 1, until port 0 has been told of [`REFUSALS`] refusals.
+    HeldUntilRefused,
+    /// Each actor at its first turn, until all five have come to theirs.
+    Meeting,
+    /// Port 0, at the first thing that it is told, until each other part has begun [`MORE_TURNS`] turns
+    /// more. Port 1 makes no step before.
+    Dwelling,
+}
+
+/// So many refusals are more than a script of two asks has memory reserved for.
+pub(crate) const REFUSALS: u64 = 20;
+
+/// So many turns of another part, begun while a port dwells, are more than those that were under
+/// way.
+const MORE_TURNS: u64 = 100;
+
+// So many reads are long enough for every thread to begin, and for those turns.
+const READS: u64 = 200_000_000;
+
+/// What a port was told, counted.
+#[derive(Drop)]
+struct Heard {
+    accepted: AtomicU64,
+    refused: AtomicU64,
+    values: AtomicU64,
+}
+
+impl Heard {
+    fn new() -> Heard {
+        Heard {
+            accepted: AtomicU64::new(0),
+            refused: AtomicU64::new(0),
+            values: AtomicU64::new(0),
+        }
+    }
+
+    fn note(&self, told: &Told) {
+        let count = match told {
+            Told::Accepted => &self.accepted,
+            Told::Refused(_) => &self.refused,
+            Told::Value { .. } => &self.values,
+        };
+        count.fetch_add(1, Ordering::SeqCst);
+    }
+}
+
+/// A gate for two ports, the cache side and two banks.
+#[derive(Drop)]
+pub(crate) struct RuledGate {
+    rule: Rule,
+    // How many turns each actor has begun.
+    cache: AtomicU64,
+    first_port: AtomicU64,
+    second_port: AtomicU64,
+    first_bank: AtomicU64,
+    second_bank: AtomicU64,
+    // What each port was told.
+    first: Heard,
+    second: Heard,
+    has_dwelt: AtomicBool,
+    met: AtomicU64,
+}
+
+impl RuledGate {
+    pub(crate) fn new(rule: Rule) -> RuledGate {
+        RuledGate {
+            rule,
+            cache: AtomicU64::new(0),
+            first_port: AtomicU64::new(0),
+            second_port: AtomicU64::new(0),
+            first_bank: AtomicU64::new(0),
+            second_bank: AtomicU64::new(0),
+            first: Heard::new(),
+            second: Heard::new(),
+            has_dwelt: AtomicBool::new(false),
+            met: AtomicU64::new(0),
+        }
+    }
+
+    /// How many actors saw what they waited for.
+    pub(crate) fn met(&self) -> u64 {
+        self.met.load(Ordering::SeqCst)
+    }
+
+    /// How many turns were begun by the cache side, the two ports and the two banks.
+    pub(crate) fn turns(&self) -> [u64; 5] {
+        [
+            self.cache.load(Ordering::SeqCst),
+            self.first_port.load(Ordering::SeqCst),
+            self.second_port.load(Ordering::SeqCst),
+            self.first_bank.load(Ordering::SeqCst),
+            self.second_bank.load(Ordering::SeqCst),
+        ]
+    }
+
+    fn turns_of(&self, actor: Actor) -> &AtomicU64 {
+        match actor {
+            Actor::Cache => &self.cache,
+            Actor::Port(0) => &self.first_port,
+            Actor::Port(_) => &self.second_port,
+            Actor::Bank(0) => &self.first_bank,
+            Actor::Bank(_) => &self.second_bank,
+        }
+    }
+
+    // Begins to count the turns of all but port 0 anew.
+    fn forget_turns(&self) {
+        self.cache.store(0, Ordering::SeqCst);
+        self.second_port.store(0, Ordering::SeqCst);
+        self.first_bank.store(0, Ordering::SeqCst);
+        self.second_bank.store(0, Ordering::SeqCst);
+    }
+
+    // Whether port 0 has begun a turn, and each other actor so many.
+    fn have_begun(&self, turns: u64) -> bool {
+        let [cache, first_port, second_port, first_bank, second_bank] = self.turns();
+        first_port > 0 && cache.min(second_port).min(first_bank).min(second_bank) >= turns
+    }
+
+    fn wait_for(&self, turns: u64) {
+        for _ in 0..READS {
+            if self.have_begun(turns) {
+                self.met.fetch_add(1, Ordering::SeqCst);
+                return;
+            }
+            hint::spin_loop();
+        }
+    }
+
+    fn dwell(&self) {
+        self.forget_turns();
+        self.wait_for(MORE_TURNS);
+        self.has_dwelt.store(true, Ordering::SeqCst);
+    }
+
+    // Port 1 asks behind port 0, whose next ask comes behind that one.
+    fn held_bank_lets(&self, actor: Actor) -> bool {
+        let first_is_accepted = self.first.accepted.load(Ordering::SeqCst) > 0;
+        match actor {
+            Actor::Port(0) => {
+                !first_is_accepted || self.second.accepted.load(Ordering::SeqCst) > 0
+            }
+            Actor::Port(_) => first_is_accepted,
+            Actor::Bank(1) => self.second.values.load(Ordering::SeqCst) > 0,
+            Actor::Bank(_) | Actor::Cache => true,
+        }
+    }
+}
+
+impl Gate for RuledGate {
+    fn may(&self, actor: Actor) -> bool {
+        let turns = self.turns_of(actor).fetch_add(1, Ordering::SeqCst);
+        match self.rule {
+            Rule::Open => true,
+            Rule::Closed => false,
+            Rule::SilentBank => actor != Actor::Bank(0),
+            Rule::HeldBank => self.held_bank_lets(actor),
+            Rule::HeldUntilRefused => {
+                actor != Actor::Bank(1) || self.first.refused.load(Ordering::SeqCst) >= REFUSALS
+            }
+            Rule::Meeting => {
+                if turns == 0 {
+                    self.wait_for(1);
+                }
+                true
+            }
+            Rule::Dwelling => actor != Actor::Port(1) || self.has_dwelt.load(Ordering::SeqCst),
+        }
+    }
+
+    fn told(&self, port: u32, told: &Told) {
+        let heard = if port == 0 { &self.first } else { &self.second };
+        heard.note(told);
+        if self.rule == Rule::Dwelling && port == 0 && !self.has_dwelt.load(Ordering::SeqCst) {
+            self.dwell();
+        }
+    }
+}

@@ -1,0 +1,57 @@
+//! The largest station that can be made.
+use super::ZEROS;
+use flat_model::{Answer, Event, Shape};
+use ring_station::{Ask, Entry, Source, Station, Stepped, Told, station};
+use std::test::Fail;
+
+const LARGEST: Shape = Shape {
+    words: 1_048_576,
+    sets: 1_024,
+    banks: 16,
+    bank_queue: 64,
+    write_queue: 256,
+    replies: 64,
+};
+
+const LAST: u32 = 1_048_575;
+
+// The core knows tag 255 of port 15 as 15 * 256 + 255.
+const ASKED: Entry = Entry::Step {
+    source: Source::Ask(15),
+    event: Event::Load {
+        tag: 4_095,
+        at: LAST,
+    },
+    answer: Answer::Accepted,
+};
+
+const TOLD: [Told; 2] = [
+    Told::Accepted,
+    Told::Value {
+        tag: 255,
+        word: ZEROS,
+    },
+];
+
+// The last port asks for the last word under its last tag.
+#[test]
+fn the_largest_station(rt: HostRuntime) -> Result<(), Fail> {
+    let Station {
+        mut cache,
+        mut ports,
+        mut banks,
+    } = station::<8, 16, 16, 16>(rt.alloc(), LARGEST, 16, 1_048_576)?;
+    let mut port = ports.remove(15);
+    let mut bank = banks.remove(15);
+    assert_eq!(rt; port.offer(Ask::Load { tag: 255, at: LAST }), Ok(()));
+    assert_eq!(rt; cache.step(Source::Ask(15)), Stepped::Did);
+    assert_eq!(rt; bank.step(), Stepped::Did);
+    for source in [Source::Word(15), Source::Stack(0), Source::Reply(0)] {
+        assert_eq!(rt; cache.step(source), Stepped::Did);
+    }
+    assert_eq!(rt; cache.entry(0), Some(ASKED));
+    for told in TOLD {
+        assert_eq!(rt; port.take(), Some(told));
+    }
+    Ok(())
+}

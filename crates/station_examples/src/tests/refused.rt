@@ -1,0 +1,98 @@
+//! Want of memory, at whichever allocation. With enough memory all comes to its end; with one
+//! allocation refused, a call answers want of memory or comes to its end, and of two calls one does.
+ghost use Rattle.std.specs.Prelude.{IfOk};
+ghost use Rattle.station_parts.specs.Station.{AreOneStation};
+
+use super::gates::RuledGate;
+use super::on_threads::{HELD_BANK, OFTEN_REFUSED, Run, are_told};
+use super::{SHAPE, SmallStation, TURNS, scripts_of};
+use flat_model::{MakeFault, ShapeField};
+use ring_station::{Audit, RunFault, audit, run_threads, station};
+use std::alloc::Global;
+use std::process::Abort;
+use std::rt::Clock;
+use std::thread::Threads;
+
+// What the maker of a station says of these numbers of ports and of entries.
+fn fault_of(alloc: Global, ports: u32, journal: u32) -> Option<MakeFault> {
+    station::<1, 4, 2, 2>(alloc, SHAPE, ports, journal).err()
+}
+
+// Ports and entries out of their ranges, of which that of ports is named first.
+const BAD_NUMBERS: [(u32, u32, ShapeField); 5] = [
+    (17, 100, ShapeField::Ports),
+    (17, 0, ShapeField::Ports),
+    (0, 0, ShapeField::Ports),
+    (1, 0, ShapeField::Journal),
+    (1, 1_048_577, ShapeField::Journal),
+];
+
+// A number out of its range is named before any memory is asked for.
+#[test]
+fn station_may_find_no_memory(rt: HostRuntime) {
+    for (ports, journal, field) in BAD_NUMBERS {
+        let fault = MakeFault::BadShape(field);
+        assert_eq!(rt; fault_of(rt.alloc(), ports, journal), Some(fault));
+    }
+    let mut made = false;
+    for _attempt in 0..2 {
+        match fault_of(rt.alloc(), 1, 100) {
+            None => made = true,
+            Some(fault) => assert_eq!(rt; fault, MakeFault::OutOfMemory),
+        }
+    }
+    assert!(rt; made);
+}
+
+fn made(rt: &impl Abort, alloc: Global, run: &Run) -> Result<SmallStation, RunFault>
+    ensures { IfOk result (λ s. AreOneStation s.cache s.ports.items s.banks.items) }
+{
+    match station(alloc, SHAPE, run.scripts.len() as u32, run.journal) {
+        Ok(all) => Ok(all),
+        Err(fault) => {
+            assert_eq!(rt; fault, MakeFault::OutOfMemory);
+            Err(RunFault::OutOfMemory)
+        }
+    }
+}
+
+// Makes a run, of which all has to be as its row says if it comes to its end.
+fn attempt<R: Abort + Clock + Threads + Sync>(
+    rt: &R,
+    alloc: Global,
+    run: &Run,
+) -> Result<(), RunFault> {
+    let scripts = scripts_of(alloc, run.scripts)?;
+    let mut all = made(rt, alloc, run)?;
+    assert_eq!(rt; scripts.len(), all.ports.len());
+    let gate = RuledGate::new(run.rule);
+    let lists = run_threads(rt, alloc, &mut all, &scripts, TURNS, &gate)?;
+    are_told(rt, &lists, run.lists.unwrap_or_default());
+    let found = audit(&mut all.cache, &mut all.ports, &mut all.banks);
+    assert_eq!(rt; found, Audit::Clean);
+    Ok(())
+}
+
+// A thread that can't be made may end in either fault.
+#[test]
+fn refused_memory(rt: HostRuntime) {
+    let mut ended = false;
+    for _attempt in 0..2 {
+        ended |= attempt(&rt, rt.alloc(), &HELD_BANK).is_ok();
+    }
+    assert!(rt; ended);
+}
+
+// A port that finds no memory in the midst of its run ends; the cache side, which waits for its Done,
+// and the banks then use up their turns. Want of memory goes before that.
+#[test]
+fn refused_memory_in_a_thread(rt: HostRuntime) {
+    let mut ended = false;
+    for _attempt in 0..2 {
+        match attempt(&rt, rt.alloc(), &OFTEN_REFUSED) {
+            Ok(()) => ended = true,
+            Err(fault) => assert_eq!(rt; fault, RunFault::OutOfMemory),
+        }
+    }
+    assert!(rt; ended);
+}
