@@ -61,9 +61,12 @@ def get_requires_for_build_editable(config_settings: Settings = None) -> List[st
 
 
 def build_wheel(wheel_directory: str, config_settings: Settings = None, metadata_directory: Optional[str] = None) -> str:
-    """The wheel of the package: its modules and the mark that they have types."""
+    """The wheel of the package: its modules, the mark that they have types, and where the repository is, whose library
+    they may find."""
     paths = sorted(path for path in (HERE / NAME).iterdir() if path.suffix == ".py" or path.name == "py.typed")
-    return write_wheel(wheel_directory, {f"{NAME}/{path.name}": path.read_bytes() for path in paths})
+    modules = {f"{NAME}/{path.name}": path.read_bytes() for path in paths}
+    modules[f"{NAME}/repository.txt"] = str(HERE.parents[1]).encode("utf-8")
+    return write_wheel(wheel_directory, modules)
 
 
 def build_editable(wheel_directory: str, config_settings: Settings = None, metadata_directory: Optional[str] = None) -> str:

@@ -63,8 +63,9 @@ class TargetRow(c.Structure):
 
 
 def places() -> Iterator[Path]:
-    """Where the library may be, the first that counts first: the folder or file that KROFT_LIB names; the lib folder
-    of the prefix that this Python or this package is installed in; dist/x86_64-linux of the repository."""
+    """Where the library may be, the first that counts first: the folder or file that KROFT_LIB names, and then nowhere
+    else; the lib folder of the prefix that this Python or this package is installed in; dist/x86_64-linux of the
+    repository that this package lies in, or was installed from."""
     named = os.environ.get("KROFT_LIB")
     if named:
         yield Path(named) if Path(named).is_file() else Path(named) / NAME
@@ -72,8 +73,10 @@ def places() -> Iterator[Path]:
     here = Path(__file__).resolve()
     for prefix in [Path(sys.prefix), Path(sys.base_prefix), *here.parents, Path("/usr/local"), Path("/usr")]:
         yield prefix / "lib" / NAME
-    for parent in here.parents:
-        yield parent / "dist" / "x86_64-linux" / NAME
+    installed_from = here.parent / "repository.txt"
+    repositories = [Path(installed_from.read_text("utf-8"))] if installed_from.is_file() else []
+    for repository in [*here.parents, *repositories]:
+        yield repository / "dist" / "x86_64-linux" / NAME
 
 
 def declare(library: c.CDLL) -> c.CDLL:
