@@ -27,6 +27,7 @@
 #include <memory>
 #include <string>
 #include <unordered_map>
+#include <utility>
 #include <vector>
 
 namespace kroft {
@@ -150,7 +151,8 @@ using Image = std::function<void(uint64_t address, uint8_t *bytes)>;
 /// time. It may be moved, not copied.
 class FlatJudge {
 public:
-    explicit FlatJudge(Range range = {}, Image image = {}) : range(range), image(std::move(image)) {}
+    /// A judge of memory with these addresses, and with these bytes at first: zeros if no image is given.
+    explicit FlatJudge(Range addresses = {}, Image first_bytes = {}) : range(addresses), image(std::move(first_bytes)) {}
 
     FlatJudge(FlatJudge &&) noexcept = default;
     FlatJudge &operator=(FlatJudge &&) noexcept = default;

@@ -30,7 +30,7 @@ namespace kroft {
 /// It outlives its monitors.
 class Watch {
 public:
-    explicit Watch(Range range = {}, Image image = {}) : range(range), judge(range, std::move(image)) {}
+    explicit Watch(Range addresses = {}, Image first_bytes = {}) : range(addresses), judge(addresses, std::move(first_bytes)) {}
 
     /// What was wrong so far.
     uint64_t errors() const { return error_count; }
@@ -61,7 +61,7 @@ public:
     tlm_utils::simple_target_socket<Monitor, BUSWIDTH> in{"in"};
     tlm_utils::simple_initiator_socket<Monitor, BUSWIDTH> out{"out"};
 
-    Monitor(sc_core::sc_module_name name, Watch &watch) : sc_module(name), watch(watch) {
+    Monitor(sc_core::sc_module_name module, Watch &shared) : sc_module(module), watch(shared) {
         in.register_b_transport(this, &Monitor::b_transport);
         in.register_nb_transport_fw(this, &Monitor::nb_transport_fw);
         in.register_get_direct_mem_ptr(this, &Monitor::get_direct_mem_ptr);

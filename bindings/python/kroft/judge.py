@@ -200,7 +200,7 @@ class FlatJudge:
 
     def _request(self, kind: str, id: object, address: int, size: int, enables: Optional[int]) -> Access:
         self.calls += 1
-        every = (1 << size) - 1
+        every = (1 << max(size, 0)) - 1
         return Access(kind, id, address, size, every if enables is None else enables & every, self.calls)
 
     def _stray(self, kind: str, id: object) -> Access:
