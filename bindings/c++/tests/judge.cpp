@@ -6,6 +6,7 @@
 
 #include <cstdio>
 #include <ctime>
+#include <sys/resource.h>
 
 #ifndef ACCESSES
 #define ACCESSES 500000
@@ -73,6 +74,7 @@ void ends_of_addresses() {
     EXPECT(judge.load(2, ~uint64_t{0} - 62, 64).reason == Reason::OutOfRange);
     for (unsigned i = 0; i < 64; i++) bytes[i] = uint8_t(i < 32 ? 5 + 0xfe0 + i : 6 + i - 32);
     EXPECT(bool(judge.load(3, 0x5fe0, 64)) && bool(judge.value(3, bytes)));
+    EXPECT(judge.byte_at(0) == 0 && judge.byte_at(0x7001) == 8 && judge.byte_at(1) == 1 && judge.byte_at(0x7000) == 7);
 }
 
 // Each size, at each place in a word, with each of a few enables: the bytes that are stored are loaded again,
@@ -117,6 +119,17 @@ void many_owed() {
         zeros[1] = uint8_t(i >> 8);
         EXPECT(bool(judge.value(i, zeros)));
     }
+}
+
+// A judge that is asked for long takes no more memory: 4,800,000 words, of which each would leave 8 bytes.
+void memory_stays() {
+    kroft::FlatJudge judge;
+    const uint8_t zeros[64] = {};
+    rusage before{}, after{};
+    getrusage(RUSAGE_SELF, &before);
+    for (unsigned i = 0; i < 300000; i++) EXPECT(bool(judge.load(i, 0x40, 64)) && bool(judge.value(i, zeros)));
+    getrusage(RUSAGE_SELF, &after);
+    EXPECT(after.ru_maxrss - before.ru_maxrss < 16000); // KiB
 }
 
 struct Run {
@@ -183,6 +196,7 @@ int main() {
     refusals();
     ends_of_addresses();
     sizes_and_places();
+    memory_stays();
     many_owed();
     right_cache();
     found("stores first", replay::Bug::StoresFirst, "wrong data");

@@ -150,6 +150,13 @@ class Accesses(Causes):
             for id in reversed(range(5000)):
                 judge.value(id, id.to_bytes(64, "little"))
 
+    def test_tags_are_used_again(self) -> None:
+        with FlatJudge() as judge:
+            for id in range(5000):  # of 16 words: 80,000, and a table has 65,536 tags
+                judge.load(id, 64, 64)
+                judge.value(id, bytes(64))
+            self.assertEqual(len(judge._tables), 1)
+
 
 Wrong = Optional[kroft.KroftError]
 

@@ -5,6 +5,7 @@
 #include <stdio.h>
 #include <stdlib.h>
 #include <string.h>
+#include <sys/resource.h>
 
 enum { BYTES = 10000, IDS = 3000 };
 #define FIRST 0xfffffffffffff001ULL /* the memory is not aligned, and ends before the last address */
@@ -141,9 +142,27 @@ static void many_owed(void) {
     kroft_sv_close(judge);
 }
 
+/* A judge that is asked for long takes no more memory: 4,800,000 words, of which each would leave 8 bytes. */
+static void memory_stays(void) {
+    void *judge = kroft_sv_open(0, ~0ULL);
+    kroft_four_states data[16];
+    struct rusage before, after;
+    int i;
+    memset(data, 0, sizeof data);
+    getrusage(RUSAGE_SELF, &before);
+    for (i = 0; i < 300000; i++) {
+        expect(__LINE__, judge, kroft_sv_load(judge, 1, 64, 64, ~0ULL), KROFT_SV_RIGHT);
+        expect(__LINE__, judge, kroft_sv_value(judge, 1, data), KROFT_SV_RIGHT);
+    }
+    getrusage(RUSAGE_SELF, &after);
+    expect(__LINE__, judge, after.ru_maxrss - before.ru_maxrss < 16000, 1); /* KiB */
+    kroft_sv_close(judge);
+}
+
 int main(void) {
     void *judge = kroft_sv_open(FIRST, LAST);
     long n;
+    memory_stays();
     for (n = 0; n < 1000000; n++) {
         if (random_bits() & 1) request(judge);
         else answer(judge);
