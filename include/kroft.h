@@ -98,7 +98,7 @@ typedef struct {
 enum {
     KROFT_FLAT = 0,     /* flat memory gives this answer to this event                              */
     KROFT_NOT_FLAT = 1, /* flat memory never gives it                                               */
-    KROFT_NO_STEP = 2   /* a row says nothing, or `ndue` isn't KROFT_TAGS                           */
+    KROFT_NO_STEP = 2   /* nothing was judged: a row says nothing, or `ndue` isn't KROFT_TAGS       */
 };
 
 /*
@@ -106,6 +106,17 @@ enum {
  * and `due` are then as the step leaves them; or KROFT_NOT_FLAT or KROFT_NO_STEP, and then both are as
  * they were. A row says nothing if its kind is past the last, or if it is a refusal whose cause isn't
  * 1 to 13.
+ *
+ *     if (kroft_flat_step(words, nwords, due, KROFT_TAGS, &event, &answer) != KROFT_FLAT) {
+ *         char text[KROFT_WHY_TEXT];
+ *         kroft_word owed;
+ *         uint32_t why = kroft_flat_why(words, nwords, due, KROFT_TAGS, &event, &answer, &owed);
+ *         kroft_why_text(why, text, sizeof text);
+ *         fail(text);
+ *     }
+ *
+ * So ask whether it isn't KROFT_FLAT, not whether it is KROFT_NOT_FLAT: after KROFT_NO_STEP nothing was
+ * judged, and the step is no success.
  *
  * Flat memory: an accepted store is seen at once, and an accepted load is owed the word as it stood
  * when it was accepted, until a take answers exactly this word under its tag. The rows need no more
@@ -118,11 +129,52 @@ enum {
 uint32_t kroft_flat_step(kroft_word *words, size_t nwords, kroft_due *due, size_t ndue,
                          const kroft_event *event, const kroft_answer *answer);
 
+/* Why a step isn't accepted. After the first three the event may only be refused, with the cause of the same
+   number (KROFT_OUT_OF_RANGE, KROFT_NO_LANES, KROFT_TAG_IN_USE). */
+enum {
+    KROFT_WHY_FLAT = 0,         /* it is accepted: kroft_flat_step would return KROFT_FLAT                */
+    KROFT_WHY_OUT_OF_RANGE = 1, /* a load, a store or a prefetch of a word that memory hasn't             */
+    KROFT_WHY_NO_LANES = 2,     /* a store without a lane                                                 */
+    KROFT_WHY_TAG_IN_USE = 3,   /* the load's tag is owed a word already                                  */
+    KROFT_WHY_NOTHING_OWED = 4, /* the tag of the value that is taken is owed nothing                     */
+    KROFT_WHY_WRONG_WORD = 5,   /* it is owed another word                                                */
+    KROFT_WHY_OTHER_ANSWER = 6, /* this event never gets such an answer                                   */
+    KROFT_WHY_NO_EVENT = 7,     /* the event's row says nothing                                           */
+    KROFT_WHY_NO_ANSWER = 8,    /* the answer's row says nothing                                          */
+    KROFT_WHY_NO_TABLE = 9      /* `ndue` isn't KROFT_TAGS                                                */
+};
+
+/*
+ * Why a step with these arguments isn't accepted; it changes neither `words` nor `due`. Returns KROFT_WHY_FLAT
+ * exactly if kroft_flat_step would return KROFT_FLAT, 1 to 6 exactly if KROFT_NOT_FLAT, and 7 to 9 exactly if
+ * KROFT_NO_STEP. Of the reasons that hold it is the first in the order 7, 8, 9, 1 to 6. After
+ * KROFT_WHY_WRONG_WORD `owed` is the word that the tag is owed; otherwise `owed` is as it was.
+ */
+uint32_t kroft_flat_why(const kroft_word *words, size_t nwords, const kroft_due *due, size_t ndue,
+                        const kroft_event *event, const kroft_answer *answer, kroft_word *owed);
+
+/* The bytes of a buffer that each text of kroft_why_text fits, with the 0 at its end. */
+#define KROFT_WHY_TEXT 64
+
+/*
+ * Writes the text of a reason, in ASCII and with a 0 at its end, into `text`, which has `room` bytes. Returns
+ * the length of the text without the 0. If the two don't fit, nothing is written. A number that no reason has
+ * gets a text that says so.
+ */
+uint32_t kroft_why_text(uint32_t why, char *text, size_t room);
+
 /*
  * What a tag is owed. Returns 1, and `word` is what it is owed; or 0 if it is owed nothing (or `due` has
  * no entry for it), and then `word` is as it was.
  */
 uint32_t kroft_flat_owed(const kroft_due *due, size_t ndue, uint16_t tag, kroft_word *word);
+
+/*
+ * How many tags are owed a word, which is how many accepted loads have no answer yet: a run is complete if this
+ * is 0 at its end. If there are more than `n`, `tag` is the one at place `n` among them, the lowest at place 0;
+ * otherwise `tag` is as it was. Entries of `due` from KROFT_TAGS on count for nothing. Each call reads the table.
+ */
+uint32_t kroft_flat_open(const kroft_due *due, size_t ndue, uint32_t n, uint16_t *tag);
 
 /* ---- the machine ------------------------------------------------------------------------------- */
 

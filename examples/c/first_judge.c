@@ -7,8 +7,13 @@ static kroft_word memory[64];       /* begins as you like */
 static kroft_due owed[KROFT_TAGS];  /* what each tag is owed: zeros at first */
 
 static void step(const char *said, kroft_event event, kroft_answer answer) {
-    uint32_t verdict = kroft_flat_step(memory, 64, owed, KROFT_TAGS, &event, &answer);
-    printf("%s: %s\n", said, verdict == KROFT_FLAT ? "flat" : "not flat");
+    char text[KROFT_WHY_TEXT] = "flat";
+    kroft_word word;
+    if (kroft_flat_step(memory, 64, owed, KROFT_TAGS, &event, &answer) != KROFT_FLAT) {
+        uint32_t why = kroft_flat_why(memory, 64, owed, KROFT_TAGS, &event, &answer, &word);
+        kroft_why_text(why, text, sizeof text);
+    }
+    printf("%s: %s\n", said, text);
 }
 
 int main(void) {
@@ -18,10 +23,12 @@ int main(void) {
     kroft_answer accepted = {.kind = KROFT_ACCEPTED};
     kroft_answer before = {.kind = KROFT_VALUE, .tag = 7};
     kroft_answer after = {.kind = KROFT_VALUE, .tag = 7, .word = {{0xaa}}};
+    uint16_t tag;
 
     step("load 7 5 -> accepted", load, accepted);
     step("store 5 1000 aa000000 -> accepted", store, accepted);
     step("take 0 -> value 7 aa000000", take, after); /* the byte was stored after the load */
     step("take 0 -> value 7 00000000", take, before);
+    printf("%u loads without an answer\n", (unsigned)kroft_flat_open(owed, KROFT_TAGS, 0, &tag));
     return 0;
 }

@@ -65,10 +65,23 @@ static uint32_t step(kroft_event e, kroft_answer a) {
     return kroft_flat_step(words, WORDS, due, KROFT_TAGS, &e, &a);
 }
 
+/* What a step would get, without a word that was owed. */
+static uint32_t why(kroft_event e, kroft_answer a) {
+    kroft_word unused;
+    return kroft_flat_why(words, WORDS, due, KROFT_TAGS, &e, &a, &unused);
+}
+
+/* The status that a reason tells. */
+static uint32_t status_of(uint32_t reason) {
+    if (reason == KROFT_WHY_FLAT) return KROFT_FLAT;
+    return reason <= KROFT_WHY_OTHER_ANSWER ? KROFT_NOT_FLAT : KROFT_NO_STEP;
+}
+
 /* A step that must be answered so, and must leave everything as it was. */
 static void stays(uint32_t status, kroft_event e, kroft_answer a) {
     memcpy(words_before, words, sizeof words);
     memcpy(due_before, due, sizeof due);
+    CHECK(status_of(why(e, a)) == status);
     CHECK(step(e, a) == status);
     CHECK(memcmp(words_before, words, sizeof words) == 0);
     CHECK(memcmp(due_before, due, sizeof due) == 0);
@@ -189,6 +202,118 @@ static void no_steps(void) {
     CHECK(memcmp(due_before, due, sizeof due) == 0);
 }
 
+/* A step that must get this reason, and the word that was owed only if it is KROFT_WHY_WRONG_WORD. */
+static void has_reason(uint32_t reason, kroft_event e, kroft_answer a) {
+    kroft_word none = word(0xde, 0xad, 0xbe, 0xef), w = none;
+    memcpy(words_before, words, sizeof words);
+    memcpy(due_before, due, sizeof due);
+    CHECK(kroft_flat_why(words, WORDS, due, KROFT_TAGS, &e, &a, &w) == reason);
+    CHECK(reason == KROFT_WHY_WRONG_WORD || memcmp(&w, &none, sizeof w) == 0);
+    CHECK(memcmp(words_before, words, sizeof words) == 0);
+    CHECK(memcmp(due_before, due, sizeof due) == 0);
+}
+
+/* Why a request isn't accepted, and what may be answered in its place. */
+static void reasons_of_requests(void) {
+    kroft_event prefetch = event(KROFT_PREFETCH);
+    has_reason(KROFT_WHY_FLAT, load(3, 0), answer(KROFT_ACCEPTED));
+    has_reason(KROFT_WHY_OTHER_ANSWER, load(3, 0), answer(KROFT_MOVED));
+    has_reason(KROFT_WHY_OTHER_ANSWER, load(3, 0), refused(KROFT_OUT_OF_RANGE));
+    has_reason(KROFT_WHY_OUT_OF_RANGE, load(3, WORDS), answer(KROFT_ACCEPTED));
+    has_reason(KROFT_WHY_OUT_OF_RANGE, load(3, UINT32_MAX), refused(KROFT_QUEUE_FULL));
+    has_reason(KROFT_WHY_FLAT, load(3, WORDS), refused(KROFT_OUT_OF_RANGE));
+    has_reason(KROFT_WHY_OUT_OF_RANGE, store(WORDS, 0, words[0]), answer(KROFT_ACCEPTED));
+    has_reason(KROFT_WHY_NO_LANES, store(0, 0xf0, words[0]), answer(KROFT_ACCEPTED));
+    has_reason(KROFT_WHY_FLAT, store(0, 0xf0, words[0]), refused(KROFT_NO_LANES));
+    has_reason(KROFT_WHY_OTHER_ANSWER, store(0, 1, words[0]), refused(KROFT_TAG_IN_USE));
+    has_reason(KROFT_WHY_OTHER_ANSWER, prefetch, answer(KROFT_NOTHING));
+    prefetch.at = WORDS;
+    has_reason(KROFT_WHY_OUT_OF_RANGE, prefetch, answer(KROFT_ACCEPTED));
+    CHECK(step(load(3, 0), answer(KROFT_ACCEPTED)) == KROFT_FLAT);
+    has_reason(KROFT_WHY_TAG_IN_USE, load(3, 1), answer(KROFT_ACCEPTED));
+    has_reason(KROFT_WHY_OUT_OF_RANGE, load(3, WORDS), answer(KROFT_ACCEPTED));
+    has_reason(KROFT_WHY_FLAT, load(3, 1), refused(KROFT_TAG_IN_USE));
+    CHECK(step(event(KROFT_TAKE), value(3, words[0])) == KROFT_FLAT);
+}
+
+/* Why a value isn't accepted, and the word that was owed. */
+static void reasons_of_values(void) {
+    kroft_event take = event(KROFT_TAKE);
+    kroft_answer wrong = value(4, word(1, 2, 3, 5));
+    kroft_word w = word(9, 9, 9, 9);
+    has_reason(KROFT_WHY_NOTHING_OWED, take, value(4, word(1, 2, 3, 4)));
+    has_reason(KROFT_WHY_OTHER_ANSWER, take, answer(KROFT_ACCEPTED));
+    has_reason(KROFT_WHY_FLAT, take, answer(KROFT_NOTHING));
+    has_reason(KROFT_WHY_OTHER_ANSWER, event(KROFT_DRAIN), value(4, word(1, 2, 3, 4)));
+    CHECK(step(store(6, 15, word(1, 2, 3, 4)), answer(KROFT_ACCEPTED)) == KROFT_FLAT);
+    CHECK(step(load(4, 6), answer(KROFT_ACCEPTED)) == KROFT_FLAT);
+    CHECK(step(store(6, 15, word(1, 2, 3, 5)), answer(KROFT_ACCEPTED)) == KROFT_FLAT);
+    has_reason(KROFT_WHY_WRONG_WORD, take, wrong);
+    CHECK(kroft_flat_why(words, WORDS, due, KROFT_TAGS, &take, &wrong, &w) == KROFT_WHY_WRONG_WORD);
+    CHECK(w.b[0] == 1 && w.b[1] == 2 && w.b[2] == 3 && w.b[3] == 4);
+    has_reason(KROFT_WHY_NOTHING_OWED, take, value(5, word(1, 2, 3, 4)));
+    has_reason(KROFT_WHY_FLAT, take, value(4, word(1, 2, 3, 4)));
+    CHECK(step(take, value(4, word(1, 2, 3, 4))) == KROFT_FLAT);
+}
+
+/* A misuse has a reason of its own: the event's row first, then the answer's, then the table. */
+static void reasons_of_misuse(void) {
+    kroft_event e = load(3, WORDS), bad = event(9);
+    kroft_answer a = answer(KROFT_ACCEPTED), none = answer(5);
+    kroft_word w = word(0, 0, 0, 0);
+    has_reason(KROFT_WHY_NO_EVENT, bad, none);
+    has_reason(KROFT_WHY_NO_ANSWER, e, none);
+    has_reason(KROFT_WHY_NO_ANSWER, e, refused(0));
+    has_reason(KROFT_WHY_NO_ANSWER, e, refused(14));
+    CHECK(kroft_flat_why(words, WORDS, due, 0, &bad, &a, &w) == KROFT_WHY_NO_EVENT);
+    CHECK(kroft_flat_why(words, WORDS, due, 0, &e, &none, &w) == KROFT_WHY_NO_ANSWER);
+    CHECK(kroft_flat_why(words, WORDS, due, KROFT_TAGS - 1, &e, &a, &w) == KROFT_WHY_NO_TABLE);
+    CHECK(kroft_flat_why(words, 0, due, KROFT_TAGS, &e, &a, &w) == KROFT_WHY_OUT_OF_RANGE);
+}
+
+/* Each reason has a text of its own, which fits KROFT_WHY_TEXT and ends with a 0. */
+static void texts(void) {
+    char known[KROFT_WHY_NO_TABLE + 2][KROFT_WHY_TEXT], text[KROFT_WHY_TEXT];
+    uint32_t i, j, length;
+    for (i = 0; i <= KROFT_WHY_NO_TABLE + 1; i++) {
+        memset(known[i], '#', KROFT_WHY_TEXT);
+        length = kroft_why_text(i, known[i], KROFT_WHY_TEXT);
+        CHECK(length > 0 && length < KROFT_WHY_TEXT && strlen(known[i]) == length);
+        for (j = 0; j < i; j++) CHECK(strcmp(known[i], known[j]) != 0);
+    }
+    CHECK(strncmp(known[KROFT_WHY_FLAT], "flat", 4) == 0);
+    CHECK(strncmp(known[KROFT_WHY_WRONG_WORD], "wrong word", 10) == 0);
+    CHECK(kroft_why_text(UINT32_MAX, text, KROFT_WHY_TEXT) == strlen(known[KROFT_WHY_NO_TABLE + 1]));
+    CHECK(strcmp(text, known[KROFT_WHY_NO_TABLE + 1]) == 0);
+    memset(text, '#', sizeof text);
+    length = kroft_why_text(KROFT_WHY_FLAT, text, 0);
+    CHECK(length == strlen(known[KROFT_WHY_FLAT]) && text[0] == '#');
+    CHECK(kroft_why_text(KROFT_WHY_FLAT, text, length) == length && text[0] == '#' && text[length] == '#');
+    CHECK(kroft_why_text(KROFT_WHY_FLAT, text, length + 1) == length && strlen(text) == length && text[length + 1] == '#');
+}
+
+/* How many tags are owed, and which. */
+static void open_tags(void) {
+    uint16_t tag = 77;
+    CHECK(kroft_flat_open(due, KROFT_TAGS, 0, &tag) == 0 && tag == 77);
+    CHECK(step(load(65535, 2), answer(KROFT_ACCEPTED)) == KROFT_FLAT);
+    CHECK(step(load(300, 1), answer(KROFT_ACCEPTED)) == KROFT_FLAT);
+    CHECK(step(load(0, 1), answer(KROFT_ACCEPTED)) == KROFT_FLAT);
+    CHECK(kroft_flat_open(due, KROFT_TAGS, 0, &tag) == 3 && tag == 0);
+    CHECK(kroft_flat_open(due, KROFT_TAGS, 1, &tag) == 3 && tag == 300);
+    CHECK(kroft_flat_open(due, KROFT_TAGS, 2, &tag) == 3 && tag == 65535);
+    tag = 77;
+    CHECK(kroft_flat_open(due, KROFT_TAGS, 3, &tag) == 3 && tag == 77);
+    CHECK(kroft_flat_open(due, KROFT_TAGS, UINT32_MAX, &tag) == 3 && tag == 77);
+    CHECK(kroft_flat_open(due, KROFT_TAGS - 1, 2, &tag) == 2 && tag == 77);
+    CHECK(kroft_flat_open(due, 0, 0, &tag) == 0 && tag == 77);
+    CHECK(step(event(KROFT_TAKE), value(300, words[1])) == KROFT_FLAT);
+    CHECK(kroft_flat_open(due, KROFT_TAGS, 1, &tag) == 2 && tag == 65535);
+    CHECK(step(event(KROFT_TAKE), value(0, words[1])) == KROFT_FLAT);
+    CHECK(step(event(KROFT_TAKE), value(65535, words[2])) == KROFT_FLAT);
+    CHECK(kroft_flat_open(due, KROFT_TAGS, 0, &tag) == 0);
+}
+
 int main(void) {
     words[5] = word(0x11, 0x22, 0x33, 0x44); /* the image is what the caller puts there */
     a_store_after_a_load();
@@ -197,5 +322,10 @@ int main(void) {
     wrong_acceptances();
     moves();
     no_steps();
+    reasons_of_requests();
+    reasons_of_values();
+    reasons_of_misuse();
+    texts();
+    open_tags();
     return checks_end("judge");
 }

@@ -1,33 +1,13 @@
 //! The judge: one step of flat memory at a time, over words and a table that the caller keeps.
-ghost use Rattle.std.specs.Prelude.{◌≡◌, ◌≢◌, true, Some, length, is_some, if◌then◌else◌};
-ghost use Rattle.flat_model.specs.Flat.{may_answer, flat_after, with_due};
-ghost use Rattle.kroft_c.specs.Rows.{event_of, answer_of};
-ghost use Rattle.kroft_c.specs.Judge.{flat, due_in, owed_by, owed_or, judged, status_of};
+ghost use Rattle.std.specs.Prelude.{◌≡◌, ◌≢◌, ◌<◌, Some, length, is_some, if◌then◌else◌};
+ghost use Rattle.flat_judge.specs.Rows.{event_of, answer_of};
+ghost use Rattle.flat_judge.specs.Table.{due_in, owed_or, tags_owed, nth_tag};
+ghost use Rattle.flat_judge.specs.Judge.{flat, judged, status_of};
+ghost use Rattle.flat_judge.specs.Reasons.{why, number_of, status_by, owed_instead};
+ghost use Rattle.flat_judge.specs.Texts.{text_of, written};
 
-use crate::rows::{AnswerRow, EventRow};
-use flat_model::{Answer, Event, Word, may_answer, merge};
-
-/// The entries of a table of what is owed: one for each tag.
-pub const TAGS: usize = u16::MAX as usize + 1;
-
-/// Flat memory gives this answer.
-const EXPLAINED: u32 = 0;
-
-/// Flat memory never gives this answer.
-const NOT_FLAT: u32 = 1;
-
-/// A row says nothing, or the table isn't of one entry for each tag.
-const NO_STEP: u32 = 2;
-
-/// What a tag is owed: `word`, if `owed` isn't 0.
-#[repr(C)]
-#[derive(Clone, Copy)]
-pub struct Due {
-    /// 0 if nothing is owed.
-    pub owed: u32,
-    /// The word that is owed.
-    pub word: Word,
-}
+use flat_judge::{AnswerRow, Due, EventRow};
+use flat_model::Word;
 
 /// One step of a run, over the words of memory and the table of what each tag is owed.
 ///
@@ -49,17 +29,47 @@ pub extern "C" fn kroft_flat_step(
     ensures words { result ≢ 0 → words.new ≡ words.old }
     ensures due { result ≢ 0 → due.new ≡ due.old }
 {
-    let (Some(event), Some(answer)) = (event.event(), answer.answer()) else {
-        return NO_STEP;
-    };
-    if due.len() != TAGS {
-        return NO_STEP;
-    }
-    if !is_flat(words, due, event, answer) {
-        return NOT_FLAT;
-    }
-    step(words, due, event, answer);
-    EXPLAINED
+    flat_judge::flat_step(words, due, event, answer)
+}
+
+/// Why a step with these arguments isn't accepted. It changes neither words nor table.
+///
+/// 0: the step is accepted. 1: memory has no such word. 2: a store without a lane. 3: the tag of a
+/// load is owed a word already. After these three the event may only be refused, for the cause of the
+/// same number. 4: the tag of the value that is taken is owed nothing. 5: it is owed another
+/// word, and `owed` is that word. 6: the event never gets such an answer. 7: the event's row says
+/// nothing. 8: the answer's row says nothing. 9: `due` hasn't an entry for each tag. Of those that
+/// hold it is the first of 7, 8, 9 and then 1 to 6. After all but 5 `owed` is as it was.
+#[unsafe(no_mangle)]
+pub extern "C" fn kroft_flat_why(
+    words: &[Word],
+    due: &[Due],
+    event: &EventRow,
+    answer: &AnswerRow,
+    owed: &mut Word,
+) -> u32
+    ensures reason { result
+        ≡ number_of (why words.now due.now (event_of event.now) (answer_of answer.now)) }
+    ensures status { status_by result
+        ≡ status_of (judged words.now due.now (event_of event.now) (answer_of answer.now)) }
+    ensures owed { owed.new
+        ≡ owed_or owed.old
+        (owed_instead (why words.now due.now (event_of event.now) (answer_of answer.now))) }
+{
+    flat_judge::flat_why(words, due, event, answer, owed)
+}
+
+/// Writes the text of a reason of [`kroft_flat_why`], by its number, and a 0 behind it.
+///
+/// The result is the length of the text, without the 0. If the two don't fit, the buffer is as it
+/// was. A number that no reason has gets a text that says so. Every text fits a buffer of 64 bytes.
+#[unsafe(no_mangle)]
+pub extern "C" fn kroft_why_text(reason: u32, text: &mut [u8]) -> u32
+    ensures length { result ≡ length (text_of reason) }
+    ensures fits { result < 64 }
+    ensures text { text.new ≡ written text.old (text_of reason) }
+{
+    flat_judge::why_text(reason, text)
 }
 
 /// What a tag is owed, by a table of any length.
@@ -71,71 +81,17 @@ pub extern "C" fn kroft_flat_owed(due: &[Due], tag: u16, word: &mut Word) -> u32
     ensures status { result ≡ (if is_some (due_in due.now tag) then 1 else 0) }
     ensures word { word.new ≡ owed_or word.old (due_in due.now tag) }
 {
-    match due_word(due, tag) {
-        Some(owed) => {
-            *word = owed;
-            1
-        }
-        None => 0,
-    }
+    flat_judge::flat_owed(due, tag, word)
 }
 
-// What a tag is owed: nothing, where the table has no entry for it.
-fn due_word(due: &[Due], tag: u16) -> Option<Word>
-    ensures { result ≡ due_in due.now tag }
+/// How many tags are owed a word, by a table of any length, and the tag at place `n` among them, in
+/// the order of their numbers.
+///
+/// `tag` is that tag if there are more than `n` of them; otherwise it is as it was.
+#[unsafe(no_mangle)]
+pub extern "C" fn kroft_flat_open(due: &[Due], n: u32, tag: &mut u16) -> u32
+    ensures count { result ≡ length (tags_owed due.now) }
+    ensures tag { tag.new ≡ nth_tag tag.old (tags_owed due.now) n }
 {
-    let entry = due.get(tag as usize)?;
-    if entry.owed == 0 {
-        None
-    } else {
-        Some(entry.word)
-    }
-}
-
-// Whether flat memory may give this answer to the event.
-fn is_flat(words: &[Word], due: &[Due], event: Event, answer: Answer) -> bool
-    ensures { result ≡ may_answer (flat words.now due.now) event answer }
-{
-    let inside = match event {
-        Event::Load { at, .. } | Event::Store { at, .. } | Event::Prefetch { at } => {
-            (at as usize) < words.len()
-        }
-        _ => false,
-    };
-    let owed = match (event, answer) {
-        (Event::Load { tag, .. }, _) | (Event::Take { .. }, Answer::Value { tag, .. }) => {
-            due_word(due, tag)
-        }
-        _ => None,
-    };
-    may_answer(event, answer, inside, owed)
-}
-
-// Makes the change of a pair that is one of flat memory.
-fn step(words: &mut [Word], due: &mut [Due], event: Event, answer: Answer)
-    requires table { length due.old ≡ TAGS }
-    requires may { may_answer (flat words.old due.old) event answer ≡ true }
-    ensures { flat words.new due.new ≡ flat_after (flat words.old due.old) event answer }
-{
-    match (event, answer) {
-        (Event::Load { tag, at }, Answer::Accepted) => {
-            let word = words[at as usize];
-            set_due(due, tag, Due { owed: 1, word });
-        }
-        (Event::Store { at, word, lanes }, Answer::Accepted) => {
-            let old = words[at as usize];
-            words[at as usize] = merge(old, word, lanes);
-        }
-        (Event::Take { .. }, Answer::Value { tag, word }) => {
-            set_due(due, tag, Due { owed: 0, word });
-        }
-        _ => {}
-    }
-}
-
-fn set_due(due: &mut [Due], tag: u16, entry: Due)
-    requires { length due.old ≡ TAGS }
-    ensures { due_in due.new ≡ with_due (due_in due.old) tag (owed_by entry) }
-{
-    due[tag as usize] = entry;
+    flat_judge::flat_open(due, n, tag)
 }

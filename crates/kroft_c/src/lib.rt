@@ -1,23 +1,16 @@
 //! Kroft for C: the judge of one step of flat memory, and the machine behind a handle.
 //!
-//! Every export is total: each number, each row and each length that C may pass has an answer.
+//! Each export is the call of its name in `flat_judge` or in `machine_handles`, and states its
+//! contract again. Every export is total: each number, each row and each length that C may pass has
+//! an answer.
 #![tactic(auto)]
 
-mod calls;
-mod handle;
 mod judge;
-mod listed;
-mod open;
-mod rows;
-mod status;
+mod machine;
 mod views;
 
-pub use calls::{
-    kroft_apply, kroft_bank_word, kroft_field, kroft_pump, kroft_register, kroft_settled,
-    kroft_target, kroft_weight,
+pub use judge::{
+    kroft_flat_open, kroft_flat_owed, kroft_flat_step, kroft_flat_why, kroft_why_text,
 };
-pub use handle::Handle;
-pub use judge::{Due, TAGS, kroft_flat_owed, kroft_flat_step};
-pub use open::{kroft_free, kroft_open};
-pub use rows::{AnswerRow, EventRow};
-pub use views::{FieldRow, RegisterRow, ShapeRow, TargetRow};
+pub use machine::{kroft_apply, kroft_free, kroft_open, kroft_pump, kroft_settled, kroft_weight};
+pub use views::{kroft_bank_word, kroft_field, kroft_register, kroft_target};

@@ -1,0 +1,419 @@
+// Kroft for C++17: one header over kroft.h; link with libkroft.
+//
+// kroft::FlatJudge looks on while a memory system of yours is used, and says of each answer whether flat
+// memory could have given it: a memory without caches, queues and order of its own, in which an access
+// happens at the moment of its request. Tell it of each request when it is accepted, in that order, and of
+// each answer when it comes, in any order:
+//
+//     kroft::FlatJudge judge;
+//     expect(judge.store(1, 0x8000, 4, data));    // each returns a verdict, which is true if all is well
+//     expect(judge.load(2, 0x8002, 8));
+//     expect(judge.value(2, bytes));              // the load's answer
+//     expect(judge.stored(1));                    // the store's answer
+//     for (const kroft::Access &lost : judge.unanswered()) ..
+//
+// Every access has both its ends, a request and an answer, so that a law under which it may happen anywhere
+// between them can be judged behind the same calls.
+#pragma once
+
+#include "kroft.h"
+
+#include <algorithm>
+#include <array>
+#include <cstdint>
+#include <cstdio>
+#include <cstring>
+#include <functional>
+#include <memory>
+#include <string>
+#include <unordered_map>
+#include <utility>
+#include <vector>
+
+namespace kroft {
+
+/// The bytes of an access: 1 to MAX_SIZE.
+inline constexpr unsigned MAX_SIZE = 64;
+
+/// The byte enables of an access that touches all of its bytes. Bit i stands for byte i; bits at or past the
+/// size count for nothing.
+inline constexpr uint64_t ALL_BYTES = ~uint64_t{0};
+
+/// The data of an access: as many bytes as its size count, the first of the lowest address.
+using Bytes = std::array<uint8_t, MAX_SIZE>;
+
+enum class Kind : uint8_t { Load, Store };
+
+/// One access, as its request told it.
+struct Access {
+    Kind kind = Kind::Load;
+    uint64_t id = 0;
+    uint64_t address = 0;
+    unsigned size = 0;
+    uint64_t enables = 0;
+    uint64_t call = 0; ///< the call of the judge that told it: 1 is the first
+
+    bool has_byte(unsigned i) const { return i < size && (enables >> i & 1) != 0; }
+};
+
+/// What is wrong with a request or an answer.
+enum class Reason : uint8_t {
+    Nothing,      ///< it is right
+    BadSize,      ///< a request of no bytes, or of more than MAX_SIZE
+    OutOfRange,   ///< a request with bytes outside of memory
+    NoBytes,      ///< a store that enables no byte
+    IdInUse,      ///< a request under an id that waits for its answer
+    NothingOwed,  ///< an answer to an id that waits for none of its kind
+    WrongData,    ///< a value that isn't the one that is owed
+    UnknownData,  ///< a value with X or Z in a byte that is enabled (from a simulation that has them)
+    Failed,       ///< a store that was answered with an error, though its bytes are in memory's range
+    BrokenLibrary ///< the library refuses a step that is flat memory's: it isn't the one of this header
+};
+
+/// A reason in words.
+inline const char *text_of(Reason reason) {
+    switch (reason) {
+    case Reason::Nothing: return "right";
+    case Reason::BadSize: return "an access is of 1 to 64 bytes";
+    case Reason::OutOfRange: return "bytes outside of memory";
+    case Reason::NoBytes: return "a store of no byte";
+    case Reason::IdInUse: return "the id still waits for its answer";
+    case Reason::NothingOwed: return "an answer that nobody waits for";
+    case Reason::WrongData: return "wrong data";
+    case Reason::UnknownData: return "X or Z in the data";
+    case Reason::Failed: return "a store inside of memory failed";
+    case Reason::BrokenLibrary: return "not the library of this header";
+    }
+    return "no reason";
+}
+
+/// What the judge says of a request or an answer: true if it is right.
+struct Verdict {
+    Reason reason = Reason::Nothing;
+    Access access;    ///< the access that it is about; of an answer that nobody waits for, its id alone
+    Bytes owed{};     ///< WrongData: what the load was owed (bytes that aren't enabled are 0)
+    Bytes got{};      ///< WrongData: what came (bytes that aren't enabled are 0)
+    uint64_t call = 0; ///< the call of the judge that this is the verdict of
+
+    explicit operator bool() const { return reason == Reason::Nothing; }
+
+    /// One line for a log, as `load 7 of 4 bytes at 0x8000: wrong data: owed 00c0ff00, got 00c0fe00`. A byte
+    /// that isn't enabled is `--`.
+    std::string text() const {
+        std::string line = access.kind == Kind::Load ? "load " : "store ";
+        line += std::to_string(access.id);
+        if (reason != Reason::NothingOwed) line += " of " + std::to_string(access.size) + " bytes at 0x" + address_digits();
+        line += std::string(": ") + text_of(reason);
+        if (reason == Reason::WrongData) line += ": owed " + digits(owed) + ", got " + digits(got);
+        return line;
+    }
+
+private:
+    std::string address_digits() const {
+        char line[17];
+        snprintf(line, sizeof line, "%llx", static_cast<unsigned long long>(access.address));
+        return line;
+    }
+
+    std::string digits(const Bytes &bytes) const {
+        std::string line;
+        for (unsigned i = 0; i < access.size; i++) {
+            char two[3] = "--";
+            if (access.has_byte(i)) snprintf(two, sizeof two, "%02x", bytes[i]);
+            line += two;
+        }
+        return line;
+    }
+};
+
+/// The addresses that memory has: `first` to `last`, both included. All that 64 bits can name at first.
+struct Range {
+    uint64_t first = 0;
+    uint64_t last = ~uint64_t{0};
+
+    /// Whether so many bytes, at least one, from an address on lie in it.
+    bool has(uint64_t address, unsigned size) const {
+        return first <= address && address <= last && size - 1 <= last - address;
+    }
+};
+
+/// The bytes of a page of memory.
+inline constexpr size_t PAGE_BYTES = 4096;
+
+/// What memory holds at first: writes the PAGE_BYTES bytes from `address` on, a multiple of PAGE_BYTES, to
+/// `bytes`, which are zeros before.
+using Image = std::function<void(uint64_t address, uint8_t *bytes)>;
+
+/// Judges accesses by flat memory: each takes effect at its request.
+///
+/// Memory takes a page of PAGE_BYTES when one of its bytes is touched for the first time, and the judge's
+/// table half a megabyte for each 65,536 words that are owed at once. One judge is used by one thread at a
+/// time. It may be moved, not copied.
+class FlatJudge {
+public:
+    /// A judge of memory with these addresses, and with these bytes at first: zeros if no image is given.
+    explicit FlatJudge(Range addresses = {}, Image first_bytes = {}) : range(addresses), image(std::move(first_bytes)) {}
+
+    FlatJudge(FlatJudge &&) noexcept = default;
+    FlatJudge &operator=(FlatJudge &&) noexcept = default;
+
+    /// A load was accepted: from now on it is owed what its bytes hold now. Else, with nothing changed:
+    /// BadSize, OutOfRange or IdInUse. Loads and stores have ids of their own each; an id is free again once
+    /// its answer came.
+    [[nodiscard]] Verdict load(uint64_t id, uint64_t address, unsigned size, uint64_t enables = ALL_BYTES) {
+        Load load;
+        load.access = request(Kind::Load, id, address, size, enables);
+        if (Reason reason = fault_of(load.access, loads.count(id)); reason != Reason::Nothing)
+            return verdict(reason, load.access);
+        Verdict result = verdict(Reason::Nothing, load.access);
+        for_each_word(load.access, [&](const Part &part) {
+            load.tags[load.words] = take_tag();
+            kroft_event event{};
+            event.kind = KROFT_LOAD;
+            event.tag = uint16_t(load.tags[load.words]);
+            event.at = part.at;
+            if (!step(part.page, load.tags[load.words++], event, accepted())) result.reason = Reason::BrokenLibrary;
+        });
+        loads.emplace(id, load);
+        return result;
+    }
+
+    /// A load's value came: `data` has as many bytes as the load asked for. WrongData, or NothingOwed: then
+    /// nothing changed. A load with a wrong value has its answer, and its id is free.
+    [[nodiscard]] Verdict value(uint64_t id, const void *data) {
+        call++;
+        auto found = loads.find(id);
+        if (found == loads.end()) return stray(Kind::Load, id);
+        Load load = found->second;
+        loads.erase(found);
+        Verdict result = verdict(Reason::Nothing, load.access);
+        unsigned word = 0;
+        for_each_word(load.access, [&](const Part &part) {
+            Reason reason = take(load.tags[word++], part, static_cast<const uint8_t *>(data), result);
+            result.reason = std::max(result.reason, reason);
+        });
+        return result;
+    }
+
+    /// A load was answered with an error instead of a value: it is owed nothing any more. Or NothingOwed.
+    [[nodiscard]] Verdict failed_load(uint64_t id) { return drop_load(id, Reason::Nothing); }
+
+    /// A load was answered with X or Z in a byte that it enables: UnknownData, and the load has its answer.
+    /// Or NothingOwed. For a bench whose data has more than two states.
+    [[nodiscard]] Verdict unknown_value(uint64_t id) { return drop_load(id, Reason::UnknownData); }
+
+    /// A store was accepted: from now on its bytes hold `data`, and it waits for its answer. Else, with
+    /// nothing changed: BadSize, OutOfRange, NoBytes or IdInUse.
+    [[nodiscard]] Verdict store(uint64_t id, uint64_t address, unsigned size, const void *data,
+                                uint64_t enables = ALL_BYTES) {
+        Access access = request(Kind::Store, id, address, size, enables);
+        Verdict result = write(access, stores.count(id), data);
+        if (result) stores.emplace(id, access);
+        return result;
+    }
+
+    /// A store was accepted that no answer follows. Else BadSize, OutOfRange or NoBytes.
+    [[nodiscard]] Verdict post(uint64_t id, uint64_t address, unsigned size, const void *data,
+                               uint64_t enables = ALL_BYTES) {
+        return write(request(Kind::Store, id, address, size, enables), 0, data);
+    }
+
+    /// A store's answer came. Or NothingOwed.
+    [[nodiscard]] Verdict stored(uint64_t id) { return drop_store(id, Reason::Nothing); }
+
+    /// A store was answered with an error: Failed, for flat memory has its bytes since its request. Or
+    /// NothingOwed.
+    [[nodiscard]] Verdict failed_store(uint64_t id) { return drop_store(id, Reason::Failed); }
+
+    /// The accesses that wait for their answers, in the order of their requests. At the end of a run that has
+    /// come to rest, these answers are lost.
+    std::vector<Access> unanswered() const {
+        std::vector<Access> open;
+        for (const auto &entry : loads) open.push_back(entry.second.access);
+        for (const auto &entry : stores) open.push_back(entry.second);
+        std::sort(open.begin(), open.end(), [](const Access &a, const Access &b) { return a.call < b.call; });
+        return open;
+    }
+
+    /// How many accesses wait for their answers.
+    size_t unanswered_count() const { return loads.size() + stores.size(); }
+
+    /// The byte that memory holds at an address now.
+    uint8_t byte_at(uint64_t address) { return page_of(address).words[word_in_page(address)].b[address % WORD]; }
+
+    /// How many words the library's judge has been asked about.
+    uint64_t steps() const { return step_count; }
+
+private:
+    static constexpr unsigned WORD = sizeof(kroft_word);
+    static constexpr unsigned MAX_WORDS = MAX_SIZE / WORD + 1; // not aligned, 64 bytes lie in 17 words
+
+    // A page is memory enough for a step of one of its words: a step reads and writes no other word.
+    struct Page {
+        std::array<kroft_word, PAGE_BYTES / WORD> words;
+    };
+
+    struct Load {
+        Access access;
+        unsigned words = 0;
+        std::array<uint32_t, MAX_WORDS> tags; // of each word that has an enabled byte
+    };
+
+    // The part of an access in one word.
+    struct Part {
+        Page &page;
+        uint32_t at;    // the word in the page
+        uint8_t lanes;  // the bytes of the word that are enabled
+        int begin;      // the access's byte in lane 0: below 0 if the access begins in a later lane
+        unsigned byte(unsigned lane) const { return unsigned(begin + int(lane)); }
+    };
+
+    static uint32_t word_in_page(uint64_t address) { return uint32_t(address % PAGE_BYTES / WORD); }
+
+    static kroft_answer accepted() {
+        kroft_answer answer{};
+        answer.kind = KROFT_ACCEPTED;
+        return answer;
+    }
+
+    Access request(Kind kind, uint64_t id, uint64_t address, unsigned size, uint64_t enables) {
+        call++;
+        if (size < MAX_SIZE) enables &= (uint64_t{1} << size) - 1;
+        return {kind, id, address, size, enables, call};
+    }
+
+    Reason fault_of(const Access &access, size_t in_use) const {
+        if (access.size < 1 || access.size > MAX_SIZE) return Reason::BadSize;
+        if (!range.has(access.address, access.size)) return Reason::OutOfRange;
+        if (access.kind == Kind::Store && access.enables == 0) return Reason::NoBytes;
+        return in_use ? Reason::IdInUse : Reason::Nothing;
+    }
+
+    Verdict verdict(Reason reason, const Access &access) const {
+        Verdict result;
+        result.reason = reason;
+        result.access = access;
+        result.call = call;
+        return result;
+    }
+
+    Verdict stray(Kind kind, uint64_t id) const {
+        Access unknown;
+        unknown.kind = kind;
+        unknown.id = id;
+        return verdict(Reason::NothingOwed, unknown);
+    }
+
+    // Calls `use` with each word of the access that has an enabled byte, the lowest first.
+    template <class Use> void for_each_word(const Access &access, Use use) {
+        unsigned skew = unsigned(access.address % WORD);
+        unsigned words = (skew + access.size + WORD - 1) / WORD;
+        for (unsigned n = 0; n < words; n++) {
+            int begin = int(n * WORD) - int(skew);
+            uint8_t lanes = uint8_t((begin < 0 ? access.enables << -begin : access.enables >> begin) & 15);
+            if (lanes == 0) continue;
+            uint64_t address = access.address - skew + n * WORD;
+            use(Part{page_of(address), word_in_page(address), lanes, begin});
+        }
+    }
+
+    Page &page_of(uint64_t address) {
+        uint64_t number = address / PAGE_BYTES;
+        if (last_page && number == last_number) return *last_page;
+        std::unique_ptr<Page> &page = pages[number];
+        if (!page) {
+            page = std::make_unique<Page>();
+            if (image) image(number * PAGE_BYTES, reinterpret_cast<uint8_t *>(page->words.data()));
+        }
+        last_number = number;
+        last_page = page.get();
+        return *page;
+    }
+
+    // A tag that is owed nothing: its low 16 bits are the judge's, the others say in which table.
+    uint32_t take_tag() {
+        if (!free_tags.empty()) {
+            uint32_t tag = free_tags.back();
+            free_tags.pop_back();
+            return tag;
+        }
+        if (new_tag / KROFT_TAGS == tables.size()) tables.emplace_back(KROFT_TAGS);
+        return new_tag++;
+    }
+
+    bool step(Page &page, uint32_t tag, const kroft_event &event, const kroft_answer &answer) {
+        std::vector<kroft_due> &due = tables[tag / KROFT_TAGS];
+        step_count++;
+        return kroft_flat_step(page.words.data(), page.words.size(), due.data(), due.size(), &event, &answer) == KROFT_FLAT;
+    }
+
+    // Takes the value of one word of a load. Its bytes that aren't enabled are as they are owed. The tag is
+    // free after it, whatever came.
+    Reason take(uint32_t tag, const Part &part, const uint8_t *data, Verdict &result) {
+        kroft_event event{};
+        event.kind = KROFT_TAKE;
+        kroft_answer answer{};
+        answer.kind = KROFT_VALUE;
+        answer.tag = uint16_t(tag);
+        kroft_word owed{};
+        std::vector<kroft_due> &due = tables[tag / KROFT_TAGS];
+        if (!kroft_flat_owed(due.data(), due.size(), answer.tag, &owed)) return Reason::BrokenLibrary;
+        answer.word = owed;
+        for (unsigned lane = 0; lane < WORD; lane++)
+            if (part.lanes >> lane & 1) {
+                answer.word.b[lane] = data ? data[part.byte(lane)] : owed.b[lane];
+                result.owed[part.byte(lane)] = owed.b[lane];
+                result.got[part.byte(lane)] = answer.word.b[lane];
+            }
+        free_tags.push_back(tag);
+        if (step(part.page, tag, event, answer)) return Reason::Nothing;
+        answer.word = owed;
+        return step(part.page, tag, event, answer) ? Reason::WrongData : Reason::BrokenLibrary;
+    }
+
+    Verdict write(const Access &access, size_t in_use, const void *data) {
+        Reason reason = fault_of(access, in_use);
+        if (reason != Reason::Nothing) return verdict(reason, access);
+        Verdict result = verdict(Reason::Nothing, access);
+        for_each_word(access, [&](const Part &part) {
+            kroft_event event{};
+            event.kind = KROFT_STORE;
+            event.at = part.at;
+            event.lanes = part.lanes;
+            for (unsigned lane = 0; lane < WORD; lane++)
+                if (part.lanes >> lane & 1) event.word.b[lane] = static_cast<const uint8_t *>(data)[part.byte(lane)];
+            if (!step(part.page, 0, event, accepted())) result.reason = Reason::BrokenLibrary;
+        });
+        return result;
+    }
+
+    Verdict drop_load(uint64_t id, Reason reason) {
+        Verdict result = value(id, nullptr);
+        if (result) result.reason = reason;
+        return result;
+    }
+
+    Verdict drop_store(uint64_t id, Reason reason) {
+        call++;
+        auto found = stores.find(id);
+        if (found == stores.end()) return stray(Kind::Store, id);
+        Access access = found->second;
+        stores.erase(found);
+        return verdict(reason, access);
+    }
+
+    Range range;
+    Image image;
+    std::unordered_map<uint64_t, std::unique_ptr<Page>> pages;
+    uint64_t last_number = 0;
+    Page *last_page = nullptr;
+    std::vector<std::vector<kroft_due>> tables{std::vector<kroft_due>(KROFT_TAGS)}; // what the tags are owed
+    std::vector<uint32_t> free_tags;
+    uint32_t new_tag = 0;
+    std::unordered_map<uint64_t, Load> loads;
+    std::unordered_map<uint64_t, Access> stores;
+    uint64_t call = 0;
+    uint64_t step_count = 0;
+};
+
+} // namespace kroft

@@ -1,0 +1,209 @@
+// The judge of kroft.hpp: its verdicts one by one, and over a cache that is right or has a bug.
+//
+// The status is 0 only if all is as it should be. ACCESSES may be defined: how many each seed gives the right cache.
+#include "../kroft.hpp"
+#include "traffic.hpp"
+
+#include <cstdio>
+#include <ctime>
+#include <sys/resource.h>
+
+#ifndef ACCESSES
+#define ACCESSES 500000
+#endif
+
+namespace {
+
+using kroft::Reason;
+
+int failures = 0;
+
+void expect(bool holds, const char *what, int line) {
+    if (holds) return;
+    failures++;
+    printf("line %d: %s\n", line, what);
+}
+#define EXPECT(condition) expect(condition, #condition, __LINE__)
+
+void one_word() {
+    kroft::FlatJudge judge;
+    const uint8_t stored[4] = {1, 2, 3, 4}, zeros[4] = {}, second[4] = {0, 2, 0, 0};
+    EXPECT(bool(judge.load(7, 0x1000, 4)));
+    EXPECT(bool(judge.store(7, 0x1000, 4, stored, 0b0010)));
+    EXPECT(bool(judge.load(8, 0x1000, 4)));
+    EXPECT(judge.unanswered_count() == 3 && judge.unanswered()[1].kind == kroft::Kind::Store);
+    EXPECT(bool(judge.value(8, second)));
+    kroft::Verdict wrong = judge.value(7, second);
+    EXPECT(wrong.reason == Reason::WrongData);
+    EXPECT(wrong.text() == "load 7 of 4 bytes at 0x1000: wrong data: owed 00000000, got 00020000");
+    EXPECT(wrong.access.call == 1 && wrong.call == 5);
+    EXPECT(judge.value(7, zeros).reason == Reason::NothingOwed);
+    EXPECT(bool(judge.stored(7)));
+    EXPECT(judge.stored(7).reason == Reason::NothingOwed);
+    EXPECT(judge.unanswered().empty() && judge.byte_at(0x1001) == 2);
+}
+
+void refusals() {
+    kroft::FlatJudge judge({0x100, 0x1ff});
+    const uint8_t bytes[64] = {};
+    EXPECT(judge.load(1, 0x100, 0).reason == Reason::BadSize);
+    EXPECT(judge.load(1, 0x100, 65).reason == Reason::BadSize);
+    EXPECT(judge.load(1, 0xff, 1).reason == Reason::OutOfRange);
+    EXPECT(judge.load(1, 0x1ff, 2).reason == Reason::OutOfRange);
+    EXPECT(judge.post(1, 0x200, 1, bytes).reason == Reason::OutOfRange);
+    EXPECT(judge.store(1, 0x100, 4, bytes, 0xf0).reason == Reason::NoBytes);
+    EXPECT(bool(judge.load(1, 0x1ff, 1)));
+    EXPECT(judge.load(1, 0x100, 1).reason == Reason::IdInUse);
+    EXPECT(bool(judge.store(1, 0x1c0, 64, bytes)));
+    EXPECT(judge.store(1, 0x100, 1, bytes).reason == Reason::IdInUse);
+    EXPECT(judge.failed_store(1).reason == Reason::Failed);
+    EXPECT(judge.unknown_value(1).reason == Reason::UnknownData);
+    EXPECT(judge.failed_load(1).reason == Reason::NothingOwed);
+    EXPECT(bool(judge.load(1, 0x100, 1)) && bool(judge.failed_load(1)));
+    EXPECT(judge.unanswered_count() == 0);
+}
+
+// The last bytes of 64-bit addresses, and what an image puts there.
+void ends_of_addresses() {
+    kroft::FlatJudge judge({}, [](uint64_t address, uint8_t *bytes) {
+        for (size_t i = 0; i < kroft::PAGE_BYTES; i++) bytes[i] = uint8_t((address >> 12) + i);
+    });
+    uint8_t bytes[64];
+    for (unsigned i = 0; i < 64; i++) bytes[i] = uint8_t(0xff + 0xfc0 + i);
+    EXPECT(bool(judge.load(1, ~uint64_t{0} - 63, 64)) && bool(judge.value(1, bytes)));
+    EXPECT(judge.load(2, ~uint64_t{0} - 62, 64).reason == Reason::OutOfRange);
+    for (unsigned i = 0; i < 64; i++) bytes[i] = uint8_t(i < 32 ? 5 + 0xfe0 + i : 6 + i - 32);
+    EXPECT(bool(judge.load(3, 0x5fe0, 64)) && bool(judge.value(3, bytes)));
+    EXPECT(judge.byte_at(0) == 0 && judge.byte_at(0x7001) == 8 && judge.byte_at(1) == 1 && judge.byte_at(0x7000) == 7);
+}
+
+// Each size, at each place in a word, with each of a few enables: the bytes that are stored are loaded again,
+// and no other; and each single wrong byte is seen if it is enabled, and only then.
+void sizes_and_places() {
+    std::mt19937_64 random(1);
+    for (unsigned size = 1; size <= 64; size++)
+        for (unsigned place = 0; place < 5; place++) {
+            kroft::FlatJudge judge;
+            uint64_t enables = random() | 1, address = 0x2000 - 32 + place;
+            uint8_t data[64], wanted[64];
+            for (unsigned i = 0; i < 64; i++) {
+                data[i] = uint8_t(1 + random() % 255);
+                wanted[i] = enables >> i & 1 ? data[i] : 0;
+            }
+            EXPECT(bool(judge.store(1, address, size, data, enables)));
+            EXPECT(bool(judge.load(1, address, size)) && bool(judge.value(1, wanted)));
+            EXPECT(judge.byte_at(address - 1) == 0 && judge.byte_at(address + size) == 0);
+            for (unsigned i = 0; i < size; i++) {
+                EXPECT(bool(judge.load(2, address, size, enables)));
+                wanted[i] ^= 0x10;
+                bool seen = judge.value(2, wanted).reason == Reason::WrongData;
+                wanted[i] ^= 0x10;
+                EXPECT(seen == bool(enables >> i & 1));
+            }
+        }
+}
+
+// More words owed at once than one table of the library has tags.
+void many_owed() {
+    kroft::FlatJudge judge;
+    uint8_t zeros[64] = {};
+    const unsigned loads = 9000; // of 16 words: 144,000
+    for (unsigned i = 0; i < loads; i++) {
+        uint8_t stored[2] = {uint8_t(i), uint8_t(i >> 8)};
+        EXPECT(bool(judge.post(i, 0x40, 2, stored)));
+        EXPECT(bool(judge.load(i, 0x40, 64)));
+    }
+    EXPECT(judge.unanswered_count() == loads);
+    for (unsigned i = loads; i-- > 0;) {
+        zeros[0] = uint8_t(i);
+        zeros[1] = uint8_t(i >> 8);
+        EXPECT(bool(judge.value(i, zeros)));
+    }
+}
+
+// A judge that is asked for long takes no more memory: 4,800,000 words, of which each would leave 8 bytes.
+void memory_stays() {
+    kroft::FlatJudge judge;
+    const uint8_t zeros[64] = {};
+    rusage before{}, after{};
+    getrusage(RUSAGE_SELF, &before);
+    for (unsigned i = 0; i < 300000; i++) EXPECT(bool(judge.load(i, 0x40, 64)) && bool(judge.value(i, zeros)));
+    getrusage(RUSAGE_SELF, &after);
+    EXPECT(after.ru_maxrss - before.ru_maxrss < 16000); // KiB
+}
+
+struct Run {
+    uint64_t wrong = 0, lost = 0, accesses = 0;
+    std::string first;
+};
+
+// So many accesses through a cache, or up to the first that is wrong.
+Run run(replay::Bug bug, uint64_t accesses, uint64_t seed) {
+    replay::Cache cache(bug);
+    replay::Traffic traffic(seed);
+    kroft::FlatJudge judge;
+    Run run;
+    auto told = [&](const kroft::Verdict &verdict) {
+        if (!verdict && run.wrong++ == 0) run.first = verdict.text();
+    };
+    replay::Request request = traffic.next();
+    for (unsigned idle = 0; idle < 100 && run.wrong == 0; idle++) {
+        if (run.accesses < accesses && cache.accept(request)) {
+            const replay::Request &r = request;
+            told(r.is_store ? judge.store(r.id, r.address, r.size, r.data.data(), r.enables)
+                            : judge.load(r.id, r.address, r.size, r.enables));
+            run.accesses++;
+            request = traffic.next();
+            idle = 0;
+        }
+        if (auto answer = cache.tick()) {
+            told(answer->is_store ? judge.stored(answer->id) : judge.value(answer->id, answer->data.data()));
+            idle = 0;
+        }
+    }
+    if (run.wrong == 0) run.lost = judge.unanswered_count();
+    if (bug == replay::Bug::None) {
+        EXPECT(cache.hits_under_miss > accesses / 100 && cache.secondary_misses > accesses / 100);
+        EXPECT(cache.refilled_from_write_backs > accesses / 500 && cache.split > accesses / 100);
+    }
+    return run;
+}
+
+void right_cache() {
+    clock_t begun = clock();
+    for (uint64_t seed : {1, 2, 3}) {
+        Run right = run(replay::Bug::None, ACCESSES, seed);
+        EXPECT(right.accesses == ACCESSES && right.wrong == 0 && right.lost == 0);
+        if (right.wrong) printf("blamed: %s\n", right.first.c_str());
+    }
+    double seconds = double(clock() - begun) / CLOCKS_PER_SEC;
+    printf("%d accesses of a right cache in %.1f s of processor time\n", 3 * ACCESSES, seconds);
+    EXPECT(seconds < 3.0 * ACCESSES * 60 / 1000000); // a million a minute
+}
+
+void found(const char *name, replay::Bug bug, const char *reason) {
+    for (uint64_t seed : {1, 2, 3}) {
+        Run bad = run(bug, 100000, seed);
+        EXPECT(bad.wrong + bad.lost > 0 && bad.first.find(reason) != std::string::npos);
+        if (seed == 1) printf("%s: after %llu accesses: %s\n", name, (unsigned long long)bad.accesses, bad.wrong ? bad.first.c_str() : "lost answers");
+    }
+}
+
+} // namespace
+
+int main() {
+    one_word();
+    refusals();
+    ends_of_addresses();
+    sizes_and_places();
+    memory_stays();
+    many_owed();
+    right_cache();
+    found("stores first", replay::Bug::StoresFirst, "wrong data");
+    found("whole words", replay::Bug::WholeWords, "wrong data");
+    found("stale refill", replay::Bug::StaleRefill, "wrong data");
+    found("twice answered", replay::Bug::TwiceAnswered, "nobody waits for");
+    found("lost answer", replay::Bug::LostAnswer, "");
+    printf(failures ? "%d wrong\n" : "all right\n", failures);
+    return failures != 0;
+}

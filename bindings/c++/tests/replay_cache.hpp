@@ -1,0 +1,202 @@
+// A cache to judge: non-blocking, write-back, direct-mapped, over a memory that answers late. It isn't Kroft's
+// machine: what is accepted while a line is on its way stands in a list, and is replayed when the line comes.
+//
+// An access of up to 64 bytes lies in one line or two, which are looked up at once; its answer comes when both
+// have given theirs. Bugs can be turned on, each of a kind that caches have had.
+#pragma once
+
+#include <array>
+#include <cstdint>
+#include <deque>
+#include <optional>
+#include <unordered_map>
+#include <vector>
+
+namespace replay {
+
+enum class Bug {
+    None,
+    StoresFirst,    // a line that comes takes the stores that wait for it before it gives the loads their bytes
+    WholeWords,     // a store that hits writes the words that it touches whole, whatever bytes it enables
+    StaleRefill,    // a miss on a line that is on its way back to memory is filled from what memory still has
+    LostAnswer,     // each 5,000th load gets no answer
+    TwiceAnswered,  // each 5,000th load gets its answer twice
+};
+
+struct Request {
+    bool is_store = false;
+    uint64_t id = 0;
+    uint64_t address = 0;
+    unsigned size = 0;
+    uint64_t enables = 0;
+    std::array<uint8_t, 64> data{};
+    bool has(unsigned i) const { return i < size && (enables >> i & 1) != 0; }
+};
+
+struct Answer {
+    bool is_store = false;
+    uint64_t id = 0;
+    std::array<uint8_t, 64> data{};
+};
+
+class Cache {
+public:
+    explicit Cache(Bug bug = Bug::None) : bug(bug) {}
+
+    // Takes a request, or refuses it in this cycle: a set is busy with another line, or no register is free.
+    bool accept(const Request &request) {
+        uint64_t lines[2] = {request.address / LINE, (request.address + request.size - 1) / LINE};
+        unsigned parts = lines[0] == lines[1] ? 1 : 2, misses = 0;
+        for (unsigned i = 0; i < parts; i++) {
+            const Frame &frame = frames[lines[i] % FRAMES];
+            if (frame.pending && frame.line != lines[i]) return false;
+            misses += !frame.holds(lines[i]);
+        }
+        if (misses > REGISTERS - registers.size()) return false;
+        unsigned slot = new_slot(request, parts);
+        for (unsigned i = 0; i < parts; i++) access(lines[i], slot);
+        return true;
+    }
+
+    // A cycle: what memory has ready comes, and at most one answer is given.
+    std::optional<Answer> tick() {
+        now++;
+        if (!write_backs.empty() && write_backs.front().ready <= now) {
+            memory[write_backs.front().line] = write_backs.front().bytes;
+            write_backs.pop_front();
+        }
+        for (size_t i = 0; i < registers.size(); i++)
+            if (registers[i].ready <= now) {
+                fill(registers[i]);
+                registers.erase(registers.begin() + long(i));
+                break;
+            }
+        if (answers.empty()) return std::nullopt;
+        Answer answer = answers.front();
+        answers.pop_front();
+        return answer;
+    }
+
+    // What happened, for a test that has to have met it.
+    uint64_t hits_under_miss = 0, secondary_misses = 0, refilled_from_write_backs = 0, split = 0;
+
+private:
+    static constexpr uint64_t LINE = 64;
+    static constexpr size_t FRAMES = 8, REGISTERS = 3;
+    using Line = std::array<uint8_t, LINE>;
+
+    struct Frame {
+        bool valid = false, pending = false, dirty = false;
+        uint64_t line = 0;
+        Line bytes{};
+        bool holds(uint64_t wanted) const { return valid && line == wanted; }
+    };
+    struct Register {
+        uint64_t line, ready;
+        std::vector<unsigned> waiting; // slots, in the order of their acceptance
+    };
+    struct WriteBack {
+        uint64_t line, ready;
+        Line bytes;
+    };
+    struct Slot {
+        Request request;
+        unsigned parts = 0; // that haven't given theirs
+        Answer answer;
+    };
+
+    unsigned new_slot(const Request &request, unsigned parts) {
+        unsigned slot;
+        if (free_slots.empty()) {
+            slot = unsigned(slots.size());
+            slots.emplace_back();
+        } else {
+            slot = free_slots.back();
+            free_slots.pop_back();
+        }
+        slots[slot].request = request;
+        slots[slot].parts = parts;
+        slots[slot].answer = Answer{request.is_store, request.id, {}};
+        split += parts - 1;
+        return slot;
+    }
+
+    void access(uint64_t line, unsigned slot) {
+        Frame &frame = frames[line % FRAMES];
+        if (frame.holds(line) && !frame.pending) {
+            hits_under_miss += !registers.empty();
+            perform(frame, slot, true);
+            return;
+        }
+        if (frame.holds(line)) {
+            secondary_misses++;
+            for (Register &each : registers)
+                if (each.line == line) each.waiting.push_back(slot);
+            return;
+        }
+        if (frame.valid && frame.dirty) write_backs.push_back({frame.line, now + 40, frame.bytes});
+        frame = Frame{true, true, false, line, {}};
+        registers.push_back({line, now + 10 + (line * 7 + now) % 30, {slot}});
+    }
+
+    void fill(const Register &due) {
+        Frame &frame = frames[due.line % FRAMES];
+        frame.bytes = memory[due.line];
+        for (const WriteBack &back : write_backs)
+            if (back.line == due.line) {
+                refilled_from_write_backs++;
+                if (bug != Bug::StaleRefill) frame.bytes = back.bytes;
+            }
+        frame.pending = false;
+        if (bug == Bug::StoresFirst) {
+            for (unsigned slot : due.waiting)
+                if (slots[slot].request.is_store) perform(frame, slot, false);
+            for (unsigned slot : due.waiting)
+                if (!slots[slot].request.is_store) perform(frame, slot, false);
+            return;
+        }
+        for (unsigned slot : due.waiting) perform(frame, slot, false);
+    }
+
+    // The part of an access that lies in this line.
+    void perform(Frame &frame, unsigned number, bool hit) {
+        Slot &slot = slots[number];
+        Request &request = slot.request;
+        for (unsigned i = 0; i < request.size; i++) {
+            uint64_t at = request.address + i;
+            if (at / LINE != frame.line) continue;
+            bool whole = bug == Bug::WholeWords && hit && touches_word(request, i);
+            if (!request.is_store) slot.answer.data[i] = frame.bytes[at % LINE];
+            else if (request.has(i) || whole) frame.bytes[at % LINE] = request.data[i];
+        }
+        frame.dirty |= request.is_store;
+        if (--slot.parts == 0) give(number);
+    }
+
+    // Whether the access enables a byte of the word that its byte i lies in.
+    static bool touches_word(const Request &request, unsigned i) {
+        for (unsigned k = 0; k < request.size; k++)
+            if ((request.address + k) / 4 == (request.address + i) / 4 && request.has(k)) return true;
+        return false;
+    }
+
+    void give(unsigned number) {
+        const Answer &answer = slots[number].answer;
+        bool chosen = !answer.is_store && ++loads % 5000 == 0;
+        if (!(chosen && bug == Bug::LostAnswer)) answers.push_back(answer);
+        if (chosen && bug == Bug::TwiceAnswered) answers.push_back(answer);
+        free_slots.push_back(number);
+    }
+
+    Bug bug;
+    uint64_t now = 0, loads = 0;
+    std::array<Frame, FRAMES> frames;
+    std::vector<Register> registers;
+    std::deque<WriteBack> write_backs;
+    std::unordered_map<uint64_t, Line> memory; // zeros at first
+    std::vector<Slot> slots;
+    std::vector<unsigned> free_slots;
+    std::deque<Answer> answers;
+};
+
+} // namespace replay

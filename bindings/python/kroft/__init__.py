@@ -1,0 +1,80 @@
+"""Kroft for Python: does a memory answer as flat memory would, and a lockup-free cache to learn from.
+
+`FlatJudge` judges the accesses of a memory system of yours, `StepJudge` single steps of words, and `Machine` is the
+cache. What goes wrong is an exception below `KroftError`, with its cause and name. All of it is libkroft's, by ctypes:
+`library.places` says where the library is looked for.
+"""
+
+from .errors import (
+    Access,
+    BadShape,
+    Cause,
+    Closed,
+    KroftError,
+    LibraryMissing,
+    NotFlat,
+    Reason,
+    Refused,
+    ShapeFault,
+    Unanswered,
+)
+from .events import (
+    Accepted,
+    Answer,
+    Arrive,
+    Drain,
+    Event,
+    Evict,
+    Load,
+    Moved,
+    Nothing,
+    Prefetch,
+    Process,
+    Refusal,
+    Serve,
+    Store,
+    Take,
+    Value,
+)
+from .judge import FlatJudge, StepJudge
+from .machine import SHAPES, Field, Machine, Register, Shape, Target
+
+__version__ = "0.1.0"
+
+__all__ = [
+    "Accepted",
+    "Access",
+    "Answer",
+    "Arrive",
+    "BadShape",
+    "Cause",
+    "Closed",
+    "Drain",
+    "Event",
+    "Evict",
+    "Field",
+    "FlatJudge",
+    "KroftError",
+    "LibraryMissing",
+    "Load",
+    "Machine",
+    "Moved",
+    "NotFlat",
+    "Nothing",
+    "Prefetch",
+    "Process",
+    "Reason",
+    "Refusal",
+    "Refused",
+    "Register",
+    "SHAPES",
+    "Serve",
+    "Shape",
+    "ShapeFault",
+    "Store",
+    "StepJudge",
+    "Take",
+    "Target",
+    "Unanswered",
+    "Value",
+]

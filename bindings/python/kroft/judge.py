@@ -1,0 +1,324 @@
+"""Judges by flat memory, in which an access happens at the moment of its request.
+
+`FlatJudge` looks on while a memory system is used, by accesses of bytes under ids; `StepJudge` judges steps of words
+under tags, as the library does.
+"""
+
+import ctypes as c
+import struct
+from types import TracebackType
+from typing import Callable, Container, Dict, Iterator, List, NamedTuple, Optional, Tuple, Type, Union
+
+from .errors import Access, NotFlat, Reason, Unanswered
+from .events import Answer, Event, Load, Prefetch, Store, Take, Value, answer_row, event_row
+from .library import TAGS, Due, Word, fast_step, library
+
+PAGE_BYTES = 4096
+_WORD = 4
+_FLAT, _NO_STEP = 0, 2
+_LOAD, _STORE, _VALUE = 0, 1, 2
+_EVENT = struct.Struct("=IHBxII4s").pack  # kind, tag, lanes, at, place, word
+_ANSWER = struct.Struct("=IIH4s2x").pack  # kind, cause, tag, word
+_TAKEN, _ACCEPTED = _EVENT(8, 0, 0, 0, 0, b""), _ANSWER(0, 0, 0, b"")
+_PAGE_WORDS, _TABLE_SIZE = c.c_size_t(PAGE_BYTES // 4), c.c_size_t(TAGS)
+_LANES = [[lane for lane in range(_WORD) if mask >> lane & 1] for mask in range(16)]  # the bytes of a mask
+
+BytesLike = Union[bytes, bytearray, memoryview]
+
+
+class StepJudge:
+    """The judge of one step at a time, over a memory of words: `image` has four bytes for each.
+
+    >>> judge = StepJudge(bytes(256))
+    >>> judge.step(Load(tag=7, at=5), Accepted())
+    >>> judge.step(Take(), Value(tag=7, word=bytes(4)))
+    """
+
+    def __init__(self, image: BytesLike) -> None:
+        if len(image) % _WORD:
+            raise ValueError("an image has four bytes for each word")
+        self._library = library()
+        self._words = (c.c_char * max(len(image), 1)).from_buffer_copy(bytes(image) or b"\0")
+        self._count = len(image) // _WORD
+        self._due = (Due * TAGS)()
+
+    def step(self, event: Event, answer: Answer) -> None:
+        """Judges a step, and makes it. NotFlat with its cause if flat memory never gives this answer to this event,
+        and then nothing changed."""
+        status = self._library.kroft_flat_step(
+            self._words, self._count, self._due, TAGS, event_row(event), answer_row(answer)
+        )
+        if status != _FLAT:
+            raise self._fault(status, event, answer)
+
+    def owed(self, tag: int) -> Optional[bytes]:
+        """The word that a tag is owed. None if it is owed nothing."""
+        if not 0 <= tag < TAGS:
+            return None
+        word = Word()
+        found = self._library.kroft_flat_owed(self._due, TAGS, tag, c.byref(word))
+        return bytes(word) if found else None
+
+    def open(self) -> Iterator[Tuple[int, bytes]]:
+        """The tags that are owed words, with these words, in the order of the tags."""
+        for tag in range(TAGS):
+            if self._due[tag].owed:
+                yield tag, bytes(self._due[tag].word)
+
+    def memory(self) -> bytes:
+        """The bytes of memory as they are now."""
+        return bytes(self._words)[: self._count * _WORD]
+
+    # Why there was no such step: by what memory and the tags are, as the library's judge looks at them.
+    def _fault(self, status: int, event: Event, answer: Answer) -> NotFlat:
+        if status == _NO_STEP:
+            return NotFlat(Reason.NO_STEP)
+        if isinstance(event, (Load, Store, Prefetch)) and event.at >= self._count:
+            return NotFlat(Reason.OUT_OF_RANGE)
+        if isinstance(event, Store) and event.lanes & 0b1111 == 0:
+            return NotFlat(Reason.NO_LANES)
+        if isinstance(event, Load) and self.owed(event.tag) is not None:
+            return NotFlat(Reason.ID_IN_USE)
+        if isinstance(event, Take) and isinstance(answer, Value):
+            owed = self.owed(answer.tag)
+            if owed is None:
+                return NotFlat(Reason.NOTHING_OWED)
+            return NotFlat(Reason.WRONG_DATA, owed=owed, got=answer.word)
+        return NotFlat(Reason.OTHER_ANSWER)
+
+
+class _Page(NamedTuple):
+    data: bytearray
+    words: "c.Array[c.c_char]"  # the same bytes, for the library
+
+
+class _Table(NamedTuple):
+    due: "c.Array[Due]"
+    free: List[int]  # tags that are owed nothing
+
+
+# The part of an access in one word, as a plain tuple, for there are many: the page; the word in it; the lanes that are
+# enabled; and the access's byte in lane 0, below 0 if the access begins in a later lane.
+_Part = Tuple[_Page, int, int, int]
+
+
+class _Owed(NamedTuple):
+    access: Access
+    parts: List[Tuple[_Part, _Table, int]]  # each with its tag
+
+
+class FlatJudge:
+    """Judges accesses of bytes, as a memory system's ports show them.
+
+    Tell it of each request when it is accepted, in that order, and of each answer when it comes, in any order.
+    Addresses have 64 bits, an access any size, and ids are whatever a dictionary takes, of loads and stores apart.
+    `enables` has a bit for each byte that an access touches: bit i is byte i, and None is all. What isn't right is
+    a NotFlat. As a context manager, it also asks at the end whether everything was answered.
+
+    >>> with FlatJudge() as judge:
+    ...     judge.store(1, 0x8000, b"four")
+    ...     judge.load(2, 0x8002, 2)
+    ...     judge.value(2, b"ur")
+    ...     judge.stored(1)
+
+    Memory is `first` to `last`, both included. It begins with zeros, or with what `image` gives for the address of a
+    page: PAGE_BYTES bytes.
+    """
+
+    def __init__(self, first: int = 0, last: int = 2**64 - 1, image: Optional[Callable[[int], bytes]] = None) -> None:
+        self._step = fast_step()
+        self._owed = library().kroft_flat_owed
+        self._first, self._last, self._image = first, last, image
+        self._pages: Dict[int, _Page] = {}
+        self._tables = [_new_table()]
+        self._loads: Dict[object, _Owed] = {}
+        self._stores: Dict[object, Access] = {}
+        self._owed_row = (c.c_char * _WORD)()
+        self.calls = 0  #: how often the judge was told something
+
+    def load(self, id: object, address: int, size: int, enables: Optional[int] = None) -> None:
+        """A load was accepted: it is owed what its bytes hold now. Else, with nothing changed, a NotFlat: BAD_SIZE,
+        OUT_OF_RANGE or ID_IN_USE."""
+        access = self._request("load", id, address, size, enables)
+        self._check(access, self._loads)
+        self._loads[id] = _Owed(access, [self._load_word(part) for part in self._parts(access)])
+
+    def value(self, id: object, data: BytesLike) -> None:
+        """A load's value came, as many bytes as it asked for. NotFlat: WRONG_DATA, and the load has its answer and its
+        id is free; or NOTHING_OWED."""
+        load = self._end_load(id, data)
+        owed = bytearray(data)
+        for part, table, tag in load.parts:
+            self._take_word(part, table, tag, data, owed)
+        if owed != data:
+            raise NotFlat(Reason.WRONG_DATA, load.access, bytes(owed), bytes(data))
+
+    def failed_load(self, id: object) -> None:
+        """A load was answered with an error: it is owed nothing any more. Or NOTHING_OWED."""
+        load = self._end_load(id, None)
+        for part, table, tag in load.parts:
+            self._pay_word(part, table, tag)
+
+    def store(self, id: object, address: int, data: BytesLike, enables: Optional[int] = None) -> None:
+        """A store was accepted: its bytes are as `data` from now on, and it waits for its answer. Else, with nothing
+        changed, a NotFlat: BAD_SIZE, OUT_OF_RANGE, NO_LANES or ID_IN_USE."""
+        access = self._request("store", id, address, len(data), enables)
+        self._check(access, self._stores)
+        self._write(access, data)
+        self._stores[id] = access
+
+    def post(self, id: object, address: int, data: BytesLike, enables: Optional[int] = None) -> None:
+        """A store was accepted that no answer follows. Else as `store`, but for ID_IN_USE."""
+        access = self._request("store", id, address, len(data), enables)
+        self._check(access, ())
+        self._write(access, data)
+
+    def stored(self, id: object) -> None:
+        """A store's answer came. Or NOTHING_OWED."""
+        self._end_store(id)
+
+    def failed_store(self, id: object) -> None:
+        """A store was answered with an error: FAILED, for memory has its bytes since its request. Or NOTHING_OWED."""
+        raise NotFlat(Reason.FAILED, self._end_store(id))
+
+    def unanswered(self) -> List[Access]:
+        """The accesses that wait for their answers, in the order of their requests."""
+        waiting = [load.access for load in self._loads.values()] + list(self._stores.values())
+        return sorted(waiting, key=lambda access: access.call)
+
+    def memory(self, address: int, size: int) -> bytes:
+        """The bytes that memory holds now."""
+        return bytes(self._page(at // PAGE_BYTES).data[at % PAGE_BYTES] for at in range(address, address + size))
+
+    def __enter__(self) -> "FlatJudge":
+        return self
+
+    def __exit__(self, kind: Optional[Type[BaseException]], error: Optional[BaseException], trace: Optional[TracebackType]) -> None:
+        waiting = self.unanswered()
+        if kind is None and waiting:
+            raise Unanswered(waiting)
+
+    def _request(self, kind: str, id: object, address: int, size: int, enables: Optional[int]) -> Access:
+        self.calls += 1
+        every = (1 << max(size, 0)) - 1
+        return Access(kind, id, address, size, every if enables is None else enables & every, self.calls)
+
+    def _stray(self, kind: str, id: object) -> Access:
+        return Access(kind, id, 0, 0, 0, self.calls)
+
+    def _check(self, access: Access, waiting: Container[object]) -> None:
+        if access.size < 1:
+            raise NotFlat(Reason.BAD_SIZE, access)
+        if access.address < self._first or access.address + access.size - 1 > self._last:
+            raise NotFlat(Reason.OUT_OF_RANGE, access)
+        if access.kind == "store" and access.enables == 0:
+            raise NotFlat(Reason.NO_LANES, access)
+        if access.id in waiting:
+            raise NotFlat(Reason.ID_IN_USE, access)
+
+    # The words of an access that have an enabled byte, the lowest first.
+    def _parts(self, access: Access) -> List[_Part]:
+        parts = []
+        begin = -(access.address % _WORD)
+        bits = access.enables << -begin
+        number, place = divmod(access.address + begin, PAGE_BYTES)
+        page, at = self._page(number), place // _WORD
+        while bits:
+            if at == PAGE_BYTES // _WORD:
+                number, at = number + 1, 0
+                page = self._page(number)
+            if bits & 0b1111:
+                parts.append((page, at, bits & 0b1111, begin))
+            bits >>= _WORD
+            begin += _WORD
+            at += 1
+        return parts
+
+    def _page(self, number: int) -> _Page:
+        page = self._pages.get(number)
+        if page is None:
+            data = bytearray(PAGE_BYTES if self._image is None else self._image(number * PAGE_BYTES))
+            if len(data) != PAGE_BYTES:
+                raise ValueError(f"an image of {len(data)} bytes for a page of {PAGE_BYTES}")
+            page = self._pages[number] = _Page(data, (c.c_char * PAGE_BYTES).from_buffer(data))
+        return page
+
+    # A table with a tag that is owed nothing.
+    def _table(self) -> _Table:
+        for table in self._tables:
+            if table.free:
+                return table
+        self._tables.append(_new_table())
+        return self._tables[-1]
+
+    # Loads the word. A page is memory enough for a step of one of its words, here and below.
+    def _load_word(self, part: _Part) -> Tuple[_Part, _Table, int]:
+        table = self._table()
+        tag = table.free.pop()
+        event = _EVENT(_LOAD, tag, 0, part[1], 0, b"")
+        if self._step(part[0].words, _PAGE_WORDS, table.due, _TABLE_SIZE, event, _ACCEPTED) != _FLAT:
+            raise NotFlat(Reason.BROKEN_LIBRARY)
+        return part, table, tag
+
+    # Takes a word of a load; where it is wrong, `owed` gets what it should be. The tag is free after it.
+    def _take_word(self, part: _Part, table: _Table, tag: int, data: BytesLike, owed: bytearray) -> None:
+        page, _, lanes, begin = part
+        word = bytes(data[begin : begin + _WORD]) if lanes == 0b1111 else self._filled_up(part, table, tag, data)
+        answer = _ANSWER(_VALUE, 0, tag, word)
+        if self._step(page.words, _PAGE_WORDS, table.due, _TABLE_SIZE, _TAKEN, answer) == _FLAT:
+            table.free.append(tag)
+            return
+        right = self._pay_word(part, table, tag)
+        for lane in _LANES[lanes]:
+            owed[begin + lane] = right[lane]
+
+    # The enabled bytes of a word of a load, and the others as they are owed.
+    def _filled_up(self, part: _Part, table: _Table, tag: int, data: BytesLike) -> bytes:
+        word = bytearray(self._owed_word(table, tag))
+        for lane in _LANES[part[2]]:
+            word[lane] = data[part[3] + lane]
+        return bytes(word)
+
+    # Takes the word that is owed, whatever came. It is returned.
+    def _pay_word(self, part: _Part, table: _Table, tag: int) -> bytes:
+        right = self._owed_word(table, tag)
+        answer = _ANSWER(_VALUE, 0, tag, right)
+        if self._step(part[0].words, _PAGE_WORDS, table.due, _TABLE_SIZE, _TAKEN, answer) != _FLAT:
+            raise NotFlat(Reason.BROKEN_LIBRARY)
+        table.free.append(tag)
+        return right
+
+    def _owed_word(self, table: _Table, tag: int) -> bytes:
+        if not self._owed(table.due, TAGS, tag, self._owed_row):
+            raise NotFlat(Reason.BROKEN_LIBRARY)
+        return self._owed_row.raw
+
+    # Stores the words. A store uses no tag, so any table does.
+    def _write(self, access: Access, data: BytesLike) -> None:
+        due = self._tables[0].due
+        padded = bytes(_WORD) + bytes(data) + bytes(_WORD)
+        for page, at, lanes, begin in self._parts(access):
+            event = _EVENT(_STORE, 0, lanes, at, 0, padded[begin + _WORD : begin + 2 * _WORD])
+            if self._step(page.words, _PAGE_WORDS, due, _TABLE_SIZE, event, _ACCEPTED) != _FLAT:
+                raise NotFlat(Reason.BROKEN_LIBRARY)
+
+    def _end_load(self, id: object, data: Optional[BytesLike]) -> _Owed:
+        self.calls += 1
+        load = self._loads.get(id)
+        if load is None:
+            raise NotFlat(Reason.NOTHING_OWED, self._stray("load", id))
+        if data is not None and len(data) != load.access.size:
+            raise ValueError(f"a value of {len(data)} bytes for a load of {load.access.size}")
+        del self._loads[id]
+        return load
+
+    def _end_store(self, id: object) -> Access:
+        self.calls += 1
+        access = self._stores.pop(id, None)
+        if access is None:
+            raise NotFlat(Reason.NOTHING_OWED, self._stray("store", id))
+        return access
+
+
+def _new_table() -> _Table:
+    return _Table((Due * TAGS)(), list(range(TAGS - 1, -1, -1)))

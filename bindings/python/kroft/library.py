@@ -1,0 +1,129 @@
+"""libkroft.so: where it is, and its functions with the rows of kroft.h."""
+
+import ctypes as c
+import os
+import sys
+from pathlib import Path
+from typing import Callable, Iterator, Optional
+
+from .errors import LibraryMissing
+
+NAME = "libkroft.so"
+TAGS = 65536
+
+u8, u16, u32, u64 = c.c_uint8, c.c_uint16, c.c_uint32, c.c_uint64
+
+
+class Word(c.Structure):
+    _fields_ = [("b", u8 * 4)]
+
+
+class Due(c.Structure):
+    _fields_ = [("owed", u32), ("word", Word)]
+
+
+class EventRow(c.Structure):
+    _fields_ = [("kind", u32), ("tag", u16), ("lanes", u8), ("at", u32), ("place", u32), ("word", Word)]
+
+
+class AnswerRow(c.Structure):
+    _fields_ = [("kind", u32), ("cause", u32), ("tag", u16), ("word", Word)]
+
+
+class HandleRow(c.Structure):
+    _fields_ = [("open", u32), ("at", c.c_void_p)]
+
+
+class ShapeRow(c.Structure):
+    _fields_ = [
+        (name, u32)
+        for name in ("ways", "block_words", "regs", "depth", "words", "sets", "banks", "bank_queue", "write_queue", "replies")
+    ]
+
+
+class RegisterRow(c.Structure):
+    _fields_ = [(name, u32) for name in ("valid", "obsolete", "block", "frame", "processed")]
+
+
+class FieldRow(c.Structure):
+    _fields_ = [
+        ("send", u32),
+        ("in_stack", u32),
+        ("processed", u32),
+        ("targets", u32),
+        ("tag", u16),
+        ("code", u8),
+        ("held_lanes", u8),
+        ("held", Word),
+    ]
+
+
+class TargetRow(c.Structure):
+    _fields_ = [("tag", u16), ("lanes", u8), ("held", Word)]
+
+
+def places() -> Iterator[Path]:
+    """Where the library may be, the first that counts first: the folder or file that KROFT_LIB names, and then nowhere
+    else; the lib folder of the prefix that this Python or this package is installed in; dist/x86_64-linux of the
+    repository that this package lies in, or was installed from."""
+    named = os.environ.get("KROFT_LIB")
+    if named:
+        yield Path(named) if Path(named).is_file() else Path(named) / NAME
+        return
+    here = Path(__file__).resolve()
+    for prefix in [Path(sys.prefix), Path(sys.base_prefix), *here.parents, Path("/usr/local"), Path("/usr")]:
+        yield prefix / "lib" / NAME
+    installed_from = here.parent / "repository.txt"
+    repositories = [Path(installed_from.read_text("utf-8"))] if installed_from.is_file() else []
+    for repository in [*here.parents, *repositories]:
+        yield repository / "dist" / "x86_64-linux" / NAME
+
+
+def declare(library: c.CDLL) -> c.CDLL:
+    """The library, with the types of its functions."""
+    handle, out = c.POINTER(HandleRow), c.c_void_p
+    signatures = {
+        "kroft_flat_step": [c.c_void_p, c.c_size_t, c.c_void_p, c.c_size_t, c.c_void_p, c.c_void_p],
+        "kroft_flat_owed": [c.c_void_p, c.c_size_t, u16, c.c_void_p],
+        "kroft_open": [handle, out, out, c.c_size_t],
+        "kroft_free": [handle],
+        "kroft_apply": [handle, out, out],
+        "kroft_pump": [handle, out, out],
+        "kroft_weight": [handle, out],
+        "kroft_settled": [handle],
+        "kroft_bank_word": [handle, u32, out],
+        "kroft_register": [handle, u32, out],
+        "kroft_field": [handle, u32, u32, out],
+        "kroft_target": [handle, u32, u32, u32, out],
+    }
+    for name, types in signatures.items():
+        function = getattr(library, name)
+        function.argtypes = types
+        function.restype = u32
+    return library
+
+
+_loaded: Optional[c.CDLL] = None
+
+
+def library() -> c.CDLL:
+    """libkroft.so, loaded at the first call. LibraryMissing if it is nowhere."""
+    global _loaded
+    if _loaded is None:
+        looked = list(places())
+        path = next((place for place in looked if place.is_file()), None)
+        if path is None:
+            raise LibraryMissing(f"{NAME} is nowhere: set KROFT_LIB to the folder of ./kroft-lib (looked at {looked[0]} first)")
+        try:
+            _loaded = declare(c.CDLL(str(path)))
+        except (OSError, AttributeError) as error:
+            raise LibraryMissing(f"{path}: {error}") from error
+    return _loaded
+
+
+def fast_step() -> Callable[..., int]:
+    """kroft_flat_step without types for its arguments, which takes half as long: lengths are c_size_t, rows bytes or
+    arrays."""
+    step = library()["kroft_flat_step"]
+    step.restype = u32
+    return step

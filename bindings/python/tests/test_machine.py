@@ -1,0 +1,133 @@
+"""The machine, driven as a Python programmer would."""
+
+import gc
+import random
+import unittest
+from typing import List
+
+import kroft
+from kroft import Accepted, Cause, Evict, Load, Machine, Prefetch, Refused, Shape, StepJudge, Store, Value
+
+SMALL = Shape(ways=2, block_words=4, regs=8, depth=4, words=64, sets=4, banks=4, bank_queue=8, write_queue=8, replies=8)
+
+
+class Machines(unittest.TestCase):
+    def test_a_load_beside_a_store(self) -> None:
+        with Machine(SMALL) as machine:
+            machine.load(7, 5)
+            machine.store(5, b"\xaa\1\2\3", 0b0001)
+            machine.load(8, 5)
+            with self.assertRaises(Refused) as refused:
+                machine.load(7, 6)
+            self.assertEqual((refused.exception.cause, refused.exception.name), (Cause.TAG_IN_USE, "TAG_IN_USE"))
+            self.assertCountEqual(machine.values(), [Value(7, bytes(4)), Value(8, b"\xaa\0\0\0")])
+            self.assertEqual(machine.weight, 0)
+            self.assertFalse(machine.settled)
+            self.assertEqual(machine.bank_word(5), bytes(4))
+            machine.evict(1)
+            list(machine.pump())
+            self.assertTrue(machine.settled)
+            self.assertEqual(machine.bank_word(5), b"\xaa\0\0\0")
+            self.assertEqual(machine.memory(), bytes(20) + b"\xaa" + bytes(235))
+
+    def test_what_a_miss_shows(self) -> None:
+        with Machine(SMALL) as machine:
+            machine.load(7, 5)
+            machine.store(5, b"\xaa\1\2\3", 0b0001)
+            machine.load(8, 5)
+            busy = [slot for slot, register in enumerate(machine.registers()) if register.valid]
+            self.assertEqual(len(busy), 1)
+            self.assertEqual(machine.register(busy[0]).block, 1)
+            field = machine.field(busy[0], 1)
+            self.assertTrue(field.send)
+            self.assertEqual((field.targets, field.tag, field.code), (2, 7, 0b0001))
+            first, second = machine.targets(busy[0], 1)
+            self.assertEqual((first.tag, first.lanes), (7, 0))
+            self.assertEqual((second.tag, second.lanes, second.held[0]), (8, 0b0001, 0xAA))
+            self.assertGreater(machine.weight, 0)
+            for wrong in [(8, 0), (0, 4), (-1, 0), (2**32, 0)]:
+                with self.subTest(wrong=wrong), self.assertRaises(IndexError):
+                    machine.field(*wrong)
+            with self.assertRaises(IndexError):
+                machine.bank_word(64)
+
+    def test_shapes(self) -> None:
+        faults = kroft.ShapeFault
+        for shape, image, fault in [
+            (SMALL._replace(ways=3), None, faults.NOT_LISTED),
+            (SMALL._replace(words=63), None, faults.WORDS),
+            (SMALL._replace(sets=0), None, faults.SETS),
+            (SMALL._replace(banks=17), None, faults.BANKS),
+            (SMALL._replace(bank_queue=0), None, faults.BANK_QUEUE),
+            (SMALL._replace(write_queue=3), None, faults.WRITE_QUEUE),
+            (SMALL._replace(replies=65), None, faults.REPLIES),
+            (SMALL, bytes(252), faults.IMAGE),
+        ]:
+            with self.subTest(fault=fault), self.assertRaises(kroft.BadShape) as bad:
+                Machine(shape, image)
+            self.assertEqual((bad.exception.cause, bad.exception.name), (fault, fault.name))
+        with self.assertRaises(ValueError):
+            Machine(SMALL._replace(ways=2**32 + 2))
+        for ways, block_words, regs, depth in kroft.SHAPES:
+            shape = Shape(ways, block_words, regs, depth, 64, 4, 4, 64, 64, 8)
+            with self.subTest(shape=shape), Machine(shape):
+                pass
+
+    def test_a_closed_machine_says_so(self) -> None:
+        machine = Machine(SMALL)
+        machine.close()
+        machine.close()
+        self.assertTrue(machine.closed)
+        with self.assertRaises(kroft.Closed):
+            machine.load(1, 1)
+        with self.assertRaises(kroft.Closed):
+            list(machine.pump())
+
+    def test_machines_are_given_back(self) -> None:
+        for _ in range(200):
+            Machine(Shape(words=262144))
+        gc.collect()
+        with open("/proc/self/statm", encoding="ascii") as statm:
+            pages = int(statm.read().split()[1])
+        self.assertLess(pages * 4096, 150 << 20)  # one has more than a megabyte
+
+    def test_a_random_run_is_flat(self) -> None:
+        """Every answer of the machine to random events is one of flat memory, and memory is flat memory's at last."""
+        chance = random.Random(5)
+        image = chance.getrandbits(2048).to_bytes(256, "little")
+        judge, told = StepJudge(image), 0
+        with Machine(SMALL, image) as machine:
+            for n in range(3000):
+                event = self.random_event(chance, n)
+                answer = machine.apply(event)
+                judge.step(event, answer)
+                told += isinstance(answer, Accepted)
+                for _ in range(chance.randrange(4)):
+                    pumped = next(machine.pump(), None)
+                    if pumped:
+                        judge.step(*pumped)
+            for block in range(16):
+                for pair in machine.pump():
+                    judge.step(*pair)
+                machine.apply(Evict(block))
+            for pair in machine.pump():
+                judge.step(*pair)
+            self.assertTrue(machine.settled)
+            self.assertEqual(machine.memory(), judge.memory())
+        self.assertEqual(list(judge.open()), [])
+        self.assertGreater(told, 1000)
+
+    @staticmethod
+    def random_event(chance: random.Random, n: int) -> kroft.Event:
+        at = chance.randrange(64)
+        events: List[kroft.Event] = [
+            Load(n, at),
+            Store(at, chance.getrandbits(32).to_bytes(4, "little"), chance.randrange(1, 16)),
+            Prefetch(at),
+            Evict(at // 4),
+        ]
+        return chance.choices(events, (5, 5, 1, 1))[0]
+
+
+if __name__ == "__main__":
+    unittest.main()

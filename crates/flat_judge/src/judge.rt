@@ -1,0 +1,104 @@
+//! The judge: one step of flat memory at a time.
+ghost use Rattle.std.specs.Prelude.{◌≡◌, ◌≢◌, true, Some, length};
+ghost use Rattle.flat_model.specs.Flat.{may_answer, flat_after};
+ghost use Rattle.flat_model.specs.Memory.{Finds};
+ghost use Rattle.flat_judge.specs.Rows.{event_of, answer_of};
+ghost use Rattle.flat_judge.specs.Judge.{flat, judged, status_of};
+
+use crate::rows::{AnswerRow, EventRow};
+use crate::table::{Due, TAGS, due_word, set_due};
+use flat_model::{Answer, Event, Word, may_answer, merge};
+
+/// Flat memory gives this answer.
+const EXPLAINED: u32 = 0;
+
+/// Flat memory never gives this answer.
+const NOT_FLAT: u32 = 1;
+
+/// A row says nothing, or the table isn't of one entry for each tag.
+const NO_STEP: u32 = 2;
+
+/// What an event and its answer find in memory and in the table.
+#[derive(Clone, Copy)]
+pub(crate) struct Found {
+    /// Whether there is a word at the address that the event points at.
+    pub(crate) inside: bool,
+    /// What the tag of a load, or of a value that is taken, is owed.
+    pub(crate) owed: Option<Word>,
+}
+
+/// One step of a run, over the words of memory and the table of what each tag is owed.
+///
+/// 0: flat memory gives this answer to this event, and `words` and `due` are as the step leaves
+/// them. 1: flat memory never gives it. 2: a row says nothing, or `due` hasn't an entry for each
+/// tag. After 1 and 2 all is as it was.
+pub fn flat_step(words: &mut [Word], due: &mut [Due], event: &EventRow, answer: &AnswerRow) -> u32
+    ensures status { result
+        ≡ status_of (judged words.old due.old (event_of event.now) (answer_of answer.now)) }
+    ensures step { result ≡ 0
+        → judged words.old due.old (event_of event.now) (answer_of answer.now)
+        ≡ Some (Some (flat words.new due.new)) }
+    ensures words { result ≢ 0 → words.new ≡ words.old }
+    ensures due { result ≢ 0 → due.new ≡ due.old }
+{
+    let (Some(event), Some(answer)) = (event.event(), answer.answer()) else {
+        return NO_STEP;
+    };
+    if due.len() != TAGS {
+        return NO_STEP;
+    }
+    if !is_flat(words, due, event, answer) {
+        return NOT_FLAT;
+    }
+    step(words, due, event, answer);
+    EXPLAINED
+}
+
+/// What an event and its answer find.
+pub(crate) fn find(words: &[Word], due: &[Due], event: Event, answer: Answer) -> Found
+    ensures { Finds (flat words.now due.now) event answer result.inside result.owed }
+{
+    let inside = match event {
+        Event::Load { at, .. } | Event::Store { at, .. } | Event::Prefetch { at } => {
+            (at as usize) < words.len()
+        }
+        _ => false,
+    };
+    let owed = match (event, answer) {
+        (Event::Load { tag, .. }, _) | (Event::Take { .. }, Answer::Value { tag, .. }) => {
+            due_word(due, tag)
+        }
+        _ => None,
+    };
+    Found { inside, owed }
+}
+
+// Whether flat memory may give this answer to the event.
+fn is_flat(words: &[Word], due: &[Due], event: Event, answer: Answer) -> bool
+    ensures { result ≡ may_answer (flat words.now due.now) event answer }
+{
+    let found = find(words, due, event, answer);
+    may_answer(event, answer, found.inside, found.owed)
+}
+
+// Makes the change of a pair that is one of flat memory.
+fn step(words: &mut [Word], due: &mut [Due], event: Event, answer: Answer)
+    requires table { length due.old ≡ TAGS }
+    requires may { may_answer (flat words.old due.old) event answer ≡ true }
+    ensures { flat words.new due.new ≡ flat_after (flat words.old due.old) event answer }
+{
+    match (event, answer) {
+        (Event::Load { tag, at }, Answer::Accepted) => {
+            let word = words[at as usize];
+            set_due(due, tag, Due { owed: 1, word });
+        }
+        (Event::Store { at, word, lanes }, Answer::Accepted) => {
+            let old = words[at as usize];
+            words[at as usize] = merge(old, word, lanes);
+        }
+        (Event::Take { .. }, Answer::Value { tag, word }) => {
+            set_due(due, tag, Due { owed: 0, word });
+        }
+        _ => {}
+    }
+}

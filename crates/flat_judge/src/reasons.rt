@@ -1,0 +1,146 @@
+//! Why a step isn't one of flat memory.
+ghost use Rattle.std.specs.Prelude.{◌≡◌, ℕ, true, Some};
+ghost use Rattle.flat_model.specs.Flat.{Flat};
+ghost use Rattle.flat_model.specs.Memory.{Finds};
+ghost use Rattle.flat_model.specs.declared.Event.TheVariants.{Take};
+ghost use Rattle.flat_judge.specs.Rows.{event_of, answer_of};
+ghost use Rattle.flat_judge.specs.Judge.{flat, judged, status_of};
+ghost use Rattle.flat_judge.specs.Table.{owed_or};
+ghost use Rattle.flat_judge.specs.Reasons.{against as against_answer, why as why_step, why_not as why_pair, number_of, status_by, owed_instead};
+
+use crate::judge::{Found, find};
+use crate::rows::{AnswerRow, EventRow};
+use crate::table::{Due, TAGS};
+use flat_model::{Answer, Event, Word, may_answer};
+
+/// Why an answer isn't one of flat memory, or why there is no step to judge.
+#[derive(Clone, Copy)]
+pub enum Reason {
+    /// Memory has no such word: the event may only be refused for that.
+    OutOfRange,
+    /// The store names no lane: it may only be refused for that.
+    NoLanes,
+    /// The load's tag is owed a word already: the load may only be refused for that.
+    TagInUse,
+    /// The tag of the value is owed nothing.
+    NothingOwed,
+    /// The tag of the value is owed this word, and the value is another.
+    WrongWord(Word),
+    /// The event never gets this answer.
+    OtherAnswer,
+    /// The event's row says nothing.
+    NoEvent,
+    /// The answer's row says nothing.
+    NoAnswer,
+    /// The table isn't of one entry for each tag.
+    NoTable,
+}
+
+/// Why a step with these arguments isn't accepted. It changes neither words nor table.
+///
+/// 0: the step is accepted. 1: memory has no such word. 2: a store without a lane. 3: the tag of a
+/// load is owed a word already. After these three the event may only be refused, for the cause of the
+/// same number. 4: the tag of the value that is taken is owed nothing. 5: it is owed another
+/// word, and `owed` is that word. 6: the event never gets such an answer. 7: the event's row says
+/// nothing. 8: the answer's row says nothing. 9: `due` hasn't an entry for each tag. Of those that
+/// hold it is the first of 7, 8, 9 and then 1 to 6. After all but 5 `owed` is as it was.
+pub fn flat_why(
+    words: &[Word],
+    due: &[Due],
+    event: &EventRow,
+    answer: &AnswerRow,
+    owed: &mut Word,
+) -> u32
+    ensures reason { result
+        ≡ number_of (why_step words.now due.now (event_of event.now) (answer_of answer.now)) }
+    ensures status { status_by result
+        ≡ status_of (judged words.now due.now (event_of event.now) (answer_of answer.now)) }
+    ensures owed { owed.new
+        ≡ owed_or owed.old
+        (owed_instead (why_step words.now due.now (event_of event.now) (answer_of answer.now))) }
+{
+    let reason = why(words, due, event, answer);
+    if let Some(Reason::WrongWord(word)) = reason {
+        *owed = word;
+    }
+    number(reason)
+}
+
+// Why there is no such step: `None` if there is one.
+fn why(words: &[Word], due: &[Due], event: &EventRow, answer: &AnswerRow) -> Option<Reason>
+    ensures { result
+        ≡ why_step words.now due.now (event_of event.now) (answer_of answer.now) }
+{
+    let Some(event) = event.event() else {
+        return Some(Reason::NoEvent);
+    };
+    let Some(answer) = answer.answer() else {
+        return Some(Reason::NoAnswer);
+    };
+    if due.len() != TAGS {
+        return Some(Reason::NoTable);
+    }
+    why_not(words, due, event, answer)
+}
+
+// Why flat memory doesn't give this answer: `None` if it does.
+fn why_not(words: &[Word], due: &[Due], event: Event, answer: Answer) -> Option<Reason>
+    ensures { result ≡ why_pair (flat words.now due.now) event answer }
+{
+    let found = find(words, due, event, answer);
+    if may_answer(event, answer, found.inside, found.owed) {
+        None
+    } else {
+        Some(against(event, answer, found))
+    }
+}
+
+// What stands against an answer that flat memory doesn't give, by what the two find there.
+fn against(event: Event, answer: Answer, found: Found) -> Reason
+    ensures { (s : Flat)
+        → Finds s event answer found.inside found.owed
+        → result ≡ against_answer s event answer }
+{
+    let Found { inside, owed } = found;
+    match event {
+        Event::Load { .. } | Event::Store { .. } | Event::Prefetch { .. } if !inside => {
+            Reason::OutOfRange
+        }
+        Event::Load { .. } if owed.is_some() => Reason::TagInUse,
+        Event::Store { lanes, .. } if !lanes.has_any() => Reason::NoLanes,
+        Event::Take { .. } => against_taken(answer, owed),
+        _ => Reason::OtherAnswer,
+    }
+}
+
+// What stands against the answer to a take, by what the tag of a value is owed.
+fn against_taken(answer: Answer, owed: Option<Word>) -> Reason
+    ensures { (s : Flat)
+        → (place : ℕ)
+        → Finds s (Take place) answer true owed
+        → result ≡ against_answer s (Take place) answer }
+{
+    match (answer, owed) {
+        (Answer::Value { .. }, Some(word)) => Reason::WrongWord(word),
+        (Answer::Value { .. }, None) => Reason::NothingOwed,
+        _ => Reason::OtherAnswer,
+    }
+}
+
+// The number of a reason, and 0 where there is none.
+fn number(reason: Option<Reason>) -> u32
+    ensures { result ≡ number_of reason }
+{
+    match reason {
+        None => 0,
+        Some(Reason::OutOfRange) => 1,
+        Some(Reason::NoLanes) => 2,
+        Some(Reason::TagInUse) => 3,
+        Some(Reason::NothingOwed) => 4,
+        Some(Reason::WrongWord(_)) => 5,
+        Some(Reason::OtherAnswer) => 6,
+        Some(Reason::NoEvent) => 7,
+        Some(Reason::NoAnswer) => 8,
+        Some(Reason::NoTable) => 9,
+    }
+}

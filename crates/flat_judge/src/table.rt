@@ -1,0 +1,87 @@
+//! What each tag is owed, as a table that the caller keeps.
+ghost use Rattle.std.specs.Prelude.{◌≡◌, ◌≤◌, if◌then◌else◌, is_some, length};
+ghost use Rattle.flat_model.specs.Flat.{with_due};
+ghost use Rattle.flat_judge.specs.Table.{due_in, owed_by, owed_or, tags_owed, owed_below, nth_tag};
+
+use flat_model::Word;
+
+/// The entries of a table of what is owed: one for each tag.
+pub const TAGS: usize = u16::MAX as usize + 1;
+
+/// What a tag is owed: `word`, if `owed` isn't 0.
+#[repr(C)]
+#[derive(Clone, Copy)]
+pub struct Due {
+    /// 0 if nothing is owed.
+    pub owed: u32,
+    /// The word that is owed.
+    pub word: Word,
+}
+
+/// What a tag is owed, by a table of any length.
+///
+/// 1: `word` is what the tag is owed. 0: it is owed nothing, or the table has no entry for it, and
+/// `word` is as it was.
+pub fn flat_owed(due: &[Due], tag: u16, word: &mut Word) -> u32
+    ensures status { result ≡ (if is_some (due_in due.now tag) then 1 else 0) }
+    ensures word { word.new ≡ owed_or word.old (due_in due.now tag) }
+{
+    match due_word(due, tag) {
+        Some(owed) => {
+            *word = owed;
+            1
+        }
+        None => 0,
+    }
+}
+
+/// How many tags are owed a word, by a table of any length, and the tag at place `n` among them, in
+/// the order of their numbers.
+///
+/// `tag` is that tag if there are more than `n` of them; otherwise it is as it was.
+#[tactic(auto, unfolding(crate::specs::Table::tags_owed))]
+pub fn flat_open(due: &[Due], n: u32, tag: &mut u16) -> u32
+    ensures count { result ≡ length (tags_owed due.now) }
+    ensures tag { tag.new ≡ nth_tag tag.old (tags_owed due.now) n }
+{
+    open_below(due, TAGS as u32, n, tag)
+}
+
+// How many of the tags below a number are owed a word, and the tag at place `n` among them.
+fn open_below(due: &[Due], tags: u32, n: u32, nth: &mut u16) -> u32
+    requires { tags ≤ TAGS }
+    ensures count { result ≡ length (owed_below due.now tags) }
+    ensures tag { nth.new ≡ nth_tag nth.old (owed_below due.now tags) n }
+{
+    let mut open = 0;
+    for number in 0..tags {
+        let tag = number as u16;
+        if due_word(due, tag).is_some() {
+            if open == n {
+                *nth = tag;
+            }
+            open += 1;
+        }
+    }
+    open
+}
+
+/// What a tag is owed: nothing, where the table has no entry for it.
+pub(crate) fn due_word(due: &[Due], tag: u16) -> Option<Word>
+    ensures { result ≡ due_in due.now tag }
+{
+    let entry = due.get(tag as usize)?;
+    if entry.owed == 0 {
+        None
+    } else {
+        Some(entry.word)
+    }
+}
+
+/// Writes the entry of a tag.
+pub(crate) fn set_due(due: &mut [Due], tag: u16, entry: Due)
+    requires { length due.old ≡ TAGS }
+    ensures { due_in due.new ≡ with_due (due_in due.old) tag (owed_by entry) }
+{
+    due[tag as usize] = entry;
+}

@@ -1,0 +1,109 @@
+//! The machine behind a handle: it is opened, makes its events, and is given up.
+ghost use Rattle.std.specs.Prelude.{◌≡◌, ◌≢◌, None, length};
+ghost use Rattle.std.specs.Option.{option_map, unwrap_or};
+ghost use Rattle.machine_core.specs.AnyMachine.{weight_of, is_settled, pump_tells, pump_leaves};
+ghost use Rattle.flat_judge.specs.Rows.{event_of};
+ghost use Rattle.machine_handles.specs.Behind.{behind};
+ghost use Rattle.machine_handles.specs.Listed as list;
+ghost use Rattle.machine_handles.specs.Opening.{open_fault, IsTold};
+ghost use Rattle.machine_handles.specs.Calls.{apply_status, apply_row, applied, IsFlat, told_status, test_status, found_status, found_row, pumped_event, pumped_answer};
+
+use flat_judge::{AnswerRow, EventRow};
+use flat_model::Word;
+use machine_handles::{Handle, ShapeRow};
+use std::alloc::Global;
+
+/// Opens a machine over the words of an image, behind a closed handle.
+///
+/// 0: it stands behind the handle, and nothing has happened in it. 102: a machine is behind the
+/// handle already. 100: the list has no machine of these ways, words a block, registers and places.
+/// 5 to 10 and 13: the number of the first member of the shape that is out of its range, 13 that the
+/// image hasn't as many words as memory. 101: there was too little memory. They are looked for in
+/// this order, and after each of them the handle is as it was, and no memory is kept.
+#[unsafe(no_mangle)]
+pub extern "C" fn kroft_open(
+    alloc: Global,
+    handle: &mut Handle,
+    shape: &ShapeRow,
+    image: &[Word],
+) -> u32
+    ensures status { IsTold result
+        (open_fault (behind handle.old) shape.now (length image.now)) }
+    ensures machine { result ≡ 0
+        → behind handle.new ≡ list.opened (list.numbers shape.now) image.now }
+    ensures unchanged { result ≢ 0 → behind handle.new ≡ behind handle.old }
+{
+    machine_handles::open_machine(alloc, handle, shape, image)
+}
+
+/// Gives the machine up, with all its memory. 0: it is given up, and the handle is closed. 3: the
+/// handle was closed already.
+#[unsafe(no_mangle)]
+pub extern "C" fn kroft_free(alloc: Global, handle: &mut Handle) -> u32
+    ensures status { result ≡ told_status (behind handle.old) }
+    ensures closed { behind handle.new ≡ None }
+{
+    machine_handles::free_machine(alloc, handle)
+}
+
+/// Makes one event.
+///
+/// 0: it was made, and `answer` is the machine's. 2: the row is no event. 3: the handle is closed.
+/// After 2 and 3 all is as it was.
+#[unsafe(no_mangle)]
+pub extern "C" fn kroft_apply(
+    alloc: Global,
+    handle: &mut Handle,
+    event: &EventRow,
+    answer: &mut AnswerRow,
+) -> u32
+    ensures status { result ≡ apply_status (behind handle.old) (event_of event.now) }
+    ensures answer { answer.new
+        ≡ apply_row (behind handle.old) (event_of event.now) answer.old }
+    ensures machine { behind handle.new ≡ applied (behind handle.old) (event_of event.now) }
+    ensures flat { IsFlat (behind handle.old) (event_of event.now) }
+{
+    machine_handles::apply(alloc, handle, event, answer)
+}
+
+/// Makes the driver's event: takes a ready reply, processes a word, has an answer arrive, serves a
+/// command or drains a word, the first of these that is possible.
+///
+/// 1: it was made, `event` says which it was, and `answer` is the machine's. 0: nothing is on its
+/// way. 3: the handle is closed. After 0 and 3 all is as it was.
+#[unsafe(no_mangle)]
+pub extern "C" fn kroft_pump(
+    alloc: Global,
+    handle: &mut Handle,
+    event: &mut EventRow,
+    answer: &mut AnswerRow,
+) -> u32
+    ensures status { result ≡ found_status (option_map pump_tells (behind handle.old)) }
+    ensures event { event.new
+        ≡ found_row pumped_event event.old (option_map pump_tells (behind handle.old)) }
+    ensures answer { answer.new
+        ≡ found_row pumped_answer answer.old (option_map pump_tells (behind handle.old)) }
+    ensures machine { behind handle.new ≡ option_map pump_leaves (behind handle.old) }
+{
+    machine_handles::pump(alloc, handle, event, answer)
+}
+
+/// What is on its way, weighed. 0: `weight` is it. 3: the handle is closed, and `weight` is as it was.
+#[unsafe(no_mangle)]
+pub extern "C" fn kroft_weight(alloc: Global, handle: &mut Handle, weight: &mut u64) -> u32
+    ensures status { result ≡ told_status (behind handle.old) }
+    ensures weight { weight.new
+        ≡ unwrap_or (option_map weight_of (behind handle.old)) weight.old }
+    ensures same { behind handle.new ≡ behind handle.old }
+{
+    machine_handles::weight(alloc, handle, weight)
+}
+
+/// Whether nothing is on its way to memory. 1: nothing is. 0: something is. 3: the handle is closed.
+#[unsafe(no_mangle)]
+pub extern "C" fn kroft_settled(alloc: Global, handle: &mut Handle) -> u32
+    ensures status { result ≡ test_status (option_map is_settled (behind handle.old)) }
+    ensures same { behind handle.new ≡ behind handle.old }
+{
+    machine_handles::settled(alloc, handle)
+}

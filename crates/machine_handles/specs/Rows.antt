@@ -1,0 +1,43 @@
+-- What the rows of plain numbers say that a machine is opened by and shows.
+use Rattle.std.specs.Prelude.{ℕ, Bool, ◌&&◌, if◌then◌else◌, ◌==◌}
+use Rattle.flat_model.specs.declared.Shape.{Shape}
+use Rattle.flat_model.specs.Words.{zero_word}
+use Rattle.miss_registers.specs.declared.Owed.{Owed}
+use Rattle.miss_registers.specs.declared.RegisterView.{RegisterView}
+use Rattle.miss_registers.specs.declared.FieldView.{FieldView}
+use Rattle.machine_handles.specs.declared.views.ShapeRow.{ShapeRow}
+use Rattle.machine_handles.specs.declared.views.RegisterRow.{RegisterRow}
+use Rattle.machine_handles.specs.declared.views.FieldRow.{FieldRow}
+use Rattle.machine_handles.specs.declared.views.TargetRow.{TargetRow}
+
+-- the numbers that a shape has
+abbrev pub shape_of : ShapeRow → Shape
+shape_of r =
+    record { words = r.words; sets = r.sets; banks = r.banks; bank_queue = r.bank_queue; write_queue = r.write_queue; replies = r.replies }
+
+-- these are its words of a block, registers and places
+unfoldable pub has : ShapeRow → ℕ → ℕ → ℕ → Bool
+has r block_words regs depth = (r.block_words == block_words) && ((r.regs == regs) && (r.depth == depth))
+
+abbrev pub bit : Bool → ℕ
+bit b = if b then 1 else 0
+
+-- a register, a word of its block, and a load that waits, as rows
+abbrev pub register_row : RegisterView → RegisterRow
+register_row v = record { valid = bit v.valid; obsolete = bit v.obsolete; block = v.block; frame = v.frame; processed = v.processed }
+
+abbrev pub field_row : FieldView → FieldRow
+field_row v =
+    record {
+      send = bit v.send;
+      in_stack = bit v.in_stack;
+      processed = bit v.processed;
+      targets = v.targets;
+      tag = v.tag;
+      code = v.code.0;
+      held_lanes = v.held_lanes.0;
+      held = v.held;
+    }
+
+abbrev pub target_row : Owed → TargetRow
+target_row o = record { tag = o.tag; lanes = o.lanes.0; held = o.held }

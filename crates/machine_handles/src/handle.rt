@@ -1,0 +1,89 @@
+//! A handle: what a caller in C holds of a machine.
+//!
+//! The machine lies in memory of its own, and the handle says where. Three functions follow the
+//! pointer, each proved by hand, and what is said of them names none: the machine is taken out as a
+//! box, and a box is kept.
+ghost use Rattle.std.specs.Prelude.{◌≡◌, ◌≢◌, IfSome, IsNone, None, Some, is_some};
+ghost use Rattle.machine_handles.specs.declared.listed.Listed.{Listed};
+
+use crate::listed::Listed;
+use std::alloc::Global;
+use std::marker::Model;
+
+/// What C may know of a machine: where it is.
+#[repr(C)]
+#[derive(Drop)]
+pub struct Opaque {
+    hidden: u8,
+}
+
+/// A machine that C holds. All zeros are a closed handle.
+#[repr(C)]
+#[derive(Drop)]
+pub struct Handle {
+    /// 0 if no machine is behind it.
+    pub open: u32,
+    at: *mut Opaque,
+    /// The machine, while the handle is open.
+    pub ghost machine: { Listed },
+}
+
+impl Model for Handle {
+    ghost use Rattle.machine_handles.specs.Blocks.{block_token};
+    ghost use Rattle.std.specs.Box.Ownership.{box_owns};
+    ghost use Rattle.std.specs.Vec.Ownership.{owns_if};
+    ghost use Rattle.machine_handles.specs.contracts.listed.Listed.{the_row};
+    ghost use Rattle.machine_handles.specs.Open.{nonzero};
+
+    ghost also_owns = { λ h. owns_if (nonzero h.open) (box_owns block_token the_row h.at h.machine) };
+}
+
+impl Handle {
+    ghost use Rattle.machine_handles.specs.Behind.{behind};
+    ghost use Rattle.machine_handles.specs.Listed.{state};
+
+    /// Takes the machine out; the handle is then closed.
+    pub(crate) fn take(&mut self, alloc: Global) -> Option<Box<Listed, Global>>
+        ensures machine { IfSome result (λ b. behind self.old ≡ Some (state b.value)) }
+        ensures closed { IsNone result → behind self.old ≡ None }
+        ensures after { behind self.new ≡ None }
+    {
+        if self.mark() == 0 {
+            None
+        } else {
+            Some(self.taken(alloc))
+        }
+    }
+
+    /// Whether a machine is behind it.
+    pub(crate) fn is_open(&mut self) -> bool
+        ensures open { result ≡ is_some (behind self.old) }
+        ensures same { behind self.new ≡ behind self.old }
+    {
+        self.mark() != 0
+    }
+
+    /// The mark: 0 if no machine is behind it.
+    fn mark(&mut self) -> u32
+        ensures { (result ≡ self.old.open) × (self.new ≡ self.old) }
+    {
+        self.open
+    }
+
+    fn taken(&mut self, alloc: Global) -> Box<Listed, Global>
+        requires { self.old.open ≢ 0 }
+        ensures { (result.value ≡ self.old.machine) × (self.new.open ≡ 0) }
+    {
+        self.open = 0;
+        unsafe { Box::from_raw(alloc, self.at as *mut Listed) }
+    }
+
+    /// Keeps a machine in a closed handle.
+    pub(crate) fn keep(&mut self, machine: Box<Listed, Global>)
+        requires closed { behind self.old ≡ None }
+        ensures { behind self.new ≡ Some (state machine.value) }
+    {
+        self.at = Box::into_raw(machine) as *mut Opaque;
+        self.open = 1;
+    }
+}

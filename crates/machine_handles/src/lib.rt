@@ -1,0 +1,18 @@
+//! Machines behind handles: what a caller in another language holds of a machine, and the calls on it.
+//!
+//! A [`Handle`] is a mark and a pointer. All zeros are a closed one. Every function is total: each
+//! number, each row and each length has an answer. Events, answers and what a machine shows go as
+//! rows of plain numbers, and what a call says is a number.
+#![tactic(auto)]
+
+mod calls;
+mod handle;
+mod listed;
+mod open;
+mod status;
+mod views;
+
+pub use calls::{apply, bank_word, field, pump, register, settled, target, weight};
+pub use handle::Handle;
+pub use open::{free_machine, open_machine};
+pub use views::{FieldRow, RegisterRow, ShapeRow, TargetRow};

@@ -1,0 +1,129 @@
+//! A machine is opened and freed.
+ghost use Rattle.std.specs.Prelude.{◌≡◌, ◌≢◌, Some, None, IfOk, OnOk, IfErr, OnErr, length};
+ghost use Rattle.machine_handles.specs.Behind.{behind};
+ghost use Rattle.machine_handles.specs.Calls.{told_status};
+ghost use Rattle.machine_handles.specs.Listed as list;
+ghost use Rattle.machine_handles.specs.Opening.{field_number, fault_number, open_fault, IsTold};
+
+use crate::handle::Handle;
+use crate::listed::{Listed, OpenFault};
+use crate::status::{CLOSED, DONE};
+use crate::views::ShapeRow;
+use flat_model::{ShapeField, Word};
+use std::alloc::Global;
+
+/// The list has no such machine.
+const NOT_LISTED: u32 = 100;
+
+/// There was too little memory.
+const OUT_OF_MEMORY: u32 = 101;
+
+/// A machine is behind the handle already.
+const OPEN_ALREADY: u32 = 102;
+
+/// Opens a machine over the words of an image, behind a closed handle.
+///
+/// 0: it stands behind the handle, and nothing has happened in it. 102: a machine is behind the
+/// handle already. 100: the list has no machine of these ways, words a block, registers and places.
+/// 5 to 10 and 13: the number of the first member of the shape that is out of its range, 13 that the
+/// image hasn't as many words as memory. 101: there was too little memory. They are looked for in
+/// this order, and after each of them the handle is as it was, and no memory is kept.
+pub fn open_machine(alloc: Global, handle: &mut Handle, shape: &ShapeRow, image: &[Word]) -> u32
+    ensures status { IsTold result
+        (open_fault (behind handle.old) shape.now (length image.now)) }
+    ensures machine { result ≡ 0
+        → behind handle.new ≡ list.opened (list.numbers shape.now) image.now }
+    ensures unchanged { result ≢ 0 → behind handle.new ≡ behind handle.old }
+{
+    match open_into(alloc, handle, shape, image) {
+        Ok(()) => DONE,
+        Err(fault) => fault_number(fault),
+    }
+}
+
+/// Gives the machine up, with all its memory. 0: it is given up, and the handle is closed. 3: the
+/// handle was closed already.
+pub fn free_machine(alloc: Global, handle: &mut Handle) -> u32
+    ensures status { result ≡ told_status (behind handle.old) }
+    ensures closed { behind handle.new ≡ None }
+{
+    match handle.take(alloc) {
+        Some(machine) => {
+            drop(machine);
+            DONE
+        }
+        None => CLOSED,
+    }
+}
+
+// Puts a machine behind a closed handle.
+fn open_into(
+    alloc: Global,
+    handle: &mut Handle,
+    shape: &ShapeRow,
+    image: &[Word],
+) -> Result<(), OpenFault>
+    ensures in_range { OnOk result
+        (open_fault (behind handle.old) shape.now (length image.now) ≡ None) }
+    ensures opened { OnOk result
+        (behind handle.new ≡ list.opened (list.numbers shape.now) image.now) }
+    ensures fault { IfErr result
+        (λ e. e ≡ list.why (open_fault (behind handle.old) shape.now (length image.now))) }
+    ensures unchanged { OnErr result (behind handle.new ≡ behind handle.old) }
+{
+    if handle.is_open() {
+        return Err(OpenFault::OpenAlready);
+    }
+    let machine = boxed(alloc, shape, image)?;
+    handle.keep(machine);
+    Ok(())
+}
+
+// A machine of the list, in memory of its own.
+fn boxed(alloc: Global, shape: &ShapeRow, image: &[Word]) -> Result<Box<Listed, Global>, OpenFault>
+    ensures ok { IfOk result
+        (λ b. list.opened (list.numbers shape.now) image.now ≡ Some (list.state b.value)) }
+    ensures in_range { OnOk result
+        (list.fault_in (list.numbers shape.now) (length image.now) ≡ None) }
+    ensures fault { IfErr result
+        (λ e. e ≡ list.why (list.fault_in (list.numbers shape.now) (length image.now))) }
+{
+    let machine = Listed::new(alloc, shape, image)?;
+    match Box::new(alloc, machine) {
+        Ok(kept) => Ok(kept),
+        Err(_) => Err(OpenFault::OutOfMemory),
+    }
+}
+
+fn fault_number(fault: OpenFault) -> u32
+    ensures number { result ≡ fault_number fault }
+    ensures fault { result ≢ 0 }
+{
+    match fault {
+        OpenFault::NotListed => NOT_LISTED,
+        OpenFault::BadShape(field) => field_number(field),
+        OpenFault::OutOfMemory => OUT_OF_MEMORY,
+        OpenFault::OpenAlready => OPEN_ALREADY,
+    }
+}
+
+fn field_number(field: ShapeField) -> u32
+    ensures number { result ≡ field_number field }
+    ensures fault { result ≢ 0 }
+{
+    match field {
+        ShapeField::BlockWords => 1,
+        ShapeField::Ways => 2,
+        ShapeField::Regs => 3,
+        ShapeField::Depth => 4,
+        ShapeField::Words => 5,
+        ShapeField::Sets => 6,
+        ShapeField::Banks => 7,
+        ShapeField::BankQueue => 8,
+        ShapeField::WriteQueue => 9,
+        ShapeField::Replies => 10,
+        ShapeField::Ports => 11,
+        ShapeField::Journal => 12,
+        ShapeField::Image => 13,
+    }
+}

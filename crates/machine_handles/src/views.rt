@@ -1,0 +1,148 @@
+//! The numbers of a machine, and what it shows, as rows of plain numbers.
+ghost use Rattle.std.specs.Prelude.{◌≡◌};
+ghost use Rattle.machine_handles.specs.Rows.{shape_of, has, register_row, field_row, target_row};
+
+use flat_model::{Shape, Word};
+use miss_registers::{FieldView, Owed, RegisterView};
+
+/// The numbers of a machine. The first four have to be those of a machine of the list.
+#[repr(C)]
+#[derive(Clone, Copy)]
+pub struct ShapeRow {
+    /// Ways of a set.
+    pub ways: u32,
+    /// Words of a block.
+    pub block_words: u32,
+    /// Registers.
+    pub regs: u32,
+    /// Places of the input stack.
+    pub depth: u32,
+    /// Words of memory: 1 to 1,048,576, and a multiple of the words of a block.
+    pub words: u32,
+    /// Sets of the cache: 1 to 1024.
+    pub sets: u32,
+    /// Banks of memory: 1 to 16.
+    pub banks: u32,
+    /// Commands that wait at a bank at most: from the words of a block divided by the banks,
+    /// rounded up, to 64.
+    pub bank_queue: u32,
+    /// Words that wait in the write queue at most: from the words of a block to 256.
+    pub write_queue: u32,
+    /// Loads that are awaited and ready together at most: 1 to 64.
+    pub replies: u32,
+}
+
+/// What a register shows of itself: `valid` and `obsolete` are 0 or 1, and what doesn't apply is 0.
+#[repr(C)]
+#[derive(Clone, Copy)]
+pub struct RegisterRow {
+    /// 1 if it stands for a block that is missing words.
+    pub valid: u32,
+    /// 1 if its block lost its frame.
+    pub obsolete: u32,
+    /// The missing block.
+    pub block: u32,
+    /// The frame of a live register.
+    pub frame: u32,
+    /// How many words of the block are processed.
+    pub processed: u32,
+}
+
+/// What a register shows of a word of its block: the first three are 0 or 1, and what doesn't apply
+/// is 0.
+#[repr(C)]
+#[derive(Clone, Copy)]
+pub struct FieldRow {
+    /// 1 if a load waits for the word.
+    pub send: u32,
+    /// 1 if the word stands in the input stack.
+    pub in_stack: u32,
+    /// 1 if the word was processed.
+    pub processed: u32,
+    /// How many loads wait.
+    pub targets: u32,
+    /// The tag of the first load that waits.
+    pub tag: u16,
+    /// The lanes of the buffer that the arriving word mustn't change.
+    pub code: u8,
+    /// The lanes whose bytes the first load has already.
+    pub held_lanes: u8,
+    /// The bytes that it has already: only those in the held lanes count.
+    pub held: Word,
+}
+
+/// A load that waits for a word, and the bytes that it has already.
+#[repr(C)]
+#[derive(Clone, Copy)]
+pub struct TargetRow {
+    /// The load's tag.
+    pub tag: u16,
+    /// The lanes that the arriving word mustn't give it.
+    pub lanes: u8,
+    /// The bytes that it has already: only those in the lanes count.
+    pub held: Word,
+}
+
+impl ShapeRow {
+    /// The numbers of the shape.
+    pub(crate) fn shape(&self) -> Shape
+        ensures { result ≡ shape_of self.now }
+    {
+        Shape {
+            words: self.words,
+            sets: self.sets,
+            banks: self.banks,
+            bank_queue: self.bank_queue,
+            write_queue: self.write_queue,
+            replies: self.replies,
+        }
+    }
+
+    /// Whether these are its words of a block, registers and places.
+    #[tactic(auto, unfolding(crate::specs::Rows::has))]
+    pub(crate) fn has(&self, block_words: u32, regs: u32, depth: u32) -> bool
+        ensures { result ≡ has self.now block_words regs depth }
+    {
+        self.block_words == block_words && self.regs == regs && self.depth == depth
+    }
+}
+
+/// A register as a row.
+pub(crate) fn register_row(view: &RegisterView) -> RegisterRow
+    ensures { result ≡ register_row view.now }
+{
+    RegisterRow {
+        valid: u32::from(view.valid),
+        obsolete: u32::from(view.obsolete),
+        block: view.block,
+        frame: view.frame,
+        processed: view.processed,
+    }
+}
+
+/// A register's word as a row.
+pub(crate) fn field_row(view: &FieldView) -> FieldRow
+    ensures { result ≡ field_row view.now }
+{
+    FieldRow {
+        send: u32::from(view.send),
+        in_stack: u32::from(view.in_stack),
+        processed: u32::from(view.processed),
+        targets: view.targets,
+        tag: view.tag,
+        code: view.code.0,
+        held_lanes: view.held_lanes.0,
+        held: view.held,
+    }
+}
+
+/// A waiting load as a row.
+pub(crate) fn target_row(owed: &Owed) -> TargetRow
+    ensures { result ≡ target_row owed.now }
+{
+    TargetRow {
+        tag: owed.tag,
+        lanes: owed.lanes.0,
+        held: owed.held,
+    }
+}
