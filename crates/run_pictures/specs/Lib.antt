@@ -1,3 +1,4 @@
+pub mod Numbered
 pub mod Extents
 pub mod Places
 pub mod Cells

@@ -12,6 +12,7 @@ mod drawing;
 mod drawn;
 mod film;
 mod machine;
+mod numbered;
 mod page;
 mod page_parts;
 mod place;

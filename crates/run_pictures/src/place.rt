@@ -2,10 +2,12 @@
 ghost use Rattle.std.specs.Prelude.{◌≡◌, ◌*◌, ◌++◌, Some, OnOk, IfOk};
 ghost use Rattle.miss_registers.specs.declared.TheConstants.{MAX_WAITING};
 ghost use Rattle.run_pictures.specs.Extents.{fitted};
+ghost use Rattle.run_pictures.specs.Numbered.{text_of};
 ghost use Rattle.run_pictures.specs.Places as spots;
 ghost use Rattle.run_pictures.specs.declared.machine.Extent.{Extent as ExtentValue};
 
 use crate::machine::Extent;
+use crate::numbered::Numbered;
 use miss_registers::MAX_WAITING;
 use std::alloc::{AllocError, Global};
 use std::fmt;
@@ -49,20 +51,28 @@ impl fmt::Display for Place {
     ghost output = { λ place. Some (name_text place) };
 
     fn fmt<W: fmt::Write>(&self, f: &mut fmt::Formatter<W>) -> fmt::Result {
-        match *self {
-            Place::Register { slot } => write!(f, "r{slot}"),
-            Place::Line { slot } => write!(f, "g{slot}"),
-            Place::Field { slot, i } => write!(f, "w{slot}.{i}"),
-            Place::Load { slot, i, place } => write!(f, "l{slot}.{i}.{place}"),
-            Place::Frame { frame } => write!(f, "f{frame}"),
-            Place::Cell { frame, i } => write!(f, "c{frame}.{i}"),
-            Place::Stack { place } => write!(f, "s{place}"),
-            Place::Queue { place } => write!(f, "q{place}"),
-            Place::Command { bank, place } => write!(f, "m{bank}.{place}"),
-            Place::Answer { bank, place } => write!(f, "a{bank}.{place}"),
-            Place::Reply { place } => write!(f, "v{place}"),
-            Place::Memory { at } => write!(f, "b{at}"),
-        }
+        let name = name_of(*self);
+        write!(f, "{name}")
+    }
+}
+
+// The letter of a place, and its numbers.
+fn name_of(place: Place) -> Numbered
+    ensures { text_of result ≡ spots.name_text place }
+{
+    match place {
+        Place::Register { slot } => Numbered::One("r", slot),
+        Place::Line { slot } => Numbered::One("g", slot),
+        Place::Field { slot, i } => Numbered::Two("w", slot, ".", i),
+        Place::Load { slot, i, place } => Numbered::Three("l", slot, ".", i, ".", place),
+        Place::Frame { frame } => Numbered::One("f", frame),
+        Place::Cell { frame, i } => Numbered::Two("c", frame, ".", i),
+        Place::Stack { place } => Numbered::One("s", place),
+        Place::Queue { place } => Numbered::One("q", place),
+        Place::Command { bank, place } => Numbered::Two("m", bank, ".", place),
+        Place::Answer { bank, place } => Numbered::Two("a", bank, ".", place),
+        Place::Reply { place } => Numbered::One("v", place),
+        Place::Memory { at } => Numbered::One("b", at),
     }
 }
 

@@ -4,7 +4,8 @@ ghost use Rattle.std.specs.Prelude.{◌≡◌};
 
 use crate::before::Before;
 use crate::cells::is_pending;
-use crate::machine::PictureMachine;
+use crate::machine::{Extent, PictureMachine};
+use crate::numbered::Numbered;
 use flat_model::{Answer, Cause, Event};
 use machine_core::Lookup;
 use std::alloc::{AllocError, Global};
@@ -127,17 +128,22 @@ fn processed(alloc: Global, before: Before) -> Result<String, AllocError> {
 
 // Why there was nothing to do.
 fn idle(alloc: Global, event: Event) -> Result<String, AllocError> {
+    let words = idle_words(event);
+    format!(in alloc; "{words}")
+}
+
+fn idle_words(event: Event) -> Numbered {
     match event {
-        Event::Drain => String::from_str(alloc, "the write queue is empty"),
-        Event::Serve { bank } => format!(in alloc; "no command waits at bank {bank}"),
+        Event::Drain => Numbered::Word("the write queue is empty"),
+        Event::Serve { bank } => Numbered::One("no command waits at bank ", bank),
         Event::Arrive { bank, place } => {
-            format!(in alloc; "no answer stands at place {place} of bank {bank}")
+            Numbered::Two("no answer stands at place ", place, " of bank ", bank)
         }
         Event::Process { place } => {
-            format!(in alloc; "no word stands at place {place} of the input stack")
+            Numbered::Between("no word stands at place ", place, " of the input stack")
         }
-        Event::Take { place } => format!(in alloc; "no value stands ready at place {place}"),
-        _ => Ok(String::new(alloc)),
+        Event::Take { place } => Numbered::One("no value stands ready at place ", place),
+        _ => Numbered::Word(""),
     }
 }
 
@@ -148,27 +154,37 @@ fn refused<M: PictureMachine>(
     event: Event,
     cause: Cause,
 ) -> Result<String, AllocError> {
-    let extent = machine.extent();
-    let block = block_of(machine, event);
-    let set = extent.set_of(block);
-    let regs = extent.regs;
-    let replies = extent.replies;
-    let depth = extent.depth;
     match cause {
         Cause::OutOfRange => outside(alloc, machine, event),
-        Cause::NoLanes => String::from_str(alloc, "the store names no byte"),
         Cause::TagInUse => in_use(alloc, machine, event),
-        Cause::RepliesFull => {
-            format!(in alloc; "as many loads are owed values as may be: {replies}")
-        }
-        Cause::TargetsFull => String::from_str(alloc, "four loads wait for the word already"),
-        Cause::NoRegister => format!(in alloc; "all registers are in use: {regs}"),
-        Cause::SetPending => format!(in alloc; "every way of set {set} waits for words"),
         Cause::QueueFull => queue_full(alloc, machine, event),
         Cause::BankFull => bank_full(alloc, machine, event),
-        Cause::NotPresent => format!(in alloc; "no frame holds block {block}"),
-        Cause::StackFull => format!(in alloc; "the input stack is full: {depth} words"),
-        Cause::BlockQueued | Cause::StrayWord => Ok(String::new(alloc)),
+        _ => {
+            let words = refused_words(&machine.extent(), block_of(machine, event), cause);
+            format!(in alloc; "{words}")
+        }
+    }
+}
+
+// Why a request or an eviction of this block was refused, if no more of the machine is to be told
+// than its numbers.
+fn refused_words(extent: &Extent, block: u32, cause: Cause) -> Numbered {
+    match cause {
+        Cause::NoLanes => Numbered::Word("the store names no byte"),
+        Cause::RepliesFull => Numbered::One(
+            "as many loads are owed values as may be: ",
+            extent.replies,
+        ),
+        Cause::TargetsFull => Numbered::Word("four loads wait for the word already"),
+        Cause::NoRegister => Numbered::One("all registers are in use: ", extent.regs),
+        Cause::SetPending => Numbered::Between(
+            "every way of set ",
+            extent.set_of(block),
+            " waits for words",
+        ),
+        Cause::NotPresent => Numbered::One("no frame holds block ", block),
+        Cause::StackFull => Numbered::Between("the input stack is full: ", extent.depth, " words"),
+        _ => Numbered::Word(""),
     }
 }
 

@@ -1,33 +1,43 @@
 //! The pictures of a machine, as lines for a terminal.
 
-ghost use Rattle.std.specs.Prelude.{◌≡◌, ◌++◌, OnOk, IfOk};
+ghost use Rattle.std.specs.Prelude.{◌≡◌, ◌++◌, OnOk, IfOk, slice_get};
 ghost use Rattle.std.specs.String.{string_bytes};
+ghost use Rattle.run_pictures.specs.Numbered.{text_of};
 ghost use Rattle.run_pictures.specs.Screens as screens;
 
 use crate::film::{Film, is_changed};
 use crate::machine::PictureMachine;
+use crate::numbered::Numbered;
 use crate::place::Place;
 use crate::step::Step;
 use std::alloc::{AllocError, Global};
 
 // What a place is called on a screen; nothing for one that isn't shown there.
-fn label_of(alloc: Global, place: Place) -> Result<String, AllocError>
-    ensures { IfOk result (λ label. string_bytes label ≡ screens.label_text place) }
+fn label_of(place: Place) -> Numbered
+    ensures { text_of result ≡ screens.label_text place }
 {
     match place {
-        Place::Register { slot } => format!(in alloc; "register {slot}"),
-        Place::Line { .. } => Ok(String::new(alloc)),
-        Place::Field { i, .. } => format!(in alloc; "  word {i}"),
-        Place::Load { .. } => String::from_str(alloc, "    load"),
-        Place::Frame { frame } => format!(in alloc; "frame {frame}"),
-        Place::Cell { i, .. } => format!(in alloc; "  word {i}"),
-        Place::Stack { place } => format!(in alloc; "input stack {place}"),
-        Place::Queue { place } => format!(in alloc; "write queue {place}"),
-        Place::Command { bank, place } => format!(in alloc; "bank {bank} command {place}"),
-        Place::Answer { bank, place } => format!(in alloc; "bank {bank} answer {place}"),
-        Place::Reply { place } => format!(in alloc; "ready {place}"),
-        Place::Memory { at } => format!(in alloc; "memory {at}"),
+        Place::Register { slot } => Numbered::One("register ", slot),
+        Place::Line { .. } => Numbered::Word(""),
+        Place::Field { i, .. } => Numbered::One("  word ", i),
+        Place::Load { .. } => Numbered::Word("    load"),
+        Place::Frame { frame } => Numbered::One("frame ", frame),
+        Place::Cell { i, .. } => Numbered::One("  word ", i),
+        Place::Stack { place } => Numbered::One("input stack ", place),
+        Place::Queue { place } => Numbered::One("write queue ", place),
+        Place::Command { bank, place } => Numbered::Two("bank ", bank, " command ", place),
+        Place::Answer { bank, place } => Numbered::Two("bank ", bank, " answer ", place),
+        Place::Reply { place } => Numbered::One("ready ", place),
+        Place::Memory { at } => Numbered::One("memory ", at),
     }
+}
+
+// The same as text.
+fn label_text(alloc: Global, place: Place) -> Result<String, AllocError>
+    ensures { IfOk result (λ label. string_bytes label ≡ screens.label_text place) }
+{
+    let label = label_of(place);
+    format!(in alloc; "{label}")
 }
 
 // Whether nothing stands at a place of this text.
@@ -64,9 +74,19 @@ fn push_line(
         return Ok(());
     }
     let mark = if is_changed { "*" } else { " " };
-    let label = label_of(alloc, place)?;
+    let label = label_text(alloc, place)?;
     let shown = if text.is_empty() { "-" } else { text };
     write!(screen, "{mark} {label:<18} {shown}\n")
+}
+
+// The text of the place of this number, if it is there.
+fn text_at(texts: &[String], k: usize) -> &str
+    ensures { result.now ≡ screens.text_of (slice_get texts.now k) }
+{
+    match texts.get(k) {
+        Some(text) => text.as_str(),
+        None => "",
+    }
 }
 
 // The line of the place of this number. It is marked if its text is another one than before.
@@ -82,12 +102,10 @@ fn push_line_at(
     ensures { OnOk result
         (string_bytes screen.new ≡ string_bytes screen.old ++ screens.line_at places.now before.now after.now k) }
 {
-    let text = match after.get(k) {
-        Some(text) => text.as_str(),
-        None => "",
-    };
+    let text = text_at(after, k);
+    let changed = is_changed(before, after, k);
     match places.get(k) {
-        Some(place) => push_line(alloc, screen, *place, text, is_changed(before, after, k)),
+        Some(place) => push_line(alloc, screen, *place, text, changed),
         None => Ok(()),
     }
 }

@@ -2,9 +2,11 @@
 ghost use Rattle.std.specs.Prelude.{◌≡◌, ◌++◌, length, Some, OnOk, IfOk};
 ghost use Rattle.std.specs.List.{flat_map, range_with_len};
 ghost use Rattle.memory_banks.specs.Banks.{bank_at};
+ghost use Rattle.run_pictures.specs.Numbered.{text_of};
 ghost use Rattle.run_pictures.specs.Waves as waves;
 
 use crate::machine::{Extent, PictureMachine};
+use crate::numbered::Numbered;
 use miss_registers::RegisterView;
 use std::alloc::{AllocError, Global};
 use std::fmt;
@@ -35,16 +37,23 @@ impl fmt::Display for Signal {
     ghost output = { λ signal. Some (waves.name_text signal) };
 
     fn fmt<W: fmt::Write>(&self, f: &mut fmt::Formatter<W>) -> fmt::Result {
-        match *self {
-            Signal::Valid { slot } => write!(f, "reg{slot}_valid"),
-            Signal::Obsolete { slot } => write!(f, "reg{slot}_obsolete"),
-            Signal::Block { slot } => write!(f, "reg{slot}_block"),
-            Signal::Stack => f.write_str("input_stack"),
-            Signal::Queue => f.write_str("write_queue"),
-            Signal::Commands { bank } => write!(f, "bank{bank}_commands"),
-            Signal::Answers { bank } => write!(f, "bank{bank}_answers"),
-            Signal::Replies => f.write_str("ready"),
-        }
+        let name = name_of(*self);
+        write!(f, "{name}")
+    }
+}
+
+fn name_of(signal: Signal) -> Numbered
+    ensures { text_of result ≡ waves.name_text signal }
+{
+    match signal {
+        Signal::Valid { slot } => Numbered::Between("reg", slot, "_valid"),
+        Signal::Obsolete { slot } => Numbered::Between("reg", slot, "_obsolete"),
+        Signal::Block { slot } => Numbered::Between("reg", slot, "_block"),
+        Signal::Stack => Numbered::Word("input_stack"),
+        Signal::Queue => Numbered::Word("write_queue"),
+        Signal::Commands { bank } => Numbered::Between("bank", bank, "_commands"),
+        Signal::Answers { bank } => Numbered::Between("bank", bank, "_answers"),
+        Signal::Replies => Numbered::Word("ready"),
     }
 }
 

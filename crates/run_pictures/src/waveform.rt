@@ -1,6 +1,6 @@
 //! A waveform of a machine, as a value change dump (VCD).
 
-ghost use Rattle.std.specs.Prelude.{◌≡◌, ◌++◌, length, Some, OnOk, IfOk};
+ghost use Rattle.std.specs.Prelude.{◌≡◌, ◌++◌, [], codes, length, slice_get, Some, OnOk, IfOk};
 ghost use Rattle.std.specs.List.{flat_map, range_with_len};
 ghost use Rattle.std.specs.String.{string_bytes};
 ghost use Rattle.run_pictures.specs.Waves as waves;
@@ -10,13 +10,22 @@ use crate::signal::{Signal, signals_of};
 use crate::step::Step;
 use std::alloc::{AllocError, Global};
 
+fn signal_at(signals: &[Signal], k: usize) -> Option<Signal>
+    ensures { result ≡ slice_get signals.now k }
+{
+    match signals.get(k) {
+        Some(signal) => Some(*signal),
+        None => None,
+    }
+}
+
 // The declaration of the signal of this number.
 #[tactic(auto, unfolding(crate::specs::Waves::declaration_at))]
 fn push_declaration(wave: &mut String, signals: &[Signal], k: usize) -> Result<(), AllocError>
     ensures { OnOk result
         (string_bytes wave.new ≡ string_bytes wave.old ++ waves.declaration_at signals.now k) }
 {
-    match signals.get(k) {
+    match signal_at(signals, k) {
         Some(signal) => {
             let width = signal.width();
             write!(wave, "$var wire {width} s{k} {signal} $end\n")
@@ -73,6 +82,44 @@ fn values_of<M: PictureMachine>(
     Ok(values)
 }
 
+fn value_at(values: &[u32], k: usize) -> Option<u32>
+    ensures { result ≡ slice_get values.now k }
+{
+    match values.get(k) {
+        Some(value) => Some(*value),
+        None => None,
+    }
+}
+
+// Whether a value is that of before.
+fn is_same(before: Option<u32>, value: Option<u32>) -> bool
+    ensures { result ≡ waves.is_same before value }
+{
+    match (before, value) {
+        (Some(old), Some(new)) => old == new,
+        (Some(_), None) => false,
+        (None, Some(_)) => false,
+        (None, None) => true,
+    }
+}
+
+// The value of a signal, if there are both.
+fn push_known(
+    wave: &mut String,
+    signal: Option<Signal>,
+    k: usize,
+    value: Option<u32>,
+) -> Result<(), AllocError>
+    ensures { OnOk result
+        (string_bytes wave.new ≡ string_bytes wave.old ++ waves.value_text signal k value) }
+{
+    match (signal, value) {
+        (Some(signal), Some(value)) => push_value(wave, signal, k, value),
+        (Some(_), None) => Ok(()),
+        (None, _) => Ok(()),
+    }
+}
+
 // The value of the signal of this number, if it isn't that of before.
 #[tactic(auto, unfolding(crate::specs::Waves::change_text))]
 fn push_change(
@@ -85,12 +132,11 @@ fn push_change(
     ensures { OnOk result
         (string_bytes wave.new ≡ string_bytes wave.old ++ waves.change_text signals.now before.now values.now k) }
 {
-    if before.get(k) == values.get(k) {
-        return Ok(());
-    }
-    match (signals.get(k), values.get(k)) {
-        (Some(signal), Some(value)) => push_value(wave, *signal, k, *value),
-        _ => Ok(()),
+    let value = value_at(values, k);
+    if is_same(value_at(before, k), value) {
+        Ok(())
+    } else {
+        push_known(wave, signal_at(signals, k), k, value)
     }
 }
 
@@ -110,6 +156,17 @@ fn push_changes(
     Ok(())
 }
 
+// The text before the first event: the declarations, and the values.
+fn opening_text(alloc: Global, signals: &[Signal], values: &[u32]) -> Result<String, AllocError>
+    ensures { IfOk result (λ text. string_bytes text ≡ waves.declarations_text signals.now ++ (codes "#0\n$dumpvars\n" ++ (waves.changes_text signals.now [] values.now ++ codes "$end\n"))) }
+{
+    let mut text = declarations(alloc, signals)?;
+    text.push_str("#0\n$dumpvars\n")?;
+    push_changes(&mut text, signals, &[], values)?;
+    text.push_str("$end\n")?;
+    Ok(text)
+}
+
 /// A waveform, up to the event that was drawn last.
 #[derive(Drop)]
 pub(crate) struct Waveform {
@@ -125,10 +182,7 @@ impl Waveform {
     {
         let signals = signals_of(alloc, &machine.extent())?;
         let values = values_of(alloc, machine, signals.as_slice())?;
-        let mut text = declarations(alloc, signals.as_slice())?;
-        text.push_str("#0\n$dumpvars\n")?;
-        push_changes(&mut text, signals.as_slice(), &[], values.as_slice())?;
-        text.push_str("$end\n")?;
+        let text = opening_text(alloc, signals.as_slice(), values.as_slice())?;
         Ok(Waveform {
             signals,
             values,
