@@ -185,7 +185,8 @@ void found(const char *name, replay::Bug bug, const char *reason) {
     for (uint64_t seed : {1, 2, 3}) {
         Run bad = run(bug, 100000, seed);
         EXPECT(bad.wrong + bad.lost > 0 && bad.first.find(reason) != std::string::npos);
-        if (seed == 1) printf("%s: after %llu accesses: %s\n", name, (unsigned long long)bad.accesses, bad.wrong ? bad.first.c_str() : "lost answers");
+        const char *what = bad.wrong ? bad.first.c_str() : "lost answers";
+        if (seed == 1) printf("%s: after %llu accesses: %s\n", name, (unsigned long long)bad.accesses, what);
     }
 }
 

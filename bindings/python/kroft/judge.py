@@ -10,12 +10,23 @@ from types import TracebackType
 from typing import Callable, Container, Dict, Iterator, List, NamedTuple, Optional, Tuple, Type, Union
 
 from .errors import Access, NotFlat, Reason, Unanswered
-from .events import Answer, Event, Load, Prefetch, Store, Take, Value, answer_row, event_row
+from .events import Answer, Event, Value, answer_row, event_row
 from .library import TAGS, Due, Word, fast_step, library
 
 PAGE_BYTES = 4096
 _WORD = 4
-_FLAT, _NO_STEP = 0, 2
+_FLAT = 0
+_WRONG_WORD = 5
+# The reasons of the library, by their numbers: all but _WRONG_WORD, which comes with the word that is owed.
+_REASONS = {
+    1: Reason.OUT_OF_RANGE,
+    2: Reason.NO_LANES,
+    3: Reason.ID_IN_USE,
+    4: Reason.NOTHING_OWED,
+    6: Reason.OTHER_ANSWER,
+    7: Reason.NO_STEP,
+    8: Reason.NO_STEP,
+}
 _LOAD, _STORE, _VALUE = 0, 1, 2
 _EVENT = struct.Struct("=IHBxII4s").pack  # kind, tag, lanes, at, place, word
 _ANSWER = struct.Struct("=IIH4s2x").pack  # kind, cause, tag, word
@@ -45,11 +56,9 @@ class StepJudge:
     def step(self, event: Event, answer: Answer) -> None:
         """Judges a step, and makes it. NotFlat with its cause if flat memory never gives this answer to this event,
         and then nothing changed."""
-        status = self._library.kroft_flat_step(
-            self._words, self._count, self._due, TAGS, event_row(event), answer_row(answer)
-        )
-        if status != _FLAT:
-            raise self._fault(status, event, answer)
+        rows = event_row(event), answer_row(answer)
+        if self._library.kroft_flat_step(self._words, self._count, self._due, TAGS, *rows) != _FLAT:
+            raise self._fault(event, answer)
 
     def owed(self, tag: int) -> Optional[bytes]:
         """The word that a tag is owed. None if it is owed nothing."""
@@ -58,6 +67,11 @@ class StepJudge:
         word = Word()
         found = self._library.kroft_flat_owed(self._due, TAGS, tag, c.byref(word))
         return bytes(word) if found else None
+
+    def open_count(self) -> int:
+        """How many tags are owed words: the accepted loads that have no answer yet."""
+        count: int = self._library.kroft_flat_open(self._due, TAGS, 0, c.byref(c.c_uint16()))
+        return count
 
     def open(self) -> Iterator[Tuple[int, bytes]]:
         """The tags that are owed words, with these words, in the order of the tags."""
@@ -69,22 +83,14 @@ class StepJudge:
         """The bytes of memory as they are now."""
         return bytes(self._words)[: self._count * _WORD]
 
-    # Why there was no such step: by what memory and the tags are, as the library's judge looks at them.
-    def _fault(self, status: int, event: Event, answer: Answer) -> NotFlat:
-        if status == _NO_STEP:
-            return NotFlat(Reason.NO_STEP)
-        if isinstance(event, (Load, Store, Prefetch)) and event.at >= self._count:
-            return NotFlat(Reason.OUT_OF_RANGE)
-        if isinstance(event, Store) and event.lanes & 0b1111 == 0:
-            return NotFlat(Reason.NO_LANES)
-        if isinstance(event, Load) and self.owed(event.tag) is not None:
-            return NotFlat(Reason.ID_IN_USE)
-        if isinstance(event, Take) and isinstance(answer, Value):
-            owed = self.owed(answer.tag)
-            if owed is None:
-                return NotFlat(Reason.NOTHING_OWED)
-            return NotFlat(Reason.WRONG_DATA, owed=owed, got=answer.word)
-        return NotFlat(Reason.OTHER_ANSWER)
+    # Why there was no such step, as the library says: nothing has changed since.
+    def _fault(self, event: Event, answer: Answer) -> NotFlat:
+        right = Word()
+        rows = event_row(event), answer_row(answer)
+        number = self._library.kroft_flat_why(self._words, self._count, self._due, TAGS, *rows, c.byref(right))
+        if number == _WRONG_WORD and isinstance(answer, Value):
+            return NotFlat(Reason.WRONG_DATA, owed=bytes(right), got=answer.word)
+        return NotFlat(_REASONS.get(number, Reason.BROKEN_LIBRARY))
 
 
 class _Page(NamedTuple):

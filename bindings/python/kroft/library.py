@@ -85,6 +85,8 @@ def declare(library: c.CDLL) -> c.CDLL:
     signatures = {
         "kroft_flat_step": [c.c_void_p, c.c_size_t, c.c_void_p, c.c_size_t, c.c_void_p, c.c_void_p],
         "kroft_flat_owed": [c.c_void_p, c.c_size_t, u16, c.c_void_p],
+        "kroft_flat_why": [c.c_void_p, c.c_size_t, c.c_void_p, c.c_size_t, c.c_void_p, c.c_void_p, c.c_void_p],
+        "kroft_flat_open": [c.c_void_p, c.c_size_t, u32, c.c_void_p],
         "kroft_open": [handle, out, out, c.c_size_t],
         "kroft_free": [handle],
         "kroft_apply": [handle, out, out],

@@ -26,6 +26,7 @@ class Steps(Causes):
         judge.step(Store(5, b"\xaa\0\0\0", 0b0001), Accepted())
         judge.step(Load(8, 5), Accepted())
         self.assertEqual(list(judge.open()), [(7, bytes(4)), (8, b"\xaa\0\0\0")])
+        self.assertEqual(judge.open_count(), 2)
         with self.fails(Reason.WRONG_DATA) as wrong:
             judge.step(Take(), Value(7, b"\xaa\0\0\0"))
         self.assertEqual((wrong.exception.owed, wrong.exception.got), (bytes(4), b"\xaa\0\0\0"))
