@@ -233,36 +233,48 @@ const LAST_LOAD: Row = Row {
     values: 1,
 };
 
-/// The row of 200,000 evictions of a block that isn't there.
-const MANY_DENIED: Row = Row {
-    regs: 4,
-    accepted: 0,
-    denied: 200_000,
-    stalled: 0,
-    waited: 0,
-    pumps: 0,
-    values: 0,
-};
+/// Both calls of the library give this row: alone, and as one of two on threads.
+#[test]
+fn rows_of_three_loads(rt: HostRuntime) -> Result<(), Fail> {
+    for regs in [1, 2] {
+        let (shape, row) = (with_registers(regs), row_of_three_loads(regs));
+        assert_eq!(rt; sweep_row(rt.alloc(), &shape, &REQUESTS), Ok(row));
+        let rows = sweep(&rt, rt.alloc(), &REQUESTS, &[shape, shape], 1, &OpenGate)?;
+        assert_eq!(rt; rows.as_slice(), &[row, row][..]);
+    }
+    Ok(())
+}
 
 #[test]
-fn rows_up_to_the_largest(rt: HostRuntime) -> Result<(), Fail> {
-    let alloc = rt.alloc();
-    let largest = read_shape(alloc, LARGEST)?;
-    let last = [Event::Load {
+fn rows_of_the_largest_shape(rt: HostRuntime) -> Result<(), Fail> {
+    let shape = read_shape(rt.alloc(), LARGEST)?;
+    let requests = [Event::Load {
         tag: 1,
         at: 1_048_575,
     }];
-    let many = vec![in alloc; Event::Evict { block: 0 }; 200_000]?;
-    let rows: [(ToolShape, &[Event], Row); 4] = [
-        (with_registers(1), &REQUESTS, row_of_three_loads(1)),
-        (with_registers(2), &REQUESTS, row_of_three_loads(2)),
-        (largest, &last, LAST_LOAD),
-        (with_registers(4), many.as_slice(), MANY_DENIED),
-    ];
-    for (shape, requests, row) in rows {
-        assert_eq!(rt; sweep_row(alloc, &shape, requests), Ok(row));
-        let swept = sweep(&rt, alloc, requests, &[shape, shape], 1, &OpenGate)?;
-        assert_eq!(rt; swept.as_slice(), &[row, row][..]);
+    assert_eq!(rt; sweep_row(rt.alloc(), &shape, &requests), Ok(LAST_LOAD));
+    let rows = sweep(&rt, rt.alloc(), &requests, &[shape], 1, &OpenGate)?;
+    assert_eq!(rt; rows.as_slice(), &[LAST_LOAD][..]);
+    Ok(())
+}
+
+#[test]
+fn a_row_of_many_requests(rt: HostRuntime) -> Result<(), Fail> {
+    let requests = vec![in rt.alloc(); Event::Evict { block: 0 }; 200_000]?;
+    let row = sweep_row(rt.alloc(), &with_registers(4), &requests)?;
+    assert_eq!(rt; row.denied, 200_000);
+    assert_eq!(rt; row.accepted, 0);
+    Ok(())
+}
+
+#[test]
+fn a_sweep_of_many_requests(rt: HostRuntime) -> Result<(), Fail> {
+    let shape = with_registers(4);
+    let requests = vec![in rt.alloc(); Event::Evict { block: 0 }; 200_000]?;
+    let rows = sweep(&rt, rt.alloc(), &requests, &[shape, shape], 1, &OpenGate)?;
+    assert_eq!(rt; rows.len(), 2);
+    for row in &rows {
+        assert_eq!(rt; row.denied, 200_000);
     }
     Ok(())
 }
