@@ -5,9 +5,9 @@ ghost use Rattle.access_logs.specs.declared.writing.TheConstants.{MAX_WORDS};
 ghost use Rattle.round_driver.specs.declared.driving.TheConstants.{MOST_LATENCY};
 ghost use Rattle.kroft_command.specs.Tool.{IsInRange};
 
+use crate::commands::{FILE, LATENCY, Subcommand, program, shown};
 use access_logs::MAX_WORDS;
 use clap::error::ErrorKind;
-use crate::commands::{FILE, LATENCY, Subcommand, program, shown};
 use clap::{ArgMatches, Error};
 use round_driver::MOST_LATENCY;
 use run_pictures::Form;
@@ -178,7 +178,12 @@ fn subcommand_of(matches: &ArgMatches<'_>) -> Subcommand {
 }
 
 // A refusal with the usage of a command.
-fn refusal(alloc: Global, subcommand: Subcommand, kind: ErrorKind, why: &str) -> Result<Error, AllocError> {
+fn refusal(
+    alloc: Global,
+    subcommand: Subcommand,
+    kind: ErrorKind,
+    why: &str,
+) -> Result<Error, AllocError> {
     let mut command = shown(alloc, subcommand)?;
     command.error(kind, why)
 }
@@ -215,7 +220,11 @@ fn asked_for<'a>(subcommand: Subcommand, matches: &ArgMatches<'a>) -> Asked<'a>
 }
 
 // What is asked for, if it can be done.
-fn allowed<'a>(alloc: Global, subcommand: Subcommand, asked: Asked<'a>) -> Result<CommandLine<'a>, Error>
+fn allowed<'a>(
+    alloc: Global,
+    subcommand: Subcommand,
+    asked: Asked<'a>,
+) -> Result<CommandLine<'a>, Error>
     requires { IsInRange asked.task }
     ensures { IfOk result (λ asked. IsInRange asked.task) }
 {
