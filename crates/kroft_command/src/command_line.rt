@@ -5,15 +5,16 @@ ghost use Rattle.access_logs.specs.declared.writing.TheConstants.{MAX_WORDS};
 ghost use Rattle.round_driver.specs.declared.driving.TheConstants.{MOST_LATENCY};
 ghost use Rattle.kroft_command.specs.Tool.{IsInRange};
 
+use crate::commands::{FILE, LATENCY, Subcommand, program, shown};
 use access_logs::MAX_WORDS;
 use clap::error::ErrorKind;
-use clap::{Arg, ArgAction, ArgMatches, Command, Error};
+use clap::{ArgMatches, Error};
 use round_driver::MOST_LATENCY;
 use run_pictures::Form;
 use std::alloc::{AllocError, Global};
 
 /// The format of a log.
-#[derive(Clone, Copy, PartialEq, Eq, Debug)]
+#[derive(Clone, Copy)]
 pub(crate) enum LogName {
     /// What valgrind's lackey writes.
     Lackey,
@@ -22,7 +23,7 @@ pub(crate) enum LogName {
 }
 
 /// What the program is asked to do with the trace on its input.
-#[derive(Clone, Copy, PartialEq, Eq, Debug)]
+#[derive(Clone, Copy)]
 pub(crate) enum Task {
     /// Serve its lines on a new machine.
     Run,
@@ -58,7 +59,7 @@ pub(crate) enum Task {
 }
 
 /// What the words of the command line ask for.
-#[derive(Clone, Copy, PartialEq, Eq, Debug)]
+#[derive(Clone, Copy)]
 pub(crate) struct CommandLine<'a> {
     /// What is done with the trace.
     pub task: Task,
@@ -66,387 +67,8 @@ pub(crate) struct CommandLine<'a> {
     pub shape_file: Option<&'a str>,
 }
 
-/// What the user calls the program.
-const PROGRAM: &str = "kroft";
-
 /// Rounds from a command's begin to its service, where none are given.
 const USUAL_LATENCY: u64 = 10;
-
-/// The name of the argument for the latency of rounds.
-const LATENCY: &str = "latency";
-
-/// The name of the argument that stands for a trace's path.
-const TRACE: &str = "trace";
-
-const PROGRAM_NOTES: &str =
-    "Each command reads standard input and writes standard output: `kroft run < FILE`.
-A fault is one line on standard error. `kroft run --help` lists the lines of a trace.
-
-Statuses:
-  0  done, or help was asked for
-  1  check or explain found an answer that flat memory doesn't explain
-  2  the command line is wrong
-  3  the shape file is wrong
-  4  the input is wrong, or a stream failed
-  5  there is too little memory
-
-Keys of a shape file, a TOML table of whole numbers:
-  words        1 to 1048576, a multiple of 4        default 64
-  sets         1 to 1024                            default 4
-  ways         1 or 2                               default 2
-  regs         1, 2, 4 or 8                         default 4
-  banks        1 to 16                              default 4
-  bank_queue   4 / banks, rounded up, to 64         default 8
-  write_queue  4 to 256                             default 8
-  replies      1 to 64                              default 8
-
-Example:
-  $ echo 'load 1 4' | kroft run
-  load 1 4 -> accepted";
-
-const RUN_NOTES: &str = "Reads a trace from standard input, one event a line:
-  load TAG AT           load the word at AT under a tag
-  store AT MASK WORD    store the bytes of a word that the mask names
-  prefetch AT           bring the block of a word in
-  evict BLOCK           give a block's frame up
-  drain                 send the front of the write queue to its bank
-  serve BANK            let a bank serve its first command
-  arrive BANK PLACE     move a bank's answer into the input stack
-  process PLACE         take a word of the input stack
-  take PLACE            take a ready value
-  reg SLOT              show a miss register
-  bank AT               show a word as its bank has it
-  settled               show whether nothing is on its way
-Writes each line with ' -> ' and its answer behind it.
-
-A tag is 0 to 65535, any other number 0 to 4294967295, with no zero in front. A mask is four
-digits 0 or 1, byte 0 first. A word is eight digits 0 to 9 or a to f, byte 0 first. One space
-stands between the words of a line, and an LF at its end: no comment, no empty line, no CR.
-A line has at most 64 bytes, a trace at most 16777216 lines.
-
-'reg' shows a register as
-  V- 0000001 0001 00 [--- 0000 00000 0000 00000000] [1-- 0100 00001 0100 00aa0000] ..
-V: it is in use, O: its block was given up; then the block, the frame and how many words of it
-were processed. For each word: how many loads wait for it (or -), I: it stands in the input stack,
-P: it was processed; the bytes that the arriving word leaves alone; and of the first load that
-waits its tag, the bytes that it holds already, and their values.
-
-Statuses: 0 all lines were served, 2 the command line is wrong, 3 the shape file is wrong,
-4 a line is faulty or a stream failed, 5 there is too little memory.
-
-Example:
-  $ printf 'load 1 4\\nserve 0\\n' | kroft run
-  load 1 4 -> accepted
-  serve 0 -> moved";
-
-const CHECK_NOTES: &str =
-    "Reads lines from standard input as 'run' writes them, from whatever machine or simulator:
-a line of a trace ('kroft run --help' explains them), ' -> ', and its answer. The lines:
-  load TAG AT, store AT MASK WORD, prefetch AT, evict BLOCK, drain, serve BANK,
-  arrive BANK PLACE, process PLACE, take PLACE, reg SLOT, bank AT, settled
-The answers:
-  accepted, moved, nothing, refused N (1 to 13), value TAG WORD
-What stands behind the ' -> ' of 'reg', 'bank' and 'settled' is passed over. A line has at
-most 768 bytes.
-Writes 'flat run, N steps', or 'mismatch at line N' for the first line that flat memory
-doesn't explain. Flat memory is words with no cache: a load is owed the word as it stood when the
-load was accepted. Memory begins with zeros; of a shape file only the words matter.
-
-Statuses: 0 the run is flat, 1 it isn't, 2 the command line is wrong, 3 the shape file is wrong,
-4 a line is faulty or a stream failed, 5 there is too little memory.
-
-Example:
-  $ echo 'take 0 -> value 1 00000000' | kroft check
-  mismatch at line 1";
-
-const SWEEP_NOTES: &str =
-    "Reads a trace from standard input ('kroft run --help' lists its lines), and keeps its
-  load TAG AT, store AT MASK WORD, prefetch AT and evict BLOCK
-The other lines are passed over: drain, serve BANK, arrive BANK PLACE, process PLACE, take PLACE,
-reg SLOT, bank AT, settled.
-Writes a row for 1, 2, 4 and 8 registers: how many requests were accepted, denied and stalled,
-how many pumps the stalled ones waited for, and how many pumps and values there were in all.
-A pump is one step of the machine's own driver: it counts work, and not time, and stalled
-requests wait one after another. So on a long trace the rows hardly differ. A shape file's
-number of registers isn't used.
-With --latency L the requests are driven in rounds instead ('kroft drive --help' describes them),
-and each row has 'regs N' and the counts of 'drive --latency L --summary' with N registers.
-
-Statuses: 0 done, 2 the command line is wrong, 3 the shape file is wrong, 4 a line is faulty or a
-stream failed, 5 there is too little memory. (The limit of turns that a sweep has for callers
-with a gate of their own can't be reached here: the program's gate is always open.)
-
-Example:
-  $ echo 'load 1 0' | kroft sweep
-  regs 1 accepted 1 denied 0 stalled 0 waited 0 pumps 13 values 1
-  regs 2 accepted 1 denied 0 stalled 0 waited 0 pumps 13 values 1
-  regs 4 accepted 1 denied 0 stalled 0 waited 0 pumps 13 values 1
-  regs 8 accepted 1 denied 0 stalled 0 waited 0 pumps 13 values 1";
-
-const EXPLAIN_NOTES: &str =
-    "Reads lines from standard input as 'check' does ('kroft check --help' describes them), up to the
-first line that flat memory doesn't explain, and says why: which load the value belongs to,
-what it is owed, and which lines stored its bytes. A faulty line ends it too. On a pipe that is
-still being written the answer comes with the line; a run may have any number of lines.
-Writes 'flat run, N steps', or 'mismatch at line N: LINE' and its reason, in at most six lines.
-Memory begins with zeros; of a shape file only the words matter.
-
-Statuses: 0 the run is flat, 1 it isn't, 2 the command line is wrong, 3 the shape file is wrong,
-4 a line is faulty or a stream failed, 5 there is too little memory.
-
-Example:
-  $ echo 'take 0 -> value 1 00000000' | kroft explain
-  mismatch at line 1: take 0 -> value 1 00000000
-  tag 1 is owed nothing: it was never loaded";
-
-const DRIVE_NOTES: &str =
-    "Reads a trace from standard input ('kroft run --help' lists its lines), keeps its
-  load TAG AT, store AT MASK WORD, prefetch AT and evict BLOCK
-and makes rounds over a new machine until all are accepted or denied and nothing is on its way.
-A round makes, in this order:
-  each bank, by number, that has a command and isn't busy begins it, and one begun L rounds
-  before is served; one answer arrives, from the next bank that has one, if the stack has room;
-  'process 0', 'take 0' and 'drain', each if possible; the request at hand is asked once
-A request that is accepted, or refused with 1, 2 or 11, is followed by the next one; one that is
-refused with 3 to 10 is asked again in the next round. A round is a step of this schedule, and no
-time of any hardware.
-Writes each request with its answer, and each other event that did something, as 'check' reads
-them. With --summary, in their place, one line of counts: rounds, the last of which moves nothing;
-requests accepted and denied; of those accepted how many found their word at hand (hits) or on its
-way (joins), or asked for its block (misses); requests that stalled; rounds lost by each cause;
-loads answered, their mean and longest wait in rounds; the most registers in use at once; words
-written back.
-
-Statuses: 0 done, 2 the command line is wrong, 3 the shape file is wrong, 4 a line is faulty or a
-stream failed, 5 there is too little memory.
-
-Example:
-  $ echo 'load 1 0' | kroft drive
-  load 1 0 -> accepted
-  serve 0 -> moved
-  serve 1 -> moved
-  serve 2 -> moved
-  serve 3 -> moved
-  arrive 0 0 -> moved
-  process 0 -> moved
-  take 0 -> value 1 00000000
-  arrive 1 0 -> moved
-  process 0 -> moved
-  arrive 2 0 -> moved
-  process 0 -> moved
-  arrive 3 0 -> moved
-  process 0 -> moved";
-
-const REQUESTS_NOTES: &str =
-    "Reads a log of a program's memory accesses from standard input, and writes its requests, as
-'drive' and 'sweep' read them: 'load TAG AT' and 'store AT MASK WORD'.
-  lackey  what 'valgrind --tool=lackey --trace-mem=yes' writes: ' L ADDRESS,SIZE' is a load,
-          ' S ADDRESS,SIZE' a store, ' M ADDRESS,SIZE' a load and then a store; a size is 1 to 512
-  din     Dinero's: '0 ADDRESS' is a load and '1 ADDRESS' a store of the address's whole word
-Addresses are hexadecimal, with small letters and below 2^64. The machine is a data cache, so the
-fetches of instructions ('I  ADDRESS,SIZE', '2 ADDRESS') are passed over; so are valgrind's own
-lines, which begin with '==', '--' or '**'. A line has at most 768 bytes, a log 16777216 lines.
-
-One line is written for each word of 4 bytes that an access touches, ascending. Tags go from 0 to
-65535, and again from 0. A log has no data: a stored byte is its address and the number of the
-line, added, modulo 256; bytes that the mask leaves out are 00. Each page of 4096 bytes becomes
-1024 words of memory, in the order of first touch. With --words N memory has N words, rounded down
-to whole pages; the first page that has no room ends the work, and the fault says which N would do.
-Give 'drive' and 'sweep' a shape with as many words.
-
-Statuses: 0 done, 2 the command line is wrong, 4 a line is faulty, a page has no room or a stream
-failed, 5 there is too little memory. What is due for the lines before a fault is written.
-
-Example:
-  $ echo ' M 04222cac,4' | kroft requests --from lackey
-  load 0 811
-  store 811 1111 adaeafb0";
-
-const SHOW_NOTES: &str =
-    "Reads a trace from standard input ('kroft run --help' lists its lines) and applies its events, 10000
-at most, to a new machine. Lines that only show something are passed over.
-Writes a page of HTML, which needs no other file and no network: the machine before the first
-event and behind each, with what the event changed, and why, in words. Left and right, Home and
-End step through it, and the space bar plays.
-With --text, in its place, lines of at most 80 columns for a terminal: * stands before what the
-step changed. With --vcd, a waveform (a value change dump) with one unit of time an event.
-A page has some 50 to 350 bytes an event, and 630 for a miss. It shows the first 256 words of memory.
-
-Statuses: 0 done, 2 the command line is wrong, 3 the shape file is wrong, 4 a line is faulty, there
-are too many events or a stream failed, 5 there is too little memory.
-
-Example:
-  $ echo 'load 1 4' | kroft show --text
-  step 0: the machine before the first event
-
-  step 1: load 1 4 -> accepted
-    a miss: a register is taken, and block 1's words are asked for
-  * register 0         valid, block 1, frame 2, words came: 0
-  *   word 0           missing
-  *     load           tag 1 is owed 00000000
-  *   word 1           missing
-  *   word 2           missing
-  *   word 3           missing
-  * frame 2            block 1, pending
-  *   word 0           00000000
-  *   word 1           00000000
-  *   word 2           00000000
-  *   word 3           00000000
-  * bank 0 command 0   read place 1: register 0, word 0
-  * bank 1 command 0   read place 1: register 0, word 1
-  * bank 2 command 0   read place 1: register 0, word 2
-  * bank 3 command 0   read place 1: register 0, word 3";
-
-// The argument for the shape file. It may stand before or behind the subcommand.
-fn shape_argument<'a>(alloc: Global) -> Arg<'a> {
-    Arg::new(alloc, "shape")
-        .long("shape")
-        .value_name("FILE")
-        .action(ArgAction::Set)
-        .help("The TOML file with the machine's numbers")
-}
-
-// The name of a trace, where a user gives one: no command takes it, and the refusal says what to
-// write.
-fn trace_argument<'a>(alloc: Global) -> Arg<'a> {
-    Arg::new(alloc, TRACE).action(ArgAction::Set).hide(true)
-}
-
-// A subcommand, with what its help says.
-fn subcommand<'a>(
-    alloc: Global,
-    name: &'a str,
-    about: &'a str,
-    notes: &'a str,
-) -> Result<Command<'a>, AllocError> {
-    Command::new(alloc, name)
-        .about(about)
-        .after_help(notes)
-        .arg(shape_argument(alloc))?
-        .arg(trace_argument(alloc))
-}
-
-// The argument for the latency of rounds.
-fn latency_argument<'a>(alloc: Global, help: &'a str) -> Arg<'a> {
-    Arg::new(alloc, LATENCY)
-        .long(LATENCY)
-        .value_name("L")
-        .action(ArgAction::Set)
-        .value_parser(clap::value_parser!(u64).range(0..=MOST_LATENCY as i64))
-        .help(help)
-}
-
-// The subcommand that counts with several numbers of registers.
-fn sweep_command<'a>(alloc: Global) -> Result<Command<'a>, AllocError> {
-    subcommand(
-        alloc,
-        "sweep",
-        "Count what requests wait for with 1, 2, 4 and 8 registers",
-        SWEEP_NOTES,
-    )?
-    .arg(latency_argument(
-        alloc,
-        "Count rounds, with this many from a command's begin to its service, 0 to 1000",
-    ))
-}
-
-// The subcommand that drives requests in rounds.
-fn drive_command<'a>(alloc: Global) -> Result<Command<'a>, AllocError> {
-    subcommand(
-        alloc,
-        "drive",
-        "Drive requests in rounds, with a latency of memory",
-        DRIVE_NOTES,
-    )?
-    .arg(latency_argument(
-        alloc,
-        "Rounds from a command's begin to its service, 0 to 1000 [default: 10]",
-    ))?
-    .arg(
-        Arg::new(alloc, "summary")
-            .long("summary")
-            .action(ArgAction::SetTrue)
-            .help("Write counts in place of the run"),
-    )
-}
-
-// The subcommand that writes the requests of a log. It knows no shape.
-fn requests_command<'a>(alloc: Global) -> Result<Command<'a>, AllocError> {
-    Command::new(alloc, "requests")
-        .about("Write the loads and stores of a log of accesses as a trace")
-        .after_help(REQUESTS_NOTES)
-        .arg(
-            Arg::new(alloc, "from")
-                .long("from")
-                .value_name("FORMAT")
-                .action(ArgAction::Set)
-                .required(true)
-                .value_parser(["lackey", "din"].as_slice())
-                .help("What wrote the log"),
-        )?
-        .arg(
-            Arg::new(alloc, "words")
-                .long("words")
-                .value_name("N")
-                .action(ArgAction::Set)
-                .value_parser(clap::value_parser!(u32).range(1..=MAX_WORDS as i64))
-                .help("Words of memory, a multiple of 4, at most 1048576 [default: 1048576]"),
-        )?
-        .arg(trace_argument(alloc))
-}
-
-// The subcommand that draws the machine.
-fn show_command<'a>(alloc: Global) -> Result<Command<'a>, AllocError> {
-    subcommand(
-        alloc,
-        "show",
-        "Draw the machine at each event of a trace, as a page",
-        SHOW_NOTES,
-    )?
-    .arg(
-        Arg::new(alloc, "text")
-            .long("text")
-            .action(ArgAction::SetTrue)
-            .help("Write lines for a terminal in place of the page"),
-    )?
-    .arg(
-        Arg::new(alloc, "vcd")
-            .long("vcd")
-            .action(ArgAction::SetTrue)
-            .conflicts_with("text")?
-            .help("Write a waveform in place of the page"),
-    )
-}
-
-// The program's whole command line.
-fn program<'a>(alloc: Global) -> Result<Command<'a>, AllocError> {
-    Command::new(alloc, PROGRAM)
-        .version("0.1.0")
-        .about("A lockup-free cache that goes on serving while blocks are missing")
-        .after_help(PROGRAM_NOTES)
-        .no_binary_name(true)
-        .bin_name(PROGRAM)?
-        .subcommand_required(true)
-        .disable_help_subcommand(true)
-        .arg(shape_argument(alloc))?
-        .subcommand(subcommand(alloc, "run", "Serve a trace on a new machine", RUN_NOTES)?)?
-        .subcommand(subcommand(
-            alloc,
-            "check",
-            "Tell whether a recorded run is one of flat memory",
-            CHECK_NOTES,
-        )?)?
-        .subcommand(sweep_command(alloc)?)?
-        .subcommand(subcommand(
-            alloc,
-            "explain",
-            "Say why a recorded run is none of flat memory",
-            EXPLAIN_NOTES,
-        )?)?
-        .subcommand(drive_command(alloc)?)?
-        .subcommand(requests_command(alloc)?)?
-        .subcommand(show_command(alloc)?)
-}
 
 // The latency that is asked for. A greater one was refused; only the contract needs the bound again.
 fn latency_of(rest: &ArgMatches<'_>) -> Option<u64>
@@ -532,33 +154,138 @@ fn show_task(rest: &ArgMatches<'_>) -> Task
     Task::Show { form }
 }
 
+// What a command and the words behind it ask for.
+fn task_of(subcommand: Subcommand, rest: &ArgMatches<'_>) -> Task
+    ensures { IsInRange result }
+{
+    match subcommand {
+        Subcommand::Run => Task::Run,
+        Subcommand::Check => Task::Check,
+        Subcommand::Sweep => sweep_task(rest),
+        Subcommand::Explain => Task::Explain,
+        Subcommand::Drive => drive_task(rest),
+        Subcommand::Requests => requests_task(rest),
+        Subcommand::Show => show_task(rest),
+    }
+}
+
+// The command that words name. Words with no command were refused, so `run` stands for none.
+fn subcommand_of(matches: &ArgMatches<'_>) -> Subcommand {
+    match matches.subcommand_name() {
+        Some(name) => Subcommand::of(name).unwrap_or(Subcommand::Run),
+        None => Subcommand::Run,
+    }
+}
+
+// A refusal with the usage of a command.
+fn refusal(
+    alloc: Global,
+    subcommand: Subcommand,
+    kind: ErrorKind,
+    why: &str,
+) -> Result<Error, AllocError> {
+    let mut command = shown(alloc, subcommand)?;
+    command.error(kind, why)
+}
+
+// What words ask for, with the shape files before and behind the command, and with the file that is
+// given to it in place of its standard input.
+#[derive(Clone, Copy)]
+struct Asked<'a> {
+    task: Task,
+    before: Option<&'a str>,
+    behind: Option<&'a str>,
+    file: Option<&'a str>,
+}
+
+// What the words ask for that were found to be these.
+fn asked_for<'a>(subcommand: Subcommand, matches: &ArgMatches<'a>) -> Asked<'a>
+    ensures { IsInRange result.task }
+{
+    let shape = matches.get_str("shape");
+    match matches.subcommand() {
+        Some((_, rest)) => Asked {
+            task: task_of(subcommand, rest),
+            before: shape,
+            behind: rest.get_str("shape"),
+            file: rest.get_str(FILE),
+        },
+        None => Asked {
+            task: Task::Run,
+            before: shape,
+            behind: None,
+            file: None,
+        },
+    }
+}
+
+// What is asked for, if it can be done.
+fn allowed<'a>(
+    alloc: Global,
+    subcommand: Subcommand,
+    asked: Asked<'a>,
+) -> Result<CommandLine<'a>, Error>
+    requires { IsInRange asked.task }
+    ensures { IfOk result (λ asked. IsInRange asked.task) }
+{
+    match conflict(asked.task, asked.before, asked.behind) {
+        Some(why) => Err(refusal(alloc, subcommand, ErrorKind::ArgumentConflict, why)?),
+        None => Ok(CommandLine {
+            task: asked.task,
+            shape_file: asked.before.or(asked.behind),
+        }),
+    }
+}
+
+// What the words are found to be.
+fn matches_of<'a>(
+    alloc: Global,
+    words: &'a [&'a str],
+    takes_file: bool,
+) -> Result<ArgMatches<'a>, Error> {
+    program(alloc, takes_file)?.try_get_matches_from(words)
+}
+
+// The refusal of a file's name: what to write.
+fn file_refusal(alloc: Global, subcommand: Subcommand, file: &str) -> Result<Error, AllocError> {
+    let input = subcommand.input();
+    let why = format!(in alloc;
+        "unexpected argument '{file}' found\n\n  tip: {input} is read from standard input: write '< FILE'"
+    )?;
+    refusal(alloc, subcommand, ErrorKind::UnknownArgument, why.as_str())
+}
+
+// The refusal of words that would be right but for a file's name among them.
+fn told_of_file<'a>(alloc: Global, matches: &ArgMatches<'a>) -> Result<Option<Error>, AllocError> {
+    let subcommand = subcommand_of(matches);
+    match asked_for(subcommand, matches).file {
+        Some(file) => Ok(Some(file_refusal(alloc, subcommand, file)?)),
+        None => Ok(None),
+    }
+}
+
+// What is told in place of an argument that is unknown.
+fn told_of<'a>(alloc: Global, words: &'a [&'a str]) -> Result<Option<Error>, Error> {
+    match matches_of(alloc, words, true) {
+        Ok(matches) => Ok(told_of_file(alloc, &matches)?),
+        Err(error) if error.kind() == ErrorKind::OutOfMemory => Err(error),
+        Err(_) => Ok(None),
+    }
+}
+
 /// Reads the words behind the program's name. Help and the version come as an error too, which
 /// says that it belongs on the standard output.
 pub(crate) fn read_words<'a>(alloc: Global, words: &'a [&'a str]) -> Result<CommandLine<'a>, Error>
     ensures { IfOk result (λ asked. IsInRange asked.task) }
 {
-    let mut command = program(alloc)?;
-    let matches = command.try_get_matches_from_mut(words)?;
-    let before = matches.get_str("shape");
-    let (task, behind, trace) = match matches.subcommand() {
-        Some(("check", rest)) => (Task::Check, rest.get_str("shape"), rest.get_str(TRACE)),
-        Some(("sweep", rest)) => (sweep_task(rest), rest.get_str("shape"), rest.get_str(TRACE)),
-        Some(("explain", rest)) => (Task::Explain, rest.get_str("shape"), rest.get_str(TRACE)),
-        Some(("drive", rest)) => (drive_task(rest), rest.get_str("shape"), rest.get_str(TRACE)),
-        Some(("requests", rest)) => (requests_task(rest), None, rest.get_str(TRACE)),
-        Some(("show", rest)) => (show_task(rest), rest.get_str("shape"), rest.get_str(TRACE)),
-        Some((_, rest)) => (Task::Run, rest.get_str("shape"), rest.get_str(TRACE)),
-        None => (Task::Run, None, None),
-    };
-    if trace.is_some() {
-        let told = "the trace is read from standard input: write '< FILE'";
-        return Err(command.error(ErrorKind::UnknownArgument, told)?);
+    match matches_of(alloc, words, false) {
+        Ok(matches) => {
+            let subcommand = subcommand_of(&matches);
+            allowed(alloc, subcommand, asked_for(subcommand, &matches))
+        }
+        Err(error) if error.kind() == ErrorKind::UnknownArgument => {
+            Err(told_of(alloc, words)?.unwrap_or(error))
+        }
+        Err(error) => Err(error),
     }
-    if let Some(told) = conflict(task, before, behind) {
-        return Err(command.error(ErrorKind::ArgumentConflict, told)?);
-    }
-    Ok(CommandLine {
-        task,
-        shape_file: before.or(behind),
-    })
 }

@@ -3,7 +3,9 @@
 #![tactic(auto)]
 
 mod command_line;
+mod commands;
 mod fault;
+mod notes;
 mod program;
 
 pub use program::tool;

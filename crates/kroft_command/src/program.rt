@@ -3,8 +3,9 @@
 ghost use Rattle.std.specs.Prelude.{◌≤◌, IfOk, IfSome};
 ghost use Rattle.access_logs.specs.declared.writing.TheConstants.{MAX_WORDS};
 ghost use Rattle.round_driver.specs.declared.driving.TheConstants.{MOST_LATENCY};
+ghost use Rattle.kroft_command.specs.Tool.{IsInRange};
 
-use crate::command_line::{LogName, Task, read_words};
+use crate::command_line::{CommandLine, LogName, Task, read_words};
 use crate::fault::ToolFault;
 use access_logs::{Din, Lackey, write_requests};
 use clap::error::ErrorKind;
@@ -63,22 +64,39 @@ fn work<R: AllocGlobal + Files + Threads + Sync, I: Read, O: Write>(
 ) -> Result<u8, ToolFault>
     ensures { IfOk result (λ status. status ≤ 1) }
 {
-    let asked = match read_words(rt.alloc(), words) {
-        Ok(asked) => asked,
-        Err(error) if error.kind() == ErrorKind::OutOfMemory => {
-            return Err(ToolFault::Job(JobFault::OutOfMemory));
-        }
-        Err(error) if error.use_stderr() => return Err(ToolFault::CommandLine(error)),
-        Err(help) => {
-            put(output, help)?;
-            finish(output)?;
-            return Ok(0);
-        }
-    };
-    let shape = match asked.shape_file {
-        Some(path) => shape_of_file(rt, path)?,
-        None => ToolShape::default(),
-    };
+    match read_words(rt.alloc(), words) {
+        Ok(asked) => perform(rt, asked, input, output),
+        Err(error) => told(error, output),
+    }
+}
+
+// What becomes of words that ask for no job: help and the version are written, and any other words
+// were refused.
+fn told<O: Write>(error: clap::Error, output: &mut O) -> Result<u8, ToolFault>
+    ensures { IfOk result (λ status. status ≤ 1) }
+{
+    if error.kind() == ErrorKind::OutOfMemory {
+        return Err(ToolFault::Job(JobFault::OutOfMemory));
+    }
+    if error.use_stderr() {
+        return Err(ToolFault::CommandLine(error));
+    }
+    put(output, error)?;
+    finish(output)?;
+    Ok(0)
+}
+
+// Does the task on a machine of the shape that is asked for.
+fn perform<R: AllocGlobal + Files + Threads + Sync, I: Read, O: Write>(
+    rt: &R,
+    asked: CommandLine<'_>,
+    input: &mut I,
+    output: &mut O,
+) -> Result<u8, ToolFault>
+    requires { IsInRange asked.task }
+    ensures { IfOk result (λ status. status ≤ 1) }
+{
+    let shape = shape_of(rt, asked.shape_file)?;
     let status = match asked.task {
         Task::Run => run(rt.alloc(), &shape, input, output)?,
         Task::Check => check(rt.alloc(), &shape, input, output)?,
@@ -91,6 +109,14 @@ fn work<R: AllocGlobal + Files + Threads + Sync, I: Read, O: Write>(
         Task::Show { form } => show(rt.alloc(), &shape, form, input, output)?,
     };
     Ok(status)
+}
+
+// The shape of the machine: that of the file, if one is named.
+fn shape_of<R: AllocGlobal + Files>(rt: &R, file: Option<&str>) -> Result<ToolShape, JobFault> {
+    match file {
+        Some(path) => shape_of_file(rt, path),
+        None => Ok(ToolShape::default()),
+    }
 }
 
 // The shape that a file describes.

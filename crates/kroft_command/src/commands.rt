@@ -1,0 +1,341 @@
+//! The program's commands: their words, their options, and what their help says.
+
+use crate::notes::{
+    CHECK_NOTES, DRIVE_NOTES, EXPLAIN_NOTES, PROGRAM_NOTES, REQUESTS_NOTES, RUN_NOTES, SHOW_NOTES,
+    SWEEP_NOTES,
+};
+use access_logs::MAX_WORDS;
+use clap::{Arg, ArgAction, Command};
+use round_driver::MOST_LATENCY;
+use std::alloc::{AllocError, Global};
+
+/// What the user calls the program.
+const PROGRAM: &str = "kroft";
+
+/// The name of the argument for the latency of rounds.
+pub(crate) const LATENCY: &str = "latency";
+
+/// The name of the argument that stands for files' names.
+pub(crate) const FILE: &str = "file";
+
+/// A command of the program.
+#[derive(Clone, Copy)]
+pub(crate) enum Subcommand {
+    Run,
+    Check,
+    Sweep,
+    Explain,
+    Drive,
+    Requests,
+    Show,
+}
+
+/// The commands, in the order in which help lists them.
+const SUBCOMMANDS: [Subcommand; 7] = [
+    Subcommand::Run,
+    Subcommand::Check,
+    Subcommand::Sweep,
+    Subcommand::Explain,
+    Subcommand::Drive,
+    Subcommand::Requests,
+    Subcommand::Show,
+];
+
+impl Subcommand {
+    /// The command of this word.
+    pub(crate) fn of(word: &str) -> Option<Subcommand> {
+        match word {
+            "run" => Some(Subcommand::Run),
+            "check" => Some(Subcommand::Check),
+            "sweep" => Some(Subcommand::Sweep),
+            "explain" => Some(Subcommand::Explain),
+            "drive" => Some(Subcommand::Drive),
+            "requests" => Some(Subcommand::Requests),
+            "show" => Some(Subcommand::Show),
+            _ => None,
+        }
+    }
+
+    // Its word.
+    fn word(self) -> &'static str {
+        match self {
+            Subcommand::Run => "run",
+            Subcommand::Check => "check",
+            Subcommand::Sweep => "sweep",
+            Subcommand::Explain => "explain",
+            Subcommand::Drive => "drive",
+            Subcommand::Requests => "requests",
+            Subcommand::Show => "show",
+        }
+    }
+
+    // What it is called in a usage line of its own.
+    fn full_name(self) -> &'static str {
+        match self {
+            Subcommand::Run => "kroft run",
+            Subcommand::Check => "kroft check",
+            Subcommand::Sweep => "kroft sweep",
+            Subcommand::Explain => "kroft explain",
+            Subcommand::Drive => "kroft drive",
+            Subcommand::Requests => "kroft requests",
+            Subcommand::Show => "kroft show",
+        }
+    }
+
+    /// What it reads from standard input.
+    pub(crate) fn input(self) -> &'static str {
+        match self {
+            Subcommand::Check | Subcommand::Explain => "the recorded run",
+            Subcommand::Requests => "the log",
+            _ => "the trace",
+        }
+    }
+
+    // What it does, in a line.
+    fn about(self) -> &'static str {
+        match self {
+            Subcommand::Run => "Serve a trace on a new machine",
+            Subcommand::Check => "Tell whether a recorded run is one of flat memory",
+            Subcommand::Sweep => "Count what requests wait for with 1, 2, 4 and 8 registers",
+            Subcommand::Explain => "Say why a recorded run is none of flat memory",
+            Subcommand::Drive => "Drive requests in rounds, with a latency of memory",
+            Subcommand::Requests => "Write the loads and stores of a log of accesses as a trace",
+            Subcommand::Show => "Draw the machine at each event of a trace, as a page",
+        }
+    }
+
+    // What its help says below its options.
+    fn notes(self) -> &'static str {
+        match self {
+            Subcommand::Run => RUN_NOTES,
+            Subcommand::Check => CHECK_NOTES,
+            Subcommand::Sweep => SWEEP_NOTES,
+            Subcommand::Explain => EXPLAIN_NOTES,
+            Subcommand::Drive => DRIVE_NOTES,
+            Subcommand::Requests => REQUESTS_NOTES,
+            Subcommand::Show => SHOW_NOTES,
+        }
+    }
+}
+
+// The argument for the shape file. It may stand before or behind the command.
+fn shape_argument<'a>(alloc: Global) -> Arg<'a> {
+    Arg::new(alloc, "shape")
+        .long("shape")
+        .value_name("FILE")
+        .action(ArgAction::Set)
+        .help("The TOML file with the machine's numbers")
+}
+
+// The argument for the latency of rounds.
+fn latency_argument<'a>(alloc: Global, help: &'a str) -> Arg<'a> {
+    Arg::new(alloc, LATENCY)
+        .long(LATENCY)
+        .value_name("L")
+        .action(ArgAction::Set)
+        .value_parser(clap::value_parser!(u64).range(0..=MOST_LATENCY as i64))
+        .help(help)
+}
+
+// An argument that is given or not.
+fn flag<'a>(alloc: Global, name: &'a str, help: &'a str) -> Arg<'a> {
+    Arg::new(alloc, name)
+        .long(name)
+        .action(ArgAction::SetTrue)
+        .help(help)
+}
+
+// The argument for lines in place of a page.
+fn text_argument<'a>(alloc: Global) -> Arg<'a> {
+    flag(
+        alloc,
+        "text",
+        "Write lines for a terminal in place of the page",
+    )
+}
+
+// The argument for a waveform in place of a page.
+fn waveform_argument<'a>(alloc: Global) -> Result<Arg<'a>, AllocError> {
+    flag(alloc, "vcd", "Write a waveform in place of the page").conflicts_with("text")
+}
+
+// The argument for what wrote a log.
+fn log_argument<'a>(alloc: Global, is_required: bool) -> Arg<'a> {
+    Arg::new(alloc, "from")
+        .long("from")
+        .value_name("FORMAT")
+        .action(ArgAction::Set)
+        .required(is_required)
+        .value_parser(["lackey", "din"].as_slice())
+        .help("What wrote the log")
+}
+
+// The argument for the words of memory.
+fn words_argument<'a>(alloc: Global) -> Arg<'a> {
+    Arg::new(alloc, "words")
+        .long("words")
+        .value_name("N")
+        .action(ArgAction::Set)
+        .value_parser(clap::value_parser!(u32).range(1..=MAX_WORDS as i64))
+        .help("Words of memory, a multiple of 4, at most 1048576 [default: 1048576]")
+}
+
+// The names of files, where a user gives some.
+fn file_argument<'a>(alloc: Global) -> Arg<'a> {
+    Arg::new(alloc, FILE)
+        .action(ArgAction::Set)
+        .num_args(1..)
+        .hide(true)
+}
+
+// The argument for the latency of a sweep.
+fn sweep_latency<'a>(alloc: Global) -> Arg<'a> {
+    latency_argument(
+        alloc,
+        "Count rounds, with this many from a command's begin to its service, 0 to 1000",
+    )
+}
+
+// The argument for the latency of a drive.
+fn drive_latency<'a>(alloc: Global) -> Arg<'a> {
+    latency_argument(
+        alloc,
+        "Rounds from a command's begin to its service, 0 to 1000 [default: 10]",
+    )
+}
+
+// Adds the options of `drive` alone.
+fn push_drive<'a>(alloc: Global, args: &mut Vec<Arg<'a>>) -> Result<(), AllocError> {
+    args.push(drive_latency(alloc))?;
+    args.push(flag(alloc, "summary", "Write counts in place of the run"))?;
+    Ok(())
+}
+
+// Adds the options of `requests`. It knows no shape.
+fn push_requests<'a>(
+    alloc: Global,
+    args: &mut Vec<Arg<'a>>,
+    takes_file: bool,
+) -> Result<(), AllocError> {
+    args.push(log_argument(alloc, !takes_file))?;
+    args.push(words_argument(alloc))?;
+    Ok(())
+}
+
+// Adds the options of `show` alone.
+fn push_show<'a>(alloc: Global, args: &mut Vec<Arg<'a>>) -> Result<(), AllocError> {
+    args.push(text_argument(alloc))?;
+    args.push(waveform_argument(alloc)?)?;
+    Ok(())
+}
+
+// Adds the options that only one command takes.
+fn push_own_options<'a>(
+    alloc: Global,
+    args: &mut Vec<Arg<'a>>,
+    subcommand: Subcommand,
+    takes_file: bool,
+) -> Result<(), AllocError> {
+    match subcommand {
+        Subcommand::Run | Subcommand::Check | Subcommand::Explain => Ok(()),
+        Subcommand::Sweep => push_argument(args, sweep_latency(alloc)),
+        Subcommand::Drive => push_drive(alloc, args),
+        Subcommand::Requests => push_requests(alloc, args, takes_file),
+        Subcommand::Show => push_show(alloc, args),
+    }
+}
+
+fn push_argument<'a>(args: &mut Vec<Arg<'a>>, arg: Arg<'a>) -> Result<(), AllocError> {
+    Ok(args.push(arg)?)
+}
+
+// Adds the argument for the shape file. Only `requests` takes none.
+fn push_shape<'a>(
+    alloc: Global,
+    args: &mut Vec<Arg<'a>>,
+    subcommand: Subcommand,
+) -> Result<(), AllocError> {
+    match subcommand {
+        Subcommand::Requests => Ok(()),
+        _ => push_argument(args, shape_argument(alloc)),
+    }
+}
+
+// The options of a command, and the name of a file behind them if one is taken.
+fn arguments_of<'a>(
+    alloc: Global,
+    subcommand: Subcommand,
+    takes_file: bool,
+) -> Result<Vec<Arg<'a>>, AllocError> {
+    let mut args = Vec::new(alloc);
+    push_shape(alloc, &mut args, subcommand)?;
+    push_own_options(alloc, &mut args, subcommand, takes_file)?;
+    if takes_file {
+        push_argument(&mut args, file_argument(alloc))?;
+    }
+    Ok(args)
+}
+
+// A command of these words and options.
+fn command_with<'a>(
+    alloc: Global,
+    args: Vec<Arg<'a>>,
+    name: &'a str,
+    about: &'a str,
+    notes: &'a str,
+) -> Result<Command<'a>, AllocError> {
+    Command::new(alloc, name)
+        .about(about)
+        .after_help(notes)
+        .args(args)
+}
+
+// A command with its options.
+fn command_of<'a>(
+    alloc: Global,
+    subcommand: Subcommand,
+    takes_file: bool,
+) -> Result<Command<'a>, AllocError> {
+    let args = arguments_of(alloc, subcommand, takes_file)?;
+    command_with(
+        alloc,
+        args,
+        subcommand.word(),
+        subcommand.about(),
+        subcommand.notes(),
+    )
+}
+
+/// One of the commands, as its refusals show it.
+pub(crate) fn shown<'a>(alloc: Global, subcommand: Subcommand) -> Result<Command<'a>, AllocError> {
+    let command = command_of(alloc, subcommand, false)?;
+    Ok(command.name(subcommand.full_name()))
+}
+
+// All commands.
+fn commands<'a>(alloc: Global, takes_file: bool) -> Result<Vec<Command<'a>>, AllocError> {
+    let mut commands = Vec::new(alloc);
+    for subcommand in SUBCOMMANDS {
+        commands.push(command_of(alloc, subcommand, takes_file)?)?;
+    }
+    Ok(commands)
+}
+
+// The program without its commands.
+fn base<'a>(alloc: Global) -> Result<Command<'a>, AllocError> {
+    Command::new(alloc, PROGRAM)
+        .version("0.1.0")
+        .about("A lockup-free cache that goes on serving while blocks are missing")
+        .after_help(PROGRAM_NOTES)
+        .no_binary_name(true)
+        .subcommand_required(true)
+        .disable_help_subcommand(true)
+        .arg(shape_argument(alloc))
+}
+
+/// The program's whole command line. No command takes a file's name: only to tell of one are they
+/// made as if they did.
+pub(crate) fn program<'a>(alloc: Global, takes_file: bool) -> Result<Command<'a>, AllocError> {
+    let commands = commands(alloc, takes_file)?;
+    base(alloc)?.bin_name(PROGRAM)?.subcommands(commands)
+}

@@ -1,0 +1,220 @@
+//! What the help of the program and of its commands says below their options.
+
+pub(crate) const PROGRAM_NOTES: &str =
+    "Each command reads standard input and writes standard output: `kroft run < FILE`.
+A fault is one line on standard error. `kroft run --help` lists the lines of a trace.
+
+Statuses:
+  0  done, or help was asked for
+  1  check or explain found an answer that flat memory doesn't explain
+  2  the command line is wrong
+  3  the shape file is wrong
+  4  the input is wrong, or a stream failed
+  5  there is too little memory
+
+Keys of a shape file, a TOML table of whole numbers:
+  words        1 to 1048576, a multiple of 4        default 64
+  sets         1 to 1024                            default 4
+  ways         1 or 2                               default 2
+  regs         1, 2, 4 or 8                         default 4
+  banks        1 to 16                              default 4
+  bank_queue   4 / banks, rounded up, to 64         default 8
+  write_queue  4 to 256                             default 8
+  replies      1 to 64                              default 8
+
+Example:
+  $ echo 'load 1 4' | kroft run
+  load 1 4 -> accepted";
+
+pub(crate) const RUN_NOTES: &str = "Reads a trace from standard input, one event a line:
+  load TAG AT           load the word at AT under a tag
+  store AT MASK WORD    store the bytes of a word that the mask names
+  prefetch AT           bring the block of a word in
+  evict BLOCK           give a block's frame up
+  drain                 send the front of the write queue to its bank
+  serve BANK            let a bank serve its first command
+  arrive BANK PLACE     move a bank's answer into the input stack
+  process PLACE         take a word of the input stack
+  take PLACE            take a ready value
+  reg SLOT              show a miss register
+  bank AT               show a word as its bank has it
+  settled               show whether nothing is on its way
+Writes each line with ' -> ' and its answer behind it.
+
+A tag is 0 to 65535, any other number 0 to 4294967295, with no zero in front. A mask is four
+digits 0 or 1, byte 0 first. A word is eight digits 0 to 9 or a to f, byte 0 first. One space
+stands between the words of a line, and an LF at its end: no comment, no empty line, no CR.
+A line has at most 64 bytes, a trace at most 16777216 lines.
+
+'reg' shows a register as
+  V- 0000001 0001 00 [--- 0000 00000 0000 00000000] [1-- 0100 00001 0100 00aa0000] ..
+V: it is in use, O: its block was given up; then the block, the frame and how many words of it
+were processed. For each word: how many loads wait for it (or -), I: it stands in the input stack,
+P: it was processed; the bytes that the arriving word leaves alone; and of the first load that
+waits its tag, the bytes that it holds already, and their values.
+
+Statuses: 0 all lines were served, 2 the command line is wrong, 3 the shape file is wrong,
+4 a line is faulty or a stream failed, 5 there is too little memory.
+
+Example:
+  $ printf 'load 1 4\\nserve 0\\n' | kroft run
+  load 1 4 -> accepted
+  serve 0 -> moved";
+
+pub(crate) const CHECK_NOTES: &str =
+    "Reads lines from standard input as 'run' writes them, from whatever machine or simulator:
+a line of a trace ('kroft run --help' explains them), ' -> ', and its answer. The lines:
+  load TAG AT, store AT MASK WORD, prefetch AT, evict BLOCK, drain, serve BANK,
+  arrive BANK PLACE, process PLACE, take PLACE, reg SLOT, bank AT, settled
+The answers:
+  accepted, moved, nothing, refused N (1 to 13), value TAG WORD
+What stands behind the ' -> ' of 'reg', 'bank' and 'settled' is passed over. A line has at
+most 768 bytes.
+Writes 'flat run, N steps', or 'mismatch at line N' for the first line that flat memory
+doesn't explain. Flat memory is words with no cache: a load is owed the word as it stood when the
+load was accepted. Memory begins with zeros; of a shape file only the words matter.
+
+Statuses: 0 the run is flat, 1 it isn't, 2 the command line is wrong, 3 the shape file is wrong,
+4 a line is faulty or a stream failed, 5 there is too little memory.
+
+Example:
+  $ echo 'take 0 -> value 1 00000000' | kroft check
+  mismatch at line 1";
+
+pub(crate) const SWEEP_NOTES: &str =
+    "Reads a trace from standard input ('kroft run --help' lists its lines), and keeps its
+  load TAG AT, store AT MASK WORD, prefetch AT and evict BLOCK
+The other lines are passed over: drain, serve BANK, arrive BANK PLACE, process PLACE, take PLACE,
+reg SLOT, bank AT, settled.
+Writes a row for 1, 2, 4 and 8 registers: how many requests were accepted, denied and stalled,
+how many pumps the stalled ones waited for, and how many pumps and values there were in all.
+A pump is one step of the machine's own driver: it counts work, and not time, and stalled
+requests wait one after another. So on a long trace the rows hardly differ. A shape file's
+number of registers isn't used.
+With --latency L the requests are driven in rounds instead ('kroft drive --help' describes them),
+and each row has 'regs N' and the counts of 'drive --latency L --summary' with N registers.
+
+Statuses: 0 done, 2 the command line is wrong, 3 the shape file is wrong, 4 a line is faulty or a
+stream failed, 5 there is too little memory. (The limit of turns that a sweep has for callers
+with a gate of their own can't be reached here: the program's gate is always open.)
+
+Example:
+  $ echo 'load 1 0' | kroft sweep
+  regs 1 accepted 1 denied 0 stalled 0 waited 0 pumps 13 values 1
+  regs 2 accepted 1 denied 0 stalled 0 waited 0 pumps 13 values 1
+  regs 4 accepted 1 denied 0 stalled 0 waited 0 pumps 13 values 1
+  regs 8 accepted 1 denied 0 stalled 0 waited 0 pumps 13 values 1";
+
+pub(crate) const EXPLAIN_NOTES: &str =
+    "Reads lines from standard input as 'check' does ('kroft check --help' describes them), up to the
+first line that flat memory doesn't explain, and says why: which load the value belongs to,
+what it is owed, and which lines stored its bytes. A faulty line ends it too. On a pipe that is
+still being written the answer comes with the line; a run may have any number of lines.
+Writes 'flat run, N steps', or 'mismatch at line N: LINE' and its reason, in at most six lines.
+Memory begins with zeros; of a shape file only the words matter.
+
+Statuses: 0 the run is flat, 1 it isn't, 2 the command line is wrong, 3 the shape file is wrong,
+4 a line is faulty or a stream failed, 5 there is too little memory.
+
+Example:
+  $ echo 'take 0 -> value 1 00000000' | kroft explain
+  mismatch at line 1: take 0 -> value 1 00000000
+  tag 1 is owed nothing: it was never loaded";
+
+pub(crate) const DRIVE_NOTES: &str =
+    "Reads a trace from standard input ('kroft run --help' lists its lines), keeps its
+  load TAG AT, store AT MASK WORD, prefetch AT and evict BLOCK
+and makes rounds over a new machine until all are accepted or denied and nothing is on its way.
+A round makes, in this order:
+  each bank, by number, that has a command and isn't busy begins it, and one begun L rounds
+  before is served; one answer arrives, from the next bank that has one, if the stack has room;
+  'process 0', 'take 0' and 'drain', each if possible; the request at hand is asked once
+A request that is accepted, or refused with 1, 2 or 11, is followed by the next one; one that is
+refused with 3 to 10 is asked again in the next round. A round is a step of this schedule, and no
+time of any hardware.
+Writes each request with its answer, and each other event that did something, as 'check' reads
+them. With --summary, in their place, one line of counts: rounds, the last of which moves nothing;
+requests accepted and denied; of those accepted how many found their word at hand (hits) or on its
+way (joins), or asked for its block (misses); requests that stalled; rounds lost by each cause;
+loads answered, their mean and longest wait in rounds; the most registers in use at once; words
+written back.
+
+Statuses: 0 done, 2 the command line is wrong, 3 the shape file is wrong, 4 a line is faulty or a
+stream failed, 5 there is too little memory.
+
+Example:
+  $ echo 'load 1 0' | kroft drive
+  load 1 0 -> accepted
+  serve 0 -> moved
+  serve 1 -> moved
+  serve 2 -> moved
+  serve 3 -> moved
+  arrive 0 0 -> moved
+  process 0 -> moved
+  take 0 -> value 1 00000000
+  arrive 1 0 -> moved
+  process 0 -> moved
+  arrive 2 0 -> moved
+  process 0 -> moved
+  arrive 3 0 -> moved
+  process 0 -> moved";
+
+pub(crate) const REQUESTS_NOTES: &str =
+    "Reads a log of a program's memory accesses from standard input, and writes its requests, as
+'drive' and 'sweep' read them: 'load TAG AT' and 'store AT MASK WORD'.
+  lackey  what 'valgrind --tool=lackey --trace-mem=yes' writes: ' L ADDRESS,SIZE' is a load,
+          ' S ADDRESS,SIZE' a store, ' M ADDRESS,SIZE' a load and then a store; a size is 1 to 512
+  din     Dinero's: '0 ADDRESS' is a load and '1 ADDRESS' a store of the address's whole word
+Addresses are hexadecimal, with small letters and below 2^64. The machine is a data cache, so the
+fetches of instructions ('I  ADDRESS,SIZE', '2 ADDRESS') are passed over; so are valgrind's own
+lines, which begin with '==', '--' or '**'. A line has at most 768 bytes, a log 16777216 lines.
+
+One line is written for each word of 4 bytes that an access touches, ascending. Tags go from 0 to
+65535, and again from 0. A log has no data: a stored byte is its address and the number of the
+line, added, modulo 256; bytes that the mask leaves out are 00. Each page of 4096 bytes becomes
+1024 words of memory, in the order of first touch. With --words N memory has N words, rounded down
+to whole pages; the first page that has no room ends the work, and the fault says which N would do.
+Give 'drive' and 'sweep' a shape with as many words.
+
+Statuses: 0 done, 2 the command line is wrong, 4 a line is faulty, a page has no room or a stream
+failed, 5 there is too little memory. What is due for the lines before a fault is written.
+
+Example:
+  $ echo ' M 04222cac,4' | kroft requests --from lackey
+  load 0 811
+  store 811 1111 adaeafb0";
+
+pub(crate) const SHOW_NOTES: &str =
+    "Reads a trace from standard input ('kroft run --help' lists its lines) and applies its events, 10000
+at most, to a new machine. Lines that only show something are passed over.
+Writes a page of HTML, which needs no other file and no network: the machine before the first
+event and behind each, with what the event changed, and why, in words. Left and right, Home and
+End step through it, and the space bar plays.
+With --text, in its place, lines of at most 80 columns for a terminal: * stands before what the
+step changed. With --vcd, a waveform (a value change dump) with one unit of time an event.
+A page has some 50 to 350 bytes an event, and 630 for a miss. It shows the first 256 words of memory.
+
+Statuses: 0 done, 2 the command line is wrong, 3 the shape file is wrong, 4 a line is faulty, there
+are too many events or a stream failed, 5 there is too little memory.
+
+Example:
+  $ echo 'load 1 4' | kroft show --text
+  step 0: the machine before the first event
+
+  step 1: load 1 4 -> accepted
+    a miss: a register is taken, and block 1's words are asked for
+  * register 0         valid, block 1, frame 2, words came: 0
+  *   word 0           missing
+  *     load           tag 1 is owed 00000000
+  *   word 1           missing
+  *   word 2           missing
+  *   word 3           missing
+  * frame 2            block 1, pending
+  *   word 0           00000000
+  *   word 1           00000000
+  *   word 2           00000000
+  *   word 3           00000000
+  * bank 0 command 0   read place 1: register 0, word 0
+  * bank 1 command 0   read place 1: register 0, word 1
+  * bank 2 command 0   read place 1: register 0, word 2
+  * bank 3 command 0   read place 1: register 0, word 3";
