@@ -3,11 +3,11 @@
 //! its example. With memory, as in a whole run of the tests, the first call gives that answer.
 
 use super::fixture::{
-    PROGRAM_SHAPE, SMALL_SHAPE, STORED_COUNTS, STORED_INPUT, STORED_OUTPUT, numbered, same,
+    PROGRAM_SHAPE, SMALL_SHAPE, STORED_COUNTS, STORED_INPUT, STORED_OUTPUT, ZERO, numbered, same,
 };
 use cache_directory::Directory;
 use cache_unit::CacheUnit;
-use flat_model::{Answer, Event, FlatMemory, Lanes, MakeFault, ReplayFault, ShapeField, Word};
+use flat_model::{Answer, Event, FlatMemory, Lanes, MakeFault, ReplayFault, ShapeField};
 use machine_core::Machine;
 use memory_banks::Banks;
 use miss_registers::RegisterFile;
@@ -17,15 +17,6 @@ use std::process::Abort;
 use std::test::Fail;
 use trace_text::{CheckEnd, TraceFault, check_text, read_requests, serve_text};
 use write_queue::WriteQueue;
-
-/// The words of the small image: the first byte of each is its number. It takes no memory.
-fn small_image() -> [Word; 32] {
-    let mut image = [Word::default(); 32];
-    for (word, b0) in image.iter_mut().zip(0u8..) {
-        word.b0 = b0;
-    }
-    image
-}
 
 /// Asserts of two calls of a maker that one made something, and that the other did too or found no
 /// memory.
@@ -43,7 +34,7 @@ fn makes<R: Abort, T: Drop>(rt: &R, first: Result<T, MakeFault>, second: Result<
 fn makers_may_find_no_memory(rt: HostRuntime) -> Result<(), Fail> {
     let alloc = rt.alloc();
     let shape = SMALL_SHAPE;
-    let image = small_image();
+    let image = [ZERO; 32];
     let first = Directory::<1, 4>::new(alloc, 2);
     makes(&rt, first, Directory::new(alloc, 2));
     let first = RegisterFile::<4, 2>::new(alloc);
@@ -93,13 +84,13 @@ fn replay_may_find_no_memory(rt: HostRuntime) -> Result<(), Fail> {
 #[test]
 fn some_refusals_come_before_memory(rt: HostRuntime) -> Result<(), Fail> {
     let alloc = rt.alloc();
-    if let Ok(mut memory) = FlatMemory::new(alloc, &small_image()) {
+    if let Ok(mut memory) = FlatMemory::new(alloc, &[ZERO; 32]) {
         let uneven = memory.replay(alloc, &[Event::Drain], &[]);
         same(&rt, "the lengths", uneven, Err(ReplayFault::Lengths));
     }
     let mut short_banks = SMALL_SHAPE;
     short_banks.bank_queue = 1;
-    let refused = Machine::<1, 4, 2, 2>::new(alloc, short_banks, &small_image());
+    let refused = Machine::<1, 4, 2, 2>::new(alloc, short_banks, &[ZERO; 32]);
     let fault = MakeFault::BadShape(ShapeField::BankQueue);
     assert!(rt; matches!(refused, Err(found) if found == fault));
     Ok(())
@@ -108,7 +99,9 @@ fn some_refusals_come_before_memory(rt: HostRuntime) -> Result<(), Fail> {
 #[test]
 fn run_may_find_no_memory(rt: HostRuntime) -> Result<(), Fail> {
     let alloc = rt.alloc();
-    let Ok(mut machine) = Machine::<1, 4, 2, 2>::new(alloc, SMALL_SHAPE, &small_image()) else {
+    let mut image = [ZERO; 32];
+    image[5] = numbered(5);
+    let Ok(mut machine) = Machine::<1, 4, 2, 2>::new(alloc, SMALL_SHAPE, &image) else {
         return Ok(());
     };
     let events = [
@@ -137,7 +130,7 @@ fn run_may_find_no_memory(rt: HostRuntime) -> Result<(), Fail> {
 #[test]
 fn serving_may_find_no_memory(rt: HostRuntime) -> Result<(), Fail> {
     let alloc = rt.alloc();
-    let image = [Word::default(); 64];
+    let image = [ZERO; 64];
     let Ok(mut machine) = Machine::<2, 4, 4, 4>::new(alloc, PROGRAM_SHAPE, &image) else {
         return Ok(());
     };

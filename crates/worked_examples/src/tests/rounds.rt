@@ -3,20 +3,14 @@
 use super::fixture::{ZERO, same};
 use machine_core::{Event, Machine, Shape};
 use round_driver::{LostRounds, Table, drive, summarize};
-use std::alloc::{AllocError, Global};
+use std::alloc::Global;
 use std::test::Fail;
-use trace_text::{CheckEnd, check_text};
+use trace_text::{CheckEnd, check_text, read_requests};
 
 // A new machine over zeros.
-fn machine<const REGS: usize>(
-    alloc: Global,
-    shape: Shape,
-) -> Result<Machine<2, 4, REGS, 4>, AllocError> {
+fn machine<const REGS: usize>(alloc: Global, shape: Shape) -> Result<Machine<2, 4, REGS, 4>, Fail> {
     let image = vec![in alloc; ZERO; shape.words as usize]?;
-    match Machine::new(alloc, shape, image.as_slice()) {
-        Ok(machine) => Ok(machine),
-        Err(_) => Err(AllocError),
-    }
+    Ok(Machine::new(alloc, shape, &image)?)
 }
 
 // The program's shape with shorter queues.
@@ -39,7 +33,7 @@ const WIDE_SHAPE: Shape = Shape {
 };
 
 // The rounds of these requests with latency 20 and this many registers.
-fn rounds_of<const REGS: usize>(alloc: Global, requests: &[Event; 400]) -> Result<u64, AllocError> {
+fn rounds_of<const REGS: usize>(alloc: Global, requests: &[Event; 400]) -> Result<u64, Fail> {
     let mut machine = machine::<REGS>(alloc, WIDE_SHAPE)?;
     let table = summarize(alloc, &mut machine, 20, requests)?;
     Ok(table.rounds)
@@ -171,6 +165,7 @@ const TABLES: &[Rounds] = &[
 fn tables_of_rounds(rt: HostRuntime) -> Result<(), Fail> {
     for rounds in TABLES {
         let name = rounds.name;
+        assert!(rt; rounds.requests.len() <= 4);
         let mut machine = machine::<1>(rt.alloc(), NARROW_SHAPE)?;
         let table = summarize(rt.alloc(), &mut machine, rounds.latency, rounds.requests)?;
         same(&rt, name, table, rounds.table);
@@ -211,15 +206,94 @@ process 0 -> moved
     Ok(())
 }
 
-// Forty loads all over memory, and behind each an eviction of its block.
+// Forty loads all over memory, each 7 words behind the last one, and behind each an eviction of its block.
+const LOADS_AND_EVICTIONS: &str = "load 0 0
+evict 0
+load 1 7
+evict 1
+load 2 14
+evict 3
+load 3 21
+evict 5
+load 4 28
+evict 7
+load 5 35
+evict 8
+load 6 42
+evict 10
+load 7 49
+evict 12
+load 8 56
+evict 14
+load 9 63
+evict 15
+load 10 6
+evict 1
+load 11 13
+evict 3
+load 12 20
+evict 5
+load 13 27
+evict 6
+load 14 34
+evict 8
+load 15 41
+evict 10
+load 16 48
+evict 12
+load 17 55
+evict 13
+load 18 62
+evict 15
+load 19 5
+evict 1
+load 20 12
+evict 3
+load 21 19
+evict 4
+load 22 26
+evict 6
+load 23 33
+evict 8
+load 24 40
+evict 10
+load 25 47
+evict 11
+load 26 54
+evict 13
+load 27 61
+evict 15
+load 28 4
+evict 1
+load 29 11
+evict 2
+load 30 18
+evict 4
+load 31 25
+evict 6
+load 32 32
+evict 8
+load 33 39
+evict 9
+load 34 46
+evict 11
+load 35 53
+evict 13
+load 36 60
+evict 15
+load 37 3
+evict 0
+load 38 10
+evict 2
+load 39 17
+evict 4
+";
+
 #[test]
 fn a_run_is_flat(rt: HostRuntime) -> Result<(), Fail> {
     let mut machine = machine::<2>(rt.alloc(), NARROW_SHAPE)?;
-    let mut requests = [Event::Drain; 80];
-    for (pair, tag) in requests.chunks_exact_mut(2).zip(0u16..) {
-        let at = u32::from(tag) * 7 % 64;
-        pair.copy_from_slice(&[Event::Load { tag, at }, Event::Evict { block: at / 4 }]);
-    }
+    let requests = read_requests(rt.alloc(), &mut LOADS_AND_EVICTIONS.as_bytes())?;
+    assert!(rt; requests.len() == 80);
     let mut written = Vec::new(rt.alloc());
     drive(rt.alloc(), &mut machine, 3, &requests, &mut written)?;
     let verdict = check_text(rt.alloc(), &mut written.as_slice(), 64)?;

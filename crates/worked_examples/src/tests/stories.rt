@@ -1,10 +1,9 @@
 //! Stories of a machine, each told as lines that it is asked and answers.
 //!
-//! A line is one of a trace, with its answer behind the arrow, or one of three that no trace has: `weight`
-//! tells what is on its way, `pump` makes the driver's event and tells it with its answer, and `changed`
-//! tells which of the words of memory aren't those of the image.
+//! A line is one of a trace, with its answer behind the arrow, or one of two that no trace has: `weight`
+//! tells what is on its way, and `pump` makes the driver's event and tells it with its answer.
 
-use super::fixture::{SMALL_SHAPE, image, numbered, same};
+use super::fixture::{SMALL_SHAPE, image, same};
 use flat_model::{Answer, Event, Shape};
 use machine_core::{AnyMachine, Machine};
 use std::alloc::Global;
@@ -29,6 +28,21 @@ enum Kind {
     /// One of each, 8 words, and room for two replies.
     Smallest,
 }
+
+/// The small shape with room for eight replies.
+const EIGHT_REPLIES: Shape = Shape {
+    replies: 8,
+    ..SMALL_SHAPE
+};
+
+const SMALLEST_SHAPE: Shape = Shape {
+    words: 8,
+    sets: 1,
+    banks: 1,
+    bank_queue: 1,
+    write_queue: 1,
+    replies: 2,
+};
 
 /// A story that begins with a new machine.
 struct Story {
@@ -70,15 +84,53 @@ load 3 5 -> accepted
 load 4 5 -> accepted
 ";
 
+/// The words below word 5, as they were at first.
+const BELOW_WORD_5: &str = "bank 0 -> 00000000
+bank 1 -> 01000000
+bank 2 -> 02000000
+bank 3 -> 03000000
+bank 4 -> 04000000
+";
+
+/// The words from word 6 on, as they were at first, and the first that isn't there.
+const FROM_WORD_6: &str = "bank 6 -> 06000000
+bank 7 -> 07000000
+bank 8 -> 08000000
+bank 9 -> 09000000
+bank 10 -> 0a000000
+bank 11 -> 0b000000
+bank 12 -> 0c000000
+bank 13 -> 0d000000
+bank 14 -> 0e000000
+bank 15 -> 0f000000
+bank 16 -> 10000000
+bank 17 -> 11000000
+bank 18 -> 12000000
+bank 19 -> 13000000
+bank 20 -> 14000000
+bank 21 -> 15000000
+bank 22 -> 16000000
+bank 23 -> 17000000
+bank 24 -> 18000000
+bank 25 -> 19000000
+bank 26 -> 1a000000
+bank 27 -> 1b000000
+bank 28 -> 1c000000
+bank 29 -> 1d000000
+bank 30 -> 1e000000
+bank 31 -> 1f000000
+bank 32 -> none
+";
+
 const STORIES: &[Story] = &[
     Story {
         name: "empty_list",
         kind: Kind::Small,
         lines: &[
-            "settled -> yes
-changed -> []
-bank 32 -> none
-",
+            "settled -> yes\n",
+            BELOW_WORD_5,
+            "bank 5 -> 05000000\n",
+            FROM_WORD_6,
         ],
     },
     Story {
@@ -388,10 +440,10 @@ drain -> moved
 settled -> no
 serve 1 -> moved
 settled -> yes
-bank 5 -> 11223344
-bank 32 -> none
-changed -> [5]
 ",
+            BELOW_WORD_5,
+            "bank 5 -> 11223344\n",
+            FROM_WORD_6,
         ],
     },
     Story {
@@ -593,17 +645,6 @@ take 0 -> value 1 11223344
     },
 ];
 
-/// The words of memory, of the first 32, that aren't those of the image.
-fn changed_words<M: AnyMachine>(alloc: Global, machine: &M) -> Result<Vec<u8>, Fail> {
-    let mut changed = Vec::new(alloc);
-    for at in 0..32u8 {
-        if machine.bank_word(u32::from(at)) != Some(numbered(at)) {
-            changed.push(at)?;
-        }
-    }
-    Ok(changed)
-}
-
 /// Asks the machine one line, and writes it with what it answers.
 fn tell_line<M: AnyMachine>(
     alloc: Global,
@@ -613,7 +654,6 @@ fn tell_line<M: AnyMachine>(
 ) -> Result<(), Fail> {
     match line {
         "weight" => writeln!(told, "weight -> {}", machine.weight())?,
-        "changed" => writeln!(told, "changed -> {:?}", changed_words(alloc, machine)?)?,
         "pump" => match machine.pump() {
             Some((event, answer)) => writeln!(told, "pump -> {event} -> {answer}")?,
             None => writeln!(told, "pump -> none")?,
@@ -665,56 +705,61 @@ fn recorded(alloc: Global, lines: &str) -> Result<(Vec<Event>, Vec<Answer>), Fai
     Ok((events, answers))
 }
 
-/// Asserts that a new machine of this shape answers the lines of the story as they say, one after another,
-/// and its events by one call.
+/// Asserts that a new machine answers the lines of the story as they say, one after another, and another one
+/// its events by one call.
 fn plays<R: Abort, const WAYS: usize, const WORDS: usize, const REGS: usize, const DEPTH: usize>(
     rt: &R,
     alloc: Global,
-    shape: Shape,
     story: &Story,
+    machine: &mut Machine<WAYS, WORDS, REGS, DEPTH>,
+    other: &mut Machine<WAYS, WORDS, REGS, DEPTH>,
 ) -> Result<(), Fail> {
-    let name = story.name;
     let lines = joined(alloc, story.lines)?;
-    let image = image(alloc, shape.words.min(32) as u8)?;
-    let mut machine = Machine::<WAYS, WORDS, REGS, DEPTH>::new(alloc, shape, &image)?;
-    let told = told(alloc, &mut machine, lines.as_str())?;
+    let told = told(alloc, machine, lines.as_str())?;
     same(
         rt,
-        name,
+        story.name,
         std::str::from_utf8(told.as_slice())?,
         lines.as_str(),
     );
-    let mut machine = Machine::<WAYS, WORDS, REGS, DEPTH>::new(alloc, shape, &image)?;
     let (events, answers) = recorded(alloc, lines.as_str())?;
-    let answered = machine.run(alloc, &events)?;
-    same(rt, name, answered.as_slice(), answers.as_slice());
+    let answered = other.run(alloc, &events)?;
+    same(rt, story.name, answered.as_slice(), answers.as_slice());
     Ok(())
+}
+
+/// Asserts the story of machines with 4 words in a block and a stack of 2.
+fn plays_of<R: Abort, const WAYS: usize, const REGS: usize>(
+    rt: &R,
+    alloc: Global,
+    story: &Story,
+    shape: Shape,
+) -> Result<(), Fail> {
+    let image = image(alloc, 32)?;
+    let mut machine = Machine::<WAYS, 4, REGS, 2>::new(alloc, shape, &image)?;
+    let mut other = Machine::<WAYS, 4, REGS, 2>::new(alloc, shape, &image)?;
+    plays(rt, alloc, story, &mut machine, &mut other)
+}
+
+/// Asserts the story of the smallest machines.
+fn plays_of_smallest<R: Abort>(rt: &R, alloc: Global, story: &Story) -> Result<(), Fail> {
+    let image = image(alloc, 8)?;
+    let mut machine = Machine::<1, 1, 1, 1>::new(alloc, SMALLEST_SHAPE, &image)?;
+    let mut other = Machine::<1, 1, 1, 1>::new(alloc, SMALLEST_SHAPE, &image)?;
+    plays(rt, alloc, story, &mut machine, &mut other)
 }
 
 #[test]
 fn stories(rt: HostRuntime) -> Result<(), Fail> {
     let alloc = rt.alloc();
-    let small = SMALL_SHAPE;
-    let eight_replies = Shape {
-        replies: 8,
-        ..small
-    };
-    let smallest = Shape {
-        words: 8,
-        sets: 1,
-        banks: 1,
-        bank_queue: 1,
-        write_queue: 1,
-        replies: 2,
-    };
     for story in STORIES {
         match story.kind {
-            Kind::Small => plays::<_, 1, 4, 2, 2>(&rt, alloc, small, story),
-            Kind::TwoWays => plays::<_, 2, 4, 2, 2>(&rt, alloc, small, story),
-            Kind::OneRegister => plays::<_, 1, 4, 1, 2>(&rt, alloc, small, story),
-            Kind::FourRegisters => plays::<_, 1, 4, 4, 2>(&rt, alloc, small, story),
-            Kind::EightReplies => plays::<_, 1, 4, 2, 2>(&rt, alloc, eight_replies, story),
-            Kind::Smallest => plays::<_, 1, 1, 1, 1>(&rt, alloc, smallest, story),
+            Kind::Small => plays_of::<_, 1, 2>(&rt, alloc, story, SMALL_SHAPE),
+            Kind::TwoWays => plays_of::<_, 2, 2>(&rt, alloc, story, SMALL_SHAPE),
+            Kind::OneRegister => plays_of::<_, 1, 1>(&rt, alloc, story, SMALL_SHAPE),
+            Kind::FourRegisters => plays_of::<_, 1, 4>(&rt, alloc, story, SMALL_SHAPE),
+            Kind::EightReplies => plays_of::<_, 1, 2>(&rt, alloc, story, EIGHT_REPLIES),
+            Kind::Smallest => plays_of_smallest(&rt, alloc, story),
         }?;
     }
     Ok(())

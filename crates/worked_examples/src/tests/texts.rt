@@ -148,11 +148,13 @@ fn recorded_pairs(rt: HostRuntime) -> Result<(), Fail> {
     Ok(())
 }
 
-/// A text that is served by a machine of the program's default shape, and what its reader does behind it.
+/// A text that is served by a machine of the program's default shape, and what its reader does behind it first
+/// and later.
 struct Served {
     name: &'static str,
     text: &'static str,
-    behind: [Behind; 2],
+    first: Behind,
+    later: Behind,
     ended: Result<Counts, TraceFault>,
     written: &'static str,
 }
@@ -171,14 +173,16 @@ const SERVED: &[Served] = &[
     Served {
         name: "failing_reader: it fails",
         text: "drain\nserve 0\nta",
-        behind: [Behind::Failure, Behind::Failure],
+        first: Behind::Failure,
+        later: Behind::Failure,
         ended: Err(TraceFault::Read),
         written: "drain -> nothing\nserve 0 -> nothing\n",
     },
     Served {
         name: "failing_reader: it ends",
         text: "drain\nserve 0\nta",
-        behind: [Behind::End, Behind::End],
+        first: Behind::End,
+        later: Behind::End,
         ended: Err(TraceFault::Line {
             number: 3,
             fault: LineFault::NotEnded,
@@ -188,28 +192,32 @@ const SERVED: &[Served] = &[
     Served {
         name: "served_up_to_the_first_end: more behind it",
         text: "drain\n",
-        behind: [Behind::End, Behind::Text("drain\n")],
+        first: Behind::End,
+        later: Behind::Text("drain\n"),
         ended: Ok(ONE_NOTHING),
         written: "drain -> nothing\n",
     },
     Served {
         name: "served_up_to_the_first_end: a failure behind it",
         text: "drain\n",
-        behind: [Behind::End, Behind::Failure],
+        first: Behind::End,
+        later: Behind::Failure,
         ended: Ok(ONE_NOTHING),
         written: "drain -> nothing\n",
     },
     Served {
         name: "a_failed_read_is_not_tried_again: more behind it",
         text: "drain\n",
-        behind: [Behind::Failure, Behind::Text("drain\n")],
+        first: Behind::Failure,
+        later: Behind::Text("drain\n"),
         ended: Err(TraceFault::Read),
         written: "drain -> nothing\n",
     },
     Served {
         name: "a_failed_read_is_not_tried_again: the end behind it",
         text: "drain\n",
-        behind: [Behind::Failure, Behind::End],
+        first: Behind::Failure,
+        later: Behind::End,
         ended: Err(TraceFault::Read),
         written: "drain -> nothing\n",
     },
@@ -221,7 +229,7 @@ fn served_texts(rt: HostRuntime) -> Result<(), Fail> {
         let name = served.name;
         let mut machine = default_machine(rt.alloc())?;
         let mut output = Vec::new(rt.alloc());
-        let mut reader = Script::new(served.text, 64, served.behind);
+        let mut reader = Script::new(served.text, 64, [served.first, served.later]);
         let ended = serve_text(rt.alloc(), &mut reader, &mut output, &mut machine);
         same(&rt, name, ended, served.ended);
         same(&rt, name, output.as_slice(), served.written.as_bytes());
