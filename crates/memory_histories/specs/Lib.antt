@@ -1,0 +1,4 @@
+pub mod Windows
+pub mod Regular
+pub mod Shown
+pub mod Examples
