@@ -37,7 +37,7 @@ covered stores l = Any-decides _ _ (λ s. Decides-and _ _ (Decides-eqb _ _) (bef
 
 initial : (o : Option ℕ) (r : Rest) (b : ℕ) → Decides (is_initial o r b) (IsInitial o r b)
 initial None Zeros b = Decides-eqb b 0
-initial None Unknown b = (λ h. tt, λ h. refl)
+initial None Unknown b = Decides-ltb b 256
 initial (Some i) r b = Decides-eqb i b
 
 pub may_return_decides : (image : List ℕ) (rest : Rest) (stores : List StoreByte) (l : LoadByte) (b : ℕ) → Decides (may_return_byte image rest stores l b) (MayReturn image rest stores l b)

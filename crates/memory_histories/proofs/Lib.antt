@@ -1,2 +1,8 @@
 pub mod Loops
 pub mod Law
+-- sets and lists, what is live, and that what is kept judges as the law does
+pub mod Lists
+pub mod ByteSets
+pub mod Live
+pub mod Requests
+pub mod Stands

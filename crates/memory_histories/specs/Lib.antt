@@ -1,4 +1,6 @@
 pub mod Windows
 pub mod Regular
+pub mod Sets
+pub mod Kept
 pub mod Shown
 pub mod Examples

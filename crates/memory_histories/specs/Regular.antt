@@ -36,7 +36,7 @@ IsCovered stores l = Any (λ s. (s.address ≡ l.address) × IsBefore s.ended l.
 -- memory may have had the byte at an address before the first store: it is the image's, or the one beyond the image
 abbrev pub IsBeyond : Rest → ℕ → Type 0
 IsBeyond Zeros b = b ≡ 0
-IsBeyond Unknown b = Unit {0}
+IsBeyond Unknown b = b < 256
 
 abbrev pub IsInitial : Option ℕ → Rest → ℕ → Type 0
 IsInitial None rest b = IsBeyond rest b
@@ -50,7 +50,7 @@ MayReturn image rest stores l b = IsLeft stores l b ⊎ (IsInitial (slice_get im
 
 abbrev pub is_rest : Rest → ℕ → Bool
 is_rest Zeros b = b == 0
-is_rest Unknown b = true
+is_rest Unknown b = nat_lt b 256
 
 -- whether memory may have had the byte before the first store, where this is the image's, if it has one there
 abbrev pub is_initial : Option ℕ → Rest → ℕ → Bool
@@ -112,10 +112,10 @@ wrong_byte None = None
 wrong_byte (Some place) = Some (WrongByte place)
 
 -- the first byte that may not be returned
-abbrev pub wrong_place : (LoadByte → ℕ → Bool) → List LoadByte → List ℕ → Option ℕ
+abbrev pub wrong_place : {L : Type 0} → (L → ℕ → Bool) → List L → List ℕ → Option ℕ
 wrong_place may loads bytes = position (λ p. not (may p.0 p.1)) (zip loads bytes)
 
-abbrev pub load_response_fault : (LoadByte → ℕ → Bool) → List LoadByte → List ℕ → Option HistoryFault
+abbrev pub load_response_fault : {L : Type 0} → (L → ℕ → Bool) → List L → List ℕ → Option HistoryFault
 load_response_fault may loads bytes =
     if length loads == 0 then Some NotOpen
     else if length loads == length bytes then wrong_byte (wrong_place may loads bytes)

@@ -6,9 +6,13 @@
 #![tactic(auto)]
 
 mod events;
+mod kept;
 mod regular;
+mod sets;
 mod windows;
 
 pub use events::{HistoryEvent, HistoryFault, MAX_LENGTH, Rest, StepFault};
+pub use kept::OpenByte;
 pub use regular::RegularMemory;
+pub use sets::ByteSet;
 pub use windows::{LoadByte, StoreByte, may_return};

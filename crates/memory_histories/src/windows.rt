@@ -134,13 +134,6 @@ pub(crate) fn is_at(load: &LoadByte, number: u64, address: u64) -> bool
     is_of(load, number) && load.address == address
 }
 
-// How many bytes the load that is open under this number has: 0 if there is none.
-pub(crate) fn length_of(loads: &[LoadByte], number: u64) -> usize
-    ensures { result ≡ length (filter (is_of number) loads.now) }
-{
-    loads.iter().filter(|load| is_of(load, number)).count()
-}
-
 // Adds the enabled bytes of a store that is requested at this moment.
 pub(crate) fn add_store(
     stores: &mut Vec<StoreByte>,
@@ -169,27 +162,6 @@ pub(crate) fn add_store(
     }
 }
 
-// Adds the bytes of a load that is requested at this moment.
-pub(crate) fn add_load(
-    loads: &mut Vec<LoadByte>,
-    number: u64,
-    address: u64,
-    length: usize,
-    moment: u64,
-)
-    requires room { vec_len loads.old + length ≤ vec_capacity loads.old }
-    requires inside { address + length ≤ 2 ^ 64 }
-    ensures { loads.new.items ≡ loads.old.items ++ load_bytes number address length moment }
-{
-    for k in 0..length {
-        loads.push_reserved(LoadByte {
-            number,
-            address: address + k as u64,
-            began: moment,
-        });
-    }
-}
-
 // The byte after the response of the store that is open under this number.
 fn after_response(store: StoreByte, number: u64, moment: u64) -> StoreByte
     ensures { result ≡ after_response number moment store }
@@ -211,13 +183,6 @@ pub(crate) fn end_store(stores: &mut [StoreByte], number: u64, moment: u64)
     for store in stores.iter_mut() {
         *store = after_response(*store, number, moment);
     }
-}
-
-// No load is open under this number from now on.
-pub(crate) fn end_load(loads: &mut Vec<LoadByte>, number: u64)
-    ensures { loads.new.items ≡ filter (λ l. not (is_of number l)) loads.old.items }
-{
-    loads.retain(|load| !is_of(load, number));
 }
 
 // Whether a load may return this byte if it is answered now.
