@@ -43,7 +43,7 @@ response_map f p q xs bs a = rw (position-zip f p q xs bs a, length-map xs f) re
 of_response : (k : Kept) (w : Windows) → StandsFor k w → (n : ℕ) (bs : List ℕ) → load_response_fault may_have (filter (is_open_of n) k.open_bytes) bs ≡ load_response_fault (may_return w) (filter (is_of n) w.loads) bs
 of_response k w s n bs =
     response_map (λ o. o.load) may_have (may_return w) (filter (is_open_of n) k.open_bytes) bs
-      (All-weaker (IsExact w) (λ o. (b : ℕ) → may_have o b ≡ may_return w o.load b) (λ o h. h.1) (filter (is_open_of n) k.open_bytes) (All-filter (is_open_of n) (IsExact w) k.open_bytes s.exact))
+    (All-weaker (IsExact w) (λ o. (b : ℕ) → may_have o b ≡ may_return w o.load b) (λ o h. h.1) (filter (is_open_of n) k.open_bytes) (All-filter (is_open_of n) (IsExact w) k.open_bytes s.exact))
     ∙ ap (λ ls. load_response_fault (may_return w) ls bs) (sym (filter-map (λ o. o.load) (is_of n) k.open_bytes) ∙ ap (filter (is_of n)) s.load_bytes)
 
 pub fault_same : (k : Kept) (w : Windows) (event : HistoryEvent) → StandsFor k w → kept_fault k event ≡ fault w event
@@ -69,8 +69,9 @@ new_timely t s h = let e = h.0 in (omega arith, rw h.1 tt)
 
 answered_timely : (n t : ℕ) (s : StoreByte) → IsTimely t s → IsTimely (t + 1) (after_response n t s)
 answered_timely n t s h = elim (cases_Bool (is_open n s)) [
-    inl e ↦ let l = h.0 in rw e (omega arith, (h.0, omega arith))
-  | inr e ↦ rw e (timely_later t s h) ]
+  | inl e ↦ let l = h.0 in rw e (omega arith, (h.0, omega arith))
+  | inr e ↦ rw e (timely_later t s h)
+]
 
 map_same : (ls : List LoadByte) → map (λ l. l) ls ≡ ls
 map_same ls = map-id ls
@@ -88,7 +89,7 @@ requests_load k w s n a len =
     let ls = load_bytes n a len k.moment in
     let later = windows_after w (LoadRequest n a len) in
     let exact_f : (l : LoadByte) → l.began ≡ w.moment → IsExact later (f l) =
-        λ l e. (omega arith, λ b. rw (s.same_image, s.same_rest, s.live_bytes) (opened_exact w.image w.rest w.moment w.stores s.timely l e b)) in
+    λ l e. (omega arith, λ b. rw (s.same_image, s.same_rest, s.live_bytes) (opened_exact w.image w.rest w.moment w.stores s.timely l e b)) in
     record {
       same_image = s.same_image;
       same_rest = s.same_rest;
@@ -127,7 +128,7 @@ requests_store k w s n a bytes e =
       load_bytes = map-map (after_stores (store_bytes n a bytes.now e k.moment)) (λ o. o.load) k.open_bytes ∙ s.load_bytes;
       exact = rw s.same_moment (All-map (IsExact later) (after_stores added) k.open_bytes
           (All-weaker (IsExact w) (λ o. IsExact later (after_stores added o))
-            (λ o h. let l = h.0 in (omega arith, λ b. requested_exact w.image w.rest w.moment w.stores added new o.load o.may b (h.1 b))) k.open_bytes s.exact));
+          (λ o h. let l = h.0 in (omega arith, λ b. requested_exact w.image w.rest w.moment w.stores added new o.load o.may b (h.1 b))) k.open_bytes s.exact));
       timely = All-append (IsTimely (w.moment + 1)) w.stores added (all_timely_later w.moment w.stores s.timely) (All-weaker (IsNew w.moment) (IsTimely (w.moment + 1)) (new_timely w.moment) added new);
     }
 
@@ -143,7 +144,7 @@ answers_store k w s n =
       load_bytes = s.load_bytes;
       exact = All-weaker (IsExact w) (IsExact later)
           (λ o h. let l = h.0 in let before : o.load.began ≤ w.moment = omega arith in
-              (omega arith, λ b. h.1 b ∙ sym (rw (left_answered n w.moment w.stores s.timely o.load b before, covered_answered n w.moment w.stores o.load before) refl))) k.open_bytes s.exact;
+          (omega arith, λ b. h.1 b ∙ sym (rw (left_answered n w.moment w.stores s.timely o.load b before, covered_answered n w.moment w.stores o.load before) refl))) k.open_bytes s.exact;
       timely = All-map (IsTimely (w.moment + 1)) f w.stores (All-weaker (IsTimely w.moment) (λ x. IsTimely (w.moment + 1) (f x)) (answered_timely n w.moment) w.stores s.timely);
     }
 

@@ -1,5 +1,6 @@
 pub mod Windows
 pub mod Regular
+pub mod Hidden
 pub mod Sets
 pub mod Kept
 pub mod Shown

@@ -3,6 +3,7 @@
 ghost use Rattle.std.specs.Prelude.{◌≡◌, ◌+◌, ◌≤◌, ◌↔◌, ◌++◌, ◌^◌, IsTrue, length, map, not, vec_len, vec_capacity, slice_get};
 ghost use Rattle.std.specs.List.{filter, list_any};
 ghost use Rattle.memory_histories.specs.Windows.{store_bytes, load_bytes, is_open, is_of, is_at, after_response};
+ghost use Rattle.memory_histories.specs.Hidden.{Explains};
 ghost use Rattle.memory_histories.specs.Regular.{is_initial, is_rest, is_before, overwrites, is_overwritten, is_left, is_covered, is_inside, has_enabled, may_return_byte, MayReturn};
 
 use crate::events::{MAX_LENGTH, Rest};
@@ -201,8 +202,12 @@ pub(crate) fn may_return_byte(
 
 /// Whether a load may return this byte if it is answered now, by the law as it is read aloud: memory
 /// began with this image, and these are the bytes of all stores so far.
+///
+/// It is true whenever hidden moments explain the byte: one for each answered store and for the load,
+/// each within its window, so that the load gets what stands there at its moment.
 pub fn may_return(image: &[u8], rest: Rest, stores: &[StoreByte], load: &LoadByte, byte: u8) -> bool
-    ensures { IsTrue result ↔ MayReturn image.now rest stores.now load.now byte }
+    ensures law { IsTrue result ↔ MayReturn image.now rest stores.now load.now byte }
+    ensures sound { Explains image.now rest stores.now load.now byte → IsTrue result }
 {
     may_return_byte(image, rest, stores, load, byte)
 }
