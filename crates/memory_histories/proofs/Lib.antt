@@ -1,0 +1,9 @@
+pub mod Loops
+pub mod Law
+pub mod Sound
+-- sets and lists, what is live, and that what is kept judges as the law does
+pub mod Lists
+pub mod ByteSets
+pub mod Live
+pub mod Requests
+pub mod Stands

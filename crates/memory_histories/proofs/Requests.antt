@@ -1,0 +1,136 @@
+-- What a request changes for the loads that are open, and what a load that is requested now may return.
+use Rattle.std.proofs.Common.{◌≡◌, ℕ, ◌+◌, ◌/◌, ◌%◌, ◌<◌, Bool, true, false, ◌&&◌, ◌||◌, not, ◌==◌, List, [], ◌∷◌, ◌++◌, map, Option, None, Some, get_or, slice_get, refl, sym, ap, ◌∙◌, inl, inr}
+use Rattle.std.specs.Prelude.{is_some}
+use Rattle.std.specs.List.{All, filter, list_any}
+use Rattle.std.proofs.Math.Bool.{or_assoc}
+use Rattle.std.proofs.lemmas.Bool.{cases_Bool, cases_eq, eq-eqb, ne_eqb}
+use Rattle.std.proofs.lemmas.List.Elements.{All-nil, All-cons, filter-append}
+use Rattle.std.proofs.lemmas.List.Folds.{list_any-append, list_any_none}
+use Rattle.memory_histories.specs.declared.events.Rest.{Rest}
+use Rattle.memory_histories.specs.declared.events.Rest.TheVariants.{Zeros, Unknown}
+use Rattle.memory_histories.specs.declared.windows.StoreByte.{StoreByte}
+use Rattle.memory_histories.specs.declared.windows.LoadByte.{LoadByte}
+use Rattle.memory_histories.specs.declared.sets.ByteSet.{ByteSet}
+use Rattle.memory_histories.specs.Sets.{has, with_byte, no_bytes, all_bytes}
+use Rattle.memory_histories.specs.Windows.{store_bytes}
+use Rattle.memory_histories.specs.Regular.{is_before, overwrites, is_overwritten, is_left, is_covered, is_initial, may_return_byte}
+use Rattle.memory_histories.specs.Kept.{initial_set, with_stores, is_covered_now, first_set, opened, after_stores, is_past, is_live, IsTimely}
+use Rattle.memory_histories.proofs.Lists.{or_false, and_false, list_any-agree, list_any-same, list_any-never, filter-agree, filter-always}
+use Rattle.memory_histories.proofs.ByteSets.{has-with_byte, has-no_bytes, has-all_bytes}
+use Rattle.memory_histories.proofs.Live.{never_past, covered_now, left_now}
+
+and_true : (x : Bool) → (x && true) ≡ x
+and_true true = refl
+and_true false = refl
+
+or_comm : (x y : Bool) → (x || y) ≡ (y || x)
+or_comm true true = refl
+or_comm true false = refl
+or_comm false true = refl
+or_comm false false = refl
+
+eqb_comm : (x y : ℕ) → (x == y) ≡ (y == x)
+eqb_comm x y = elim (cases_eq x y) [
+  | inl e ↦ eq-eqb x y e ∙ sym (eq-eqb y x (sym e))
+  | inr ne ↦ ne_eqb x y ne ∙ sym (ne_eqb y x (λ e. ne (sym e)))
+]
+
+-- The bytes of a store that is requested. ----
+
+-- they are open, and requested at this moment
+abbrev pub IsNew : ℕ → StoreByte → Type 0
+IsNew t s = (s.began ≡ t) × (s.ended ≡ None)
+
+pub store_bytes-new : (n a : ℕ) (bs : List ℕ) (e t : ℕ) → All (IsNew t) (store_bytes n a bs e t)
+store_bytes-new n a [] e t = All-nil (IsNew t)
+store_bytes-new n a (b ∷ bs) e t =
+    let more = store_bytes-new n (a + 1) bs (e / 2) t in
+    elim (cases_Bool (e % 2 == 1)) [
+      | inl h ↦ rw h (All-cons (IsNew t) (record { number = n; address = a; byte = b; began = t; ended = None }) (store_bytes n (a + 1) bs (e / 2) t) (refl, refl) more)
+      | inr h ↦ rw h more
+    ]
+
+-- a test that no open byte passes gives what it gave before
+any_before : (p : StoreByte → Bool) → ((s : StoreByte) → s.ended ≡ None → p s ≡ false) → (t : ℕ) (stores added : List StoreByte) → All (IsNew t) added → list_any p (stores ++ added) ≡ list_any p stores
+any_before p h t stores added new =
+    list_any-append p stores added ∙ (ap (λ x. list_any p stores || x) (list_any_none p added (λ k d l. h (get_or added k d) (new k d l).1)) ∙ or_false (list_any p stores))
+
+past_before : (t : ℕ) (stores added : List StoreByte) → All (IsNew t) added → (s : StoreByte) → is_past (stores ++ added) s ≡ is_past stores s
+past_before t stores added new s =
+    any_before (λ o. (o.address == s.address) && (is_before s.ended o.began && is_some o.ended))
+    (λ o e. rw (e, and_false (is_before s.ended o.began)) (and_false (o.address == s.address))) t stores added new
+
+overwritten_before : (m t : ℕ) (stores added : List StoreByte) → All (IsNew t) added → (s : StoreByte) → is_overwritten (stores ++ added) s m ≡ is_overwritten stores s m
+overwritten_before m t stores added new s =
+    any_before (overwrites s m) (λ o e. rw (e, and_false (is_before s.ended o.began)) (and_false (o.address == s.address))) t stores added new
+
+never_overwritten : (stores : List StoreByte) (s : StoreByte) (m : ℕ) → s.ended ≡ None → is_overwritten stores s m ≡ false
+never_overwritten stores s m e = list_any-never (overwrites s m) (λ o. rw e (and_false (o.address == s.address))) stores
+
+pub live_requested : (t : ℕ) (stores added : List StoreByte) → All (IsNew t) added → filter (is_live (stores ++ added)) (stores ++ added) ≡ filter (is_live stores) stores ++ added
+live_requested t stores added new =
+    let before = filter-agree (is_live (stores ++ added)) (is_live stores) stores (λ k d l. ap not (past_before t stores added new (get_or stores k d))) in
+    let all = filter-always (is_live (stores ++ added)) added (λ k d l. ap not (never_past (stores ++ added) (get_or added k d) (new k d l).1)) in
+    rw (filter-append (is_live (stores ++ added)) stores added, before, all) refl
+
+pub left_requested : (t : ℕ) (stores added : List StoreByte) → All (IsNew t) added → (l : LoadByte) (b : ℕ)
+    → is_left (stores ++ added) l b ≡ (is_left stores l b || list_any (λ s. (s.address == l.address) && (s.byte == b)) added)
+left_requested t stores added new l b =
+    let p : StoreByte → Bool = λ s. (s.address == l.address) && ((s.byte == b) && not (is_overwritten (stores ++ added) s l.began)) in
+    let before = list_any-same p (λ s. (s.address == l.address) && ((s.byte == b) && not (is_overwritten stores s l.began)))
+    (λ s. ap (λ x. (s.address == l.address) && ((s.byte == b) && not x)) (overwritten_before l.began t stores added new s)) stores in
+    let behind = list_any-agree p (λ s. (s.address == l.address) && (s.byte == b)) added
+    (λ k d i. let s = get_or added k d in ap (λ x. (s.address == l.address) && ((s.byte == b) && not x)) (never_overwritten (stores ++ added) s l.began (new k d i).1) ∙ ap (λ x. (s.address == l.address) && x) (and_true (s.byte == b))) in
+    list_any-append p stores added ∙ (ap (λ x. x || list_any p added) before ∙ ap (λ x. is_left stores l b || x) behind)
+
+pub covered_requested : (t : ℕ) (stores added : List StoreByte) → All (IsNew t) added → (l : LoadByte) → is_covered (stores ++ added) l ≡ is_covered stores l
+covered_requested t stores added new l = any_before (λ s. (s.address == l.address) && is_before s.ended l.began) (λ s e. rw e (and_false (s.address == l.address))) t stores added new
+
+-- Sets. ----
+
+pub has-with_stores : (stores : List StoreByte) (a : ℕ) (set : ByteSet) (b : ℕ) → has (with_stores stores a set) b ≡ (has set b || list_any (λ s. (s.address == a) && (s.byte == b)) stores)
+has-with_stores [] a set b = sym (or_false (has set b))
+has-with_stores (s ∷ ss) a set b = elim (cases_Bool (s.address == a)) [
+  | inl e ↦ rw e (has-with_stores ss a (with_byte set s.byte) b ∙ (ap (λ x. x || list_any (λ o. (o.address == a) && (o.byte == b)) ss) (has-with_byte set s.byte b) ∙ or_assoc (has set b) (s.byte == b) (list_any (λ o. (o.address == a) && (o.byte == b)) ss)))
+  | inr e ↦ rw e (has-with_stores ss a set b)
+]
+
+has-first : (c : Bool) (set : ByteSet) (b : ℕ) → has (first_set c set) b ≡ (has set b && not c)
+has-first true set b = has-no_bytes b ∙ sym (and_false (has set b))
+has-first false set b = sym (and_true (has set b))
+
+has-only : (i b : ℕ) → has (with_byte no_bytes i) b ≡ (i == b)
+has-only i b = has-with_byte no_bytes i b ∙ ap (λ x. x || (i == b)) (has-no_bytes b)
+
+has-initial : (o : Option ℕ) (r : Rest) (b : ℕ) → has (initial_set o r) b ≡ is_initial o r b
+has-initial (Some i) r b = has-only i b
+has-initial None Zeros b = has-only 0 b ∙ eqb_comm 0 b
+has-initial None Unknown b = has-all_bytes b
+
+-- the set of a load that is requested now
+pub opened_exact : (image : List ℕ) (r : Rest) (t : ℕ) (stores : List StoreByte) → All (IsTimely t) stores → (l : LoadByte) → l.began ≡ t → (b : ℕ)
+    → has (opened image r (filter (is_live stores) stores) l).may b ≡ may_return_byte image r stores l b
+opened_exact image r t stores timely l e b =
+    let live = filter (is_live stores) stores in
+    let initial = initial_set (slice_get image l.address) r in
+    let any = list_any (λ s. (s.address == l.address) && (s.byte == b)) live in
+    let first : has (first_set (is_covered_now live l.address) initial) b ≡ (is_initial (slice_get image l.address) r b && not (is_covered stores l)) =
+    has-first (is_covered_now live l.address) initial b
+    ∙ (ap (λ x. x && not (is_covered_now live l.address)) (has-initial (slice_get image l.address) r b) ∙ ap (λ x. is_initial (slice_get image l.address) r b && not x) (sym (covered_now t stores timely l e))) in
+    has-with_stores live l.address (first_set (is_covered_now live l.address) initial) b
+    ∙ (ap (λ x. x || any) first ∙ (or_comm (is_initial (slice_get image l.address) r b && not (is_covered stores l)) any ∙ ap (λ x. x || (is_initial (slice_get image l.address) r b && not (is_covered stores l))) (sym (left_now t stores timely l b e))))
+
+or_and : (x a y : Bool) → ((x || y) || a) ≡ ((x || a) || y)
+or_and true a y = refl
+or_and false true true = refl
+or_and false true false = refl
+or_and false false true = refl
+or_and false false false = refl
+
+-- and that of a load that is open when a store is requested
+pub requested_exact : (image : List ℕ) (r : Rest) (t : ℕ) (stores added : List StoreByte) → All (IsNew t) added → (l : LoadByte) (set : ByteSet) (b : ℕ)
+    → has set b ≡ may_return_byte image r stores l b → has (with_stores added l.address set) b ≡ may_return_byte image r (stores ++ added) l b
+requested_exact image r t stores added new l set b h =
+    has-with_stores added l.address set b
+    ∙ rw (h, left_requested t stores added new l b, covered_requested t stores added new l)
+    (or_and (is_left stores l b) (list_any (λ s. (s.address == l.address) && (s.byte == b)) added) (is_initial (slice_get image l.address) r b && not (is_covered stores l)))

@@ -1,0 +1,125 @@
+-- What the judge keeps of a history: of each byte the stores that a load may still see, and of each byte of an open load
+-- what it may return if it is answered now.
+use Rattle.std.specs.Prelude.{ℕ, ◌≡◌, ◌+◌, ◌<◌, ◌≤◌, Bool, ◌&&◌, not, if◌then◌else◌, ◌==◌, List, [], ◌∷◌, ◌++◌, map, Option, Some, None, is_none, is_some, slice_get, length}
+use Rattle.std.specs.List.{All, filter, list_any, fold}
+use Rattle.memory_histories.specs.declared.events.HistoryEvent.{HistoryEvent}
+use Rattle.memory_histories.specs.declared.events.HistoryEvent.TheVariants.{LoadRequest, LoadResponse, StoreRequest, StoreResponse}
+use Rattle.memory_histories.specs.declared.events.HistoryFault.{HistoryFault}
+use Rattle.memory_histories.specs.declared.events.Rest.{Rest}
+use Rattle.memory_histories.specs.declared.events.Rest.TheVariants.{Zeros, Unknown}
+use Rattle.memory_histories.specs.declared.windows.StoreByte.{StoreByte}
+use Rattle.memory_histories.specs.declared.windows.LoadByte.{LoadByte}
+use Rattle.memory_histories.specs.declared.sets.ByteSet.{ByteSet}
+use Rattle.memory_histories.specs.declared.kept.OpenByte.{OpenByte}
+use Rattle.memory_histories.specs.Sets.{has, with_byte, no_bytes, all_bytes}
+use Rattle.memory_histories.specs.Windows.{Windows, store_bytes, load_bytes, is_open, is_of, is_at, after_response}
+use Rattle.memory_histories.specs.Regular.{is_before, is_inside, has_enabled, load_request_fault, load_response_fault, store_request_fault, store_response_fault, may_return_byte}
+
+pub record Kept : Type 0 where
+  pub image : List ℕ
+  pub rest : Rest
+  pub moment : ℕ
+  pub live : List StoreByte
+  pub open_bytes : List OpenByte
+
+abbrev pub opening : List ℕ → Rest → Kept
+opening image rest = record { image = image; rest = rest; moment = 0; live = []; open_bytes = [] }
+
+-- whether a byte is of the load that is open under this number
+abbrev pub is_open_of : ℕ → OpenByte → Bool
+is_open_of number o = is_of number o.load
+
+-- whether it is the one at this address
+abbrev pub is_open_at : ℕ → ℕ → OpenByte → Bool
+is_open_at number address o = is_at number address o.load
+
+-- what memory may have had before the first store, where this is the image's byte, if it has one there
+abbrev pub initial_set : Option ℕ → Rest → ByteSet
+initial_set (Some i) rest = with_byte no_bytes i
+initial_set None Zeros = with_byte no_bytes 0
+initial_set None Unknown = all_bytes
+
+-- the set with what these stores left at an address
+abbrev pub with_stores : List StoreByte → ℕ → ByteSet → ByteSet
+with_stores stores address set = fold (λ s x. with_byte s x.byte) set (filter (λ x. x.address == address) stores)
+
+-- whether a store to the byte at an address was answered
+abbrev pub is_covered_now : List StoreByte → ℕ → Bool
+is_covered_now live address = list_any (λ s. (s.address == address) && is_some s.ended) live
+
+abbrev pub first_set : Bool → ByteSet → ByteSet
+first_set covered initial = if covered then no_bytes else initial
+
+-- a byte of a load that is requested now
+abbrev pub opened : List ℕ → Rest → List StoreByte → LoadByte → OpenByte
+opened image rest live l = record { load = l; may = with_stores live l.address (first_set (is_covered_now live l.address) (initial_set (slice_get image l.address) rest)) }
+
+-- a byte of an open load once these stores are requested
+abbrev pub after_stores : List StoreByte → OpenByte → OpenByte
+after_stores added o = record { load = o.load; may = with_stores added o.load.address o.may }
+
+-- whether a byte was overwritten by a store that is answered now
+abbrev pub is_dropped : List StoreByte → StoreByte → Bool
+is_dropped ending s = list_any (λ e. (e.address == s.address) && is_before s.ended e.began) ending
+
+-- the stores once this one is answered: those that it has overwritten are dropped
+abbrev pub live_after : ℕ → ℕ → List StoreByte → List StoreByte
+live_after number moment live = map (after_response number moment) (filter (λ s. not (is_dropped (filter (is_open number) live) s)) live)
+
+abbrev pub next_live : Kept → HistoryEvent → List StoreByte
+next_live k (StoreRequest number address bytes enables) = k.live ++ store_bytes number address bytes.now enables k.moment
+next_live k (StoreResponse number) = live_after number k.moment k.live
+next_live k event = k.live
+
+abbrev pub next_open : Kept → HistoryEvent → List OpenByte
+next_open k (LoadRequest number address n) = k.open_bytes ++ map (opened k.image k.rest k.live) (load_bytes number address n k.moment)
+next_open k (LoadResponse number bytes) = filter (λ o. not (is_open_of number o)) k.open_bytes
+next_open k (StoreRequest number address bytes enables) = map (after_stores (store_bytes number address bytes.now enables k.moment)) k.open_bytes
+next_open k event = k.open_bytes
+
+abbrev pub kept_after : Kept → HistoryEvent → Kept
+kept_after k event = record { image = k.image; rest = k.rest; moment = k.moment + 1; live = next_live k event; open_bytes = next_open k event }
+
+abbrev pub may_have : OpenByte → ℕ → Bool
+may_have o b = has o.may b
+
+abbrev pub kept_fault : Kept → HistoryEvent → Option HistoryFault
+kept_fault k (LoadRequest number address n) = load_request_fault (is_inside address n) (list_any (is_open_of number) k.open_bytes)
+kept_fault k (LoadResponse number bytes) = load_response_fault may_have (filter (is_open_of number) k.open_bytes) bytes.now
+kept_fault k (StoreRequest number address bytes enables) = store_request_fault (is_inside address (length bytes.now)) (has_enabled bytes.now enables) (list_any (is_open number) k.live)
+kept_fault k (StoreResponse number) = store_response_fault (list_any (is_open number) k.live)
+
+-- one event, where it is one of the law
+abbrev pub kept_step : Kept → HistoryEvent → Option Kept
+kept_step k event = if is_none (kept_fault k event) then Some (kept_after k event) else None
+
+-- Of which histories that is kept. ----
+
+-- whether a byte was overwritten by a store that was answered
+abbrev pub is_past : List StoreByte → StoreByte → Bool
+is_past stores s = list_any (λ other. (other.address == s.address) && (is_before s.ended other.began && is_some other.ended)) stores
+
+abbrev pub is_live : List StoreByte → StoreByte → Bool
+is_live stores s = not (is_past stores s)
+
+-- a window began before now, and if it ended, it did so after that and before now
+abbrev pub EndsBefore : ℕ → ℕ → Option ℕ → Type 0
+EndsBefore moment began None = Unit {0}
+EndsBefore moment began (Some e) = (began < e) × (e < moment)
+
+abbrev pub IsTimely : ℕ → StoreByte → Type 0
+IsTimely moment s = (s.began < moment) × EndsBefore moment s.began s.ended
+
+-- the set of an open byte is what the law lets it return
+abbrev pub IsExact : Windows → OpenByte → Type 0
+IsExact w o = (o.load.began < w.moment) × ((b : ℕ) → has o.may b ≡ may_return_byte w.image w.rest w.stores o.load b)
+
+-- what is kept is of these windows
+pub record StandsFor (k : Kept) (w : Windows) : Type 0 where
+  pub same_image : k.image ≡ w.image
+  pub same_rest : k.rest ≡ w.rest
+  pub same_moment : k.moment ≡ w.moment
+  pub live_bytes : k.live ≡ filter (is_live w.stores) w.stores
+  pub load_bytes : map (λ o. o.load) k.open_bytes ≡ w.loads
+  pub exact : All (IsExact w) k.open_bytes
+  pub timely : All (IsTimely w.moment) w.stores

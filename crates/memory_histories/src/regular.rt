@@ -1,0 +1,278 @@
+//! The judge of the regular law.
+
+ghost use Rattle.std.specs.Prelude.{◌≡◌, ◌+◌, ◌<◌, ◌++◌, true, length, None, Some, map, not, IfOk, IfErr, OnOk, OnErr};
+ghost use Rattle.std.specs.List.{filter, find, list_any};
+ghost use Rattle.std.specs.Option.{option_map};
+ghost use Rattle.memory_histories.specs.Windows.{Windows, opening, is_open, store_bytes, load_bytes, windows_after};
+ghost use Rattle.memory_histories.specs.Regular.{fault, is_inside, wrong_byte, load_request_fault, load_response_fault, store_request_fault, store_response_fault};
+ghost use Rattle.memory_histories.specs.Kept.{opened, after_stores, live_after, kept_after, kept_fault, kept_step, may_have, is_open_of, is_open_at, StandsFor};
+ghost use Rattle.memory_histories.specs.Shown.{kept, KeptFaultIs, StepFaultIs, IsSetOf};
+
+use crate::events::{HistoryEvent, HistoryFault, MAX_LENGTH, Rest, StepFault};
+use crate::kept::{
+    OpenByte, add_load, answer_store, end_load, is_open_of, length_of, open_byte, open_store,
+    show_stores, wrong_place,
+};
+use crate::sets::ByteSet;
+use crate::windows::{StoreByte, add_store, has_enabled, is_inside, is_open};
+use std::alloc::{AllocError, Global};
+
+/// A memory that is judged by the regular law, event by event.
+///
+/// It keeps of each byte the stores that a load may still see, and for each byte of an open load the
+/// set of what it may return: as much memory as the operations that are open and the bytes that were
+/// stored need, however long the history is.
+#[derive(Drop)]
+pub struct RegularMemory {
+    image: Vec<u8>,
+    rest: Rest,
+    moment: u64,
+    live: Vec<StoreByte>,
+    loads: Vec<OpenByte>,
+}
+
+#[tactic(auto, unfolding(crate::specs::Shown::kept))]
+impl RegularMemory {
+    /// Memory before the first event. The image is the bytes from address 0 on, and `rest` says what
+    /// stands beyond it. `AllocError` says that there was too little memory: nothing is made.
+    pub fn new(alloc: Global, image: &[u8], rest: Rest) -> Result<RegularMemory, AllocError>
+        ensures { IfOk result (λ m. StandsFor (kept m) (opening image.now rest)) }
+    {
+        let image = Vec::from_slice(alloc, image)?;
+        let live = Vec::new(alloc);
+        let loads = Vec::new(alloc);
+        Ok(RegularMemory {
+            image,
+            rest,
+            moment: 0,
+            live,
+            loads,
+        })
+    }
+
+    /// Why the history so far with this event would be none of the law, or `None` where it is one.
+    pub fn fault(&self, event: HistoryEvent) -> Option<HistoryFault>
+        ensures { (w : Windows) → StandsFor (kept self.now) w → result ≡ fault w event.entry }
+    {
+        self.kept_fault(event)
+    }
+
+    /// What the load that is open under a number may return for the byte at an address, if it is
+    /// answered now, or `None` if no such load asks for that byte.
+    pub fn may_return(&self, number: u64, address: u64) -> Option<ByteSet>
+        ensures { (w : Windows) → StandsFor (kept self.now) w → IsSetOf w number address result }
+    {
+        self.kept_set(number, address)
+    }
+
+    /// Takes one event of a history.
+    ///
+    /// It is `Ok` exactly where the history so far with this event is one of the law, and there was
+    /// room: what is kept is then of the history with the event. After each fault everything is as it
+    /// was, and a refusal names the first fault in the order of [`HistoryFault`].
+    pub fn step(&mut self, event: HistoryEvent) -> Result<(), StepFault>
+        ensures ok { (w : Windows) → StandsFor (kept self.old) w → OnOk result ((fault w event.entry ≡ None) × StandsFor (kept self.new) (windows_after w event.entry)) }
+        ensures fault { (w : Windows) → StandsFor (kept self.old) w → IfErr result (StepFaultIs w event.entry) }
+        ensures unchanged { OnErr result (kept self.new ≡ kept self.old) }
+    {
+        self.kept_step(event)
+    }
+
+    fn kept_fault(&self, event: HistoryEvent) -> Option<HistoryFault>
+        ensures { result ≡ kept_fault (kept self.now) event.entry }
+    {
+        match event {
+            HistoryEvent::LoadRequest {
+                number,
+                address,
+                length,
+            } => load_request_fault(is_inside(address, length), self.has_open_load(number)),
+            HistoryEvent::LoadResponse { number, bytes } => self.load_response_fault(number, bytes),
+            HistoryEvent::StoreRequest {
+                number,
+                address,
+                bytes,
+                enables,
+            } => store_request_fault(
+                is_inside(address, bytes.len()),
+                has_enabled(bytes, enables),
+                self.has_open_store(number),
+            ),
+            HistoryEvent::StoreResponse { number } => {
+                store_response_fault(self.has_open_store(number))
+            }
+        }
+    }
+
+    // Whether a load is open under this number.
+    fn has_open_load(&self, number: u64) -> bool
+        ensures { result ≡ list_any (is_open_of number) (kept self.now).open_bytes }
+    {
+        self.loads.iter().any(|load| is_open_of(load, number))
+    }
+
+    // Whether a store is open under this number.
+    fn has_open_store(&self, number: u64) -> bool
+        ensures { result ≡ list_any (is_open number) (kept self.now).live }
+    {
+        self.live.iter().any(|store| is_open(store, number))
+    }
+
+    // Why the load that is open under this number may not be answered with these bytes.
+    fn load_response_fault(&self, number: u64, bytes: &[u8]) -> Option<HistoryFault>
+        ensures { result ≡ load_response_fault may_have (filter (is_open_of number) (kept self.now).open_bytes) bytes.now }
+    {
+        let loads = self.loads.as_slice();
+        let length = length_of(loads, number);
+        if length == 0 {
+            Some(HistoryFault::NotOpen)
+        } else if length == bytes.len() {
+            wrong_byte(wrong_place(loads, number, bytes))
+        } else {
+            Some(HistoryFault::WrongLength)
+        }
+    }
+
+    fn kept_set(&self, number: u64, address: u64) -> Option<ByteSet>
+        ensures { result ≡ option_map (λ o. o.may) (find (is_open_at number address) (kept self.now).open_bytes) }
+    {
+        match open_byte(self.loads.as_slice(), number, address) {
+            None => None,
+            Some(load) => Some(load.may),
+        }
+    }
+
+    fn kept_step(&mut self, event: HistoryEvent) -> Result<(), StepFault>
+        ensures ok { OnOk result (kept_step (kept self.old) event.entry ≡ Some (kept self.new)) }
+        ensures fault { IfErr result (KeptFaultIs (kept self.old) event.entry) }
+        ensures unchanged { OnErr result (kept self.new ≡ kept self.old) }
+    {
+        if let Some(fault) = self.kept_fault(event) {
+            return Err(StepFault::Refused(fault));
+        }
+        if self.moment == u64::MAX {
+            return Err(StepFault::TooLong);
+        }
+        self.change(event)?;
+        Ok(())
+    }
+
+    // The change that an event of the law makes.
+    fn change(&mut self, event: HistoryEvent) -> Result<(), AllocError>
+        requires moment { (kept self.old).moment < 18446744073709551615 }
+        requires law { kept_fault (kept self.old) event ≡ None }
+        ensures ok { OnOk result (kept self.new ≡ kept_after (kept self.old) event.entry) }
+        ensures err { OnErr result (kept self.new ≡ kept self.old) }
+    {
+        match event {
+            HistoryEvent::LoadRequest {
+                number,
+                address,
+                length,
+            } => self.request_load(number, address, length)?,
+            HistoryEvent::LoadResponse { number, bytes: _ } => end_load(&mut self.loads, number),
+            HistoryEvent::StoreRequest {
+                number,
+                address,
+                bytes,
+                enables,
+            } => self.request_store(number, address, bytes, enables)?,
+            HistoryEvent::StoreResponse { number } => self.answer_store(number)?,
+        }
+        self.moment += 1;
+        Ok(())
+    }
+
+    // A load is open under this number from now on.
+    fn request_load(&mut self, number: u64, address: u64, length: usize) -> Result<(), AllocError>
+        requires { is_inside address length ≡ true }
+        ensures ok { OnOk result (kept self.new ≡ record (kept self.old) { open_bytes = (kept self.old).open_bytes ++ map (opened (kept self.old).image (kept self.old).rest (kept self.old).live) (load_bytes number address length (kept self.old).moment) }) }
+        ensures err { OnErr result (kept self.new ≡ kept self.old) }
+    {
+        self.loads.reserve(length)?;
+        let memory = (self.image.as_slice(), self.rest, self.live.as_slice());
+        add_load(
+            &mut self.loads,
+            memory,
+            number,
+            address,
+            length,
+            self.moment,
+        );
+        Ok(())
+    }
+
+    // A store is open under this number from now on.
+    fn request_store(
+        &mut self,
+        number: u64,
+        address: u64,
+        bytes: &[u8],
+        enables: u64,
+    ) -> Result<(), AllocError>
+        requires { is_inside address (length bytes.now) ≡ true }
+        ensures ok { OnOk result (let added = store_bytes number address bytes.now enables (kept self.old).moment in kept self.new ≡ record (kept self.old) { live = (kept self.old).live ++ added; open_bytes = map (after_stores added) (kept self.old).open_bytes }) }
+        ensures err { OnErr result (kept self.new ≡ kept self.old) }
+    {
+        self.live.reserve(bytes.len())?;
+        let first = self.live.len();
+        add_store(&mut self.live, number, address, bytes, enables, self.moment);
+        show_stores(self.loads.as_mut_slice(), &self.live[first..]);
+        Ok(())
+    }
+
+    // The store that is open under this number is answered.
+    fn answer_store(&mut self, number: u64) -> Result<(), AllocError>
+        ensures ok { OnOk result (kept self.new ≡ record (kept self.old) { live = live_after number (kept self.old).moment (kept self.old).live }) }
+        ensures err { OnErr result (kept self.new ≡ kept self.old) }
+    {
+        let ending = open_store(*self.live.allocator(), self.live.as_slice(), number)?;
+        answer_store(&mut self.live, ending.as_slice(), number, self.moment);
+        Ok(())
+    }
+}
+// Of the faults of an event, the first in the order of its own list.
+fn load_request_fault(inside: bool, used: bool) -> Option<HistoryFault>
+    ensures { result ≡ load_request_fault inside used }
+{
+    if !inside {
+        Some(HistoryFault::OutOfRange)
+    } else if used {
+        Some(HistoryFault::NumberInUse)
+    } else {
+        None
+    }
+}
+
+fn store_request_fault(inside: bool, any: bool, used: bool) -> Option<HistoryFault>
+    ensures { result ≡ store_request_fault inside any used }
+{
+    if !inside {
+        Some(HistoryFault::OutOfRange)
+    } else if !any {
+        Some(HistoryFault::NoByteEnabled)
+    } else if used {
+        Some(HistoryFault::NumberInUse)
+    } else {
+        None
+    }
+}
+
+fn store_response_fault(used: bool) -> Option<HistoryFault>
+    ensures { result ≡ store_response_fault used }
+{
+    if used {
+        None
+    } else {
+        Some(HistoryFault::NotOpen)
+    }
+}
+
+fn wrong_byte(place: Option<usize>) -> Option<HistoryFault>
+    ensures { result ≡ wrong_byte place }
+{
+    match place {
+        None => None,
+        Some(place) => Some(HistoryFault::WrongByte { place }),
+    }
+}

@@ -1,0 +1,213 @@
+//! The bytes of operations with their windows, and the regular law over lists of them.
+
+ghost use Rattle.std.specs.Prelude.{◌≡◌, ◌+◌, ◌≤◌, ◌↔◌, ◌++◌, ◌^◌, IsTrue, length, map, not, vec_len, vec_capacity, slice_get};
+ghost use Rattle.std.specs.List.{filter, list_any};
+ghost use Rattle.memory_histories.specs.Windows.{store_bytes, load_bytes, is_open, is_of, is_at, after_response};
+ghost use Rattle.memory_histories.specs.Hidden.{Explains};
+ghost use Rattle.memory_histories.specs.Regular.{is_initial, is_rest, is_before, overwrites, is_overwritten, is_left, is_covered, is_inside, has_enabled, may_return_byte, MayReturn};
+
+use crate::events::{MAX_LENGTH, Rest};
+
+/// One enabled byte of a store, and the window of its store: a store of many bytes is many stores of
+/// a byte, which begin and end together.
+#[derive(Clone, Copy, PartialEq, Eq, Debug)]
+pub struct StoreByte {
+    /// The number of the store.
+    pub number: u64,
+    /// The byte's address.
+    pub address: u64,
+    /// The byte.
+    pub byte: u8,
+    /// The event that requested it, counted from 0.
+    pub began: u64,
+    /// The event that answered it, or `None` while it is open.
+    pub ended: Option<u64>,
+}
+
+/// One byte of an open load.
+#[derive(Clone, Copy, PartialEq, Eq, Debug)]
+pub struct LoadByte {
+    /// The number of the load.
+    pub number: u64,
+    /// The byte's address.
+    pub address: u64,
+    /// The event that requested it, counted from 0.
+    pub began: u64,
+}
+
+// Whether an operation of so many bytes lies within memory.
+pub(crate) fn is_inside(address: u64, length: usize) -> bool
+    ensures { result ≡ is_inside address length }
+{
+    1 <= length && (length <= MAX_LENGTH && u128::from(address) + length as u128 <= 1 << 64)
+}
+
+#[tactic(auto, using(crate::proofs::Loops::has_enabled_more))]
+// Whether one of the bytes is enabled.
+pub(crate) fn has_enabled(bytes: &[u8], enables: u64) -> bool
+    ensures { result ≡ has_enabled bytes.now enables }
+{
+    let mut left = enables;
+    for _byte in bytes {
+        if left % 2 == 1 {
+            return true;
+        }
+        left /= 2;
+    }
+    false
+}
+
+// Whether a byte's store is open, under this number.
+pub(crate) fn is_open(store: &StoreByte, number: u64) -> bool
+    ensures { result ≡ is_open number store.now }
+{
+    store.ended.is_none() && store.number == number
+}
+
+// Whether memory may have had the byte at this address before the first store.
+fn is_initial(image: &[u8], rest: Rest, address: u64, byte: u8) -> bool
+    ensures { result ≡ is_initial (slice_get image.now address) rest byte }
+{
+    match image.get(address as usize) {
+        Some(first) => *first == byte,
+        None => is_rest(rest, byte),
+    }
+}
+
+fn is_rest(rest: Rest, byte: u8) -> bool
+    ensures { result ≡ is_rest rest byte }
+{
+    match rest {
+        Rest::Zeros => byte == 0,
+        Rest::Unknown => true,
+    }
+}
+
+// Whether an operation was answered before the moment.
+pub(crate) fn is_before(ended: Option<u64>, moment: u64) -> bool
+    ensures { result ≡ is_before ended moment }
+{
+    match ended {
+        None => false,
+        Some(end) => end < moment,
+    }
+}
+
+// Whether another store to the byte was requested after the response of this one, and answered before
+// the moment.
+fn is_overwritten(stores: &[StoreByte], store: &StoreByte, moment: u64) -> bool
+    ensures { result ≡ is_overwritten stores.now store.now moment }
+{
+    stores.iter().any(|other| {
+        other.address == store.address
+            && (is_before(store.ended, other.began) && is_before(other.ended, moment))
+    })
+}
+
+// Whether a load may return this byte as what a store left.
+fn is_left(stores: &[StoreByte], load: &LoadByte, byte: u8) -> bool
+    ensures { result ≡ is_left stores.now load.now byte }
+{
+    stores.iter().any(|store| {
+        store.address == load.address
+            && (store.byte == byte && !is_overwritten(stores, store, load.began))
+    })
+}
+
+// Whether a store to the byte was answered before the load's request.
+fn is_covered(stores: &[StoreByte], load: &LoadByte) -> bool
+    ensures { result ≡ is_covered stores.now load.now }
+{
+    stores.iter().any(|store| store.address == load.address && is_before(store.ended, load.began))
+}
+
+// Whether a byte is of the load that is open under this number.
+pub(crate) fn is_of(load: &LoadByte, number: u64) -> bool
+    ensures { result ≡ is_of number load.now }
+{
+    load.number == number
+}
+
+// Whether a byte is the one at this address of the load that is open under this number.
+pub(crate) fn is_at(load: &LoadByte, number: u64, address: u64) -> bool
+    ensures { result ≡ is_at number address load.now }
+{
+    is_of(load, number) && load.address == address
+}
+
+// Adds the enabled bytes of a store that is requested at this moment.
+pub(crate) fn add_store(
+    stores: &mut Vec<StoreByte>,
+    number: u64,
+    address: u64,
+    bytes: &[u8],
+    enables: u64,
+    moment: u64,
+)
+    requires room { vec_len stores.old + length bytes.now ≤ vec_capacity stores.old }
+    requires inside { address + length bytes.now ≤ 2 ^ 64 }
+    ensures { stores.new.items ≡ stores.old.items ++ store_bytes number address bytes.now enables moment }
+{
+    let mut left = enables;
+    for (k, byte) in bytes.iter().enumerate() {
+        if left % 2 == 1 {
+            stores.push_reserved(StoreByte {
+                number,
+                address: address + k as u64,
+                byte: *byte,
+                began: moment,
+                ended: None,
+            });
+        }
+        left /= 2;
+    }
+}
+
+// The byte after the response of the store that is open under this number.
+fn after_response(store: StoreByte, number: u64, moment: u64) -> StoreByte
+    ensures { result ≡ after_response number moment store }
+{
+    if is_open(&store, number) {
+        StoreByte {
+            ended: Some(moment),
+            ..store
+        }
+    } else {
+        store
+    }
+}
+
+// The store that is open under this number is answered at this moment.
+pub(crate) fn end_store(stores: &mut [StoreByte], number: u64, moment: u64)
+    ensures { stores.new ≡ map (after_response number moment) stores.old }
+{
+    for store in stores.iter_mut() {
+        *store = after_response(*store, number, moment);
+    }
+}
+
+// Whether a load may return this byte if it is answered now.
+pub(crate) fn may_return_byte(
+    image: &[u8],
+    rest: Rest,
+    stores: &[StoreByte],
+    load: &LoadByte,
+    byte: u8,
+) -> bool
+    ensures { result ≡ may_return_byte image.now rest stores.now load.now byte }
+{
+    is_left(stores, load, byte)
+        || (is_initial(image, rest, load.address, byte) && !is_covered(stores, load))
+}
+
+/// Whether a load may return this byte if it is answered now, by the law as it is read aloud: memory
+/// began with this image, and these are the bytes of all stores so far.
+///
+/// It is true whenever hidden moments explain the byte: one for each answered store and for the load,
+/// each within its window, so that the load gets what stands there at its moment.
+pub fn may_return(image: &[u8], rest: Rest, stores: &[StoreByte], load: &LoadByte, byte: u8) -> bool
+    ensures law { IsTrue result ↔ MayReturn image.now rest stores.now load.now byte }
+    ensures sound { Explains image.now rest stores.now load.now byte → IsTrue result }
+{
+    may_return_byte(image, rest, stores, load, byte)
+}
