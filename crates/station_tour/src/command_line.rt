@@ -7,7 +7,7 @@ use station_parts::MAX_PORTS;
 use std::alloc::{AllocError, Global};
 
 /// What is to be shown of a tour.
-#[derive(Clone, Copy)]
+#[derive(Clone, Copy, PartialEq, Eq, Debug)]
 pub(crate) enum Show {
     /// What the ports were told, and what the audit found.
     Story,
@@ -16,7 +16,7 @@ pub(crate) enum Show {
 }
 
 /// What the words of the command line ask for.
-#[derive(Clone, Copy)]
+#[derive(Clone, Copy, PartialEq, Eq, Debug)]
 pub(crate) enum Job {
     /// The ports of a plan are run, and this is told of them.
     Tour { plan: Plan, show: Show },
@@ -71,15 +71,6 @@ fn flag<'a>(alloc: Global, name: &'a str, help: &'a str) -> Arg<'a> {
         .help(help)
 }
 
-fn ports<'a>(alloc: Global) -> Arg<'a> {
-    number(
-        alloc,
-        "ports",
-        i64::from(MAX_PORTS),
-        "How many ports ask, 1 to 16 [default: 4]",
-    )
-}
-
 fn asks<'a>(alloc: Global) -> Arg<'a> {
     number(
         alloc,
@@ -98,82 +89,61 @@ fn seed<'a>(alloc: Global) -> Arg<'a> {
     )
 }
 
-fn journal<'a>(alloc: Global) -> Arg<'a> {
-    flag(
-        alloc,
-        "journal",
-        "Write the journal alone, as a recorded run",
-    )
-}
-
-fn stations<'a>(alloc: Global) -> Arg<'a> {
-    number(
-        alloc,
-        "stations",
-        1_000_000,
-        "How many stations are run [default: 4]",
-    )
-}
-
-fn core_once<'a>(alloc: Global) -> Arg<'a> {
-    flag(
-        alloc,
-        "core-once",
-        "Serve the asks once by the core, and tell nothing",
-    )
-}
-
-fn hand_once<'a>(alloc: Global) -> Arg<'a> {
-    flag(
-        alloc,
-        "hand-once",
-        "Serve them once by a station that is stepped by hand, and tell nothing",
-    )
-}
-
 // The subcommand that runs stations at random.
 fn soak_command<'a>(alloc: Global) -> Result<Command<'a>, AllocError> {
-    let args = vec![in alloc; stations(alloc), seed(alloc)]?;
     Command::new(alloc, SOAK)
         .about("Run stations at random on threads, and look at each")
         .after_help(SOAK_NOTES)
-        .args(args)
+        .arg(number(
+            alloc,
+            "stations",
+            1_000_000,
+            "How many stations are run [default: 4]",
+        ))?
+        .arg(seed(alloc))
 }
 
 // The subcommand that measures.
 fn rates_command<'a>(alloc: Global) -> Result<Command<'a>, AllocError> {
-    let args = vec![in alloc;
-        asks(alloc),
-        seed(alloc),
-        core_once(alloc),
-        hand_once(alloc),
-    ]?;
     Command::new(alloc, RATES)
         .about("Tell how many asks a second are served, of the asks of sixteen ports")
-        .args(args)
+        .arg(asks(alloc))?
+        .arg(seed(alloc))?
+        .arg(flag(
+            alloc,
+            "core-once",
+            "Serve the asks once by the core, and tell nothing",
+        ))?
+        .arg(flag(
+            alloc,
+            "hand-once",
+            "Serve them once by a station that is stepped by hand, and tell nothing",
+        ))
 }
 
-// The program without its options and subcommands.
-fn bare_program<'a>(alloc: Global) -> Result<Command<'a>, AllocError> {
+// The program's whole command line.
+fn program<'a>(alloc: Global) -> Result<Command<'a>, AllocError> {
     Command::new(alloc, NAME)
         .version("0.1.0")
         .about("Ports on threads over one lockup-free cache, and an audit of what they were told")
         .after_help(NOTES)
         .no_binary_name(true)
+        .bin_name(NAME)?
         .disable_help_subcommand(true)
         .args_conflicts_with_subcommands(true)
-        .bin_name(NAME)
-}
-
-// The program with the options of a tour.
-fn tour_command<'a>(alloc: Global) -> Result<Command<'a>, AllocError> {
-    let args = vec![in alloc; ports(alloc), asks(alloc), seed(alloc), journal(alloc)]?;
-    bare_program(alloc)?.args(args)
-}
-
-// The program's whole command line.
-fn program<'a>(alloc: Global) -> Result<Command<'a>, AllocError> {
-    tour_command(alloc)?
+        .arg(number(
+            alloc,
+            "ports",
+            i64::from(MAX_PORTS),
+            "How many ports ask, 1 to 16 [default: 4]",
+        ))?
+        .arg(asks(alloc))?
+        .arg(seed(alloc))?
+        .arg(flag(
+            alloc,
+            "journal",
+            "Write the journal alone, as a recorded run",
+        ))?
         .subcommand(soak_command(alloc)?)?
         .subcommand(rates_command(alloc)?)
 }
@@ -221,19 +191,17 @@ fn soak_job(matches: &ArgMatches<'_>) -> Job {
 
 fn rates_job(matches: &ArgMatches<'_>) -> Job {
     let plan = plan_of(MAX_PORTS, matches);
-    match once_by(matches) {
-        Some(server) => Job::Once { plan, server },
-        None => Job::Rates { plan },
-    }
-}
-
-// Who is to serve the requests once, if they aren't to be measured.
-fn once_by(matches: &ArgMatches<'_>) -> Option<Server> {
     if matches.get_flag("core-once") {
-        Some(Server::Core)
+        Job::Once {
+            plan,
+            server: Server::Core,
+        }
     } else if matches.get_flag("hand-once") {
-        Some(Server::Hand)
+        Job::Once {
+            plan,
+            server: Server::Hand,
+        }
     } else {
-        None
+        Job::Rates { plan }
     }
 }

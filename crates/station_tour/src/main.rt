@@ -45,15 +45,6 @@ fn start<R: AllocGlobal + Clock + Env + Print + Threads + Sync, E: Print>(
     rt: &R,
     errors: &E,
 ) -> Result<u8, StationFault> {
-    let job = asked_for(rt)?;
-    let mut output = BufWriter::new(rt.alloc(), io::writer(rt))?;
-    let is_good = make(rt, &mut output, &mut io::writer(errors), job)?;
-    output.flush()?;
-    Ok(u8::from(!is_good))
-}
-
-// What the words of the command line ask for.
-fn asked_for<R: AllocGlobal + Env>(rt: &R) -> Result<Job, StationFault> {
     let alloc = rt.alloc();
     let words: Vec<String> = env::args(rt)?.collect(alloc)?;
     let texts: Vec<&str> = words
@@ -61,20 +52,15 @@ fn asked_for<R: AllocGlobal + Env>(rt: &R) -> Result<Job, StationFault> {
         .skip(1)
         .map(|word| word.as_str())
         .collect(alloc)?;
-    read_words(alloc, &texts)
-}
-
-// Does a job. Says whether nothing wrong was found.
-fn make<R: AllocGlobal + Clock + Threads + Sync, W: Write, E: Write>(
-    rt: &R,
-    output: &mut W,
-    errors: &mut E,
-    job: Job,
-) -> Result<bool, StationFault> {
-    match job {
-        Job::Tour { plan, show } => tour(rt, output, errors, &plan, show),
-        Job::Soak { stations, seed } => soak(rt, output, errors, stations, seed),
-        Job::Rates { plan } => tell_rates(rt, output, &plan),
-        Job::Once { plan, server } => serve_once(rt, server, &plan),
-    }
+    let job = read_words(alloc, &texts)?;
+    let mut output = BufWriter::new(alloc, io::writer(rt))?;
+    let mut errors = io::writer(errors);
+    let is_good = match job {
+        Job::Tour { plan, show } => tour(rt, &mut output, &mut errors, &plan, show)?,
+        Job::Soak { stations, seed } => soak(rt, &mut output, &mut errors, stations, seed)?,
+        Job::Rates { plan } => tell_rates(rt, &mut output, &plan)?,
+        Job::Once { plan, server } => serve_once(rt, server, &plan)?,
+    };
+    output.flush()?;
+    Ok(u8::from(!is_good))
 }

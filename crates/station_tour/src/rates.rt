@@ -18,7 +18,7 @@ use station_parts::{MAX_PORTS, PORT_TAGS};
 use std::alloc::{AllocError, Global};
 use std::fmt;
 use std::fmt::{Display, Formatter};
-use std::io::{self, Write};
+use std::io::Write;
 use std::rt::Clock;
 use std::thread::Threads;
 use std::time::{Duration, Instant};
@@ -39,7 +39,7 @@ const SERVERS: [Server; 7] = [
 ];
 
 /// Who serves the requests.
-#[derive(Clone, Copy)]
+#[derive(Clone, Copy, PartialEq, Eq, Debug)]
 pub(crate) enum Server {
     /// The core, moved by its driver, on one thread.
     Core,
@@ -102,32 +102,17 @@ pub(crate) fn tell_rates<R: AllocGlobal + Clock + Threads + Sync, W: Write>(
     let alloc = rt.alloc();
     let requests = requests(alloc, plan)?;
     let mut timings = Timing::of_servers(alloc)?;
-    let all_good = run_all(rt, &mut timings, &requests)?;
-    tell(out, &mut timings, requests.len() as u64)?;
-    Ok(all_good)
-}
-
-// Runs each server as often as is measured. Says whether all went well.
-fn run_all<R: AllocGlobal + Clock + Threads + Sync>(
-    rt: &R,
-    timings: &mut [Timing],
-    requests: &[Ask],
-) -> Result<bool, StationFault> {
     let mut all_good = true;
     for _run in 0..RUNS {
-        all_good &= run_each(rt, timings, requests)?;
+        all_good &= run_each(rt, &mut timings, &requests)?;
     }
-    Ok(all_good)
-}
-
-// Tells each server's rate, of so many requests.
-fn tell<W: Write>(out: &mut W, timings: &mut [Timing], count: u64) -> io::Result<()> {
+    let count = requests.len() as u64;
     writeln!(out, "{count} requests, each rate the median of {RUNS} runs")?;
-    for timing in timings {
+    for timing in &mut timings {
         let rate = per_second(count, timing.median());
         writeln!(out, "{}: {rate} asks per second", timing.server)?;
     }
-    Ok(())
+    Ok(all_good)
 }
 
 // Runs each server once. Says whether all went well.

@@ -10,32 +10,17 @@ mod trial;
 use crate::fault::StationFault;
 use crate::soak::random_gate::RandomGate;
 use crate::soak::trial::{Draws, Trial};
-use ring_station::{RunFault, Station, Told, audit, run_threads, station};
+use ring_station::{
+    BankSide, CacheSide, Port, RunFault, Station, Told, audit, run_threads, station,
+};
 use station_checks::{Findings, Outcome, read_journal};
 use std::alloc::{AllocError, Global};
-use std::io::{self, Write};
+use std::io::Write;
 use std::rt::Clock;
 use std::thread::Threads;
 
 // So many stations pass between two lines that tell how far the soak is.
 const STEP: u32 = 100;
-
-/// How many stations of a soak have failed, and how many came to a limit of their turns.
-#[derive(Clone, Copy)]
-struct Tally {
-    failed: u32,
-    turn_limits: u32,
-}
-
-impl Tally {
-    fn note(&mut self, outcome: Outcome) {
-        match outcome {
-            Outcome::Good => {}
-            Outcome::TurnLimit => self.turn_limits = self.turn_limits.saturating_add(1),
-            Outcome::Failed => self.failed = self.failed.saturating_add(1),
-        }
-    }
-}
 
 /// Runs so many stations, and tells of each in which something wrong was found, and in the end how
 /// many there were. Says whether there was none.
@@ -46,40 +31,27 @@ pub(crate) fn soak<R: AllocGlobal + Clock + Threads + Sync, W: Write, E: Write>(
     stations: u32,
     seed: u64,
 ) -> Result<bool, StationFault> {
-    let mut tally = Tally {
-        failed: 0,
-        turn_limits: 0,
-    };
+    let mut failed: u32 = 0;
+    let mut turn_limits: u32 = 0;
     for number in 0..stations {
         let findings = run_any(rt, seed, number)?;
-        tally.note(findings.outcome());
-        tell_station(errors, number, &findings, tally)?;
+        match findings.outcome() {
+            Outcome::Good => {}
+            Outcome::TurnLimit => turn_limits = turn_limits.saturating_add(1),
+            Outcome::Failed => {
+                failed = failed.saturating_add(1);
+                writeln!(errors, "station {number}: {findings:?}")?;
+            }
+        }
+        if number % STEP == STEP - 1 {
+            writeln!(errors, "station {number}: {failed} failed so far")?;
+        }
     }
-    let Tally {
-        failed,
-        turn_limits,
-    } = tally;
     writeln!(
         output,
         "{stations} stations, {failed} failed, {turn_limits} turn limits"
     )?;
     Ok(failed == 0)
-}
-
-// Tells of a station in which something wrong was found, and now and then how far the soak is.
-fn tell_station<E: Write>(
-    errors: &mut E,
-    number: u32,
-    findings: &Findings,
-    tally: Tally,
-) -> io::Result<()> {
-    if let Outcome::Failed = findings.outcome() {
-        writeln!(errors, "station {number}: {findings:?}")?;
-    }
-    if number % STEP == STEP - 1 {
-        writeln!(errors, "station {number}: {} failed so far", tally.failed)?;
-    }
-    Ok(())
 }
 
 // Runs the station of this number, with the least, the most or other ways, words of a block,
@@ -91,32 +63,66 @@ fn run_any<R: AllocGlobal + Clock + Threads + Sync>(
 ) -> Result<Findings, StationFault> {
     let draws = Draws::new(seed, number);
     match number % 4 {
-        0 => run_station::<R, 1, 1, 1, 1>(rt, draws, 1),
-        1 => run_station::<R, 8, 16, 16, 16>(rt, draws, 16),
-        2 => run_station::<R, 2, 4, 4, 4>(rt, draws, 4),
-        _ => run_station::<R, 3, 2, 5, 1>(rt, draws, 2),
+        0 => run_least(rt, draws),
+        1 => run_most(rt, draws),
+        2 => run_common(rt, draws),
+        _ => run_uneven(rt, draws),
     }
 }
 
-// Makes a station of drawn numbers, with so many words in a block, runs it, and looks at what the run
-// left.
-fn run_station<
-    R: AllocGlobal + Clock + Threads + Sync,
-    const WAYS: usize,
-    const WORDS: usize,
-    const REGS: usize,
-    const DEPTH: usize,
->(rt: &R, mut draws: Draws, block_words: u32) -> Result<Findings, StationFault> {
-    let alloc = rt.alloc();
-    let trial = Trial::draw(&mut draws, block_words);
-    let mut station: Station<WAYS, WORDS, REGS, DEPTH> = station(
-        alloc,
-        trial.shape,
-        trial.ports,
-        trial.journal,
-    )?;
-    let ran = run_one(rt, &mut draws, &trial, &mut station)?;
-    look_at(alloc, &mut station, trial.shape.words, ran)
+// Makes a station of drawn numbers over the given ways, words of a block, registers and places of the
+// stack, runs it, and looks at what the run left.
+macro_rules! run_station {
+    ($rt:ident, $draws:ident, $ways:literal, $words:literal, $regs:literal, $depth:literal) => {{
+        let trial = Trial::draw(&mut $draws, $words);
+        let mut station = station::<$ways, $words, $regs, $depth>(
+            $rt.alloc(),
+            trial.shape,
+            trial.ports,
+            trial.journal,
+        )?;
+        let ran = run_one($rt, &mut $draws, &trial, &mut station)?;
+        look_at(
+            $rt.alloc(),
+            &mut station.cache,
+            &mut station.ports,
+            &mut station.banks,
+            trial.shape.words,
+            ran,
+        )
+    }};
+}
+
+// One station with the least of each.
+fn run_least<R: AllocGlobal + Clock + Threads + Sync>(
+    rt: &R,
+    mut draws: Draws,
+) -> Result<Findings, StationFault> {
+    run_station!(rt, draws, 1, 1, 1, 1)
+}
+
+// One station with the most of each.
+fn run_most<R: AllocGlobal + Clock + Threads + Sync>(
+    rt: &R,
+    mut draws: Draws,
+) -> Result<Findings, StationFault> {
+    run_station!(rt, draws, 8, 16, 16, 16)
+}
+
+// One station with the program's usual numbers.
+fn run_common<R: AllocGlobal + Clock + Threads + Sync>(
+    rt: &R,
+    mut draws: Draws,
+) -> Result<Findings, StationFault> {
+    run_station!(rt, draws, 2, 4, 4, 4)
+}
+
+// One station whose numbers are no powers of two.
+fn run_uneven<R: AllocGlobal + Clock + Threads + Sync>(
+    rt: &R,
+    mut draws: Draws,
+) -> Result<Findings, StationFault> {
+    run_station!(rt, draws, 3, 2, 5, 1)
 }
 
 // What a run gave: a list for each port, or why it gave none.
@@ -145,22 +151,24 @@ fn run_one<
     Ok(run_threads(rt, alloc, station, &scripts, trial.turns, &gate))
 }
 
-// What a run left of a station with so many words of memory.
+// What a run left of the parts of a station with so many words of memory.
 fn look_at<const WAYS: usize, const WORDS: usize, const REGS: usize, const DEPTH: usize>(
     alloc: Global,
-    station: &mut Station<WAYS, WORDS, REGS, DEPTH>,
+    cache: &mut CacheSide<WAYS, WORDS, REGS, DEPTH>,
+    ports: &mut [Port],
+    banks: &mut [BankSide],
     words: u32,
     ran: Ran,
 ) -> Result<Findings, StationFault>
-    requires { AreOneStation station.old.cache station.old.ports.items station.old.banks.items }
+    requires { AreOneStation cache.old ports.old banks.old }
 {
     let lists = match ran {
         Ok(lists) => Some(lists),
         Err(RunFault::TurnLimit) => None,
         Err(RunFault::OutOfMemory) => return Err(StationFault::OutOfMemory),
     };
-    let audit = audit(&mut station.cache, &mut station.ports, &mut station.banks);
-    let journal = read_journal(alloc, &station.cache)?;
+    let audit = audit(cache, ports, banks);
+    let journal = read_journal(alloc, cache)?;
     let lists = lists.as_ref().map(|lists| lists.as_slice());
     Ok(Findings::of_run(alloc, audit, &journal, words, lists)?)
 }

@@ -13,7 +13,7 @@ use station_checks::{
 use std::io::Write;
 use std::rt::Clock;
 use std::thread::Threads;
-use std::time::{Duration, Instant};
+use std::time::Instant;
 
 // Turns of each thread. A run uses them up only if its journal becomes full, and then in some
 // minutes.
@@ -45,7 +45,9 @@ pub(crate) fn tour<R: AllocGlobal + Clock + Threads + Sync, W: Write, E: Write>(
 ) -> Result<bool, StationFault> {
     let alloc = rt.alloc();
     let scripts = plan.scripts(alloc)?;
-    let (ran, took) = timed_run(rt, plan, &scripts)?;
+    let begun = Instant::now(rt)?;
+    let ran = run_on_threads(rt, plan, &scripts)?;
+    let took = begun.elapsed(rt)?;
     let journal = read_journal(alloc, &ran.station.cache)?;
     let findings = Findings::of_run(alloc, ran.audit, &journal, WORDS, Some(&ran.lists))?;
     match show {
@@ -55,19 +57,6 @@ pub(crate) fn tour<R: AllocGlobal + Clock + Threads + Sync, W: Write, E: Write>(
     output.flush()?;
     tell_run(errors, plan, &journal, &ran.lists, took)?;
     Ok(findings.outcome() == Outcome::Good)
-}
-
-// Runs the scripts, and says how long that took.
-fn timed_run<R: AllocGlobal + Clock + Threads + Sync>(
-    rt: &R,
-    plan: &Plan,
-    scripts: &[Vec<Ask>],
-) -> Result<(Ran, Duration), StationFault>
-    requires { length scripts.now ≡ plan.now.ports }
-{
-    let begun = Instant::now(rt)?;
-    let ran = run_on_threads(rt, plan, scripts)?;
-    Ok((ran, begun.elapsed(rt)?))
 }
 
 // Runs the scripts on threads, and audits the station.

@@ -4,7 +4,7 @@ use std::hint;
 use std::sync::atomic::{AtomicBool, AtomicU64, Ordering};
 
 /// Whom a gate holds.
-#[derive(Clone, Copy, PartialEq, Eq, Debug)]
+#[derive(Clone, Copy)]
 pub(crate) enum Rule {
     /// Nobody.
     Open,
@@ -187,7 +187,10 @@ impl Gate for RuledGate {
     fn told(&self, port: u32, told: &Told) {
         let heard = if port == 0 { &self.first } else { &self.second };
         heard.note(told);
-        if self.rule == Rule::Dwelling && port == 0 && !self.has_dwelt.load(Ordering::SeqCst) {
+        if let Rule::Dwelling = self.rule
+            && port == 0
+            && !self.has_dwelt.load(Ordering::SeqCst)
+        {
             self.dwell();
         }
     }

@@ -68,6 +68,13 @@ pub(crate) struct Run {
     facts: &'static [Fact],
 }
 
+impl Run {
+    /// A port for each script. A station has none of so many ports that they aren't counted.
+    pub(crate) fn ports(&self) -> u32 {
+        u32::try_from(self.scripts.len()).unwrap_or(u32::MAX)
+    }
+}
+
 // Each row begins with these numbers.
 const RUN: Run = Run {
     name: "",
@@ -377,7 +384,7 @@ fn make_run<R: Abort + Clock + Threads + Sync>(
     run: &Run,
 ) -> Result<(), Fail> {
     let scripts = scripts_of(alloc, run.scripts)?;
-    let mut all: SmallStation = station(alloc, SHAPE, scripts.len() as u32, run.journal)?;
+    let mut all: SmallStation = station(alloc, SHAPE, run.ports(), run.journal)?;
     assert_eq!(rt; scripts.len(), all.ports.len());
     let gate = RuledGate::new(run.rule);
     let ended = run_threads(rt, alloc, &mut all, &scripts, run.turns, &gate);

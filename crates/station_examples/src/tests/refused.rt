@@ -47,7 +47,7 @@ fn station_may_find_no_memory(rt: HostRuntime) {
 fn made(rt: &impl Abort, alloc: Global, run: &Run) -> Result<SmallStation, RunFault>
     ensures { IfOk result (λ s. AreOneStation s.cache s.ports.items s.banks.items) }
 {
-    match station(alloc, SHAPE, run.scripts.len() as u32, run.journal) {
+    match station(alloc, SHAPE, run.ports(), run.journal) {
         Ok(all) => Ok(all),
         Err(fault) => {
             assert_eq!(rt; fault, MakeFault::OutOfMemory);
