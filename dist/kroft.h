@@ -1,0 +1,381 @@
+/*
+ * Kroft for C and C++: the judge of one step of flat memory, and the machine behind a handle.
+ *
+ * Link with -lkroft (`./kroft-lib DIR` leaves libkroft.a, libkroft.so and this file in DIR). C99 and
+ * later, C++11 and later.
+ *
+ * Every function answers every number, row and length that it is given; none aborts. What nothing
+ * checks, and the caller keeps: each pointer is valid, not null (also beside a length of 0), aligned
+ * for its type, and overlaps none of the call's others; each length is true. For a handle also: nobody
+ * else writes it or copies it to use the copy, and no two calls have it at once.
+ */
+#ifndef KROFT_H
+#define KROFT_H
+
+#include <stddef.h>
+#include <stdint.h>
+
+#ifdef __cplusplus
+extern "C" {
+#endif
+
+/* A word of memory: four bytes, byte 0 first. */
+typedef struct {
+    uint8_t b[4];
+} kroft_word;
+
+/* ---- events and answers ------------------------------------------------------------------------ */
+
+/* What an event is, and the members of its row that are read. */
+enum {
+    KROFT_LOAD = 0,     /* tag, at: the word at `at` is asked for, under a tag                       */
+    KROFT_STORE = 1,    /* at, lanes, word: the bytes of `word` in these lanes are written           */
+    KROFT_PREFETCH = 2, /* at: the block of the word at `at` is wanted in the cache                  */
+    KROFT_EVICT = 3,    /* at: block number `at` is given up                                         */
+    KROFT_DRAIN = 4,    /* the front of the write queue goes to its bank                             */
+    KROFT_SERVE = 5,    /* at: bank `at` serves its first command                                    */
+    KROFT_ARRIVE = 6,   /* at, place: the answer at `place` of bank `at` comes to the input stack    */
+    KROFT_PROCESS = 7,  /* place: the entry of the input stack at `place` is processed               */
+    KROFT_TAKE = 8      /* place: the ready reply at `place` is taken                                */
+};
+
+/* An event. Members that its kind doesn't read may hold anything. */
+typedef struct {
+    uint32_t kind;
+    uint16_t tag;
+    uint8_t lanes; /* bit k is byte k; bits 4 to 7 name no lane */
+    uint32_t at;
+    uint32_t place;
+    kroft_word word;
+} kroft_event;
+
+/* What an answer is, and the members of its row that are read or written. */
+enum {
+    KROFT_ACCEPTED = 0, /* a request or an eviction was accepted                       */
+    KROFT_MOVED = 1,    /* something moved on                                          */
+    KROFT_VALUE = 2,    /* tag, word: a reply was taken, the word that the load got    */
+    KROFT_NOTHING = 3,  /* there was nothing to do                                     */
+    KROFT_REFUSED = 4   /* cause: refused, with everything unchanged                   */
+};
+
+/* Why an event is refused. */
+enum {
+    KROFT_OUT_OF_RANGE = 1, /* the word or block isn't in memory                                     */
+    KROFT_NO_LANES = 2,     /* a store without a lane                                                */
+    KROFT_TAG_IN_USE = 3,   /* the tag is awaited, or its value stands ready                         */
+    KROFT_REPLIES_FULL = 4, /* as many loads are owed values as may be                               */
+    KROFT_TARGETS_FULL = 5, /* four loads wait for the word                                          */
+    KROFT_BLOCK_QUEUED = 6, /* never answered by the machine of this library                         */
+    KROFT_NO_REGISTER = 7,  /* no register is free                                                   */
+    KROFT_SET_PENDING = 8,  /* every way of the set waits for words                                  */
+    KROFT_QUEUE_FULL = 9,   /* the write queue has too few places for the victim's dirty words       */
+    KROFT_BANK_FULL = 10,   /* a bank has too little room                                            */
+    KROFT_NOT_PRESENT = 11, /* no frame holds the block                                              */
+    KROFT_STACK_FULL = 12,  /* the input stack is full                                               */
+    KROFT_STRAY_WORD = 13   /* no register waits for the word; never answered by a whole machine     */
+};
+
+/* An answer. Members that its kind doesn't name may hold anything; those written by this library are 0. */
+typedef struct {
+    uint32_t kind;
+    uint32_t cause;
+    uint16_t tag;
+    kroft_word word;
+} kroft_answer;
+
+/* ---- the judge --------------------------------------------------------------------------------- */
+
+/* The entries of a table of what is owed: one for each tag. */
+#define KROFT_TAGS 65536
+
+/* What a tag is owed: `word`, if `owed` isn't 0. Zeroed, it says that nothing is owed. */
+typedef struct {
+    uint32_t owed;
+    kroft_word word;
+} kroft_due;
+
+/* What the judge says of a step. */
+enum {
+    KROFT_FLAT = 0,     /* flat memory gives this answer to this event                              */
+    KROFT_NOT_FLAT = 1, /* flat memory never gives it                                               */
+    KROFT_NO_STEP = 2   /* nothing was judged: a row says nothing, or `ndue` isn't KROFT_TAGS       */
+};
+
+/*
+ * One step of a run: may flat memory give this answer to this event? Returns KROFT_FLAT, and `words`
+ * and `due` are then as the step leaves them; or KROFT_NOT_FLAT or KROFT_NO_STEP, and then both are as
+ * they were. A row says nothing if its kind is past the last, or if it is a refusal whose cause isn't
+ * 1 to 13.
+ *
+ *     if (kroft_flat_step(words, nwords, due, KROFT_TAGS, &event, &answer) != KROFT_FLAT) {
+ *         char text[KROFT_WHY_TEXT];
+ *         kroft_word owed;
+ *         uint32_t why = kroft_flat_why(words, nwords, due, KROFT_TAGS, &event, &answer, &owed);
+ *         kroft_why_text(why, text, sizeof text);
+ *         fail(text);
+ *     }
+ *
+ * So ask whether it isn't KROFT_FLAT, not whether it is KROFT_NOT_FLAT: after KROFT_NO_STEP nothing was
+ * judged, and the step is no success.
+ *
+ * Flat memory: an accepted store is seen at once, and an accepted load is owed the word as it stood
+ * when it was accepted, until a take answers exactly this word under its tag. The rows need no more
+ * than loads, stores and takes; a client that has the machine's other events gives them too.
+ *
+ * The caller keeps `words` (memory, which begins as the caller likes, of at most 2^32 words) and `due`
+ * (KROFT_TAGS entries, zeroed at first), one pair for each memory. It takes no memory, and needs no
+ * function of any library.
+ */
+uint32_t kroft_flat_step(kroft_word *words, size_t nwords, kroft_due *due, size_t ndue,
+                         const kroft_event *event, const kroft_answer *answer);
+
+/* Why a step isn't accepted. After the first three the event may only be refused, with the cause of the same
+   number (KROFT_OUT_OF_RANGE, KROFT_NO_LANES, KROFT_TAG_IN_USE). */
+enum {
+    KROFT_WHY_FLAT = 0,         /* it is accepted: kroft_flat_step would return KROFT_FLAT                */
+    KROFT_WHY_OUT_OF_RANGE = 1, /* a load, a store or a prefetch of a word that memory hasn't             */
+    KROFT_WHY_NO_LANES = 2,     /* a store without a lane                                                 */
+    KROFT_WHY_TAG_IN_USE = 3,   /* the load's tag is owed a word already                                  */
+    KROFT_WHY_NOTHING_OWED = 4, /* the tag of the value that is taken is owed nothing                     */
+    KROFT_WHY_WRONG_WORD = 5,   /* it is owed another word                                                */
+    KROFT_WHY_OTHER_ANSWER = 6, /* this event never gets such an answer                                   */
+    KROFT_WHY_NO_EVENT = 7,     /* the event's row says nothing                                           */
+    KROFT_WHY_NO_ANSWER = 8,    /* the answer's row says nothing                                          */
+    KROFT_WHY_NO_TABLE = 9      /* `ndue` isn't KROFT_TAGS                                                */
+};
+
+/*
+ * Why a step with these arguments isn't accepted; it changes neither `words` nor `due`. Returns KROFT_WHY_FLAT
+ * exactly if kroft_flat_step would return KROFT_FLAT, 1 to 6 exactly if KROFT_NOT_FLAT, and 7 to 9 exactly if
+ * KROFT_NO_STEP. Of the reasons that hold it is the first in the order 7, 8, 9, 1 to 6. After
+ * KROFT_WHY_WRONG_WORD `owed` is the word that the tag is owed; otherwise `owed` is as it was.
+ */
+uint32_t kroft_flat_why(const kroft_word *words, size_t nwords, const kroft_due *due, size_t ndue,
+                        const kroft_event *event, const kroft_answer *answer, kroft_word *owed);
+
+/* The bytes of a buffer that each text of kroft_why_text fits, with the 0 at its end. */
+#define KROFT_WHY_TEXT 64
+
+/*
+ * Writes the text of a reason, in ASCII and with a 0 at its end, into `text`, which has `room` bytes. Returns
+ * the length of the text without the 0. If the two don't fit, nothing is written. A number that no reason has
+ * gets a text that says so.
+ */
+uint32_t kroft_why_text(uint32_t why, char *text, size_t room);
+
+/*
+ * What a tag is owed. Returns 1, and `word` is what it is owed; or 0 if it is owed nothing (or `due` has
+ * no entry for it), and then `word` is as it was.
+ */
+uint32_t kroft_flat_owed(const kroft_due *due, size_t ndue, uint16_t tag, kroft_word *word);
+
+/*
+ * How many tags are owed a word, which is how many accepted loads have no answer yet: a run is complete if this
+ * is 0 at its end. If there are more than `n`, `tag` is the one at place `n` among them, the lowest at place 0;
+ * otherwise `tag` is as it was. Entries of `due` from KROFT_TAGS on count for nothing. Each call reads the table.
+ */
+uint32_t kroft_flat_open(const kroft_due *due, size_t ndue, uint32_t n, uint16_t *tag);
+
+/* ---- the machine ------------------------------------------------------------------------------- */
+
+/*
+ * A machine is a non-blocking, write-back cache over banks of memory, with no clock: the caller makes its
+ * events, one at a time, in any order. Every load gets the word that flat memory held when the load was
+ * accepted.
+ *
+ * A handle holds one machine, or none: then it is closed. Zeroed, it is closed.
+ *
+ *     kroft_handle handle = KROFT_NO_MACHINE;
+ *
+ * kroft_open puts a machine behind it, the calls work on that machine, and kroft_free gives it up with all
+ * its memory. No other call allocates.
+ */
+typedef struct {
+    uint32_t open; /* 0: closed. Written by the library alone, once it was zeroed */
+    void *at;      /* the library's own */
+} kroft_handle;
+
+#define KROFT_NO_MACHINE \
+    { 0, 0 }
+
+/*
+ * The numbers of a machine. The first four have to be one of these twelve rows:
+ *
+ *     ways  block_words  regs  depth          ways  block_words  regs  depth
+ *        1       4         1      1              2      16        16     16
+ *        1       4         4      4              4       4         8      8
+ *        1       8         8      8              4       8         8      8
+ *        2       4         4      4              4      16        16     16
+ *        2       4         8      4              8       8        16     16
+ *        2       8         8      8              8      16        16     16
+ */
+typedef struct {
+    uint32_t ways;        /* ways of a set                                                            */
+    uint32_t block_words; /* words of a block                                                         */
+    uint32_t regs;        /* miss registers (MSHRs)                                                   */
+    uint32_t depth;       /* places of the input stack                                                */
+    uint32_t words;       /* words of memory: 1 to 1048576, and a multiple of block_words             */
+    uint32_t sets;        /* sets of the cache: 1 to 1024                                             */
+    uint32_t banks;       /* banks of memory: 1 to 16                                                 */
+    uint32_t bank_queue;  /* commands that wait at a bank at most: block_words / banks, rounded up,
+                             to 64                                                                    */
+    uint32_t write_queue; /* words that wait in the write queue at most: block_words to 256           */
+    uint32_t replies;     /* loads that are awaited and ready together at most: 1 to 64               */
+} kroft_shape;
+
+/* What a call of the machine says. */
+enum {
+    KROFT_DONE = 0,     /* the call was made                                                          */
+    KROFT_NONE = 0,     /* there is no such thing, or nothing to do                                   */
+    KROFT_FOUND = 1,    /* there is such a thing, or it was done                                      */
+    KROFT_NO_EVENT = 2, /* the row is no event: its kind is past the last                             */
+    KROFT_CLOSED = 3    /* no machine is behind the handle                                            */
+};
+
+/* Why kroft_open opens no machine. */
+enum {
+    KROFT_BAD_WORDS = 5,       /* a number of the shape is out of its range                           */
+    KROFT_BAD_SETS = 6,
+    KROFT_BAD_BANKS = 7,
+    KROFT_BAD_BANK_QUEUE = 8,
+    KROFT_BAD_WRITE_QUEUE = 9,
+    KROFT_BAD_REPLIES = 10,
+    KROFT_BAD_IMAGE = 13,      /* the image hasn't as many words as memory                            */
+    KROFT_NOT_LISTED = 100,    /* the first four numbers are no row of the list                       */
+    KROFT_OUT_OF_MEMORY = 101, /* an allocation was refused                                           */
+    KROFT_OPEN_ALREADY = 102   /* a machine is behind the handle already                              */
+};
+
+/*
+ * Opens a machine over the words of an image, of which it keeps a copy. Returns KROFT_DONE: the machine
+ * stands behind the handle, and nothing has happened in it. Or, and then the handle is as it was, and no
+ * memory is kept, the first that holds of KROFT_OPEN_ALREADY; KROFT_NOT_LISTED; KROFT_BAD_WORDS to
+ * KROFT_BAD_REPLIES, in their order; KROFT_BAD_IMAGE; KROFT_OUT_OF_MEMORY.
+ */
+uint32_t kroft_open(kroft_handle *handle, const kroft_shape *shape, const kroft_word *image, size_t nimage);
+
+/*
+ * Gives the machine up, with all its memory. Returns KROFT_DONE, and the handle is closed; or KROFT_CLOSED:
+ * it was closed already. An open handle that is lost, not freed, leaks its machine.
+ */
+uint32_t kroft_free(kroft_handle *handle);
+
+/*
+ * Makes one event. Returns KROFT_DONE, and `answer` is the machine's; or KROFT_NO_EVENT or KROFT_CLOSED,
+ * and then all is as it was. A refusal is an answer, KROFT_REFUSED: it changes nothing in the machine.
+ * KROFT_BLOCK_QUEUED and KROFT_STRAY_WORD never come.
+ */
+uint32_t kroft_apply(kroft_handle *handle, const kroft_event *event, kroft_answer *answer);
+
+/*
+ * Makes the driver's event, the first of these that is possible: the first ready reply is taken; the first
+ * word of the input stack is processed; the lowest bank with an answer has its first one arrive; the lowest
+ * bank with a command serves it; the write queue's front is drained. Returns KROFT_FOUND: `event` says which
+ * event it was, and `answer` is the machine's; the weight is lower than before. Or KROFT_NONE, nothing is on
+ * its way, or KROFT_CLOSED, and then all is as it was.
+ */
+uint32_t kroft_pump(kroft_handle *handle, kroft_event *event, kroft_answer *answer);
+
+/*
+ * What is on its way, weighed: after as many pumps, or fewer, the weight is 0, and then each load, each
+ * prefetch and each store with a lane that points into memory is accepted. Returns KROFT_DONE, and `weight`
+ * is it; or KROFT_CLOSED, and then `weight` is as it was.
+ */
+uint32_t kroft_weight(kroft_handle *handle, uint64_t *weight);
+
+/*
+ * Whether memory has everything: no register is valid, no word is dirty, and the write queue and the queues
+ * of the banks are empty. Returns KROFT_FOUND if so, else KROFT_NONE; or KROFT_CLOSED.
+ */
+uint32_t kroft_settled(kroft_handle *handle);
+
+/* The calls below return KROFT_FOUND and write what they found; or KROFT_NONE or KROFT_CLOSED, and then what
+   they write is as it was. No call but kroft_open, kroft_free, kroft_apply and kroft_pump changes the machine. */
+
+/* The word of memory at `at`, as it stands in its bank. KROFT_NONE: there is no such word. */
+uint32_t kroft_bank_word(kroft_handle *handle, uint32_t at, kroft_word *word);
+
+/* What a register shows of itself. What doesn't apply is 0. */
+typedef struct {
+    uint32_t valid;     /* 1: it stands for a block that is missing words */
+    uint32_t obsolete;  /* 1: its block lost its frame                    */
+    uint32_t block;     /* the missing block                              */
+    uint32_t frame;     /* the frame of a live register                   */
+    uint32_t processed; /* how many words of the block are processed      */
+} kroft_register_view;
+
+/* The register `slot`. KROFT_NONE: `slot` isn't below `regs`. */
+uint32_t kroft_register(kroft_handle *handle, uint32_t slot, kroft_register_view *view);
+
+/* What a register shows of one word of its block. What doesn't apply is 0. */
+typedef struct {
+    uint32_t send;      /* 1: a load waits for the word                                               */
+    uint32_t in_stack;  /* 1: the word stands in the input stack                                      */
+    uint32_t processed; /* 1: the word was processed                                                  */
+    uint32_t targets;   /* how many loads wait: 0 to 4                                                */
+    uint16_t tag;       /* the tag of the first load that waits                                       */
+    uint8_t code;       /* the lanes of the buffer that the arriving word leaves as they are          */
+    uint8_t held_lanes; /* the lanes whose bytes the first load has already                           */
+    kroft_word held;    /* those bytes: only those in the held lanes count                            */
+} kroft_field_view;
+
+/* Word `i` of the block of the register `slot`. KROFT_NONE: there is no such register or word. */
+uint32_t kroft_field(kroft_handle *handle, uint32_t slot, uint32_t i, kroft_field_view *view);
+
+/* A load that waits for a word. */
+typedef struct {
+    uint16_t tag;
+    uint8_t lanes;   /* the lanes whose bytes it has already                */
+    kroft_word held; /* those bytes: only those in the lanes count          */
+} kroft_target_view;
+
+/* The load at `place` among those that wait for word `i` of the block of the register `slot`, in the order
+   in which they were accepted. KROFT_NONE: there is none. */
+uint32_t kroft_target(kroft_handle *handle, uint32_t slot, uint32_t i, uint32_t place, kroft_target_view *view);
+
+/* ---- the layout that the library was built with ------------------------------------------------ */
+
+#if defined(__cplusplus)
+#define KROFT_ASSERT(name, holds) static_assert(holds, #name)
+#elif defined(__STDC_VERSION__) && __STDC_VERSION__ >= 201112L
+#define KROFT_ASSERT(name, holds) _Static_assert(holds, #name)
+#else
+#define KROFT_ASSERT(name, holds) typedef char kroft_assert_##name[(holds) ? 1 : -1]
+#endif
+
+KROFT_ASSERT(word_size, sizeof(kroft_word) == 4);
+KROFT_ASSERT(event_size, sizeof(kroft_event) == 20);
+KROFT_ASSERT(event_tag, offsetof(kroft_event, tag) == 4);
+KROFT_ASSERT(event_lanes, offsetof(kroft_event, lanes) == 6);
+KROFT_ASSERT(event_at, offsetof(kroft_event, at) == 8);
+KROFT_ASSERT(event_place, offsetof(kroft_event, place) == 12);
+KROFT_ASSERT(event_word, offsetof(kroft_event, word) == 16);
+KROFT_ASSERT(answer_size, sizeof(kroft_answer) == 16);
+KROFT_ASSERT(answer_cause, offsetof(kroft_answer, cause) == 4);
+KROFT_ASSERT(answer_tag, offsetof(kroft_answer, tag) == 8);
+KROFT_ASSERT(answer_word, offsetof(kroft_answer, word) == 10);
+KROFT_ASSERT(due_size, sizeof(kroft_due) == 8);
+KROFT_ASSERT(due_word, offsetof(kroft_due, word) == 4);
+KROFT_ASSERT(handle_size, sizeof(kroft_handle) == 16);
+KROFT_ASSERT(handle_at, offsetof(kroft_handle, at) == 8);
+KROFT_ASSERT(shape_size, sizeof(kroft_shape) == 40);
+KROFT_ASSERT(shape_words, offsetof(kroft_shape, words) == 16);
+KROFT_ASSERT(shape_replies, offsetof(kroft_shape, replies) == 36);
+KROFT_ASSERT(register_size, sizeof(kroft_register_view) == 20);
+KROFT_ASSERT(register_processed, offsetof(kroft_register_view, processed) == 16);
+KROFT_ASSERT(field_size, sizeof(kroft_field_view) == 24);
+KROFT_ASSERT(field_tag, offsetof(kroft_field_view, tag) == 16);
+KROFT_ASSERT(field_code, offsetof(kroft_field_view, code) == 18);
+KROFT_ASSERT(field_held_lanes, offsetof(kroft_field_view, held_lanes) == 19);
+KROFT_ASSERT(field_held, offsetof(kroft_field_view, held) == 20);
+KROFT_ASSERT(target_size, sizeof(kroft_target_view) == 8);
+KROFT_ASSERT(target_lanes, offsetof(kroft_target_view, lanes) == 2);
+KROFT_ASSERT(target_held, offsetof(kroft_target_view, held) == 3);
+
+#undef KROFT_ASSERT
+
+#ifdef __cplusplus
+}
+#endif
+
+#endif
