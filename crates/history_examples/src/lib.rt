@@ -1,0 +1,5 @@
+//! Worked histories of a memory, each judged event by event.
+#![tactic(auto)]
+
+#[cfg(test)]
+mod tests;

@@ -1,0 +1,189 @@
+//! What the regular law lets through and what it refuses, in histories of a few events; the order of
+//! the faults; and what memory may have before the first store.
+
+use memory_histories::{HistoryEvent, HistoryFault, RegularMemory, Rest, StepFault};
+use std::process::Abort;
+use std::test::Fail;
+
+/// Where the operations of the examples lie.
+const PLACE: u64 = 0x1000;
+
+fn load(number: u64, length: usize) -> HistoryEvent<'static> {
+    HistoryEvent::LoadRequest {
+        number,
+        address: PLACE,
+        length,
+    }
+}
+
+fn loaded(number: u64, bytes: &[u8]) -> HistoryEvent<'_> {
+    HistoryEvent::LoadResponse { number, bytes }
+}
+
+fn store(number: u64, bytes: &[u8], enables: u64) -> HistoryEvent<'_> {
+    HistoryEvent::StoreRequest {
+        number,
+        address: PLACE,
+        bytes,
+        enables,
+    }
+}
+
+fn stored(number: u64) -> HistoryEvent<'static> {
+    HistoryEvent::StoreResponse { number }
+}
+
+/// Why a memory refuses an event, or `None` where it takes it. Where it finds too little memory it is
+/// asked again.
+fn refusal<R: Abort>(
+    rt: &R,
+    memory: &mut RegularMemory,
+    event: HistoryEvent,
+) -> Option<HistoryFault> {
+    let mut answer = memory.step(event);
+    if answer == Err(StepFault::OutOfMemory) {
+        answer = memory.step(event);
+    }
+    match answer {
+        Ok(()) => None,
+        Err(StepFault::Refused(fault)) => Some(fault),
+        Err(_) => {
+            assert!(rt; false, "neither taken nor refused");
+            None
+        }
+    }
+}
+
+/// Asserts that a memory takes these events.
+fn takes<R: Abort>(rt: &R, memory: &mut RegularMemory, events: &[HistoryEvent]) {
+    for (place, event) in events.iter().enumerate() {
+        assert_eq!(rt; refusal(rt, memory, *event), None, "event {place}");
+    }
+}
+
+/// Asserts that an open load of one byte may return these bytes and no others.
+fn may_return<R: Abort>(rt: &R, memory: &RegularMemory, number: u64, wanted: &[u8]) {
+    let set = memory.may_return(number, PLACE);
+    assert!(rt; set.is_some());
+    if let Some(set) = set {
+        for byte in 0..=u8::MAX {
+            assert_eq!(rt; set.contains(byte), wanted.contains(&byte), "byte {byte}");
+        }
+    }
+}
+
+/// A load that overlaps a store sees it, and a later one that overlaps it too doesn't. Once the store
+/// is answered, no load may see what stood there before.
+#[test]
+fn new_then_old(rt: HostRuntime) -> Result<(), Fail> {
+    let mut memory = RegularMemory::new(rt.alloc(), &[], Rest::Zeros)?;
+    takes(&rt, &mut memory, &[store(1, &[0x5a], 1), load(1, 1)]);
+    may_return(&rt, &memory, 1, &[0, 0x5a]);
+    let overlapping = [loaded(1, &[0x5a]), load(2, 1), loaded(2, &[0])];
+    takes(&rt, &mut memory, &overlapping);
+    takes(&rt, &mut memory, &[load(3, 1), stored(1), load(4, 1)]);
+    // The third load was requested before the response, and the fourth after it.
+    may_return(&rt, &memory, 3, &[0, 0x5a]);
+    may_return(&rt, &memory, 4, &[0x5a]);
+    let old = refusal(&rt, &mut memory, loaded(4, &[0]));
+    assert_eq!(rt; old, Some(HistoryFault::WrongByte { place: 0 }));
+    takes(&rt, &mut memory, &[loaded(4, &[0x5a]), loaded(3, &[0])]);
+    Ok(())
+}
+
+/// Two stores of a word overlap. A load behind both sees, for each byte, either of them and not what
+/// stood there before; a third store of the first byte alone settles that byte and leaves the second
+/// byte's choice; and a word torn between the two is let through.
+#[test]
+fn overlapping_stores(rt: HostRuntime) -> Result<(), Fail> {
+    let mut memory = RegularMemory::new(rt.alloc(), &[], Rest::Zeros)?;
+    let both = [
+        store(1, &[0x11, 0x11], 3),
+        store(2, &[0x22, 0x22], 3),
+        stored(1),
+        stored(2),
+    ];
+    takes(&rt, &mut memory, &both);
+    takes(&rt, &mut memory, &[load(1, 2), loaded(1, &[0x11, 0x11])]);
+    takes(&rt, &mut memory, &[load(1, 2), loaded(1, &[0x22, 0x22])]);
+    takes(
+        &rt,
+        &mut memory,
+        &[load(1, 2), loaded(1, &[0x11, 0x22]), load(1, 2)],
+    );
+    let image = refusal(&rt, &mut memory, loaded(1, &[0x22, 0]));
+    assert_eq!(rt; image, Some(HistoryFault::WrongByte { place: 1 }));
+    takes(&rt, &mut memory, &[loaded(1, &[0x22, 0x22])]);
+    takes(&rt, &mut memory, &[store(3, &[0x33, 0x33], 1), stored(3)]);
+    takes(&rt, &mut memory, &[load(1, 2), loaded(1, &[0x33, 0x11])]);
+    takes(
+        &rt,
+        &mut memory,
+        &[load(1, 2), loaded(1, &[0x33, 0x22]), load(1, 2)],
+    );
+    let settled = refusal(&rt, &mut memory, loaded(1, &[0x11, 0x11]));
+    assert_eq!(rt; settled, Some(HistoryFault::WrongByte { place: 0 }));
+    Ok(())
+}
+
+/// Each event is refused for the first of its faults, and changes nothing.
+#[test]
+fn faults_in_order(rt: HostRuntime) -> Result<(), Fail> {
+    let mut memory = RegularMemory::new(rt.alloc(), &[7], Rest::Unknown)?;
+    takes(&rt, &mut memory, &[store(1, &[1, 2], 2), load(1, 1)]);
+    let beyond = HistoryEvent::StoreRequest {
+        number: 1,
+        address: u64::MAX,
+        bytes: &[1, 2],
+        enables: 0,
+    };
+    let refused = [
+        (beyond, HistoryFault::OutOfRange),
+        (store(1, &[], 1), HistoryFault::OutOfRange),
+        (store(1, &[0; 65], 1), HistoryFault::OutOfRange),
+        (load(1, 0), HistoryFault::OutOfRange),
+        (load(1, 65), HistoryFault::OutOfRange),
+        (store(1, &[1, 2], 4), HistoryFault::NoByteEnabled),
+        (store(1, &[1, 2], 1), HistoryFault::NumberInUse),
+        (load(1, 1), HistoryFault::NumberInUse),
+        (stored(2), HistoryFault::NotOpen),
+        (loaded(2, &[1, 2]), HistoryFault::NotOpen),
+        (loaded(1, &[1, 2]), HistoryFault::WrongLength),
+    ];
+    for (event, fault) in refused {
+        assert_eq!(rt; memory.fault(event), Some(fault));
+        assert_eq!(rt; refusal(&rt, &mut memory, event), Some(fault));
+    }
+    let last = HistoryEvent::LoadRequest {
+        number: 2,
+        address: u64::MAX,
+        length: 1,
+    };
+    takes(
+        &rt,
+        &mut memory,
+        &[last, loaded(2, &[0xff]), stored(1), loaded(1, &[9])],
+    );
+    Ok(())
+}
+
+/// Before the first store there is the image, and beyond it zeros, or nothing is known.
+#[test]
+fn before_the_first_store(rt: HostRuntime) -> Result<(), Fail> {
+    let first = HistoryEvent::LoadRequest {
+        number: 1,
+        address: 0,
+        length: 2,
+    };
+    for (rest, second) in [
+        (Rest::Zeros, Some(HistoryFault::WrongByte { place: 1 })),
+        (Rest::Unknown, None),
+    ] {
+        let mut memory = RegularMemory::new(rt.alloc(), &[7], rest)?;
+        takes(&rt, &mut memory, &[first]);
+        let wrong = refusal(&rt, &mut memory, loaded(1, &[0, 0]));
+        assert_eq!(rt; wrong, Some(HistoryFault::WrongByte { place: 0 }));
+        assert_eq!(rt; refusal(&rt, &mut memory, loaded(1, &[7, 9])), second);
+    }
+    Ok(())
+}
