@@ -32,6 +32,12 @@ public:
     uint64_t steps = 0;
     uint64_t errors = 0;
 
+    // How many words of reads were asked for and never came back. A bench asks at its end.
+    uint32_t unanswered() const {
+        uint16_t tag;
+        return kroft_flat_open(due.data(), due.size(), 0, &tag);
+    }
+
 private:
     static constexpr uint64_t WORD = 4;
     uint64_t base;

@@ -1,5 +1,5 @@
 // A processor, the monitor and a memory: `monitored [TRANSACTIONS] [LOST]`. With a second number the memory
-// loses this write. The status is 1 if the monitor found an error.
+// loses this write. The status is 1 if the monitor found an error, or a read was never answered.
 #include "kroft_monitor.h"
 
 #include <cinttypes>
@@ -87,6 +87,6 @@ int sc_main(int argc, char **argv) {
     monitor.out.bind(mem.in);
     sc_core::sc_report_handler::set_actions(sc_core::SC_ERROR, sc_core::SC_DISPLAY | sc_core::SC_STOP);
     sc_core::sc_start();
-    printf("%" PRIu64 " steps judged, %" PRIu64 " wrong\n", monitor.steps, monitor.errors);
-    return monitor.errors == 0 ? 0 : 1;
+    printf("%" PRIu64 " steps judged, %" PRIu64 " wrong, %u words unanswered\n", monitor.steps, monitor.errors, monitor.unanswered());
+    return monitor.errors == 0 && monitor.unanswered() == 0 ? 0 : 1;
 }

@@ -3,7 +3,8 @@
 // What passes the cache's ports is given to the judge of libkroft step by step: a request with whether it
 // was accepted, and a response as a take of a value. With a second word the run is also recorded in the
 // file of this name, a step a line, as `kroft check` reads it. With NO_JUDGE defined nothing is judged, to
-// measure what the judge costs. The status is 1 if an answer is none of flat memory.
+// measure what the judge costs. Behind the last request the cache has time for its answers. The status is 1 if an
+// answer is none of flat memory, or one never came.
 #include "Vcache.h"
 #include "kroft.h"
 #include "verilated.h"
@@ -17,6 +18,7 @@
 namespace {
 
 constexpr uint32_t WORDS = 64;
+constexpr uint64_t LAST_CYCLES = 1000; // for what is under way behind the last request
 
 kroft_word word_of(uint32_t data) { // byte 0 is the lowest
     return {{uint8_t(data), uint8_t(data >> 8), uint8_t(data >> 16), uint8_t(data >> 24)}};
@@ -79,6 +81,18 @@ public:
         found = true;
     }
 
+    // How many accepted loads have no answer yet; `tag` is the first one's.
+    uint32_t unanswered(uint16_t &tag) const { return kroft_flat_open(due.data(), due.size(), 0, &tag); }
+
+    // Names a load that was never answered, if there is one.
+    void end() {
+        uint16_t tag = 0;
+        uint32_t lost = unanswered(tag);
+        if (lost == 0) return;
+        printf("%u loads have no answer, the first with tag %u, of word %u\n", lost, tag, address[tag]);
+        found = true;
+    }
+
     bool found = false;
     uint64_t steps = 0;
 
@@ -138,8 +152,8 @@ int main(int argc, char **argv) {
     cache.rst = 0;
 
     uint64_t loads = 0, stores = 0, values = 0, refused = 0, cycle = 0;
-    for (; cycle < cycles && !judge.found; cycle++) {
-        if (!cache.req_valid && random_bits() % 4) {
+    for (; cycle < cycles + LAST_CYCLES && !judge.found; cycle++) {
+        if (!cache.req_valid && cycle < cycles && random_bits() % 4) {
             cache.req_valid = 1;
             cache.req_we = random_bits() % 2;
             cache.req_addr = random_bits() % WORDS;
@@ -164,6 +178,7 @@ int main(int argc, char **argv) {
             judge.value(cycle, cache.resp_tag, cache.resp_data);
         }
     }
+    if (!judge.found) judge.end();
     printf("%" PRIu64 " cycles, %" PRIu64 " steps: %" PRIu64 " loads, %" PRIu64 " stores, %" PRIu64 " values, %" PRIu64 " refused\n", cycle,
            judge.steps, loads, stores, values, refused);
     return judge.found ? 1 : 0;
