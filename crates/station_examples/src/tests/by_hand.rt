@@ -60,21 +60,13 @@ struct Story {
     name: &'static str,
     /// Entries that the journal takes.
     journal: u32,
-    stages: &'static [Stage],
-    /// Whether the cache side has to be settled in the end. It may be where this is `false`.
-    settled: bool,
-}
-
-/// A station of which one bank is served by hand, and what is done with it.
-#[derive(Clone, Copy)]
-struct RawStory {
-    name: &'static str,
-    /// The bank's number.
-    bank: usize,
-    journal: u32,
+    /// The number of the bank that is served by hand, if one is. Then there are no audits.
+    raw: Option<usize>,
     stages: &'static [Stage],
     /// Why the cache side is faulted in the end.
-    fault: SideFault,
+    fault: Option<SideFault>,
+    /// Whether the cache side has to be settled in the end. It may be if this is `false`.
+    settled: bool,
 }
 
 // Each stage is once and without an audit, if it doesn't say otherwise.
@@ -227,39 +219,6 @@ const FULL_VERDICTS: [Stage; 2] = [
     },
 ];
 
-const STORIES: [Story; 5] = [
-    Story {
-        name: "a load, audited at each step",
-        journal: 100,
-        stages: &LOAD,
-        settled: true,
-    },
-    Story {
-        name: "served commands make room",
-        journal: 100,
-        stages: &THREE_BLOCKS,
-        settled: true,
-    },
-    Story {
-        name: "a full journal",
-        journal: 1,
-        stages: &FULL_JOURNAL,
-        settled: false,
-    },
-    Story {
-        name: "a full ring of asks",
-        journal: 100,
-        stages: &FULL_ASKS,
-        settled: false,
-    },
-    Story {
-        name: "a full ring of verdicts",
-        journal: 100,
-        stages: &FULL_VERDICTS,
-        settled: false,
-    },
-];
-
 // An answer for word 0 of register 0.
 const UNCALLED: BankAnswer = BankAnswer {
     slot: 0,
@@ -360,117 +319,162 @@ const WRONG_ANSWER: [Stage; 3] = [
     },
 ];
 
-const RAW_STORIES: [RawStory; 3] = [
-    RawStory {
+// Each story begins with these.
+const STORY: Story = Story {
+    name: "",
+    journal: 100,
+    raw: None,
+    stages: &[],
+    fault: None,
+    settled: false,
+};
+
+static STORIES: [Story; 8] = [
+    Story {
+        name: "a load, audited at each step",
+        stages: &LOAD,
+        settled: true,
+        ..STORY
+    },
+    Story {
+        name: "served commands make room",
+        stages: &THREE_BLOCKS,
+        settled: true,
+        ..STORY
+    },
+    Story {
+        name: "a full journal",
+        journal: 1,
+        stages: &FULL_JOURNAL,
+        ..STORY
+    },
+    Story {
+        name: "a full ring of asks",
+        stages: &FULL_ASKS,
+        ..STORY
+    },
+    Story {
+        name: "a full ring of verdicts",
+        stages: &FULL_VERDICTS,
+        ..STORY
+    },
+    Story {
         name: "an uncalled word",
-        bank: 0,
+        raw: Some(0),
         journal: 8,
         stages: &UNCALLED_WORD,
-        fault: SideFault::Uncalled { bank: 0 },
+        fault: Some(SideFault::Uncalled { bank: 0 }),
+        ..STORY
     },
-    RawStory {
+    Story {
         name: "too many answers",
-        bank: 0,
+        raw: Some(0),
         journal: 8,
         stages: &TOO_MANY_ANSWERS,
-        fault: SideFault::Uncalled { bank: 0 },
+        fault: Some(SideFault::Uncalled { bank: 0 }),
+        ..STORY
     },
-    RawStory {
+    Story {
         name: "a wrong answer, and a stray one",
-        bank: 1,
-        journal: 100,
+        raw: Some(1),
         stages: &WRONG_ANSWER,
-        fault: SideFault::Stray {
+        fault: Some(SideFault::Stray {
             bank: 1,
             slot: 0,
             i: 1,
-        },
+        }),
+        ..STORY
     },
 ];
 
-// Asserts what comes of a move of the raw bank.
-fn move_raw(rt: &impl Abort, raw: &mut Option<RawBank>, it: RawMove) {
+// Makes a move of the raw bank. Says whether that comes of it which has to.
+fn move_raw(raw: &mut Option<RawBank>, it: RawMove) -> bool {
     let Some(bank) = raw else {
-        assert!(rt; false, "no bank is raw");
-        return;
+        return false;
     };
     match it {
-        RawMove::Pop(command) => assert_eq!(rt; bank.pop(), command),
-        RawMove::Push(answer) => assert_eq!(rt; bank.push(answer), Ok(())),
-        RawMove::Back(answer) => assert_eq!(rt; bank.push(answer), Err(answer)),
+        RawMove::Pop(command) => bank.pop() == command,
+        RawMove::Push(answer) => bank.push(answer) == Ok(()),
+        RawMove::Back(answer) => bank.push(answer) == Err(answer),
     }
 }
 
-// A bank serves the first command that it knows.
-fn serve(rt: &impl Abort, banks: &mut [BankSide], bank: usize)
+// A bank serves the first command that it knows. Says whether there was one.
+fn serve(banks: &mut [BankSide], bank: usize) -> bool
     ensures { map bank_id banks.new ≡ map bank_id banks.old }
 {
-    assert!(rt; bank < banks.len(), "no bank {bank}");
-    assert_eq!(rt; banks[bank].step(), Stepped::Did);
+    if bank >= banks.len() {
+        return false;
+    }
+    banks[bank].step() == Stepped::Did
 }
 
-// Asserts what comes of a move.
+// Makes a move. Says whether that comes of it which has to.
 fn make_move(
-    rt: &impl Abort,
     cache: &mut SmallCache,
     port: &mut Port,
     banks: &mut [BankSide],
     raw: &mut Option<RawBank>,
     it: Move,
-)
+) -> bool
     ensures cache { cache_id cache.new ≡ cache_id cache.old }
     ensures port { port_id port.new ≡ port_id port.old }
     ensures banks { map bank_id banks.new ≡ map bank_id banks.old }
 {
     match it {
-        Move::Offer(ask) => assert_eq!(rt; port.offer(ask), Ok(())),
-        Move::Back(ask) => assert_eq!(rt; port.offer(ask), Err(ask)),
-        Move::Take(told) => assert_eq!(rt; port.take(), told),
-        Move::Did(source) => assert_eq!(rt; cache.step(source), Stepped::Did),
-        Move::DidNot(source, why) => assert_eq!(rt; cache.step(source), why),
-        Move::Serve(bank) => serve(rt, banks, bank),
-        Move::Entries(count) => assert_eq!(rt; cache.entries(), count),
-        Move::Raw(raw_move) => move_raw(rt, raw, raw_move),
+        Move::Offer(ask) => port.offer(ask) == Ok(()),
+        Move::Back(ask) => port.offer(ask) == Err(ask),
+        Move::Take(told) => port.take() == told,
+        Move::Did(source) => cache.step(source) == Stepped::Did,
+        Move::DidNot(source, why) => cache.step(source) == why,
+        Move::Serve(bank) => serve(banks, bank),
+        Move::Entries(count) => cache.entries() == count,
+        Move::Raw(raw_move) => move_raw(raw, raw_move),
     }
 }
 
+// Makes moves up to the first of which something else comes. Says whether there was none.
 fn make_moves(
-    rt: &impl Abort,
     cache: &mut SmallCache,
     port: &mut Port,
     banks: &mut [BankSide],
     raw: &mut Option<RawBank>,
     moves: &[Move],
-)
+) -> bool
     ensures cache { cache_id cache.new ≡ cache_id cache.old }
     ensures port { port_id port.new ≡ port_id port.old }
     ensures banks { map bank_id banks.new ≡ map bank_id banks.old }
 {
     for it in moves {
-        make_move(rt, cache, port, banks, raw, *it);
+        if !make_move(cache, port, banks, raw, *it) {
+            return false;
+        }
     }
+    true
 }
 
 // Makes a stage's moves as often as it says.
 fn make_stage(
-    rt: &impl Abort,
     cache: &mut SmallCache,
     port: &mut Port,
     banks: &mut [BankSide],
     raw: &mut Option<RawBank>,
     stage: &Stage,
-)
+) -> bool
     ensures cache { cache_id cache.new ≡ cache_id cache.old }
     ensures port { port_id port.new ≡ port_id port.old }
     ensures banks { map bank_id banks.new ≡ map bank_id banks.old }
 {
     for _time in 0..stage.times {
-        make_moves(rt, cache, port, banks, raw, stage.moves);
+        if !make_moves(cache, port, banks, raw, stage.moves) {
+            return false;
+        }
     }
+    true
 }
 
 // Makes a stage's moves with a whole station, and its audit.
-fn make_audited(rt: &impl Abort, station: &mut SmallStation, stage: &Stage)
+fn make_audited(station: &mut SmallStation, stage: &Stage) -> bool
     requires one { AreOneStation station.old.cache station.old.ports.items station.old.banks.items }
     requires ports { vec_len station.old.ports ≡ 1 }
     ensures one { AreOneStation station.new.cache station.new.ports.items station.new.banks.items }
@@ -481,18 +485,38 @@ fn make_audited(rt: &impl Abort, station: &mut SmallStation, stage: &Stage)
         ports,
         banks,
     } = station;
-    make_stage(rt, cache, &mut ports[0], banks, &mut None, stage);
-    if let Some(found) = stage.audit {
-        assert_eq!(rt; audit(cache, ports, banks), found);
+    let did = make_stage(cache, &mut ports[0], banks, &mut None, stage);
+    match stage.audit {
+        Some(found) => did && audit(cache, ports, banks) == found,
+        None => did,
     }
 }
 
-fn walk(rt: &impl Abort, station: &mut SmallStation, stages: &[Stage])
+// Goes through a story with a whole station.
+fn walk(rt: &impl Abort, station: &mut SmallStation, story: &Story)
     requires one { AreOneStation station.old.cache station.old.ports.items station.old.banks.items }
     requires ports { vec_len station.old.ports ≡ 1 }
 {
-    for stage in stages {
-        make_audited(rt, station, stage);
+    for stage in story.stages {
+        assert!(rt; make_audited(station, stage), "{}", story.name);
+    }
+}
+
+// Goes through a story in which a bank is served by hand.
+fn walk_raw(rt: &impl Abort, station: &mut SmallStation, bank: usize, story: &Story)
+    requires { vec_len station.old.ports ≡ 1 }
+{
+    let Station {
+        cache,
+        ports,
+        banks,
+    } = station;
+    let port = &mut ports[0];
+    assert!(rt; bank < banks.len(), "{}", story.name);
+    let mut raw = Some(banks.remove(bank).into_raw());
+    for stage in story.stages {
+        let did = make_stage(cache, port, banks, &mut raw, stage);
+        assert!(rt; did, "{}", story.name);
     }
 }
 
@@ -500,28 +524,12 @@ fn walk(rt: &impl Abort, station: &mut SmallStation, stages: &[Stage])
 fn stations_by_hand(rt: HostRuntime) -> Result<(), Fail> {
     for story in &STORIES {
         let mut all = station::<1, 4, 2, 2>(rt.alloc(), SHAPE, 1, story.journal)?;
-        walk(&rt, &mut all, story.stages);
-        assert_eq!(rt; all.cache.fault(), None, "{}", story.name);
-        assert!(rt; all.cache.settled() || !story.settled, "{}", story.name);
-    }
-    Ok(())
-}
-
-#[test]
-fn raw_banks(rt: HostRuntime) -> Result<(), Fail> {
-    for story in &RAW_STORIES {
-        let Station {
-            mut cache,
-            mut ports,
-            mut banks,
-        } = station::<1, 4, 2, 2>(rt.alloc(), SHAPE, 1, story.journal)?;
-        let mut port = ports.pop().ok_or("no port")?;
-        assert!(rt; story.bank < banks.len(), "{}", story.name);
-        let mut raw = Some(banks.remove(story.bank).into_raw());
-        for stage in story.stages {
-            make_stage(&rt, &mut cache, &mut port, &mut banks, &mut raw, stage);
+        match story.raw {
+            None => walk(&rt, &mut all, story),
+            Some(bank) => walk_raw(&rt, &mut all, bank, story),
         }
-        assert_eq!(rt; cache.fault(), Some(story.fault), "{}", story.name);
+        assert_eq!(rt; all.cache.fault(), story.fault, "{}", story.name);
+        assert!(rt; all.cache.settled() || !story.settled, "{}", story.name);
     }
     Ok(())
 }

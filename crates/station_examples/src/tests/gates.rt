@@ -14,7 +14,8 @@ pub(crate) enum Rule {
     SilentBank,
     /// Bank 1, which has port 0's word, until port 1 has been served from the other bank meanwhile.
     HeldBank,
-    /// Bank 1, until port 0 has been told of [`REFUSALS`] refusals.
+    /// Bank 1, until port 0 has been told of [`REFUSALS`] refusals; and then port 0 until the bank has
+    /// served the reads of its load, so that no more refusals than a few come behind those.
     HeldUntilRefused,
     /// Each actor at its first turn, until all five have come to theirs.
     Meeting,
@@ -23,11 +24,14 @@ pub(crate) enum Rule {
     Dwelling,
 }
 
-/// So many refusals are more than a script of two asks has memory reserved for.
-pub(crate) const REFUSALS: u64 = 20;
+// So many refusals are more than a script of two asks has memory reserved for.
+const REFUSALS: u64 = 20;
 
-/// So many turns of another part, begun while a port dwells, are more than those that were under
-/// way.
+// So many reads of a load go to a bank.
+const READS_OF_A_LOAD: u64 = 2;
+
+// So many turns of another part, begun while a port dwells, are more than those that were under
+// way.
 const MORE_TURNS: u64 = 100;
 
 // So many reads are long enough for every thread to begin, and for those turns.
@@ -73,6 +77,8 @@ pub(crate) struct RuledGate {
     // What each port was told.
     first: Heard,
     second: Heard,
+    // How often bank 1 was let go behind the refusals.
+    let_go: AtomicU64,
     has_dwelt: AtomicBool,
     met: AtomicU64,
 }
@@ -88,6 +94,7 @@ impl RuledGate {
             second_bank: AtomicU64::new(0),
             first: Heard::new(),
             second: Heard::new(),
+            let_go: AtomicU64::new(0),
             has_dwelt: AtomicBool::new(false),
             met: AtomicU64::new(0),
         }
@@ -161,6 +168,23 @@ impl RuledGate {
             Actor::Bank(_) | Actor::Cache => true,
         }
     }
+
+    fn held_until_refused_lets(&self, actor: Actor) -> bool {
+        let is_refused = self.first.refused.load(Ordering::SeqCst) >= REFUSALS;
+        match actor {
+            Actor::Bank(1) => {
+                if is_refused {
+                    self.let_go.fetch_add(1, Ordering::SeqCst);
+                }
+                is_refused
+            }
+            // A turn of the bank that begins says that those before it are over.
+            Actor::Port(0) => {
+                !is_refused || self.let_go.load(Ordering::SeqCst) > READS_OF_A_LOAD
+            }
+            _ => true,
+        }
+    }
 }
 
 impl Gate for RuledGate {
@@ -171,9 +195,7 @@ impl Gate for RuledGate {
             Rule::Closed => false,
             Rule::SilentBank => actor != Actor::Bank(0),
             Rule::HeldBank => self.held_bank_lets(actor),
-            Rule::HeldUntilRefused => {
-                actor != Actor::Bank(1) || self.first.refused.load(Ordering::SeqCst) >= REFUSALS
-            }
+            Rule::HeldUntilRefused => self.held_until_refused_lets(actor),
             Rule::Meeting => {
                 if turns == 0 {
                     self.wait_for(1);

@@ -36,22 +36,21 @@ const TOLD: [Told; 2] = [
 // The last port asks for the last word under its last tag.
 #[test]
 fn the_largest_station(rt: HostRuntime) -> Result<(), Fail> {
+    let mut all = station::<8, 16, 16, 16>(rt.alloc(), LARGEST, 16, 1_048_576)?;
     let Station {
-        mut cache,
-        mut ports,
-        mut banks,
-    } = station::<8, 16, 16, 16>(rt.alloc(), LARGEST, 16, 1_048_576)?;
-    let mut port = ports.remove(15);
-    let mut bank = banks.remove(15);
-    assert_eq!(rt; port.offer(Ask::Load { tag: 255, at: LAST }), Ok(()));
+        cache,
+        ports,
+        banks,
+    } = &mut all;
+    assert_eq!(rt; ports[15].offer(Ask::Load { tag: 255, at: LAST }), Ok(()));
     assert_eq!(rt; cache.step(Source::Ask(15)), Stepped::Did);
-    assert_eq!(rt; bank.step(), Stepped::Did);
+    assert_eq!(rt; banks[15].step(), Stepped::Did);
     for source in [Source::Word(15), Source::Stack(0), Source::Reply(0)] {
         assert_eq!(rt; cache.step(source), Stepped::Did);
     }
     assert_eq!(rt; cache.entry(0), Some(ASKED));
     for told in TOLD {
-        assert_eq!(rt; port.take(), Some(told));
+        assert_eq!(rt; ports[15].take(), Some(told));
     }
     Ok(())
 }

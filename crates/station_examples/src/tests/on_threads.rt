@@ -5,7 +5,7 @@ ghost use Rattle.station_parts.specs.Ids.{cache_id};
 
 use super::gates::{Rule, RuledGate};
 use super::{LOAD_5, SHAPE, SmallCache, SmallStation, TURNS, VALUE, scripts_of};
-use flat_model::{Answer, Cause, Event, Lanes, Word};
+use flat_model::{Answer, Cause, Event, Lanes, MakeFault, Word};
 use ring_station::{
     Ask, Audit, BankSide, Entry, RunFault, Source, Told, audit, run_threads, station,
 };
@@ -17,7 +17,7 @@ use std::thread::Threads;
 
 /// What a port is told in a run.
 #[derive(Clone, Copy)]
-pub(crate) enum Tellings {
+enum Tellings {
     /// These, in this order.
     InOrder(&'static [Told]),
     /// These, in any order.
@@ -55,22 +55,22 @@ enum Fact {
 #[derive(Clone, Copy)]
 pub(crate) struct Run {
     name: &'static str,
-    pub(crate) rule: Rule,
+    rule: Rule,
     /// Entries that the journal takes.
-    pub(crate) journal: u32,
+    journal: u32,
     /// Turns of each thread.
     turns: u64,
-    pub(crate) scripts: &'static [&'static [Ask]],
+    scripts: &'static [&'static [Ask]],
     /// What the ports are told; `None` for a run that comes to its limit.
-    pub(crate) lists: Option<&'static [Tellings]>,
+    lists: Option<&'static [Tellings]>,
     /// Steps that the cache side makes by hand behind the run, if it can.
     then: &'static [Source],
     facts: &'static [Fact],
 }
 
 impl Run {
-    /// A port for each script. A station has none of so many ports that they aren't counted.
-    pub(crate) fn ports(&self) -> u32 {
+    // A port for each script. A station has none of so many ports that they aren't counted.
+    fn ports(&self) -> u32 {
         u32::try_from(self.scripts.len()).unwrap_or(u32::MAX)
     }
 }
@@ -179,7 +179,7 @@ const PREFETCHED: Entry = Entry::Step {
     answer: Answer::Accepted,
 };
 
-const RUNS: [Run; 12] = [
+static RUNS: [Run; 12] = [
     Run {
         name: "an empty script",
         scripts: &[&[]],
@@ -209,10 +209,11 @@ const RUNS: [Run; 12] = [
     },
     HELD_BANK,
     OFTEN_REFUSED,
-    // A load with a tag that still waits is refused, and offered again until it is accepted.
+    // A load with a tag that still waits is refused, and offered again until it is accepted. The journal
+    // has room for as many refusals as come while a bank's thread waits for a processor.
     Run {
         name: "a refused ask is offered again",
-        journal: 100_000,
+        journal: 1_048_576,
         scripts: &[&SAME_TAG],
         lists: Some(&[Tellings::WithRefusals {
             least: 0,
@@ -293,51 +294,53 @@ fn count_of(list: &[Told], wanted: Told) -> usize {
     list.iter().filter(|told| **told == wanted).count()
 }
 
-// Asserts that a list has as many of each of these as they are.
-fn has_each(rt: &impl Abort, list: &[Told], wanted: &[Told]) {
+// Whether a list has as many of each of these as they are.
+fn has_each(list: &[Told], wanted: &[Told]) -> bool {
     for told in wanted {
-        assert_eq!(rt; count_of(list, *told), count_of(wanted, *told));
+        if count_of(list, *told) != count_of(wanted, *told) {
+            return false;
+        }
     }
+    true
 }
 
-fn has_refusals(rt: &impl Abort, list: &[Told], least: usize, others: &[Told]) {
+// Whether a list begins and ends as these, and has at least so many refusals of a tag in use beside as
+// many others as these are.
+fn has_refusals(list: &[Told], least: usize, others: &[Told]) -> bool {
     let refusals = count_of(list, Told::Refused(Cause::TagInUse));
-    assert!(rt; refusals >= least);
-    assert_eq!(rt; Some(list.len()), refusals.checked_add(others.len()));
-    assert_eq!(rt; list.first(), others.first());
-    assert_eq!(rt; list.last(), others.last());
+    refusals >= least
+        && refusals.checked_add(others.len()) == Some(list.len())
+        && list.first() == others.first()
+        && list.last() == others.last()
 }
 
-// Asserts that a port was told what it had to be.
-fn is_told(rt: &impl Abort, list: &[Told], wanted: &Tellings) {
+// Whether a port was told what it had to be.
+fn is_told(list: &[Told], wanted: &Tellings) -> bool {
     match wanted {
-        Tellings::InOrder(wanted) => assert_eq!(rt; list, *wanted),
-        Tellings::InAnyOrder(wanted) => {
-            assert_eq!(rt; list.len(), wanted.len());
-            has_each(rt, list, wanted);
-        }
+        Tellings::InOrder(wanted) => list == *wanted,
+        Tellings::InAnyOrder(wanted) => list.len() == wanted.len() && has_each(list, wanted),
         Tellings::WithRefusals { least, others } => {
-            has_refusals(rt, list, *least, others);
-            has_each(rt, list, others);
+            has_refusals(list, *least, others) && has_each(list, others)
         }
     }
 }
 
-/// Asserts that the ports of a run were told what they had to be.
-pub(crate) fn are_told(rt: &impl Abort, lists: &[Vec<Told>], wanted: &[Tellings]) {
-    assert_eq!(rt; lists.len(), wanted.len());
+/// Whether the ports of a run were told what they had to be.
+fn are_told(lists: &[Vec<Told>], wanted: &[Tellings]) -> bool {
     for (list, tellings) in lists.iter().zip(wanted) {
-        is_told(rt, list.as_slice(), tellings);
+        if !is_told(list.as_slice(), tellings) {
+            return false;
+        }
     }
+    lists.len() == wanted.len()
 }
 
-// Asserts how a run ended.
-fn has_ended(rt: &impl Abort, ended: Result<Vec<Vec<Told>>, RunFault>, run: &Run) {
+// Whether a run ended as it had to.
+fn has_ended(ended: &Result<Vec<Vec<Told>>, RunFault>, run: &Run) -> bool {
     match (ended, run.lists) {
-        (Ok(lists), Some(wanted)) => are_told(rt, &lists, wanted),
-        (Ok(_), None) => assert!(rt; false, "{} came to its end", run.name),
-        (Err(fault), None) => assert_eq!(rt; fault, RunFault::TurnLimit, "{}", run.name),
-        (Err(fault), Some(_)) => assert!(rt; false, "{}: {fault}", run.name),
+        (Ok(lists), Some(wanted)) => are_told(lists, wanted),
+        (Err(fault), None) => *fault == RunFault::TurnLimit,
+        _ => false,
     }
 }
 
@@ -360,6 +363,11 @@ struct Behind<'a> {
 }
 
 impl Behind<'_> {
+    // The place of the first of these that doesn't hold.
+    fn first_wrong(&self, facts: &[Fact]) -> Option<usize> {
+        facts.iter().position(|fact| !self.shows(fact))
+    }
+
     fn shows(&self, fact: &Fact) -> bool {
         match *fact {
             Fact::Audit(wanted) => self.found == wanted,
@@ -378,17 +386,28 @@ impl Behind<'_> {
     }
 }
 
-fn make_run<R: Abort + Clock + Threads + Sync>(
+/// How a run ended, and what isn't as its row says.
+#[derive(Clone, Copy)]
+pub(crate) struct Outcome {
+    /// Why it came to no end, if it didn't.
+    pub(crate) fault: Option<RunFault>,
+    /// Whether it ended, and its ports were told, as the row says.
+    pub(crate) has_ended: bool,
+    /// The place of the first fact that doesn't hold.
+    pub(crate) wrong: Option<usize>,
+}
+
+/// Makes a station and the run of a row.
+pub(crate) fn make_run<R: Abort + Clock + Threads + Sync>(
     rt: &R,
     alloc: Global,
     run: &Run,
-) -> Result<(), Fail> {
+) -> Result<Outcome, MakeFault> {
     let scripts = scripts_of(alloc, run.scripts)?;
     let mut all: SmallStation = station(alloc, SHAPE, run.ports(), run.journal)?;
     assert_eq!(rt; scripts.len(), all.ports.len());
     let gate = RuledGate::new(run.rule);
     let ended = run_threads(rt, alloc, &mut all, &scripts, run.turns, &gate);
-    has_ended(rt, ended, run);
     step_on(&mut all.cache, run.then);
     let found = audit(&mut all.cache, &mut all.ports, &mut all.banks);
     let behind = Behind {
@@ -397,16 +416,19 @@ fn make_run<R: Abort + Clock + Threads + Sync>(
         gate: &gate,
         found,
     };
-    for (number, fact) in run.facts.iter().enumerate() {
-        assert!(rt; behind.shows(fact), "{}: fact {number}", run.name);
-    }
-    Ok(())
+    Ok(Outcome {
+        fault: ended.as_ref().err().copied(),
+        has_ended: has_ended(&ended, run),
+        wrong: behind.first_wrong(run.facts),
+    })
 }
 
 #[test]
 fn runs_on_threads(rt: HostRuntime) -> Result<(), Fail> {
     for run in &RUNS {
-        make_run(&rt, rt.alloc(), run)?;
+        let outcome = make_run(&rt, rt.alloc(), run)?;
+        assert!(rt; outcome.has_ended, "{}: {:?}", run.name, outcome.fault);
+        assert_eq!(rt; outcome.wrong, None, "{}", run.name);
     }
     Ok(())
 }

@@ -1,13 +1,9 @@
 //! Want of memory, at whichever allocation. With enough memory all comes to its end; with one
 //! allocation refused, a call answers want of memory or comes to its end, and of two calls one does.
-ghost use Rattle.std.specs.Prelude.{IfOk};
-ghost use Rattle.station_parts.specs.Station.{AreOneStation};
-
-use super::gates::RuledGate;
-use super::on_threads::{HELD_BANK, OFTEN_REFUSED, Run, are_told};
-use super::{SHAPE, SmallStation, TURNS, scripts_of};
+use super::SHAPE;
+use super::on_threads::{HELD_BANK, OFTEN_REFUSED, Run, make_run};
 use flat_model::{MakeFault, ShapeField};
-use ring_station::{Audit, RunFault, audit, run_threads, station};
+use ring_station::{RunFault, station};
 use std::alloc::Global;
 use std::process::Abort;
 use std::rt::Clock;
@@ -44,32 +40,24 @@ fn station_may_find_no_memory(rt: HostRuntime) {
     assert!(rt; made);
 }
 
-fn made(rt: &impl Abort, alloc: Global, run: &Run) -> Result<SmallStation, RunFault>
-    ensures { IfOk result (λ s. AreOneStation s.cache s.ports.items s.banks.items) }
-{
-    match station(alloc, SHAPE, run.ports(), run.journal) {
-        Ok(all) => Ok(all),
-        Err(fault) => {
-            assert_eq!(rt; fault, MakeFault::OutOfMemory);
-            Err(RunFault::OutOfMemory)
-        }
-    }
-}
-
 // Makes a run, of which all has to be as its row says if it comes to its end.
 fn attempt<R: Abort + Clock + Threads + Sync>(
     rt: &R,
     alloc: Global,
     run: &Run,
 ) -> Result<(), RunFault> {
-    let scripts = scripts_of(alloc, run.scripts)?;
-    let mut all = made(rt, alloc, run)?;
-    assert_eq!(rt; scripts.len(), all.ports.len());
-    let gate = RuledGate::new(run.rule);
-    let lists = run_threads(rt, alloc, &mut all, &scripts, TURNS, &gate)?;
-    are_told(rt, &lists, run.lists.unwrap_or_default());
-    let found = audit(&mut all.cache, &mut all.ports, &mut all.banks);
-    assert_eq!(rt; found, Audit::Clean);
+    let outcome = match make_run(rt, alloc, run) {
+        Ok(outcome) => outcome,
+        Err(fault) => {
+            assert_eq!(rt; fault, MakeFault::OutOfMemory);
+            return Err(RunFault::OutOfMemory);
+        }
+    };
+    if let Some(fault) = outcome.fault {
+        return Err(fault);
+    }
+    assert!(rt; outcome.has_ended);
+    assert_eq!(rt; outcome.wrong, None);
     Ok(())
 }
 

@@ -3,7 +3,7 @@ use Rattle.station_parts.specs.Ids.{port_id, bank_id, cache_id}
 use Rattle.station_examples.proofs.tests.by_hand.make_moves.Given as goal
 
 abbrev pub invariant-loop-it : goal.invariant-loop-it
-invariant-loop-it g l =
+invariant-loop-it l =
     record {
       cache : cache_id l.cache ≡ cache_id l.fn.cache;
       port : port_id l.port ≡ port_id l.fn.port;
