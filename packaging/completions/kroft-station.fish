@@ -1,0 +1,18 @@
+# Completions of kroft-station for fish: written by scripts/make_completions.
+complete -c kroft-station -f
+complete -c kroft-station -n __fish_use_subcommand -a soak -d 'Run stations at random on threads, and look at each'
+complete -c kroft-station -n __fish_use_subcommand -a rates -d 'Tell how many asks a second are served, of the asks of sixteen ports'
+complete -c kroft-station -n '__fish_use_subcommand' -l ports -x -d 'How many ports ask, 1 to 16 [default: 4]'
+complete -c kroft-station -n '__fish_use_subcommand' -l asks -x -d 'How often each port asks [default: 12]'
+complete -c kroft-station -n '__fish_use_subcommand' -l seed -x -d 'What the numbers and scripts are drawn by [default: 1]'
+complete -c kroft-station -n '__fish_use_subcommand' -l journal -d 'Write the journal alone, as a recorded run'
+complete -c kroft-station -n '__fish_use_subcommand' -l help -s h -d 'Print help'
+complete -c kroft-station -n '__fish_use_subcommand' -l version -s V -d 'Print version'
+complete -c kroft-station -n '__fish_seen_subcommand_from soak' -l stations -x -d 'How many stations are run [default: 4]'
+complete -c kroft-station -n '__fish_seen_subcommand_from soak' -l seed -x -d 'What the numbers and scripts are drawn by [default: 1]'
+complete -c kroft-station -n '__fish_seen_subcommand_from soak' -l help -s h -d 'Print help'
+complete -c kroft-station -n '__fish_seen_subcommand_from rates' -l asks -x -d 'How often each port asks [default: 12]'
+complete -c kroft-station -n '__fish_seen_subcommand_from rates' -l seed -x -d 'What the numbers and scripts are drawn by [default: 1]'
+complete -c kroft-station -n '__fish_seen_subcommand_from rates' -l core-once -d 'Serve the asks once by the core, and tell nothing'
+complete -c kroft-station -n '__fish_seen_subcommand_from rates' -l hand-once -d 'Serve them once by a station that is stepped by hand, and tell nothing'
+complete -c kroft-station -n '__fish_seen_subcommand_from rates' -l help -s h -d 'Print help'

@@ -1,0 +1,28 @@
+# Completions of kroft for bash: written by scripts/make_completions.
+_kroft() {
+  local word=${COMP_WORDS[COMP_CWORD]} before=${COMP_WORDS[COMP_CWORD - 1]} command= k
+  COMPREPLY=()
+  case $before in
+    --shape) COMPREPLY=($(compgen -f -- "$word")); return ;;
+    --latency) COMPREPLY=($(compgen -W '' -- "$word")); return ;;
+    --from) COMPREPLY=($(compgen -W 'lackey din' -- "$word")); return ;;
+    --words) COMPREPLY=($(compgen -W '' -- "$word")); return ;;
+  esac
+  for ((k = 1; k < COMP_CWORD; k++)); do
+    case ${COMP_WORDS[k]} in
+    run|check|sweep|explain|drive|requests|show) command=${COMP_WORDS[k]} ;;
+    esac
+  done
+  case $command in
+    run) k='--shape -h --help' ;;
+    check) k='--shape -h --help' ;;
+    sweep) k='--shape --latency -h --help' ;;
+    explain) k='--shape -h --help' ;;
+    drive) k='--shape --latency --summary -h --help' ;;
+    requests) k='--from --words -h --help' ;;
+    show) k='--shape --text --vcd -h --help' ;;
+    *) k='run check sweep explain drive requests show --shape -h --help -V --version' ;;
+  esac
+  COMPREPLY=($(compgen -W "$k" -- "$word"))
+}
+complete -F _kroft kroft
