@@ -6,6 +6,8 @@ mod command_line;
 mod commands;
 mod fault;
 mod notes;
+mod one_try;
 mod program;
 
+pub use one_try::OneTryWriter;
 pub use program::tool;

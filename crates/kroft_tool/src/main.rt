@@ -1,7 +1,7 @@
 //! Reads a trace of a cache with several misses at a time, and writes what the machine answers.
 #![tactic(auto)]
 
-use kroft_command::tool;
+use kroft_command::{OneTryWriter, tool};
 use std::io::{BufWriter, Input, Print};
 use std::process::ExitCode;
 use std::rt::{Env, Files};
@@ -23,8 +23,8 @@ fn main(rt: HostRuntime) -> ExitCode {
     ExitCode::from(status)
 }
 
-// Runs the program over the process's own words and streams, with its output in pieces. It fails
-// where the words can't be read, or there is no memory for them.
+// Runs the program over the process's own words and streams, with its output in pieces, of which none
+// is written behind one that failed. It fails if the words can't be read, or there is no memory for them.
 fn start<R: AllocGlobal + Env + Files + Input + Print + Threads + Sync, E: Print>(
     rt: &R,
     errors: &E,
@@ -36,7 +36,7 @@ fn start<R: AllocGlobal + Env + Files + Input + Print + Threads + Sync, E: Print
         texts.push(word.as_str())?;
     }
     let mut input = rt.reader();
-    let mut output = BufWriter::new(alloc, io::writer(rt))?;
+    let mut output = BufWriter::new(alloc, OneTryWriter::new(io::writer(rt)))?;
     let mut errors = io::writer(errors);
     Ok(tool(rt, &texts, &mut input, &mut output, &mut errors))
 }
