@@ -1,5 +1,5 @@
 -- What a line of a log says, in each format: an access, or nothing that is asked of a data cache.
-use Rattle.std.specs.Prelude.{ℕ, ◌+◌, ◌*◌, ◌/◌, ◌^◌, ◌==◌, Bool, false, ◌&&◌, ◌||◌, if◌then◌else◌, Option, None, Some, Result, Ok, Err, List, [], ◌∷◌, length, position, nat_le, nat_lt}
+use Rattle.std.specs.Prelude.{ℕ, ◌+◌, ◌*◌, ◌/◌, ◌^◌, ◌==◌, Bool, true, false, ◌&&◌, ◌||◌, if◌then◌else◌, Option, None, Some, Result, Ok, Err, List, [], ◌∷◌, length, position, nat_le, nat_lt}
 use Rattle.std.specs.Option.{option_map, option_and_then}
 use Rattle.trace_text.specs.Fields.{nibble_of, number_of}
 use Rattle.trace_text.specs.Lines.{cut_at, cut_of}
@@ -68,18 +68,42 @@ abbrev pub is_remark : List ℕ → Bool
 is_remark (a ∷ b ∷ rest) = (a == b) && ((a == 61) || ((a == 45) || (a == 42)))
 is_remark text = false
 
--- `I  `, ` L `, ` S ` or ` M `
-abbrev pub reference_of : ℕ → ℕ → ℕ → Option Reference
-reference_of a b c =
-    if (a == 73) && ((b == 32) && (c == 32)) then Some Fetch
-    else if (a == 32) && ((b == 76) && (c == 32)) then Some (Data Load)
-    else if (a == 32) && ((b == 83) && (c == 32)) then Some (Data Store)
-    else if (a == 32) && ((b == 77) && (c == 32)) then Some (Data Modify)
-    else None
+-- `L`, `S` or `M`
+abbrev pub kind_of : ℕ → Option Reference
+kind_of b = if b == 76 then Some (Data Load) else if b == 83 then Some (Data Store) else if b == 77 then Some (Data Modify) else None
 
+-- whether a name ends here: at the end of the line, or at a space
+abbrev pub is_name_end : List ℕ → Bool
+is_name_end [] = true
+is_name_end (b ∷ rest) = b == 32
+
+-- what follows one space, or two
+abbrev pub behind_space : List ℕ → Option (List ℕ)
+behind_space [] = None
+behind_space (b ∷ fields) = if b == 32 then Some fields else None
+
+abbrev pub behind_spaces : List ℕ → Option (List ℕ)
+behind_spaces rest = option_and_then behind_space (behind_space rest)
+
+-- a line whose name is ` L`, ` S` or ` M`, or none
+abbrev pub data_from : ℕ → List ℕ → Result (Option Access) LineFault
+data_from kind rest =
+    said_as (if is_name_end rest then kind_of kind else None) (option_and_then extent_of (behind_space rest))
+
+-- a line that begins with a space
+abbrev pub data_line : List ℕ → Result (Option Access) LineFault
+data_line [] = Err Unknown
+data_line (kind ∷ rest) = data_from kind rest
+
+-- a line whose name is `I`, or none
+abbrev pub fetch_from : List ℕ → Result (Option Access) LineFault
+fetch_from rest =
+    said_as (if is_name_end rest then Some Fetch else None) (option_and_then extent_of (behind_spaces rest))
+
+-- `I  ADDRESS,SIZE`, ` L ADDRESS,SIZE`, ` S ADDRESS,SIZE` or ` M ADDRESS,SIZE`
 abbrev pub lackey_from : List ℕ → Result (Option Access) LineFault
-lackey_from (a ∷ b ∷ c ∷ fields) = said_as (reference_of a b c) (extent_of fields)
-lackey_from text = Err Unknown
+lackey_from [] = Err Unknown
+lackey_from (a ∷ rest) = if a == 73 then fetch_from rest else if a == 32 then data_line rest else Err Unknown
 
 -- what a line of lackey's says
 abbrev pub lackey_access : List ℕ → Result (Option Access) LineFault

@@ -1,12 +1,12 @@
 //! The formats of logs: what a line says.
 ghost use Rattle.std.specs.Prelude.{◌≡◌, ◌+◌, ◌<◌, ◌≤◌, ◌^◌, ℕ, List, Option, Result, ◌==◌, length, position, IfSome, IfOk, IfErr};
-ghost use Rattle.std.specs.Option.{option_map};
+ghost use Rattle.std.specs.Option.{option_map, option_and_then};
 ghost use Rattle.trace_text.specs.Fields.{nibble_of};
 ghost use Rattle.trace_text.specs.Lines.{IsSaid};
 ghost use Rattle.trace_text.specs.declared.lines.LineFault.{LineFault};
 ghost use Rattle.access_logs.specs.declared.access.Access.{Access};
 ghost use Rattle.access_logs.specs.Accesses.{IsWithin};
-ghost use Rattle.access_logs.specs.Formats.{with_digit as digit_more, address_of, extent_of as extent_in, word_extent_of, access_by as access_made, said_as as said, is_remark as is_remark_text, reference_of as reference_at, lackey_from as lackey_said, lackey_access, label_of, din_access};
+ghost use Rattle.access_logs.specs.Formats.{with_digit as digit_more, address_of, extent_of as extent_in, word_extent_of, access_by as access_made, said_as as said, is_remark as is_remark_text, kind_of, is_name_end as ends_name, behind_space as space_then, data_from as data_said, fetch_from as fetch_said, lackey_from as lackey_said, lackey_access, label_of, din_access};
 
 use crate::access::{Access, AccessKind, MAX_SIZE};
 use trace_text::{LineFault, cut, nibble, number};
@@ -157,17 +157,70 @@ fn is_remark(text: &[u8]) -> bool
     }
 }
 
-// What lackey's line is about that begins with these three bytes.
-fn reference_by(a: u8, b: u8, c: u8) -> Option<Reference>
-    ensures { result ≡ reference_at a b c }
+// What a line of lackey's is about that has this letter.
+fn kind_by(letter: u8) -> Option<Reference>
+    ensures { result ≡ kind_of letter }
 {
-    match (a, b, c) {
-        (b'I', b' ', b' ') => Some(Reference::Fetch),
-        (b' ', b'L', b' ') => Some(Reference::Data(AccessKind::Load)),
-        (b' ', b'S', b' ') => Some(Reference::Data(AccessKind::Store)),
-        (b' ', b'M', b' ') => Some(Reference::Data(AccessKind::Modify)),
+    match letter {
+        b'L' => Some(Reference::Data(AccessKind::Load)),
+        b'S' => Some(Reference::Data(AccessKind::Store)),
+        b'M' => Some(Reference::Data(AccessKind::Modify)),
         _ => None,
     }
+}
+
+// Whether a name ends here: at the end of the line, or at a space.
+fn is_name_end(rest: &[u8]) -> bool
+    ensures { result ≡ ends_name rest.now }
+{
+    match rest {
+        [] => true,
+        [first, ..] => *first == b' ',
+    }
+}
+
+// What follows one space.
+fn behind_space(rest: &[u8]) -> Option<&[u8]>
+    ensures { option_map (λ text. text.now) result ≡ space_then rest.now }
+{
+    match rest {
+        [b' ', fields @ ..] => Some(fields),
+        _ => None,
+    }
+}
+
+// An address and a size, behind what stands there.
+fn extent_of(fields: Option<&[u8]>) -> Option<(u64, u32)>
+    ensures value { result ≡ option_and_then extent_in (option_map (λ text. text.now) fields.entry) }
+    ensures some { IfSome result (λ extent. 1 ≤ extent.1) }
+    ensures few { IfSome result (λ extent. extent.1 ≤ MAX_SIZE) }
+    ensures last { IfSome result (λ extent. extent.0 + extent.1 ≤ 2 ^ 64) }
+{
+    extent(fields?)
+}
+
+// A line whose name has this letter behind a space, if that is a name.
+fn data_from(letter: u8, rest: &[u8]) -> Result<Option<Access>, LineFault>
+    ensures value { result ≡ data_said letter rest.now }
+    ensures within { IfOk result (λ access. IfSome access IsWithin) }
+    ensures fault { IfErr result IsSaid }
+{
+    let reference = if is_name_end(rest) { kind_by(letter) } else { None };
+    said_as(reference, extent_of(behind_space(rest)))
+}
+
+// A line whose name is `I`, if it ends there: two spaces stand behind it.
+fn fetch_from(rest: &[u8]) -> Result<Option<Access>, LineFault>
+    ensures value { result ≡ fetch_said rest.now }
+    ensures within { IfOk result (λ access. IfSome access IsWithin) }
+    ensures fault { IfErr result IsSaid }
+{
+    let reference = if is_name_end(rest) { Some(Reference::Fetch) } else { None };
+    let fields = match behind_space(rest) {
+        Some(rest) => behind_space(rest),
+        None => None,
+    };
+    said_as(reference, extent_of(fields))
 }
 
 fn lackey_from(text: &[u8]) -> Result<Option<Access>, LineFault>
@@ -176,7 +229,8 @@ fn lackey_from(text: &[u8]) -> Result<Option<Access>, LineFault>
     ensures fault { IfErr result IsSaid }
 {
     match text {
-        [a, b, c, fields @ ..] => said_as(reference_by(*a, *b, *c), extent(fields)),
+        [b'I', rest @ ..] => fetch_from(rest),
+        [b' ', letter, rest @ ..] => data_from(*letter, rest),
         _ => Err(LineFault::Unknown),
     }
 }
