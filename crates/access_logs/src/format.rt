@@ -205,7 +205,11 @@ fn data_from(letter: u8, rest: &[u8]) -> Result<Option<Access>, LineFault>
     ensures within { IfOk result (λ access. IfSome access IsWithin) }
     ensures fault { IfErr result IsSaid }
 {
-    let reference = if is_name_end(rest) { kind_by(letter) } else { None };
+    let reference = if is_name_end(rest) {
+        kind_by(letter)
+    } else {
+        None
+    };
     said_as(reference, extent_of(behind_space(rest)))
 }
 
@@ -215,7 +219,11 @@ fn fetch_from(rest: &[u8]) -> Result<Option<Access>, LineFault>
     ensures within { IfOk result (λ access. IfSome access IsWithin) }
     ensures fault { IfErr result IsSaid }
 {
-    let reference = if is_name_end(rest) { Some(Reference::Fetch) } else { None };
+    let reference = if is_name_end(rest) {
+        Some(Reference::Fetch)
+    } else {
+        None
+    };
     let fields = match behind_space(rest) {
         Some(rest) => behind_space(rest),
         None => None,
