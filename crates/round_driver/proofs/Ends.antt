@@ -5,6 +5,7 @@ use Rattle.std.proofs.lemmas.Bool.{and_parts}
 use Rattle.std.proofs.lemmas.List.{length-replicate}
 use Rattle.flat_model.specs.declared.Event.{Event}
 use Rattle.flat_model.specs.declared.Event.TheVariants.{Load, Store, Prefetch, Evict, Drain, Serve, Arrive, Process, Take}
+use Rattle.memory_banks.specs.Banks.{bank_at}
 use Rattle.cache_unit.specs.Sound.{InRange}
 use Rattle.cache_unit.proofs.Made.{all_same}
 use Rattle.machine_core.specs.Machine.{MachineState}
@@ -16,11 +17,12 @@ use Rattle.machine_core.proofs.Contract.{bound_at_rest}
 use Rattle.machine_core.proofs.Whole.{lawful, roomy}
 use Rattle.machine_core.proofs.Weighing.{rests_or_waits}
 use Rattle.machine_core.proofs.Moving.{weighs_little, HasCommand, leaves_commands}
-use Rattle.round_driver.specs.Rounds.{Course, course, Run, is_end, ends, begun_at, next_round, moves, ask, asked, after_round, is_empty, is_over, rounds_until_over, opening, start_of, most_rounds, whole_run}
+use Rattle.round_driver.specs.Rounds.{Course, course, Run, is_end, ends, begun_at, first_begun, next_round, moves, ask, asked, after_round, is_empty, is_over, rounds_until_over, opening, start_of, most_rounds, whole_run}
 use Rattle.round_driver.specs.Walks.{is_request, RequestsEnd}
+use Rattle.round_driver.specs.declared.timing.Timing.{Timing}
 use Rattle.round_driver.proofs.Requests.{request_stays, request_ends}
 use Rattle.round_driver.proofs.Runs.{stays, goes, round_over}
-use Rattle.round_driver.proofs.Moves.{Waits, IsSteady, Move, Stands, NothingArrives, NoAnswers, steady_after, round_moves}
+use Rattle.round_driver.proofs.Moves.{Waits, AreBy, IsSteady, IsInFlight, first_waits, Move, Stands, NothingArrives, NoAnswers, steady_after, round_moves}
 
 -- ---- one request
 
@@ -45,12 +47,12 @@ request_leaves (Take place) r b = cc
 
 -- in rounds: latency + 1 for each move that the requests and the weight allow
 abbrev cost : Run → ℕ
-cost r = length r.left * (2625 * (r.schedule.latency + 1)) + weight r.state.machine * (r.schedule.latency + 1)
+cost r = length r.left * (2625 * (r.schedule.timing.latency + 1)) + weight r.state.machine * (r.schedule.timing.latency + 1)
 
 -- nothing need move in the next d rounds at most: these are as many as a bank takes, or a bank is due then
 abbrev IsQuietFor : ℕ → Run → Type 0
 IsQuietFor d r =
-    (r.schedule.latency ≤ d) ⊎ ((b : ℕ) × (t : ℕ) × (b < r.state.sizes.banks) × (begun_at r.schedule b ≡ Some t) × (t + r.schedule.latency ≤ r.schedule.round + d + 1))
+    (r.schedule.timing.latency ≤ d) ⊎ ((b : ℕ) × (t : ℕ) × (b < r.state.sizes.banks) × (first_begun r.schedule b ≡ Some t) × (t + r.schedule.timing.latency ≤ r.schedule.round + d + 1))
 
 record IsSound (r : Run) : Type 0 where
   steady : IsSteady r.state r.schedule
@@ -64,18 +66,18 @@ record Goes (d : ℕ) (r next : Run) : Type 0 where
   is_quiet : IsQuietFor quiet next
   cheaper : cost next + quiet < cost r + d
 
-module _ (d : ℕ) (r next : Run) (latency : next.schedule.latency ≡ r.schedule.latency) (round : next.schedule.round ≡ r.schedule.round + 1) (sound : IsSound next) where
+module _ (d : ℕ) (r next : Run) (latency : next.schedule.timing.latency ≡ r.schedule.timing.latency) (round : next.schedule.round ≡ r.schedule.round + 1) (sound : IsSound next) where
   -- the same requests, with less on its way
   lighter : length next.left ≡ length r.left → weight next.state.machine < weight r.state.machine → Goes d r next
   lighter as_many less =
-      let k = r.schedule.latency + 1 in
+      let k = r.schedule.timing.latency + 1 in
       let fall : suc (weight next.state.machine) * k ≤ weight r.state.machine * k = mul-le-mul_right k less in
-      let left : length next.left * (2625 * (next.schedule.latency + 1)) ≡ length r.left * (2625 * k) = ap₂ (λ n l. n * (2625 * (l + 1))) as_many latency in
-      let moving : weight next.state.machine * (next.schedule.latency + 1) ≡ weight next.state.machine * k = ap (λ l. weight next.state.machine * (l + 1)) latency in
+      let left : length next.left * (2625 * (next.schedule.timing.latency + 1)) ≡ length r.left * (2625 * k) = ap₂ (λ n l. n * (2625 * (l + 1))) as_many latency in
+      let moving : weight next.state.machine * (next.schedule.timing.latency + 1) ≡ weight next.state.machine * k = ap (λ l. weight next.state.machine * (l + 1)) latency in
       record {
         sound = sound;
         round = round;
-        quiet = r.schedule.latency;
+        quiet = r.schedule.timing.latency;
         is_quiet = inl (omega (arith, latency));
         cheaper = omega (arith, fall, left, moving);
       }
@@ -83,17 +85,17 @@ module _ (d : ℕ) (r next : Run) (latency : next.schedule.latency ≡ r.schedul
   -- a request less
   shorter : length r.left ≡ suc (length next.left) → Goes d r next
   shorter fewer =
-      let k = r.schedule.latency + 1 in
+      let k = r.schedule.timing.latency + 1 in
       let w = sound.steady.whole in
       let little = weighs_little next.state.sizes next.state.machine w.in_range w.sound w.bounded in
       let most : weight next.state.machine * k ≤ 2624 * k = mul-le-mul_right k little in
-      let left : length next.left * (2625 * (next.schedule.latency + 1)) ≡ length next.left * (2625 * k) = ap (λ l. length next.left * (2625 * (l + 1))) latency in
+      let left : length next.left * (2625 * (next.schedule.timing.latency + 1)) ≡ length next.left * (2625 * k) = ap (λ l. length next.left * (2625 * (l + 1))) latency in
       let before : length r.left * (2625 * k) ≡ suc (length next.left) * (2625 * k) = ap (λ n. n * (2625 * k)) fewer in
-      let moving : weight next.state.machine * (next.schedule.latency + 1) ≡ weight next.state.machine * k = ap (λ l. weight next.state.machine * (l + 1)) latency in
+      let moving : weight next.state.machine * (next.schedule.timing.latency + 1) ≡ weight next.state.machine * k = ap (λ l. weight next.state.machine * (l + 1)) latency in
       record {
         sound = sound;
         round = round;
-        quiet = r.schedule.latency;
+        quiet = r.schedule.timing.latency;
         is_quiet = inl (omega (arith, latency));
         cheaper = omega (arith, most, left, before, moving);
       }
@@ -121,12 +123,18 @@ stands_waits c d steady stands =
 abbrev begun : Run → Course
 begun r = course r.state (next_round r.schedule) []
 
+later_by : (round : ℕ) (begun : List ℕ) → AreBy round begun → AreBy (round + 1) begun
+later_by round [] h = tt
+later_by round (t ∷ ts) h = let early = h.0 in (omega (arith, early), later_by round ts h.1)
+
 begun_steady : (r : Run) → IsSound r → IsSteady r.state (next_round r.schedule)
 begun_steady r sound =
     record {
       whole = sound.steady.whole;
       places = sound.steady.places;
-      busy = λ b t e. let before = sound.steady.busy b t e in let early = before.0 in (omega (arith, early), before.1);
+      busy = λ b.
+          let before = sound.steady.busy b in
+          record { early = later_by r.schedule.round (begun_at r.schedule b) before.early; fits = before.fits };
     }
 
 module _ (d : ℕ) (r : Run) (sound : IsSound r) (quiet : IsQuietFor d r) (next : Run) (move : Move (begun r) (moves (begun r)) (Stands (begun r) (moves (begun r)))) (state : next.state ≡ (moves (begun r)).state) (schedule : next.schedule ≡ (moves (begun r)).schedule) (as_many : length next.left ≡ length r.left) (next_sound : IsSound next) where
@@ -136,30 +144,30 @@ module _ (d : ℕ) (r : Run) (sound : IsSound r) (quiet : IsQuietFor d r) (next 
   round : next.schedule.round ≡ r.schedule.round + 1
   round = ap (λ p. p.round) schedule ∙ move.round
 
-  latency : next.schedule.latency ≡ r.schedule.latency
-  latency = ap (λ p. p.latency) schedule ∙ move.latency
+  latency : next.schedule.timing.latency ≡ r.schedule.timing.latency
+  latency = ap (λ p. p.timing.latency) schedule ∙ move.latency
 
   banks : next.state.sizes.banks ≡ r.state.sizes.banks
   banks = ap (λ s. s.sizes.banks) state ∙ move.banks
 
   -- a busy bank is due a round sooner
-  nearer : behind.state ≡ r.state → (b t : ℕ) → b < r.state.sizes.banks → begun_at behind.schedule b ≡ Some t → behind.schedule.round - t < behind.schedule.latency → t ≤ r.schedule.round + 1 → t + r.schedule.latency ≤ r.schedule.round + d + 1 ⊎ (r.schedule.latency ≤ d) → Goes d r next
+  nearer : behind.state ≡ r.state → (b t : ℕ) → b < r.state.sizes.banks → first_begun behind.schedule b ≡ Some t → behind.schedule.round - t < behind.schedule.timing.latency → t ≤ r.schedule.round + 1 → t + r.schedule.timing.latency ≤ r.schedule.round + d + 1 ⊎ (r.schedule.timing.latency ≤ d) → Goes d r next
   nearer same b t there busy early begins due = go d refl due
     where
-      go : (n : ℕ) → d ≡ n → (t + r.schedule.latency ≤ r.schedule.round + d + 1) ⊎ (r.schedule.latency ≤ d) → Goes d r next
+      go : (n : ℕ) → d ≡ n → (t + r.schedule.timing.latency ≤ r.schedule.round + d + 1) ⊎ (r.schedule.timing.latency ≤ d) → Goes d r next
       go zero e (inl l) = let a = move.round in let c = move.latency in absurd (omega (arith, e, l, early, a, c))
       go zero e (inr l) = let c = move.latency in absurd (omega (arith, e, l, early, c))
       go (suc n) e o = later (sooner o)
         where
-          sooner : (t + r.schedule.latency ≤ r.schedule.round + d + 1) ⊎ (r.schedule.latency ≤ d) → t + r.schedule.latency ≤ r.schedule.round + d + 1
+          sooner : (t + r.schedule.timing.latency ≤ r.schedule.round + d + 1) ⊎ (r.schedule.timing.latency ≤ d) → t + r.schedule.timing.latency ≤ r.schedule.round + d + 1
           sooner (inl l) = l
           sooner (inr l) = omega (arith, l, begins)
 
-          later : t + r.schedule.latency ≤ r.schedule.round + d + 1 → Goes d r next
+          later : t + r.schedule.timing.latency ≤ r.schedule.round + d + 1 → Goes d r next
           later l =
-              let still : begun_at next.schedule b ≡ Some t = ap (λ p. begun_at p b) schedule ∙ busy in
+              let still : first_begun next.schedule b ≡ Some t = ap (λ p. first_begun p b) schedule ∙ busy in
               let weighs : weight next.state.machine ≡ weight r.state.machine = ap (λ s. weight s.machine) (state ∙ same) in
-              let cost_same : cost next ≡ cost r = ap₂ (λ n k. n * (2625 * (next.schedule.latency + 1)) + k * (next.schedule.latency + 1)) as_many weighs ∙ ap (λ k. length r.left * (2625 * (k + 1)) + weight r.state.machine * (k + 1)) latency in
+              let cost_same : cost next ≡ cost r = ap₂ (λ n k. n * (2625 * (next.schedule.timing.latency + 1)) + k * (next.schedule.timing.latency + 1)) as_many weighs ∙ ap (λ k. length r.left * (2625 * (k + 1)) + weight r.state.machine * (k + 1)) latency in
               record {
                 sound = next_sound;
                 round = round;
@@ -172,27 +180,27 @@ module _ (d : ℕ) (r : Run) (sound : IsSound r) (quiet : IsQuietFor d r) (next 
   stood : behind.state ≡ r.state → Stands (begun r) behind → (weight behind.state.machine ≡ 0 → ⊥) → Goes d r next
   stood same stands busy = go quiet
     where
-      long_quiet : r.schedule.latency ≤ d → (weight behind.state.machine ≡ 0) ⊎ HasCommand behind.state.sizes behind.state.machine → Goes d r next
+      long_quiet : r.schedule.timing.latency ≤ d → (weight behind.state.machine ≡ 0) ⊎ HasCommand behind.state.sizes behind.state.machine → Goes d r next
       long_quiet enough (inl rest) = absurd (busy rest)
       long_quiet enough (inr x) =
           let l = x.1 in
           let sizes = ap (λ s. s.sizes.banks) same in
           let there : x.0 < r.state.sizes.banks = omega (arith, l, sizes) in
           let begins = stands.begins x.0 there (subst (λ s. Waits s x.0) same x.2) in
-          let early = (move.steady.busy x.0 begins.0 begins.1).0 in
+          let early = (first_waits behind.state behind.schedule move.steady x.0 begins.0 begins.1).0 in
           let time = move.round in
           nearer same x.0 begins.0 there begins.1 begins.2 (omega (arith, early, time)) (inr enough)
 
       go : IsQuietFor d r → Goes d r next
       go (inl enough) = long_quiet enough (stands_waits (begun r) behind move.steady stands)
       go (inr x) =
-          let before = sound.steady.busy x.0 x.1 x.3 in
+          let before = first_waits r.state r.schedule sound.steady x.0 x.1 x.3 in
           let early = before.0 in
           let still = stands.kept x.0 x.1 x.3 in
           let begins = stands.begins x.0 x.2 before.1 in
           let is : Some begins.0 ≡ Some x.1 = sym begins.1 ∙ still in
           let time : begins.0 ≡ x.1 = cc in
-          let not_due = subst (λ t. behind.schedule.round - t < behind.schedule.latency) time begins.2 in
+          let not_due = subst (λ t. behind.schedule.round - t < behind.schedule.timing.latency) time begins.2 in
           nearer same x.0 x.1 x.2 still not_due (omega (arith, early)) (inl x.4)
 
   goes_on : (behind.state ≡ r.state → weight behind.state.machine ≡ 0 → ⊥) → Goes d r next
@@ -287,40 +295,43 @@ over_within (suc n) d r sound quiet few =
         let in_time = rest.in_time in
         record { over = ap is_over (goes n r e) ∙ rest.over; in_time = omega (arith, same, in_time, round) }
 
-pub requests_end : (latency : ℕ) (s : MachineState) (requests : List Event) → IsWholeState s → RequestsEnd latency s requests
-requests_end latency s requests whole all =
-    let rest = over_within most latency start sound (inl (omega arith)) few in
-    let same : whole_run latency s requests ≡ rounds_until_over most start = round_over most (most_rounds latency (length requests)) start (omega (arith, below)) rest.over in
+pub requests_end : (timing : Timing) (s : MachineState) (requests : List Event) → IsWholeState s → RequestsEnd timing s requests
+requests_end timing s requests whole all =
+    let rest = over_within most timing.latency start sound (inl (omega arith)) few in
+    let same : whole_run timing s requests ≡ rounds_until_over most start = round_over most (most_rounds timing.latency (length requests)) start (omega (arith, below)) rest.over in
     let round = ap (λ r. r.schedule.round) same in
     let in_time = rest.in_time in
     record { over = ap is_over same ∙ rest.over; in_time = omega (arith, round, in_time, below) }
   where
     start : Run
-    start = start_of latency s requests
+    start = start_of timing s requests
 
     -- a round less than there may be
     most : ℕ
-    most = most_rounds latency (length requests) - 1
+    most = most_rounds timing.latency (length requests) - 1
 
-    idle : Option ℕ
-    idle = None
+    none : List ℕ
+    none = []
+
+    idle : (b : ℕ) → begun_at (opening timing) b ≡ none
+    idle b = all_same 16 b none
 
     sound : IsSound start
     sound =
         record {
           steady = record {
             whole = whole;
-            places = length-replicate 16 idle;
-            busy = λ b t e. let none : begun_at (opening latency) b ≡ None = all_same 16 b idle in cc;
+            places = length-replicate 16 none;
+            busy = λ b. subst (IsInFlight 0 (length (bank_at s.machine.banks b).queue)) (sym (idle b)) (record { early = tt; fits = omega arith });
           };
           requests = all;
         }
 
-    little : weight s.machine * (latency + 1) ≤ 2624 * (latency + 1)
-    little = mul-le-mul_right (latency + 1) (weighs_little s.sizes s.machine whole.in_range whole.sound whole.bounded)
+    little : weight s.machine * (timing.latency + 1) ≤ 2624 * (timing.latency + 1)
+    little = mul-le-mul_right (timing.latency + 1) (weighs_little s.sizes s.machine whole.in_range whole.sound whole.bounded)
 
-    below : most < most_rounds latency (length requests)
+    below : most < most_rounds timing.latency (length requests)
     below = let l = little in omega (arith, l)
 
-    few : cost start + latency ≤ most
+    few : cost start + timing.latency ≤ most
     few = let l = little in omega (arith, l)

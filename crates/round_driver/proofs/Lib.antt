@@ -2,5 +2,6 @@ pub mod Turns
 pub mod Requests
 pub mod Runs
 pub mod Walks
+pub mod Commands
 pub mod Moves
 pub mod Ends

@@ -1,8 +1,8 @@
 -- The moves of a round: one of them lowers the weight, or all leave the machine as it was, and show why.
-use Rattle.std.proofs.Common.{◌≡◌, ℕ, zero, suc, ◌+◌, ◌-◌, ◌<◌, ◌≤◌, Bool, true, false, cond, not, ◌&&◌, nat_lt, List, [], ◌∷◌, length, get_or, Option, Some, None, is_none, refl, sym, ap, ◌∙◌, subst, arith, ◌⊎◌, inl, inr, ⊎_elim, length-set, get_or-set_same, get_or-set_other, ltb-true}
+use Rattle.std.proofs.Common.{◌≡◌, ℕ, zero, suc, ◌+◌, ◌-◌, ◌<◌, ◌≤◌, Bool, true, false, cond, not, ◌&&◌, nat_lt, List, [], ◌∷◌, ◌++◌, length, drop, get_or, slice_get, Option, Some, None, refl, sym, ap, ◌∙◌, subst, arith, ◌⊎◌, inl, inr, ⊎_elim, length-set, get_or-set_same, get_or-set_other, ltb-true, lt-ltb}
 use Rattle.std.specs.Option.{option_or}
-use Rattle.std.proofs.lemmas.Bool.{cases_eq, cases_lt, ltb-false}
-use Rattle.std.proofs.lemmas.List.{get_or_past}
+use Rattle.std.proofs.lemmas.Bool.{and_parts, cases_eq, cases_lt, ltb-false}
+use Rattle.std.proofs.lemmas.List.{get_or_past, length-append}
 use Rattle.flat_model.specs.declared.Event.{Event}
 use Rattle.flat_model.specs.declared.Event.TheVariants.{Drain, Serve, Arrive, Process, Take}
 use Rattle.memory_banks.specs.declared.BankAnswer.{BankAnswer}
@@ -15,10 +15,11 @@ use Rattle.machine_core.specs.AnyMachine.{after_event}
 use Rattle.machine_core.proofs.Contract.{sound_apply, bounded_apply}
 use Rattle.machine_core.proofs.Whole.{lawful, roomy}
 use Rattle.machine_core.proofs.Weighing.{arrive_lowers}
-use Rattle.machine_core.proofs.Moving.{FallsOr, HasCommand, take_falls, process_falls, serve_falls, drain_falls, leaves_commands, command_waits}
+use Rattle.machine_core.proofs.Moving.{FallsOr, HasCommand, take_falls, process_falls, serve_falls, drain_falls, leaves_commands}
 use Rattle.round_driver.specs.declared.schedule.Schedule.{Schedule}
-use Rattle.round_driver.specs.Machines.{has_command, has_answer, has_stack_room}
-use Rattle.round_driver.specs.Rounds.{Course, scheduled, begun_at, with_begun, is_due_since, attempt, begin, serve_due, bank_turns, first_with_answer, next_with_answer, arrive_from, arrive, moves}
+use Rattle.round_driver.specs.Machines.{command_count, has_answer, has_stack_room}
+use Rattle.round_driver.specs.Rounds.{Course, scheduled, begun_at, with_begun, first_begun, is_free_since, is_free, has_unbegun, with_begin, without_first, is_due_since, attempt, begin, serve_due, bank_turns, first_with_answer, next_with_answer, arrive_from, arrive, moves}
+use Rattle.round_driver.proofs.Commands.{commands_stay, one_served}
 
 -- ---- where a run stands
 
@@ -26,11 +27,40 @@ use Rattle.round_driver.specs.Rounds.{Course, scheduled, begun_at, with_begun, i
 abbrev pub Waits : MachineState → ℕ → Type 0
 Waits s b = has_items (bank_at s.machine.banks b).queue ≡ true
 
--- the machine is whole, and each busy bank has the command that it began
+abbrev waiting : MachineState → ℕ → ℕ
+waiting s b = length (bank_at s.machine.banks b).queue
+
+-- each of these rounds is this one or an earlier one
+abbrev pub AreBy : ℕ → List ℕ → Type 0
+AreBy round [] = Unit {0}
+AreBy round (t ∷ ts) = (t ≤ round) × AreBy round ts
+
+-- what a bank has begun was begun by this round, and all of it still waits
+pub record IsInFlight (round number : ℕ) (begun : List ℕ) : Type 0 where
+  pub early : AreBy round begun
+  pub fits : length begun ≤ number
+
+-- the machine is whole, and each bank has the commands that it began
 pub record IsSteady (s : MachineState) (p : Schedule) : Type 0 where
   pub whole : IsWholeState s
   pub places : length p.begun ≡ 16
-  pub busy : (b t : ℕ) → begun_at p b ≡ Some t → (t ≤ p.round) × Waits s b
+  pub busy : (b : ℕ) → IsInFlight p.round (length (bank_at s.machine.banks b).queue) (begun_at p b)
+
+some_items : {X : Type 0} (xs : List X) → 0 < length xs → has_items xs ≡ true
+some_items [] l = absurd (omega (arith, l))
+some_items (x ∷ xs) l = refl
+
+-- the first command that a bank began was begun by this round, and it waits
+pub first_waits : (s : MachineState) (p : Schedule) → IsSteady s p → (b t : ℕ) → first_begun p b ≡ Some t → (t ≤ p.round) × Waits s b
+first_waits s p steady b t e = go (begun_at p b) (steady.busy b) e
+  where
+    go : (begun : List ℕ) → IsInFlight p.round (waiting s b) begun → slice_get begun 0 ≡ Some t → (t ≤ p.round) × Waits s b
+    go [] h q = cc
+    go (u ∷ us) h q =
+        let same : u ≡ t = cc in
+        let early = h.early.0 in
+        let fits = h.fits in
+        (omega (arith, early, same), some_items (bank_at s.machine.banks b).queue (omega (arith, fits)))
 
 abbrev Steady : Course → Type 0
 Steady c = IsSteady c.state c.schedule
@@ -57,7 +87,9 @@ steady_after event s p steady leaves =
     record {
       whole = whole_after s event steady.whole;
       places = steady.places;
-      busy = λ b t e. let before = steady.busy b t e in (before.0, command_waits s.sizes s.machine b event (leaves b) before.1);
+      busy = λ b.
+          let before = steady.busy b in
+          record { early = before.early; fits = commands_stay s.sizes s.machine b (length (begun_at p b)) before.fits event (leaves b) };
     }
 
 -- ---- from one course to the next
@@ -73,7 +105,7 @@ Lighter c d why = (weighs d.state < weighs c.state) ⊎ ((d.state ≡ c.state) �
 pub record Move (c d : Course) (why : Type 0) : Type 0 where
   pub steady : IsSteady d.state d.schedule
   pub round : d.schedule.round ≡ c.schedule.round
-  pub latency : d.schedule.latency ≡ c.schedule.latency
+  pub latency : d.schedule.timing.latency ≡ c.schedule.timing.latency
   pub banks : d.state.sizes.banks ≡ c.state.sizes.banks
   pub lighter : (weight d.state.machine < weight c.state.machine) ⊎ ((d.state ≡ c.state) × why)
 
@@ -96,91 +128,146 @@ then {F} {G} {H} c d e first second both =
 
 -- ---- the banks
 
-begun-same : (p : Schedule) (b : ℕ) (o : Option ℕ) → b < length p.begun → begun_at (with_begun p b o) b ≡ o
-begun-same p b o l = get_or-set_same p.begun b o None l
+begun-same : (p : Schedule) (b : ℕ) (begun : List ℕ) → b < length p.begun → begun_at (with_begun p b begun) b ≡ begun
+begun-same p b begun l = get_or-set_same p.begun b begun [] l
 
-begun-other : (p : Schedule) (b k : ℕ) (o : Option ℕ) → (k ≡ b → ⊥) → begun_at (with_begun p b o) k ≡ begun_at p k
-begun-other p b k o apart = get_or-set_other p.begun b k o None apart
+begun-other : (p : Schedule) (b k : ℕ) (begun : List ℕ) → (k ≡ b → ⊥) → begun_at (with_begun p b begun) k ≡ begun_at p k
+begun-other p b k begun apart = get_or-set_other p.begun b k begun [] apart
 
--- behind its begin a bank that has a command is busy
+-- one more that was begun in this round
+more_by : (round : ℕ) (begun : List ℕ) → AreBy round begun → AreBy round (begun ++ round ∷ [])
+more_by round [] h = (omega arith, tt)
+more_by round (t ∷ ts) h = (h.0, more_by round ts h.1)
+
+first_stays : (begun : List ℕ) (round t : ℕ) → slice_get begun 0 ≡ Some t → slice_get (begun ++ round ∷ []) 0 ≡ Some t
+first_stays [] round t e = cc
+first_stays (u ∷ us) round t e = e
+
+first_there : (begun : List ℕ) (round : ℕ) → (t : ℕ) × (slice_get (begun ++ round ∷ []) 0 ≡ Some t)
+first_there [] round = (round, refl)
+first_there (t ∷ ts) round = (t, refl)
+
+long : {X : Type 0} (xs : List X) → has_items xs ≡ true → 0 < length xs
+long [] e = cc
+long (x ∷ xs) e = omega arith
+
+never : true ≡ false → ⊥
+never e = cc
+
+-- behind its begin a bank at which a command waits has begun one
 record Begun (b : ℕ) (c d : Course) : Type 0 where
   steady : IsSteady d.state d.schedule
   state : d.state ≡ c.state
   round : d.schedule.round ≡ c.schedule.round
-  latency : d.schedule.latency ≡ c.schedule.latency
-  kept : (k t : ℕ) → begun_at c.schedule k ≡ Some t → begun_at d.schedule k ≡ Some t
-  begins : Waits c.state b → (t : ℕ) × (begun_at d.schedule b ≡ Some t)
+  latency : d.schedule.timing.latency ≡ c.schedule.timing.latency
+  kept : (k t : ℕ) → first_begun c.schedule k ≡ Some t → first_begun d.schedule k ≡ Some t
+  begins : Waits c.state b → (t : ℕ) × (first_begun d.schedule b ≡ Some t)
 
 begun : (b : ℕ) (c : Course) → Steady c → b < 16 → Begun b c (begin b c)
-unfolding begin has_command
-begun b c steady few = go (begun_at c.schedule b) refl (has_items (bank_at c.state.machine.banks b).queue) refl
+unfolding begin command_count
+begun b c steady few = go (is_free c.schedule b && nat_lt (length before) (waiting c.state b)) refl
   where
+    before : List ℕ
+    before = begun_at c.schedule b
+
     now : Course
-    now = scheduled (with_begun c.schedule b (Some c.schedule.round)) c
+    now = scheduled (with_begin c.schedule b) c
 
     there : b < length c.schedule.begun
     there = let n = steady.places in omega (arith, few, n)
 
-    idle : begun_at c.schedule b ≡ None → (k t : ℕ) → begun_at c.schedule k ≡ Some t → k ≡ b → ⊥
-    idle none k t e q = let same : begun_at c.schedule b ≡ Some t = ap (begun_at c.schedule) (sym q) ∙ e in cc
+    same : begun_at now.schedule b ≡ before ++ c.schedule.round ∷ []
+    same = begun-same c.schedule b (before ++ c.schedule.round ∷ []) there
 
-    starts : begun_at c.schedule b ≡ None → Waits c.state b → Begun b c now
-    starts none waits =
+    other : (k : ℕ) → (k ≡ b → ⊥) → begun_at now.schedule k ≡ begun_at c.schedule k
+    other k apart = begun-other c.schedule b k (before ++ c.schedule.round ∷ []) apart
+
+    starts : length before < waiting c.state b → Begun b c now
+    starts free =
         record {
           steady = record {
             whole = steady.whole;
-            places = length-set c.schedule.begun b (Some c.schedule.round) ∙ steady.places;
-            busy = λ k t e. ⊎_elim (λ q. here k t q e) (λ apart. steady.busy k t (sym (other k apart) ∙ e)) (cases_eq k b);
+            places = length-set c.schedule.begun b (before ++ c.schedule.round ∷ []) ∙ steady.places;
+            busy = λ k. ⊎_elim (λ q. subst Flies (sym q) here) (λ apart. subst (InFlightAt k) (sym (other k apart)) (steady.busy k)) (cases_eq k b);
           };
           state = refl;
           round = refl;
           latency = refl;
-          kept = λ k t e. other k (idle none k t e) ∙ e;
-          begins = λ w. (c.schedule.round, begun-same c.schedule b (Some c.schedule.round) there);
+          kept = λ k t e. ⊎_elim (λ q. first_here k t q e) (λ apart. ap (λ l. slice_get l 0) (other k apart) ∙ e) (cases_eq k b);
+          begins = λ w. let first = first_there before c.schedule.round in (first.0, ap (λ l. slice_get l 0) same ∙ first.1);
         }
       where
-        other : (k : ℕ) → (k ≡ b → ⊥) → begun_at now.schedule k ≡ begun_at c.schedule k
-        other k apart = begun-other c.schedule b k (Some c.schedule.round) apart
+        InFlightAt : ℕ → List ℕ → Type 0
+        InFlightAt k begun = IsInFlight c.schedule.round (waiting c.state k) begun
 
-        here : (k t : ℕ) → k ≡ b → begun_at now.schedule k ≡ Some t → (t ≤ c.schedule.round) × Waits c.state k
-        here k t q e =
-            let is : Some c.schedule.round ≡ Some t = sym (begun-same c.schedule b (Some c.schedule.round) there) ∙ ap (begun_at now.schedule) (sym q) ∙ e in
-            let same : c.schedule.round ≡ t = cc in
-            (omega (arith, same), subst (Waits c.state) (sym q) waits)
+        Flies : ℕ → Type 0
+        Flies k = InFlightAt k (begun_at now.schedule k)
 
-    stays : (Waits c.state b → (t : ℕ) × (begun_at c.schedule b ≡ Some t)) → Begun b c c
+        here : Flies b
+        here =
+            let all = length-append before (c.schedule.round ∷ []) in
+            let more : InFlightAt b (before ++ c.schedule.round ∷ []) = record { early = more_by c.schedule.round before (steady.busy b).early; fits = omega (arith, all, free) } in
+            subst (InFlightAt b) (sym same) more
+
+        first_here : (k t : ℕ) → k ≡ b → first_begun c.schedule k ≡ Some t → first_begun now.schedule k ≡ Some t
+        first_here k t q e =
+            let first : slice_get before 0 ≡ Some t = sym (ap (first_begun c.schedule) q) ∙ e in
+            ap (first_begun now.schedule) q ∙ ap (λ l. slice_get l 0) same ∙ first_stays before c.schedule.round t first
+
+    stays : (Waits c.state b → (t : ℕ) × (first_begun c.schedule b ≡ Some t)) → Begun b c c
     stays begins = record { steady = steady; state = refl; round = refl; latency = refl; kept = λ k t e. e; begins = begins }
 
-    go : (o : Option ℕ) → begun_at c.schedule b ≡ o → (h : Bool) → has_items (bank_at c.state.machine.banks b).queue ≡ h → Begun b c (cond (is_none o && h) now c)
-    go (Some t) e h q = stays (λ w. (t, e))
-    go None e true q = starts e q
-    go None e false q = stays (λ w. cc)
+    -- a bank that begins nothing, and has a command, has begun one
+    held : (is_free c.schedule b && nat_lt (length before) (waiting c.state b)) ≡ false → Waits c.state b → (t : ℕ) × (first_begun c.schedule b ≡ Some t)
+    held e w = go before refl
+      where
+        go : (l : List ℕ) → before ≡ l → (t : ℕ) × (first_begun c.schedule b ≡ Some t)
+        go (t ∷ ts) q = (t, ap (λ l. slice_get l 0) q)
+        go [] q =
+            let some = lt-ltb 0 (waiting c.state b) (long (bank_at c.state.machine.banks b).queue w) in
+            let none = ap (λ l. is_free_since c.schedule (slice_get l (length l - 1)) && nat_lt (length l) (waiting c.state b)) q in
+            absurd (never (sym some ∙ sym none ∙ e))
+
+    go : (h : Bool) → (is_free c.schedule b && nat_lt (length before) (waiting c.state b)) ≡ h → Begun b c (cond h now c)
+    go true e =
+        let room = (and_parts (is_free c.schedule b) (nat_lt (length before) (waiting c.state b)) e).1 in
+        starts (ltb-true (length before) (waiting c.state b) room)
+    go false e = stays (held e)
 
 -- a command that isn't due yet
 abbrev NotDue : Course → ℕ → Type 0
-NotDue c t = c.schedule.round - t < c.schedule.latency
+NotDue c t = c.schedule.round - t < c.schedule.timing.latency
 
--- behind its turn a busy bank has served its command, or it isn't due
+-- behind its turn a bank has served the first command that it began, or that isn't due
 abbrev ServedOrNot : ℕ → Course → Course → Type 0
-ServedOrNot b c d = (d.schedule.begun ≡ c.schedule.begun) × ((t : ℕ) → begun_at c.schedule b ≡ Some t → NotDue c t)
+ServedOrNot b c d = (d.schedule.begun ≡ c.schedule.begun) × ((t : ℕ) → first_begun c.schedule b ≡ Some t → NotDue c t)
 
 serves : (b : ℕ) (c : Course) → Steady c → b < c.state.sizes.banks → Move c (serve_due b c) (ServedOrNot b c (serve_due b c))
 unfolding serve_due attempt after_event
 serves b c steady there = go (begun_at c.schedule b) refl
   where
     ended : Course
-    ended = attempt (Serve b) (scheduled (with_begun c.schedule b None) c)
+    ended = attempt (Serve b) (scheduled (without_first c.schedule b) c)
 
-    stays : ((t : ℕ) → begun_at c.schedule b ≡ Some t → NotDue c t) → Move c c (ServedOrNot b c c)
+    after : MachineState
+    after = after_event c.state (Serve b)
+
+    InFlightAt : ℕ → List ℕ → Type 0
+    InFlightAt k begun = IsInFlight c.schedule.round (waiting after k) begun
+
+    Flies : ℕ → Type 0
+    Flies k = InFlightAt k (begun_at (without_first c.schedule b) k)
+
+    stays : ((t : ℕ) → first_begun c.schedule b ≡ Some t → NotDue c t) → Move c c (ServedOrNot b c c)
     stays early = record { steady = steady; round = refl; latency = refl; banks = refl; lighter = inr (refl, (refl, early)) }
 
-    ends : (t : ℕ) → begun_at c.schedule b ≡ Some t → Move c ended (ServedOrNot b c ended)
-    ends t e =
+    ends : (t : ℕ) (ts : List ℕ) → begun_at c.schedule b ≡ t ∷ ts → Move c ended (ServedOrNot b c ended)
+    ends t ts e =
         record {
           steady = record {
             whole = whole_after c.state (Serve b) steady.whole;
-            places = length-set c.schedule.begun b None ∙ steady.places;
-            busy = λ k u f. ⊎_elim (λ q. none k u q f) (λ apart. other k u apart f) (cases_eq k b);
+            places = length-set c.schedule.begun b (drop 1 (begun_at c.schedule b)) ∙ steady.places;
+            busy = λ k. ⊎_elim (λ q. subst Flies (sym q) here) (other k) (cases_eq k b);
           };
           round = refl;
           latency = refl;
@@ -191,35 +278,49 @@ serves b c steady there = go (begun_at c.schedule b) refl
         within : b < length c.schedule.begun
         within = let n = steady.places in let few = steady.whole.in_range.few_banks in omega (arith, there, n, few)
 
-        none : (k u : ℕ) → k ≡ b → begun_at (with_begun c.schedule b None) k ≡ Some u → (u ≤ c.schedule.round) × Waits (after_event c.state (Serve b)) k
-        none k u q f =
-            let is : None ≡ Some u = sym (begun-same c.schedule b None within) ∙ ap (begun_at (with_begun c.schedule b None)) (sym q) ∙ f in
-            cc
+        rest : begun_at (without_first c.schedule b) b ≡ ts
+        rest = begun-same c.schedule b (drop 1 (begun_at c.schedule b)) within ∙ ap (drop 1) e
 
-        falls : weight (after_event c.state (Serve b)).machine < weight c.state.machine
+        before : IsInFlight c.schedule.round (waiting c.state b) (t ∷ ts)
+        before = subst (IsInFlight c.schedule.round (waiting c.state b)) e (steady.busy b)
+
+        here : Flies b
+        here =
+            let fits = one_served c.state.sizes c.state.machine b (length ts) before.fits in
+            subst (InFlightAt b) (sym rest) (record { early = before.early.1; fits = fits })
+
+        other : (k : ℕ) → (k ≡ b → ⊥) → Flies k
+        other k apart =
+            let same = begun-other c.schedule b k (drop 1 (begun_at c.schedule b)) apart in
+            let all = steady.busy k in
+            let fits = commands_stay c.state.sizes c.state.machine k (length (begun_at c.schedule k)) all.fits (Serve b) apart in
+            subst (InFlightAt k) (sym same) (record { early = all.early; fits = fits })
+
+        falls : weight after.machine < weight c.state.machine
         falls =
             let w = steady.whole in
-            let waits = (steady.busy b t e).1 in
+            let waits = (first_waits c.state c.schedule steady b t (ap (λ l. slice_get l 0) e)).1 in
             serve_falls c.state.sizes (law c.state w) (room c.state w) c.state.machine w.sound b there waits
 
-        other : (k u : ℕ) → (k ≡ b → ⊥) → begun_at (with_begun c.schedule b None) k ≡ Some u → (u ≤ c.schedule.round) × Waits (after_event c.state (Serve b)) k
-        other k u apart f =
-            let before = steady.busy k u (sym (begun-other c.schedule b k None apart) ∙ f) in
-            (before.0, command_waits c.state.sizes c.state.machine k (Serve b) apart before.1)
+    due : (t : ℕ) (ts : List ℕ) → begun_at c.schedule b ≡ t ∷ ts → (early : Bool) → nat_lt (c.schedule.round - t) c.schedule.timing.latency ≡ early → Move c (cond (not early) ended c) (ServedOrNot b c (cond (not early) ended c))
+    due t ts e true q =
+        stays (λ u f. let same : t ≡ u = is_first u f in subst (NotDue c) same (ltb-true (c.schedule.round - t) c.schedule.timing.latency q))
+      where
+        is_first : (u : ℕ) → first_begun c.schedule b ≡ Some u → t ≡ u
+        is_first u f = let first : Some t ≡ Some u = sym (ap (λ l. slice_get l 0) e) ∙ f in cc
+    due t ts e false q = ends t ts e
 
-    due : (t : ℕ) → begun_at c.schedule b ≡ Some t → (early : Bool) → nat_lt (c.schedule.round - t) c.schedule.latency ≡ early → Move c (cond (not early) ended c) (ServedOrNot b c (cond (not early) ended c))
-    due t e true q =
-        stays (λ u f. let same : t ≡ u = cc in subst (NotDue c) same (ltb-true (c.schedule.round - t) c.schedule.latency q))
-    due t e false q = ends t e
+    go : (begun : List ℕ) → begun_at c.schedule b ≡ begun → Move c (cond (is_due_since c.schedule (slice_get begun 0)) ended c) (ServedOrNot b c (cond (is_due_since c.schedule (slice_get begun 0)) ended c))
+    go [] e = stays (λ t f. none t (sym (ap (λ l. slice_get l 0) e) ∙ f))
+      where
+        none : (t : ℕ) → slice_get [] 0 ≡ Some t → NotDue c t
+        none t f = cc
+    go (t ∷ ts) e = due t ts e (nat_lt (c.schedule.round - t) c.schedule.timing.latency) refl
 
-    go : (o : Option ℕ) → begun_at c.schedule b ≡ o → Move c (cond (is_due_since c.schedule o) ended c) (ServedOrNot b c (cond (is_due_since c.schedule o) ended c))
-    go None e = stays (λ t f. cc)
-    go (Some t) e = due t e (nat_lt (c.schedule.round - t) c.schedule.latency) refl
-
--- n banks from this one on had their turns and served nothing: each that has a command is busy, and not due
+-- n banks from this one on had their turns and served nothing: each that has a command has begun one, which isn't due
 pub record Turned (from n : ℕ) (c d : Course) : Type 0 where
-  pub kept : (b t : ℕ) → begun_at c.schedule b ≡ Some t → begun_at d.schedule b ≡ Some t
-  pub begins : (b : ℕ) → from ≤ b → b < from + n → Waits c.state b → (t : ℕ) × (begun_at d.schedule b ≡ Some t) × (d.schedule.round - t < d.schedule.latency)
+  pub kept : (b t : ℕ) → first_begun c.schedule b ≡ Some t → first_begun d.schedule b ≡ Some t
+  pub begins : (b : ℕ) → from ≤ b → b < from + n → Waits c.state b → (t : ℕ) × (first_begun d.schedule b ≡ Some t) × (d.schedule.round - t < d.schedule.timing.latency)
 
 abbrev AllTurns : ℕ → ℕ → Course → Type 0
 AllTurns n b c = Move c (bank_turns n b c) (Turned b n c (bank_turns n b c))
@@ -274,22 +375,22 @@ turn_then n b c steady all later = then c e f first rest both
           begins = λ k lo hi w. ⊎_elim (λ q. here k q w) (λ apart. there_too k lo hi apart w) (cases_eq k b);
         }
       where
-        still : (k : ℕ) → begun_at e.schedule k ≡ begun_at d.schedule k
-        still k = ap (λ l. get_or l k None) served.0
+        still : (k : ℕ) → first_begun e.schedule k ≡ first_begun d.schedule k
+        still k = ap (λ l. slice_get (get_or l k []) 0) served.0
 
-        there_too : (k : ℕ) → b ≤ k → k < b + suc n → (k ≡ b → ⊥) → Waits c.state k → (t : ℕ) × (begun_at f.schedule k ≡ Some t) × (f.schedule.round - t < f.schedule.latency)
+        there_too : (k : ℕ) → b ≤ k → k < b + suc n → (k ≡ b → ⊥) → Waits c.state k → (t : ℕ) × (first_begun f.schedule k ≡ Some t) × (f.schedule.round - t < f.schedule.timing.latency)
         there_too k lo hi apart w =
             let waits = subst (λ s. Waits s k) (sym same) w in
             turned.begins k (omega (arith, lo, apart)) (omega (arith, hi)) waits
 
-        here : (k : ℕ) → k ≡ b → Waits c.state k → (t : ℕ) × (begun_at f.schedule k ≡ Some t) × (f.schedule.round - t < f.schedule.latency)
+        here : (k : ℕ) → k ≡ b → Waits c.state k → (t : ℕ) × (first_begun f.schedule k ≡ Some t) × (f.schedule.round - t < f.schedule.timing.latency)
         here k q w =
             let at = begins.begins (subst (Waits c.state) q w) in
             let early = served.1 at.0 at.1 in
             let round = rest.round ∙ serving.round in
             let latency = rest.latency ∙ serving.latency in
-            let busy : begun_at f.schedule b ≡ Some at.0 = turned.kept b at.0 (still b ∙ at.1) in
-            (at.0, ap (begun_at f.schedule) q ∙ busy, omega (arith, early, round, latency))
+            let busy : first_begun f.schedule b ≡ Some at.0 = turned.kept b at.0 (still b ∙ at.1) in
+            (at.0, ap (first_begun f.schedule) q ∙ busy, omega (arith, early, round, latency))
 
 turns : (n b : ℕ) (c : Course) → Steady c → b + n ≡ c.state.sizes.banks → AllTurns n b c
 unfolding bank_turns
@@ -433,8 +534,8 @@ Drained s = (s.machine.cache.queue ≡ []) ⊎ HasCommand s.sizes s.machine
 
 -- why no move of a round did anything
 pub record Stands (c d : Course) : Type 0 where
-  pub kept : (b t : ℕ) → begun_at c.schedule b ≡ Some t → begun_at d.schedule b ≡ Some t
-  pub begins : (b : ℕ) → b < c.state.sizes.banks → Waits c.state b → (t : ℕ) × (begun_at d.schedule b ≡ Some t) × (d.schedule.round - t < d.schedule.latency)
+  pub kept : (b t : ℕ) → first_begun c.schedule b ≡ Some t → first_begun d.schedule b ≡ Some t
+  pub begins : (b : ℕ) → b < c.state.sizes.banks → Waits c.state b → (t : ℕ) × (first_begun d.schedule b ≡ Some t) × (d.schedule.round - t < d.schedule.timing.latency)
   pub arrived : NothingArrives d.state
   pub processed : d.state.machine.cache.stack ≡ []
   pub taken : d.state.machine.cache.ready ≡ []
@@ -501,14 +602,14 @@ round_moves c steady = then c c3 c5 (then c c1 c3 turned first (λ f g p q. (f, 
           drained = g.1.1;
         }
       where
-        still : (b : ℕ) → begun_at c5.schedule b ≡ begun_at c1.schedule b
-        still b = ap (λ l. get_or l b None) (g.0 ∙ f.1.0)
+        still : (b : ℕ) → first_begun c5.schedule b ≡ first_begun c1.schedule b
+        still b = ap (λ l. slice_get (get_or l b []) 0) (g.0 ∙ f.1.0)
 
         round : c5.schedule.round ≡ c1.schedule.round
         round = last.round ∙ first.round
 
-        latency : c5.schedule.latency ≡ c1.schedule.latency
+        latency : c5.schedule.timing.latency ≡ c1.schedule.timing.latency
         latency = last.latency ∙ first.latency
 
-        busy : (b : ℕ) → (t : ℕ) × (begun_at c1.schedule b ≡ Some t) × (c1.schedule.round - t < c1.schedule.latency) → (t : ℕ) × (begun_at c5.schedule b ≡ Some t) × (c5.schedule.round - t < c5.schedule.latency)
+        busy : (b : ℕ) → (t : ℕ) × (first_begun c1.schedule b ≡ Some t) × (c1.schedule.round - t < c1.schedule.timing.latency) → (t : ℕ) × (first_begun c5.schedule b ≡ Some t) × (c5.schedule.round - t < c5.schedule.timing.latency)
         busy b x = let early = x.2 in (x.0, still b ∙ x.1, omega (arith, early, round, latency))

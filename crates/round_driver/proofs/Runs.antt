@@ -9,6 +9,7 @@ use Rattle.trace_text.specs.declared.fault.TraceFault.{TraceFault}
 use Rattle.trace_text.specs.declared.fault.TraceFault.TheVariants.{Line, Read, Write, OutOfMemory, TooManyLines}
 use Rattle.round_driver.specs.declared.note.Note.{Note}
 use Rattle.round_driver.specs.declared.schedule.Schedule.{Schedule}
+use Rattle.round_driver.specs.declared.timing.Timing.{Timing}
 use Rattle.round_driver.specs.Rounds.{Run, run_of, after_round, is_over, is_over_at, rounds_until_over, opening, start_of}
 use Rattle.round_driver.specs.Tables.{Counting, counted, counted_all, nothing}
 use Rattle.round_driver.specs.Written.{note_line, run_text, BreaksOff}
@@ -93,16 +94,16 @@ counted_then c (x ∷ xs) ys = counted_then (counted c x) xs ys
 
 -- ---- before the first round
 
-module _ (latency : ℕ) (s : MachineState) (requests : List Event) where
-  pub run_begins : (p : Schedule) → p ≡ opening latency → run_of s p requests (rounds_until_over 0 (start_of latency s requests)).told ≡ rounds_until_over 0 (start_of latency s requests)
+module _ (timing : Timing) (s : MachineState) (requests : List Event) where
+  pub run_begins : (p : Schedule) → p ≡ opening timing → run_of s p requests (rounds_until_over 0 (start_of timing s requests)).told ≡ rounds_until_over 0 (start_of timing s requests)
   unfolding rounds_until_over
   run_begins p h = ap (λ p. run_of s p requests []) h
 
-  pub text_begins : {S : Type 0} (step : S → List ℕ → S → Type 0) (w : S) → Moves step w (run_text (rounds_until_over 0 (start_of latency s requests)).told) w
+  pub text_begins : {S : Type 0} (step : S → List ℕ → S → Type 0) (w : S) → Moves step w (run_text (rounds_until_over 0 (start_of timing s requests)).told) w
   unfolding rounds_until_over
   text_begins step w = moved_none w
 
-  pub counts_begin : (c : Counting) → c ≡ nothing → c ≡ counted_all nothing (rounds_until_over 0 (start_of latency s requests)).told
+  pub counts_begin : (c : Counting) → c ≡ nothing → c ≡ counted_all nothing (rounds_until_over 0 (start_of timing s requests)).told
   unfolding rounds_until_over
   counts_begin c h = h
 

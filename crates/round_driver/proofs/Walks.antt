@@ -22,6 +22,7 @@ use Rattle.machine_core.specs.Machine.{Machine, MachineState, apply, joined_with
 use Rattle.machine_core.specs.AnyMachine.{answered, after_event}
 use Rattle.round_driver.specs.declared.note.Note.{Note}
 use Rattle.round_driver.specs.declared.schedule.Schedule.{Schedule}
+use Rattle.round_driver.specs.declared.timing.Timing.{Timing}
 use Rattle.round_driver.specs.Rounds.{Course, course, Run, is_done, is_end, note_of, request_note, attempt, ask, scheduled, begin, serve_due, bank_turns, arrive_from as arrive_at, arrive, moves, asked, after_round, is_over, rounds_until_over, start_of}
 use Rattle.round_driver.specs.Walks.{events_of, answers_of, IsWalk, is_request, ended, RunIsTold}
 
@@ -222,8 +223,8 @@ module _ (s : MachineState) (requests : List Event) where
   rounds_told zero r t = t
   rounds_told (suc n) r t = told_of (is_over r) r (rounds_until_over n (after_round r)) t (rounds_told n (after_round r) (round_told r t))
 
-pub run_is_told : (latency : ℕ) (s : MachineState) (requests : List Event) (n : ℕ) → RunIsTold latency s requests n
-run_is_told latency s requests n =
-    let start : IsToldSoFar s requests (start_of latency s requests) = record { walks = record { ends = refl; tells = refl }; in_order = λ h. (h, refl) } in
-    let t = rounds_told s requests n (start_of latency s requests) start in
+pub run_is_told : (timing : Timing) (s : MachineState) (requests : List Event) (n : ℕ) → RunIsTold timing s requests n
+run_is_told timing s requests n =
+    let start : IsToldSoFar s requests (start_of timing s requests) = record { walks = record { ends = refl; tells = refl }; in_order = λ h. (h, refl) } in
+    let t = rounds_told s requests n (start_of timing s requests) start in
     record { walks = t.walks; in_order = λ h. (t.in_order h).1 }

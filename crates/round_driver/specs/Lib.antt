@@ -1,4 +1,5 @@
 pub mod Machines
+pub mod Timings
 pub mod Rounds
 pub mod Walks
 pub mod Tables

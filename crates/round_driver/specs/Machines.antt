@@ -9,9 +9,9 @@ use Rattle.cache_unit.specs.Views.{register_view}
 use Rattle.machine_core.specs.Machine.{MachineState}
 use Rattle.machine_core.specs.Pump.{has_items}
 
--- whether a command waits at a bank
-unfoldable pub has_command : MachineState → ℕ → Bool
-has_command s b = has_items (bank_at s.machine.banks b).queue
+-- how many commands wait at a bank
+unfoldable pub command_count : MachineState → ℕ → ℕ
+command_count s b = length (bank_at s.machine.banks b).queue
 
 -- whether an answer stands in a bank
 unfoldable pub has_answer : MachineState → ℕ → Bool

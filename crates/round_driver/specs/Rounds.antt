@@ -1,5 +1,5 @@
 -- Rounds over a machine: what is made in each, and what is told of it.
-use Rattle.std.specs.Prelude.{◌≡◌, ◌<◌, ℕ, zero, suc, ◌+◌, ◌-◌, ◌*◌, Bool, true, false, not, ◌&&◌, if◌then◌else◌, nat_lt, ◌==◌, List, [], ◌∷◌, ◌++◌, length, replicate, Option, Some, None, is_none, slice_set, slice_index_or}
+use Rattle.std.specs.Prelude.{◌≡◌, ◌<◌, ℕ, zero, suc, ◌+◌, ◌-◌, ◌*◌, Bool, true, false, not, ◌&&◌, if◌then◌else◌, nat_lt, ◌==◌, List, [], ◌∷◌, ◌++◌, length, replicate, Option, Some, None, slice_get, slice_set, slice_index_or, drop}
 use Rattle.std.specs.Option.{option_or}
 use Rattle.flat_model.specs.declared.limits.TheConstants.{MAX_BANKS}
 use Rattle.flat_model.specs.declared.Cause.TheVariants.{OutOfRange, NoLanes, NotPresent}
@@ -11,11 +11,13 @@ use Rattle.cache_unit.specs.declared.Lookup.{Lookup}
 use Rattle.cache_unit.specs.declared.Lookup.TheVariants.{Miss}
 use Rattle.machine_core.specs.Machine.{MachineState}
 use Rattle.machine_core.specs.AnyMachine.{answered, after_event, weight_of}
-use Rattle.round_driver.specs.Machines.{has_command, has_answer, has_stack_room, found_at, used_registers}
+use Rattle.round_driver.specs.Machines.{command_count, has_answer, has_stack_room, found_at, used_registers}
 use Rattle.trace_text.specs.Codes.{most_lines}
 use Rattle.round_driver.specs.declared.driving.TheConstants.{MOST_MOVES}
 use Rattle.round_driver.specs.declared.note.Note.{Note}
 use Rattle.round_driver.specs.declared.schedule.Schedule.{Schedule}
+use Rattle.round_driver.specs.declared.timing.Timing.{Timing}
+use Rattle.round_driver.specs.Timings.{is_pipelined}
 
 -- ---- where a run stands
 
@@ -28,9 +30,9 @@ pub record Course : Type 0 where
 abbrev pub course : MachineState → Schedule → List Note → Course
 course s p notes = record { state = s; schedule = p; notes = notes }
 
--- before the first round: no bank is busy
-abbrev pub opening : ℕ → Schedule
-opening latency = record { latency = latency; round = 0; begun = replicate MAX_BANKS None; next = 0 }
+-- before the first round: no bank has begun a command
+abbrev pub opening : Timing → Schedule
+opening timing = record { timing = timing; round = 0; begun = replicate MAX_BANKS []; next = 0 }
 
 -- ---- one event
 
@@ -53,35 +55,59 @@ attempt event c =
 
 -- ---- the banks
 
-abbrev pub begun_at : Schedule → ℕ → Option ℕ
-begun_at p b = slice_index_or p.begun b None
+-- the rounds in which a bank began the commands that it hasn't served, the first one first
+abbrev pub begun_at : Schedule → ℕ → List ℕ
+begun_at p b = slice_index_or p.begun b []
 
-abbrev pub with_begun : Schedule → ℕ → Option ℕ → Schedule
+abbrev pub with_begun : Schedule → ℕ → List ℕ → Schedule
 with_begun p b begun = record p { begun = slice_set p.begun b begun }
 
--- whether a bank has begun no command
-abbrev pub is_idle : Schedule → ℕ → Bool
-is_idle p b = is_none (begun_at p b)
+abbrev pub first_begun : Schedule → ℕ → Option ℕ
+first_begun p b = slice_get (begun_at p b) 0
+
+abbrev pub last_begun : Schedule → ℕ → Option ℕ
+last_begun p b = slice_get (begun_at p b) (length (begun_at p b) - 1)
+
+-- whether a bank that began its last command then may begin another: a pipelined bank may, if it isn't busy any more
+abbrev pub is_free_since : Schedule → Option ℕ → Bool
+is_free_since p None = true
+is_free_since p (Some begun) = is_pipelined p.timing && not (nat_lt (p.round - begun) p.timing.busy)
+
+-- Whether a bank may begin a command. A command that it began and has served doesn't hold it up: that was begun
+-- as many rounds ago as the latency has.
+abbrev pub is_free : Schedule → ℕ → Bool
+is_free p b = is_free_since p (last_begun p b)
+
+-- whether a command waits at a bank that it hasn't begun
+abbrev pub has_unbegun : Schedule → MachineState → ℕ → Bool
+has_unbegun p s b = nat_lt (length (begun_at p b)) (command_count s b)
 
 abbrev pub is_due_since : Schedule → Option ℕ → Bool
 is_due_since p None = false
-is_due_since p (Some begun) = not (nat_lt (p.round - begun) p.latency)
+is_due_since p (Some begun) = not (nat_lt (p.round - begun) p.timing.latency)
 
--- whether a bank began its command as many rounds ago as it takes
+-- whether a bank began its first command as many rounds ago as it takes for one
 abbrev pub is_due : Schedule → ℕ → Bool
-is_due p b = is_due_since p (begun_at p b)
+is_due p b = is_due_since p (first_begun p b)
 
 abbrev pub scheduled : Schedule → Course → Course
 scheduled p c = course c.state p c.notes
 
--- a bank that has a command and isn't busy begins it
+-- the schedule when a bank has begun one more command, in this round
+abbrev pub with_begin : Schedule → ℕ → Schedule
+with_begin p b = with_begun p b (begun_at p b ++ p.round ∷ [])
+
+-- the schedule when a bank's first command is done
+abbrev pub without_first : Schedule → ℕ → Schedule
+without_first p b = with_begun p b (drop 1 (begun_at p b))
+
+-- a bank that may begin a command begins one that waits
 unfoldable pub begin : ℕ → Course → Course
-begin b c =
-    if is_idle c.schedule b && has_command c.state b then scheduled (with_begun c.schedule b (Some c.schedule.round)) c else c
+begin b c = if is_free c.schedule b && has_unbegun c.schedule c.state b then scheduled (with_begin c.schedule b) c else c
 
 -- a command that was begun long enough ago is served
 unfoldable pub serve_due : ℕ → Course → Course
-serve_due b c = if is_due c.schedule b then attempt (Serve b) (scheduled (with_begun c.schedule b None) c) else c
+serve_due b c = if is_due c.schedule b then attempt (Serve b) (scheduled (without_first c.schedule b) c) else c
 
 abbrev pub bank_turn : ℕ → Course → Course
 bank_turn b c = serve_due b (begin b c)
@@ -201,23 +227,23 @@ rounds_until_over zero r = r
 rounds_until_over (suc n) r = if is_over r then r else rounds_until_over n (after_round r)
 
 -- before the first round
-abbrev pub start_of : ℕ → MachineState → List Event → Run
-start_of latency s requests = record { state = s; schedule = opening latency; left = requests; told = [] }
+abbrev pub start_of : Timing → MachineState → List Event → Run
+start_of timing s requests = record { state = s; schedule = opening timing; left = requests; told = [] }
 
 -- as many requests as a trace has lines
 abbrev pub most_requests : ℕ
 most_requests = most_lines
 
 -- More rounds than a run takes. What is on its way allows fewer than MOST_MOVES moves, and in any latency + 1 rounds
--- there is one, or a request ends.
+-- there is one, or a request ends. A pipelined bank takes no longer.
 abbrev pub most_rounds : ℕ → ℕ → ℕ
 most_rounds latency requests = (requests + 1) * (MOST_MOVES * (latency + 1))
 
 -- the whole run of these requests
-abbrev pub whole_run : ℕ → MachineState → List Event → Run
-whole_run latency s requests = rounds_until_over (most_rounds latency (length requests)) (start_of latency s requests)
+abbrev pub whole_run : Timing → MachineState → List Event → Run
+whole_run timing s requests = rounds_until_over (most_rounds timing.latency (length requests)) (start_of timing s requests)
 
 -- a run that took fewer rounds than it may is over
-abbrev pub EndsInTime : ℕ → MachineState → List Event → Type 0
-EndsInTime latency s requests =
-    (whole_run latency s requests).schedule.round < most_rounds latency (length requests) → is_over (whole_run latency s requests) ≡ true
+abbrev pub EndsInTime : Timing → MachineState → List Event → Type 0
+EndsInTime timing s requests =
+    (whole_run timing s requests).schedule.round < most_rounds timing.latency (length requests) → is_over (whole_run timing s requests) ≡ true

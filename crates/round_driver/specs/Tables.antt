@@ -11,6 +11,7 @@ use Rattle.cache_unit.specs.declared.Lookup.TheVariants.{Hit, Join, Miss}
 use Rattle.machine_core.specs.Machine.{MachineState}
 use Rattle.round_driver.specs.Rounds.{whole_run}
 use Rattle.round_driver.specs.declared.note.Note.{Note}
+use Rattle.round_driver.specs.declared.timing.Timing.{Timing}
 use Rattle.round_driver.specs.declared.table.TheConstants.{TAGS}
 use Rattle.round_driver.specs.declared.table.Table.{Table}
 use Rattle.round_driver.specs.declared.table.LostRounds.{LostRounds}
@@ -156,7 +157,7 @@ abbrev pub with_rounds : Counting → ℕ → Table
 with_rounds c rounds = record c.table { rounds = rounds }
 
 -- the table of a run: the last round, in which nothing moves, is counted
-abbrev pub table_of : ℕ → MachineState → List Event → Table
-table_of latency s requests =
-    let r = whole_run latency s requests in
+abbrev pub table_of : Timing → MachineState → List Event → Table
+table_of timing s requests =
+    let r = whole_run timing s requests in
     with_rounds (counted_all nothing r.told) (r.schedule.round + 1)

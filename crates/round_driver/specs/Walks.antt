@@ -6,6 +6,7 @@ use Rattle.flat_model.specs.declared.Event.TheVariants.{Load, Store, Prefetch, E
 use Rattle.flat_model.specs.declared.Answer.{Answer}
 use Rattle.machine_core.specs.Machine.{MachineState, walked, told}
 use Rattle.round_driver.specs.declared.note.Note.{Note}
+use Rattle.round_driver.specs.declared.timing.Timing.{Timing}
 use Rattle.round_driver.specs.Rounds.{Run, is_end, start_of, is_over, rounds_until_over, most_rounds, whole_run}
 
 abbrev pub events_of : List Note → List Event
@@ -37,14 +38,14 @@ pub record IsTold (s : MachineState) (requests : List Event) (r : Run) : Type 0 
   pub walks : IsWalk s r.told r.state
   pub in_order : list_all is_request requests ≡ true → ended r.told ++ r.left ≡ requests
 
-abbrev pub RunIsTold : ℕ → MachineState → List Event → ℕ → Type 0
-RunIsTold latency s requests n = IsTold s requests (rounds_until_over n (start_of latency s requests))
+abbrev pub RunIsTold : Timing → MachineState → List Event → ℕ → Type 0
+RunIsTold timing s requests n = IsTold s requests (rounds_until_over n (start_of timing s requests))
 
 -- the requests are used up, nothing is on its way, and fewer rounds were made than may be
-pub record IsOverInTime (latency : ℕ) (s : MachineState) (requests : List Event) : Type 0 where
-  pub over : is_over (whole_run latency s requests) ≡ true
-  pub in_time : (whole_run latency s requests).schedule.round < most_rounds latency (length requests)
+pub record IsOverInTime (timing : Timing) (s : MachineState) (requests : List Event) : Type 0 where
+  pub over : is_over (whole_run timing s requests) ≡ true
+  pub in_time : (whole_run timing s requests).schedule.round < most_rounds timing.latency (length requests)
 
 -- each run of requests is over in time: an event that is no request never ends, and is asked in each round
-abbrev pub RequestsEnd : ℕ → MachineState → List Event → Type 0
-RequestsEnd latency s requests = list_all is_request requests ≡ true → IsOverInTime latency s requests
+abbrev pub RequestsEnd : Timing → MachineState → List Event → Type 0
+RequestsEnd timing s requests = list_all is_request requests ≡ true → IsOverInTime timing s requests

@@ -8,6 +8,7 @@ ghost use Rattle.round_driver.specs.Machines as machines;
 ghost use Rattle.round_driver.specs.Rounds as rounds;
 ghost use Rattle.round_driver.specs.Rounds.{run_of, start_of, rounds_until_over, whole_run, most_requests, EndsInTime};
 ghost use Rattle.round_driver.specs.Tables.{table_of};
+ghost use Rattle.round_driver.specs.Timings.{unpipelined};
 ghost use Rattle.round_driver.specs.Walks.{RequestsEnd};
 ghost use Rattle.round_driver.specs.Written.{run_text, BreaksOff};
 
@@ -15,6 +16,7 @@ use crate::machine::RoundMachine;
 use crate::round::{Notes, ask, moves};
 use crate::schedule::Schedule;
 use crate::table::{Counter, Table};
+use crate::timing::Timing;
 use crate::writing::round_text;
 use flat_model::Event;
 use std::alloc::{AllocError, Global};
@@ -86,42 +88,42 @@ fn most_rounds(latency: u64, requests: usize) -> u64
 /// is on its way, after at most `(requests + 1) * 2,625 * (latency + 1)` rounds. No run makes more
 /// rounds: another event among the requests never ends, and is asked in each round up to the last.
 ///
-/// `latency` is how many rounds pass from the one in which a bank begins a command to the one in
-/// which it serves it, [`MOST_LATENCY`] at most. There may be at most 16,777,216 requests. The machine has at
-/// most 16 banks, as each one that is made. The writer isn't flushed.
+/// `timing` says how long a bank takes for a command, with a latency of at most [`MOST_LATENCY`].
+/// There may be at most 16,777,216 requests. The machine has at most 16 banks, as each one that is
+/// made. The writer isn't flushed.
 ///
 /// `TraceFault::Write` says that a write was refused or took no byte: a front of the run is written.
 /// `TraceFault::OutOfMemory` says that there was too little memory for the lines of a round: the run
 /// up to that round is written. No other fault comes.
-pub fn drive<W: Sink, M: RoundMachine>(
+pub fn drive_with<W: Sink, M: RoundMachine>(
     alloc: Global,
     machine: &mut M,
-    latency: u64,
+    timing: Timing,
     requests: &[Event],
     writer: &mut W,
 ) -> Result<u64, TraceFault>
     requires banks { (M.state machine.old).sizes.banks ≤ MAX_BANKS }
-    requires latency { latency ≤ MOST_LATENCY }
+    requires latency { timing.latency ≤ MOST_LATENCY }
     requires requests { length requests.now ≤ most_requests }
     ensures ok { IfOk result
-        (λ n. n ≡ (whole_run latency (M.state machine.old) requests.now).schedule.round + 1) }
+        (λ n. n ≡ (whole_run timing (M.state machine.old) requests.now).schedule.round + 1) }
     ensures machine { OnOk result
-        (M.state machine.new ≡ (whole_run latency (M.state machine.old) requests.now).state) }
-    ensures over { OnOk result (RequestsEnd latency (M.state machine.old) requests.now) }
-    ensures early { OnOk result (EndsInTime latency (M.state machine.old) requests.now) }
+        (M.state machine.new ≡ (whole_run timing (M.state machine.old) requests.now).state) }
+    ensures over { OnOk result (RequestsEnd timing (M.state machine.old) requests.now) }
+    ensures early { OnOk result (EndsInTime timing (M.state machine.old) requests.now) }
     ensures written { OnOk result
         (Moves W.took writer.old
-        (run_text (whole_run latency (M.state machine.old) requests.now).told) writer.new) }
+        (run_text (whole_run timing (M.state machine.old) requests.now).told) writer.new) }
     ensures fault { IfErr result
         (λ fault. (n : ℕ) × BreaksOff W.took W.refused writer.old
-        (run_text (rounds_until_over n (start_of latency (M.state machine.old) requests.now)).told)
+        (run_text (rounds_until_over n (start_of timing (M.state machine.old) requests.now)).told)
         writer.new fault) }
 {
     machine.keeps_whole();
-    let mut schedule = Schedule::new(latency);
+    let mut schedule = Schedule::new(timing);
     let mut notes = Notes::new();
     let mut left = requests;
-    for _turn in 0..most_rounds(latency, requests.len()) {
+    for _turn in 0..most_rounds(timing.latency, requests.len()) {
         if is_over(machine, left) {
             return Ok(schedule.round + 1);
         }
@@ -135,9 +137,79 @@ pub fn drive<W: Sink, M: RoundMachine>(
     Ok(schedule.round + 1)
 }
 
-/// Drives these requests through the machine in rounds, as [`drive`] does, and counts.
+/// Drives these requests as [`drive_with`] does, with banks that have one command at a time.
+///
+/// `latency` is how many rounds pass from the one in which a bank begins a command to the one in
+/// which it serves it, [`MOST_LATENCY`] at most.
+pub fn drive<W: Sink, M: RoundMachine>(
+    alloc: Global,
+    machine: &mut M,
+    latency: u64,
+    requests: &[Event],
+    writer: &mut W,
+) -> Result<u64, TraceFault>
+    requires banks { (M.state machine.old).sizes.banks ≤ MAX_BANKS }
+    requires latency { latency ≤ MOST_LATENCY }
+    requires requests { length requests.now ≤ most_requests }
+    ensures ok { IfOk result
+        (λ n. n ≡ (whole_run (unpipelined latency) (M.state machine.old) requests.now).schedule.round + 1) }
+    ensures machine { OnOk result
+        (M.state machine.new ≡ (whole_run (unpipelined latency) (M.state machine.old) requests.now).state) }
+    ensures over { OnOk result (RequestsEnd (unpipelined latency) (M.state machine.old) requests.now) }
+    ensures early { OnOk result (EndsInTime (unpipelined latency) (M.state machine.old) requests.now) }
+    ensures written { OnOk result
+        (Moves W.took writer.old
+        (run_text (whole_run (unpipelined latency) (M.state machine.old) requests.now).told) writer.new) }
+    ensures fault { IfErr result
+        (λ fault. (n : ℕ) × BreaksOff W.took W.refused writer.old
+        (run_text (rounds_until_over n (start_of (unpipelined latency) (M.state machine.old) requests.now)).told)
+        writer.new fault) }
+{
+    drive_with(
+        alloc,
+        machine,
+        Timing::unpipelined(latency),
+        requests,
+        writer,
+    )
+}
+
+/// Drives these requests through the machine in rounds, as [`drive_with`] does, and counts.
 ///
 /// `AllocError` says that there was too little memory; nothing has been asked then.
+pub fn summarize_with<M: RoundMachine>(
+    alloc: Global,
+    machine: &mut M,
+    timing: Timing,
+    requests: &[Event],
+) -> Result<Table, AllocError>
+    requires banks { (M.state machine.old).sizes.banks ≤ MAX_BANKS }
+    requires latency { timing.latency ≤ MOST_LATENCY }
+    requires requests { length requests.now ≤ most_requests }
+    ensures table { IfOk result
+        (λ table. table ≡ table_of timing (M.state machine.old) requests.now) }
+    ensures machine { OnOk result
+        (M.state machine.new ≡ (whole_run timing (M.state machine.old) requests.now).state) }
+    ensures over { OnOk result (RequestsEnd timing (M.state machine.old) requests.now) }
+    ensures early { OnOk result (EndsInTime timing (M.state machine.old) requests.now) }
+{
+    machine.keeps_whole();
+    let mut counter = Counter::new(alloc)?;
+    let mut schedule = Schedule::new(timing);
+    let mut notes = Notes::new();
+    let mut left = requests;
+    for _turn in 0..most_rounds(timing.latency, requests.len()) {
+        if is_over(machine, left) {
+            return Ok(counter.table_after(schedule.round + 1));
+        }
+        left = round(machine, &mut schedule, &mut notes, left);
+        counter.count_all(notes.as_slice());
+    }
+    Ok(counter.table_after(schedule.round + 1))
+}
+
+/// Counts these requests as [`summarize_with`] does, with banks that have one command at a time, as
+/// [`drive`] has them.
 pub fn summarize<M: RoundMachine>(
     alloc: Global,
     machine: &mut M,
@@ -148,23 +220,11 @@ pub fn summarize<M: RoundMachine>(
     requires latency { latency ≤ MOST_LATENCY }
     requires requests { length requests.now ≤ most_requests }
     ensures table { IfOk result
-        (λ table. table ≡ table_of latency (M.state machine.old) requests.now) }
+        (λ table. table ≡ table_of (unpipelined latency) (M.state machine.old) requests.now) }
     ensures machine { OnOk result
-        (M.state machine.new ≡ (whole_run latency (M.state machine.old) requests.now).state) }
-    ensures over { OnOk result (RequestsEnd latency (M.state machine.old) requests.now) }
-    ensures early { OnOk result (EndsInTime latency (M.state machine.old) requests.now) }
+        (M.state machine.new ≡ (whole_run (unpipelined latency) (M.state machine.old) requests.now).state) }
+    ensures over { OnOk result (RequestsEnd (unpipelined latency) (M.state machine.old) requests.now) }
+    ensures early { OnOk result (EndsInTime (unpipelined latency) (M.state machine.old) requests.now) }
 {
-    machine.keeps_whole();
-    let mut counter = Counter::new(alloc)?;
-    let mut schedule = Schedule::new(latency);
-    let mut notes = Notes::new();
-    let mut left = requests;
-    for _turn in 0..most_rounds(latency, requests.len()) {
-        if is_over(machine, left) {
-            return Ok(counter.table_after(schedule.round + 1));
-        }
-        left = round(machine, &mut schedule, &mut notes, left);
-        counter.count_all(notes.as_slice());
-    }
-    Ok(counter.table_after(schedule.round + 1))
+    summarize_with(alloc, machine, Timing::unpipelined(latency), requests)
 }

@@ -1,18 +1,22 @@
 //! Requests driven through a machine in rounds.
 //!
 //! A machine has no clock: who drives it chooses the order of the steps. [`drive`] and
-//! [`summarize`] choose rounds. A round makes, in this order: each bank, by number, that has a
-//! command and isn't busy begins it, and one begun `latency` rounds before is served; one answer
-//! arrives, from the next bank with one behind the bank that was last, if the input stack has room;
-//! the stack's first word is processed, the first reply taken and the write queue's front drained,
-//! each if possible; and the request at hand is asked once. If it was accepted, or refused with 1,
-//! 2 or 11, the next one follows; otherwise it is asked again in the next round. The run ends once
-//! the requests are used up and nothing is on its way.
+//! [`summarize`] choose rounds. A round makes, in this order: each bank, by number, begins a command
+//! if one waits that it hasn't begun and it isn't busy, and serves its first one if it began that
+//! `latency` rounds before; one answer arrives, from the next bank with one behind the bank that was
+//! last, if the input stack has room; the stack's first word is processed, the first reply taken and
+//! the write queue's front drained, each if possible; and the request at hand is asked once. If it
+//! was accepted, or refused with 1, 2 or 11, the next one follows; otherwise it is asked again in the
+//! next round. The run ends once the requests are used up and nothing is on its way.
+//!
+//! A bank is busy until it has served its command, unless it is a pipeline: [`Timing`] tells, for
+//! [`drive_with`] and [`summarize_with`].
 //!
 //! Rounds are a schedule, and tell nothing of any hardware's time.
 #![tactic(auto)]
 
 mod driving;
+mod in_flight;
 pub mod laws;
 mod machine;
 mod note;
@@ -20,9 +24,11 @@ mod round;
 mod schedule;
 mod table;
 mod texts;
+mod timing;
 mod writing;
 
-pub use driving::{MOST_LATENCY, drive, summarize};
+pub use driving::{MOST_LATENCY, drive, drive_with, summarize, summarize_with};
 pub use machine::RoundMachine;
 pub use note::Note;
 pub use table::{LostRounds, Table};
+pub use timing::Timing;

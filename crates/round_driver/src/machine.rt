@@ -1,5 +1,6 @@
 //! What is asked of a machine that is driven in rounds.
 ghost use Rattle.std.specs.Prelude.{◌≡◌, ◌≤◌};
+ghost use Rattle.flat_model.specs.declared.limits.TheConstants.{MAX_BANK_QUEUE};
 ghost use Rattle.machine_core.specs.Whole.{IsWholeState};
 ghost use Rattle.round_driver.specs.Machines as machines;
 
@@ -17,9 +18,10 @@ pub trait RoundMachine: AnyMachine {
     fn bank_count(&self) -> u32
         ensures { result ≡ (Self.state self.now).sizes.banks };
 
-    /// Whether a command waits at a bank.
-    fn has_command(&self, bank: u32) -> bool
-        ensures { result ≡ machines.has_command (Self.state self.now) bank };
+    /// How many commands wait at a bank.
+    fn command_count(&self, bank: u32) -> u32
+        ensures value { result ≡ machines.command_count (Self.state self.now) bank }
+        ensures within { result ≤ MAX_BANK_QUEUE };
 
     /// Whether an answer stands in a bank.
     fn has_answer(&self, bank: u32) -> bool
@@ -38,7 +40,7 @@ pub trait RoundMachine: AnyMachine {
         ensures { result ≡ machines.used_registers (Self.state self.now) };
 }
 
-#[tactic(auto, unfolding(crate::specs::Machines::has_command, crate::specs::Machines::has_answer, crate::specs::Machines::has_stack_room, crate::specs::Machines::found_at, crate::specs::Machines::used_registers, crate::specs::Machines::used_at))]
+#[tactic(auto, unfolding(crate::specs::Machines::command_count, crate::specs::Machines::has_answer, crate::specs::Machines::has_stack_room, crate::specs::Machines::found_at, crate::specs::Machines::used_registers, crate::specs::Machines::used_at))]
 impl<const WAYS: usize, const WORDS: usize, const REGS: usize, const DEPTH: usize> RoundMachine
     for Machine<WAYS, WORDS, REGS, DEPTH> {
     fn keeps_whole(&self) {
@@ -49,8 +51,9 @@ impl<const WAYS: usize, const WORDS: usize, const REGS: usize, const DEPTH: usiz
         self.shape().banks
     }
 
-    fn has_command(&self, bank: u32) -> bool {
-        self.commands(bank) > 0
+    fn command_count(&self, bank: u32) -> u32 {
+        let _weight = self.weight();
+        self.commands(bank)
     }
 
     fn has_answer(&self, bank: u32) -> bool {

@@ -62,7 +62,7 @@ fn attempt<M: RoundMachine>(machine: &mut M, schedule: &Schedule, notes: &mut No
     }
 }
 
-// A bank that has a command and isn't busy begins it.
+// A bank that may begin a command begins one that waits.
 #[tactic(auto, unfolding(crate::specs::Rounds::begin))]
 fn begin<M: RoundMachine>(machine: &M, schedule: &mut Schedule, notes: &Notes, bank: u32)
     requires bank { bank < MAX_BANKS }
@@ -71,7 +71,7 @@ fn begin<M: RoundMachine>(machine: &M, schedule: &mut Schedule, notes: &Notes, b
     ensures time { schedule.new.round ≡ schedule.old.round }
     ensures next { schedule.new.next ≡ schedule.old.next }
 {
-    if schedule.is_idle(bank) && machine.has_command(bank) {
+    if schedule.is_free(bank) && schedule.in_flight(bank) < machine.command_count(bank) {
         schedule.begin(bank);
     }
 }

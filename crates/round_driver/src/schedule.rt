@@ -1,71 +1,88 @@
-//! Which banks are busy, and who comes next.
-ghost use Rattle.std.specs.Prelude.{◌≡◌, ◌<◌, ◌≤◌, ◌^◌, ◌+◌};
-ghost use Rattle.flat_model.specs.declared.limits.TheConstants.{MAX_BANKS};
+//! Which commands are on their way through the banks, and who comes next.
+ghost use Rattle.std.specs.Prelude.{◌≡◌, ◌<◌, length, IsTrue};
+ghost use Rattle.flat_model.specs.declared.limits.TheConstants.{MAX_BANKS, MAX_BANK_QUEUE};
 ghost use Rattle.round_driver.specs.Rounds as rounds;
 
+use crate::in_flight::InFlight;
+use crate::timing::Timing;
 use flat_model::MAX_BANKS;
 
 /// The most banks of a machine.
 pub(crate) const MOST_BANKS: usize = MAX_BANKS as usize;
 
 // Where a run stands in time.
-#[derive(Clone, Copy)]
+#[derive(Drop)]
 pub(crate) struct Schedule {
-    // The rounds that a bank takes for a command, beyond the one in which it begins.
-    pub(crate) latency: u64,
+    // How long a bank takes for a command.
+    pub(crate) timing: Timing,
     // The round under way, counted from 1.
     pub(crate) round: u64,
-    // The round in which each bank began its first command; none for a bank that isn't busy.
-    pub(crate) begun: [Option<u64>; MOST_BANKS],
+    // The commands that each bank has begun and not served.
+    pub(crate) begun: [InFlight; MOST_BANKS],
     // The bank behind the one whose answer arrived last.
     pub(crate) next: u32,
 }
 
 impl Schedule {
     // Before the first round.
-    pub(crate) fn new(latency: u64) -> Schedule
-        ensures { result ≡ rounds.opening latency }
+    pub(crate) fn new(timing: Timing) -> Schedule
+        ensures { result ≡ rounds.opening timing }
     {
         Schedule {
-            latency,
+            timing,
             round: 0,
-            begun: [None; MOST_BANKS],
+            begun: Default::default(),
             next: 0,
         }
     }
 
-    // Whether a bank has begun no command.
-    pub(crate) fn is_idle(&self, bank: u32) -> bool
+    // How many commands a bank has begun and not served.
+    pub(crate) fn in_flight(&self, bank: u32) -> u32
         requires { bank < MAX_BANKS }
-        ensures { result ≡ rounds.is_idle self.now bank }
+        ensures { result ≡ length (rounds.begun_at self.now bank) }
     {
-        self.begun[bank as usize].is_none()
+        self.begun[bank as usize].len()
+    }
+
+    // Whether a bank may begin a command.
+    pub(crate) fn is_free(&self, bank: u32) -> bool
+        requires { bank < MAX_BANKS }
+        ensures { result ≡ rounds.is_free self.now bank }
+    {
+        match self.begun[bank as usize].last() {
+            Some(last) => {
+                self.timing.is_pipelined() && self.round.saturating_sub(last) >= self.timing.busy
+            }
+            None => true,
+        }
     }
 
     // A bank begins a command in this round.
     pub(crate) fn begin(&mut self, bank: u32)
-        requires { bank < MAX_BANKS }
-        ensures { self.new ≡ rounds.with_begun self.old bank (Some self.old.round) }
+        requires bank { bank < MAX_BANKS }
+        requires room { length (rounds.begun_at self.old bank) < MAX_BANK_QUEUE }
+        ensures { self.new ≡ rounds.with_begin self.old bank }
     {
-        self.begun[bank as usize] = Some(self.round);
+        self.begun[bank as usize].push(self.round);
     }
 
-    // Whether a bank has had its command for as many rounds as it takes.
+    // Whether a bank began its first command as many rounds ago as it takes for one.
     pub(crate) fn is_due(&self, bank: u32) -> bool
         requires { bank < MAX_BANKS }
         ensures { result ≡ rounds.is_due self.now bank }
     {
-        match self.begun[bank as usize] {
-            Some(begun) => self.round.saturating_sub(begun) >= self.latency,
+        match self.begun[bank as usize].first() {
+            Some(begun) => self.round.saturating_sub(begun) >= self.timing.latency,
             None => false,
         }
     }
 
-    // A bank is done with its command.
+    // A bank is done with its first command.
     pub(crate) fn end(&mut self, bank: u32)
-        requires { bank < MAX_BANKS }
-        ensures { self.new ≡ rounds.with_begun self.old bank None }
+        requires bank { bank < MAX_BANKS }
+        requires due { IsTrue (rounds.is_due self.old bank) }
+        ensures { self.new ≡ rounds.without_first self.old bank }
     {
-        self.begun[bank as usize] = None;
+        self.begun[bank as usize].remove_first();
     }
 }

@@ -2,7 +2,7 @@
 
 use super::fixture::{ZERO, same};
 use machine_core::{Event, Machine, Shape};
-use round_driver::{LostRounds, Table, drive, summarize};
+use round_driver::{LostRounds, Table, Timing, drive, drive_with, summarize, summarize_with};
 use std::alloc::Global;
 use std::test::Fail;
 use trace_text::{CheckEnd, check_text, read_requests};
@@ -289,15 +289,52 @@ load 39 17
 evict 4
 ";
 
+// The rounds of one load through one bank with these times.
+fn rounds_of_a_load(alloc: Global, timing: Timing) -> Result<u64, Fail> {
+    let shape = Shape {
+        banks: 1,
+        ..NARROW_SHAPE
+    };
+    let mut machine = machine::<1>(alloc, shape)?;
+    let requests = [Event::Load { tag: 1, at: 0 }];
+    let table = summarize_with(alloc, &mut machine, timing, &requests)?;
+    Ok(table.rounds)
+}
+
+// The load is accepted in round 1, and the bank begins the first of its four reads in round 2. A pipelined bank begins
+// another each `busy` rounds, so it serves the last one in round 2 + 3 * busy + latency, in which the word
+// arrives and is processed; nothing moves in the next one. A bank that isn't pipelined begins each read in the
+// round behind the one in which it served the last, so every latency + 1 rounds.
 #[test]
-fn a_run_is_flat(rt: HostRuntime) -> Result<(), Fail> {
-    let mut machine = machine::<2>(rt.alloc(), NARROW_SHAPE)?;
+fn one_load_through_one_bank(rt: HostRuntime) -> Result<(), Fail> {
+    for (latency, busy, wanted) in [
+        (5, 1, 11),
+        (5, 2, 14),
+        (5, 3, 17),
+        (5, 4, 20),
+        (5, 5, 26),
+        (9, 2, 18),
+        (9, 9, 42),
+        (1, 1, 10),
+    ] {
+        let rounds = rounds_of_a_load(rt.alloc(), Timing { latency, busy })?;
+        same(&rt, "rounds", rounds, wanted);
+    }
+    Ok(())
+}
+
+#[test]
+fn runs_are_flat(rt: HostRuntime) -> Result<(), Fail> {
     let requests = read_requests(rt.alloc(), &mut LOADS_AND_EVICTIONS.as_bytes())?;
     assert!(rt; requests.len() == 80);
-    let mut written = Vec::new(rt.alloc());
-    drive(rt.alloc(), &mut machine, 3, &requests, &mut written)?;
-    let verdict = check_text(rt.alloc(), &mut written.as_slice(), 64)?;
-    assert!(rt; matches!(verdict, CheckEnd::Flat { .. }));
-    same(&rt, "the weight", machine.weight(), 0);
+    for (latency, busy) in [(3, 3), (3, 1), (9, 2), (1_000, 1)] {
+        let mut machine = machine::<2>(rt.alloc(), NARROW_SHAPE)?;
+        let mut written = Vec::new(rt.alloc());
+        let timing = Timing { latency, busy };
+        drive_with(rt.alloc(), &mut machine, timing, &requests, &mut written)?;
+        let verdict = check_text(rt.alloc(), &mut written.as_slice(), 64)?;
+        assert!(rt; matches!(verdict, CheckEnd::Flat { .. }));
+        same(&rt, "the weight", machine.weight(), 0);
+    }
     Ok(())
 }

@@ -2,12 +2,12 @@ use Rattle.std.proofs.Common.{◌≡◌, ◌≤◌}
 use Rattle.trace_text.specs.Streams.{Moves}
 use Rattle.round_driver.specs.Rounds.{run_of, start_of, rounds_until_over}
 use Rattle.round_driver.specs.Written.{run_text}
-use Rattle.round_driver.proofs.driving.drive.Given as goal
+use Rattle.round_driver.proofs.driving.drive_with.Given as goal
 
 -- so many rounds were made, and what was told of them is written
 abbrev pub invariant-loop-turn : goal.invariant-loop-turn
 invariant-loop-turn g l =
-    let so_far = rounds_until_over l._turn (start_of l.latency (g.M.AnyMachine.state l.initial.machine) l.requests) in
+    let so_far = rounds_until_over l._turn (start_of l.fn.timing (g.M.AnyMachine.state l.initial.machine) l.requests) in
     record {
       run : run_of (g.M.AnyMachine.state l.machine) l.schedule l.left so_far.told ≡ so_far;
       written : Moves g.W.Sink.took l.fn.writer (run_text so_far.told) l.writer;

@@ -3,12 +3,12 @@ use Rattle.round_driver.specs.Rounds.{run_of, start_of, rounds_until_over}
 use Rattle.round_driver.specs.Tables.{counting, nothing, counted_all, total}
 use Rattle.round_driver.specs.declared.round.TheConstants.{MOST_NOTES}
 use Rattle.round_driver.specs.declared.table.TheConstants.{TAGS}
-use Rattle.round_driver.proofs.driving.summarize.Given as goal
+use Rattle.round_driver.proofs.driving.summarize_with.Given as goal
 
 -- so many rounds were made, and what was told of them is counted
 abbrev pub invariant-loop-turn : goal.invariant-loop-turn
 invariant-loop-turn g l =
-    let so_far = rounds_until_over l._turn (start_of l.latency (g.M.AnyMachine.state l.initial.machine) l.requests) in
+    let so_far = rounds_until_over l._turn (start_of l.fn.timing (g.M.AnyMachine.state l.initial.machine) l.requests) in
     record {
       run : run_of (g.M.AnyMachine.state l.machine) l.schedule l.left so_far.told ≡ so_far;
       counts : counting l.counter ≡ counted_all nothing so_far.told;

@@ -5,7 +5,7 @@ use Rattle.round_driver.specs.Rounds.{start_of, rounds_until_over, is_over, whol
 use Rattle.round_driver.specs.Written.{run_text}
 use Rattle.round_driver.proofs.Runs.{no_more, run_begins, text_begins, over_here, run_next, text_next, text_breaks}
 use Rattle.round_driver.proofs.Ends.{requests_end}
-use Rattle.round_driver.proofs.driving.drive.Goals as goal
+use Rattle.round_driver.proofs.driving.drive_with.Goals as goal
 
 pub loop-turn-init : goal.loop-turn-init
 loop-turn-init g c =
@@ -13,8 +13,8 @@ loop-turn-init g c =
     let time : c.new-schedule.result.round ≡ 0 = ap (λ p. p.round) c.new-schedule.ensures in
     let next : c.new-schedule.result.next ≡ 0 = ap (λ p. p.next) c.new-schedule.ensures in
     record {
-      run = run_begins c.args.latency s c.args.requests.now c.new-schedule.result c.new-schedule.ensures;
-      written = text_begins c.args.latency s c.args.requests.now g.W.Sink.took c.args.writer.now;
+      run = run_begins c.args.timing s c.args.requests.now c.new-schedule.result c.new-schedule.ensures;
+      written = text_begins c.args.timing s c.args.requests.now g.W.Sink.took c.args.writer.now;
       sizes = λ i. s.sizes;
       time = omega (arith, time);
       next = omega (arith, next);
@@ -22,7 +22,7 @@ loop-turn-init g c =
 
 pub returns-then-is_over-clause-ok : goal.returns-then-is_over-clause-ok
 returns-then-is_over-clause-ok g c =
-    let start = start_of c.args.latency (g.M.AnyMachine.state c.args.machine.now) c.args.requests.now in
+    let start = start_of c.args.timing (g.M.AnyMachine.state c.args.machine.now) c.args.requests.now in
     let here = c.loop-turn.invariant.run in
     let over = sym c.is_over.ensures ∙ c.if-is_over.true in
     let le : c.loop-turn._turn ≤ c.most_rounds-turn-end.result = omega (arith, c.loop-turn-test.true) in
@@ -31,7 +31,7 @@ returns-then-is_over-clause-ok g c =
 
 pub returns-then-is_over-clause-machine : goal.returns-then-is_over-clause-machine
 returns-then-is_over-clause-machine g c =
-    let start = start_of c.args.latency (g.M.AnyMachine.state c.args.machine.now) c.args.requests.now in
+    let start = start_of c.args.timing (g.M.AnyMachine.state c.args.machine.now) c.args.requests.now in
     let here = c.loop-turn.invariant.run in
     let over = sym c.is_over.ensures ∙ c.if-is_over.true in
     let le : c.loop-turn._turn ≤ c.most_rounds-turn-end.result = omega (arith, c.loop-turn-test.true) in
@@ -40,7 +40,7 @@ returns-then-is_over-clause-machine g c =
 
 pub returns-then-is_over-clause-written : goal.returns-then-is_over-clause-written
 returns-then-is_over-clause-written g c =
-    let start = start_of c.args.latency (g.M.AnyMachine.state c.args.machine.now) c.args.requests.now in
+    let start = start_of c.args.timing (g.M.AnyMachine.state c.args.machine.now) c.args.requests.now in
     let here = c.loop-turn.invariant.run in
     let over = sym c.is_over.ensures ∙ c.if-is_over.true in
     let le : c.loop-turn._turn ≤ c.most_rounds-turn-end.result = omega (arith, c.loop-turn-test.true) in
@@ -49,7 +49,7 @@ returns-then-is_over-clause-written g c =
 
 pub returns-in-Err-clause-fault : goal.returns-in-Err-clause-fault
 returns-in-Err-clause-fault g c =
-    let start = start_of c.args.latency (g.M.AnyMachine.state c.args.machine.now) c.args.requests.now in
+    let start = start_of c.args.timing (g.M.AnyMachine.state c.args.machine.now) c.args.requests.now in
     let here = c.loop-turn.invariant.run in
     let going = sym c.is_over.ensures ∙ c.if-is_over.false in
     let made = c.round-left.ensures.run in
@@ -59,7 +59,7 @@ returns-in-Err-clause-fault g c =
 
 pub returns-then-is_over-clause-early : goal.returns-then-is_over-clause-early
 returns-then-is_over-clause-early g c =
-    let start = start_of c.args.latency (g.M.AnyMachine.state c.args.machine.now) c.args.requests.now in
+    let start = start_of c.args.timing (g.M.AnyMachine.state c.args.machine.now) c.args.requests.now in
     let here = c.loop-turn.invariant.run in
     let over = sym c.is_over.ensures ∙ c.if-is_over.true in
     let le : c.loop-turn._turn ≤ c.most_rounds-turn-end.result = omega (arith, c.loop-turn-test.true) in
@@ -68,18 +68,18 @@ returns-then-is_over-clause-early g c =
 
 pub returns-clause-early : goal.returns-clause-early
 returns-clause-early g c =
-    let start = start_of c.args.latency (g.M.AnyMachine.state c.args.machine.now) c.args.requests.now in
+    let start = start_of c.args.timing (g.M.AnyMachine.state c.args.machine.now) c.args.requests.now in
     let here = c.loop-turn.invariant.run in
     let turns = c.loop-turn._turn in
     let round : c.loop-turn.schedule.round ≡ turns = c.loop-turn.invariant.time in
     let all : turns ≡ c.most_rounds-turn-end.result = omega (arith, c.loop-turn-test.false, c.loop-turn.auto._turn-end) in
     let whole = here ∙ ap (λ n. rounds_until_over n start) (all ∙ c.most_rounds-turn-end.ensures.value) in
-    let last : c.loop-turn.schedule.round ≡ (whole_run c.args.latency (g.M.AnyMachine.state c.args.machine.now) c.args.requests.now).schedule.round = ap (λ r. r.schedule.round) whole in
+    let last : c.loop-turn.schedule.round ≡ (whole_run c.args.timing (g.M.AnyMachine.state c.args.machine.now) c.args.requests.now).schedule.round = ap (λ r. r.schedule.round) whole in
     λ h. absurd (no_more c.most_rounds-turn-end.result _ _ (sym last ∙ round ∙ all) c.most_rounds-turn-end.ensures.value h)
 
 pub loop-turn-preserved : goal.loop-turn-preserved
 loop-turn-preserved g c =
-    let start = start_of c.args.latency (g.M.AnyMachine.state c.args.machine.now) c.args.requests.now in
+    let start = start_of c.args.timing (g.M.AnyMachine.state c.args.machine.now) c.args.requests.now in
     let here = c.loop-turn.invariant.run in
     let going = sym c.is_over.ensures ∙ c.if-is_over.false in
     let made = c.round-left.ensures.run in
@@ -97,8 +97,8 @@ loop-turn-preserved g c =
 
 pub returns-then-is_over-clause-over : goal.returns-then-is_over-clause-over
 returns-then-is_over-clause-over g c =
-    requests_end c.args.latency (g.M.AnyMachine.state c.args.machine.now) c.args.requests.now c.keeps_whole.ensures
+    requests_end c.args.timing (g.M.AnyMachine.state c.args.machine.now) c.args.requests.now c.keeps_whole.ensures
 
 pub returns-clause-over : goal.returns-clause-over
 returns-clause-over g c =
-    requests_end c.args.latency (g.M.AnyMachine.state c.args.machine.now) c.args.requests.now c.keeps_whole.ensures
+    requests_end c.args.timing (g.M.AnyMachine.state c.args.machine.now) c.args.requests.now c.keeps_whole.ensures
