@@ -4,6 +4,8 @@
 // Only the columns in sight are drawn.
 const LABELS = 92;
 const LEGEND = 18;
+// Behind the last column, for names.
+const MARGIN = 130;
 
 const CAUSES = [
   ['command', 'its bank', '--bank'],
@@ -69,7 +71,7 @@ class Line {
       if (!colours.has(name)) colours.set(name, style.getPropertyValue(name).trim());
       return colours.get(name);
     };
-    if (this.column === 0) this.column = Math.max(9, Math.min(64, (width - LABELS) / (this.run.last + 1)));
+    if (this.column === 0) this.column = Math.max(9, Math.min(64, (width - LABELS - MARGIN) / (this.run.last + 1)));
     this.draw();
   }
 
@@ -82,23 +84,24 @@ class Line {
 
   columns() { return (this.width - LABELS) / this.column; }
 
+  // The first column in sight, if the last one is.
+  most() { return Math.max(0, this.run.last + 1 + MARGIN / this.column - this.columns()); }
+
   // The step of a point of the canvas.
   stepAt(x) { return Math.max(0, Math.min(this.run.last, Math.floor(this.first + (x - LABELS) / this.column))); }
 
   // The cursor stays in sight, with room on both sides where the run goes on.
   follow() {
     const room = Math.min(8, Math.floor(this.columns() / 3));
-    const most = Math.max(0, this.run.last + 1 - this.columns());
     const { now } = this.run;
     if (now - room < this.first) this.first = now - room;
     if (now + 1 + room > this.first + this.columns()) this.first = now + 1 + room - this.columns();
-    this.first = Math.max(0, Math.min(most, this.first));
+    this.first = Math.max(0, Math.min(this.most(), this.first));
   }
 
   // Moves what is in sight, without the cursor.
   pan(columns) {
-    const most = Math.max(0, this.run.last + 1 - this.columns());
-    this.first = Math.max(0, Math.min(most, this.first + columns));
+    this.first = Math.max(0, Math.min(this.most(), this.first + columns));
     this.paint();
   }
 
@@ -233,7 +236,9 @@ class Line {
       if (end + width(over) < Math.min(this.width, this.x(load.until))) this.text(over, end + 4, y, '--over');
     } else {
       const needed = width(name) + (over ? width(over) : 0);
-      const x = end + needed < Math.min(this.width, this.x(load.until)) ? end + 4 : this.x(load.asked) - needed;
+      const isRoomBehind = end + needed < Math.min(this.width, this.x(load.until));
+      const x = isRoomBehind ? end + 4 : this.x(load.asked) - needed;
+      if (!isRoomBehind && x < Math.max(LABELS, this.x(load.since + 1))) return;
       this.text(name, x, y);
       this.text(over, x + width(name), y, '--over');
     }

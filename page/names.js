@@ -35,8 +35,8 @@ const addressAt = (bank, place) => place * sizes.banks + bank;
 
 // ---- the program's texts, in parts
 
-// The bytes of a word that a mask names, and -- for each other one.
-const masked = (mask, word) => range(4).map((k) => (mask[k] === '1' ? word.slice(2 * k, 2 * k + 2) : '--')).join('');
+// The bytes of a word that a mask names, and __ for each other one.
+const masked = (mask, word) => range(4).map((k) => (mask[k] === '1' ? word.slice(2 * k, 2 * k + 2) : '__')).join('');
 
 // A register's block, or null.
 function blockOf(text) {
@@ -86,7 +86,9 @@ function askedWord(event) {
 function requestName(event) {
   return event.replace(/^load (\d+) \d+$/, 'load t$1').replace(/^prefetch \d+$/, 'prefetch')
     .replace(/^store \d+ (\d{4}) (\w{8})$/, (_, mask, word) => `store ${masked(mask, word)}`)
-    .replace(/^evict (\d+)$/, 'evict block $1');
+    .replace(/^evict (\d+)$/, 'evict block $1').replace(/^serve (\d+)$/, 'serve bank $1')
+    .replace(/^arrive (\d+) (\d+)$/, 'arrive from bank $1, answer $2').replace(/^process (\d+)$/, 'process stack $1')
+    .replace(/^take (\d+)$/, 'take value $1');
 }
 // A word of a frame: its digits, and which of its bytes memory doesn't have yet.
 function cellParts(text) {

@@ -84,6 +84,8 @@ class Loads {
     const last = load.parts[load.parts.length - 1];
     if (last) last.to = step - 1;
     if (answer === 'accepted') {
+      // (whoever asked under this tag before has given up)
+      for (const [other, it] of this.asked) if (it.tag === tag) this.asked.delete(other);
       load.accepted = step;
       this.owed.set(tag, load);
     } else {
@@ -207,6 +209,7 @@ class Story {
     this.loads.all.forEach((load, n) => {
       let row = n < most ? n : before.findIndex(({ end }) => end < load.asked - 1);
       if (row < 0) row = before.length;
+      load.since = before[row] ? before[row].end : -Infinity;
       if (before[row]) before[row].until = load.asked;
       before[row] = load;
       load.row = row;

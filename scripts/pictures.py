@@ -59,7 +59,7 @@ def read_screens(text):
 
 
 def masked(mask, word):
-    return "".join(word[2 * k : 2 * k + 2] if mask[k] == "1" else "--" for k in range(4))
+    return "".join(word[2 * k : 2 * k + 2] if mask[k] == "1" else "__" for k in range(4))
 
 
 class Expected:
@@ -167,7 +167,8 @@ class Expected:
             return f"{kind}{named} word {at} = block {at // 4} set {at // 4 % sets} word +{at % 4} bank {at % banks}"
         if kind == "evict":
             return f"evict block {fields[0]} set {int(fields[0]) % sets}"
-        return event
+        named = {"serve": "serve bank {}", "arrive": "arrive from bank {}, answer {}", "process": "process stack {}", "take": "take value {}"}
+        return named.get(kind, kind).format(*fields)
 
     # ---- the line of time
 
@@ -197,6 +198,7 @@ class Expected:
                 for before in range(max(load["waits"], default=number), number):
                     load["waits"][before] = load["waits"][max(it for it in load["waits"] if it <= before)]
                 if step.answer == "accepted":
+                    asked = {key: it for key, it in asked.items() if key[0] != tag}
                     load["accepted"] = number
                     owed[tag] = load
                 else:

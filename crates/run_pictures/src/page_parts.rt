@@ -37,8 +37,8 @@ button[aria-pressed=true] { background: var(--mark); border-color: var(--edge); 
 #event { font-family: ui-monospace, 'DejaVu Sans Mono', monospace; }
 #line { display: block; width: 100%; cursor: pointer; border: solid var(--line); border-width: 1px 0; }
 
-#machine { position: relative; display: grid; gap: 21px 26px; margin-top: 3px; align-items: start;
-  grid-template-columns: 436px minmax(0, 1fr) minmax(0, 1fr);
+#machine { position: relative; display: grid; gap: 21px 24px; margin-top: 3px; align-items: start;
+  grid-template-columns: 426px minmax(0, 1fr) minmax(0, 1fr);
   grid-template-areas: 'asks ready ready' 'registers frames frames' 'registers stack queue' 'banks banks banks'; }
 #asks { grid-area: asks; } #ready { grid-area: ready; } #registers { grid-area: registers; } #frames { grid-area: frames; }
 #stack { grid-area: stack; } #queue { grid-area: queue; } #banks { grid-area: banks; }
@@ -70,7 +70,7 @@ li { break-inside: avoid; display: flex; gap: 4px; min-height: 18px; }
 h3 { font-size: 14px; line-height: 18px; margin: 0; color: var(--soft); white-space: nowrap; }
 table { border-collapse: collapse; width: 100%; table-layout: fixed; }
 th { text-align: left; font-weight: 400; color: var(--soft); white-space: nowrap; padding: 0 2px; overflow: hidden; }
-th.set { width: 42px; } th.name { width: 28px; padding-left: 6px; } th.title { width: 72px; }
+th.set { width: 40px; } th.name { width: 27px; padding-left: 5px; } th.title { width: 70px; }
 td { border: 1px solid var(--line); padding: 0; height: 20px; background: var(--back); }
 tbody th[scope=row] { padding-left: 4px; }
 td.block { white-space: nowrap; overflow: hidden; }
@@ -193,8 +193,8 @@ const addressAt = (bank, place) => place * sizes.banks + bank;
 
 // ---- the program's texts, in parts
 
-// The bytes of a word that a mask names, and -- for each other one.
-const masked = (mask, word) => range(4).map((k) => (mask[k] === '1' ? word.slice(2 * k, 2 * k + 2) : '--')).join('');
+// The bytes of a word that a mask names, and __ for each other one.
+const masked = (mask, word) => range(4).map((k) => (mask[k] === '1' ? word.slice(2 * k, 2 * k + 2) : '__')).join('');
 
 // A register's block, or null.
 function blockOf(text) {
@@ -244,7 +244,9 @@ function askedWord(event) {
 function requestName(event) {
   return event.replace(/^load (\\d+) \\d+$/, 'load t$1').replace(/^prefetch \\d+$/, 'prefetch')
     .replace(/^store \\d+ (\\d{4}) (\\w{8})$/, (_, mask, word) => `store ${masked(mask, word)}`)
-    .replace(/^evict (\\d+)$/, 'evict block $1');
+    .replace(/^evict (\\d+)$/, 'evict block $1').replace(/^serve (\\d+)$/, 'serve bank $1')
+    .replace(/^arrive (\\d+) (\\d+)$/, 'arrive from bank $1, answer $2').replace(/^process (\\d+)$/, 'process stack $1')
+    .replace(/^take (\\d+)$/, 'take value $1');
 }
 // A word of a frame: its digits, and which of its bytes memory doesn't have yet.
 function cellParts(text) {
@@ -344,6 +346,8 @@ class Loads {
     const last = load.parts[load.parts.length - 1];
     if (last) last.to = step - 1;
     if (answer === 'accepted') {
+      // (whoever asked under this tag before has given up)
+      for (const [other, it] of this.asked) if (it.tag === tag) this.asked.delete(other);
       load.accepted = step;
       this.owed.set(tag, load);
     } else {
@@ -467,6 +471,7 @@ class Story {
     this.loads.all.forEach((load, n) => {
       let row = n < most ? n : before.findIndex(({ end }) => end < load.asked - 1);
       if (row < 0) row = before.length;
+      load.since = before[row] ? before[row].end : -Infinity;
       if (before[row]) before[row].until = load.asked;
       before[row] = load;
       load.row = row;
@@ -483,6 +488,8 @@ class Story {
 // Only the columns in sight are drawn.
 const LABELS = 92;
 const LEGEND = 18;
+// Behind the last column, for names.
+const MARGIN = 130;
 
 const CAUSES = [
   ['command', 'its bank', '--bank'],
@@ -548,7 +555,7 @@ class Line {
       if (!colours.has(name)) colours.set(name, style.getPropertyValue(name).trim());
       return colours.get(name);
     };
-    if (this.column === 0) this.column = Math.max(9, Math.min(64, (width - LABELS) / (this.run.last + 1)));
+    if (this.column === 0) this.column = Math.max(9, Math.min(64, (width - LABELS - MARGIN) / (this.run.last + 1)));
     this.draw();
   }
 
@@ -561,23 +568,24 @@ class Line {
 
   columns() { return (this.width - LABELS) / this.column; }
 
+  // The first column in sight, if the last one is.
+  most() { return Math.max(0, this.run.last + 1 + MARGIN / this.column - this.columns()); }
+
   // The step of a point of the canvas.
   stepAt(x) { return Math.max(0, Math.min(this.run.last, Math.floor(this.first + (x - LABELS) / this.column))); }
 
   // The cursor stays in sight, with room on both sides where the run goes on.
   follow() {
     const room = Math.min(8, Math.floor(this.columns() / 3));
-    const most = Math.max(0, this.run.last + 1 - this.columns());
     const { now } = this.run;
     if (now - room < this.first) this.first = now - room;
     if (now + 1 + room > this.first + this.columns()) this.first = now + 1 + room - this.columns();
-    this.first = Math.max(0, Math.min(most, this.first));
+    this.first = Math.max(0, Math.min(this.most(), this.first));
   }
 
   // Moves what is in sight, without the cursor.
   pan(columns) {
-    const most = Math.max(0, this.run.last + 1 - this.columns());
-    this.first = Math.max(0, Math.min(most, this.first + columns));
+    this.first = Math.max(0, Math.min(this.most(), this.first + columns));
     this.paint();
   }
 
@@ -712,7 +720,9 @@ class Line {
       if (end + width(over) < Math.min(this.width, this.x(load.until))) this.text(over, end + 4, y, '--over');
     } else {
       const needed = width(name) + (over ? width(over) : 0);
-      const x = end + needed < Math.min(this.width, this.x(load.until)) ? end + 4 : this.x(load.asked) - needed;
+      const isRoomBehind = end + needed < Math.min(this.width, this.x(load.until));
+      const x = isRoomBehind ? end + 4 : this.x(load.asked) - needed;
+      if (!isRoomBehind && x < Math.max(LABELS, this.x(load.since + 1))) return;
       this.text(name, x, y);
       this.text(over, x + width(name), y, '--over');
     }
