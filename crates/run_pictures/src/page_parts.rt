@@ -38,7 +38,7 @@ button[aria-pressed=true] { background: var(--mark); border-color: var(--edge); 
 #line { display: block; width: 100%; cursor: pointer; border: solid var(--line); border-width: 1px 0; }
 
 #machine { position: relative; display: grid; gap: 21px 24px; margin-top: 3px; align-items: start;
-  grid-template-columns: 426px minmax(0, 1fr) minmax(0, 1fr);
+  grid-template-columns: minmax(290px, 426px) minmax(385px, 1fr) minmax(385px, 1fr);
   grid-template-areas: 'asks ready ready' 'registers frames frames' 'registers stack queue' 'banks banks banks'; }
 #asks { grid-area: asks; } #ready { grid-area: ready; } #registers { grid-area: registers; } #frames { grid-area: frames; }
 #stack { grid-area: stack; } #queue { grid-area: queue; } #banks { grid-area: banks; }
@@ -90,11 +90,11 @@ td.word { text-align: center; }
 #memory-box, #lines-box { margin-top: 10px; }
 #memory-list { display: grid; grid-template-columns: repeat(8, 1fr); gap: 2px 8px; }
 #memory-list .at { min-width: 3ch; text-align: right; }
-@media (min-width: 1101px) and (min-height: 900px) {
+@media (min-width: 1105px) and (min-height: 900px) {
   #frames .scrolls { max-height: 190px; } #registers-list { max-height: 330px; }
   .bank-lists { max-height: max(76px, calc(100vh - 520px - var(--line-of-time, 200px))); }
 }
-@media (max-width: 1100px) {
+@media (max-width: 1104px) {
   #machine { gap: 10px; grid-template-columns: minmax(0, 1fr) minmax(0, 1fr);
     grid-template-areas: 'asks asks' 'ready ready' 'frames frames' 'registers registers' 'stack queue' 'banks banks'; }
   #arrows { display: none; }
