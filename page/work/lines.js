@@ -58,14 +58,18 @@ function roundOf(banks, isWhole) {
   return isWhole ? [...lines, 'take 0', 'drain'] : lines;
 }
 
+// The answers of these lines behind a trace.
+async function answersBehind(ask, trace, lines) {
+  const answer = await ask('run', trace + lines.map((it) => `${it}\n`).join(''));
+  return answersOf(answer.said).slice(linesOf(trace).length);
+}
+
 // Tries lines behind a trace by the program, and gives those that did something, up to the first one behind which `isEnd`
 // holds of the registers; and whether anything moved in the last round. An event that moves nothing changes nothing, so
 // the lines that are left are answered as they were.
 async function triedLines(ask, trace, lines, registers, isEnd) {
   const shows = registers.map((slot) => `reg ${slot}`);
-  const tried = lines.flatMap((it) => [it, ...shows]);
-  const answer = await ask('run', trace + tried.map((it) => `${it}\n`).join(''));
-  const said = answersOf(answer.said).slice(linesOf(trace).length);
+  const said = await answersBehind(ask, trace, lines.flatMap((it) => [it, ...shows]));
   const found = [];
   for (let k = 0; k < lines.length; k += 1) {
     const at = k * (1 + shows.length);
@@ -90,16 +94,26 @@ async function movedOn(ask, trace, banks, isWhole, registers, isEnd) {
   return text;
 }
 
-// Until nothing is on its way.
-const settled = (ask, trace, banks) => movedOn(ask, trace, banks, true, [], () => false);
+// Until nothing is on its way, and memory has all that was stored: blocks with stored bytes are given up.
+async function settled(ask, trace, banks) {
+  const isDone = async (text) => (await answersBehind(ask, text, ['settled']))[0] === 'yes';
+  let text = await movedOn(ask, trace, banks, true, [], () => false);
+  const stored = new Set([...trace.matchAll(/^store (\d+) /gm)].map(([, at]) => Math.floor(Number(at) / 4)));
+  for (const block of stored) {
+    if (await isDone(text)) break;
+    // (the write queue is empty: what is drained is the block's)
+    const [, drained] = await answersBehind(ask, text, [`evict ${block}`, 'drain']);
+    if (drained === 'moved') text = await movedOn(ask, `${text}evict ${block}\n`, banks, true, [], () => false);
+  }
+  return text;
+}
 
 // Until no register waits for words of the block.
 async function broughtIn(ask, trace, block, banks, regs) {
   const registers = Array.from({ length: regs }, (_, slot) => slot);
   const isWaiting = (shown) => shown.startsWith('V- ') && Number(shown.split(' ')[1]) === block;
   const asked = `${trace}prefetch ${4 * block}\n`;
-  const answer = await ask('run', asked + registers.map((slot) => `reg ${slot}\n`).join(''));
-  const said = answersOf(answer.said).slice(linesOf(trace).length);
+  const said = await answersBehind(ask, trace, [`prefetch ${4 * block}`, ...registers.map((slot) => `reg ${slot}`)]);
   if (said[0] !== 'accepted' || !said.slice(1).some(isWaiting)) return asked;
   return movedOn(ask, asked, banks, false, registers, (shown) => !shown.some(isWaiting));
 }
