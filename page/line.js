@@ -3,7 +3,7 @@
 // The line of time: a column an event; a row for each load, and rows for registers, banks, stack and queue.
 // Only the columns in sight are drawn.
 const LABELS = 92;
-const LEGEND = 18;
+const LEGEND = 17;
 // Behind the last column, for names.
 const MARGIN = 130;
 
@@ -36,8 +36,8 @@ class Line {
   layOut() {
     const { loads, rows } = this.story;
     this.loadHeight = rows > 6 ? 14 : 16;
-    this.registerHeight = Math.min(8, 40 / sizes.registers);
-    this.bankHeight = Math.min(7, 36 / sizes.banks);
+    this.registerHeight = Math.min(7, 40 / sizes.registers);
+    this.bankHeight = Math.min(6, 36 / sizes.banks);
     const groups = [
       ['loads', loads.all.length === 0 ? 0 : Math.min(rows, MOST_ROWS) * this.loadHeight],
       ['registers', sizes.registers * this.registerHeight],

@@ -92,7 +92,8 @@ const shown = {
       putTexts('picture', 'A recorded run has no machine to draw: see check and explain.');
       return;
     }
-    const answer = await ask('show', text);
+    // (up to the line that has a fault, if one has)
+    const answer = await ask('show', faultLine > 0 ? linesOf(text).slice(0, faultLine - 1).join('\n') : text);
     if (edit === edits && answer.picture) putPicture(answer.picture);
   },
   async check(edit, text) { await putSaid('check', edit, text); },

@@ -33,12 +33,12 @@ button { font: inherit; min-width: 34px; min-height: 28px; padding: 2px 8px; col
   border: 1px solid var(--line); border-radius: 4px; cursor: pointer; }
 button[aria-pressed=true] { background: var(--mark); border-color: var(--edge); }
 :focus-visible { outline: 3px solid var(--key); outline-offset: 1px; }
-#told { font-size: 17px; line-height: 24px; min-height: 24px; }
+#told { font-size: 17px; line-height: 22px; min-height: 22px; }
 #event { font-family: ui-monospace, 'DejaVu Sans Mono', monospace; }
 #line { display: block; width: 100%; cursor: pointer; border: solid var(--line); border-width: 1px 0; }
 
 #machine { position: relative; display: grid; gap: 21px 24px; margin-top: 3px; align-items: start;
-  grid-template-columns: minmax(290px, 426px) minmax(385px, 1fr) minmax(385px, 1fr);
+  grid-template-columns: minmax(290px, 426px) minmax(372px, 1fr) minmax(372px, 1fr);
   grid-template-areas: 'asks ready ready' 'registers frames frames' 'registers stack queue' 'banks banks banks'; }
 #asks { grid-area: asks; } #ready { grid-area: ready; } #registers { grid-area: registers; } #frames { grid-area: frames; }
 #stack { grid-area: stack; } #queue { grid-area: queue; } #banks { grid-area: banks; }
@@ -59,18 +59,19 @@ td.changed { padding: 0; box-shadow: inset 0 0 0 2px var(--edge); }
 .dirty { font-weight: 700; text-decoration: underline 2px; color: var(--key); }
 .at { color: var(--soft); }
 
-#request { display: flex; gap: 4px; flex-wrap: wrap; min-height: 20px; align-items: center; }
+#request { display: flex; gap: 4px; overflow: hidden; min-height: 20px; align-items: center; }
+#request b { white-space: nowrap; }
 #request span { border: 1px solid var(--line); border-radius: 3px; padding: 0 5px; background: var(--back); white-space: nowrap; }
 #ready-list { display: flex; flex-wrap: wrap; gap: 2px 8px; min-height: 20px; }
 .scrolls { overflow: auto; }
-#frames .scrolls { max-height: 106px; } #registers-list { max-height: 238px; min-height: 217px; }
+#frames .scrolls { max-height: 106px; } #registers-list { max-height: 226px; min-height: 217px; }
 #stack-list, #queue-list { max-height: 74px; min-height: 74px; }
 #queue-list { columns: 2; column-gap: 6px; }
 li { break-inside: avoid; display: flex; gap: 4px; min-height: 18px; }
 h3 { font-size: 14px; line-height: 18px; margin: 0; color: var(--soft); white-space: nowrap; }
 table { border-collapse: collapse; width: 100%; table-layout: fixed; }
 th { text-align: left; font-weight: 400; color: var(--soft); white-space: nowrap; padding: 0 2px; overflow: hidden; }
-th.set { width: 40px; } th.name { width: 27px; padding-left: 5px; } th.title { width: 70px; }
+th.set { width: 41px; } th.name { width: 26px; padding-left: 5px; } th.title { width: 64px; }
 td { border: 1px solid var(--line); padding: 0; height: 20px; background: var(--back); }
 tbody th[scope=row] { padding-left: 4px; }
 td.block { white-space: nowrap; overflow: hidden; }
@@ -83,10 +84,11 @@ td.word { text-align: center; }
 .bank { border: 1px solid var(--line); border-radius: 5px; padding: 0 4px 1px; background: var(--box); min-height: 40px; min-width: 0; }
 .bank-head { display: flex; gap: 8px; }
 .bank-lists { display: grid; grid-template-columns: minmax(0, 9fr) minmax(0, 11fr); gap: 6px;
-  max-height: max(76px, calc(100vh - 430px - var(--line-of-time, 200px))); }
+  max-height: max(76px, calc(100vh - 414px - var(--line-of-time, 200px))); }
 .many .bank-lists { max-height: none; }
 .many { max-height: max(96px, calc(100vh - 410px - var(--line-of-time, 200px))); }
 .many .bank.empty { display: none; }
+.commands .at { display: none; }
 #memory-box, #lines-box { margin-top: 10px; }
 #memory-list { display: grid; grid-template-columns: repeat(8, 1fr); gap: 2px 8px; }
 #memory-list .at { min-width: 3ch; text-align: right; }
@@ -487,7 +489,7 @@ class Story {
 // The line of time: a column an event; a row for each load, and rows for registers, banks, stack and queue.
 // Only the columns in sight are drawn.
 const LABELS = 92;
-const LEGEND = 18;
+const LEGEND = 17;
 // Behind the last column, for names.
 const MARGIN = 130;
 
@@ -520,8 +522,8 @@ class Line {
   layOut() {
     const { loads, rows } = this.story;
     this.loadHeight = rows > 6 ? 14 : 16;
-    this.registerHeight = Math.min(8, 40 / sizes.registers);
-    this.bankHeight = Math.min(7, 36 / sizes.banks);
+    this.registerHeight = Math.min(7, 40 / sizes.registers);
+    this.bankHeight = Math.min(6, 36 / sizes.banks);
     const groups = [
       ['loads', loads.all.length === 0 ? 0 : Math.min(rows, MOST_ROWS) * this.loadHeight],
       ['registers', sizes.registers * this.registerHeight],
