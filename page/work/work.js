@@ -137,8 +137,13 @@ function putPicture(name) {
   frame.title = 'picture';
   frame.dataset.name = name;
   frame.setAttribute('sandbox', 'allow-scripts');
-  frame.src = `${name}#${stepAtCursor()}`;
-  frame.onload = () => { for (const it of [...pane.childNodes]) if (it !== frame) it.remove(); };
+  frame.dataset.step = stepAtCursor();
+  frame.src = `${name}#${frame.dataset.step}`;
+  frame.onload = () => {
+    for (const it of [...pane.childNodes]) if (it !== frame) it.remove();
+    frame.dataset.isThere = 'yes';
+    followCursor();
+  };
   pane.append(frame);
 }
 // Lines that only show something are no steps.
@@ -150,7 +155,7 @@ function stepAtCursor() {
 }
 function followCursor() {
   const frame = find('pane-picture').querySelector('iframe:last-of-type');
-  if (frame && frame.dataset.step !== String(stepAtCursor())) {
+  if (frame && frame.dataset.isThere && frame.dataset.step !== String(stepAtCursor())) {
     frame.dataset.step = stepAtCursor();
     frame.contentWindow.location.replace(`${new URL(frame.dataset.name, location.href).href.split('#')[0]}#${stepAtCursor()}`);
   }
