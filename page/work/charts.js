@@ -1,0 +1,82 @@
+'use strict';
+
+// ---- rows of counts, as the program writes them
+
+// `regs 1 accepted 3 lost 3:0 4:0 ..`: names and numbers, in order; of `lost` one for each cause.
+function countsOf(row) {
+  const found = [];
+  const words = row.split(' ');
+  for (let k = 0; k < words.length; k += 1) {
+    if (words[k] === 'lost') {
+      for (; /^\d+:\d+$/.test(words[k + 1] ?? ''); k += 1) found.push([`lost ${words[k + 1].split(':')[0]}`, words[k + 1].split(':')[1]]);
+    } else {
+      found.push([words[k], words[k + 1]]);
+      k += 1;
+    }
+  }
+  return found;
+}
+
+function made(kind, text, attributes = {}) {
+  const svg = ['svg', 'rect', 'text', 'title'].includes(kind);
+  const it = svg ? document.createElementNS('http://www.w3.org/2000/svg', kind) : document.createElement(kind);
+  if (text !== '') it.textContent = text;
+  for (const [name, value] of Object.entries(attributes)) it.setAttribute(name, value);
+  return it;
+}
+
+function tableOf(rows) {
+  const table = made('table', '');
+  const head = table.createTHead().insertRow();
+  for (const [name] of rows[0]) head.append(made('th', name, { scope: 'col' }));
+  const body = table.createTBody();
+  for (const row of rows) {
+    const line = body.insertRow();
+    for (const [, number] of row) line.insertCell().textContent = number;
+  }
+  return table;
+}
+
+// One row of counts below one another.
+function listOf(row) {
+  const table = made('table', '');
+  for (const [name, number] of row) {
+    const line = table.insertRow();
+    line.append(made('th', name, { scope: 'row' }));
+    line.insertCell().textContent = number;
+  }
+  return table;
+}
+
+// Bars of one count, one for each name; their lengths are in the proportion of the numbers.
+const BAR = { height: 26, names: 110, length: 260, numbers: 80 };
+function chartOf(title, bars) {
+  const height = (bars.length + 1) * BAR.height;
+  const width = BAR.names + BAR.length + BAR.numbers;
+  const told = `${title}: ${bars.map(([name, number]) => `${name} ${number}`).join(', ')}`;
+  const svg = made('svg', '', { class: 'chart', width, height, viewBox: `0 0 ${width} ${height}`, role: 'img', 'aria-label': told });
+  const most = Math.max(1, ...bars.map(([, number]) => Number(number)));
+  svg.append(made('text', title, { x: 0, y: 18, 'font-weight': 700 }));
+  bars.forEach(([name, number], k) => {
+    const y = (k + 1) * BAR.height;
+    const length = (BAR.length * Number(number)) / most;
+    svg.append(made('text', name, { x: BAR.names - 8, y: y + 18, 'text-anchor': 'end' }));
+    svg.append(made('rect', '', { x: BAR.names, y: y + 3, width: length, height: BAR.height - 6 }));
+    svg.append(made('text', number, { x: BAR.names + length + 6, y: y + 18 }));
+  });
+  return svg;
+}
+
+// The counts of a sweep that differ most in what a lecture asks for, each as a chart over the registers.
+const OF_SWEEPS = ['stalled', 'waited', 'pumps', 'rounds', 'mean', 'longest', 'lost 7', 'lost 8', 'lost 10'];
+function sweepCharts(rows) {
+  const named = rows.map((row) => new Map(row));
+  return OF_SWEEPS.filter((name) => named[0].has(name))
+    .map((name) => chartOf(name, named.map((row) => [`regs ${row.get('regs')}`, row.get(name)])));
+}
+function driveCharts(row) {
+  const counts = new Map(row);
+  const of = (names) => names.filter((name) => counts.has(name)).map((name) => [name, counts.get(name)]);
+  const lost = [...counts.keys()].filter((name) => name.startsWith('lost '));
+  return [chartOf('accepted requests', of(['hits', 'joins', 'misses'])), chartOf('rounds lost, by cause', of(lost))];
+}

@@ -1,0 +1,246 @@
+"""What a page has to show, worked out from the lines of `kroft show --text`; and traces at random with their shapes."""
+
+import dataclasses
+import re
+
+
+@dataclasses.dataclass
+class Step:
+    """A step of `show --text`: texts by the names of their places, and the names of those that it changed."""
+
+    event: str = ""
+    answer: str = ""
+    words: str = "the machine before the first event"
+    texts: dict = dataclasses.field(default_factory=dict)
+    changed: set = dataclasses.field(default_factory=set)
+
+
+def whole_name(label, over):
+    """A label's whole name: a word belongs to the register or frame above it, a load to the word above it."""
+    depth = len(label) - len(label.lstrip())
+    label = label.strip()
+    if label == "load":
+        over[4] = over.get(4, -1) + 1
+        return f"{over[0]} {over[2]} load {over[4]}"
+    over.pop(4, None)
+    over[depth] = label
+    return label if depth == 0 else f"{over[0]} {label}"
+
+
+def read_screens(text):
+    """The steps of `show --text`."""
+    steps = []
+    over = {}
+    memory = {}
+    for line in text.splitlines():
+        head = re.match(r"step \d+: (.*?)(?: -> (.*))?$", line)
+        if head:
+            steps.append(Step() if not steps else Step(head[1], head[2], None))
+            over = {}
+        elif steps[-1].words is None:
+            steps[-1].words = line[2:]
+        elif line:
+            name = whole_name(line[2:20].rstrip(), over)
+            shown = "" if line[21:] == "-" else line[21:]
+            if name.startswith("memory "):
+                memory[name] = shown
+            elif shown:
+                steps[-1].texts[name] = shown
+            if line[0] == "*":
+                steps[-1].changed.add(name)
+        if line and not head:
+            steps[-1].texts.update(memory)
+    # (of memory only what a step changed has a line)
+    memory = {}
+    for step in steps:
+        memory = {**memory, **{name: text for name, text in step.texts.items() if name.startswith("memory ")}}
+        step.texts.update(memory)
+    return steps
+
+
+def masked(mask, word):
+    return "".join(word[2 * k : 2 * k + 2] if mask[k] == "1" else "__" for k in range(4))
+
+
+class Expected:
+    """What a page has to show of the steps of a run on a machine of this shape."""
+
+    def __init__(self, steps, shape):
+        self.steps = steps
+        self.shape = shape
+
+    def block_of(self, step, register):
+        for at in (step, self.steps[max(0, self.steps.index(step) - 1)]):
+            found = re.search(r"block (\d+)", at.texts.get(f"register {register}", ""))
+            if found:
+                return int(found[1])
+        return 0
+
+    def entry(self, step, text):
+        register, word, value = re.fullmatch(r"register (\d+), word (\d+): (\w{8})", text).groups()
+        return f"word {4 * self.block_of(step, register) + int(word)}, r{register}: {value}"
+
+    def register(self, text):
+        if text in ("free", ""):
+            return text
+        state, block, _, frame, came = re.fullmatch(
+            r"(valid|obsolete), block (\d+)(, frame (\d+))?, words came: (\d+)", text).groups()
+        who = f"block {block} in f{frame}" if state == "valid" else f"obsolete: block {block}"
+        return f"{who}, {came} of 4 came"
+
+    def load(self, text):
+        tag, owed, _, mask, held = re.fullmatch(
+            r"tag (\d+) is owed (\w{8})(, holds (\d{4}) (\w{8}))?", text).groups()
+        return f"t{tag}: {owed}" + (f" has {masked(mask, held)}" if mask else "")
+
+    def command(self, bank, text):
+        kind, place, rest = re.fullmatch(r"(read|write) place (\d+): (.*)", text).groups()
+        at = int(place) * self.shape["banks"] + bank
+        if kind == "read":
+            return f"read word {at}, r{re.fullmatch(r'register (.*), word .*', rest)[1]}"
+        return f"write word {at}: {masked(*rest.split())}"
+
+    def shown(self, step, name, text):
+        """What stands at a place, as the page has it."""
+        if text == "":
+            return "-"
+        numbers = [int(it) for it in re.findall(r"\d+", name)]
+        if name.startswith("register"):
+            if "load" in name:
+                return self.load(text)
+            if "word" in name:
+                return f"{4 * self.block_of(step, numbers[0]) + numbers[1]} {text}"
+            return self.register(text)
+        if name.startswith("frame"):
+            return text if "word" in name else text.replace(", pending", " .. italic")
+        if name.startswith("input stack") or "answer" in name:
+            return self.entry(step, text)
+        if name.startswith("write queue"):
+            at, _, mask, word = re.fullmatch(r"word (\d+), block (\d+): (\d{4}) (\w{8})", text).groups()
+            return f"word {at}: {masked(mask, word)}"
+        if "command" in name:
+            return self.command(numbers[0], text)
+        if name.startswith("ready"):
+            return f"t{text[len('tag '):]}"
+        return text
+
+    def entries(self, number, with_memory):
+        """All entries of a step: their texts, and how they are marked."""
+        step = self.steps[number]
+        names = {f"register {k}": "free" for k in range(self.shape["regs"])}
+        if with_memory:
+            names.update({f"memory {k}": "00000000" for k in range(min(256, self.shape["words"]))})
+        names.update({name: "" for name in step.changed})
+        names.update(step.texts)
+        read = self.read(step)
+        found = {}
+        for name, text in names.items():
+            mark = "read" if name in read else "changed" if name in step.changed else ""
+            if name.startswith("memory ") and name in step.changed:
+                at = int(name.split()[1])
+                found[f"bank {at % self.shape['banks']} stored"] = [f"memory, word {at}: {text}", "changed"]
+            if with_memory or not name.startswith("memory "):
+                found[name] = [self.shown(step, name, text), mark]
+        return found
+
+    def read(self, step):
+        """The names of what a hit reads."""
+        if not (step.event.startswith("load") and step.answer == "accepted" and step.words.startswith("a hit")):
+            return set()
+        at = int(step.event.split()[2])
+        block, word = divmod(at, 4)
+        frame = next(name for name, text in step.texts.items() if re.fullmatch(rf"frame \d+", name) and re.match(rf"block {block}\b", text))
+        found = {f"{frame} word {word}"}
+        for name, text in step.texts.items():
+            register = re.fullmatch(r"register (\d+)", name)
+            if register and text.startswith(f"valid, block {block},") and step.texts[f"{name} word {word}"].startswith("in stack"):
+                found |= {it for it, of in step.texts.items() if it.startswith("input stack") and of.startswith(f"{name}, word {word}:")}
+        return found
+
+    def request(self, event):
+        """The box of the event: its address, cut."""
+        kind, *fields = event.split()
+        sets, banks = self.shape["sets"], self.shape["banks"]
+        if kind in ("load", "store", "prefetch"):
+            at = int(fields[1 if kind == "load" else 0])
+            named = {"load": f" t{fields[0]}", "prefetch": "", "store": f" {masked(*fields[1:])}" if kind == "store" else ""}[kind]
+            return f"{kind}{named} word {at} = block {at // 4} set {at // 4 % sets} word +{at % 4} bank {at % banks}"
+        if kind == "evict":
+            return f"evict block {fields[0]} set {int(fields[0]) % sets}"
+        named = {"serve": "serve bank {}", "arrive": "arrive from bank {}, answer {}", "process": "process stack {}", "take": "take value {}"}
+        return named.get(kind, kind).format(*fields)
+
+    # ---- the line of time
+
+    def wait(self, step, tag):
+        """What an accepted load waits for behind a step."""
+        for name, text in step.texts.items():
+            place = re.fullmatch(r"register (\d+) word (\d+) load \d+", name)
+            if not place or not text.startswith(f"tag {tag} "):
+                continue
+            owner = f"register {place[1]}, word {place[2]}"
+            if step.texts[f"register {place[1]} word {place[2]}"].startswith("in stack"):
+                return "stack"
+            return "answer" if any("answer" in it and of.startswith(owner + ":") for it, of in step.texts.items()) else "command"
+        return "ready"
+
+    def lives(self):
+        """Each load: tag, address, the steps in which it was first asked, accepted and answered, and what it waited for."""
+        asked, owed, loads = {}, {}, []
+        for number, step in enumerate(self.steps):
+            kind, *fields = step.event.split() or [""]
+            if kind == "load":
+                tag, at = map(int, fields)
+                load = asked.pop((tag, at), None)
+                if load is None:
+                    load = {"tag": tag, "at": at, "asked": number, "accepted": None, "taken": None, "waits": {}}
+                    loads.append(load)
+                for before in range(max(load["waits"], default=number), number):
+                    load["waits"][before] = load["waits"][max(it for it in load["waits"] if it <= before)]
+                if step.answer == "accepted":
+                    asked = {key: it for key, it in asked.items() if key[0] != tag}
+                    load["accepted"] = number
+                    owed[tag] = load
+                else:
+                    load["waits"][number] = step.answer
+                    asked[tag, at] = load
+            value = re.match(r"value (\d+) ", step.answer)
+            if value:
+                owed.pop(int(value[1]))["taken"] = number
+            for tag, load in owed.items():
+                load["waits"][number] = self.wait(step, tag)
+        return loads
+
+
+# ---- traces at random
+
+def random_shape(draw):
+    """A lawful shape, mostly small."""
+    banks = draw.choice([1, 2, 3, 4, 4, 5, 8, 16])
+    return {
+        "words": 4 * draw.choice([4, 8, 16, 16, 16, 40, 100]), "sets": draw.choice([1, 2, 3, 4, 4, 8]), "ways": draw.choice([1, 2, 2]),
+        "regs": draw.choice([1, 2, 4, 4, 8]), "banks": banks, "bank_queue": max(-(-4 // banks), draw.choice([2, 4, 8, 8, 16])),
+        "write_queue": draw.choice([4, 8, 8, 16]), "replies": draw.choice([1, 2, 8, 8, 16]),
+    }
+
+
+DEFAULTS = {"words": 64, "sets": 4, "ways": 2, "regs": 4, "banks": 4, "bank_queue": 8, "write_queue": 8, "replies": 8}
+
+
+def random_line(draw, shape, tag):
+    blocks = shape["words"] // 4
+    # (few blocks, so that requests meet)
+    at = 4 * min(blocks - 1, draw.choice([0, 0, 1, 1, 2, 3, 4, 5, draw.randrange(blocks)])) + draw.randrange(4)
+    mask = "".join(draw.choice("01") for _ in range(4))
+    kind = draw.choices(["load", "store", "prefetch", "evict", "drain", "serve", "arrive", "process", "take"],
+                        [16, 9, 2, 4, 5, 22, 16, 16, 10])[0]
+    place = draw.choice([0, 0, 0, 1, 2])
+    return {
+        "load": f"load {draw.choice([tag, tag, tag, draw.randrange(4)])} {at}", "store": f"store {at} {mask} {draw.randrange(1 << 32):08x}",
+        "prefetch": f"prefetch {at}", "evict": f"evict {at // 4}", "drain": "drain", "serve": f"serve {draw.randrange(shape['banks'])}",
+        "arrive": f"arrive {draw.randrange(shape['banks'])} {place}", "process": f"process {place}", "take": f"take {place}",
+    }[kind]
+
+
+def random_trace(draw, shape, events):
+    return "".join(random_line(draw, shape, tag) + "\n" for tag in range(events))

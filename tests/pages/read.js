@@ -1,0 +1,110 @@
+// What a person sees of the page: each entry by its name, with its text and how it is marked. It goes by headings, labels
+// and positions, and by colours as they are computed; never by the names that the page's script uses.
+(() => {
+  const colourOf = (name) => {
+    const probe = document.createElement('i');
+    probe.style.background = `var(${name})`;
+    document.body.append(probe);
+    const colour = getComputedStyle(probe).backgroundColor;
+    probe.remove();
+    return colour;
+  };
+  const marks = { [colourOf('--mark')]: 'changed', [colourOf('--read')]: 'read' };
+  const isSeen = (it) => it.getClientRects().length > 0;
+  const markOf = (it) => marks[getComputedStyle(it).backgroundColor] || '';
+  const sectionOf = (title) => [...document.querySelectorAll('section')].find((it) => it.querySelector('h2').textContent === title);
+
+  function wordOf(cell) {
+    const lanes = [];
+    for (const part of cell.childNodes) {
+      const isDirty = part.nodeType === 1 && getComputedStyle(part).textDecorationLine === 'underline';
+      for (let k = 0; k < part.textContent.length; k += 2) lanes.push(isDirty ? '1' : '0');
+    }
+    return cell.textContent + (lanes.includes('1') ? `, dirty ${lanes.join('')}` : '');
+  }
+
+  window.readPage = () => {
+    const seen = {};
+    const note = (name, it, text = it.textContent) => {
+      if (isSeen(it) && (text !== '' || markOf(it))) seen[name] = [text, markOf(it)];
+    };
+    for (const row of sectionOf('Frames').querySelectorAll('tbody tr')) {
+      let frame = null;
+      let word = -1;
+      for (const cell of row.children) {
+        const label = /^f(\d+)$/.exec(cell.textContent);
+        if (cell.tagName === 'TH') { frame = label && `frame ${label[1]}`; word = -1; continue; }
+        if (word < 0) note(frame, cell, cell.textContent + (getComputedStyle(cell).fontStyle === 'italic' ? ' italic' : ''));
+        else note(`${frame} word ${word}`, cell, wordOf(cell));
+        word += 1;
+      }
+    }
+    for (const box of sectionOf('Registers').querySelectorAll('.register')) {
+      const [label, entry] = box.querySelector('.register-head').children;
+      const name = label.textContent.replace(/^r/, 'register ');
+      note(name, entry);
+      [...box.querySelectorAll('.field')].forEach((field, i) => {
+        [...field.children].forEach((it, n) => note(`${name} word ${i}${n > 0 ? ` load ${n - 1}` : ''}`, it));
+      });
+    }
+    const list = (name, items) => {
+      for (const item of items) {
+        const entry = item.children[1];
+        if (isSeen(item)) seen[name + item.children[0].textContent] = [entry.textContent, markOf(entry)];
+      }
+    };
+    list('input stack ', sectionOf('Input stack').querySelectorAll('li'));
+    list('write queue ', sectionOf('Write queue').querySelectorAll('li'));
+    list('ready ', sectionOf('Ready values').querySelectorAll('li'));
+    list('memory ', sectionOf('Memory, as the banks have it').querySelectorAll('li'));
+    list('line ', sectionOf('Registers, as a trace shows them').querySelectorAll('li'));
+    for (const box of sectionOf('Banks').querySelectorAll('.bank')) {
+      const name = box.querySelector('h3').textContent.toLowerCase();
+      for (const it of box.querySelectorAll('ol')) list(`${name} ${it.getAttribute('aria-label').split(' ')[0].slice(0, -1)} `, it.children);
+      for (const it of box.querySelectorAll('.stored .entry')) note(`${name} stored`, it);
+    }
+    return {
+      entries: seen,
+      event: document.getElementById('event').textContent,
+      words: document.getElementById('words').textContent,
+      request: document.getElementById('request').innerText.replace(/\s+/g, ' ').trim(),
+      step: [document.getElementById('number').textContent, document.getElementById('slider').value, document.body.dataset.step].join(' '),
+      arrows: [...document.querySelectorAll('#arrows path.moved')].length,
+      labels: [...document.querySelectorAll('#arrows text')].map((it) => it.textContent),
+      fault: document.body.dataset.fault || '',
+      outside: [...document.querySelectorAll('.changed, .read')].filter((it) => {
+        const r = it.getBoundingClientRect();
+        return isSeen(it) && it.closest('#machine') && (r.bottom > innerHeight || r.right > innerWidth || r.top < 0);
+      }).length,
+    };
+  };
+
+  // The ways of going to steps, each of which gives what is seen behind every move.
+  const wait = () => new Promise((done) => { addEventListener('hashchange', () => done(), { once: true }); });
+  const press = (key) => document.body.dispatchEvent(new KeyboardEvent('keydown', { key, bubbles: true, cancelable: true }));
+  const click = (id) => document.getElementById(id).click();
+  const goes = {
+    key: (step, before) => press(step === before + 1 ? 'ArrowRight' : step === before - 1 ? 'ArrowLeft' : step === 0 ? 'Home' : 'End'),
+    button: (step, before) => click(step === before + 1 ? 'next' : step === before - 1 ? 'back' : step === 0 ? 'to-first' : 'to-last'),
+    slider: (step) => {
+      const slider = document.getElementById('slider');
+      slider.value = step;
+      slider.dispatchEvent(new Event('input', { bubbles: true }));
+    },
+    address: async (step, before) => {
+      if (location.hash === `#${step}`) return;
+      const told = wait();
+      location.hash = `#${step}`;
+      await told;
+    },
+  };
+  window.walk = async (how, wanted, before) => {
+    const seen = [];
+    for (const step of wanted) {
+      await goes[how](step, before);
+      before = step;
+      seen.push(readPage());
+    }
+    return seen;
+  };
+})();
