@@ -3,4 +3,5 @@ pub mod Reasons
 pub mod Shown
 pub mod Runs
 pub mod Lines
+pub mod Texts
 pub mod Examples

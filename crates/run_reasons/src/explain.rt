@@ -1,8 +1,9 @@
 //! A recorded run is read as it comes, and its first mismatch explained.
 
-ghost use Rattle.std.specs.Prelude.{◌≡◌, ◌<◌, ℕ, List, [], length};
+ghost use Rattle.std.specs.Prelude.{◌≡◌, ◌<◌, ℕ, List, [], length, Some};
 ghost use Rattle.run_reasons.specs.Runs.{Explains, explained_by, status_of};
 ghost use Rattle.run_reasons.specs.Lines.{HasRead, EndsWith};
+ghost use Rattle.run_reasons.specs.Texts.{explanation_text};
 
 use crate::lines::{Lines, Stop};
 use crate::reason::Mismatch;
@@ -36,6 +37,8 @@ impl Explanation {
 
 /// `flat run, N steps`, or the text of the mismatch; no line feed stands at the end.
 impl fmt::Display for Explanation {
+    ghost output = { λ explanation. Some (explanation_text explanation) };
+
     fn fmt<W: fmt::Write>(&self, f: &mut fmt::Formatter<W>) -> fmt::Result {
         match self {
             Explanation::Flat { steps } => write!(f, "flat run, {steps} steps"),

@@ -1,5 +1,10 @@
 //! The text of a mismatch: the line, and why flat memory can't answer it.
 
+ghost use Rattle.std.specs.Prelude.{◌≡◌, ◌<◌, Some};
+ghost use Rattle.std.specs.Fmt.{WritesOnOk};
+ghost use Rattle.flat_model.specs.Texts.{byte_text, hex_digit};
+ghost use Rattle.run_reasons.specs.Texts.{kind_text, answers_text, owed_from_text, got_from_text, byte_line, wrong_word_text, reason_text, mismatch_text};
+
 use crate::origins::{AcceptedLoad, Stores};
 use crate::reason::{Mismatch, Reason, WrongWord};
 use flat_model::{Answer, Event};
@@ -7,42 +12,59 @@ use std::fmt;
 
 /// At most six lines, without a line feed at the end.
 impl fmt::Display for Mismatch {
+    ghost output = { λ mismatch. Some (mismatch_text mismatch) };
+
+    #[tactic(auto, unfolding(crate::specs::Texts::mismatch_text))]
     fn fmt<W: fmt::Write>(&self, f: &mut fmt::Formatter<W>) -> fmt::Result {
         let line = self.line;
         let event = self.event;
         let answer = self.answer;
         writeln!(f, "mismatch at line {line}: {event} -> {answer}")?;
-        match self.reason {
-            Reason::NeverAnswered => write_never_answered(f, event),
-            Reason::NeverRefused => write_never_refused(f, event, answer),
-            Reason::Outside { at, words } => write!(
-                f,
-                "word {at} is outside memory, which has {words} words: it is refused 1"
-            ),
-            Reason::Inside { at, words } => {
-                write!(f, "word {at} is in memory, which has {words} words")
-            }
-            Reason::TagInUse { tag, line } => write!(
-                f,
-                "tag {tag} is in use since line {line}: it is refused 3 until its value is taken"
-            ),
-            Reason::NeverLoaded { tag } => {
-                write!(f, "tag {tag} is owed nothing: it was never loaded")
-            }
-            Reason::Taken { tag, line } => {
-                write!(
-                    f,
-                    "tag {tag} is owed nothing: its value was taken in line {line}"
-                )
-            }
-            Reason::NoLanes => f.write_str("the store has no lanes: it is refused 2"),
-            Reason::HasLanes => f.write_str("the store has lanes"),
-            Reason::WrongWord(wrong) => write!(f, "{wrong}"),
-        }
+        write_reason(f, event, answer, self.reason)
     }
 }
 
-fn write_never_answered<W: fmt::Write>(f: &mut fmt::Formatter<W>, event: Event) -> fmt::Result {
+// Why flat memory can't answer an event so.
+fn write_reason<W: fmt::Write>(
+    f: &mut fmt::Formatter<W>,
+    event: Event,
+    answer: Answer,
+    reason: Reason,
+) -> fmt::Result
+    ensures { WritesOnOk W.write_str_gives f.old result (reason_text event answer reason) f.new }
+{
+    match reason {
+        Reason::NeverAnswered => write_never_answered(f, event),
+        Reason::NeverRefused => write_never_refused(f, event, answer),
+        Reason::Outside { at, words } => write!(
+            f,
+            "word {at} is outside memory, which has {words} words: it is refused 1"
+        ),
+        Reason::Inside { at, words } => {
+            write!(f, "word {at} is in memory, which has {words} words")
+        }
+        Reason::TagInUse { tag, line } => write!(
+            f,
+            "tag {tag} is in use since line {line}: it is refused 3 until its value is taken"
+        ),
+        Reason::NeverLoaded { tag } => {
+            write!(f, "tag {tag} is owed nothing: it was never loaded")
+        }
+        Reason::Taken { tag, line } => {
+            write!(
+                f,
+                "tag {tag} is owed nothing: its value was taken in line {line}"
+            )
+        }
+        Reason::NoLanes => f.write_str("the store has no lanes: it is refused 2"),
+        Reason::HasLanes => f.write_str("the store has lanes"),
+        Reason::WrongWord(wrong) => write!(f, "{wrong}"),
+    }
+}
+
+fn write_never_answered<W: fmt::Write>(f: &mut fmt::Formatter<W>, event: Event) -> fmt::Result
+    ensures { WritesOnOk W.write_str_gives f.old result (reason_text event Answer.Moved Reason.NeverAnswered) f.new }
+{
     let name = name_of(event);
     let answers = answers_of(event);
     write!(f, "{name} never gets this answer: it gets {answers}")
@@ -52,13 +74,17 @@ fn write_never_refused<W: fmt::Write>(
     f: &mut fmt::Formatter<W>,
     event: Event,
     answer: Answer,
-) -> fmt::Result {
+) -> fmt::Result
+    ensures { WritesOnOk W.write_str_gives f.old result (reason_text event answer Reason.NeverRefused) f.new }
+{
     let name = name_of(event);
     let answers = answers_of(event);
     write!(f, "{name} never gets {answer}: it gets {answers}")
 }
 
-fn name_of(event: Event) -> &'static str {
+fn name_of(event: Event) -> &'static str
+    ensures { result.now ≡ kind_text event }
+{
     match event {
         Event::Load { .. } => "a load",
         Event::Store { .. } => "a store",
@@ -73,7 +99,9 @@ fn name_of(event: Event) -> &'static str {
 }
 
 // What an event may be answered.
-fn answers_of(event: Event) -> &'static str {
+fn answers_of(event: Event) -> &'static str
+    ensures { result.now ≡ answers_text event }
+{
     match event {
         Event::Load { .. } => "accepted, or refused 1 or 3 to 10",
         Event::Store { .. } => "accepted, or refused 1, 2 or 6 to 10",
@@ -88,6 +116,9 @@ fn answers_of(event: Event) -> &'static str {
 
 /// The load with what it is owed, and a line for each byte that differs.
 impl fmt::Display for WrongWord {
+    ghost output = { λ wrong. Some (wrong_word_text wrong) };
+
+    #[tactic(auto, unfolding(crate::specs::Texts::wrong_word_text))]
     fn fmt<W: fmt::Write>(&self, f: &mut fmt::Formatter<W>) -> fmt::Result {
         let tag = self.tag;
         let AcceptedLoad {
@@ -110,6 +141,7 @@ impl fmt::Display for WrongWord {
 }
 
 // Where a byte of the word came from, if it isn't the one that is owed.
+#[tactic(auto, unfolding(crate::specs::Texts::byte_line))]
 fn write_byte<W: fmt::Write>(
     f: &mut fmt::Formatter<W>,
     place: u8,
@@ -117,17 +149,54 @@ fn write_byte<W: fmt::Write>(
     store: u64,
     got: u8,
     later: u64,
-) -> fmt::Result {
+) -> fmt::Result
+    ensures { WritesOnOk W.write_str_gives f.old result (byte_line place owed store got later) f.new }
+{
     if owed == got {
         return Ok(());
     }
-    write!(f, "\nbyte {place}: owed {owed:02x}, ")?;
-    if store == 0 {
-        f.write_str("of the initial zeros")?;
-    } else {
-        write!(f, "stored in line {store}")?;
+    let (owed, got) = (HexByte(owed), HexByte(got));
+    write!(f, "\nbyte {place}: owed {owed}, ")?;
+    write_owed_from(f, store)?;
+    write!(f, "; got {got}, ")?;
+    write_got_from(f, later)
+}
+
+// A byte as two hexadecimal digits.
+#[derive(Drop)]
+struct HexByte(u8);
+
+impl fmt::Display for HexByte {
+    ghost output = { λ byte. Some (byte_text byte.0) };
+
+    fn fmt<W: fmt::Write>(&self, f: &mut fmt::Formatter<W>) -> fmt::Result {
+        f.write_char(digit(self.0 / 16))?;
+        f.write_char(digit(self.0 % 16))
     }
-    write!(f, "; got {got:02x}, ")?;
+}
+
+fn digit(n: u8) -> char
+    requires { n < 16 }
+    ensures { result ≡ hex_digit n }
+{
+    char::from(if n < 10 { b'0' + n } else { b'a' + (n - 10) })
+}
+
+// Where the byte that is owed was stored.
+fn write_owed_from<W: fmt::Write>(f: &mut fmt::Formatter<W>, store: u64) -> fmt::Result
+    ensures { WritesOnOk W.write_str_gives f.old result (owed_from_text store) f.new }
+{
+    if store == 0 {
+        f.write_str("of the initial zeros")
+    } else {
+        write!(f, "stored in line {store}")
+    }
+}
+
+// Where the byte that came was stored.
+fn write_got_from<W: fmt::Write>(f: &mut fmt::Formatter<W>, later: u64) -> fmt::Result
+    ensures { WritesOnOk W.write_str_gives f.old result (got_from_text later) f.new }
+{
     if later == 0 {
         f.write_str("which no last store put there")
     } else {
