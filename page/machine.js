@@ -234,15 +234,17 @@ class Picture {
     return inStack ? [`c${frame}.${word}`, `s${entry}`] : [`c${frame}.${word}`];
   }
 
-  // A list that is longer than its box is moved to what is marked in it.
+  // A list that is longer than its box is moved to what is marked in it: all of it, or as much as fits from the first on.
   showMarked() {
     for (const box of [...document.querySelectorAll('.scrolls')].reverse()) {
-      const marked = box.scrollHeight > box.clientHeight && box.querySelector('.changed, .read');
-      if (!marked) continue;
-      const inner = marked.getBoundingClientRect();
+      const marked = box.scrollHeight > box.clientHeight ? [...box.querySelectorAll('.changed, .read')] : [];
+      const rects = marked.map((it) => it.getBoundingClientRect()).filter((it) => it.height > 0);
+      if (rects.length === 0) continue;
       const outer = box.getBoundingClientRect();
-      if (inner.top < outer.top) box.scrollTop -= outer.top - inner.top + 4;
-      if (inner.bottom > outer.bottom) box.scrollTop += inner.bottom - outer.bottom + 4;
+      const below = Math.max(...rects.map((it) => it.bottom)) + 4 - outer.bottom;
+      if (below > 0) box.scrollTop += below;
+      const above = outer.top + 4 - Math.min(...rects.map((it) => it.top)) + Math.max(0, below);
+      if (above > 0) box.scrollTop -= above;
     }
   }
 }

@@ -167,7 +167,8 @@ class Expected:
             return f"{kind}{named} word {at} = block {at // 4} set {at // 4 % sets} word +{at % 4} bank {at % banks}"
         if kind == "evict":
             return f"evict block {fields[0]} set {int(fields[0]) % sets}"
-        named = {"serve": "serve bank {}", "arrive": "arrive from bank {}, answer {}", "process": "process stack {}", "take": "take value {}"}
+        named = {"serve": "serve bank {}", "arrive": "arrive from bank {}, answer {}", "process": "process stack {}",
+                 "take": "take value {}"}
         return named.get(kind, kind).format(*fields)
 
     # ---- the line of time
@@ -225,6 +226,11 @@ def random_shape(draw):
 
 
 DEFAULTS = {"words": 64, "sets": 4, "ways": 2, "regs": 4, "banks": 4, "bank_queue": 8, "write_queue": 8, "replies": 8}
+
+
+def read_shape(text):
+    """The numbers of a shape file that has nothing but comments and whole numbers."""
+    return {key: int(number) for key, number in re.findall(r"^(\w+) = (\d+)$", text, re.MULTILINE)}
 
 
 def random_line(draw, shape, tag):

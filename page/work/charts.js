@@ -67,11 +67,11 @@ function chartOf(title, bars) {
   return svg;
 }
 
-// The counts of a sweep that differ most in what a lecture asks for, each as a chart over the registers.
+// The counts of a sweep that a chart is drawn of, over the registers, unless all are 0.
 const OF_SWEEPS = ['stalled', 'waited', 'pumps', 'rounds', 'mean', 'longest', 'lost 7', 'lost 8', 'lost 10'];
 function sweepCharts(rows) {
   const named = rows.map((row) => new Map(row));
-  return OF_SWEEPS.filter((name) => named[0].has(name))
+  return OF_SWEEPS.filter((name) => named.some((row) => Number(row.get(name) ?? 0) > 0))
     .map((name) => chartOf(name, named.map((row) => [`regs ${row.get('regs')}`, row.get(name)])));
 }
 function driveCharts(row) {

@@ -137,10 +137,12 @@ function putPicture(name) {
   frame.title = 'picture';
   frame.dataset.name = name;
   frame.setAttribute('sandbox', 'allow-scripts');
+  frame.className = 'coming';
   frame.dataset.step = stepAtCursor();
   frame.src = `${name}#${frame.dataset.step}`;
   frame.onload = () => {
     for (const it of [...pane.childNodes]) if (it !== frame) it.remove();
+    frame.className = '';
     frame.dataset.isThere = 'yes';
     followCursor();
   };

@@ -79,6 +79,49 @@
     };
   };
 
+  // ---- single looks
+
+  // Where the column of a step stands in the line of time.
+  window.columnOf = (step) => {
+    const r = document.getElementById('line').getBoundingClientRect();
+    return [r.x + line.x(step) + line.column / 2, r.y + 40];
+  };
+  // Whether the line of time has the cursor's colour at a step.
+  window.isCursorAt = (step) => {
+    const canvas = document.getElementById('line');
+    const x = Math.round(line.x(step + 0.5) * devicePixelRatio);
+    const [r, g, b] = canvas.getContext('2d').getImageData(x, canvas.height - 3, 1, 1).data;
+    return colourOf('--edge') === `rgb(${r}, ${g}, ${b})`;
+  };
+  window.namelessControls = () => [...document.querySelectorAll('button, input')]
+    .filter((it) => !it.getAttribute('aria-label') && !it.textContent).map((it) => it.id);
+  window.smallTexts = () => [...document.querySelectorAll('body *')]
+    .filter((it) => isSeen(it) && it.textContent.trim() !== '' && parseFloat(getComputedStyle(it).fontSize) < 14)
+    .map((it) => it.id || it.className);
+  window.pageSize = () => [document.documentElement.scrollHeight, document.documentElement.scrollWidth];
+  // How many marks of all steps lie outside of what their lists show.
+  window.hiddenMarks = () => {
+    let hidden = 0;
+    for (let step = 0; step <= run.last; step += 1) {
+      go(step);
+      for (const it of document.querySelectorAll('.changed, .read')) {
+        const box = it.closest('.scrolls');
+        if (!box || !isSeen(it)) continue;
+        const inner = it.getBoundingClientRect();
+        const outer = box.getBoundingClientRect();
+        if (inner.bottom > outer.bottom + 3 || inner.top < outer.top - 3) hidden += 1;
+      }
+    }
+    return hidden;
+  };
+  // Milliseconds for one of fifty calls.
+  window.spent = (call) => {
+    const begin = performance.now();
+    for (let k = 0; k < 50; k += 1) call(k);
+    return (performance.now() - begin) / 50;
+  };
+  window.later = (told, milliseconds) => new Promise((done) => { setTimeout(() => done(told()), milliseconds); });
+
   // The ways of going to steps, each of which gives what is seen behind every move.
   const wait = () => new Promise((done) => { addEventListener('hashchange', () => done(), { once: true }); });
   const press = (key) => document.body.dispatchEvent(new KeyboardEvent('keydown', { key, bubbles: true, cancelable: true }));

@@ -86,7 +86,7 @@ td.word { text-align: center; }
 .bank-lists { display: grid; grid-template-columns: minmax(0, 9fr) minmax(0, 11fr); gap: 6px;
   max-height: max(76px, calc(100vh - 414px - var(--line-of-time, 200px))); }
 .many .bank-lists { max-height: none; }
-.many { max-height: max(96px, calc(100vh - 410px - var(--line-of-time, 200px))); }
+.many { max-height: max(76px, calc(100vh - 436px - var(--line-of-time, 200px))); }
 .many .bank.empty { display: none; }
 .commands .at { display: none; }
 #memory-box, #lines-box { margin-top: 10px; }
@@ -1034,15 +1034,17 @@ class Picture {
     return inStack ? [`c${frame}.${word}`, `s${entry}`] : [`c${frame}.${word}`];
   }
 
-  // A list that is longer than its box is moved to what is marked in it.
+  // A list that is longer than its box is moved to what is marked in it: all of it, or as much as fits from the first on.
   showMarked() {
     for (const box of [...document.querySelectorAll('.scrolls')].reverse()) {
-      const marked = box.scrollHeight > box.clientHeight && box.querySelector('.changed, .read');
-      if (!marked) continue;
-      const inner = marked.getBoundingClientRect();
+      const marked = box.scrollHeight > box.clientHeight ? [...box.querySelectorAll('.changed, .read')] : [];
+      const rects = marked.map((it) => it.getBoundingClientRect()).filter((it) => it.height > 0);
+      if (rects.length === 0) continue;
       const outer = box.getBoundingClientRect();
-      if (inner.top < outer.top) box.scrollTop -= outer.top - inner.top + 4;
-      if (inner.bottom > outer.bottom) box.scrollTop += inner.bottom - outer.bottom + 4;
+      const below = Math.max(...rects.map((it) => it.bottom)) + 4 - outer.bottom;
+      if (below > 0) box.scrollTop += below;
+      const above = outer.top + 4 - Math.min(...rects.map((it) => it.top)) + Math.max(0, below);
+      if (above > 0) box.scrollTop -= above;
     }
   }
 }
