@@ -1,7 +1,7 @@
 -- The bytes of digits, pair by pair.
 use Rattle.std.proofs.Common.{◌≡◌, ℕ, Option, Some, None, List, [], ◌∷◌, ◌++◌, append_assoc, refl, sym, ◌∙◌, ap}
 use Rattle.std.specs.Option.{option_map}
-use Rattle.history_text.specs.Stub.{byte_of}
+use Rattle.trace_text.specs.Fields.{byte_of}
 use Rattle.history_text.specs.Fields.{bytes_in, cons_byte}
 
 one_more : (bs : List ℕ) (b : ℕ) (more : Option (List ℕ)) → option_map (λ l. bs ++ l) (cons_byte (Some b) more) ≡ option_map (λ l. (bs ++ b ∷ []) ++ l) more

@@ -1,7 +1,7 @@
 -- The fields of a line of a history: numbers, bytes and enables.
 use Rattle.std.specs.Prelude.{ℕ, ◌+◌, ◌*◌, ◌^◌, ◌==◌, ◌&&◌, if◌then◌else◌, Option, Some, None, List, [], ◌∷◌, length, nat_le, nat_lt}
 use Rattle.std.specs.Option.{option_map, option_and_then}
-use Rattle.history_text.specs.Stub.{number_of, nibble_of, bit_of, byte_of}
+use Rattle.trace_text.specs.Fields.{number_of, nibble_of, bit_of, byte_of}
 
 -- ---- numbers
 

@@ -4,10 +4,10 @@ use Rattle.std.specs.Borrow.{Bor}
 use Rattle.std.specs.List.{list_all}
 use Rattle.memory_histories.specs.declared.events.HistoryEvent.{HistoryEvent}
 use Rattle.memory_histories.specs.declared.events.HistoryEvent.TheVariants.{LoadRequest, LoadResponse, StoreRequest, StoreResponse}
-use Rattle.history_text.specs.Stub.{cut_of, same}
+use Rattle.trace_text.specs.Lines.{cut_of, same}
 use Rattle.history_text.specs.Fields.{value_of, bytes_of, enables_of}
-use Rattle.history_text.specs.declared.stub.LineFault.{LineFault}
-use Rattle.history_text.specs.declared.stub.LineFault.TheVariants.{Unknown, Field}
+use Rattle.trace_text.specs.declared.lines.LineFault.{LineFault}
+use Rattle.trace_text.specs.declared.lines.LineFault.TheVariants.{Unknown, Field}
 use Rattle.history_text.specs.declared.events.OwnedEvent.{OwnedEvent}
 use Rattle.history_text.specs.declared.events.OwnedEvent.TheVariants as owned
 use Rattle.history_text.specs.declared.lines.Command.{Command}

@@ -1,11 +1,11 @@
 //! The fields of a line: numbers, bytes and enables.
 ghost use Rattle.std.specs.Prelude.{◌≡◌, ◌+◌, ◌^◌, ◌<◌, ◌≤◌, ◌∷◌, length, IfSome, IfNone};
 ghost use Rattle.std.specs.Option.{option_map};
-ghost use Rattle.history_text.specs.Stub.{begins_badly as starts_badly, number_of, nibble_of, bit_of, byte_of};
+ghost use Rattle.trace_text.specs.Fields.{begins_badly as starts_badly, number_of, nibble_of, bit_of, byte_of};
 ghost use Rattle.history_text.specs.Fields.{most_number, with_digit as digit_more, hex_of, value_of, bytes_in, bytes_of, enables_in, enables_of};
 
 use crate::events::OperationBytes;
-use crate::stub::nibble;
+use trace_text::nibble;
 use arrayvec::ArrayVec;
 
 /// The largest number that one hexadecimal digit more keeps below 2^64.

@@ -1,5 +1,5 @@
 use Rattle.std.proofs.Common.{◌≡◌, ◌≤◌, drop, false}
-use Rattle.history_text.specs.Stub.{begins_badly, number_after}
+use Rattle.trace_text.specs.Fields.{begins_badly, number_after}
 use Rattle.history_text.specs.Fields.{most_number}
 use Rattle.history_text.proofs.fields.decimal.Given as goal
 
