@@ -5,6 +5,7 @@ use Rattle.std.specs.Option.{option_and_then}
 use Rattle.memory_histories.specs.declared.events.HistoryEvent.{HistoryEvent}
 use Rattle.memory_histories.specs.declared.events.HistoryEvent.TheVariants.{LoadRequest, LoadResponse, StoreRequest, StoreResponse}
 use Rattle.memory_histories.specs.declared.events.HistoryFault.{HistoryFault}
+use Rattle.memory_histories.specs.declared.events.Rest.{Rest}
 use Rattle.memory_histories.specs.declared.regular.RegularMemory.{RegularMemory}
 use Rattle.memory_histories.specs.Windows.{Windows, opening, windows_after}
 use Rattle.memory_histories.specs.Regular.{fault, regular_step, regular_run}
@@ -12,7 +13,7 @@ use Rattle.memory_histories.specs.Kept.{Kept, StandsFor}
 use Rattle.memory_histories.specs.Shown.{kept}
 use Rattle.history_text.specs.Lines.{plain}
 use Rattle.history_text.specs.Laws.{Law}
-use Rattle.history_text.specs.RegularLaw.{Leaves, law_of, Took}
+use Rattle.history_text.specs.RegularLaw.{Leaves, regular_law, law_of, Took}
 
 -- ---- an event, wherever its bytes lie
 
@@ -68,7 +69,7 @@ took_more m n after events event (w, run, stands) step =
     let s = step w stands in
     let more = run_more (opening (kept m).image (kept m).rest) events (plain event) w run (plain_fault w event ∙ s.0) in
     let same = plain_after w event in
-    ((windows_after w (plain event), more, subst (StandsFor (kept after)) (sym same) s.1), windows_after w (plain event), more)
+    ((windows_after w (plain event), more, subst (StandsFor (kept after)) (sym same) s.1), (windows_after w (plain event), more))
 
 pub took_still : (m n after : RegularMemory) (events : List HistoryEvent) → Took m events n → kept after ≡ kept n → Took m events after
 took_still m n after events (w, run, stands) same = (w, run, subst (λ (k : Kept). StandsFor k w) (sym same) stands)
@@ -82,3 +83,16 @@ pub too_long : (m n : RegularMemory) (events : List HistoryEvent) (event : Histo
 too_long m n events event (w, run, stands) here =
     let at = moment_is (opening (kept m).image (kept m).rest) events w run in
     omega (arith, at, (here w stands).1)
+
+-- ---- a new judge
+
+-- it took no event, and its law is that of its image
+pub began : (m : RegularMemory) (image : List ℕ) (rest : Rest) → StandsFor (kept m) (opening image rest) → Took m [] m × (law_of m).passes []
+began m image rest stands =
+    let here = opening (kept m).image (kept m).rest in
+    let same : opening image rest ≡ here = ap (λ i. opening i rest) (sym stands.same_image) ∙ ap (opening (kept m).image) (sym stands.same_rest) in
+    ((here, refl, subst (StandsFor (kept m)) same stands), (here, refl))
+
+-- what holds of its law holds of the regular law of its image
+pub by_image : (P : Law → Type 0) (m : RegularMemory) (image : List ℕ) (rest : Rest) → StandsFor (kept m) (opening image rest) → P (law_of m) → P (regular_law image rest)
+by_image P m image rest stands p = subst (λ r. P (regular_law image r)) stands.same_rest (subst (λ i. P (regular_law i (kept m).rest)) stands.same_image p)

@@ -1,14 +1,12 @@
 //! A history is read as it comes, and judged.
 
 ghost use Rattle.std.specs.Prelude.{◌≡◌, ◌<◌, ℕ, List, [], length};
-ghost use Rattle.history_text.specs.Operations.{no_counts};
 ghost use Rattle.history_text.specs.Histories.{HasRead, Judges, ended_by};
 
 use crate::answers::HistoryEnd;
 use crate::judge::HistoryJudge;
-use crate::judged::{Counts, Judged, Stop};
+use crate::judged::Stop;
 use crate::reading::Lines;
-use arrayvec::ArrayVec;
 use std::alloc::Global;
 use trace_text::{BUFFER_LEN, Source, TraceFault};
 
@@ -48,21 +46,7 @@ pub fn judge_history<R: Source, J: HistoryJudge + Drop>(
     requires passes { (J.law judge).passes [] }
     ensures { Judges R.gave R.failed (J.law judge) reader.old reader.new result }
 {
-    let counts = Counts {
-        events: 0,
-        requests: 0,
-        responses: 0,
-    };
-    let loads = Vec::new(alloc);
-    let mut lines = Lines {
-        judged: Judged {
-            judge,
-            counts,
-            loads,
-        },
-        pending: ArrayVec::new(),
-        count: 0,
-    };
+    let mut lines = Lines::new(alloc, judge);
     let mut buffer = vec![in alloc; 0u8; BUFFER_LEN]?;
     read_through(reader, &mut lines, &mut buffer)
 }

@@ -97,18 +97,25 @@ impl OpenLoad {
     }
 }
 
+// Whether a load has this number.
+fn is_of(load: &OpenLoad, number: u64) -> bool
+    ensures { result ≡ (load.now.number == number) }
+{
+    load.number == number
+}
+
 // The load that is open under a number.
 pub(crate) fn load_in(loads: &[OpenLoad], number: u64) -> Option<OpenLoad>
     ensures { result ≡ load_of loads.now number }
 {
-    loads.iter().copied().find(|load| load.number == number)
+    loads.iter().copied().find(|load| is_of(load, number))
 }
 
 // No load is open under a number from now on.
 fn close_load(loads: &mut Vec<OpenLoad>, number: u64)
     ensures { loads.new.items ≡ filter (λ l. not (l.number == number)) loads.old.items }
 {
-    loads.retain(|load| load.number != number);
+    loads.retain(|load| !is_of(load, number));
 }
 
 // What the operation of an event is.

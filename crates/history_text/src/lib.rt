@@ -11,6 +11,7 @@ mod fields;
 mod histories;
 mod judge;
 mod judged;
+mod laws;
 mod lines;
 mod reading;
 
@@ -21,4 +22,5 @@ pub use events::{OperationBytes, OwnedEvent};
 pub use histories::judge_history;
 pub use judge::{HistoryJudge, JudgeFault};
 pub use judged::{Counts, OpenLoad};
+pub use laws::judge_by_regular_law;
 pub use lines::read_history_line;

@@ -2,13 +2,15 @@
 
 ghost use Rattle.std.specs.Prelude.{◌≡◌, ◌≤◌, ◌<◌, ◌+◌, ℕ, List, [], ◌∷◌, ◌++◌, length, IfSome, IfNone, IfErr, OnOk};
 ghost use Rattle.trace_text.specs.declared.fault.TheConstants.{MAX_PAIR};
+ghost use Rattle.history_text.specs.Operations.{no_counts};
 ghost use Rattle.history_text.specs.Histories.{EndsIn, HasRead, bytes_left, EndsWith};
 
 use crate::answers::HistoryEnd;
 use crate::judge::HistoryJudge;
-use crate::judged::{Judged, Stop};
+use crate::judged::{Counts, Judged, Stop};
 use crate::lines::read_history_line;
 use arrayvec::ArrayVec;
+use std::alloc::Global;
 use trace_text::{LineFault, MAX_PAIR, TraceFault};
 
 // The lines so far, and the bytes of the one that hasn't ended.
@@ -20,6 +22,31 @@ pub(crate) struct Lines<J> {
 }
 
 impl<J: HistoryJudge> Lines<J> {
+    // No line yet, before a new judge.
+    pub(crate) fn new(alloc: Global, judge: J) -> Lines<J>
+        ensures judge { result.judged.judge ≡ judge }
+        ensures counts { result.judged.counts ≡ no_counts }
+        ensures loads { result.judged.loads.items ≡ [] }
+        ensures pending { result.pending.items ≡ [] }
+        ensures count { result.count ≡ 0 }
+    {
+        let counts = Counts {
+            events: 0,
+            requests: 0,
+            responses: 0,
+        };
+        let loads = Vec::new(alloc);
+        Lines {
+            judged: Judged {
+                judge,
+                counts,
+                loads,
+            },
+            pending: ArrayVec::new(),
+            count: 0,
+        }
+    }
+
     // Reads these bytes, up to the first line that ends the reading.
     pub(crate) fn read(&mut self, bytes: &[u8]) -> Result<(), Stop>
         requires { (start : J) × (before : List ℕ)
@@ -132,7 +159,9 @@ impl<J: HistoryJudge> Lines<J> {
     fn close(&mut self, number: u64)
         ensures pending { self.new.pending.items ≡ [] }
         ensures count { self.new.count ≡ number }
-        ensures judged { self.new.judged ≡ self.old.judged }
+        ensures judge { self.new.judged.judge ≡ self.old.judged.judge }
+        ensures counts { self.new.judged.counts ≡ self.old.judged.counts }
+        ensures loads { self.new.judged.loads.items ≡ self.old.judged.loads.items }
     {
         self.pending.clear();
         self.count = number;
