@@ -16,7 +16,7 @@ use Rattle.history_text.specs.declared.judged.Stop.{Stop}
 use Rattle.history_text.specs.declared.judged.Stop.TheVariants as stop
 
 module _ {R J : Type 0} (gave : R → List ℕ → R → Type 0) (failed : R → R → Type 0) {took : J → List HistoryEvent → J → Type 0} {law : J → Law} {start judge : J} {bytes pending : List ℕ} {counts : Counts} {loads : List OpenLoad} {count : ℕ} {r last : R} where
-  so_far : Moves (Came gave) r bytes last → (h : HasRead took law start bytes judge counts loads pending count) → ReadSoFar gave (law start) r last h.texts pending
+  abbrev so_far : Moves (Came gave) r bytes last → (h : HasRead took law start bytes judge counts loads pending count) → ReadSoFar gave (law start) r last h.texts pending
   so_far moves h = record { bytes = bytes; read = moves; text = h.text }
 
   pub told_failed : {r' : R} → Moves (Came gave) r bytes last → HasRead took law start bytes judge counts loads pending count → failed last r' → Judges gave failed (law start) r r' (Err fault.Read)
