@@ -5,7 +5,7 @@ use Rattle.memory_histories.specs.declared.events.HistoryEvent.{HistoryEvent}
 use Rattle.memory_histories.specs.declared.events.HistoryEvent.TheVariants.{LoadRequest, LoadResponse, StoreRequest, StoreResponse}
 use Rattle.history_text.specs.declared.judged.Counts.{Counts}
 use Rattle.history_text.specs.declared.judged.OpenLoad.{OpenLoad}
-use Rattle.history_text.specs.Operations.{no_counts, counted, counts_of, loads_then, open_loads}
+use Rattle.history_text.specs.Operations.{no_counts, counted, counts_of, loads_then}
 use Rattle.history_text.specs.Judged.{Stands}
 
 fold_more : {S A : Type 0} (f : S → A → S) (s : S) (xs : List A) (x : A) → fold f s (xs ++ x ∷ []) ≡ f (fold f s xs) x
@@ -32,8 +32,10 @@ pub few_counts : (events : List HistoryEvent) → Few (counts_of events) (length
 few_counts events = few_then no_counts 0 (length events) events (record { events = refl; requests = omega arith; responses = omega arith }) (omega arith)
 
 -- the judge took one event more, and it was noted
-pub stands_more : {J : Type 0} {took : J → List HistoryEvent → J → Type 0} {start judge after : J} {events : List HistoryEvent} {c d : Counts} {loads opened : List OpenLoad} (event : HistoryEvent)
-    → Stands took start events judge c loads → took start (events ++ event ∷ []) after → d ≡ counted c event → opened ≡ loads_then loads event
+pub stands_more : {J : Type 0} {took : J → List HistoryEvent → J → Type 0} {start judge after : J} {events : List HistoryEvent}
+    {c d : Counts} {loads opened : List OpenLoad} (event : HistoryEvent)
+    → Stands took start events judge c loads → took start (events ++ event ∷ []) after → d ≡ counted c event
+    → opened ≡ loads_then loads event
     → Stands took start (events ++ event ∷ []) after d opened
 stands_more {events = events} event s taken counts noted = record {
   taken = taken;

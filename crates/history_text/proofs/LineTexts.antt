@@ -36,7 +36,8 @@ none_more bytes b ne none k lt e = at_end bytes b k ne none (omega (arith, lt, l
 
 -- ---- faulty lines
 
-pub begins_said : (text : List ℕ) (f : LineFault) → length text ≤ MAX_PAIR → HasNoEnd text → IsSaid f → line_of text ≡ Err f → BeginsFaulty history_fault MAX_PAIR (text ++ 10 ∷ []) f
+pub begins_said : (text : List ℕ) (f : LineFault) → length text ≤ MAX_PAIR → HasNoEnd text → IsSaid f → line_of text ≡ Err f
+    → BeginsFaulty history_fault MAX_PAIR (text ++ 10 ∷ []) f
 begins_said text f short none said e = go f said (ap fault_of e)
   where
     go : (g : LineFault) → IsSaid g → history_fault text ≡ Some g → BeginsFaulty history_fault MAX_PAIR (text ++ 10 ∷ []) g
@@ -55,11 +56,13 @@ joined_more [] text = refl
 joined_more (t ∷ ts) text = ap (λ l. t ++ (10 ∷ l)) (joined_more ts text) ∙ sym (append_assoc t (10 ∷ joined_texts ts) (text ++ 10 ∷ []))
 
 -- more bytes behind the lines
-pub good_more : {f : List ℕ → Option LineFault} {most : ℕ} {bytes rest : List ℕ} {texts : List (List ℕ)} (more : List ℕ) → Good f most bytes texts rest → Good f most (bytes ++ more) texts (rest ++ more)
+pub good_more : {f : List ℕ → Option LineFault} {most : ℕ} {bytes rest : List ℕ} {texts : List (List ℕ)} (more : List ℕ)
+    → Good f most bytes texts rest → Good f most (bytes ++ more) texts (rest ++ more)
 good_more {rest = rest} {texts = texts} more p = record { each = p.each; split = ap (λ l. l ++ more) p.split ∙ append_assoc (joined_texts texts) rest more }
 
 -- the bytes behind the lines are a line that ends here
-pub good_line : {f : List ℕ → Option LineFault} {most : ℕ} {bytes text : List ℕ} {texts : List (List ℕ)} → Good f most bytes texts text → IsGood f most text → Good f most (bytes ++ 10 ∷ []) (texts ++ text ∷ []) []
+pub good_line : {f : List ℕ → Option LineFault} {most : ℕ} {bytes text : List ℕ} {texts : List (List ℕ)} → Good f most bytes texts text
+    → IsGood f most text → Good f most (bytes ++ 10 ∷ []) (texts ++ text ∷ []) []
 good_line {f = f} {most = most} {bytes = bytes} {text = text} {texts = texts} p good = record {
   each = all_then (IsGood f most) texts (text ∷ []) p.each (good, tt);
   split = (good_more (10 ∷ []) p).split ∙ sym (joined_more texts text) ∙ sym (append-nil (joined_texts (texts ++ text ∷ [])));
@@ -67,11 +70,13 @@ good_line {f = f} {most = most} {bytes = bytes} {text = text} {texts = texts} p 
 
 -- ---- bytes one by one
 
-one_more : (before bytes : List ℕ) (i b : ℕ) → i < length bytes → b ≡ get_or bytes i 0 → (before ++ take i bytes) ++ b ∷ [] ≡ before ++ take (i + 1) bytes
+one_more : (before bytes : List ℕ) (i b : ℕ) → i < length bytes → b ≡ get_or bytes i 0
+    → (before ++ take i bytes) ++ b ∷ [] ≡ before ++ take (i + 1) bytes
 one_more before bytes i b lt is =
     append_assoc before (take i bytes) (b ∷ []) ∙ ap (λ x. before ++ (take i bytes ++ x ∷ [])) is ∙ ap (λ l. before ++ l) (sym (take_more bytes i 0 lt))
 
-pub rest_behind : (before bytes : List ℕ) (i b : ℕ) → i < length bytes → b ≡ get_or bytes i 0 → ((before ++ take i bytes) ++ b ∷ []) ++ drop (i + 1) bytes ≡ before ++ bytes
+pub rest_behind : (before bytes : List ℕ) (i b : ℕ) → i < length bytes → b ≡ get_or bytes i 0
+    → ((before ++ take i bytes) ++ b ∷ []) ++ drop (i + 1) bytes ≡ before ++ bytes
 rest_behind before bytes i b lt is =
     ap (λ l. l ++ drop (i + 1) bytes) (one_more before bytes i b lt is) ∙ append_assoc before (take (i + 1) bytes) (drop (i + 1) bytes) ∙ ap (λ l. before ++ l) (take-append-drop (i + 1) bytes)
 

@@ -1,5 +1,5 @@
 -- What a byte makes of the lines that were read.
-use Rattle.std.proofs.Common.{◌≡◌, ◌≢◌, ℕ, ◌+◌, ◌^◌, ◌<◌, ◌≤◌, Option, Some, None, Result, Ok, Err, List, [], ◌∷◌, ◌++◌, length, length-append, append-nil, append_assoc, refl, sym, ◌∙◌, ap, subst, arith}
+use Rattle.std.proofs.Common.{◌≡◌, ◌≢◌, ℕ, ◌+◌, ◌^◌, ◌<◌, ◌≤◌, Some, None, Ok, Err, List, [], ◌∷◌, ◌++◌, length, length-append, append-nil, append_assoc, refl, sym, ◌∙◌, ap, subst, arith}
 use Rattle.memory_histories.specs.declared.events.HistoryEvent.{HistoryEvent}
 use Rattle.trace_text.specs.Reading.{IsGood, Good, fault_of}
 use Rattle.trace_text.specs.Lines.{IsSaid}
@@ -12,7 +12,7 @@ use Rattle.history_text.specs.Laws.{Law}
 use Rattle.history_text.specs.Refusals.{IsRefusal}
 use Rattle.history_text.specs.Operations.{no_counts}
 use Rattle.history_text.specs.Judged.{Stands, StepStops}
-use Rattle.history_text.specs.Histories.{most_lines, history_fault, events_in, events_of, IsHistory, IsEventLine, EndsAt, EndsIn, HasRead, bytes_left}
+use Rattle.history_text.specs.Histories.{most_lines, history_fault, events_in, events_of, IsEventLine, EndsAt, EndsIn, HasRead, bytes_left}
 use Rattle.history_text.specs.declared.judged.Counts.{Counts}
 use Rattle.history_text.specs.declared.judged.OpenLoad.{OpenLoad}
 use Rattle.history_text.specs.declared.judged.Stop.{Stop}
@@ -21,7 +21,8 @@ use Rattle.history_text.proofs.LineTexts.{none_yet, none_more, begins_said, begi
 
 -- ---- a byte that ends no line
 
-pub read_char : {J : Type 0} {took : J → List HistoryEvent → J → Type 0} {law : J → Law} {start judge : J} {bytes pending : List ℕ} {counts : Counts} {loads : List OpenLoad} {count : ℕ} (b : ℕ)
+pub read_char : {J : Type 0} {took : J → List HistoryEvent → J → Type 0} {law : J → Law} {start judge : J} {bytes pending : List ℕ}
+    {counts : Counts} {loads : List OpenLoad} {count : ℕ} (b : ℕ)
     → HasRead took law start bytes judge counts loads pending count → b ≢ 10 → length pending + 1 ≤ MAX_PAIR → count < most_lines
     → HasRead took law start (bytes ++ b ∷ []) judge counts loads (pending ++ b ∷ []) count
 read_char {pending = pending} b h ne short few = record {
@@ -39,9 +40,11 @@ read_char {pending = pending} b h ne short few = record {
 
 -- ---- a line that ends
 
-ended_line : {J : Type 0} {took : J → List HistoryEvent → J → Type 0} {law : J → Law} {start judge after : J} {bytes pending : List ℕ} {counts noted : Counts} {loads opened : List OpenLoad} {count next : ℕ}
+ended_line : {J : Type 0} {took : J → List HistoryEvent → J → Type 0} {law : J → Law} {start judge after : J} {bytes pending : List ℕ}
+    {counts noted : Counts} {loads opened : List OpenLoad} {count next : ℕ}
     (h : HasRead took law start bytes judge counts loads pending count) → history_fault pending ≡ None
-    → Stands took start (events_of h.texts ++ events_in (line_of pending)) after noted opened → (law start).passes (events_of h.texts ++ events_in (line_of pending)) → next ≡ count + 1
+    → Stands took start (events_of h.texts ++ events_in (line_of pending)) after noted opened
+    → (law start).passes (events_of h.texts ++ events_in (line_of pending)) → next ≡ count + 1
     → HasRead took law start (bytes ++ 10 ∷ []) after noted opened [] next
 ended_line {took = took} {law = law} {start = start} {after = after} {pending = pending} {noted = noted} {opened = opened} h good stands passes at =
     let events = events_more h.texts pending in
@@ -59,7 +62,8 @@ ended_line {took = took} {law = law} {start = start} {after = after} {pending = 
     }
 
 -- a line that is passed over
-pub read_passed : {J : Type 0} {took : J → List HistoryEvent → J → Type 0} {law : J → Law} {start judge : J} {bytes pending : List ℕ} {counts : Counts} {loads : List OpenLoad} {count next : ℕ}
+pub read_passed : {J : Type 0} {took : J → List HistoryEvent → J → Type 0} {law : J → Law} {start judge : J} {bytes pending : List ℕ}
+    {counts : Counts} {loads : List OpenLoad} {count next : ℕ}
     → HasRead took law start bytes judge counts loads pending count → line_of pending ≡ Ok None → next ≡ count + 1
     → HasRead took law start (bytes ++ 10 ∷ []) judge counts loads [] next
 read_passed {took = took} {law = law} {start = start} {judge = judge} {pending = pending} {counts = counts} {loads = loads} h said at =
@@ -67,17 +71,21 @@ read_passed {took = took} {law = law} {start = start} {judge = judge} {pending =
     ended_line h (ap fault_of said) (subst (λ es. Stands took start es judge counts loads) (sym same) h.stands) (subst (law start).passes (sym same) h.text.passes) at
 
 -- an event of the law
-pub read_event : {J : Type 0} {took : J → List HistoryEvent → J → Type 0} {law : J → Law} {start judge after : J} {bytes pending : List ℕ} {counts noted : Counts} {loads opened : List OpenLoad} {count next : ℕ}
+pub read_event : {J : Type 0} {took : J → List HistoryEvent → J → Type 0} {law : J → Law} {start judge after : J}
+    {bytes pending : List ℕ} {counts noted : Counts} {loads opened : List OpenLoad} {count next : ℕ}
     (event : HistoryEvent) (h : HasRead took law start bytes judge counts loads pending count) → line_of pending ≡ Ok (Some event)
-    → Stands took start (events_of h.texts ++ event ∷ []) after noted opened × (law start).passes (events_of h.texts ++ event ∷ []) → next ≡ count + 1
+    → Stands took start (events_of h.texts ++ event ∷ []) after noted opened × (law start).passes (events_of h.texts ++ event ∷ [])
+    → next ≡ count + 1
     → HasRead took law start (bytes ++ 10 ∷ []) after noted opened [] next
 read_event {took = took} {law = law} {start = start} {after = after} {pending = pending} {noted = noted} {opened = opened} event h said taken at =
     let same : events_of h.texts ++ events_in (line_of pending) ≡ events_of h.texts ++ event ∷ [] = ap (λ r. events_of h.texts ++ events_in r) said in
     ended_line h (ap fault_of said) (subst (λ es. Stands took start es after noted opened) (sym same) taken.0) (subst (law start).passes (sym same) taken.1) at
 
 -- the same, of what a call left
-pub closed : {J : Type 0} {took : J → List HistoryEvent → J → Type 0} {law : J → Law} {start judge after : J} {bytes pending left : List ℕ} {counts noted : Counts} {loads opened : List OpenLoad} {count next : ℕ}
-    → HasRead took law start bytes judge counts loads pending count → after ≡ judge → noted ≡ counts → opened ≡ loads → left ≡ pending → next ≡ count → HasRead took law start bytes after noted opened left next
+pub closed : {J : Type 0} {took : J → List HistoryEvent → J → Type 0} {law : J → Law} {start judge after : J}
+    {bytes pending left : List ℕ} {counts noted : Counts} {loads opened : List OpenLoad} {count next : ℕ}
+    → HasRead took law start bytes judge counts loads pending count → after ≡ judge → noted ≡ counts → opened ≡ loads → left ≡ pending
+    → next ≡ count → HasRead took law start bytes after noted opened left next
 closed {took = took} {law = law} {start = start} {judge = judge} {after = after} {bytes = bytes} {pending = pending} {left = left} {counts = counts} {noted = noted} {loads = loads} {opened = opened} {count = count} {next = next} h a b c d e =
     let one = subst (λ x. HasRead took law start bytes x counts loads pending count) (sym a) h in
     let two = subst (λ x. HasRead took law start bytes after x loads pending count) (sym b) one in
@@ -86,8 +94,10 @@ closed {took = took} {law = law} {start = start} {judge = judge} {after = after}
     subst (λ x. HasRead took law start bytes after noted opened left x) (sym e) four
 
 -- before the first line
-pub begins : {J : Type 0} {took : J → List HistoryEvent → J → Type 0} {law : J → Law} {start judge : J} {pending : List ℕ} {counts : Counts} {loads : List OpenLoad} {count : ℕ}
-    → took start [] start → (law start).passes [] → judge ≡ start → counts ≡ no_counts → loads ≡ [] → pending ≡ [] → count ≡ 0 → HasRead took law start [] judge counts loads pending count
+pub begins : {J : Type 0} {took : J → List HistoryEvent → J → Type 0} {law : J → Law} {start judge : J} {pending : List ℕ}
+    {counts : Counts} {loads : List OpenLoad} {count : ℕ}
+    → took start [] start → (law start).passes [] → judge ≡ start → counts ≡ no_counts → loads ≡ [] → pending ≡ [] → count ≡ 0
+    → HasRead took law start [] judge counts loads pending count
 begins {took = took} {law = law} {start = start} taken passes a b c d e =
     let none : HasRead took law start [] start no_counts [] [] 0 = record {
       texts = [];
@@ -100,7 +110,8 @@ begins {took = took} {law = law} {start = start} taken passes a b c d e =
 
 -- ---- where a reading ends
 
-ends_in : {J : Type 0} {took : J → List HistoryEvent → J → Type 0} {law : J → Law} {start judge : J} {bytes pending : List ℕ} {counts : Counts} {loads : List OpenLoad} {count : ℕ} (b : ℕ) (why : Stop)
+ends_in : {J : Type 0} {took : J → List HistoryEvent → J → Type 0} {law : J → Law} {start judge : J} {bytes pending : List ℕ}
+    {counts : Counts} {loads : List OpenLoad} {count : ℕ} (b : ℕ) (why : Stop)
     (h : HasRead took law start bytes judge counts loads pending count) → EndsAt (law start) h.texts (pending ++ b ∷ []) why → EndsIn (law start) (bytes ++ b ∷ []) why
 ends_in {bytes = bytes} {pending = pending} b why h ends = record {
   texts = h.texts;
@@ -122,26 +133,34 @@ ends_more {bytes = bytes} why more p = record {
   ends = p.ends;
 }
 
-pub ends_too_many : {J : Type 0} {took : J → List HistoryEvent → J → Type 0} {law : J → Law} {start judge : J} {bytes pending : List ℕ} {counts : Counts} {loads : List OpenLoad} {count : ℕ} (b : ℕ)
-    → HasRead took law start bytes judge counts loads pending count → count ≡ most_lines → EndsIn (law start) (bytes ++ b ∷ []) (stop.Fault fault.TooManyLines)
+pub ends_too_many : {J : Type 0} {took : J → List HistoryEvent → J → Type 0} {law : J → Law} {start judge : J} {bytes pending : List ℕ}
+    {counts : Counts} {loads : List OpenLoad} {count : ℕ} (b : ℕ)
+    → HasRead took law start bytes judge counts loads pending count → count ≡ most_lines
+    → EndsIn (law start) (bytes ++ b ∷ []) (stop.Fault fault.TooManyLines)
 ends_too_many {pending = pending} b h full = ends_in b (stop.Fault fault.TooManyLines) h (sym h.number ∙ full, omega (arith, length-append pending (b ∷ [])))
 
-pub ends_long : {J : Type 0} {took : J → List HistoryEvent → J → Type 0} {law : J → Law} {start judge : J} {bytes pending : List ℕ} {counts : Counts} {loads : List OpenLoad} {count : ℕ} (b number : ℕ)
-    → HasRead took law start bytes judge counts loads pending count → b ≢ 10 → length pending ≡ MAX_PAIR → number ≡ count + 1 → EndsIn (law start) (bytes ++ b ∷ []) (stop.Fault (fault.Line number TooLong))
+pub ends_long : {J : Type 0} {took : J → List HistoryEvent → J → Type 0} {law : J → Law} {start judge : J} {bytes pending : List ℕ}
+    {counts : Counts} {loads : List OpenLoad} {count : ℕ} (b number : ℕ)
+    → HasRead took law start bytes judge counts loads pending count → b ≢ 10 → length pending ≡ MAX_PAIR → number ≡ count + 1
+    → EndsIn (law start) (bytes ++ b ∷ []) (stop.Fault (fault.Line number TooLong))
 ends_long {pending = pending} b number h ne long at =
     let found : List ℕ = pending ++ b ∷ [] in
     ends_in b (stop.Fault (fault.Line number TooLong)) h
     (omega (arith, at, h.number), begins_long found (omega (arith, long, length-append pending (b ∷ []))) (none_more pending b ne h.text.unfinished))
 
-pub ends_faulty : {J : Type 0} {took : J → List HistoryEvent → J → Type 0} {law : J → Law} {start judge : J} {bytes pending : List ℕ} {counts : Counts} {loads : List OpenLoad} {count : ℕ} (number : ℕ) (f : LineFault)
-    → HasRead took law start bytes judge counts loads pending count → number ≡ count + 1 → IsSaid f → line_of pending ≡ Err f → EndsIn (law start) (bytes ++ 10 ∷ []) (stop.Fault (fault.Line number f))
+pub ends_faulty : {J : Type 0} {took : J → List HistoryEvent → J → Type 0} {law : J → Law} {start judge : J} {bytes pending : List ℕ}
+    {counts : Counts} {loads : List OpenLoad} {count : ℕ} (number : ℕ) (f : LineFault)
+    → HasRead took law start bytes judge counts loads pending count → number ≡ count + 1 → IsSaid f → line_of pending ≡ Err f
+    → EndsIn (law start) (bytes ++ 10 ∷ []) (stop.Fault (fault.Line number f))
 ends_faulty {pending = pending} number f h at is said =
     ends_in 10 (stop.Fault (fault.Line number f)) h (omega (arith, at, h.number), begins_said pending f h.text.short h.text.unfinished is said)
 
-event_line : (pending : List ℕ) (event : HistoryEvent) → IsGood history_fault MAX_PAIR pending → line_of pending ≡ Ok (Some event) → IsEventLine (pending ++ 10 ∷ []) event
+event_line : (pending : List ℕ) (event : HistoryEvent) → IsGood history_fault MAX_PAIR pending → line_of pending ≡ Ok (Some event)
+    → IsEventLine (pending ++ 10 ∷ []) event
 event_line pending event good said = record { text = pending; ended = refl; good = good; said = said }
 
-pub ends_step : {J : Type 0} {took : J → List HistoryEvent → J → Type 0} {law : J → Law} {start judge : J} {bytes pending : List ℕ} {counts : Counts} {loads : List OpenLoad} {count : ℕ} (event : HistoryEvent) (number : ℕ) (why : Stop)
+pub ends_step : {J : Type 0} {took : J → List HistoryEvent → J → Type 0} {law : J → Law} {start judge : J} {bytes pending : List ℕ}
+    {counts : Counts} {loads : List OpenLoad} {count : ℕ} (event : HistoryEvent) (number : ℕ) (why : Stop)
     (h : HasRead took law start bytes judge counts loads pending count) → line_of pending ≡ Ok (Some event) → number ≡ count + 1 → number < 2 ^ 64
     → StepStops (law start) (events_of h.texts) number event why → EndsIn (law start) (bytes ++ 10 ∷ []) why
 ends_step {law = law} {start = start} {pending = pending} event number (stop.Refused refusal) h said at fits ends =
@@ -160,9 +179,11 @@ ends_step event number (stop.Fault fault.Write) h said at fits ends = absurd end
 -- ---- what is left
 
 -- a line that ends leaves fewer bytes to be read
-pub left_less : (pending : List ℕ) (count number : ℕ) → length pending ≤ MAX_PAIR → number < 2 ^ 64 → number ≡ count + 1 → bytes_left number [] + 1 ≤ bytes_left count pending
+pub left_less : (pending : List ℕ) (count number : ℕ) → length pending ≤ MAX_PAIR → number < 2 ^ 64 → number ≡ count + 1
+    → bytes_left number [] + 1 ≤ bytes_left count pending
 left_less pending count number short fits at = omega (arith, short, fits, at)
 
 -- and so does a byte that ends none
-pub left_fewer : (pending : List ℕ) (count b : ℕ) → length pending + 1 ≤ MAX_PAIR → bytes_left count (pending ++ b ∷ []) + 1 ≤ bytes_left count pending
+pub left_fewer : (pending : List ℕ) (count b : ℕ) → length pending + 1 ≤ MAX_PAIR
+    → bytes_left count (pending ++ b ∷ []) + 1 ≤ bytes_left count pending
 left_fewer pending count b short = omega (arith, short, length-append pending (b ∷ []))

@@ -13,7 +13,7 @@ use Rattle.memory_histories.specs.Kept.{Kept, StandsFor}
 use Rattle.memory_histories.specs.Shown.{kept}
 use Rattle.history_text.specs.Lines.{plain}
 use Rattle.history_text.specs.Laws.{Law}
-use Rattle.history_text.specs.RegularLaw.{Leaves, regular_law, law_of, Took}
+use Rattle.history_text.specs.RegularLaw.{regular_law, law_of, Took}
 
 -- ---- an event, wherever its bytes lie
 
@@ -43,7 +43,8 @@ last_step : (w : Windows) (e : HistoryEvent) → fault w e ≡ None → regular_
 last_step w e none = ap (λ (o : Option HistoryFault). option_and_then (λ v. regular_run v []) (cond (is_none o) (Some (windows_after w e)) None)) none
 
 -- one event more
-run_more : (s : Windows) (es : List HistoryEvent) (e : HistoryEvent) (w : Windows) → regular_run s es ≡ Some w → fault w e ≡ None → regular_run s (es ++ e ∷ []) ≡ Some (windows_after w e)
+run_more : (s : Windows) (es : List HistoryEvent) (e : HistoryEvent) (w : Windows) → regular_run s es ≡ Some w → fault w e ≡ None
+    → regular_run s (es ++ e ∷ []) ≡ Some (windows_after w e)
 run_more s [] e w run none = let same : s ≡ w = cc in subst (λ x. regular_run x (e ∷ []) ≡ Some (windows_after w e)) (sym same) (last_step w e none)
 run_more s (x ∷ xs) e w run none =
     let t = through (regular_step s x) (λ v. regular_run v xs) w run in
@@ -79,7 +80,8 @@ pub refused : (m n : RegularMemory) (events : List HistoryEvent) (event : Histor
 refused m n events event cause (w, run, stands) here = (w, run, plain_fault w event ∙ here w stands)
 
 pub too_long : (m n : RegularMemory) (events : List HistoryEvent) (event : HistoryEvent) → Took m events n
-    → ((w : Windows) → StandsFor (kept n) w → (fault w event ≡ None) × (w.moment ≡ 18446744073709551615)) → length events ≡ 18446744073709551615
+    → ((w : Windows) → StandsFor (kept n) w → (fault w event ≡ None) × (w.moment ≡ 18446744073709551615))
+    → length events ≡ 18446744073709551615
 too_long m n events event (w, run, stands) here =
     let at = moment_is (opening (kept m).image (kept m).rest) events w run in
     omega (arith, at, (here w stands).1)
@@ -87,12 +89,14 @@ too_long m n events event (w, run, stands) here =
 -- ---- a new judge
 
 -- it took no event, and its law is that of its image
-pub began : (m : RegularMemory) (image : List ℕ) (rest : Rest) → StandsFor (kept m) (opening image rest) → Took m [] m × (law_of m).passes []
+pub began : (m : RegularMemory) (image : List ℕ) (rest : Rest) → StandsFor (kept m) (opening image rest)
+    → Took m [] m × (law_of m).passes []
 began m image rest stands =
     let here = opening (kept m).image (kept m).rest in
     let same : opening image rest ≡ here = ap (λ i. opening i rest) (sym stands.same_image) ∙ ap (opening (kept m).image) (sym stands.same_rest) in
     ((here, refl, subst (StandsFor (kept m)) same stands), (here, refl))
 
 -- what holds of its law holds of the regular law of its image
-pub by_image : (P : Law → Type 0) (m : RegularMemory) (image : List ℕ) (rest : Rest) → StandsFor (kept m) (opening image rest) → P (law_of m) → P (regular_law image rest)
+pub by_image : (P : Law → Type 0) (m : RegularMemory) (image : List ℕ) (rest : Rest) → StandsFor (kept m) (opening image rest)
+    → P (law_of m) → P (regular_law image rest)
 by_image P m image rest stands p = subst (λ r. P (regular_law image r)) stands.same_rest (subst (λ i. P (regular_law i (kept m).rest)) stands.same_image p)

@@ -1,6 +1,6 @@
 -- The fields of a line of a history: numbers, bytes and enables.
 use Rattle.std.specs.Prelude.{ℕ, ◌+◌, ◌*◌, ◌^◌, ◌==◌, ◌&&◌, if◌then◌else◌, Option, Some, None, List, [], ◌∷◌, length, nat_le, nat_lt}
-use Rattle.std.specs.Option.{option_map, option_and_then}
+use Rattle.std.specs.Option.{option_and_then}
 use Rattle.trace_text.specs.Fields.{number_of, nibble_of, bit_of, byte_of}
 
 -- ---- numbers

@@ -33,7 +33,10 @@ pub enum OperationKind {
 #[derive(Clone, Copy, PartialEq, Eq, Debug)]
 pub enum RefusalCause {
     /// The operation has no byte or more than 64, or runs beyond the last address.
-    OutOfRange { address: u64, length: u64 },
+    OutOfRange {
+        address: u64,
+        length: u64,
+    },
     /// No byte of the store is enabled.
     NoByteEnabled,
     /// An operation of this kind is open under the number.
@@ -41,7 +44,10 @@ pub enum RefusalCause {
     /// No operation of this kind is open under the number.
     NotOpen,
     /// The load was requested with another length.
-    WrongLength { requested: u64, returned: u64 },
+    WrongLength {
+        requested: u64,
+        returned: u64,
+    },
     /// The byte at this address is the first that the load may not return, and these are those that it
     /// may.
     WrongByte {
@@ -100,11 +106,7 @@ impl HistoryVerdict {
     {
         match self.end {
             HistoryEnd::OfLaw { events: _, open } => {
-                if all_answered && 0 < open {
-                    1
-                } else {
-                    0
-                }
+                if all_answered && 0 < open { 1 } else { 0 }
             }
             HistoryEnd::Refused(_) => 1,
             HistoryEnd::Undecided { .. } => 6,
@@ -233,7 +235,10 @@ impl fmt::Display for RefusalCause {
         match *self {
             RefusalCause::OutOfRange { address, length } => {
                 let address = Address(address);
-                write!(f, "has {length} bytes at {address}: it must have 1 to 64, all below 2^64")
+                write!(
+                    f,
+                    "has {length} bytes at {address}: it must have 1 to 64, all below 2^64"
+                )
             }
             RefusalCause::NoByteEnabled => f.write_str("has no byte enabled"),
             RefusalCause::NumberInUse => f.write_str("is open already"),
@@ -250,7 +255,10 @@ impl fmt::Display for RefusalCause {
                 let returned = TwoDigits(returned);
                 let address = Address(address);
                 let allowed = OneOf(allowed);
-                write!(f, "returned {returned} at {address}, which may be {allowed}")
+                write!(
+                    f,
+                    "returned {returned} at {address}, which may be {allowed}"
+                )
             }
         }
     }

@@ -19,7 +19,10 @@ pub enum OwnedEvent {
         length: u64,
     },
     /// The load is answered with these bytes.
-    LoadResponse { number: u64, bytes: OperationBytes },
+    LoadResponse {
+        number: u64,
+        bytes: OperationBytes,
+    },
     /// A store is requested: of these bytes from `address` on, those whose enable is set. Bit `k` of
     /// `enables` is the enable of byte `k`.
     StoreRequest {
@@ -29,7 +32,9 @@ pub enum OwnedEvent {
         enables: u64,
     },
     /// The store is answered.
-    StoreResponse { number: u64 },
+    StoreResponse {
+        number: u64,
+    },
 }
 
 impl OwnedEvent {

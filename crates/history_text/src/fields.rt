@@ -5,8 +5,8 @@ ghost use Rattle.trace_text.specs.Fields.{begins_badly as starts_badly, number_o
 ghost use Rattle.history_text.specs.Fields.{most_number, with_digit as digit_more, hex_of, value_of, bytes_in, bytes_of, enables_in, enables_of};
 
 use crate::events::OperationBytes;
-use trace_text::nibble;
 use arrayvec::ArrayVec;
+use trace_text::nibble;
 
 /// The largest number that one hexadecimal digit more keeps below 2^64.
 const MOST_BEFORE_DIGIT: u64 = 1_152_921_504_606_846_975;

@@ -8,9 +8,9 @@ ghost use Rattle.history_text.specs.Operations.{with_request, with_response, ope
 ghost use Rattle.history_text.specs.Refusals.{kind_of as kind_seen, number_of as number_seen, request_cause as cause_of_request, wrong_byte as cause_of_byte, IsAnswerCause, IsResponseCause, IsCause, IsRefusal};
 ghost use Rattle.history_text.specs.Judged.{Stands, StepStops};
 
-use crate::judge::{HistoryJudge, JudgeFault};
 use crate::answers::{HistoryEnd, OperationKind, Refusal, RefusalCause};
 use crate::events::OwnedEvent;
+use crate::judge::{HistoryJudge, JudgeFault};
 use memory_histories::{ByteSet, HistoryFault};
 use std::alloc::AllocError;
 use trace_text::TraceFault;

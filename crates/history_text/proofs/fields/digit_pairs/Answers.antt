@@ -1,4 +1,4 @@
-use Rattle.std.proofs.Common.{◌≡◌, ◌∷◌, [], ◌++◌, length, length-append, sym, ◌∙◌, ap, arith}
+use Rattle.std.proofs.Common.{◌∷◌, [], length, length-append, sym, ◌∙◌, ap, arith}
 use Rattle.history_text.proofs.Pairs.{pair_more}
 use Rattle.history_text.proofs.fields.digit_pairs.Goals as goal
 
@@ -10,6 +10,6 @@ pairs-preserved c =
     let pushed = ap length c.push.ensures.items in
     record {
       whole = pair_more c.args.text.now bytes c.push.new.self.items c.pairs.rest.now c.in-Some.behind.now c.in-Some.high c.in-Some.low b
-      c.pairs.invariant.whole c.in-Some.ensures.some (sym c.byte.ensures ∙ c.in_ok-byte.was) c.push.ensures.items;
+          c.pairs.invariant.whole c.in-Some.ensures.some (sym c.byte.ensures ∙ c.in_ok-byte.was) c.push.ensures.items;
       room = omega (arith, pair, pushed, length-append bytes (b ∷ []), c.pairs.invariant.room);
     }

@@ -1,6 +1,5 @@
 use Rattle.std.proofs.Common.{◌≡◌, ◌+◌, ◌*◌, ◌≤◌, ◌++◌, length}
 use Rattle.std.specs.Option.{option_map}
-use Rattle.arrayvec.specs.ArrayVec.{array_vec_len}
 use Rattle.history_text.specs.Fields.{bytes_in}
 use Rattle.history_text.proofs.fields.digit_pairs.Given as goal
 

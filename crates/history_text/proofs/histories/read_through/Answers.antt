@@ -1,4 +1,4 @@
-use Rattle.std.proofs.Common.{◌<◌, [], ◌++◌, length, take, length-take, ap, subst, arith}
+use Rattle.std.proofs.Common.{◌<◌, ◌++◌, length, take, length-take, ap, subst, arith}
 use Rattle.trace_text.proofs.Serving.{moved_more}
 use Rattle.history_text.proofs.Endings.{told_failed, told_end, told_in}
 use Rattle.history_text.proofs.histories.read_through.Goals as goal

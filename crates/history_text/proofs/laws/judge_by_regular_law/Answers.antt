@@ -1,4 +1,3 @@
-use Rattle.history_text.specs.Laws.{Law}
 use Rattle.history_text.specs.Histories.{Judges}
 use Rattle.history_text.proofs.Runs.{began, by_image}
 use Rattle.history_text.proofs.laws.judge_by_regular_law.Goals as goal

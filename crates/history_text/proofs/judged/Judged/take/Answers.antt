@@ -1,4 +1,4 @@
-use Rattle.std.proofs.Common.{◌≡◌, ap, arith}
+use Rattle.std.proofs.Common.{ap, arith}
 use Rattle.history_text.specs.declared.judged.Counts.{Counts}
 use Rattle.history_text.proofs.Counting.{few_counts}
 use Rattle.history_text.proofs.judged.Judged.take.Goals as goal

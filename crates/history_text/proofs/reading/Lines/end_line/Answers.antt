@@ -1,8 +1,7 @@
-use Rattle.std.proofs.Common.{◌≡◌, ◌+◌, ◌<◌, ℕ, Option, None, Some, Result, Ok, Err, IfErr, IsErrAnd, List, [], ◌∷◌, ◌++◌, length, sym, ◌∙◌, ap, subst, arith}
+use Rattle.std.proofs.Common.{◌≡◌, ◌+◌, ◌<◌, ℕ, Option, Result, Ok, Err, IfErr, IsErrAnd, List, [], ◌∷◌, ◌++◌, length, sym, ◌∙◌, ap, subst, arith}
 use Rattle.history_text.specs.Lines.{line_of, seen, seen_in}
 use Rattle.history_text.specs.Histories.{events_of, EndsIn, HasRead}
 use Rattle.history_text.specs.declared.events.OwnedEvent.{OwnedEvent}
-use Rattle.history_text.specs.declared.judged.Stop.{Stop}
 use Rattle.history_text.proofs.LineTexts.{events_few}
 use Rattle.history_text.proofs.LinesRead.{closed, read_passed, read_event, ends_faulty, ends_step}
 use Rattle.history_text.proofs.reading.Lines.end_line.Goals as goal
