@@ -1,0 +1,44 @@
+-- What one event more adds up to.
+use Rattle.std.proofs.Common.{◌≡◌, ℕ, ◌+◌, ◌≤◌, List, [], ◌∷◌, ◌++◌, length, refl, sym, ◌∙◌, ap, arith}
+use Rattle.std.specs.List.{fold}
+use Rattle.memory_histories.specs.declared.events.HistoryEvent.{HistoryEvent}
+use Rattle.memory_histories.specs.declared.events.HistoryEvent.TheVariants.{LoadRequest, LoadResponse, StoreRequest, StoreResponse}
+use Rattle.history_text.specs.declared.judged.Counts.{Counts}
+use Rattle.history_text.specs.declared.judged.OpenLoad.{OpenLoad}
+use Rattle.history_text.specs.Operations.{no_counts, counted, counts_of, loads_then}
+use Rattle.history_text.specs.Judged.{Stands}
+
+fold_more : {S A : Type 0} (f : S → A → S) (s : S) (xs : List A) (x : A) → fold f s (xs ++ x ∷ []) ≡ f (fold f s xs) x
+fold_more f s [] x = refl
+fold_more f s (y ∷ ys) x = fold_more f (f s y) ys x
+
+-- no count is larger than the number of events
+pub record Few (c : Counts) (n : ℕ) : Type 0 where
+  pub events : c.events ≡ n
+  pub requests : c.requests ≤ n
+  pub responses : c.responses ≤ n
+
+few_more : (c : Counts) (n : ℕ) (e : HistoryEvent) → Few c n → Few (counted c e) (n + 1)
+few_more c n (LoadRequest number address k) f = record { events = omega (arith, f.events); requests = omega (arith, f.requests); responses = omega (arith, f.responses) }
+few_more c n (LoadResponse number bytes) f = record { events = omega (arith, f.events); requests = omega (arith, f.requests); responses = omega (arith, f.responses) }
+few_more c n (StoreRequest number address bytes enables) f = record { events = omega (arith, f.events); requests = omega (arith, f.requests); responses = omega (arith, f.responses) }
+few_more c n (StoreResponse number) f = record { events = omega (arith, f.events); requests = omega (arith, f.requests); responses = omega (arith, f.responses) }
+
+few_then : (c : Counts) (n m : ℕ) (es : List HistoryEvent) → Few c n → m ≡ n + length es → Few (fold counted c es) m
+few_then c n m [] f e = record { events = omega (arith, f.events); requests = omega (arith, f.requests); responses = omega (arith, f.responses) }
+few_then c n m (x ∷ xs) f e = few_then (counted c x) (n + 1) m xs (few_more c n x f) (omega arith)
+
+pub few_counts : (events : List HistoryEvent) → Few (counts_of events) (length events)
+few_counts events = few_then no_counts 0 (length events) events (record { events = refl; requests = omega arith; responses = omega arith }) (omega arith)
+
+-- the judge took one event more, and it was noted
+pub stands_more : {J : Type 0} {took : J → List HistoryEvent → J → Type 0} {start judge after : J} {events : List HistoryEvent}
+    {c d : Counts} {loads opened : List OpenLoad} (event : HistoryEvent)
+    → Stands took start events judge c loads → took start (events ++ event ∷ []) after → d ≡ counted c event
+    → opened ≡ loads_then loads event
+    → Stands took start (events ++ event ∷ []) after d opened
+stands_more {events = events} event s taken counts noted = record {
+  taken = taken;
+  count = counts ∙ ap (λ (x : Counts). counted x event) s.count ∙ sym (fold_more counted no_counts events event);
+  loads_open = noted ∙ ap (λ l. loads_then l event) s.loads_open ∙ sym (fold_more loads_then [] events event);
+}

@@ -1,0 +1,102 @@
+-- A judge of the regular law keeps to it.
+use Rattle.std.proofs.Common.{◌≡◌, ℕ, ◌+◌, Bool, true, false, cond, Option, Some, None, List, [], ◌∷◌, ◌++◌, length, refl, sym, ◌∙◌, ap, subst, arith}
+use Rattle.std.specs.Prelude.{is_none}
+use Rattle.std.specs.Option.{option_and_then}
+use Rattle.memory_histories.specs.declared.events.HistoryEvent.{HistoryEvent}
+use Rattle.memory_histories.specs.declared.events.HistoryEvent.TheVariants.{LoadRequest, LoadResponse, StoreRequest, StoreResponse}
+use Rattle.memory_histories.specs.declared.events.HistoryFault.{HistoryFault}
+use Rattle.memory_histories.specs.declared.events.Rest.{Rest}
+use Rattle.memory_histories.specs.declared.regular.RegularMemory.{RegularMemory}
+use Rattle.memory_histories.specs.Windows.{Windows, opening, windows_after}
+use Rattle.memory_histories.specs.Regular.{fault, regular_step, regular_run}
+use Rattle.memory_histories.specs.Kept.{Kept, StandsFor}
+use Rattle.memory_histories.specs.Shown.{kept}
+use Rattle.history_text.specs.Lines.{plain}
+use Rattle.history_text.specs.Laws.{Law}
+use Rattle.history_text.specs.RegularLaw.{regular_law, law_of, Took}
+
+-- ---- an event, wherever its bytes lie
+
+plain_fault : (w : Windows) (e : HistoryEvent) → fault w (plain e) ≡ fault w e
+plain_fault w (LoadRequest number address n) = refl
+plain_fault w (LoadResponse number bytes) = refl
+plain_fault w (StoreRequest number address bytes enables) = refl
+plain_fault w (StoreResponse number) = refl
+
+plain_after : (w : Windows) (e : HistoryEvent) → windows_after w (plain e) ≡ windows_after w e
+plain_after w (LoadRequest number address n) = refl
+plain_after w (LoadResponse number bytes) = refl
+plain_after w (StoreRequest number address bytes enables) = refl
+plain_after w (StoreResponse number) = refl
+
+-- ---- runs
+
+through : {A B : Type 0} (o : Option A) (f : A → Option B) (b : B) → option_and_then f o ≡ Some b → (a : A) × (o ≡ Some a) × (f a ≡ Some b)
+through None f b e = cc
+through (Some a) f b e = (a, refl, e)
+
+stepped : (t : Bool) (v w : Windows) → cond t (Some v) None ≡ Some w → w ≡ v
+stepped true v w e = cc
+stepped false v w e = cc
+
+last_step : (w : Windows) (e : HistoryEvent) → fault w e ≡ None → regular_run w (e ∷ []) ≡ Some (windows_after w e)
+last_step w e none = ap (λ (o : Option HistoryFault). option_and_then (λ v. regular_run v []) (cond (is_none o) (Some (windows_after w e)) None)) none
+
+-- one event more
+run_more : (s : Windows) (es : List HistoryEvent) (e : HistoryEvent) (w : Windows) → regular_run s es ≡ Some w → fault w e ≡ None
+    → regular_run s (es ++ e ∷ []) ≡ Some (windows_after w e)
+run_more s [] e w run none = let same : s ≡ w = cc in subst (λ x. regular_run x (e ∷ []) ≡ Some (windows_after w e)) (sym same) (last_step w e none)
+run_more s (x ∷ xs) e w run none =
+    let t = through (regular_step s x) (λ v. regular_run v xs) w run in
+    ap (option_and_then (λ v. regular_run v (xs ++ e ∷ []))) t.1 ∙ run_more t.0 xs e w t.2 none
+
+-- a moment is a number of events
+moment_is : (s : Windows) (es : List HistoryEvent) (w : Windows) → regular_run s es ≡ Some w → w.moment ≡ s.moment + length es
+moment_is s [] w run = let same : s ≡ w = cc in sym (ap (λ (x : Windows). x.moment) same) ∙ omega arith
+moment_is s (x ∷ xs) w run =
+    let t = through (regular_step s x) (λ v. regular_run v xs) w run in
+    let first : t.0 ≡ windows_after s x = stepped (is_none (fault s x)) (windows_after s x) t.0 t.1 in
+    let rest = moment_is t.0 xs w t.2 in
+    let at : t.0.moment ≡ s.moment + 1 = ap (λ (v : Windows). v.moment) first in
+    omega (arith, rest, at)
+
+-- ---- the judge
+
+-- it took one event more
+pub took_more : (m n after : RegularMemory) (events : List HistoryEvent) (event : HistoryEvent) → Took m events n
+    → ((w : Windows) → StandsFor (kept n) w → (fault w event ≡ None) × StandsFor (kept after) (windows_after w event))
+    → Took m (events ++ plain event ∷ []) after × (law_of m).passes (events ++ plain event ∷ [])
+took_more m n after events event (w, run, stands) step =
+    let s = step w stands in
+    let more = run_more (opening (kept m).image (kept m).rest) events (plain event) w run (plain_fault w event ∙ s.0) in
+    let same = plain_after w event in
+    ((windows_after w (plain event), more, subst (StandsFor (kept after)) (sym same) s.1), (windows_after w (plain event), more))
+
+pub took_still : (m n after : RegularMemory) (events : List HistoryEvent) → Took m events n → kept after ≡ kept n → Took m events after
+took_still m n after events (w, run, stands) same = (w, run, subst (λ (k : Kept). StandsFor k w) (sym same) stands)
+
+pub refused : (m n : RegularMemory) (events : List HistoryEvent) (event : HistoryEvent) (cause : HistoryFault) → Took m events n
+    → ((w : Windows) → StandsFor (kept n) w → fault w event ≡ Some cause) → (law_of m).refuses events (plain event) cause
+refused m n events event cause (w, run, stands) here = (w, run, plain_fault w event ∙ here w stands)
+
+pub too_long : (m n : RegularMemory) (events : List HistoryEvent) (event : HistoryEvent) → Took m events n
+    → ((w : Windows) → StandsFor (kept n) w → (fault w event ≡ None) × (w.moment ≡ 18446744073709551615))
+    → length events ≡ 18446744073709551615
+too_long m n events event (w, run, stands) here =
+    let at = moment_is (opening (kept m).image (kept m).rest) events w run in
+    omega (arith, at, (here w stands).1)
+
+-- ---- a new judge
+
+-- it took no event, and its law is that of its image
+pub began : (m : RegularMemory) (image : List ℕ) (rest : Rest) → StandsFor (kept m) (opening image rest)
+    → Took m [] m × (law_of m).passes []
+began m image rest stands =
+    let here = opening (kept m).image (kept m).rest in
+    let same : opening image rest ≡ here = ap (λ i. opening i rest) (sym stands.same_image) ∙ ap (opening (kept m).image) (sym stands.same_rest) in
+    ((here, refl, subst (StandsFor (kept m)) same stands), (here, refl))
+
+-- what holds of its law holds of the regular law of its image
+pub by_image : (P : Law → Type 0) (m : RegularMemory) (image : List ℕ) (rest : Rest) → StandsFor (kept m) (opening image rest)
+    → P (law_of m) → P (regular_law image rest)
+by_image P m image rest stands p = subst (λ r. P (regular_law image r)) stands.same_rest (subst (λ i. P (regular_law i (kept m).rest)) stands.same_image p)

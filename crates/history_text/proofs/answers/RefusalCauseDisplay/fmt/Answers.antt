@@ -1,0 +1,19 @@
+use Rattle.std.proofs.Common.{ℕ, List, ap, sym, subst}
+use Rattle.std.specs.Fmt.{HasWritten}
+use Rattle.history_text.specs.Answers.{cause_text}
+use Rattle.history_text.proofs.answers.RefusalCauseDisplay.fmt.Goals as goal
+
+pub returns-in-OutOfRange-clause-writes : goal.returns-in-OutOfRange-clause-writes
+returns-in-OutOfRange-clause-writes g c =
+    let P : List ℕ → Type 0 = λ bs. HasWritten {W = g.row.W.Denot} g.W.Write.write_str_gives c.args.f.now bs c.write.new.self in
+    λ plain ok. subst P (ap cause_text (sym c.in-OutOfRange.is)) (c.write.ensures.writes plain ok)
+
+pub returns-in-WrongLength-clause-writes : goal.returns-in-WrongLength-clause-writes
+returns-in-WrongLength-clause-writes g c =
+    let P : List ℕ → Type 0 = λ bs. HasWritten {W = g.row.W.Denot} g.W.Write.write_str_gives c.args.f.now bs c.write-in-WrongLength.new.self in
+    λ plain ok. subst P (ap cause_text (sym c.in-WrongLength.is)) (c.write-in-WrongLength.ensures.writes plain ok)
+
+pub returns-in-WrongByte-clause-writes : goal.returns-in-WrongByte-clause-writes
+returns-in-WrongByte-clause-writes g c =
+    let P : List ℕ → Type 0 = λ bs. HasWritten {W = g.row.W.Denot} g.W.Write.write_str_gives c.args.f.now bs c.write-in-WrongByte.new.self in
+    λ plain ok. subst P (ap cause_text (sym c.in-WrongByte.is)) (c.write-in-WrongByte.ensures.writes plain ok)

@@ -1,0 +1,15 @@
+use Rattle.std.proofs.Common.{subst}
+use Rattle.memory_histories.specs.declared.events.StepFault.{StepFault}
+use Rattle.memory_histories.specs.Windows.{Windows}
+use Rattle.memory_histories.specs.Kept.{StandsFor}
+use Rattle.memory_histories.specs.Shown.{kept, StepFaultIs}
+use Rattle.history_text.proofs.Runs.{took_more, too_long}
+use Rattle.history_text.proofs.judge.RegularMemoryHistoryJudge.judge.Goals as goal
+
+pub returns-in-Ok-clause-ok : goal.returns-in-Ok-clause-ok
+returns-in-Ok-clause-ok c start events took = took_more start c.args.self.now c.step.new.self events c.args.event took c.in-Ok.ensures.ok
+
+pub returns-in-Err-TooLong-clause-fault : goal.returns-in-Err-TooLong-clause-fault
+returns-in-Err-TooLong-clause-fault c start events took =
+    let Says : StepFault → Type 0 = λ f. (w : Windows) → StandsFor (kept c.args.self.now) w → StepFaultIs w c.args.event f in
+    too_long start c.args.self.now events c.args.event took (subst Says c.in-Err-TooLong.field-0-is c.in-Err-TooLong.ensures.fault)

@@ -1,0 +1,76 @@
+-- The texts of a judge's answers.
+use Rattle.std.specs.Prelude.{ℕ, ◌==◌, Bool, false, ◌&&◌, if◌then◌else◌, List, [], ◌∷◌, ◌++◌, codes, decimal, nat_lt}
+use Rattle.std.specs.List.{filter, flat_map, range_with_len}
+use Rattle.std.specs.Fmt.{digits}
+use Rattle.memory_histories.specs.declared.sets.ByteSet.{ByteSet}
+use Rattle.memory_histories.specs.Sets.{has}
+use Rattle.trace_text.specs.Fields.{byte_text}
+use Rattle.history_text.specs.declared.answers.LawName.{LawName}
+use Rattle.history_text.specs.declared.answers.LawName.TheVariants.{Flat, Atomic, Regular}
+use Rattle.history_text.specs.declared.answers.OperationKind.{OperationKind}
+use Rattle.history_text.specs.declared.answers.OperationKind.TheVariants.{Load, Store}
+use Rattle.history_text.specs.declared.answers.RefusalCause.{RefusalCause}
+use Rattle.history_text.specs.declared.answers.RefusalCause.TheVariants.{OutOfRange, NoByteEnabled, NumberInUse, NotOpen, WrongLength, WrongByte}
+use Rattle.history_text.specs.declared.answers.Refusal.{Refusal}
+use Rattle.history_text.specs.declared.answers.HistoryEnd.{HistoryEnd}
+use Rattle.history_text.specs.declared.answers.HistoryEnd.TheVariants.{OfLaw, Refused, Undecided}
+use Rattle.history_text.specs.declared.answers.HistoryVerdict.{HistoryVerdict}
+
+-- ---- sets of bytes
+
+-- the bytes of a set, in their order
+unfoldable pub bytes_in_set : ByteSet → List ℕ
+bytes_in_set set = filter (has set) (range_with_len 0 256)
+
+-- bytes in two digits each, with this between them
+abbrev pub joined_bytes : List ℕ → List ℕ → List ℕ
+joined_bytes between [] = []
+joined_bytes between (b ∷ bs) = byte_text b ++ flat_map (λ c. between ++ byte_text c) bs
+
+-- ---- answers
+
+abbrev pub law_text : LawName → List ℕ
+law_text Flat = codes "flat"
+law_text Atomic = codes "atomic"
+law_text Regular = codes "regular"
+
+abbrev pub kind_text : OperationKind → List ℕ
+kind_text Load = codes "load"
+kind_text Store = codes "store"
+
+abbrev pub address_text : ℕ → List ℕ
+address_text a = codes "0x" ++ digits 16 false a
+
+-- why an operation is none of the law
+abbrev pub cause_text : RefusalCause → List ℕ
+cause_text (OutOfRange address n) = codes "has " ++ (decimal n ++ (codes " bytes at " ++ (address_text address ++ codes ": it must have 1 to 64, all below 2^64")))
+cause_text NoByteEnabled = codes "has no byte enabled"
+cause_text NumberInUse = codes "is open already"
+cause_text NotOpen = codes "isn't open"
+cause_text (WrongLength requested returned) = codes "returned " ++ (decimal returned ++ (codes " bytes, of " ++ (decimal requested ++ codes " requested")))
+cause_text (WrongByte address returned allowed) =
+    codes "returned " ++ (byte_text returned ++ (codes " at " ++ (address_text address ++ (codes ", which may be " ++ joined_bytes (codes " or ") (bytes_in_set allowed)))))
+
+abbrev pub refusal_text : Refusal → List ℕ
+refusal_text r = codes "line " ++ (decimal r.line ++ (codes ": " ++ (kind_text r.kind ++ (codes " " ++ (decimal r.number ++ (codes " " ++ cause_text r.cause))))))
+
+-- how many operations are open, if some are
+abbrev pub open_text : ℕ → List ℕ
+open_text count = if count == 0 then [] else codes ", " ++ (decimal count ++ codes " operations open")
+
+abbrev pub end_text : LawName → HistoryEnd → List ℕ
+end_text law (OfLaw events open_count) = codes "history of " ++ (decimal events ++ (codes " events is " ++ (law_text law ++ open_text open_count)))
+end_text law (Refused refusal) = refusal_text refusal
+end_text law (Undecided line) = codes "line " ++ decimal line ++ codes ": undecided: there are too many orders in which the open operations may have taken effect"
+
+abbrev pub verdict_text : HistoryVerdict → List ℕ
+verdict_text v = end_text v.law v.end
+
+-- ---- statuses
+
+-- the status with which a program ends that tells it: 0 for a history of the law, 1 if it is none, or if all operations must
+-- be answered and some are open, 6 if it isn't known
+abbrev pub verdict_status : Bool → HistoryEnd → ℕ
+verdict_status all_answered (OfLaw events open_count) = if all_answered && nat_lt 0 open_count then 1 else 0
+verdict_status all_answered (Refused refusal) = 1
+verdict_status all_answered (Undecided line) = 6

@@ -1,0 +1,24 @@
+-- What a judge of histories says.
+use Rattle.std.specs.Prelude.{◌≡◌, ℕ, Option, List, length}
+use Rattle.memory_histories.specs.declared.events.HistoryEvent.{HistoryEvent}
+use Rattle.memory_histories.specs.declared.events.HistoryFault.{HistoryFault}
+use Rattle.memory_histories.specs.declared.sets.ByteSet.{ByteSet}
+use Rattle.history_text.specs.declared.judge.JudgeFault.{JudgeFault}
+use Rattle.history_text.specs.declared.judge.JudgeFault.TheVariants.{Refused, Undecided, TooLong, OutOfMemory}
+
+-- a law of histories
+pub record Law : Type 1 where
+  -- a history is one of the law
+  pub passes : List HistoryEvent → Type 0
+  -- behind such a history, an event makes it none of the law, for this fault
+  pub refuses : List HistoryEvent → HistoryEvent → HistoryFault → Type 0
+  -- behind such a history, the set is what the open load of a number may return for the byte at an address, if it is answered
+  -- now; there is none if no such load asks for the byte
+  pub allows : List HistoryEvent → ℕ → ℕ → Option ByteSet → Type 0
+
+-- what each fault of a judge says of the event behind a history
+abbrev pub JudgeFaultIs : Law → List HistoryEvent → HistoryEvent → JudgeFault → Type 0
+JudgeFaultIs law events event (Refused cause) = law.refuses events event cause
+JudgeFaultIs law events event Undecided = Unit {0}
+JudgeFaultIs law events event TooLong = length events ≡ 18446744073709551615
+JudgeFaultIs law events event OutOfMemory = Unit {0}

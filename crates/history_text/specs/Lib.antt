@@ -1,0 +1,9 @@
+pub mod Fields
+pub mod Lines
+pub mod Answers
+pub mod Laws
+pub mod RegularLaw
+pub mod Operations
+pub mod Refusals
+pub mod Judged
+pub mod Histories

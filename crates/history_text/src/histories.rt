@@ -1,0 +1,81 @@
+//! A history is read as it comes, and judged.
+
+ghost use Rattle.std.specs.Prelude.{◌≡◌, ◌<◌, ℕ, List, [], length};
+ghost use Rattle.history_text.specs.Histories.{HasRead, Judges, ended_by};
+
+use crate::answers::HistoryEnd;
+use crate::judge::HistoryJudge;
+use crate::judged::Stop;
+use crate::reading::Lines;
+use std::alloc::Global;
+use trace_text::{BUFFER_LEN, Source, TraceFault};
+
+impl Stop {
+    // What a reading gives that ends so.
+    fn ended(self) -> Result<HistoryEnd, TraceFault>
+        ensures { result ≡ ended_by self }
+    {
+        match self {
+            Stop::Refused(refusal) => Ok(HistoryEnd::Refused(refusal)),
+            Stop::Undecided { line } => Ok(HistoryEnd::Undecided { line }),
+            Stop::Fault(fault) => Err(fault),
+        }
+    }
+}
+
+/// Reads a history as it comes, up to the first line that is none of the judge's law, and says what
+/// became of it. Each line is read as by [`read_history_line`](crate::read_history_line), and has at
+/// most 768 bytes, LF not counted. The judge is a new one, which has taken no event.
+///
+/// Nothing is read behind the piece in which that line ends: so on a pipe that is still being written
+/// the answer comes with the line. A faulty line ends the reading at once too.
+///
+/// A fault gives no answer: [`TraceFault::Line`] with the number of the line, counted from 1, that
+/// can't be read; [`TraceFault::Read`] if the reader failed; [`TraceFault::TooManyLines`] if line 2^64
+/// begins. [`TraceFault::OutOfMemory`] may come in place of any answer, and [`TraceFault::Write`] never
+/// comes.
+///
+/// Beside what the judge keeps, one buffer of 4,096 bytes is kept, and the number, address and length
+/// of each open load. So a history has no limit of lines but their number's.
+pub fn judge_history<R: Source, J: HistoryJudge + Drop>(
+    alloc: Global,
+    reader: &mut R,
+    judge: J,
+) -> Result<HistoryEnd, TraceFault>
+    requires begun { J.took judge [] judge }
+    requires passes { (J.law judge).passes [] }
+    ensures { Judges R.gave R.failed (J.law judge) reader.old reader.new result }
+{
+    let mut lines = Lines::new(alloc, judge);
+    let mut buffer = vec![in alloc; 0u8; BUFFER_LEN]?;
+    read_through(reader, &mut lines, &mut buffer)
+}
+
+// Reads on through a buffer, up to the end or the first line that ends the reading.
+fn read_through<R: Source, J: HistoryJudge>(
+    reader: &mut R,
+    lines: &mut Lines<J>,
+    buffer: &mut [u8],
+) -> Result<HistoryEnd, TraceFault>
+    requires room { 0 < length buffer.old }
+    requires begun { (start : J)
+        × HasRead J.took J.law start [] lines.old.judged.judge lines.old.judged.counts
+        lines.old.judged.loads.items lines.old.pending.items lines.old.count }
+    ensures { (start : J)
+        → HasRead J.took J.law start [] lines.old.judged.judge lines.old.judged.counts
+        lines.old.judged.loads.items lines.old.pending.items lines.old.count
+        → Judges R.gave R.failed (J.law start) reader.old reader.new result }
+{
+    'pieces: loop {
+        let given = match reader.read_some(buffer) {
+            Ok(given) => given,
+            Err(_) => return Err(TraceFault::Read),
+        };
+        if given == 0 {
+            return lines.end();
+        }
+        if let Err(stop) = lines.read(&buffer[..given]) {
+            return stop.ended();
+        }
+    }
+}

@@ -1,0 +1,69 @@
+//! A judge of histories, event by event.
+
+ghost use Rattle.std.specs.Prelude.{◌≡◌, ℕ, ◌++◌, ◌∷◌, [], List, OnOk, OnErr, IfErr};
+ghost use Rattle.memory_histories.specs.declared.events.HistoryEvent.{HistoryEvent as Event};
+ghost use Rattle.history_text.specs.Lines.{plain};
+ghost use Rattle.history_text.specs.Laws.{Law, JudgeFaultIs};
+
+use memory_histories::{ByteSet, HistoryEvent, HistoryFault, RegularMemory, StepFault};
+
+/// Why a judge didn't take an event.
+#[derive(Clone, Copy, PartialEq, Eq, Debug)]
+pub enum JudgeFault {
+    /// The history with this event is none of the law.
+    Refused(HistoryFault),
+    /// The judge can't tell: it would have to keep too much.
+    Undecided,
+    /// 2^64 - 1 events were taken.
+    TooLong,
+    /// There was too little memory.
+    OutOfMemory,
+}
+
+/// A judge of histories by one law, event by event.
+pub trait HistoryJudge {
+    // The law that it judges by.
+    ghost law: { Self → Law };
+
+    // From one state to the other, it took these events, all of the law.
+    ghost took: { Self → List Event → Self → Type 0 };
+
+    /// Takes the next event of a history. It is `Ok` only if the history with this event is one of the
+    /// law. After each fault the judge has taken what it had taken before.
+    fn judge(&mut self, event: HistoryEvent) -> Result<(), JudgeFault>
+        ensures ok { OnOk result ((start : Self) (events : List Event) → took start events self.old
+            → took start (events ++ plain event.entry ∷ []) self.new
+            × (law start).passes (events ++ plain event.entry ∷ [])) }
+        ensures fault { IfErr result (λ fault. (start : Self) (events : List Event)
+            → took start events self.old
+            → JudgeFaultIs (law start) events (plain event.entry) fault) }
+        ensures unchanged { OnErr result ((start : Self) (events : List Event)
+            → took start events self.old → took start events self.new) };
+
+    /// What the load that is open under a number may return for the byte at an address, if it is
+    /// answered now, or `None` if no such load asks for that byte.
+    fn allowed(&self, number: u64, address: u64) -> Option<ByteSet>
+        ensures { (start : Self) (events : List Event) → took start events self.now
+            → (law start).allows events number address result };
+}
+
+impl HistoryJudge for RegularMemory {
+    ghost use Rattle.history_text.specs.RegularLaw.{law_of, Took};
+
+    ghost law = { law_of };
+
+    ghost took = { Took };
+
+    fn judge(&mut self, event: HistoryEvent) -> Result<(), JudgeFault> {
+        match self.step(event) {
+            Ok(()) => Ok(()),
+            Err(StepFault::Refused(fault)) => Err(JudgeFault::Refused(fault)),
+            Err(StepFault::TooLong) => Err(JudgeFault::TooLong),
+            Err(StepFault::OutOfMemory) => Err(JudgeFault::OutOfMemory),
+        }
+    }
+
+    fn allowed(&self, number: u64, address: u64) -> Option<ByteSet> {
+        self.may_return(number, address)
+    }
+}

@@ -1,0 +1,26 @@
+//! Histories of a memory as text: a history is read line by line, and judged as it comes.
+//!
+//! A line of a history is an event, as `load-request 7 0x1000 4`, and [`read_history_line`] reads one.
+//! [`judge_history`] reads a whole history, has each event judged by a [`HistoryJudge`], and says what
+//! became of it: a [`HistoryEnd`], whose text and status a [`HistoryVerdict`] has.
+#![tactic(auto)]
+
+mod answers;
+mod events;
+mod fields;
+mod histories;
+mod judge;
+mod judged;
+mod laws;
+mod lines;
+mod reading;
+
+pub use answers::{
+    HistoryEnd, HistoryVerdict, LawName, OperationKind, Refusal, RefusalCause, bytes_in_set,
+};
+pub use events::{OperationBytes, OwnedEvent};
+pub use histories::judge_history;
+pub use judge::{HistoryJudge, JudgeFault};
+pub use judged::{Counts, OpenLoad};
+pub use laws::judge_by_regular_law;
+pub use lines::read_history_line;

@@ -1,0 +1,169 @@
+//! The lines of a history, byte by byte.
+
+ghost use Rattle.std.specs.Prelude.{◌≡◌, ◌≤◌, ◌<◌, ◌+◌, ℕ, List, [], ◌∷◌, ◌++◌, length, IfSome, IfNone, IfErr, OnOk};
+ghost use Rattle.trace_text.specs.declared.fault.TheConstants.{MAX_PAIR};
+ghost use Rattle.history_text.specs.Operations.{no_counts};
+ghost use Rattle.history_text.specs.Histories.{EndsIn, HasRead, bytes_left, EndsWith};
+
+use crate::answers::HistoryEnd;
+use crate::judge::HistoryJudge;
+use crate::judged::{Counts, Judged, Stop};
+use crate::lines::read_history_line;
+use arrayvec::ArrayVec;
+use std::alloc::Global;
+use trace_text::{LineFault, MAX_PAIR, TraceFault};
+
+// The lines so far, and the bytes of the one that hasn't ended.
+#[derive(Drop)]
+pub(crate) struct Lines<J> {
+    pub(crate) judged: Judged<J>,
+    pub(crate) pending: ArrayVec<u8, MAX_PAIR>,
+    pub(crate) count: u64,
+}
+
+impl<J: HistoryJudge> Lines<J> {
+    // No line yet, before a new judge.
+    pub(crate) fn new(alloc: Global, judge: J) -> Lines<J>
+        ensures judge { result.judged.judge ≡ judge }
+        ensures counts { result.judged.counts ≡ no_counts }
+        ensures loads { result.judged.loads.items ≡ [] }
+        ensures pending { result.pending.items ≡ [] }
+        ensures count { result.count ≡ 0 }
+    {
+        let counts = Counts {
+            events: 0,
+            requests: 0,
+            responses: 0,
+        };
+        let loads = Vec::new(alloc);
+        Lines {
+            judged: Judged {
+                judge,
+                counts,
+                loads,
+            },
+            pending: ArrayVec::new(),
+            count: 0,
+        }
+    }
+
+    // Reads these bytes, up to the first line that ends the reading.
+    pub(crate) fn read(&mut self, bytes: &[u8]) -> Result<(), Stop>
+        requires { (start : J) × (before : List ℕ)
+            × HasRead J.took J.law start before self.old.judged.judge self.old.judged.counts
+            self.old.judged.loads.items self.old.pending.items self.old.count }
+        ensures ok { OnOk result ((start : J) (before : List ℕ)
+            → HasRead J.took J.law start before self.old.judged.judge self.old.judged.counts
+            self.old.judged.loads.items self.old.pending.items self.old.count
+            → HasRead J.took J.law start (before ++ bytes.now) self.new.judged.judge
+            self.new.judged.counts self.new.judged.loads.items self.new.pending.items
+            self.new.count) }
+        ensures progress { OnOk result (bytes_left self.new.count self.new.pending.items
+            + length bytes.now ≤ bytes_left self.old.count self.old.pending.items) }
+        ensures stop { IfErr result (λ stop. (start : J) (before : List ℕ)
+            → HasRead J.took J.law start before self.old.judged.judge self.old.judged.counts
+            self.old.judged.loads.items self.old.pending.items self.old.count
+            → EndsIn (J.law start) (before ++ bytes.now) stop) }
+    {
+        for byte in bytes {
+            self.read_byte(*byte)?;
+        }
+        Ok(())
+    }
+
+    // What is told where the input ends behind these lines.
+    pub(crate) fn end(&self) -> Result<HistoryEnd, TraceFault>
+        requires { (start : J) × (before : List ℕ)
+            × HasRead J.took J.law start before self.now.judged.judge self.now.judged.counts
+            self.now.judged.loads.items self.now.pending.items self.now.count }
+        ensures { EndsWith self.now.judged.counts self.now.pending.items self.now.count result }
+    {
+        if self.pending.is_empty() {
+            return Ok(self.judged.counts.end());
+        }
+        let number = self.count + 1;
+        let fault = LineFault::NotEnded;
+        Err(TraceFault::Line { number, fault })
+    }
+
+    // Reads a byte, which may end a line.
+    fn read_byte(&mut self, byte: u8) -> Result<(), Stop>
+        requires { (start : J) × (before : List ℕ)
+            × HasRead J.took J.law start before self.old.judged.judge self.old.judged.counts
+            self.old.judged.loads.items self.old.pending.items self.old.count }
+        ensures ok { OnOk result ((start : J) (before : List ℕ)
+            → HasRead J.took J.law start before self.old.judged.judge self.old.judged.counts
+            self.old.judged.loads.items self.old.pending.items self.old.count
+            → HasRead J.took J.law start (before ++ byte ∷ []) self.new.judged.judge
+            self.new.judged.counts self.new.judged.loads.items self.new.pending.items
+            self.new.count) }
+        ensures progress { OnOk result (bytes_left self.new.count self.new.pending.items + 1
+            ≤ bytes_left self.old.count self.old.pending.items) }
+        ensures stop { IfErr result (λ stop. (start : J) (before : List ℕ)
+            → HasRead J.took J.law start before self.old.judged.judge self.old.judged.counts
+            self.old.judged.loads.items self.old.pending.items self.old.count
+            → EndsIn (J.law start) (before ++ byte ∷ []) stop) }
+    {
+        if self.count == u64::MAX {
+            return Err(Stop::Fault(TraceFault::TooManyLines));
+        }
+        let number = self.count + 1;
+        if byte == b'\n' {
+            return self.end_line(number);
+        }
+        if self.pending.len() == MAX_PAIR {
+            let fault = LineFault::TooLong;
+            return Err(Stop::Fault(TraceFault::Line { number, fault }));
+        }
+        self.pending.push(byte);
+        Ok(())
+    }
+
+    // Reads the line of this number, which ends here.
+    fn end_line(&mut self, number: u64) -> Result<(), Stop>
+        requires read { (start : J) × (before : List ℕ)
+            × HasRead J.took J.law start before self.old.judged.judge self.old.judged.counts
+            self.old.judged.loads.items self.old.pending.items self.old.count }
+        requires number { number ≡ self.old.count + 1 }
+        ensures ok { OnOk result ((start : J) (before : List ℕ)
+            → HasRead J.took J.law start before self.old.judged.judge self.old.judged.counts
+            self.old.judged.loads.items self.old.pending.items self.old.count
+            → HasRead J.took J.law start (before ++ 10 ∷ []) self.new.judged.judge
+            self.new.judged.counts self.new.judged.loads.items self.new.pending.items
+            self.new.count) }
+        ensures progress { OnOk result (bytes_left self.new.count self.new.pending.items + 1
+            ≤ bytes_left self.old.count self.old.pending.items) }
+        ensures stop { IfErr result (λ stop. (start : J) (before : List ℕ)
+            → HasRead J.took J.law start before self.old.judged.judge self.old.judged.counts
+            self.old.judged.loads.items self.old.pending.items self.old.count
+            → EndsIn (J.law start) (before ++ 10 ∷ []) stop) }
+    {
+        let event = match read_history_line(self.pending.as_slice()) {
+            Ok(event) => event,
+            Err(fault) => return Err(Stop::Fault(TraceFault::Line { number, fault })),
+        };
+        match event {
+            None => {
+                self.close(number);
+                Ok(())
+            }
+            Some(event) => {
+                self.judged.take(number, &event)?;
+                self.close(number);
+                Ok(())
+            }
+        }
+    }
+
+    // The line of this number has ended.
+    fn close(&mut self, number: u64)
+        ensures pending { self.new.pending.items ≡ [] }
+        ensures count { self.new.count ≡ number }
+        ensures judge { self.new.judged.judge ≡ self.old.judged.judge }
+        ensures counts { self.new.judged.counts ≡ self.old.judged.counts }
+        ensures loads { self.new.judged.loads.items ≡ self.old.judged.loads.items }
+    {
+        self.pending.clear();
+        self.count = number;
+    }
+}
