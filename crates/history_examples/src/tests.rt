@@ -223,7 +223,11 @@ fn flat_takes<R: Abort>(rt: &R, memory: &mut FlatHistory, events: &[HistoryEvent
 #[test]
 fn effect_at_the_request(rt: HostRuntime) -> Result<(), Fail> {
     let mut memory = FlatHistory::new(rt.alloc(), &[], Rest::Zeros)?;
-    flat_takes(&rt, &mut memory, &[load(1, 2), store(7, &[0x11, 0x22], 2), load(2, 2)]);
+    flat_takes(
+        &rt,
+        &mut memory,
+        &[load(1, 2), store(7, &[0x11, 0x22], 2), load(2, 2)],
+    );
     let put = StoreName {
         number: 7,
         requested: 1,
@@ -246,10 +250,19 @@ fn effect_at_the_request(rt: HostRuntime) -> Result<(), Fail> {
         }
     }
     let rows: [(HistoryEvent, Option<HistoryFault>); 6] = [
-        (loaded(2, &[0x33, 0x33]), Some(HistoryFault::WrongByte { place: 0 })),
-        (loaded(2, &[0, 0]), Some(HistoryFault::WrongByte { place: 1 })),
+        (
+            loaded(2, &[0x33, 0x33]),
+            Some(HistoryFault::WrongByte { place: 0 }),
+        ),
+        (
+            loaded(2, &[0, 0]),
+            Some(HistoryFault::WrongByte { place: 1 }),
+        ),
         (loaded(2, &[0, 0x22]), None),
-        (loaded(1, &[0, 0x22]), Some(HistoryFault::WrongByte { place: 1 })),
+        (
+            loaded(1, &[0, 0x22]),
+            Some(HistoryFault::WrongByte { place: 1 }),
+        ),
         (loaded(1, &[0, 0]), None),
         (stored(7), None),
     ];
@@ -281,7 +294,11 @@ fn flat_memory_before_the_first_store(rt: HostRuntime) -> Result<(), Fail> {
         assert_eq!(rt; flat_refusal(&rt, &mut memory, loaded(1, &[7, 9])), second);
     }
     let mut memory = FlatHistory::new(rt.alloc(), &[], Rest::Unknown)?;
-    flat_takes(&rt, &mut memory, &[load(1, 1), loaded(1, &[1]), load(1, 1), loaded(1, &[2])]);
+    flat_takes(
+        &rt,
+        &mut memory,
+        &[load(1, 1), loaded(1, &[1]), load(1, 1), loaded(1, &[2])],
+    );
     flat_takes(&rt, &mut memory, &[store(1, &[3], 1), load(1, 1)]);
     let wrong = flat_refusal(&rt, &mut memory, loaded(1, &[2]));
     assert_eq!(rt; wrong, Some(HistoryFault::WrongByte { place: 0 }));
@@ -315,6 +332,10 @@ fn flat_faults_in_order(rt: HostRuntime) -> Result<(), Fail> {
         assert_eq!(rt; memory.fault(event), Some(fault));
         assert_eq!(rt; flat_refusal(&rt, &mut memory, event), Some(fault));
     }
-    flat_takes(&rt, &mut memory, &[stored(1), store(1, &[5], 1), loaded(1, &[0])]);
+    flat_takes(
+        &rt,
+        &mut memory,
+        &[stored(1), store(1, &[5], 1), loaded(1, &[0])],
+    );
     Ok(())
 }

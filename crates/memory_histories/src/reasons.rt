@@ -15,12 +15,7 @@ pub enum Owed {
     /// Anything: no store was requested before, and what memory had before is unknown.
     Unknown,
     /// The byte that memory had before the first store.
-    Initial {
-        byte: u8,
-    },
+    Initial { byte: u8 },
     /// The byte that this store put there.
-    Stored {
-        byte: u8,
-        store: StoreName,
-    },
+    Stored { byte: u8, store: StoreName },
 }
