@@ -232,7 +232,7 @@ impl RegularMemory {
     }
 }
 // Of the faults of an event, the first in the order of its own list.
-fn load_request_fault(inside: bool, used: bool) -> Option<HistoryFault>
+pub(crate) fn load_request_fault(inside: bool, used: bool) -> Option<HistoryFault>
     ensures { result ≡ load_request_fault inside used }
 {
     if !inside {
@@ -244,7 +244,7 @@ fn load_request_fault(inside: bool, used: bool) -> Option<HistoryFault>
     }
 }
 
-fn store_request_fault(inside: bool, any: bool, used: bool) -> Option<HistoryFault>
+pub(crate) fn store_request_fault(inside: bool, any: bool, used: bool) -> Option<HistoryFault>
     ensures { result ≡ store_request_fault inside any used }
 {
     if !inside {
@@ -258,7 +258,7 @@ fn store_request_fault(inside: bool, any: bool, used: bool) -> Option<HistoryFau
     }
 }
 
-fn store_response_fault(used: bool) -> Option<HistoryFault>
+pub(crate) fn store_response_fault(used: bool) -> Option<HistoryFault>
     ensures { result ≡ store_response_fault used }
 {
     if used {
@@ -268,7 +268,7 @@ fn store_response_fault(used: bool) -> Option<HistoryFault>
     }
 }
 
-fn wrong_byte(place: Option<usize>) -> Option<HistoryFault>
+pub(crate) fn wrong_byte(place: Option<usize>) -> Option<HistoryFault>
     ensures { result ≡ wrong_byte place }
 {
     match place {
