@@ -1,0 +1,4 @@
+pub mod Words
+pub mod Operations
+pub mod Law
+pub mod Examples
