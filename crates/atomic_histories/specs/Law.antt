@@ -8,16 +8,11 @@ use Rattle.memory_histories.specs.declared.events.HistoryEvent.TheVariants.{Load
 use Rattle.memory_histories.specs.declared.events.HistoryFault.{HistoryFault}
 use Rattle.memory_histories.specs.declared.events.HistoryFault.TheVariants.{WrongByte}
 use Rattle.memory_histories.specs.declared.events.Rest.{Rest}
+use Rattle.atomic_histories.specs.declared.unit.OpenStore.{OpenStore}
 use Rattle.atomic_histories.specs.Words.{UnitPlace, at_unit, initial_byte, stored_byte, is_at, written, is_word_of}
 use Rattle.atomic_histories.specs.Operations.{Opened, none_opened, opened_after, opened_by, form_fault}
 
 -- Flat memory at one unit. ----
-
--- an open store: the bytes that it writes in the unit, and whether it has taken effect
-pub record OpenStore : Type 0 where
-  pub number : ℕ
-  pub bytes : List (Option ℕ)
-  pub is_done : Bool
 
 -- an open load, and the word that it got once it has taken effect
 pub record OpenLoad : Type 0 where
@@ -25,7 +20,8 @@ pub record OpenLoad : Type 0 where
   pub address : ℕ
   pub got : Option (List (Option ℕ))
 
--- the word that stands in the unit, and the open operations that touch it
+-- the word that stands in the unit, and the open operations that touch it. An open store has the bytes that it writes there, and
+-- whether it has taken effect
 pub record UnitMemory : Type 0 where
   pub word : List (Option ℕ)
   pub stores : List OpenStore

@@ -10,9 +10,13 @@ pub record UnitPlace : Type 0 where
   pub first : ℕ
   pub size : ℕ
 
--- what is said of each byte of a unit, where it is said of each address
+-- what is said of each byte of a unit, where it is said of each address. A word has eight places, and nothing is said of those
+-- beyond the unit's size
+abbrev pub at_lane : UnitPlace → (ℕ → Option ℕ) → ℕ → Option ℕ
+at_lane unit f k = if nat_lt k unit.size then f (unit.first + k) else None
+
 abbrev pub at_unit : UnitPlace → (ℕ → Option ℕ) → List (Option ℕ)
-at_unit unit f = map f (range_with_len unit.first unit.size)
+at_unit unit f = map (at_lane unit f) (range_with_len 0 8)
 
 -- the byte that memory has at an address before the first store: there is none where nothing is known
 abbrev pub rest_byte : Rest → Option ℕ

@@ -1,6 +1,9 @@
 //! Histories of a memory whose operations take effect at one moment each.
+//!
+//! What a history may show stands in `specs/Law.antt`, unit by unit: hidden steps, at which the open
+//! operations take effect, come between the events.
 #![tactic(auto)]
 
-/// How many different possible pairs of a word and the open stores in effect are followed at a unit,
-/// unless the caller says otherwise.
-pub const DEFAULT_LIMIT: usize = 4096;
+mod unit;
+
+pub use unit::{LANES, OpenStore, WatchedLoad};

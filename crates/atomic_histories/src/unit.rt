@@ -1,0 +1,27 @@
+//! The judge of one unit.
+
+/// The most bytes of a unit.
+pub const LANES: usize = 8;
+
+/// An open store at a unit: the bytes that it writes there, and whether it has taken effect. The places
+/// of the bytes that it doesn't write, and those beyond the unit's size, have `None`.
+#[derive(Clone, Copy, PartialEq, Eq, Debug)]
+pub struct OpenStore {
+    /// The number of the store.
+    pub number: u64,
+    /// What it writes.
+    pub bytes: [Option<u8>; 8],
+    /// Whether it has taken effect.
+    pub is_done: bool,
+}
+
+/// An open load at a unit, on one of the ways that the unit may have gone.
+#[derive(Clone, Copy, PartialEq, Eq, Debug)]
+pub struct WatchedLoad {
+    /// The number of the load.
+    pub number: u64,
+    /// The address of its first byte.
+    pub address: u64,
+    /// How many words stood in the unit before its request.
+    pub since: usize,
+}
