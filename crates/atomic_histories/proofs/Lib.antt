@@ -1,0 +1,5 @@
+-- lists, ways that are alike, hidden steps on a way, the search for a goal, events, and that the ways are exact
+pub mod Lists
+pub mod Same
+pub mod Steps
+pub mod Found

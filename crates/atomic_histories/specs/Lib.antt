@@ -1,4 +1,6 @@
 pub mod Words
 pub mod Operations
 pub mod Law
+pub mod Branches
+pub mod Stands
 pub mod Examples
