@@ -3,3 +3,7 @@ pub mod Lists
 pub mod Same
 pub mod Steps
 pub mod Found
+pub mod Events
+pub mod Answers
+pub mod Exact
+pub mod Bits

@@ -2,12 +2,16 @@
 -- taken effect, and the words that stood there before. Stores take effect only when an answer needs them to.
 use Rattle.std.specs.Prelude.{ℕ, ◌≡◌, ◌+◌, ◌-◌, ◌≤◌, Bool, true, false, ◌&&◌, ◌||◌, not, if◌then◌else◌, ◌==◌, List, [], ◌∷◌, ◌++◌, map, drop, length, Option, Some, None, is_some, max, zero, suc}
 use Rattle.std.specs.List.{filter, list_all, list_any, fold}
+use Rattle.std.specs.Option.{option_eq}
+use Rattle.std.specs.Cmp.Lexicographic.{pointwise}
+use mathlib.Core.Bool.{beq}
 use Rattle.memory_histories.specs.declared.events.HistoryEvent.{HistoryEvent}
 use Rattle.memory_histories.specs.declared.events.HistoryEvent.TheVariants.{LoadRequest, LoadResponse, StoreRequest, StoreResponse}
 use Rattle.memory_histories.specs.declared.events.Rest.{Rest}
 use Rattle.atomic_histories.specs.declared.unit.OpenStore.{OpenStore}
 use Rattle.atomic_histories.specs.declared.unit.WatchedLoad.{WatchedLoad}
-use Rattle.atomic_histories.specs.Words.{UnitPlace, at_unit, initial_byte, stored_byte, is_at, written, is_word_of}
+use Rattle.atomic_histories.specs.declared.unit.UnitPlace.{UnitPlace}
+use Rattle.atomic_histories.specs.Words.{at_unit, initial_byte, stored_byte, is_at, written, is_word_of}
 use Rattle.atomic_histories.specs.Law.{done_store, is_store, may_answer_store}
 
 -- one way that a unit may have gone: `path` has the words that stood there before, the oldest first, as far as an open load may have
@@ -47,35 +51,19 @@ effects e = effects_from e [] e.stores
 
 -- Ways that are alike are followed once. ----
 
-abbrev pub is_same_byte : Option ℕ → Option ℕ → Bool
-is_same_byte None None = true
-is_same_byte (Some a) (Some b) = a == b
-is_same_byte None (Some b) = false
-is_same_byte (Some a) None = false
-
-abbrev pub is_same_bool : Bool → Bool → Bool
-is_same_bool true b = b
-is_same_bool false b = not b
-
-abbrev pub is_same_list : {X : Type 0} → (X → X → Bool) → List X → List X → Bool
-is_same_list eq [] [] = true
-is_same_list eq [] (y ∷ ys) = false
-is_same_list eq (x ∷ xs) [] = false
-is_same_list eq (x ∷ xs) (y ∷ ys) = eq x y && is_same_list eq xs ys
-
 abbrev pub is_same_word : List (Option ℕ) → List (Option ℕ) → Bool
-is_same_word a b = is_same_list is_same_byte a b
+is_same_word a b = pointwise (option_eq ◌==◌) a b
 
 abbrev pub is_same_store : OpenStore → OpenStore → Bool
-is_same_store a b = (a.number == b.number) && (is_same_word a.bytes b.bytes && is_same_bool a.is_done b.is_done)
+is_same_store a b = (a.number == b.number) && (is_same_word a.bytes b.bytes && beq a.is_done b.is_done)
 
 abbrev pub is_same_load : WatchedLoad → WatchedLoad → Bool
 is_same_load a b = (a.number == b.number) && ((a.address == b.address) && (a.since == b.since))
 
 unfoldable pub is_same : Branch → Branch → Bool
 is_same a b =
-    is_same_word a.word b.word && (is_same_list is_same_store a.stores b.stores
-        && (is_same_list is_same_load a.loads b.loads && is_same_list is_same_word a.path b.path))
+    is_same_word a.word b.word && (pointwise is_same_store a.stores b.stores
+        && (pointwise is_same_load a.loads b.loads && pointwise is_same_word a.path b.path))
 
 -- the ways with one more
 abbrev pub with_branch : List Branch → Branch → List Branch

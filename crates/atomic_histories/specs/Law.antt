@@ -9,7 +9,8 @@ use Rattle.memory_histories.specs.declared.events.HistoryFault.{HistoryFault}
 use Rattle.memory_histories.specs.declared.events.HistoryFault.TheVariants.{WrongByte}
 use Rattle.memory_histories.specs.declared.events.Rest.{Rest}
 use Rattle.atomic_histories.specs.declared.unit.OpenStore.{OpenStore}
-use Rattle.atomic_histories.specs.Words.{UnitPlace, at_unit, initial_byte, stored_byte, is_at, written, is_word_of}
+use Rattle.atomic_histories.specs.declared.unit.UnitPlace.{UnitPlace}
+use Rattle.atomic_histories.specs.Words.{at_unit, initial_byte, stored_byte, is_at, written, is_word_of}
 use Rattle.atomic_histories.specs.Operations.{Opened, none_opened, opened_after, opened_by, form_fault}
 
 -- Flat memory at one unit. ----

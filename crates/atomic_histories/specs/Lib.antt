@@ -3,4 +3,5 @@ pub mod Operations
 pub mod Law
 pub mod Branches
 pub mod Stands
+pub mod Shown
 pub mod Examples

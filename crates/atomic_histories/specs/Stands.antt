@@ -4,7 +4,7 @@ use Rattle.memory_histories.specs.declared.events.HistoryEvent.{HistoryEvent}
 use Rattle.memory_histories.specs.declared.events.Rest.{Rest}
 use Rattle.atomic_histories.specs.declared.unit.OpenStore.{OpenStore}
 use Rattle.atomic_histories.specs.declared.unit.WatchedLoad.{WatchedLoad}
-use Rattle.atomic_histories.specs.Words.{UnitPlace}
+use Rattle.atomic_histories.specs.declared.unit.UnitPlace.{UnitPlace}
 use Rattle.atomic_histories.specs.Law.{OpenLoad, UnitMemory, MayBe, untouched}
 use Rattle.atomic_histories.specs.Branches.{Branch, effect_of}
 

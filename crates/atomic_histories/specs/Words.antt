@@ -4,11 +4,7 @@ use Rattle.std.specs.List.{range_with_len, list_any}
 use Rattle.std.specs.Int.{bit_at}
 use Rattle.memory_histories.specs.declared.events.Rest.{Rest}
 use Rattle.memory_histories.specs.declared.events.Rest.TheVariants.{Zeros, Unknown}
-
--- A unit by the address of its first byte and how many bytes it has: 1, 2, 4 or 8.
-pub record UnitPlace : Type 0 where
-  pub first : ℕ
-  pub size : ℕ
+use Rattle.atomic_histories.specs.declared.unit.UnitPlace.{UnitPlace}
 
 -- what is said of each byte of a unit, where it is said of each address. A word has eight places, and nothing is said of those
 -- beyond the unit's size
@@ -34,9 +30,13 @@ initial_byte image rest a = first_byte (slice_get image a) rest
 abbrev pub byte_for : ℕ → List ℕ → ℕ → Option ℕ
 byte_for address bytes a = if nat_le address a then slice_get bytes (a - address) else None
 
--- the byte that a store writes at an address: bit k of `enables` enables byte k
+-- byte k of a store, if it is enabled: bit k of `enables` is its enable
+abbrev pub enabled_byte : List ℕ → ℕ → ℕ → Option ℕ
+enabled_byte bytes enables k = if bit_at enables k == 1 then slice_get bytes k else None
+
+-- the byte that a store writes at an address
 abbrev pub stored_byte : ℕ → List ℕ → ℕ → ℕ → Option ℕ
-stored_byte address bytes enables a = if bit_at enables (a - address) == 1 then byte_for address bytes a else None
+stored_byte address bytes enables a = if nat_le address a then enabled_byte bytes enables (a - address) else None
 
 -- whether an operation of so many bytes has one at the unit
 abbrev pub is_at : UnitPlace → ℕ → ℕ → Bool

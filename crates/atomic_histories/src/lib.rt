@@ -4,6 +4,11 @@
 //! operations take effect, come between the events.
 #![tactic(auto)]
 
+mod search;
 mod unit;
+mod ways;
+mod words;
 
-pub use unit::{LANES, OpenStore, WatchedLoad};
+pub use search::Stop;
+pub use unit::{LANES, OpenStore, UnitPlace, WatchedLoad, Word};
+pub use ways::{Wanted, Way};

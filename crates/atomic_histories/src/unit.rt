@@ -3,6 +3,18 @@
 /// The most bytes of a unit.
 pub const LANES: usize = 8;
 
+/// What is known of the bytes of a unit, in eight places: nothing where there is `None`.
+pub type Word = [Option<u8>; 8];
+
+/// One aligned unit of memory.
+#[derive(Clone, Copy, PartialEq, Eq, Debug)]
+pub struct UnitPlace {
+    /// The address of its first byte.
+    pub first: u64,
+    /// How many bytes it has: 1, 2, 4 or 8.
+    pub size: u64,
+}
+
 /// An open store at a unit: the bytes that it writes there, and whether it has taken effect. The places
 /// of the bytes that it doesn't write, and those beyond the unit's size, have `None`.
 #[derive(Clone, Copy, PartialEq, Eq, Debug)]
@@ -10,7 +22,7 @@ pub struct OpenStore {
     /// The number of the store.
     pub number: u64,
     /// What it writes.
-    pub bytes: [Option<u8>; 8],
+    pub bytes: Word,
     /// Whether it has taken effect.
     pub is_done: bool,
 }

@@ -1,0 +1,189 @@
+//! The ways that a unit may have gone.
+
+ghost use Rattle.std.specs.Prelude.{◌≡◌, ◌<◌, ◌+◌, true, length, map, take, drop, slice_index_or, not, IfOk, OnOk};
+ghost use Rattle.std.specs.List.{filter, list_all, list_any};
+ghost use Rattle.atomic_histories.specs.Law.{is_store, may_answer_store};
+ghost use Rattle.atomic_histories.specs.Branches.{effect_of, effects, is_same, with_branch, with_branches, is_watched, may_have, has_answer, has_effect, branch_without_load, branch_without_store, branch_with_load, branch_with_store};
+ghost use Rattle.atomic_histories.specs.Shown.{shown, shown_all, goal_of, without_of};
+
+use crate::unit::{OpenStore, UnitPlace, WatchedLoad, Word};
+use crate::words::{is_word_of, written};
+use std::alloc::{AllocError, Global};
+
+/// One way that a unit may have gone.
+#[derive(Drop)]
+pub struct Way {
+    pub(crate) word: Word,
+    pub(crate) stores: Vec<OpenStore>,
+    pub(crate) loads: Vec<WatchedLoad>,
+    pub(crate) path: Vec<Word>,
+}
+
+/// What an answer needs of a way: that a store has taken effect, or that a load may have got these bytes.
+#[derive(Clone, Copy)]
+pub enum Wanted<'a> {
+    Effect { number: u64 },
+    Answer { unit: UnitPlace, number: u64, bytes: &'a [u8] },
+}
+
+// Whether a store has this number.
+fn is_store(store: &OpenStore, number: u64) -> bool
+    ensures { result ≡ is_store number store.now }
+{
+    store.number == number
+}
+
+// Whether a load has this number.
+fn is_watched(load: &WatchedLoad, number: u64) -> bool
+    ensures { result ≡ is_watched number load.now }
+{
+    load.number == number
+}
+
+impl Way {
+    // A unit that no operation has touched.
+    pub(crate) fn untouched(alloc: Global, word: Word) -> Way
+        ensures { shown result ≡ record { word = word; stores = []; loads = []; path = [] } }
+    {
+        Way {
+            word,
+            stores: Vec::new(alloc),
+            loads: Vec::new(alloc),
+            path: Vec::new(alloc),
+        }
+    }
+
+    pub(crate) fn copy(&self, alloc: Global) -> Result<Way, AllocError>
+        ensures { IfOk result (λ w. shown w ≡ shown self.now) }
+    {
+        let stores = Vec::from_slice(alloc, self.stores.as_slice())?;
+        let loads = Vec::from_slice(alloc, self.loads.as_slice())?;
+        let path = Vec::from_slice(alloc, self.path.as_slice())?;
+        Ok(Way {
+            word: self.word,
+            stores,
+            loads,
+            path,
+        })
+    }
+
+    #[tactic(auto, unfolding(crate::specs::Branches::is_same))]
+    pub(crate) fn is_same(&self, other: &Way) -> bool
+        ensures { result ≡ is_same (shown self.now) (shown other.now) }
+    {
+        self.word == other.word
+            && (self.stores == other.stores
+                && (self.loads == other.loads && self.path == other.path))
+    }
+
+    // Store `i` takes effect.
+    pub(crate) fn take_effect(&mut self, i: usize) -> Result<(), AllocError>
+        requires { i < length self.old.stores.items }
+        ensures { OnOk result ((d : OpenStore) → shown self.new ≡ effect_of (shown self.old) (take i self.old.stores.items) (slice_index_or self.old.stores.items i d) (drop (i + 1) self.old.stores.items)) }
+    {
+        if self.loads.is_empty() {
+            self.path.clear();
+        } else {
+            self.path.push(self.word)?;
+        }
+        let store = self.stores[i];
+        self.word = written(store.bytes, self.word);
+        self.stores[i] = OpenStore {
+            is_done: true,
+            ..store
+        };
+        Ok(())
+    }
+
+    fn may_have(&self, unit: UnitPlace, bytes: &[u8], load: &WatchedLoad) -> bool
+        ensures { result ≡ may_have unit bytes.now (shown self.now) load.now }
+    {
+        is_word_of(unit.first, self.word, load.address, bytes)
+            || self
+                .path
+                .iter()
+                .skip(load.since)
+                .any(|word| is_word_of(unit.first, *word, load.address, bytes))
+    }
+
+    fn has_answer(&self, unit: UnitPlace, number: u64, bytes: &[u8]) -> bool
+        ensures { result ≡ has_answer unit number bytes.now (shown self.now) }
+    {
+        self.loads
+            .iter()
+            .all(|load| !is_watched(load, number) || self.may_have(unit, bytes, load))
+    }
+
+    fn has_effect(&self, number: u64) -> bool
+        ensures { result ≡ has_effect number (shown self.now) }
+    {
+        self.stores
+            .iter()
+            .all(|store| !is_store(store, number) || store.is_done)
+    }
+
+    pub(crate) fn meets(&self, wanted: Wanted) -> bool
+        ensures { result ≡ goal_of wanted.entry (shown self.now) }
+    {
+        match wanted {
+            Wanted::Effect { number } => self.has_effect(number),
+            Wanted::Answer {
+                unit,
+                number,
+                bytes,
+            } => self.has_answer(unit, number, bytes),
+        }
+    }
+
+    fn remove_load(&mut self, number: u64)
+        ensures { shown self.new ≡ branch_without_load number (shown self.old) }
+    {
+        self.loads.retain(|load| !is_watched(load, number));
+        if self.loads.is_empty() {
+            self.path.clear();
+        }
+    }
+
+    fn remove_store(&mut self, number: u64)
+        ensures { shown self.new ≡ branch_without_store number (shown self.old) }
+    {
+        self.stores.retain(|store| !is_store(store, number));
+    }
+
+    // The operation that is wanted is answered.
+    pub(crate) fn answer(&mut self, wanted: Wanted)
+        ensures { shown self.new ≡ without_of wanted.entry (shown self.old) }
+    {
+        match wanted {
+            Wanted::Effect { number } => self.remove_store(number),
+            Wanted::Answer {
+                unit: _,
+                number,
+                bytes: _,
+            } => self.remove_load(number),
+        }
+    }
+
+    pub(crate) fn add_load(&mut self, number: u64, address: u64) -> Result<(), AllocError>
+        ensures { OnOk result (shown self.new ≡ branch_with_load number address (shown self.old)) }
+    {
+        let since = self.path.len();
+        self.loads.push(WatchedLoad {
+            number,
+            address,
+            since,
+        })?;
+        Ok(())
+    }
+
+    pub(crate) fn add_store(&mut self, number: u64, bytes: Word) -> Result<(), AllocError>
+        ensures { OnOk result (shown self.new ≡ branch_with_store number bytes (shown self.old)) }
+    {
+        self.stores.push(OpenStore {
+            number,
+            bytes,
+            is_done: false,
+        })?;
+        Ok(())
+    }
+}
