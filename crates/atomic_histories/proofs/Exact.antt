@@ -1,5 +1,5 @@
 -- The ways that are followed are exact: after each event they lead to what the unit may be, and to nothing else.
-use Rattle.std.proofs.Common.{◌≡◌, ℕ, zero, suc, ◌+◌, ◌≤◌, ◌⊎◌, Bool, true, false, if◌then◌else◌, List, [], ◌∷◌, ◌++◌, map, length, Option, Some, None, is_some, inl, inr, refl, sym, ap, ◌∙◌, subst}
+use Rattle.std.proofs.Common.{◌≡◌, ℕ, zero, suc, ◌+◌, ◌≤◌, ◌⊎◌, Bool, true, false, if◌then◌else◌, List, [], ◌∷◌, ◌++◌, map, length, Option, Some, None, is_some, fold, append_assoc, append-nil, inl, inr, refl, sym, ap, ◌∙◌, subst}
 use Rattle.std.specs.List.{list_any}
 use Rattle.memory_histories.specs.declared.events.HistoryEvent.{HistoryEvent}
 use Rattle.memory_histories.specs.declared.events.HistoryEvent.TheVariants.{LoadRequest, LoadResponse, StoreRequest, StoreResponse}
@@ -201,3 +201,14 @@ some_state start unit e es history s =
 
 pub no_state : (start : UnitMemory) (unit : UnitPlace) (history : List HistoryEvent) → StandsFor start unit [] history → ¬ ((m : UnitMemory) × MayBe unit start history m)
 no_state start unit history s h = s.complete h.0 h.1
+
+-- Whole histories. ----
+
+stands_from : (start : UnitMemory) (unit : UnitPlace) (es : List Branch) (past future : List HistoryEvent) → StandsFor start unit es past → StandsFor start unit (fold (branches_after unit) es future) (past ++ future)
+stands_from start unit es past [] s = subst (λ h. StandsFor start unit es h) (sym (append-nil past)) s
+stands_from start unit es past (event ∷ events) s =
+    subst (λ h. StandsFor start unit (fold (branches_after unit) (branches_after unit es event) events) h) (append_assoc past (event ∷ []) events)
+        (stands_from start unit (branches_after unit es event) (past ++ event ∷ []) events (stands_after start unit es past event s))
+
+pub stands_by : (image : List ℕ) (rest : Rest) (unit : UnitPlace) (history : List HistoryEvent) → StandsFor (untouched image rest unit) unit (fold (branches_after unit) (first_branch image rest unit ∷ []) history) history
+stands_by image rest unit history = stands_from (untouched image rest unit) unit (first_branch image rest unit ∷ []) [] history (stands_first image rest unit)

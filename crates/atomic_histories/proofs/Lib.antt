@@ -7,3 +7,6 @@ pub mod Events
 pub mod Answers
 pub mod Exact
 pub mod Bits
+pub mod Loops
+pub mod Worked
+pub mod Whole

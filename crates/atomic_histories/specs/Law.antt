@@ -1,7 +1,7 @@
 -- The atomic law: each operation takes effect at one moment between its request and its response, in each aligned unit that it
 -- touches, and loads get what flat memory holds there at their moment.
-use Rattle.std.specs.Prelude.{ℕ, ◌≡◌, ◌+◌, ◌*◌, ◌<◌, ◌≤◌, ◌⊎◌, Bool, true, false, ◌&&◌, ◌||◌, not, if◌then◌else◌, ◌==◌, List, [], ◌∷◌, ◌++◌, take, Option, Some, None, is_some, length, is_none}
-use Rattle.std.specs.List.{filter, list_all, list_any}
+use Rattle.std.specs.Prelude.{ℕ, ◌≡◌, ◌+◌, ◌-◌, ◌*◌, ◌<◌, ◌≤◌, ◌⊎◌, Bool, true, false, ◌&&◌, ◌||◌, not, if◌then◌else◌, ◌==◌, List, [], ◌∷◌, ◌++◌, take, Option, Some, None, is_some, length, is_none}
+use Rattle.std.specs.List.{filter, list_all, list_any, find}
 use Rattle.std.specs.Borrow.{Bor}
 use Rattle.memory_histories.specs.declared.events.HistoryEvent.{HistoryEvent}
 use Rattle.memory_histories.specs.declared.events.HistoryEvent.TheVariants.{LoadRequest, LoadResponse, StoreRequest, StoreResponse}
@@ -11,7 +11,7 @@ use Rattle.memory_histories.specs.declared.events.Rest.{Rest}
 use Rattle.atomic_histories.specs.declared.unit.OpenStore.{OpenStore}
 use Rattle.atomic_histories.specs.declared.unit.UnitPlace.{UnitPlace}
 use Rattle.atomic_histories.specs.Words.{at_unit, initial_byte, stored_byte, is_at, written, is_word_of}
-use Rattle.atomic_histories.specs.Operations.{Opened, none_opened, opened_after, opened_by, form_fault}
+use Rattle.atomic_histories.specs.Operations.{Operation, Opened, none_opened, opened_after, opened_by, has_number, form_fault}
 
 -- Flat memory at one unit. ----
 
@@ -131,14 +131,12 @@ pub record IsAtomic (image : List ℕ) (rest : Rest) (size : ℕ) (history : Lis
 
 -- Faults. ----
 
--- so many bytes of a load's answer
-abbrev pub answer_of : ℕ → Bor (List ℕ) → ℕ → HistoryEvent
-answer_of number bytes n = LoadResponse number (record { ref_ptr = bytes.ref_ptr; now = take n bytes.now })
-
--- the place of the first byte of an answer that is wrong: memory may answer with the bytes before it, and not with those and it
+-- the place of the first byte of an answer that lies in the lowest unit at which there are no moments with it
 abbrev pub IsWrongPlace : List ℕ → Rest → ℕ → List HistoryEvent → HistoryEvent → ℕ → Type 0
 IsWrongPlace image rest size history (LoadResponse number bytes) place =
-    HasMoments image rest size (history ++ answer_of number bytes place ∷ []) × ¬ (HasMoments image rest size (history ++ answer_of number bytes (place + 1) ∷ []))
+    (k : ℕ) × (o : Operation) × (find (has_number number) (opened_by history).loads ≡ Some o) × (place ≡ k * size - o.address)
+    × (¬ (IsAtomicAt image rest (unit_at size k) (history ++ LoadResponse number bytes ∷ [])))
+    × ((j : ℕ) → j < k → IsAtomicAt image rest (unit_at size j) (history ++ LoadResponse number bytes ∷ []))
 IsWrongPlace image rest size history event place = ⊥
 
 -- why a history of the law is none with this event: it is malformed, or it has a wrong byte

@@ -4,4 +4,5 @@ pub mod Law
 pub mod Branches
 pub mod Stands
 pub mod Shown
+pub mod Held
 pub mod Examples

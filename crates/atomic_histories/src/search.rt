@@ -1,6 +1,6 @@
 //! Lists of the ways that a unit may have gone, and what events make of them.
 
-ghost use Rattle.std.specs.Prelude.{◌≡◌, ◌++◌, suc, map, IfOk, OnOk};
+ghost use Rattle.std.specs.Prelude.{◌≡◌, [], suc, map, IfOk, OnOk};
 ghost use Rattle.std.specs.List.{list_any};
 ghost use Rattle.atomic_histories.specs.Branches.{with_branch, is_same, with_branches, effects, out_after, next_after, met, rounds, answered, branch_with_load, branch_with_store, branches_after};
 ghost use Rattle.atomic_histories.specs.Shown.{shown, shown_all, goal_of, without_of};
@@ -15,30 +15,31 @@ use std::alloc::{AllocError, Global};
 #[derive(Clone, Copy, PartialEq, Eq, Debug)]
 pub enum Stop {
     /// More ways would have to be followed than the limit allows.
-    Undecided,
+    TooManyWays,
     /// There was too little memory.
-    OutOfMemory,
+    NoMemory,
 }
 
 impl From<AllocError> for Stop {
     ghost use Rattle.std.specs.Prelude.{◌≡◌};
-    ghost use Rattle.atomic_histories.specs.declared.search.Stop.TheVariants.{OutOfMemory};
+    ghost use Rattle.atomic_histories.specs.declared.search.Stop.TheVariants.{NoMemory};
 
-    ghost from_gives = { λ e f. f ≡ OutOfMemory };
+    ghost from_gives = { λ e f. f ≡ NoMemory };
 
     fn from(_fault: AllocError) -> Stop {
-        Stop::OutOfMemory
+        Stop::NoMemory
     }
 }
 
 // Whether one of these ways is the same.
 fn has_same(ways: &[Way], way: &Way) -> bool
-    ensures { result ≡ list_any (is_same (shown way.now)) (shown_all ways.now) }
+    ensures { result ≡ list_any (λ w. is_same (shown way.now) (shown w)) ways.now }
 {
     ways.iter().any(|other| way.is_same(other))
 }
 
 // One more way, unless it is there.
+#[tactic(auto, using(crate::proofs::Loops::any_shown, crate::proofs::Loops::shown_push))]
 fn add_way(ways: &mut Vec<Way>, way: Way) -> Result<(), AllocError>
     ensures { OnOk result (shown_all ways.new.items ≡ with_branch (shown_all ways.old.items) (shown way)) }
 {
@@ -54,8 +55,7 @@ fn add_effects(alloc: Global, ways: &mut Vec<Way>, way: &Way) -> Result<(), Allo
 {
     for i in 0..way.stores.len() {
         if !way.stores[i].is_done {
-            let mut on = way.copy(alloc)?;
-            on.take_effect(i)?;
+            let on = way.effect(alloc, i)?;
             add_way(ways, on)?;
         }
     }
@@ -86,6 +86,7 @@ fn round(
 }
 
 // How many rounds the search takes at most, but for the first.
+#[tactic(auto, using(crate::proofs::Loops::rounds_shown))]
 fn rounds(ways: &[Way]) -> usize
     ensures { result ≡ rounds (shown_all ways.now) }
 {
@@ -105,13 +106,13 @@ fn search(
 {
     let mut found = Vec::new(alloc);
     let mut left = rounds(ways);
-    let mut open = round(alloc, ways, wanted, &mut found)?;
+    let mut frontier = round(alloc, ways, wanted, &mut found)?;
     while left > 0 {
-        if open.len() > limit || found.len() > limit {
-            return Err(Stop::Undecided);
+        if frontier.len() > limit || found.len() > limit {
+            return Err(Stop::TooManyWays);
         }
-        let next = round(alloc, open.as_slice(), wanted, &mut found)?;
-        open = next;
+        let next = round(alloc, frontier.as_slice(), wanted, &mut found)?;
+        frontier = next;
         left -= 1;
     }
     Ok(found)
@@ -137,8 +138,7 @@ fn without(alloc: Global, ways: &[Way], wanted: Wanted) -> Result<Vec<Way>, Allo
 {
     let mut after = Vec::new(alloc);
     for way in ways {
-        let mut left = way.copy(alloc)?;
-        left.answer(wanted);
+        let left = way.answered(alloc, wanted)?;
         add_way(&mut after, left)?;
     }
     Ok(after)
@@ -150,8 +150,7 @@ fn with_load(alloc: Global, ways: &[Way], number: u64, address: u64) -> Result<V
 {
     let mut after = Vec::new(alloc);
     for way in ways {
-        let mut more = way.copy(alloc)?;
-        more.add_load(number, address)?;
+        let more = way.with_load(alloc, number, address)?;
         after.push(more)?;
     }
     Ok(after)
@@ -163,8 +162,7 @@ fn with_store(alloc: Global, ways: &[Way], number: u64, bytes: Word) -> Result<V
 {
     let mut after = Vec::new(alloc);
     for way in ways {
-        let mut more = way.copy(alloc)?;
-        more.add_store(number, bytes)?;
+        let more = way.with_store(alloc, number, bytes)?;
         after.push(more)?;
     }
     Ok(after)

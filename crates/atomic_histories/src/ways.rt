@@ -1,13 +1,13 @@
 //! The ways that a unit may have gone.
 
-ghost use Rattle.std.specs.Prelude.{◌≡◌, ◌<◌, ◌+◌, true, length, map, take, drop, slice_index_or, not, IfOk, OnOk};
+ghost use Rattle.std.specs.Prelude.{◌≡◌, ◌<◌, ◌≤◌, ◌+◌, ◌++◌, ◌∷◌, [], true, length, map, take, drop, slice_index_or, not, IfOk, OnOk};
 ghost use Rattle.std.specs.List.{filter, list_all, list_any};
-ghost use Rattle.atomic_histories.specs.Law.{is_store, may_answer_store};
-ghost use Rattle.atomic_histories.specs.Branches.{effect_of, effects, is_same, with_branch, with_branches, is_watched, may_have, has_answer, has_effect, branch_without_load, branch_without_store, branch_with_load, branch_with_store};
+ghost use Rattle.atomic_histories.specs.Law.{is_store, may_answer_store, done_store};
+ghost use Rattle.atomic_histories.specs.Branches.{effect_of, effects, is_same, with_branch, with_branches, is_watched, may_have, has_answer, has_effect, branch_without_load, branch_without_store, branch_with_load, branch_with_store, path_after, kept_path};
 ghost use Rattle.atomic_histories.specs.Shown.{shown, shown_all, goal_of, without_of};
 
 use crate::unit::{OpenStore, UnitPlace, WatchedLoad, Word};
-use crate::words::{is_word_of, written};
+use crate::words::{is_word_of, write};
 use std::alloc::{AllocError, Global};
 
 /// One way that a unit may have gone.
@@ -38,6 +38,66 @@ fn is_watched(load: &WatchedLoad, number: u64) -> bool
     ensures { result ≡ is_watched number load.now }
 {
     load.number == number
+}
+
+// The words from one on.
+#[tactic(auto, using(crate::proofs::Loops::none_passed))]
+fn words_from(path: &[Word], since: usize) -> &[Word]
+    ensures { result.now ≡ drop since path.entry.now }
+{
+    if since <= path.len() {
+        &path[since..]
+    } else {
+        &path[path.len()..]
+    }
+}
+
+// The word of now is overwritten: it is kept if a load is open that may have got it.
+#[tactic(auto, using(crate::proofs::Loops::path_empty, crate::proofs::Loops::path_more))]
+fn keep_word(path: &mut Vec<Word>, loads: &[WatchedLoad], word: Word) -> Result<(), AllocError>
+    ensures { OnOk result (path.new.items ≡ path_after loads.now path.old.items word) }
+{
+    if loads.is_empty() {
+        path.clear();
+    } else {
+        path.push(word)?;
+    }
+    Ok(())
+}
+
+// Nobody asks for the words before if no load is open.
+#[tactic(auto, using(crate::proofs::Loops::kept_empty, crate::proofs::Loops::kept_more))]
+fn forget_words(path: &mut Vec<Word>, loads: &[WatchedLoad])
+    ensures { path.new.items ≡ kept_path loads.now path.old.items }
+{
+    if loads.is_empty() {
+        path.clear();
+    }
+}
+
+fn end_load(loads: &mut Vec<WatchedLoad>, number: u64)
+    ensures { loads.new.items ≡ filter (λ l. not (is_watched number l)) loads.old.items }
+{
+    loads.retain(|load| !is_watched(load, number));
+}
+
+fn end_store(stores: &mut Vec<OpenStore>, number: u64)
+    ensures { stores.new.items ≡ filter (λ s. not (is_store number s)) stores.old.items }
+{
+    stores.retain(|store| !is_store(store, number));
+}
+
+// Store `i` has taken effect.
+#[tactic(auto, using(crate::proofs::Loops::set_store))]
+fn finish_store(stores: &mut [OpenStore], i: usize)
+    requires { i < length stores.old }
+    ensures { (d : OpenStore) → stores.new ≡ take i stores.old ++ done_store (slice_index_or stores.old i d) ∷ drop (i + 1) stores.old }
+{
+    let store = stores[i];
+    stores[i] = OpenStore {
+        is_done: true,
+        ..store
+    };
 }
 
 impl Way {
@@ -77,33 +137,34 @@ impl Way {
     }
 
     // Store `i` takes effect.
-    pub(crate) fn take_effect(&mut self, i: usize) -> Result<(), AllocError>
+    fn take_effect(&mut self, i: usize) -> Result<(), AllocError>
         requires { i < length self.old.stores.items }
         ensures { OnOk result ((d : OpenStore) → shown self.new ≡ effect_of (shown self.old) (take i self.old.stores.items) (slice_index_or self.old.stores.items i d) (drop (i + 1) self.old.stores.items)) }
     {
-        if self.loads.is_empty() {
-            self.path.clear();
-        } else {
-            self.path.push(self.word)?;
-        }
+        keep_word(&mut self.path, self.loads.as_slice(), self.word)?;
         let store = self.stores[i];
-        self.word = written(store.bytes, self.word);
-        self.stores[i] = OpenStore {
-            is_done: true,
-            ..store
-        };
+        write(&mut self.word, &store.bytes);
+        finish_store(self.stores.as_mut_slice(), i);
         Ok(())
+    }
+
+    // The way on: store `i` takes effect.
+    pub(crate) fn effect(&self, alloc: Global, i: usize) -> Result<Way, AllocError>
+        requires { i < length self.now.stores.items }
+        ensures { IfOk result (λ w. (d : OpenStore) → shown w ≡ effect_of (shown self.now) (take i self.now.stores.items) (slice_index_or self.now.stores.items i d) (drop (i + 1) self.now.stores.items)) }
+    {
+        let mut on = self.copy(alloc)?;
+        on.take_effect(i)?;
+        Ok(on)
     }
 
     fn may_have(&self, unit: UnitPlace, bytes: &[u8], load: &WatchedLoad) -> bool
         ensures { result ≡ may_have unit bytes.now (shown self.now) load.now }
     {
-        is_word_of(unit.first, self.word, load.address, bytes)
-            || self
-                .path
+        is_word_of(unit.first, &self.word, load.address, bytes)
+            || words_from(self.path.as_slice(), load.since)
                 .iter()
-                .skip(load.since)
-                .any(|word| is_word_of(unit.first, *word, load.address, bytes))
+                .any(|word| is_word_of(unit.first, word, load.address, bytes))
     }
 
     fn has_answer(&self, unit: UnitPlace, number: u64, bytes: &[u8]) -> bool
@@ -138,20 +199,18 @@ impl Way {
     fn remove_load(&mut self, number: u64)
         ensures { shown self.new ≡ branch_without_load number (shown self.old) }
     {
-        self.loads.retain(|load| !is_watched(load, number));
-        if self.loads.is_empty() {
-            self.path.clear();
-        }
+        end_load(&mut self.loads, number);
+        forget_words(&mut self.path, self.loads.as_slice());
     }
 
     fn remove_store(&mut self, number: u64)
         ensures { shown self.new ≡ branch_without_store number (shown self.old) }
     {
-        self.stores.retain(|store| !is_store(store, number));
+        end_store(&mut self.stores, number);
     }
 
     // The operation that is wanted is answered.
-    pub(crate) fn answer(&mut self, wanted: Wanted)
+    fn answer(&mut self, wanted: Wanted)
         ensures { shown self.new ≡ without_of wanted.entry (shown self.old) }
     {
         match wanted {
@@ -164,26 +223,39 @@ impl Way {
         }
     }
 
-    pub(crate) fn add_load(&mut self, number: u64, address: u64) -> Result<(), AllocError>
-        ensures { OnOk result (shown self.new ≡ branch_with_load number address (shown self.old)) }
+    // The way behind that answer.
+    pub(crate) fn answered(&self, alloc: Global, wanted: Wanted) -> Result<Way, AllocError>
+        ensures { IfOk result (λ w. shown w ≡ without_of wanted.entry (shown self.now)) }
     {
-        let since = self.path.len();
-        self.loads.push(WatchedLoad {
+        let mut left = self.copy(alloc)?;
+        left.answer(wanted);
+        Ok(left)
+    }
+
+    // The way once a load is requested.
+    pub(crate) fn with_load(&self, alloc: Global, number: u64, address: u64) -> Result<Way, AllocError>
+        ensures { IfOk result (λ w. shown w ≡ branch_with_load number address (shown self.now)) }
+    {
+        let mut more = self.copy(alloc)?;
+        let since = more.path.len();
+        more.loads.push(WatchedLoad {
             number,
             address,
             since,
         })?;
-        Ok(())
+        Ok(more)
     }
 
-    pub(crate) fn add_store(&mut self, number: u64, bytes: Word) -> Result<(), AllocError>
-        ensures { OnOk result (shown self.new ≡ branch_with_store number bytes (shown self.old)) }
+    // The way once a store is requested.
+    pub(crate) fn with_store(&self, alloc: Global, number: u64, bytes: Word) -> Result<Way, AllocError>
+        ensures { IfOk result (λ w. shown w ≡ branch_with_store number bytes (shown self.now)) }
     {
-        self.stores.push(OpenStore {
+        let mut more = self.copy(alloc)?;
+        more.stores.push(OpenStore {
             number,
             bytes,
             is_done: false,
         })?;
-        Ok(())
+        Ok(more)
     }
 }

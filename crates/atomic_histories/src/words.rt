@@ -155,23 +155,16 @@ fn written_byte(byte: Option<u8>, old: Option<u8>) -> Option<u8>
     }
 }
 
-#[tactic(auto, unfolding(crate::specs::Words::written))]
-// A word once these bytes are written there.
-pub(crate) fn written(bytes: Word, word: Word) -> Word
-    ensures { result ≡ written bytes word }
+// These bytes are written over a word.
+#[tactic(auto, using(crate::proofs::Bits::write_more, crate::proofs::Bits::write_past, crate::proofs::Bits::write_all), unfolding(crate::specs::Words::written))]
+pub(crate) fn write(word: &mut [Option<u8>], bytes: &[Option<u8>])
+    ensures { word.new ≡ written bytes.now word.old }
 {
-    let [a, b, c, d, e, f, g, h] = bytes;
-    let [i, j, k, l, m, n, o, p] = word;
-    [
-        written_byte(a, i),
-        written_byte(b, j),
-        written_byte(c, k),
-        written_byte(d, l),
-        written_byte(e, m),
-        written_byte(f, n),
-        written_byte(g, o),
-        written_byte(h, p),
-    ]
+    for k in 0..word.len() {
+        if k < bytes.len() {
+            word[k] = written_byte(bytes[k], word[k]);
+        }
+    }
 }
 
 // Whether an answer gives a byte as it stood there.
@@ -187,20 +180,17 @@ fn is_as_it_stood(byte: Option<u8>, answer: Option<u8>) -> bool
     }
 }
 
-#[tactic(auto, unfolding(crate::specs::Words::is_word_of))]
 // Whether these bytes from an address on are the word's, as far as they lie in the unit, which begins at
 // `first`.
-pub(crate) fn is_word_of(first: u64, word: Word, from: u64, bytes: &[u8]) -> bool
-    ensures { result ≡ is_word_of first word from bytes.now }
+#[tactic(auto, using(crate::proofs::Bits::word_more, crate::proofs::Bits::word_all), unfolding(crate::specs::Words::is_word_of))]
+pub(crate) fn is_word_of(first: u64, word: &[Option<u8>], from: u64, bytes: &[u8]) -> bool
+    ensures { result ≡ is_word_of first word.now from bytes.now }
 {
-    let [a, b, c, d, e, f, g, h] = word;
-    let first = u128::from(first);
-    is_as_it_stood(a, byte_for(from, bytes, first))
-        && (is_as_it_stood(b, byte_for(from, bytes, first + 1))
-            && (is_as_it_stood(c, byte_for(from, bytes, first + 1 + 1))
-                && (is_as_it_stood(d, byte_for(from, bytes, first + 1 + 1 + 1))
-                    && (is_as_it_stood(e, byte_for(from, bytes, first + 1 + 1 + 1 + 1))
-                        && (is_as_it_stood(f, byte_for(from, bytes, first + 1 + 1 + 1 + 1 + 1))
-                            && (is_as_it_stood(g, byte_for(from, bytes, first + 1 + 1 + 1 + 1 + 1 + 1))
-                                && is_as_it_stood(h, byte_for(from, bytes, first + 1 + 1 + 1 + 1 + 1 + 1 + 1))))))))
+    for k in 0..word.len() {
+        let address = u128::from(first) + k as u128;
+        if !is_as_it_stood(word[k], byte_for(from, bytes, address)) {
+            return false;
+        }
+    }
+    true
 }
