@@ -10,3 +10,6 @@ pub mod Bits
 pub mod Loops
 pub mod Worked
 pub mod Whole
+pub mod Fresh
+pub mod Ranges
+pub mod Verdict

@@ -1,5 +1,5 @@
 -- Steps of the loops over ways.
-use Rattle.std.proofs.Common.{◌≡◌, ℕ, suc, ◌+◌, ◌<◌, ◌≤◌, Bool, true, false, ◌||◌, ◌==◌, List, [], ◌∷◌, ◌++◌, map, fold, length, take, drop, get_or, set, max, Option, refl, sym, ap, ◌∙◌, add-one, take-suc, drop-cons, eqb-true, append_assoc, arith}
+use Rattle.std.proofs.Common.{◌≡◌, ℕ, zero, suc, ◌+◌, ◌<◌, ◌≤◌, Bool, true, false, ◌||◌, ◌==◌, List, [], ◌∷◌, ◌++◌, map, fold, length, take, drop, get_or, set, max, Option, refl, sym, ap, ◌∙◌, add-one, take-suc, drop-cons, eqb-true, append_assoc, arith}
 use Rattle.std.specs.List.{list_any}
 use Rattle.std.proofs.lemmas.List.{map-append, set_split, drop_all}
 use Rattle.std.proofs.lemmas.List.Folds.{fold-map}
@@ -65,3 +65,11 @@ same_more after ws w more i h e m = rw (shown_push after more, shown_drop ws i w
 pub without_more : (f : Branch → Branch) (es : List Branch) (ws : List Way) (w : Way) (left : Branch) (i : ℕ) → i < length ws → w ≡ get_or ws i w → left ≡ f (shown w)
     → with_branches (with_branch es left) (map f (shown_all (drop (i + 1) ws))) ≡ with_branches es (map f (shown_all (drop i ws)))
 without_more f es ws w left i h e m = rw (shown_drop ws i w h, ← e, m) refl
+
+same_default : (ss : List OpenStore) (i : ℕ) (d e : OpenStore) → i < length ss → get_or ss i d ≡ get_or ss i e
+same_default [] i d e h = absurd (omega arith)
+same_default (s ∷ ss) zero d e h = refl
+same_default (s ∷ ss) (suc i) d e h = same_default ss i d e (omega arith)
+
+pub finished : (ss : List OpenStore) (i : ℕ) (d e : OpenStore) → i < length ss → set ss i (done_store (get_or ss i e)) ≡ take i ss ++ done_store (get_or ss i d) ∷ drop (i + 1) ss
+finished ss i d e h = set_store ss i (done_store (get_or ss i e)) h ∙ ap (λ s. take i ss ++ done_store s ∷ drop (i + 1) ss) (same_default ss i e d h)

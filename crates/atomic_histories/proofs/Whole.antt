@@ -87,7 +87,7 @@ store_answered start unit history number h =
     let m : UnitMemory = record { word = r.0; stores = r.1; loads = h.0.loads } in
     (without_store number m, sees history (StoreResponse number) m (without_store number m) r.2 (then_some (may_answer_store number r.1) (without_store number m) (done_answer number r.1 r.3)))
 
-abbrev IsNoAnswer : HistoryEvent → Type 0
+abbrev pub IsNoAnswer : HistoryEvent → Type 0
 IsNoAnswer (LoadResponse number bytes) = ⊥
 IsNoAnswer event = Unit {0}
 
@@ -269,7 +269,7 @@ module _ (h : Held) (history : List HistoryEvent) (event : HistoryEvent) (s : St
       let after : Each IsAfter us = each_after h history event s in
       let aligned : Each (IsAligned h.size) us = each_map (unit_after h.size event) (IsAligned h.size) h.units s.aligned in
       let r = lowest_some None us first e in
-      let one : One (λ u. (u.first ≡ first) × (has_way u.branches ≡ false)) us = elim r.0 [ inl no ↦ let x : None ≡ Some first = no in cc | inr o ↦ o ] in
+      let one : One (λ u. (u.first ≡ first) × (has_way u.branches ≡ false)) us = elim r.0 [ inl never ↦ let x : None ≡ Some first = never in cc | inr o ↦ o ] in
       let n = not_at first us after aligned one in
       (n.0, n.1, subst (λ i. ¬ (AtomicAt i)) n.1 n.2,
       λ j l. let below : j * h.size < first = subst (λ i. j * h.size < i) (sym n.1) (mul-lt-mul_of_pos_right l s.sized) in
@@ -281,10 +281,10 @@ module _ (h : Held) (history : List HistoryEvent) (event : HistoryEvent) (s : St
 
   -- only a load's answer does
   pub only_answers : IsNoAnswer event → lowest (units_after h.size event h.units) ≡ None
-  only_answers no = all_ways None (units_after h.size event h.units) refl
+  only_answers other = all_ways None (units_after h.size event h.units) refl
       (each_map (unit_after h.size event) (λ u. has_way u.branches ≡ true) h.units
           (each_weaker (λ u. Stands h.image h.rest history (place_of h.size u) u.branches × (has_way u.branches ≡ true)) (λ u. has_way (branches_after (place_of h.size u) u.branches event) ≡ true)
-              (λ u p. way_left (untouched h.image h.rest (place_of h.size u)) (place_of h.size u) history event no u.branches p.0 p.1) h.units s.listed))
+              (λ u p. way_left (untouched h.image h.rest (place_of h.size u)) (place_of h.size u) history event other u.branches p.0 p.1) h.units s.listed))
     where
       all_ways : (o : Option ℕ) (us : List HeldUnit) → o ≡ None → Each (λ u. has_way u.branches ≡ true) us → fold lowest_of o us ≡ None
       all_ways o [] e a = e

@@ -11,7 +11,8 @@ use Rattle.memory_histories.specs.declared.events.Rest.{Rest}
 use Rattle.atomic_histories.specs.declared.unit.OpenStore.{OpenStore}
 use Rattle.atomic_histories.specs.declared.unit.UnitPlace.{UnitPlace}
 use Rattle.atomic_histories.specs.Words.{at_unit, initial_byte, stored_byte, is_at, written, is_word_of}
-use Rattle.atomic_histories.specs.Operations.{Operation, Opened, none_opened, opened_after, opened_by, has_number, form_fault}
+use Rattle.atomic_histories.specs.declared.unit.Operation.{Operation}
+use Rattle.atomic_histories.specs.Operations.{Opened, none_opened, opened_after, opened_by, has_number, form_fault}
 
 -- Flat memory at one unit. ----
 

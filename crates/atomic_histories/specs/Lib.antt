@@ -5,4 +5,5 @@ pub mod Branches
 pub mod Stands
 pub mod Shown
 pub mod Held
+pub mod Judge
 pub mod Examples

@@ -6,13 +6,8 @@ use Rattle.memory_histories.specs.declared.events.HistoryEvent.{HistoryEvent}
 use Rattle.memory_histories.specs.declared.events.HistoryEvent.TheVariants.{LoadRequest, LoadResponse, StoreRequest, StoreResponse}
 use Rattle.memory_histories.specs.declared.events.HistoryFault.{HistoryFault}
 use Rattle.memory_histories.specs.declared.events.HistoryFault.TheVariants.{OutOfRange, NoByteEnabled, NumberInUse, NotOpen, WrongLength}
+use Rattle.atomic_histories.specs.declared.unit.Operation.{Operation}
 use Rattle.memory_histories.specs.Regular.{is_inside, has_enabled, load_request_fault, store_request_fault, store_response_fault}
-
--- an open operation: its number, the address of its first byte and how many bytes it has
-pub record Operation : Type 0 where
-  pub number : ℕ
-  pub address : ℕ
-  pub length : ℕ
 
 -- the open operations
 pub record Opened : Type 0 where

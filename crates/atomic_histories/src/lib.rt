@@ -4,11 +4,14 @@
 //! operations take effect, come between the events.
 #![tactic(auto)]
 
+mod forms;
+mod memory;
 mod search;
 mod unit;
 mod ways;
 mod words;
 
+pub use memory::{AtomicFault, AtomicMemory, DEFAULT_LIMIT, KeptUnit, UnitSize};
 pub use search::Stop;
-pub use unit::{LANES, OpenStore, UnitPlace, WatchedLoad, Word};
+pub use unit::{OpenStore, Operation, UnitPlace, WatchedLoad, Word};
 pub use ways::{Wanted, Way};

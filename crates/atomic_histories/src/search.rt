@@ -119,6 +119,7 @@ fn search(
 }
 
 // The ways after an answer.
+#[tactic(auto, unfolding(crate::specs::Branches::answered))]
 fn answered(
     alloc: Global,
     ways: &[Way],

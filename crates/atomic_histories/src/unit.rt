@@ -1,8 +1,5 @@
 //! The judge of one unit.
 
-/// The most bytes of a unit.
-pub const LANES: usize = 8;
-
 /// What is known of the bytes of a unit, in eight places: nothing where there is `None`.
 pub type Word = [Option<u8>; 8];
 
@@ -13,6 +10,17 @@ pub struct UnitPlace {
     pub first: u64,
     /// How many bytes it has: 1, 2, 4 or 8.
     pub size: u64,
+}
+
+/// An open operation.
+#[derive(Clone, Copy, PartialEq, Eq, Debug)]
+pub struct Operation {
+    /// Its number.
+    pub number: u64,
+    /// The address of its first byte.
+    pub address: u64,
+    /// How many bytes it has.
+    pub length: usize,
 }
 
 /// An open store at a unit: the bytes that it writes there, and whether it has taken effect. The places

@@ -2,6 +2,7 @@
 
 ghost use Rattle.std.specs.Prelude.{◌≡◌, ◌<◌, ◌≤◌, ◌+◌, ◌++◌, ◌∷◌, [], true, length, map, take, drop, slice_index_or, not, IfOk, OnOk};
 ghost use Rattle.std.specs.List.{filter, list_all, list_any};
+ghost use Rattle.atomic_histories.specs.Words.{is_word_of};
 ghost use Rattle.atomic_histories.specs.Law.{is_store, may_answer_store, done_store};
 ghost use Rattle.atomic_histories.specs.Branches.{effect_of, effects, is_same, with_branch, with_branches, is_watched, may_have, has_answer, has_effect, branch_without_load, branch_without_store, branch_with_load, branch_with_store, path_after, kept_path};
 ghost use Rattle.atomic_histories.specs.Shown.{shown, shown_all, goal_of, without_of};
@@ -52,6 +53,15 @@ fn words_from(path: &[Word], since: usize) -> &[Word]
     }
 }
 
+// Whether these are the bytes of one of the words.
+fn has_word(words: &[Word], first: u64, address: u64, bytes: &[u8]) -> bool
+    ensures { result ≡ list_any (λ w. is_word_of first w address bytes.now) words.now }
+{
+    words
+        .iter()
+        .any(|word| is_word_of(first, word, address, bytes))
+}
+
 // The word of now is overwritten: it is kept if a load is open that may have got it.
 #[tactic(auto, using(crate::proofs::Loops::path_empty, crate::proofs::Loops::path_more))]
 fn keep_word(path: &mut Vec<Word>, loads: &[WatchedLoad], word: Word) -> Result<(), AllocError>
@@ -88,7 +98,6 @@ fn end_store(stores: &mut Vec<OpenStore>, number: u64)
 }
 
 // Store `i` has taken effect.
-#[tactic(auto, using(crate::proofs::Loops::set_store))]
 fn finish_store(stores: &mut [OpenStore], i: usize)
     requires { i < length stores.old }
     ensures { (d : OpenStore) → stores.new ≡ take i stores.old ++ done_store (slice_index_or stores.old i d) ∷ drop (i + 1) stores.old }
@@ -162,9 +171,12 @@ impl Way {
         ensures { result ≡ may_have unit bytes.now (shown self.now) load.now }
     {
         is_word_of(unit.first, &self.word, load.address, bytes)
-            || words_from(self.path.as_slice(), load.since)
-                .iter()
-                .any(|word| is_word_of(unit.first, word, load.address, bytes))
+            || has_word(
+                words_from(self.path.as_slice(), load.since),
+                unit.first,
+                load.address,
+                bytes,
+            )
     }
 
     fn has_answer(&self, unit: UnitPlace, number: u64, bytes: &[u8]) -> bool

@@ -1,0 +1,59 @@
+-- The units that bytes lie in, and steps of the loops over units.
+use Rattle.std.proofs.Common.{◌≡◌, ℕ, zero, suc, ◌+◌, ◌-◌, ◌*◌, ◌/◌, ◌^◌, ◌<◌, ◌≤◌, Bool, true, false, ◌&&◌, ◌||◌, not, ◌==◌, nat_le, List, [], ◌∷◌, ◌++◌, map, length, refl, sym, ap, ◌∙◌, subst, leb-true, mul-le-mul_right, mul-le-mul_left, suc-mul, add-one, arith}
+use Rattle.std.specs.List.{list_any}
+use Rattle.std.proofs.lemmas.Bool.{and_parts}
+use Rattle.memory_histories.specs.declared.events.Rest.{Rest}
+use Rattle.memory_histories.specs.Regular.{is_inside}
+use Rattle.atomic_histories.specs.declared.ways.Way.{Way}
+use Rattle.atomic_histories.specs.declared.memory.KeptUnit.{KeptUnit}
+use Rattle.atomic_histories.specs.declared.memory.UnitSize.{UnitSize}
+use Rattle.atomic_histories.specs.declared.memory.UnitSize.TheVariants.{One, Two, Four, Eight}
+use Rattle.atomic_histories.specs.Law.{unit_at}
+use Rattle.atomic_histories.specs.Held.{HeldUnit, has_way, is_listed, units_of, fresh_unit, fresh_from, cons_unless}
+use Rattle.atomic_histories.specs.Shown.{shown_all}
+use Rattle.atomic_histories.specs.Judge.{bytes_of, shown_unit, shown_units}
+
+inside : (a n : ℕ) → is_inside a n ≡ true → (1 ≤ n) × (a + n ≤ 18446744073709551616)
+inside a n h =
+    let p = and_parts (nat_le 1 n) (nat_le n 64 && nat_le (a + n) 18446744073709551616) h in
+    let q = and_parts (nat_le n 64) (nat_le (a + n) 18446744073709551616) p.1 in
+    (leb-true 1 n p.0, leb-true (a + n) 18446744073709551616 q.1)
+
+pub units_fit : (size : UnitSize) (a n : ℕ) → is_inside a n ≡ true → (a / bytes_of size + units_of (bytes_of size) a n) * bytes_of size ≤ 18446744073709551616
+units_fit One a n h = let i = inside a n h in let o : 1 ≤ n = i.0 in let p : a + n ≤ 18446744073709551616 = i.1 in omega arith
+units_fit Two a n h = let i = inside a n h in let o : 1 ≤ n = i.0 in let p : a + n ≤ 18446744073709551616 = i.1 in omega arith
+units_fit Four a n h = let i = inside a n h in let o : 1 ≤ n = i.0 in let p : a + n ≤ 18446744073709551616 = i.1 in omega arith
+units_fit Eight a n h = let i = inside a n h in let o : 1 ≤ n = i.0 in let p : a + n ≤ 18446744073709551616 = i.1 in omega arith
+
+pub sized : (size : UnitSize) → 1 ≤ bytes_of size
+sized One = omega arith
+sized Two = omega arith
+sized Four = omega arith
+sized Eight = omega arith
+
+pub unit_below : (from count size j : ℕ) → (from + count) * size ≤ 18446744073709551616 → j < count → 1 ≤ size → (from + j) * size < 18446744073709551616
+unit_below from count size j h l pos =
+    let more : suc (from + j) * size ≤ (from + count) * size = mul-le-mul_right size (omega arith) in
+    let split : suc (from + j) * size ≡ (from + j) * size + size = suc-mul (from + j) size in
+    omega arith
+
+pub number_below : (from count size j : ℕ) → (from + count) * size ≤ 18446744073709551616 → j < count → 1 ≤ size → from + j < 18446744073709551616
+number_below from count size j h l pos =
+    let below : (from + j) * size < 18446744073709551616 = unit_below from count size j h l pos in
+    let least : (from + j) * 1 ≤ (from + j) * size = mul-le-mul_left (from + j) pos in
+    omega arith
+
+pub listed_shown : (first : ℕ) (us : List KeptUnit) → is_listed first (shown_units us) ≡ list_any (λ u. u.first == first) us
+listed_shown first [] = refl
+listed_shown first (u ∷ us) = ap (λ b. (u.first == first) || b) (listed_shown first us)
+
+pub way_shown : (ws : List Way) → has_way (shown_all ws) ≡ not (length ws == 0)
+way_shown [] = refl
+way_shown (w ∷ ws) = refl
+
+pub fresh_step : (image : List ℕ) (rest : Rest) (size : ℕ) (us : List HeldUnit) (from count j : ℕ) → j < count → fresh_from image rest size us (from + j) (count - j)
+    ≡ cons_unless (is_listed ((from + j) * size) us) (fresh_unit image rest (unit_at size (from + j))) (fresh_from image rest size us (from + (j + 1)) (count - (j + 1)))
+fresh_step image rest size us from count j h =
+    let left : count - j ≡ suc (count - (j + 1)) = omega arith in
+    let next : from + j + 1 ≡ from + (j + 1) = omega arith in
+    rw (left, ← next) refl
