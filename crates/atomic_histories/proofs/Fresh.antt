@@ -120,15 +120,15 @@ lane_inside unit address bytes enables k h = elim (cases_lt k unit.size) [
       | inl inside ↦ and_from (nat_lt address (unit.first + unit.size)) (nat_lt unit.first (address + length bytes)) (lt-ltb address (unit.first + unit.size) (omega arith)) (lt-ltb unit.first (address + length bytes) (omega arith))
       | inr outside ↦
           let none : slice_get bytes (unit.first + k - address) ≡ None = slice_get_past bytes (unit.first + k - address) outside in
-          let x : is_some (at_lane unit (stored_byte address bytes enables) k) ≡ false = rw (lt-ltb k unit.size within, le-leb address (unit.first + k) above, none) (nothing (bit_at enables (unit.first + k - address) == 1)) in
+          let x : is_some (at_lane unit (stored_byte address bytes enables) k) ≡ false = rw (lt-ltb k unit.size within, le-leb address (unit.first + k) above, none) (nothing (bit_at enables (unit.first + k - address) == 1) None refl) in
           let e : true ≡ false = sym h ∙ x in cc
     ]
   ]
 ]
   where
-    nothing : (b : Bool) → is_some (if b then None {A = ℕ} else None) ≡ false
-    nothing true = refl
-    nothing false = refl
+    nothing : (b : Bool) (x : Option ℕ) → is_some x ≡ false → is_some (if b then x else x) ≡ false
+    nothing true x h = h
+    nothing false x h = h
 
 any_lane : (unit : UnitPlace) (address : ℕ) (bytes : List ℕ) (enables : ℕ) (ks : List ℕ) → list_any is_some (map (at_lane unit (stored_byte address bytes enables)) ks) ≡ true → is_at unit address (length bytes) ≡ true
 any_lane unit address bytes enables [] h = cc

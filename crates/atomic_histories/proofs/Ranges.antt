@@ -1,7 +1,8 @@
 -- The units that bytes lie in, and steps of the loops over units.
-use Rattle.std.proofs.Common.{◌≡◌, ℕ, zero, suc, ◌+◌, ◌-◌, ◌*◌, ◌/◌, ◌^◌, ◌<◌, ◌≤◌, Bool, true, false, ◌&&◌, ◌||◌, not, ◌==◌, nat_le, List, [], ◌∷◌, ◌++◌, map, length, refl, sym, ap, ◌∙◌, subst, leb-true, mul-le-mul_right, mul-le-mul_left, suc-mul, add-one, arith}
+use Rattle.std.proofs.Common.{◌≡◌, ℕ, zero, suc, ◌+◌, ◌-◌, ◌*◌, ◌/◌, ◌^◌, ◌<◌, ◌≤◌, Bool, true, false, ◌&&◌, ◌||◌, not, ◌==◌, nat_le, List, [], ◌∷◌, ◌++◌, map, length, refl, sym, ap, ◌∙◌, subst, leb-true, ne_eqb, append_assoc, append-nil, mul-le-mul_right, mul-le-mul_left, suc-mul, add-one, arith}
 use Rattle.std.specs.List.{list_any}
 use Rattle.std.proofs.lemmas.Bool.{and_parts}
+use Rattle.std.proofs.lemmas.List.{map-append}
 use Rattle.memory_histories.specs.declared.events.Rest.{Rest}
 use Rattle.memory_histories.specs.Regular.{is_inside}
 use Rattle.atomic_histories.specs.declared.ways.Way.{Way}
@@ -49,7 +50,8 @@ listed_shown first (u ∷ us) = ap (λ b. (u.first == first) || b) (listed_shown
 
 pub way_shown : (ws : List Way) → has_way (shown_all ws) ≡ not (length ws == 0)
 way_shown [] = refl
-way_shown (w ∷ ws) = refl
+way_shown (w ∷ ws) =
+    let some : suc (length ws) ≡ 0 → ⊥ = λ e. omega arith in sym (ap not (ne_eqb (suc (length ws)) 0 some))
 
 pub fresh_step : (image : List ℕ) (rest : Rest) (size : ℕ) (us : List HeldUnit) (from count j : ℕ) → j < count → fresh_from image rest size us (from + j) (count - j)
     ≡ cons_unless (is_listed ((from + j) * size) us) (fresh_unit image rest (unit_at size (from + j))) (fresh_from image rest size us (from + (j + 1)) (count - (j + 1)))
@@ -57,3 +59,27 @@ fresh_step image rest size us from count j h =
     let left : count - j ≡ suc (count - (j + 1)) = omega arith in
     let next : from + j + 1 ≡ from + (j + 1) = omega arith in
     rw (left, ← next) refl
+
+cons_more : (ds : List HeldUnit) (b : Bool) (u : HeldUnit) (us : List HeldUnit) → (ds ++ cons_unless b u []) ++ us ≡ ds ++ cons_unless b u us
+cons_more ds true u us = append_assoc ds [] us
+cons_more ds false u us = append_assoc ds (u ∷ []) us
+
+-- one more unit that may be fresh
+pub fresh_more : (ds : List HeldUnit) (image : List ℕ) (rest : Rest) (size : ℕ) (us : List HeldUnit) (from count j : ℕ) → j < count
+    → (ds ++ cons_unless (is_listed ((from + j) * size) us) (fresh_unit image rest (record { first = (from + j) * size; size = size })) []) ++ fresh_from image rest size us (from + (j + 1)) (count - (j + 1))
+    ≡ ds ++ fresh_from image rest size us (from + j) (count - j)
+fresh_more ds image rest size us from count j h =
+    cons_more ds (is_listed ((from + j) * size) us) (fresh_unit image rest (unit_at size (from + j))) (fresh_from image rest size us (from + (j + 1)) (count - (j + 1)))
+        ∙ ap (λ t. ds ++ t) (sym (fresh_step image rest size us from count j h))
+
+pub pushed : (fs us items : List KeptUnit) (unit : KeptUnit) (u : HeldUnit) (first : ℕ) → items ≡ fs ++ unit ∷ [] → shown_unit unit ≡ u → list_any (λ x. x.first == first) us ≡ false
+    → shown_units items ≡ shown_units fs ++ cons_unless (is_listed first (shown_units us)) u []
+pushed fs us items unit u first e s n =
+    let none : is_listed first (shown_units us) ≡ false = listed_shown first us ∙ n in
+    ap shown_units e ∙ (map-append shown_unit fs (unit ∷ []) ∙ (ap (λ x. shown_units fs ++ x ∷ []) s ∙ rw none refl))
+
+pub not_pushed : (fs us : List KeptUnit) (u : HeldUnit) (first : ℕ) → list_any (λ x. x.first == first) us ≡ true
+    → shown_units fs ≡ shown_units fs ++ cons_unless (is_listed first (shown_units us)) u []
+not_pushed fs us u first n =
+    let some : is_listed first (shown_units us) ≡ true = listed_shown first us ∙ n in
+    rw some (sym (append-nil (shown_units fs)))

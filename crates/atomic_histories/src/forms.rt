@@ -99,13 +99,13 @@ fn store_response_fault(used: bool) -> Option<HistoryFault>
     }
 }
 
-fn answer_fault(open: Option<Operation>, length: usize) -> Option<HistoryFault>
-    ensures { result ≡ answer_fault open length }
+fn answer_fault(load: Option<Operation>, length: usize) -> Option<HistoryFault>
+    ensures { result ≡ answer_fault load length }
 {
-    match open {
+    match load {
         None => Some(HistoryFault::NotOpen),
-        Some(operation) => {
-            if operation.length == length {
+        Some(load) => {
+            if load.length == length {
                 None
             } else {
                 Some(HistoryFault::WrongLength)

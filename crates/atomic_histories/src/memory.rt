@@ -6,7 +6,7 @@ ghost use Rattle.memory_histories.specs.declared.events.HistoryEvent.{HistoryEve
 ghost use Rattle.memory_histories.specs.Regular.{is_inside};
 ghost use Rattle.atomic_histories.specs.Operations.{opened_after, form_fault};
 ghost use Rattle.atomic_histories.specs.Law.{IsAtomic};
-ghost use Rattle.atomic_histories.specs.Held.{nothing_held, units_after, lowest, lower, fresh_unit, fresh_from, fresh, units_of, with_fresh, StandsForAll};
+ghost use Rattle.atomic_histories.specs.Held.{nothing_held, units_after, lowest, lower, is_listed, cons_unless, fresh_unit, fresh_from, fresh, units_of, with_fresh, StandsForAll};
 ghost use Rattle.atomic_histories.specs.Judge.{bytes_of, held, shown_unit, shown_units, place_from, place_in, IsNoVerdict, IsTaken, KeptFaultIs, StepFaultIs};
 
 use crate::search::{Stop, ways_after};
@@ -160,7 +160,26 @@ fn units_after(
     Ok(after)
 }
 
-#[tactic(auto, using(crate::proofs::Ranges::unit_below, crate::proofs::Ranges::number_below, crate::proofs::Ranges::listed_shown, crate::proofs::Ranges::fresh_step))]
+// The unit that begins there, unless it is kept.
+fn add_fresh(
+    fresh: &mut Vec<KeptUnit>,
+    alloc: Global,
+    memory: (&[u8], Rest, u64),
+    units: &[KeptUnit],
+    first: u64,
+) -> Result<(), AllocError>
+    ensures { OnOk result (shown_units fresh.new.items ≡ shown_units fresh.old.items ++ cons_unless (is_listed first (shown_units units.now)) (fresh_unit memory.entry.0.now memory.entry.1 (record { first = first; size = memory.entry.2 })) []) }
+{
+    if is_listed(units, first) {
+        return Ok(());
+    }
+    let (image, rest, size) = memory;
+    let unit = untouched_unit(alloc, UnitPlace { first, size }, image, rest)?;
+    fresh.push(unit)?;
+    Ok(())
+}
+
+#[tactic(auto, using(crate::proofs::Ranges::unit_below, crate::proofs::Ranges::number_below, crate::proofs::Ranges::fresh_more))]
 // Those of so many units from number `from` on that aren't kept, as no operation has touched them.
 fn fresh_from(
     alloc: Global,
@@ -173,14 +192,9 @@ fn fresh_from(
     requires fits { (from + count) * memory.2 ≤ 2 ^ 64 }
     ensures { IfOk result (λ fresh. shown_units fresh.items ≡ fresh_from memory.entry.0.now memory.entry.1 memory.entry.2 (shown_units units.now) from count) }
 {
-    let (image, rest, size) = memory;
     let mut fresh = Vec::new(alloc);
     for j in 0..count {
-        let first = (from + j) * size;
-        if !is_listed(units, first) {
-            let unit = untouched_unit(alloc, UnitPlace { first, size }, image, rest)?;
-            fresh.push(unit)?;
-        }
+        add_fresh(&mut fresh, alloc, memory, units, (from + j) * memory.2)?;
     }
     Ok(fresh)
 }
@@ -279,7 +293,7 @@ impl AtomicMemory {
     // The units that an event touches first.
     #[tactic(auto, using(crate::proofs::Ranges::sized))]
     fn fresh(&self, event: HistoryEvent) -> Result<Vec<KeptUnit>, AllocError>
-        requires { form_fault (held self.now).opened event.entry ≡ None }
+        requires { form_fault (held self.now).opened event ≡ None }
         ensures { IfOk result (λ f. shown_units f.items ≡ fresh (held self.now).image (held self.now).rest (held self.now).size (held self.now).units event.entry) }
     {
         let memory = (self.image.as_slice(), self.rest, self.size.bytes());
@@ -312,7 +326,7 @@ impl AtomicMemory {
 
     // All units after an event, with those that it touches first.
     fn units_with(&self, event: HistoryEvent) -> Result<Vec<KeptUnit>, AtomicFault>
-        requires { form_fault (held self.now).opened event.entry ≡ None }
+        requires { form_fault (held self.now).opened event ≡ None }
         ensures ok { IfOk result (λ after. shown_units after.items ≡ units_after (held self.now).size event.entry (with_fresh (held self.now) event.entry).units) }
         ensures fault { IfErr result IsNoVerdict }
     {

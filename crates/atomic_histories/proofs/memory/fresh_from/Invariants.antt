@@ -5,4 +5,4 @@ use Rattle.atomic_histories.proofs.memory.fresh_from.Given as goal
 
 -- with those that are left it is the whole
 abbrev pub invariant-loop-j : goal.invariant-loop-j
-invariant-loop-j l = shown_units l.fresh.items ++ fresh_from l.image l.rest l.size (shown_units l.units) (l.from + l.j) (l.count - l.j) ≡ fresh_from l.image l.rest l.size (shown_units l.units) l.from l.count
+invariant-loop-j l = shown_units l.fresh.items ++ fresh_from l.memory.0.now l.memory.1 l.memory.2 (shown_units l.units) (l.from + l.j) (l.count - l.j) ≡ fresh_from l.memory.0.now l.memory.1 l.memory.2 (shown_units l.units) l.from l.count
