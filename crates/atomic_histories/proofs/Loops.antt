@@ -1,5 +1,5 @@
 -- Steps of the loops over ways.
-use Rattle.std.proofs.Common.{◌≡◌, ℕ, zero, suc, ◌+◌, ◌<◌, ◌≤◌, Bool, true, false, ◌||◌, ◌==◌, List, [], ◌∷◌, ◌++◌, map, fold, length, take, drop, get_or, set, max, Option, refl, sym, ap, ◌∙◌, add-one, take-suc, drop-cons, eqb-true, append_assoc, arith}
+use Rattle.std.proofs.Common.{◌≡◌, ℕ, zero, suc, ◌+◌, ◌-◌, ◌<◌, ◌≤◌, nat_lt, Bool, true, false, ◌||◌, ◌==◌, List, [], ◌∷◌, ◌++◌, map, fold, length, take, drop, get_or, set, max, Option, refl, sym, ap, ap₂, ◌∙◌, add-one, take-suc, drop-cons, eqb-true, append_assoc, arith}
 use Rattle.std.specs.List.{list_any}
 use Rattle.std.proofs.lemmas.List.{map-append, set_split, drop_all}
 use Rattle.std.proofs.lemmas.List.Folds.{fold-map}
@@ -7,7 +7,7 @@ use Rattle.atomic_histories.specs.declared.unit.OpenStore.{OpenStore}
 use Rattle.atomic_histories.specs.declared.unit.WatchedLoad.{WatchedLoad}
 use Rattle.atomic_histories.specs.declared.ways.Way.{Way}
 use Rattle.atomic_histories.specs.Law.{done_store}
-use Rattle.atomic_histories.specs.Branches.{Branch, is_same, with_branch, with_branches, cons_effect, effect_of, effects_from, path_after, kept_path, rounds}
+use Rattle.atomic_histories.specs.Branches.{Branch, is_same, with_branch, with_branches, is_over, out_after, next_after, cons_effect, effect_of, effects_from, path_after, kept_path, rounds}
 use Rattle.atomic_histories.specs.Shown.{shown, shown_all}
 
 pub shown_push : (ws : List Way) (w : Way) → shown_all (ws ++ w ∷ []) ≡ shown_all ws ++ shown w ∷ []
@@ -73,3 +73,38 @@ same_default (s ∷ ss) (suc i) d e h = same_default ss i d e (omega arith)
 
 pub finished : (ss : List OpenStore) (i : ℕ) (d e : OpenStore) → i < length ss → set ss i (done_store (get_or ss i e)) ≡ take i ss ++ done_store (get_or ss i d) ∷ drop (i + 1) ss
 finished ss i d e h = set_store ss i (done_store (get_or ss i e)) h ∙ ap (λ s. take i ss ++ done_store s ∷ drop (i + 1) ss) (same_default ss i e d h)
+
+pub shown_length : (ws : List Way) → length (shown_all ws) ≡ length ws
+shown_length [] = refl
+shown_length (w ∷ ws) = ap suc (shown_length ws)
+
+over_true : (limit n : ℕ) (goal : Branch → Bool) (out es : List Branch) → (nat_lt limit (length es) || nat_lt limit (length out)) ≡ true → 0 < n → is_over limit n goal out es ≡ true
+over_true limit zero goal out es h p = absurd (omega arith)
+over_true limit (suc n) goal out es h p = or_left (nat_lt limit (length es) || nat_lt limit (length out)) (is_over limit n goal (out_after goal out es) (next_after goal es)) h
+  where
+    or_left : (a b : Bool) → a ≡ true → (a || b) ≡ true
+    or_left true b t = refl
+    or_left false b t = cc
+
+over_false : (limit n : ℕ) (goal : Branch → Bool) (out es : List Branch) → (nat_lt limit (length es) || nat_lt limit (length out)) ≡ false → 0 < n
+    → is_over limit n goal out es ≡ is_over limit (n - 1) goal (out_after goal out es) (next_after goal es)
+over_false limit zero goal out es h p = absurd (omega arith)
+over_false limit (suc n) goal out es h p = let e : suc n - 1 ≡ n = omega arith in rw e (or_right (nat_lt limit (length es) || nat_lt limit (length out)) (is_over limit n goal (out_after goal out es) (next_after goal es)) h)
+  where
+    or_right : (a b : Bool) → a ≡ false → (a || b) ≡ b
+    or_right true b t = cc
+    or_right false b t = refl
+
+pub over_stop : (limit n : ℕ) (goal : Branch → Bool) (found frontier : List Way) → (nat_lt limit (length frontier) || nat_lt limit (length found)) ≡ true → 0 < n
+    → is_over limit n goal (shown_all found) (shown_all frontier) ≡ true
+over_stop limit n goal found frontier h p =
+    let same : (nat_lt limit (length (shown_all frontier)) || nat_lt limit (length (shown_all found))) ≡ true =
+    ap₂ (λ a b. nat_lt limit a || nat_lt limit b) (shown_length frontier) (shown_length found) ∙ h in
+    over_true limit n goal (shown_all found) (shown_all frontier) same p
+
+pub over_go : (limit n : ℕ) (goal : Branch → Bool) (found frontier : List Way) → (nat_lt limit (length frontier) || nat_lt limit (length found)) ≡ false → 0 < n
+    → is_over limit n goal (shown_all found) (shown_all frontier) ≡ is_over limit (n - 1) goal (out_after goal (shown_all found) (shown_all frontier)) (next_after goal (shown_all frontier))
+over_go limit n goal found frontier h p =
+    let same : (nat_lt limit (length (shown_all frontier)) || nat_lt limit (length (shown_all found))) ≡ false =
+    ap₂ (λ a b. nat_lt limit a || nat_lt limit b) (shown_length frontier) (shown_length found) ∙ h in
+    over_false limit n goal (shown_all found) (shown_all frontier) same p

@@ -1,18 +1,22 @@
 -- The units that bytes lie in, and steps of the loops over units.
-use Rattle.std.proofs.Common.{◌≡◌, ℕ, zero, suc, ◌+◌, ◌-◌, ◌*◌, ◌/◌, ◌^◌, ◌<◌, ◌≤◌, Bool, true, false, ◌&&◌, ◌||◌, not, ◌==◌, nat_le, List, [], ◌∷◌, ◌++◌, map, length, refl, sym, ap, ◌∙◌, subst, leb-true, ne_eqb, append_assoc, append-nil, mul-le-mul_right, mul-le-mul_left, suc-mul, add-one, arith}
+use Rattle.std.proofs.Common.{◌≡◌, ℕ, zero, suc, ◌+◌, ◌-◌, ◌*◌, ◌/◌, ◌^◌, ◌<◌, ◌≤◌, Bool, true, false, ◌&&◌, ◌||◌, not, ◌==◌, nat_le, List, [], ◌∷◌, ◌++◌, map, length, get_or, refl, sym, ap, ◌∙◌, subst, leb-true, ne_eqb, append_assoc, append-nil, mul-le-mul_right, mul-le-mul_left, suc-mul, add-one, arith}
 use Rattle.std.specs.List.{list_any}
 use Rattle.std.proofs.lemmas.Bool.{and_parts}
 use Rattle.std.proofs.lemmas.List.{map-append}
+use Rattle.std.proofs.lemmas.List.Folds.{list_any-append}
+use Rattle.memory_histories.specs.declared.events.HistoryEvent.{HistoryEvent}
 use Rattle.memory_histories.specs.declared.events.Rest.{Rest}
+use Rattle.atomic_histories.specs.declared.search.Stop.{Stop}
+use Rattle.atomic_histories.specs.declared.search.Stop.TheVariants.{TooManyWays, NoMemory}
 use Rattle.memory_histories.specs.Regular.{is_inside}
 use Rattle.atomic_histories.specs.declared.ways.Way.{Way}
 use Rattle.atomic_histories.specs.declared.memory.KeptUnit.{KeptUnit}
 use Rattle.atomic_histories.specs.declared.memory.UnitSize.{UnitSize}
 use Rattle.atomic_histories.specs.declared.memory.UnitSize.TheVariants.{One, Two, Four, Eight}
 use Rattle.atomic_histories.specs.Law.{unit_at}
-use Rattle.atomic_histories.specs.Held.{HeldUnit, has_way, is_listed, units_of, fresh_unit, fresh_from, cons_unless}
-use Rattle.atomic_histories.specs.Shown.{shown_all}
-use Rattle.atomic_histories.specs.Judge.{bytes_of, shown_unit, shown_units}
+use Rattle.atomic_histories.specs.Held.{HeldUnit, has_way, is_wide_at, is_wide, is_listed, units_of, fresh_unit, fresh_from, cons_unless}
+use Rattle.atomic_histories.specs.Shown.{shown_all, StopIs}
+use Rattle.atomic_histories.specs.Judge.{bytes_of, shown_unit, shown_units, fault_of, IsNoVerdict}
 
 inside : (a n : ℕ) → is_inside a n ≡ true → (1 ≤ n) × (a + n ≤ 18446744073709551616)
 inside a n h =
@@ -83,3 +87,43 @@ pub not_pushed : (fs us : List KeptUnit) (u : HeldUnit) (first : ℕ) → list_a
 not_pushed fs us u first n =
     let some : is_listed first (shown_units us) ≡ true = listed_shown first us ∙ n in
     rw some (sym (append-nil (shown_units fs)))
+
+-- a unit that needs more ways makes it so for all
+pub wide_at : (limit size : ℕ) (event : HistoryEvent) (us : List KeptUnit) (i : ℕ) (u : KeptUnit) → i < length us → u ≡ get_or us i u → is_wide_at limit size event (shown_unit u) ≡ true → is_wide limit size event (shown_units us) ≡ true
+wide_at limit size event [] i u h e w = absurd (omega arith)
+wide_at limit size event (x ∷ xs) zero u h e w = let t : is_wide_at limit size event (shown_unit x) ≡ true = ap (λ y. is_wide_at limit size event (shown_unit y)) (sym e) ∙ w in rw t refl
+wide_at limit size event (x ∷ xs) (suc i) u h e w = or_true (is_wide_at limit size event (shown_unit x)) (is_wide limit size event (shown_units xs)) (wide_at limit size event xs i u (omega arith) e w)
+  where
+    or_true : (a b : Bool) → b ≡ true → (a || b) ≡ true
+    or_true true b t = refl
+    or_true false b t = t
+
+pub stop_at : (s : Stop) (limit size : ℕ) (event : HistoryEvent) (us : List KeptUnit) (i : ℕ) (u : KeptUnit) → i < length us → u ≡ get_or us i u → StopIs (is_wide_at limit size event (shown_unit u)) s → StopIs (is_wide limit size event (shown_units us)) s
+stop_at TooManyWays limit size event us i u h e t = wide_at limit size event us i u h e t
+stop_at NoMemory limit size event us i u h e t = tt
+
+wide_append : (limit size : ℕ) (event : HistoryEvent) (us vs : List HeldUnit) → is_wide limit size event (us ++ vs) ≡ (is_wide limit size event us || is_wide limit size event vs)
+wide_append limit size event us vs = list_any-append (is_wide_at limit size event) us vs
+
+no_verdict_left : (a b : Bool) (s : Stop) → StopIs a s → IsNoVerdict (a || b) (fault_of s)
+no_verdict_left a b TooManyWays t = or_left a b t
+  where
+    or_left : (x y : Bool) → x ≡ true → (x || y) ≡ true
+    or_left true y h = refl
+    or_left false y h = cc
+no_verdict_left a b NoMemory t = tt
+
+no_verdict_right : (a b : Bool) (s : Stop) → StopIs b s → IsNoVerdict (a || b) (fault_of s)
+no_verdict_right a b TooManyWays t = or_right a b t
+  where
+    or_right : (x y : Bool) → y ≡ true → (x || y) ≡ true
+    or_right true y h = refl
+    or_right false y h = h
+no_verdict_right a b NoMemory t = tt
+
+-- of two lists of units that follow one another
+pub stop_first : (limit size : ℕ) (event : HistoryEvent) (us vs : List HeldUnit) (s : Stop) → StopIs (is_wide limit size event us) s → IsNoVerdict (is_wide limit size event (us ++ vs)) (fault_of s)
+stop_first limit size event us vs s t = subst (λ b. IsNoVerdict b (fault_of s)) (sym (wide_append limit size event us vs)) (no_verdict_left (is_wide limit size event us) (is_wide limit size event vs) s t)
+
+pub stop_second : (limit size : ℕ) (event : HistoryEvent) (us vs : List HeldUnit) (s : Stop) → StopIs (is_wide limit size event vs) s → IsNoVerdict (is_wide limit size event (us ++ vs)) (fault_of s)
+stop_second limit size event us vs s t = subst (λ b. IsNoVerdict b (fault_of s)) (sym (wide_append limit size event us vs)) (no_verdict_right (is_wide limit size event us) (is_wide limit size event vs) s t)

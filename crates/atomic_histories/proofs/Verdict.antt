@@ -116,16 +116,18 @@ accepted_law (Ok u) h next event t history s =
     let a = accepted h event t.formed t.ways history s in (a.0, subst (λ x. StandsForAll x (history ++ event ∷ [])) (sym t.kept) a.1)
 accepted_law (Err e) h next event t history s = tt
 
-refused : (h : Held) (event : HistoryEvent) (cause : HistoryFault) → KeptFaultIs h event (Refused cause) → (history : List HistoryEvent) → StandsForAll h history → StepFaultIs h history event (Refused cause)
-refused h event cause (inl f) history s = malformed h event cause f history s
-refused h event cause (inr p) history s =
-    let w = wrong h event p.1.0 p.0 p.1.1 history s in subst (λ c. StepFaultIs h history event (Refused c)) (sym p.1.2) w
+refused : (limit : ℕ) (h : Held) (event : HistoryEvent) (cause : HistoryFault) → KeptFaultIs limit h event (Refused cause) → (history : List HistoryEvent) → StandsForAll h history
+    → StepFaultIs limit h history event (Refused cause)
+refused limit h event cause (inl f) history s = malformed h event cause f history s
+refused limit h event cause (inr p) history s =
+    let w = wrong h event p.1.0 p.0 p.1.1 history s in subst (λ c. StepFaultIs limit h history event (Refused c)) (sym p.1.2) w
 
-fault_law : (h : Held) (event : HistoryEvent) (e : AtomicFault) → KeptFaultIs h event e → (history : List HistoryEvent) → StandsForAll h history → StepFaultIs h history event e
-fault_law h event (Refused cause) f history s = refused h event cause f history s
-fault_law h event Undecided f history s = ap (λ o. form_fault o event) (sym s.opened) ∙ f
-fault_law h event OutOfMemory f history s = ap (λ o. form_fault o event) (sym s.opened) ∙ f
+fault_law : (limit : ℕ) (h : Held) (event : HistoryEvent) (e : AtomicFault) → KeptFaultIs limit h event e → (history : List HistoryEvent) → StandsForAll h history → StepFaultIs limit h history event e
+fault_law limit h event (Refused cause) f history s = refused limit h event cause f history s
+fault_law limit h event Undecided f history s = (ap (λ o. form_fault o event) (sym s.opened) ∙ f.0, f.1)
+fault_law limit h event OutOfMemory f history s = ap (λ o. form_fault o event) (sym s.opened) ∙ f
 
-pub refused_law : (r : Result (Unit {0}) AtomicFault) (h : Held) (event : HistoryEvent) → IfErr r (KeptFaultIs h event) → (history : List HistoryEvent) → StandsForAll h history → IfErr r (StepFaultIs h history event)
-refused_law (Ok u) h event f history s = tt
-refused_law (Err e) h event f history s = fault_law h event e f history s
+pub refused_law : (r : Result (Unit {0}) AtomicFault) (limit : ℕ) (h : Held) (event : HistoryEvent) → IfErr r (KeptFaultIs limit h event) → (history : List HistoryEvent) → StandsForAll h history
+    → IfErr r (StepFaultIs limit h history event)
+refused_law (Ok u) limit h event f history s = tt
+refused_law (Err e) limit h event f history s = fault_law limit h event e f history s

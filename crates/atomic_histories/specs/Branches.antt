@@ -1,6 +1,6 @@
 -- How the judge follows a unit: the ways that it may have gone, each with the word that stands there now, the open stores that have
 -- taken effect, and the words that stood there before. Stores take effect only when an answer needs them to.
-use Rattle.std.specs.Prelude.{ℕ, ◌≡◌, ◌+◌, ◌-◌, ◌≤◌, Bool, true, false, ◌&&◌, ◌||◌, not, if◌then◌else◌, ◌==◌, List, [], ◌∷◌, ◌++◌, map, drop, length, Option, Some, None, is_some, max, zero, suc}
+use Rattle.std.specs.Prelude.{ℕ, ◌≡◌, ◌+◌, ◌-◌, ◌≤◌, Bool, true, false, ◌&&◌, ◌||◌, not, if◌then◌else◌, ◌==◌, nat_lt, List, [], ◌∷◌, ◌++◌, map, drop, length, Option, Some, None, is_some, max, zero, suc}
 use Rattle.std.specs.List.{filter, list_all, list_any, fold}
 use Rattle.std.specs.Option.{option_eq}
 use Rattle.std.specs.Cmp.Lexicographic.{pointwise}
@@ -92,6 +92,12 @@ abbrev pub met : ℕ → (Branch → Bool) → List Branch → List Branch → L
 met zero goal out es = out
 met (suc n) goal out es = met n goal (out_after goal out es) (next_after goal es)
 
+-- whether more ways than the limit have to be followed at a time
+abbrev pub is_over : ℕ → ℕ → (Branch → Bool) → List Branch → List Branch → Bool
+is_over limit zero goal out es = false
+is_over limit (suc n) goal out es =
+    (nat_lt limit (length es) || nat_lt limit (length out)) || is_over limit n goal (out_after goal out es) (next_after goal es)
+
 -- how many rounds that takes at most
 abbrev pub rounds : List Branch → ℕ
 rounds es = fold (λ n e. max n (length e.stores)) 0 es
@@ -134,6 +140,15 @@ branch_with_store number bytes e =
 -- the ways after an answer
 unfoldable pub answered : (Branch → Bool) → (Branch → Branch) → List Branch → List Branch
 answered goal without es = with_branches [] (map without (met (suc (rounds es)) goal [] es))
+
+-- whether an event needs more ways of a unit than the limit
+abbrev pub needs_more : ℕ → (Branch → Bool) → List Branch → Bool
+needs_more limit goal es = is_over limit (rounds es) goal (out_after goal [] es) (next_after goal es)
+
+abbrev pub is_too_wide : ℕ → UnitPlace → List Branch → HistoryEvent → Bool
+is_too_wide limit unit es (LoadResponse number bytes) = needs_more limit (has_answer unit number bytes.now) es
+is_too_wide limit unit es (StoreResponse number) = needs_more limit (has_effect number) es
+is_too_wide limit unit es event = false
 
 -- the ways after an event: none if it is none of the law
 abbrev pub branches_after : UnitPlace → List Branch → HistoryEvent → List Branch

@@ -8,7 +8,7 @@ use Rattle.atomic_histories.specs.declared.unit.UnitPlace.{UnitPlace}
 use Rattle.atomic_histories.specs.Words.{at_unit, stored_byte, is_at}
 use Rattle.atomic_histories.specs.Operations.{Opened, none_opened, opened_after, opened_by, form_fault, has_number}
 use Rattle.atomic_histories.specs.Law.{untouched, unit_at, is_formed}
-use Rattle.atomic_histories.specs.Branches.{Branch, first_branch, branches_after}
+use Rattle.atomic_histories.specs.Branches.{Branch, first_branch, branches_after, is_too_wide}
 use Rattle.atomic_histories.specs.Stands.{Each, StandsFor}
 
 -- a unit by the address of its first byte, and the ways that it may have gone
@@ -51,6 +51,13 @@ unit_after size event u = record { first = u.first; branches = branches_after (p
 
 abbrev pub units_after : ℕ → HistoryEvent → List HeldUnit → List HeldUnit
 units_after size event us = map (unit_after size event) us
+
+-- whether an event needs more ways than the limit at one of these units
+abbrev pub is_wide_at : ℕ → ℕ → HistoryEvent → HeldUnit → Bool
+is_wide_at limit size event u = is_too_wide limit (place_of size u) u.branches event
+
+abbrev pub is_wide : ℕ → ℕ → HistoryEvent → List HeldUnit → Bool
+is_wide limit size event us = list_any (is_wide_at limit size event) us
 
 -- the lowest unit that has no way left
 abbrev pub lower : Option ℕ → ℕ → ℕ

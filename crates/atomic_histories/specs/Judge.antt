@@ -15,7 +15,7 @@ use Rattle.atomic_histories.specs.declared.memory.AtomicFault.TheVariants.{Refus
 use Rattle.atomic_histories.specs.declared.memory.AtomicMemory.{AtomicMemory}
 use Rattle.atomic_histories.specs.Operations.{Opened, opened_by, has_number, form_fault}
 use Rattle.atomic_histories.specs.Law.{IsAtomic, FaultIs}
-use Rattle.atomic_histories.specs.Held.{HeldUnit, Held, lowest, held_after, with_fresh}
+use Rattle.atomic_histories.specs.Held.{HeldUnit, Held, lowest, is_wide, held_after, with_fresh}
 use Rattle.atomic_histories.specs.Shown.{shown_all}
 
 abbrev pub bytes_of : UnitSize → ℕ
@@ -40,6 +40,10 @@ held m = record {
   units = shown_units m.units.items;
 }
 
+-- how many ways are followed at a time
+abbrev pub limit_of : AtomicMemory → ℕ
+limit_of m = m.limit
+
 -- a search that was stopped gives no verdict
 abbrev pub fault_of : Stop → AtomicFault
 fault_of TooManyWays = Undecided
@@ -54,11 +58,11 @@ abbrev pub place_in : List Operation → HistoryEvent → ℕ → ℕ
 place_in loads (LoadResponse number bytes) first = place_from (find (has_number number) loads) first
 place_in loads event first = 0
 
--- there is no verdict
-abbrev pub IsNoVerdict : AtomicFault → Type 0
-IsNoVerdict (Refused cause) = ⊥
-IsNoVerdict Undecided = Unit {0}
-IsNoVerdict OutOfMemory = Unit {0}
+-- there is no verdict: more ways than the limit were needed, or there was too little memory
+abbrev pub IsNoVerdict : Bool → AtomicFault → Type 0
+IsNoVerdict wide (Refused cause) = ⊥
+IsNoVerdict wide Undecided = wide ≡ true
+IsNoVerdict wide OutOfMemory = Unit {0}
 
 -- what is kept after an event of the law
 abbrev pub after : Held → HistoryEvent → Held
@@ -71,15 +75,14 @@ pub record IsTaken (h : Held) (event : HistoryEvent) (next : Held) : Type 0 wher
   pub kept : next ≡ after h event
 
 -- what each fault of a step says of the event, over what is kept and over the history
-abbrev pub KeptFaultIs : Held → HistoryEvent → AtomicFault → Type 0
-KeptFaultIs h event (Refused cause) =
+abbrev pub KeptFaultIs : ℕ → Held → HistoryEvent → AtomicFault → Type 0
+KeptFaultIs limit h event (Refused cause) =
     (form_fault h.opened event ≡ Some cause)
     ⊎ ((form_fault h.opened event ≡ None) × ((first : ℕ) × (lowest (after h event).units ≡ Some first) × (cause ≡ WrongByte (place_in h.opened.loads event first))))
-KeptFaultIs h event Undecided = form_fault h.opened event ≡ None
-KeptFaultIs h event OutOfMemory = form_fault h.opened event ≡ None
+KeptFaultIs limit h event Undecided = (form_fault h.opened event ≡ None) × (is_wide limit h.size event (with_fresh h event).units ≡ true)
+KeptFaultIs limit h event OutOfMemory = form_fault h.opened event ≡ None
 
--- what each fault of a step says of the event
-abbrev pub StepFaultIs : Held → List HistoryEvent → HistoryEvent → AtomicFault → Type 0
-StepFaultIs h history event (Refused cause) = FaultIs h.image h.rest h.size history event cause × ¬ (IsAtomic h.image h.rest h.size (history ++ event ∷ []))
-StepFaultIs h history event Undecided = form_fault (opened_by history) event ≡ None
-StepFaultIs h history event OutOfMemory = form_fault (opened_by history) event ≡ None
+abbrev pub StepFaultIs : ℕ → Held → List HistoryEvent → HistoryEvent → AtomicFault → Type 0
+StepFaultIs limit h history event (Refused cause) = FaultIs h.image h.rest h.size history event cause × ¬ (IsAtomic h.image h.rest h.size (history ++ event ∷ []))
+StepFaultIs limit h history event Undecided = (form_fault (opened_by history) event ≡ None) × (is_wide limit h.size event (with_fresh h event).units ≡ true)
+StepFaultIs limit h history event OutOfMemory = form_fault (opened_by history) event ≡ None

@@ -1,8 +1,10 @@
 -- What the judge's values show.
-use Rattle.std.specs.Prelude.{ℕ, ◌≡◌, Bool, List, map}
+use Rattle.std.specs.Prelude.{ℕ, ◌≡◌, Bool, true, List, map}
 use Rattle.atomic_histories.specs.declared.ways.Way.{Way}
 use Rattle.atomic_histories.specs.declared.ways.Wanted.{Wanted}
 use Rattle.atomic_histories.specs.declared.ways.Wanted.TheVariants.{Effect, Answer}
+use Rattle.atomic_histories.specs.declared.search.Stop.{Stop}
+use Rattle.atomic_histories.specs.declared.search.Stop.TheVariants.{TooManyWays, NoMemory}
 use Rattle.atomic_histories.specs.Branches.{Branch, has_answer, has_effect, branch_without_load, branch_without_store}
 
 abbrev pub shown : Way → Branch
@@ -19,3 +21,8 @@ goal_of (Answer unit number bytes) = has_answer unit number bytes.now
 abbrev pub without_of : Wanted → Branch → Branch
 without_of (Effect number) = branch_without_store number
 without_of (Answer unit number bytes) = branch_without_load number
+
+-- why a search was stopped: more ways than the limit were needed, or there was too little memory
+abbrev pub StopIs : Bool → Stop → Type 0
+StopIs over TooManyWays = over ≡ true
+StopIs over NoMemory = Unit {0}

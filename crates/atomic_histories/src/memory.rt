@@ -6,8 +6,9 @@ ghost use Rattle.memory_histories.specs.declared.events.HistoryEvent.{HistoryEve
 ghost use Rattle.memory_histories.specs.Regular.{is_inside};
 ghost use Rattle.atomic_histories.specs.Operations.{opened_after, form_fault};
 ghost use Rattle.atomic_histories.specs.Law.{IsAtomic};
-ghost use Rattle.atomic_histories.specs.Held.{nothing_held, units_after, lowest, lower, is_listed, cons_unless, fresh_unit, fresh_from, fresh, units_of, with_fresh, StandsForAll};
-ghost use Rattle.atomic_histories.specs.Judge.{bytes_of, held, shown_unit, shown_units, place_from, place_in, IsNoVerdict, IsTaken, KeptFaultIs, StepFaultIs};
+ghost use Rattle.atomic_histories.specs.Held.{nothing_held, is_wide, units_after, lowest, lower, is_listed, cons_unless, fresh_unit, fresh_from, fresh, units_of, with_fresh, StandsForAll};
+ghost use Rattle.atomic_histories.specs.Shown.{StopIs};
+ghost use Rattle.atomic_histories.specs.Judge.{bytes_of, held, limit_of, shown_unit, shown_units, place_from, place_in, IsNoVerdict, IsTaken, KeptFaultIs, StepFaultIs};
 
 use crate::search::{Stop, ways_after};
 use crate::forms::{close, form_fault, open_under};
@@ -141,6 +142,7 @@ fn add_unit(units: &mut Vec<KeptUnit>, unit: KeptUnit) -> Result<(), AllocError>
 }
 
 // The units after an event.
+#[tactic(auto, using(crate::proofs::Ranges::stop_at))]
 fn units_after(
     alloc: Global,
     size: u64,
@@ -148,7 +150,8 @@ fn units_after(
     event: HistoryEvent,
     limit: usize,
 ) -> Result<Vec<KeptUnit>, Stop>
-    ensures { IfOk result (λ after. shown_units after.items ≡ units_after size event.entry (shown_units units.now)) }
+    ensures after { IfOk result (λ after. shown_units after.items ≡ units_after size event.entry (shown_units units.now)) }
+    ensures stop { IfErr result (StopIs (is_wide limit size event.entry (shown_units units.now))) }
 {
     let mut after = Vec::new(alloc);
     for unit in units {
@@ -259,7 +262,7 @@ impl AtomicMemory {
     /// which there are no moments.
     pub fn step(&mut self, event: HistoryEvent) -> Result<(), AtomicFault>
         ensures ok { (history : List HistoryEvent) → StandsForAll (held self.old) history → OnOk result (IsAtomic (held self.old).image (held self.old).rest (held self.old).size (history ++ event.entry ∷ []) × StandsForAll (held self.new) (history ++ event.entry ∷ [])) }
-        ensures fault { (history : List HistoryEvent) → StandsForAll (held self.old) history → IfErr result (StepFaultIs (held self.old) history event.entry) }
+        ensures fault { (history : List HistoryEvent) → StandsForAll (held self.old) history → IfErr result (StepFaultIs (limit_of self.old) (held self.old) history event.entry) }
         ensures unchanged { OnErr result (held self.new ≡ held self.old) }
     {
         self.kept_step(event)
@@ -267,7 +270,7 @@ impl AtomicMemory {
 
     fn kept_step(&mut self, event: HistoryEvent) -> Result<(), AtomicFault>
         ensures ok { OnOk result (IsTaken (held self.old) event.entry (held self.new)) }
-        ensures fault { IfErr result (KeptFaultIs (held self.old) event.entry) }
+        ensures fault { IfErr result (KeptFaultIs (limit_of self.old) (held self.old) event.entry) }
         ensures unchanged { OnErr result (held self.new ≡ held self.old) }
     {
         if let Some(fault) = self.form_fault(event) {
@@ -325,10 +328,11 @@ impl AtomicMemory {
     }
 
     // All units after an event, with those that it touches first.
+    #[tactic(auto, using(crate::proofs::Ranges::stop_first, crate::proofs::Ranges::stop_second))]
     fn units_with(&self, event: HistoryEvent) -> Result<Vec<KeptUnit>, AtomicFault>
         requires { form_fault (held self.now).opened event ≡ None }
         ensures ok { IfOk result (λ after. shown_units after.items ≡ units_after (held self.now).size event.entry (with_fresh (held self.now) event.entry).units) }
-        ensures fault { IfErr result IsNoVerdict }
+        ensures fault { IfErr result (IsNoVerdict (is_wide (limit_of self.now) (held self.now).size event.entry (with_fresh (held self.now) event.entry).units)) }
     {
         let fresh = self.fresh(event)?;
         let size = self.size.bytes();

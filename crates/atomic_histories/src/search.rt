@@ -1,9 +1,9 @@
 //! Lists of the ways that a unit may have gone, and what events make of them.
 
-ghost use Rattle.std.specs.Prelude.{◌≡◌, [], suc, map, IfOk, OnOk};
+ghost use Rattle.std.specs.Prelude.{◌≡◌, ◌||◌, [], suc, map, length, nat_lt, IfOk, IfErr, OnOk};
 ghost use Rattle.std.specs.List.{list_any};
-ghost use Rattle.atomic_histories.specs.Branches.{with_branch, is_same, with_branches, effects, out_after, next_after, met, rounds, answered, branch_with_load, branch_with_store, branches_after};
-ghost use Rattle.atomic_histories.specs.Shown.{shown, shown_all, goal_of, without_of};
+ghost use Rattle.atomic_histories.specs.Branches.{with_branch, is_same, with_branches, effects, out_after, next_after, met, rounds, answered, needs_more, is_too_wide, branch_with_load, branch_with_store, branches_after};
+ghost use Rattle.atomic_histories.specs.Shown.{shown, shown_all, goal_of, without_of, StopIs};
 
 use crate::unit::{UnitPlace, Word};
 use crate::ways::{Wanted, Way};
@@ -94,21 +94,30 @@ fn rounds(ways: &[Way]) -> usize
         .fold(0, |most, way| most.max(way.stores.len()))
 }
 
+// Whether more ways than the limit are to be followed.
+fn exceeds(limit: usize, frontier: &[Way], found: &[Way]) -> bool
+    ensures { result ≡ (nat_lt limit (length frontier.now) || nat_lt limit (length found.now)) }
+{
+    limit < frontier.len() || limit < found.len()
+}
+
 // From these ways on stores take effect, until what is wanted is met: no more than `limit` ways are
 // followed at a time.
+#[tactic(auto, using(crate::proofs::Loops::over_stop, crate::proofs::Loops::over_go))]
 fn search(
     alloc: Global,
     ways: &[Way],
     wanted: Wanted,
     limit: usize,
 ) -> Result<Vec<Way>, Stop>
-    ensures { IfOk result (λ found. shown_all found.items ≡ met (suc (rounds (shown_all ways.now))) (goal_of wanted.entry) [] (shown_all ways.now)) }
+    ensures found { IfOk result (λ found. shown_all found.items ≡ met (suc (rounds (shown_all ways.now))) (goal_of wanted.entry) [] (shown_all ways.now)) }
+    ensures stop { IfErr result (StopIs (needs_more limit (goal_of wanted.entry) (shown_all ways.now))) }
 {
     let mut found = Vec::new(alloc);
     let mut left = rounds(ways);
     let mut frontier = round(alloc, ways, wanted, &mut found)?;
     while left > 0 {
-        if frontier.len() > limit || found.len() > limit {
+        if exceeds(limit, frontier.as_slice(), found.as_slice()) {
             return Err(Stop::TooManyWays);
         }
         let next = round(alloc, frontier.as_slice(), wanted, &mut found)?;
@@ -126,7 +135,8 @@ fn answered(
     wanted: Wanted,
     limit: usize,
 ) -> Result<Vec<Way>, Stop>
-    ensures { IfOk result (λ after. shown_all after.items ≡ answered (goal_of wanted.entry) (without_of wanted.entry) (shown_all ways.now)) }
+    ensures after { IfOk result (λ after. shown_all after.items ≡ answered (goal_of wanted.entry) (without_of wanted.entry) (shown_all ways.now)) }
+    ensures stop { IfErr result (StopIs (needs_more limit (goal_of wanted.entry) (shown_all ways.now))) }
 {
     let found = search(alloc, ways, wanted, limit)?;
     let after = without(alloc, found.as_slice(), wanted)?;
@@ -189,7 +199,8 @@ pub(crate) fn ways_after(
     event: HistoryEvent,
     limit: usize,
 ) -> Result<Vec<Way>, Stop>
-    ensures { IfOk result (λ after. shown_all after.items ≡ branches_after unit (shown_all ways.now) event.entry) }
+    ensures after { IfOk result (λ after. shown_all after.items ≡ branches_after unit (shown_all ways.now) event.entry) }
+    ensures stop { IfErr result (StopIs (is_too_wide limit unit (shown_all ways.now) event.entry)) }
 {
     match event {
         HistoryEvent::LoadRequest {
