@@ -56,7 +56,7 @@ leads_without_load number {e} {m} (later before s after split open_ r) =
     let d : Branch = effect_of e before s after in
     let rest : Leads (branch_without_load number d) (without_load number m) = leads_without_load number r in
     later before s after split open_
-        (subst (λ p. Leads (record { word = d.word; stores = d.stores; loads = filter (stays number) e.loads; path = p }) (without_load number m)) (kept_after number e.loads e.path e.word) rest)
+    (subst (λ p. Leads (record { word = d.word; stores = d.stores; loads = filter (stays number) e.loads; path = p }) (without_load number m)) (kept_after number e.loads e.path e.word) rest)
 
 each_filter : (P : WatchedLoad → Type 0) (keep : WatchedLoad → Bool) (ls : List WatchedLoad) → Each P ls → Each P (filter keep ls)
 each_filter P keep [] a = tt

@@ -121,7 +121,7 @@ leads_with_store number bytes {e} {m} (later before s after split open_ r) =
     let rest : Leads (branch_with_store number bytes (effect_of e before s after)) (with_store number bytes m) = leads_with_store number bytes r in
     let d : Branch = effect_of e before s after in
     later before s (after ++ new) (ap (λ ss. ss ++ new) split ∙ append_assoc before (s ∷ after) new) open_
-        (subst (λ ss. Leads (record { word = d.word; stores = ss; loads = d.loads; path = d.path }) (with_store number bytes m)) (append_assoc before (done_store s ∷ after) new) rest)
+    (subst (λ ss. Leads (record { word = d.word; stores = ss; loads = d.loads; path = d.path }) (with_store number bytes m)) (append_assoc before (done_store s ∷ after) new) rest)
 
 pub sound_with_store : (number : ℕ) (bytes : Word) (P Q : UnitMemory → Type 0) → ((m : UnitMemory) → P m → Q (with_store number bytes m)) → (e : Branch) → ((m : UnitMemory) → IsOn e m → P m)
     → (n : UnitMemory) → IsOn (branch_with_store number bytes e) n → Q n
@@ -157,7 +157,7 @@ leads_without_store_at number {e} {m} g (later before s after split open_ r) =
     list_all-append may before (done_store s ∷ after) ∙ and_from (list_all may before) (may (done_store s) && list_all may after) p.0 (and_from (may (done_store s)) (list_all may after) (or_true (not (is_store number s))) q.1) in
     let rest : Leads (branch_without_store number d) (without_store number m) = leads_without_store_at number again r in
     later (filter keep before) s (filter keep after) kept open_
-        (subst (λ ss. Leads (record { word = d.word; stores = ss; loads = d.loads; path = d.path }) (without_store number m)) kept_done rest)
+    (subst (λ ss. Leads (record { word = d.word; stores = ss; loads = d.loads; path = d.path }) (without_store number m)) kept_done rest)
 
 pub leads_without_store : (number : ℕ) (e : Branch) (m : UnitMemory) → has_effect number e ≡ true → Leads e m → Leads (branch_without_store number e) (without_store number m)
 leads_without_store number e m g r = leads_without_store_at number g r

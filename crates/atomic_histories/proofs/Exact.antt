@@ -61,7 +61,7 @@ requested_load_sound : (number address : ℕ) (P Q : UnitMemory → Type 0) → 
     → (es : List Branch) → Each (IsSound P) es → Each (IsSound Q) (if b then map (branch_with_load number address) es else es)
 requested_load_sound number address P Q closed true f es a =
     each_map (branch_with_load number address) (IsSound Q) es (each_weaker (IsSound P) (λ e. IsSound Q (branch_with_load number address e))
-        (λ e h. (timely_with_load number address e h.0, sound_with_load number address P Q closed (λ m p. f m (with_load number address m) p refl) e h.1)) es a)
+    (λ e h. (timely_with_load number address e h.0, sound_with_load number address P Q closed (λ m p. f m (with_load number address m) p refl) e h.1)) es a)
 requested_load_sound number address P Q closed false f es a = each_weaker (IsSound P) (IsSound Q) (λ e h. (h.0, λ m o. f m m (h.1 m o) refl)) es a
 
 requested_load_complete : (number address : ℕ) (b : Bool) (m n : UnitMemory) → Some (if b then with_load number address m else m) ≡ Some n → (es : List Branch) → One (λ e. Leads e m) es
@@ -69,14 +69,14 @@ requested_load_complete : (number address : ℕ) (b : Bool) (m n : UnitMemory) �
 requested_load_complete number address true m n h es o =
     let same : with_load number address m ≡ n = cc in
     one_map (branch_with_load number address) (λ e. Leads e n) es (one_weaker (λ e. Leads e m) (λ e. Leads (branch_with_load number address e) n)
-        (λ e l. subst (λ x. Leads (branch_with_load number address e) x) same (leads_with_load number address e m l)) es o)
+    (λ e l. subst (λ x. Leads (branch_with_load number address e) x) same (leads_with_load number address e m l)) es o)
 requested_load_complete number address false m n h es o = let same : m ≡ n = cc in subst (λ x. One (λ e. Leads e x) es) same o
 
 requested_store_sound : (number : ℕ) (bytes : List (Option ℕ)) (P Q : UnitMemory → Type 0) → (b : Bool) → ((m n : UnitMemory) → P m → Some (if b then with_store number bytes m else m) ≡ Some n → Q n)
     → (es : List Branch) → Each (IsSound P) es → Each (IsSound Q) (if b then map (branch_with_store number bytes) es else es)
 requested_store_sound number bytes P Q true f es a =
     each_map (branch_with_store number bytes) (IsSound Q) es (each_weaker (IsSound P) (λ e. IsSound Q (branch_with_store number bytes e))
-        (λ e h. (h.0, sound_with_store number bytes P Q (λ m p. f m (with_store number bytes m) p refl) e h.1)) es a)
+    (λ e h. (h.0, sound_with_store number bytes P Q (λ m p. f m (with_store number bytes m) p refl) e h.1)) es a)
 requested_store_sound number bytes P Q false f es a = each_weaker (IsSound P) (IsSound Q) (λ e h. (h.0, λ m o. f m m (h.1 m o) refl)) es a
 
 requested_store_complete : (number : ℕ) (bytes : List (Option ℕ)) (b : Bool) (m n : UnitMemory) → Some (if b then with_store number bytes m else m) ≡ Some n → (es : List Branch) → One (λ e. Leads e m) es
@@ -84,7 +84,7 @@ requested_store_complete : (number : ℕ) (bytes : List (Option ℕ)) (b : Bool)
 requested_store_complete number bytes true m n h es o =
     let same : with_store number bytes m ≡ n = cc in
     one_map (branch_with_store number bytes) (λ e. Leads e n) es (one_weaker (λ e. Leads e m) (λ e. Leads (branch_with_store number bytes e) n)
-        (λ e l. subst (λ x. Leads (branch_with_store number bytes e) x) same (leads_with_store number bytes l)) es o)
+    (λ e l. subst (λ x. Leads (branch_with_store number bytes e) x) same (leads_with_store number bytes l)) es o)
 requested_store_complete number bytes false m n h es o = let same : m ≡ n = cc in subst (λ x. One (λ e. Leads e x) es) same o
 
 -- Events. ----
@@ -96,7 +96,7 @@ event_sound unit P Q closed_p closed_q (LoadResponse number bytes) f es a =
     let made : (m : UnitMemory) → P m → may_answer_load unit number bytes.now m.loads ≡ true → Q (without_load number m) =
     λ m p g. f m (without_load number m) p (if_true (may_answer_load unit number bytes.now m.loads) (Some (without_load number m)) None g) in
     answered_sound P Q closed_p (has_answer unit number bytes.now) (branch_without_load number)
-        (λ e t g s. (timely_without_load number e t, sound_without_load unit number bytes.now P Q made e g s)) es a
+    (λ e t g s. (timely_without_load number e t, sound_without_load unit number bytes.now P Q made e g s)) es a
 event_sound unit P Q closed_p closed_q (StoreRequest number address bytes enables) f es a =
     let stored : List (Option ℕ) = at_unit unit (stored_byte address bytes.now enables) in requested_store_sound number stored P Q (list_any is_some stored) f es a
 event_sound unit P Q closed_p closed_q (StoreResponse number) f es a =
@@ -109,13 +109,13 @@ event_complete unit (LoadRequest number address k) m n h es o = requested_load_c
 event_complete unit (LoadResponse number bytes) m n h es o =
     let p = some_if (may_answer_load unit number bytes.now m.loads) (without_load number m) n h in
     answered_complete (has_answer unit number bytes.now) (branch_without_load number) m n (answer_on unit number bytes.now m p.0)
-        (λ e g l. subst (λ x. Leads (branch_without_load number e) x) p.1 (leads_without_load number l)) es o
+    (λ e g l. subst (λ x. Leads (branch_without_load number e) x) p.1 (leads_without_load number l)) es o
 event_complete unit (StoreRequest number address bytes enables) m n h es o =
     let stored : List (Option ℕ) = at_unit unit (stored_byte address bytes.now enables) in requested_store_complete number stored (list_any is_some stored) m n h es o
 event_complete unit (StoreResponse number) m n h es o =
     let p = some_if (may_answer_store number m.stores) (without_store number m) n h in
     answered_complete (has_effect number) (branch_without_store number) m n (λ x on. ap (may_answer_store number) on.stores ∙ p.0)
-        (λ e g l. subst (λ x. Leads (branch_without_store number e) x) p.1 (leads_without_store number e m g l)) es o
+    (λ e g l. subst (λ x. Leads (branch_without_store number e) x) p.1 (leads_without_store number e m g l)) es o
 
 -- Histories. ----
 
@@ -176,7 +176,7 @@ stands_after start unit es history event s =
     let ds : List Branch = branches_after unit es event in
     let sound : Each (IsSound Q) ds =
     event_sound unit P Q (λ m n r step. steps history m n r step) (λ m n r step. steps (history ++ event ∷ []) m n r step) event (λ m n r e. sees history event m n r e) es
-        (each_both IsTimely (λ e. (m : UnitMemory) → IsOn e m → P m) es s.timely s.sound) in
+    (each_both IsTimely (λ e. (m : UnitMemory) → IsOn e m → P m) es s.timely s.sound) in
     let timely : Each IsTimely ds = each_weaker (IsSound Q) IsTimely (λ e h. h.0) ds sound in
     record {
       timely = timely;
@@ -208,7 +208,7 @@ stands_from : (start : UnitMemory) (unit : UnitPlace) (es : List Branch) (past f
 stands_from start unit es past [] s = subst (λ h. StandsFor start unit es h) (sym (append-nil past)) s
 stands_from start unit es past (event ∷ events) s =
     subst (λ h. StandsFor start unit (fold (branches_after unit) (branches_after unit es event) events) h) (append_assoc past (event ∷ []) events)
-        (stands_from start unit (branches_after unit es event) (past ++ event ∷ []) events (stands_after start unit es past event s))
+    (stands_from start unit (branches_after unit es event) (past ++ event ∷ []) events (stands_after start unit es past event s))
 
 pub stands_by : (image : List ℕ) (rest : Rest) (unit : UnitPlace) (history : List HistoryEvent) → StandsFor (untouched image rest unit) unit (fold (branches_after unit) (first_branch image rest unit ∷ []) history) history
 stands_by image rest unit history = stands_from (untouched image rest unit) unit (first_branch image rest unit ∷ []) [] history (stands_first image rest unit)

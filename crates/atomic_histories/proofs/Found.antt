@@ -54,9 +54,9 @@ each_effect_from : (Q : Branch → Type 0) (e : Branch) (past ss : List OpenStor
 each_effect_from Q e past [] f = tt
 each_effect_from Q e past (x ∷ xs) f =
     each_cons Q x.is_done (effect_of e past x xs) (effects_from e (past ++ x ∷ []) xs)
-        (λ o. subst (λ p. Q (effect_of e p x xs)) (append-nil past) (f [] x xs refl o))
-        (each_effect_from Q e (past ++ x ∷ []) xs (λ before s after split o.
-            subst (λ p. Q (effect_of e p s after)) (sym (append_assoc past (x ∷ []) before)) (f (x ∷ before) s after (ap (λ t. x ∷ t) split) o)))
+    (λ o. subst (λ p. Q (effect_of e p x xs)) (append-nil past) (f [] x xs refl o))
+    (each_effect_from Q e (past ++ x ∷ []) xs (λ before s after split o.
+    subst (λ p. Q (effect_of e p s after)) (sym (append_assoc past (x ∷ []) before)) (f (x ∷ before) s after (ap (λ t. x ∷ t) split) o)))
 
 -- what holds of the ways on, if it is kept when a store takes effect
 abbrev pub IsKept : (Branch → Type 0) → Type 0
@@ -126,8 +126,8 @@ met_finds goal Q (suc n) out es (inr h) =
     let R : Branch → Type 0 = HasWay goal Q n in
     let split : One (λ e. (goal e ≡ true) × Q e) es ⊎ One (λ e. (goal e ≡ false) × One R (effects e)) es =
     one_or (λ e. (goal e ≡ true) × Q e) (λ e. (goal e ≡ false) × One R (effects e)) es
-        (one_weaker (HasWay goal Q (suc n)) (λ e. ((goal e ≡ true) × Q e) ⊎ ((goal e ≡ false) × One R (effects e)))
-            (λ e w. elim w [ inl p ↦ inl p | inr p ↦ inr (p.0, one_effect R e p.1.0 p.1.1 p.1.2 p.1.3 p.1.4 p.1.5) ]) es h) in
+    (one_weaker (HasWay goal Q (suc n)) (λ e. ((goal e ≡ true) × Q e) ⊎ ((goal e ≡ false) × One R (effects e)))
+    (λ e w. elim w [ inl p ↦ inl p | inr p ↦ inr (p.0, one_effect R e p.1.0 p.1.1 p.1.2 p.1.3 p.1.4 p.1.5) ]) es h) in
     elim split [
       | inl a ↦ met_finds goal Q n (out_after goal out es) (next_after goal es) (inl (out_finds Q goal out es a))
       | inr a ↦ met_finds goal Q n (out_after goal out es) (next_after goal es) (inr (next_finds R goal [] es a))

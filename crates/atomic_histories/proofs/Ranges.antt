@@ -74,7 +74,7 @@ pub fresh_more : (ds : List HeldUnit) (image : List ℕ) (rest : Rest) (size : �
     ≡ ds ++ fresh_from image rest size us (from + j) (count - j)
 fresh_more ds image rest size us from count j h =
     cons_more ds (is_listed ((from + j) * size) us) (fresh_unit image rest (unit_at size (from + j))) (fresh_from image rest size us (from + (j + 1)) (count - (j + 1)))
-        ∙ ap (λ t. ds ++ t) (sym (fresh_step image rest size us from count j h))
+    ∙ ap (λ t. ds ++ t) (sym (fresh_step image rest size us from count j h))
 
 pub pushed : (fs us items : List KeptUnit) (unit : KeptUnit) (u : HeldUnit) (first : ℕ) → items ≡ fs ++ unit ∷ [] → shown_unit unit ≡ u → list_any (λ x. x.first == first) us ≡ false
     → shown_units items ≡ shown_units fs ++ cons_unless (is_listed first (shown_units us)) u []

@@ -196,8 +196,8 @@ each_after : (h : Held) (history : List HistoryEvent) (event : HistoryEvent) →
     → Each (λ u. Stands h.image h.rest (history ++ event ∷ []) (place_of h.size u) u.branches) (units_after h.size event h.units)
 each_after h history event s =
     each_map (unit_after h.size event) (λ u. Stands h.image h.rest (history ++ event ∷ []) (place_of h.size u) u.branches) h.units
-        (each_weaker (λ u. Stands h.image h.rest history (place_of h.size u) u.branches × (has_way u.branches ≡ true)) (λ u. Stands h.image h.rest (history ++ event ∷ []) (place_of h.size u) (branches_after (place_of h.size u) u.branches event))
-            (λ u p. stands_after (untouched h.image h.rest (place_of h.size u)) (place_of h.size u) u.branches history event p.0) h.units s.listed)
+    (each_weaker (λ u. Stands h.image h.rest history (place_of h.size u) u.branches × (has_way u.branches ≡ true)) (λ u. Stands h.image h.rest (history ++ event ∷ []) (place_of h.size u) (branches_after (place_of h.size u) u.branches event))
+    (λ u p. stands_after (untouched h.image h.rest (place_of h.size u)) (place_of h.size u) u.branches history event p.0) h.units s.listed)
 
 other_after : (h : Held) (history : List HistoryEvent) (event : HistoryEvent) → StandsForAll h history → AreListed h event → (k : ℕ) → is_listed (k * h.size) h.units ≡ false
     → Stands h.image h.rest (history ++ event ∷ []) (unit_at h.size k) (first_ways h.image h.rest (unit_at h.size k))
@@ -205,7 +205,7 @@ other_after h history event s listed k n =
     let unit : UnitPlace = unit_at h.size k in
     let start : UnitMemory = untouched h.image h.rest unit in
     subst (λ es. StandsFor start unit es (history ++ event ∷ [])) (untouched_stays h.image h.rest unit event (not_true (is_touched unit event) (is_listed (k * h.size) h.units) (listed k) n))
-        (stands_after start unit (first_ways h.image h.rest (unit_at h.size k)) history event (s.others k n))
+    (stands_after start unit (first_ways h.image h.rest (unit_at h.size k)) history event (s.others k n))
 
 pub stands_all_first : (image : List ℕ) (rest : Rest) (size : ℕ) → 1 ≤ size → StandsForAll (nothing_held image rest size) []
 stands_all_first image rest size l = record { sized = l; aligned = tt; formed = refl; opened = refl; listed = tt; others = λ k n. stands_first image rest (unit_at size k) }
@@ -270,21 +270,24 @@ module _ (h : Held) (history : List HistoryEvent) (event : HistoryEvent) (s : St
       let aligned : Each (IsAligned h.size) us = each_map (unit_after h.size event) (IsAligned h.size) h.units s.aligned in
       let r = lowest_some None us first e in
       let one : One (λ u. (u.first ≡ first) × (has_way u.branches ≡ false)) us = elim r.0 [ inl never ↦ let x : None ≡ Some first = never in cc | inr o ↦ o ] in
-      let n = not_at first us after aligned one in
-      (n.0, n.1, subst (λ i. ¬ (AtomicAt i)) n.1 n.2,
-      λ j l. let below : j * h.size < first = subst (λ i. j * h.size < i) (sym n.1) (mul-lt-mul_of_pos_right l s.sized) in
-      elim (cases_Bool (is_listed (j * h.size) us)) [
-        | inl t ↦ at_below first (j * h.size) below us after r.2 (one_listed (j * h.size) us t)
-        | inr m ↦ state_from (untouched h.image h.rest (unit_at h.size j)) (unit_at h.size j) (history ++ event ∷ []) (first_ways h.image h.rest (unit_at h.size j))
-            (other_after h history event s listed j (sym (listed_after h.size event (j * h.size) h.units) ∙ m)) refl
-      ])
+      let n = not_at first us after aligned one in (
+        n.0,
+        n.1,
+        subst (λ i. ¬ (AtomicAt i)) n.1 n.2,
+        λ j l. let below : j * h.size < first = subst (λ i. j * h.size < i) (sym n.1) (mul-lt-mul_of_pos_right l s.sized) in
+            elim (cases_Bool (is_listed (j * h.size) us)) [
+              | inl t ↦ at_below first (j * h.size) below us after r.2 (one_listed (j * h.size) us t)
+              | inr m ↦ state_from (untouched h.image h.rest (unit_at h.size j)) (unit_at h.size j) (history ++ event ∷ []) (first_ways h.image h.rest (unit_at h.size j))
+                  (other_after h history event s listed j (sym (listed_after h.size event (j * h.size) h.units) ∙ m)) refl
+            ],
+      )
 
   -- only a load's answer does
   pub only_answers : IsNoAnswer event → lowest (units_after h.size event h.units) ≡ None
   only_answers other = all_ways None (units_after h.size event h.units) refl
       (each_map (unit_after h.size event) (λ u. has_way u.branches ≡ true) h.units
-          (each_weaker (λ u. Stands h.image h.rest history (place_of h.size u) u.branches × (has_way u.branches ≡ true)) (λ u. has_way (branches_after (place_of h.size u) u.branches event) ≡ true)
-              (λ u p. way_left (untouched h.image h.rest (place_of h.size u)) (place_of h.size u) history event other u.branches p.0 p.1) h.units s.listed))
+      (each_weaker (λ u. Stands h.image h.rest history (place_of h.size u) u.branches × (has_way u.branches ≡ true)) (λ u. has_way (branches_after (place_of h.size u) u.branches event) ≡ true)
+      (λ u p. way_left (untouched h.image h.rest (place_of h.size u)) (place_of h.size u) history event other u.branches p.0 p.1) h.units s.listed))
     where
       all_ways : (o : Option ℕ) (us : List HeldUnit) → o ≡ None → Each (λ u. has_way u.branches ≡ true) us → fold lowest_of o us ≡ None
       all_ways o [] e a = e

@@ -63,7 +63,7 @@ is_same_load a b = (a.number == b.number) && ((a.address == b.address) && (a.sin
 unfoldable pub is_same : Branch → Branch → Bool
 is_same a b =
     is_same_word a.word b.word && (pointwise is_same_store a.stores b.stores
-        && (pointwise is_same_load a.loads b.loads && pointwise is_same_word a.path b.path))
+    && (pointwise is_same_load a.loads b.loads && pointwise is_same_word a.path b.path))
 
 -- the ways with one more
 abbrev pub with_branch : List Branch → Branch → List Branch

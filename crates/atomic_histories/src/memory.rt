@@ -10,8 +10,8 @@ ghost use Rattle.atomic_histories.specs.Held.{nothing_held, is_wide, units_after
 ghost use Rattle.atomic_histories.specs.Shown.{StopIs};
 ghost use Rattle.atomic_histories.specs.Judge.{bytes_of, held, limit_of, shown_unit, shown_units, place_from, place_in, IsNoVerdict, IsTaken, KeptFaultIs, StepFaultIs};
 
-use crate::search::{Stop, ways_after};
 use crate::forms::{close, form_fault, open_under};
+use crate::search::{Stop, ways_after};
 use crate::unit::{Operation, UnitPlace};
 use crate::ways::Way;
 use crate::words::initial_word;
@@ -203,7 +203,12 @@ fn fresh_from(
 }
 
 // A unit that no operation has touched.
-fn untouched_unit(alloc: Global, place: UnitPlace, image: &[u8], rest: Rest) -> Result<KeptUnit, AllocError>
+fn untouched_unit(
+    alloc: Global,
+    place: UnitPlace,
+    image: &[u8],
+    rest: Rest,
+) -> Result<KeptUnit, AllocError>
     ensures { IfOk result (λ u. shown_unit u ≡ fresh_unit image.now rest place) }
 {
     let mut ways = Vec::new(alloc);
@@ -308,7 +313,13 @@ impl AtomicMemory {
                 length,
             } => {
                 let count = units_of(self.size, address, length);
-                fresh_from(self.alloc, memory, units, address / self.size.bytes(), count)
+                fresh_from(
+                    self.alloc,
+                    memory,
+                    units,
+                    address / self.size.bytes(),
+                    count,
+                )
             }
             HistoryEvent::StoreRequest {
                 number: _,
@@ -317,7 +328,13 @@ impl AtomicMemory {
                 enables: _,
             } => {
                 let count = units_of(self.size, address, bytes.len());
-                fresh_from(self.alloc, memory, units, address / self.size.bytes(), count)
+                fresh_from(
+                    self.alloc,
+                    memory,
+                    units,
+                    address / self.size.bytes(),
+                    count,
+                )
             }
             HistoryEvent::LoadResponse {
                 number: _,

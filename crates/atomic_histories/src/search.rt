@@ -90,8 +90,7 @@ fn round(
 fn rounds(ways: &[Way]) -> usize
     ensures { result ≡ rounds (shown_all ways.now) }
 {
-    ways.iter()
-        .fold(0, |most, way| most.max(way.stores.len()))
+    ways.iter().fold(0, |most, way| most.max(way.stores.len()))
 }
 
 // Whether more ways than the limit are to be followed.
@@ -104,12 +103,7 @@ fn exceeds(limit: usize, frontier: &[Way], found: &[Way]) -> bool
 // From these ways on stores take effect, until what is wanted is met: no more than `limit` ways are
 // followed at a time.
 #[tactic(auto, using(crate::proofs::Loops::over_stop, crate::proofs::Loops::over_go))]
-fn search(
-    alloc: Global,
-    ways: &[Way],
-    wanted: Wanted,
-    limit: usize,
-) -> Result<Vec<Way>, Stop>
+fn search(alloc: Global, ways: &[Way], wanted: Wanted, limit: usize) -> Result<Vec<Way>, Stop>
     ensures found { IfOk result (λ found. shown_all found.items ≡ met (suc (rounds (shown_all ways.now))) (goal_of wanted.entry) [] (shown_all ways.now)) }
     ensures stop { IfErr result (StopIs (needs_more limit (goal_of wanted.entry) (shown_all ways.now))) }
 {
@@ -129,12 +123,7 @@ fn search(
 
 // The ways after an answer.
 #[tactic(auto, unfolding(crate::specs::Branches::answered))]
-fn answered(
-    alloc: Global,
-    ways: &[Way],
-    wanted: Wanted,
-    limit: usize,
-) -> Result<Vec<Way>, Stop>
+fn answered(alloc: Global, ways: &[Way], wanted: Wanted, limit: usize) -> Result<Vec<Way>, Stop>
     ensures after { IfOk result (λ after. shown_all after.items ≡ answered (goal_of wanted.entry) (without_of wanted.entry) (shown_all ways.now)) }
     ensures stop { IfErr result (StopIs (needs_more limit (goal_of wanted.entry) (shown_all ways.now))) }
 {

@@ -23,8 +23,14 @@ pub struct Way {
 /// What an answer needs of a way: that a store has taken effect, or that a load may have got these bytes.
 #[derive(Clone, Copy)]
 pub enum Wanted<'a> {
-    Effect { number: u64 },
-    Answer { unit: UnitPlace, number: u64, bytes: &'a [u8] },
+    Effect {
+        number: u64,
+    },
+    Answer {
+        unit: UnitPlace,
+        number: u64,
+        bytes: &'a [u8],
+    },
 }
 
 // Whether a store has this number.
@@ -182,9 +188,7 @@ impl Way {
     fn has_answer(&self, unit: UnitPlace, number: u64, bytes: &[u8]) -> bool
         ensures { result ≡ has_answer unit number bytes.now (shown self.now) }
     {
-        self.loads
-            .iter()
-            .all(|load| !is_watched(load, number) || self.may_have(unit, bytes, load))
+        self.loads.iter().all(|load| !is_watched(load, number) || self.may_have(unit, bytes, load))
     }
 
     fn has_effect(&self, number: u64) -> bool
@@ -245,7 +249,12 @@ impl Way {
     }
 
     // The way once a load is requested.
-    pub(crate) fn with_load(&self, alloc: Global, number: u64, address: u64) -> Result<Way, AllocError>
+    pub(crate) fn with_load(
+        &self,
+        alloc: Global,
+        number: u64,
+        address: u64,
+    ) -> Result<Way, AllocError>
         ensures { IfOk result (λ w. shown w ≡ branch_with_load number address (shown self.now)) }
     {
         let mut more = self.copy(alloc)?;
@@ -259,7 +268,12 @@ impl Way {
     }
 
     // The way once a store is requested.
-    pub(crate) fn with_store(&self, alloc: Global, number: u64, bytes: Word) -> Result<Way, AllocError>
+    pub(crate) fn with_store(
+        &self,
+        alloc: Global,
+        number: u64,
+        bytes: Word,
+    ) -> Result<Way, AllocError>
         ensures { IfOk result (λ w. shown w ≡ branch_with_store number bytes (shown self.now)) }
     {
         let mut more = self.copy(alloc)?;

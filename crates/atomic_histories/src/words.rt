@@ -108,7 +108,12 @@ fn stored_lane(unit: UnitPlace, from: u64, bytes: &[u8], enables: u64, lane: u64
     ensures { result ≡ at_lane unit (stored_byte from bytes.now enables) lane }
 {
     if lane < unit.size {
-        stored_byte(from, bytes, enables, u128::from(unit.first) + u128::from(lane))
+        stored_byte(
+            from,
+            bytes,
+            enables,
+            u128::from(unit.first) + u128::from(lane),
+        )
     } else {
         None
     }
