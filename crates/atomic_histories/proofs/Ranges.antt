@@ -1,5 +1,5 @@
 -- The units that bytes lie in, and steps of the loops over units.
-use Rattle.std.proofs.Common.{◌≡◌, ℕ, zero, suc, ◌+◌, ◌-◌, ◌*◌, ◌/◌, ◌^◌, ◌<◌, ◌≤◌, Bool, true, false, ◌&&◌, ◌||◌, not, ◌==◌, nat_le, List, [], ◌∷◌, ◌++◌, map, length, get_or, refl, sym, ap, ◌∙◌, subst, leb-true, ne_eqb, append_assoc, append-nil, mul-le-mul_right, mul-le-mul_left, suc-mul, add-one, arith}
+use Rattle.std.proofs.Common.{◌≡◌, ℕ, zero, suc, ◌+◌, ◌-◌, ◌*◌, ◌/◌, ◌^◌, ◌<◌, ◌≤◌, Bool, true, false, ◌&&◌, ◌||◌, not, ◌==◌, nat_le, List, [], ◌∷◌, ◌++◌, map, length, get_or, Result, Ok, Err, IfErr, IsErrAnd, refl, sym, ap, ◌∙◌, subst, leb-true, ne_eqb, append_assoc, append-nil, mul-le-mul_right, mul-le-mul_left, suc-mul, add-one, arith}
 use Rattle.std.specs.List.{list_any}
 use Rattle.std.proofs.lemmas.Bool.{and_parts}
 use Rattle.std.proofs.lemmas.List.{map-append}
@@ -127,3 +127,8 @@ stop_first limit size event us vs s t = subst (λ b. IsNoVerdict b (fault_of s))
 
 pub stop_second : (limit size : ℕ) (event : HistoryEvent) (us vs : List HeldUnit) (s : Stop) → StopIs (is_wide limit size event vs) s → IsNoVerdict (is_wide limit size event (us ++ vs)) (fault_of s)
 stop_second limit size event us vs s t = subst (λ b. IsNoVerdict b (fault_of s)) (sym (wide_append limit size event us vs)) (no_verdict_right (is_wide limit size event us) (is_wide limit size event vs) s t)
+
+-- what is said of an error that is passed on
+pub pass_on : {A E : Type 0} (r : Result A E) (e : E) (P : E → Type 0) → IsErrAnd r (λ f. f ≡ e) → P e → IfErr r P
+pass_on (Ok x) e P h p = tt
+pass_on (Err f) e P h p = subst P (sym h) p

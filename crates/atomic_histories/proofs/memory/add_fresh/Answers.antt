@@ -8,7 +8,7 @@ returns-then-is_listed c =
     not_pushed c.args.fresh.now.items c.args.units.now (fresh_unit c.args.memory.0.now c.args.memory.1 (record { first = c.args.first; size = c.args.memory.2 })) c.args.first
     (sym c.is_listed.ensures ∙ c.if-is_listed.true)
 
-pub returns-in_ok-push : goal.returns-in_ok-push
-returns-in_ok-push c =
+pub returns : goal.returns
+returns c =
     pushed c.args.fresh.now.items c.args.units.now c.push.new.self.items c.in_ok-unit.unit (fresh_unit c.args.memory.0.now c.args.memory.1 (record { first = c.args.first; size = c.args.memory.2 })) c.args.first
     c.in_ok-push.ensures.items c.in_ok-unit.ensures (sym c.is_listed.ensures ∙ c.if-is_listed.false)
