@@ -1,0 +1,186 @@
+-- The search for the ways on which a goal is met: what it finds was reached by stores that took effect, and it finds each way there.
+use Rattle.std.proofs.Common.{◌≡◌, ℕ, zero, suc, ◌+◌, ◌<◌, ◌≤◌, ◌⊎◌, Bool, true, false, List, [], ◌∷◌, ◌++◌, length, max, fold, if◌then◌else◌, inl, inr, refl, sym, ap, ◌∙◌, subst, append_assoc, append-nil, arith}
+use Rattle.std.proofs.lemmas.Bool.{cases_Bool, true≢false}
+use Rattle.atomic_histories.specs.declared.unit.OpenStore.{OpenStore}
+use Rattle.atomic_histories.specs.Law.{UnitMemory, done_store}
+use Rattle.atomic_histories.specs.Branches.{Branch, effect_of, cons_effect, effects_from, effects, with_branch, with_branches, out_of, next_of, out_after, next_after, met, rounds}
+use Rattle.atomic_histories.specs.Stands.{Each, One, IsOn, Leads, now, later}
+use Rattle.atomic_histories.proofs.Lists.{one_weaker, one_none, one_or, each_weaker}
+use Rattle.atomic_histories.proofs.Same.{one_with, new_with, each_with, one_withs, new_withs, each_withs}
+
+-- The ways on. ----
+
+one_cons : (Q : Branch → Type 0) (b : Bool) (x : Branch) (es : List Branch) → One Q es → One Q (cons_effect b x es)
+one_cons Q true x es h = h
+one_cons Q false x es h = inr h
+
+new_cons : (Q : Branch → Type 0) (b : Bool) (x : Branch) (es : List Branch) → b ≡ false → Q x → One Q (cons_effect b x es)
+new_cons Q true x es e q = cc
+new_cons Q false x es e q = inl q
+
+each_cons : (Q : Branch → Type 0) (b : Bool) (x : Branch) (es : List Branch) → (b ≡ false → Q x) → Each Q es → Each Q (cons_effect b x es)
+each_cons Q true x es f a = a
+each_cons Q false x es f a = (f refl, a)
+
+head_same : {X : Type 0} (x y : X) (xs ys : List X) → x ∷ xs ≡ y ∷ ys → x ≡ y
+head_same x y xs ys e = cc
+
+tail_same : {X : Type 0} (x y : X) (xs ys : List X) → x ∷ xs ≡ y ∷ ys → xs ≡ ys
+tail_same x y xs ys e = cc
+
+one_effect_from : (Q : Branch → Type 0) (e : Branch) (past ss before : List OpenStore) (s : OpenStore) (after : List OpenStore) → ss ≡ before ++ s ∷ after → s.is_done ≡ false
+    → Q (effect_of e (past ++ before) s after) → One Q (effects_from e past ss)
+one_effect_from Q e past [] [] s after split open_ q = cc
+one_effect_from Q e past [] (b ∷ bs) s after split open_ q = cc
+one_effect_from Q e past (x ∷ xs) [] s after split open_ q =
+    let x_s : x ≡ s = head_same x s xs after split in
+    let xs_after : xs ≡ after = tail_same x s xs after split in
+    let q1 : Q (effect_of e past s after) = subst (λ p. Q (effect_of e p s after)) (append-nil past) q in
+    let q2 : Q (effect_of e past x xs) = subst (λ y. Q (effect_of e past y xs)) (sym x_s) (subst (λ ys. Q (effect_of e past s ys)) (sym xs_after) q1) in
+    new_cons Q x.is_done (effect_of e past x xs) (effects_from e (past ++ x ∷ []) xs) (ap (λ y. y.is_done) x_s ∙ open_) q2
+one_effect_from Q e past (x ∷ xs) (b ∷ bs) s after split open_ q =
+    let x_b : x ≡ b = head_same x b xs (bs ++ s ∷ after) split in
+    let rest : xs ≡ bs ++ s ∷ after = tail_same x b xs (bs ++ s ∷ after) split in
+    let q1 : Q (effect_of e (past ++ x ∷ bs) s after) = subst (λ y. Q (effect_of e (past ++ y ∷ bs) s after)) (sym x_b) q in
+    let q2 : Q (effect_of e ((past ++ x ∷ []) ++ bs) s after) = subst (λ p. Q (effect_of e p s after)) (sym (append_assoc past (x ∷ []) bs)) q1 in
+    one_cons Q x.is_done (effect_of e past x xs) (effects_from e (past ++ x ∷ []) xs) (one_effect_from Q e (past ++ x ∷ []) xs bs s after rest open_ q2)
+
+one_effect : (Q : Branch → Type 0) (e : Branch) (before : List OpenStore) (s : OpenStore) (after : List OpenStore) → e.stores ≡ before ++ s ∷ after → s.is_done ≡ false
+    → Q (effect_of e before s after) → One Q (effects e)
+one_effect Q e before s after split open_ q = one_effect_from Q e [] e.stores before s after split open_ q
+
+each_effect_from : (Q : Branch → Type 0) (e : Branch) (past ss : List OpenStore) → ((before : List OpenStore) (s : OpenStore) (after : List OpenStore) → ss ≡ before ++ s ∷ after → s.is_done ≡ false
+    → Q (effect_of e (past ++ before) s after)) → Each Q (effects_from e past ss)
+each_effect_from Q e past [] f = tt
+each_effect_from Q e past (x ∷ xs) f =
+    each_cons Q x.is_done (effect_of e past x xs) (effects_from e (past ++ x ∷ []) xs)
+    (λ o. subst (λ p. Q (effect_of e p x xs)) (append-nil past) (f [] x xs refl o))
+    (each_effect_from Q e (past ++ x ∷ []) xs (λ before s after split o.
+    subst (λ p. Q (effect_of e p s after)) (sym (append_assoc past (x ∷ []) before)) (f (x ∷ before) s after (ap (λ t. x ∷ t) split) o)))
+
+-- what holds of the ways on, if it is kept when a store takes effect
+abbrev pub IsKept : (Branch → Type 0) → Type 0
+IsKept S = (e : Branch) (before : List OpenStore) (s : OpenStore) (after : List OpenStore) → S e → e.stores ≡ before ++ s ∷ after → s.is_done ≡ false → S (effect_of e before s after)
+
+each_effect : (S : Branch → Type 0) → IsKept S → (e : Branch) → S e → Each S (effects e)
+each_effect S kept e h = each_effect_from S e [] e.stores (λ before s after split o. kept e before s after h split o)
+
+-- One round. ----
+
+out_keeps : (P : Branch → Type 0) (goal : Branch → Bool) (out es : List Branch) → One P out → One P (out_after goal out es)
+out_keeps P goal out [] h = h
+out_keeps P goal out (e ∷ es) h = elim (cases_Bool (goal e)) [
+  | inl t ↦ rw t (out_keeps P goal (with_branch out e) es (one_with P out e h))
+  | inr f ↦ rw f (out_keeps P goal out es h)
+]
+
+out_finds : (P : Branch → Type 0) (goal : Branch → Bool) (out es : List Branch) → One (λ e. (goal e ≡ true) × P e) es → One (λ e. (goal e ≡ true) × P e) (out_after goal out es)
+out_finds P goal out [] h = absurd h
+out_finds P goal out (e ∷ es) (inl p) = rw p.0 (out_keeps (λ x. (goal x ≡ true) × P x) goal (with_branch out e) es (new_with (λ x. (goal x ≡ true) × P x) out e p))
+out_finds P goal out (e ∷ es) (inr h) = out_finds P goal (out_of goal out e) es h
+
+next_keeps : (P : Branch → Type 0) (goal : Branch → Bool) (next es : List Branch) → One P next → One P (fold (next_of goal) next es)
+next_keeps P goal next [] h = h
+next_keeps P goal next (e ∷ es) h = elim (cases_Bool (goal e)) [
+  | inl t ↦ rw t (next_keeps P goal next es h)
+  | inr f ↦ rw f (next_keeps P goal (with_branches next (effects e)) es (one_withs P next (effects e) h))
+]
+
+next_finds : (P : Branch → Type 0) (goal : Branch → Bool) (next es : List Branch) → One (λ e. (goal e ≡ false) × One P (effects e)) es → One P (fold (next_of goal) next es)
+next_finds P goal next [] h = absurd h
+next_finds P goal next (e ∷ es) (inl p) = rw p.0 (next_keeps P goal (with_branches next (effects e)) es (new_withs P next (effects e) p.1))
+next_finds P goal next (e ∷ es) (inr h) = next_finds P goal (next_of goal next e) es h
+
+out_sound : (S : Branch → Type 0) (goal : Branch → Bool) (out es : List Branch) → Each (λ e. S e × (goal e ≡ true)) out → Each S es → Each (λ e. S e × (goal e ≡ true)) (out_after goal out es)
+out_sound S goal out [] a b = a
+out_sound S goal out (e ∷ es) a b = elim (cases_Bool (goal e)) [
+  | inl t ↦ rw t (out_sound S goal (with_branch out e) es (each_with (λ x. S x × (goal x ≡ true)) out e a (b.0, t)) b.1)
+  | inr f ↦ rw f (out_sound S goal out es a b.1)
+]
+
+next_sound : (S : Branch → Type 0) → IsKept S → (goal : Branch → Bool) (next es : List Branch) → Each S next → Each S es → Each S (fold (next_of goal) next es)
+next_sound S kept goal next [] a b = a
+next_sound S kept goal next (e ∷ es) a b = elim (cases_Bool (goal e)) [
+  | inl t ↦ rw t (next_sound S kept goal next es a b.1)
+  | inr f ↦ rw f (next_sound S kept goal (with_branches next (effects e)) es (each_withs S next (effects e) a (each_effect S kept e b.0)) b.1)
+]
+
+-- All rounds. ----
+
+pub met_sound : (S : Branch → Type 0) → IsKept S → (n : ℕ) (goal : Branch → Bool) (out es : List Branch) → Each (λ e. S e × (goal e ≡ true)) out → Each S es
+    → Each (λ e. S e × (goal e ≡ true)) (met n goal out es)
+met_sound S kept zero goal out es a b = a
+met_sound S kept (suc n) goal out es a b = met_sound S kept n goal (out_after goal out es) (next_after goal es) (out_sound S goal out es a b) (next_sound S kept goal [] es tt b)
+
+-- within so many steps a way comes to one that meets the goal
+abbrev HasWay : (Branch → Bool) → (Branch → Type 0) → ℕ → Branch → Type 0
+HasWay goal Q zero e = ⊥
+HasWay goal Q (suc n) e = ((goal e ≡ true) × Q e)
+    ⊎ ((goal e ≡ false) × ((before : List OpenStore) × (s : OpenStore) × (after : List OpenStore) × (e.stores ≡ before ++ s ∷ after) × (s.is_done ≡ false) × HasWay goal Q n (effect_of e before s after)))
+
+met_finds : (goal : Branch → Bool) (Q : Branch → Type 0) (n : ℕ) (out es : List Branch) → One (λ e. (goal e ≡ true) × Q e) out ⊎ One (HasWay goal Q n) es → One (λ e. (goal e ≡ true) × Q e) (met n goal out es)
+met_finds goal Q zero out es (inl h) = h
+met_finds goal Q zero out es (inr h) = absurd (one_none es h)
+met_finds goal Q (suc n) out es (inl h) = met_finds goal Q n (out_after goal out es) (next_after goal es) (inl (out_keeps (λ e. (goal e ≡ true) × Q e) goal out es h))
+met_finds goal Q (suc n) out es (inr h) =
+    let R : Branch → Type 0 = HasWay goal Q n in
+    let split : One (λ e. (goal e ≡ true) × Q e) es ⊎ One (λ e. (goal e ≡ false) × One R (effects e)) es =
+    one_or (λ e. (goal e ≡ true) × Q e) (λ e. (goal e ≡ false) × One R (effects e)) es
+    (one_weaker (HasWay goal Q (suc n)) (λ e. ((goal e ≡ true) × Q e) ⊎ ((goal e ≡ false) × One R (effects e)))
+    (λ e w. elim w [ inl p ↦ inl p | inr p ↦ inr (p.0, one_effect R e p.1.0 p.1.1 p.1.2 p.1.3 p.1.4 p.1.5) ]) es h) in
+    elim split [
+      | inl a ↦ met_finds goal Q n (out_after goal out es) (next_after goal es) (inl (out_finds Q goal out es a))
+      | inr a ↦ met_finds goal Q n (out_after goal out es) (next_after goal es) (inr (next_finds R goal [] es a))
+    ]
+
+-- How many steps. ----
+
+abbrev undone_of : Bool → ℕ
+undone_of true = 0
+undone_of false = 1
+
+abbrev undone : List OpenStore → ℕ
+undone [] = 0
+undone (s ∷ ss) = undone_of s.is_done + undone ss
+
+undone_most : (b : Bool) → undone_of b ≤ 1
+undone_most true = omega arith
+undone_most false = omega arith
+
+undone_length : (ss : List OpenStore) → undone ss ≤ length ss
+undone_length [] = omega arith
+undone_length (s ∷ ss) = omega (arith, undone_most s.is_done, undone_length ss)
+
+undone_less : (before : List OpenStore) (s : OpenStore) (after : List OpenStore) → s.is_done ≡ false → undone (before ++ s ∷ after) ≡ suc (undone (before ++ done_store s ∷ after))
+undone_less [] s after o = rw o (omega arith)
+undone_less (b ∷ bs) s after o = omega (arith, undone_less bs s after o)
+
+way_of : (goal : Branch → Bool) {e : Branch} {m : UnitMemory} → Leads e m → ((x : Branch) → IsOn x m → goal x ≡ true) → (n : ℕ) → undone e.stores ≤ n → HasWay goal (λ x. Leads x m) (suc n) e
+way_of goal {e} {m} (now o) g n l = inl (g e o, now o)
+way_of goal {e} {m} (later before s after split open_ r) g zero l =
+    let less : undone e.stores ≡ suc (undone (before ++ done_store s ∷ after)) = ap undone split ∙ undone_less before s after open_ in absurd (omega arith)
+way_of goal {e} {m} (later before s after split open_ r) g (suc n) l =
+    let less : undone e.stores ≡ suc (undone (before ++ done_store s ∷ after)) = ap undone split ∙ undone_less before s after open_ in
+    let room : undone (before ++ done_store s ∷ after) ≤ n = omega arith in
+    elim (cases_Bool (goal e)) [
+      | inl t ↦ inl (t, later before s after split open_ r)
+      | inr f ↦ inr (f, (before, s, after, split, open_, way_of goal r g n room))
+    ]
+
+more_rounds : (n : ℕ) (es : List Branch) → n ≤ fold (λ k e. max k (length e.stores)) n es
+more_rounds n [] = omega arith
+more_rounds n (e ∷ es) = let h = more_rounds (max n (length e.stores)) es in omega arith
+
+one_rounds : (P : Branch → Type 0) (n : ℕ) (es : List Branch) → One P es → One (λ e. P e × (undone e.stores ≤ fold (λ k x. max k (length x.stores)) n es)) es
+one_rounds P n [] h = absurd h
+one_rounds P n (e ∷ es) (inl p) = let h = more_rounds (max n (length e.stores)) es in let l = undone_length e.stores in inl (p, omega arith)
+one_rounds P n (e ∷ es) (inr h) = inr (one_rounds P (max n (length e.stores)) es h)
+
+-- a way that leads to a state at which the goal is met is found at the first place where it is
+pub met_complete : (goal : Branch → Bool) (m : UnitMemory) → ((x : Branch) → IsOn x m → goal x ≡ true) → (es : List Branch) → One (λ e. Leads e m) es
+    → One (λ e. (goal e ≡ true) × Leads e m) (met (suc (rounds es)) goal [] es)
+met_complete goal m g es h =
+    let n : ℕ = rounds es in
+    let ways : One (HasWay goal (λ x. Leads x m) (suc n)) es =
+    one_weaker (λ e. Leads e m × (undone e.stores ≤ n)) (HasWay goal (λ x. Leads x m) (suc n)) (λ e p. way_of goal p.0 g n p.1) es (one_rounds (λ e. Leads e m) 0 es h) in
+    met_finds goal (λ x. Leads x m) (suc n) [] es (inr ways)

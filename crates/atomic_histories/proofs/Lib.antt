@@ -1,0 +1,15 @@
+-- lists, ways that are alike, hidden steps on a way, the search for a goal, events, and that the ways are exact
+pub mod Lists
+pub mod Same
+pub mod Steps
+pub mod Found
+pub mod Events
+pub mod Answers
+pub mod Exact
+pub mod Bits
+pub mod Loops
+pub mod Worked
+pub mod Whole
+pub mod Fresh
+pub mod Ranges
+pub mod Verdict

@@ -1,0 +1,9 @@
+use Rattle.atomic_histories.specs.Judge.{held}
+use Rattle.atomic_histories.proofs.Verdict.{accepted_law, refused_law}
+use Rattle.atomic_histories.proofs.memory.AtomicMemory.step.Goals as goal
+
+pub returns-clause-ok : goal.returns-clause-ok
+returns-clause-ok c = accepted_law c.kept_step.result (held c.args.self.now) (held c.kept_step.new.self) c.args.event c.kept_step.ensures.ok
+
+pub returns-clause-fault : goal.returns-clause-fault
+returns-clause-fault c = refused_law c.kept_step.result c.args.self.now.limit (held c.args.self.now) c.args.event c.kept_step.ensures.fault

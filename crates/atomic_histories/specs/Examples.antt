@@ -1,0 +1,26 @@
+-- Worked histories of the atomic law: hidden steps that explain them.
+use Rattle.std.specs.Prelude.{ℕ, ◌≡◌, Bool, true, false, ◌⊎◌, List, [], ◌∷◌, ◌++◌, Option, Some, None, refl}
+use Rattle.std.proofs.Common.{inl, inr}
+use Rattle.std.specs.Borrow.{Bor}
+use Rattle.memory_histories.specs.declared.events.HistoryEvent.{HistoryEvent}
+use Rattle.memory_histories.specs.declared.events.HistoryEvent.TheVariants.{LoadRequest, LoadResponse, StoreRequest, StoreResponse}
+use Rattle.memory_histories.specs.declared.events.Rest.TheVariants.{Zeros, Unknown}
+use Rattle.atomic_histories.specs.declared.unit.UnitPlace.{UnitPlace}
+use Rattle.atomic_histories.specs.Words.{written, is_word_of}
+use Rattle.atomic_histories.specs.Law.{UnitMemory, MayBe, IsAtomicAt, starts, steps, sees}
+
+abbrev bytes : List ℕ → Bor (List ℕ)
+bytes xs = record { ref_ptr = (0, 0); now = xs }
+
+abbrev pair : UnitPlace
+pair = record { first = 4096; size = 2 }
+
+-- a store of one byte, and its effect comes behind a load that was requested before it
+pub old_then_new : IsAtomicAt [] Zeros pair
+    (StoreRequest 1 4096 (bytes (90 ∷ [])) 1 ∷ LoadRequest 1 4096 1 ∷ LoadResponse 1 (bytes (0 ∷ [])) ∷ LoadRequest 1 4096 1 ∷ LoadResponse 1 (bytes (90 ∷ [])) ∷ StoreResponse 1 ∷ [])
+unfolding written is_word_of
+old_then_new = (
+  _,
+  sees _ _ _ _ (sees _ _ _ _ (steps _ _ _ (steps _ _ _ (sees _ _ _ _ (sees _ _ _ _ (steps _ _ _ (sees _ _ _ _ (sees _ _ _ _ starts refl) refl)
+      (inr ([], _, [], refl, refl, refl))) refl) refl) (inl ([], _, [], refl, refl, refl))) (inr ([], _, [], refl, refl, refl))) refl) refl,
+)

@@ -1,0 +1,146 @@
+//! Which operations are open, and which events are malformed.
+
+ghost use Rattle.std.specs.Prelude.{◌≡◌, ◌++◌, ◌∷◌, [], length, not, OnOk, OnErr};
+ghost use Rattle.std.specs.List.{filter, find, list_any};
+ghost use Rattle.memory_histories.specs.Regular.{load_request_fault, store_request_fault, store_response_fault, is_inside, has_enabled};
+ghost use Rattle.atomic_histories.specs.Operations.{has_number, without_number, answer_fault, form_fault};
+
+use crate::unit::Operation;
+use memory_histories::{HistoryEvent, HistoryFault, MAX_LENGTH};
+
+// Whether an operation lies within memory.
+fn is_inside(address: u64, length: usize) -> bool
+    ensures { result ≡ is_inside address length }
+{
+    1 <= length && (length <= MAX_LENGTH && u128::from(address) + length as u128 <= 1 << 64)
+}
+
+#[tactic(auto, using(crate::proofs::Bits::has_enabled_more))]
+// Whether one of the bytes is enabled.
+fn has_enabled(bytes: &[u8], enables: u64) -> bool
+    ensures { result ≡ has_enabled bytes.now enables }
+{
+    let mut left = enables;
+    for _byte in bytes {
+        if left % 2 == 1 {
+            return true;
+        }
+        left /= 2;
+    }
+    false
+}
+
+// Whether an operation has this number.
+fn has_number(operation: &Operation, number: u64) -> bool
+    ensures { result ≡ has_number number operation.now }
+{
+    operation.number == number
+}
+
+// Whether an operation is open under this number.
+fn is_open(operations: &[Operation], number: u64) -> bool
+    ensures { result ≡ list_any (has_number number) operations.now }
+{
+    operations
+        .iter()
+        .any(|operation| has_number(operation, number))
+}
+
+// The operation that is open under this number.
+pub(crate) fn open_under(operations: &[Operation], number: u64) -> Option<Operation>
+    ensures { result ≡ find (has_number number) operations.now }
+{
+    operations
+        .iter()
+        .copied()
+        .find(|operation| has_number(operation, number))
+}
+
+// It is answered.
+pub(crate) fn close(operations: &mut Vec<Operation>, number: u64)
+    ensures { operations.new.items ≡ without_number number operations.old.items }
+{
+    operations.retain(|operation| !has_number(operation, number));
+}
+
+fn load_request_fault(inside: bool, used: bool) -> Option<HistoryFault>
+    ensures { result ≡ load_request_fault inside used }
+{
+    if !inside {
+        Some(HistoryFault::OutOfRange)
+    } else if used {
+        Some(HistoryFault::NumberInUse)
+    } else {
+        None
+    }
+}
+
+fn store_request_fault(inside: bool, any: bool, used: bool) -> Option<HistoryFault>
+    ensures { result ≡ store_request_fault inside any used }
+{
+    if !inside {
+        Some(HistoryFault::OutOfRange)
+    } else if !any {
+        Some(HistoryFault::NoByteEnabled)
+    } else if used {
+        Some(HistoryFault::NumberInUse)
+    } else {
+        None
+    }
+}
+
+fn store_response_fault(used: bool) -> Option<HistoryFault>
+    ensures { result ≡ store_response_fault used }
+{
+    if used {
+        None
+    } else {
+        Some(HistoryFault::NotOpen)
+    }
+}
+
+fn answer_fault(load: Option<Operation>, length: usize) -> Option<HistoryFault>
+    ensures { result ≡ answer_fault load length }
+{
+    match load {
+        None => Some(HistoryFault::NotOpen),
+        Some(load) => {
+            if load.length == length {
+                None
+            } else {
+                Some(HistoryFault::WrongLength)
+            }
+        }
+    }
+}
+
+// Why an event is malformed while these operations are open.
+pub(crate) fn form_fault(
+    loads: &[Operation],
+    stores: &[Operation],
+    event: HistoryEvent,
+) -> Option<HistoryFault>
+    ensures { result ≡ form_fault (record { loads = loads.now; stores = stores.now }) event.entry }
+{
+    match event {
+        HistoryEvent::LoadRequest {
+            number,
+            address,
+            length,
+        } => load_request_fault(is_inside(address, length), is_open(loads, number)),
+        HistoryEvent::LoadResponse { number, bytes } => {
+            answer_fault(open_under(loads, number), bytes.len())
+        }
+        HistoryEvent::StoreRequest {
+            number,
+            address,
+            bytes,
+            enables,
+        } => store_request_fault(
+            is_inside(address, bytes.len()),
+            has_enabled(bytes, enables),
+            is_open(stores, number),
+        ),
+        HistoryEvent::StoreResponse { number } => store_response_fault(is_open(stores, number)),
+    }
+}

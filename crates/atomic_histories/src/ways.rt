@@ -1,0 +1,287 @@
+//! The ways that a unit may have gone.
+
+ghost use Rattle.std.specs.Prelude.{◌≡◌, ◌<◌, ◌≤◌, ◌+◌, ◌++◌, ◌∷◌, [], true, length, map, take, drop, slice_index_or, not, IfOk, OnOk};
+ghost use Rattle.std.specs.List.{filter, list_all, list_any};
+ghost use Rattle.atomic_histories.specs.Words.{is_word_of};
+ghost use Rattle.atomic_histories.specs.Law.{is_store, may_answer_store, done_store};
+ghost use Rattle.atomic_histories.specs.Branches.{effect_of, effects, is_same, with_branch, with_branches, is_watched, may_have, has_answer, has_effect, branch_without_load, branch_without_store, branch_with_load, branch_with_store, path_after, kept_path};
+ghost use Rattle.atomic_histories.specs.Shown.{shown, shown_all, goal_of, without_of};
+
+use crate::unit::{OpenStore, UnitPlace, WatchedLoad, Word};
+use crate::words::{is_word_of, write};
+use std::alloc::{AllocError, Global};
+
+/// One way that a unit may have gone.
+#[derive(Drop)]
+pub struct Way {
+    pub(crate) word: Word,
+    pub(crate) stores: Vec<OpenStore>,
+    pub(crate) loads: Vec<WatchedLoad>,
+    pub(crate) path: Vec<Word>,
+}
+
+/// What an answer needs of a way: that a store has taken effect, or that a load may have got these bytes.
+#[derive(Clone, Copy)]
+pub enum Wanted<'a> {
+    Effect {
+        number: u64,
+    },
+    Answer {
+        unit: UnitPlace,
+        number: u64,
+        bytes: &'a [u8],
+    },
+}
+
+// Whether a store has this number.
+fn is_store(store: &OpenStore, number: u64) -> bool
+    ensures { result ≡ is_store number store.now }
+{
+    store.number == number
+}
+
+// Whether a load has this number.
+fn is_watched(load: &WatchedLoad, number: u64) -> bool
+    ensures { result ≡ is_watched number load.now }
+{
+    load.number == number
+}
+
+// The words from one on.
+#[tactic(auto, using(crate::proofs::Loops::none_passed))]
+fn words_from(path: &[Word], since: usize) -> &[Word]
+    ensures { result.now ≡ drop since path.entry.now }
+{
+    if since <= path.len() {
+        &path[since..]
+    } else {
+        &path[path.len()..]
+    }
+}
+
+// Whether these are the bytes of one of the words.
+fn has_word(words: &[Word], first: u64, address: u64, bytes: &[u8]) -> bool
+    ensures { result ≡ list_any (λ w. is_word_of first w address bytes.now) words.now }
+{
+    words
+        .iter()
+        .any(|word| is_word_of(first, word, address, bytes))
+}
+
+// The word of now is overwritten: it is kept if a load is open that may have got it.
+#[tactic(auto, using(crate::proofs::Loops::path_empty, crate::proofs::Loops::path_more))]
+fn keep_word(path: &mut Vec<Word>, loads: &[WatchedLoad], word: Word) -> Result<(), AllocError>
+    ensures { OnOk result (path.new.items ≡ path_after loads.now path.old.items word) }
+{
+    if loads.is_empty() {
+        path.clear();
+    } else {
+        path.push(word)?;
+    }
+    Ok(())
+}
+
+// Nobody asks for the words before if no load is open.
+#[tactic(auto, using(crate::proofs::Loops::kept_empty, crate::proofs::Loops::kept_more))]
+fn forget_words(path: &mut Vec<Word>, loads: &[WatchedLoad])
+    ensures { path.new.items ≡ kept_path loads.now path.old.items }
+{
+    if loads.is_empty() {
+        path.clear();
+    }
+}
+
+fn end_load(loads: &mut Vec<WatchedLoad>, number: u64)
+    ensures { loads.new.items ≡ filter (λ l. not (is_watched number l)) loads.old.items }
+{
+    loads.retain(|load| !is_watched(load, number));
+}
+
+fn end_store(stores: &mut Vec<OpenStore>, number: u64)
+    ensures { stores.new.items ≡ filter (λ s. not (is_store number s)) stores.old.items }
+{
+    stores.retain(|store| !is_store(store, number));
+}
+
+// Store `i` has taken effect.
+fn finish_store(stores: &mut [OpenStore], i: usize)
+    requires { i < length stores.old }
+    ensures { (d : OpenStore) → stores.new ≡ take i stores.old ++ done_store (slice_index_or stores.old i d) ∷ drop (i + 1) stores.old }
+{
+    let store = stores[i];
+    stores[i] = OpenStore {
+        is_done: true,
+        ..store
+    };
+}
+
+impl Way {
+    // A unit that no operation has touched.
+    pub(crate) fn untouched(alloc: Global, word: Word) -> Way
+        ensures { shown result ≡ record { word = word; stores = []; loads = []; path = [] } }
+    {
+        Way {
+            word,
+            stores: Vec::new(alloc),
+            loads: Vec::new(alloc),
+            path: Vec::new(alloc),
+        }
+    }
+
+    pub(crate) fn copy(&self, alloc: Global) -> Result<Way, AllocError>
+        ensures { IfOk result (λ w. shown w ≡ shown self.now) }
+    {
+        let stores = Vec::from_slice(alloc, self.stores.as_slice())?;
+        let loads = Vec::from_slice(alloc, self.loads.as_slice())?;
+        let path = Vec::from_slice(alloc, self.path.as_slice())?;
+        Ok(Way {
+            word: self.word,
+            stores,
+            loads,
+            path,
+        })
+    }
+
+    #[tactic(auto, unfolding(crate::specs::Branches::is_same))]
+    pub(crate) fn is_same(&self, other: &Way) -> bool
+        ensures { result ≡ is_same (shown self.now) (shown other.now) }
+    {
+        self.word == other.word
+            && (self.stores == other.stores
+                && (self.loads == other.loads && self.path == other.path))
+    }
+
+    // Store `i` takes effect.
+    fn take_effect(&mut self, i: usize) -> Result<(), AllocError>
+        requires { i < length self.old.stores.items }
+        ensures { OnOk result ((d : OpenStore) → shown self.new ≡ effect_of (shown self.old) (take i self.old.stores.items) (slice_index_or self.old.stores.items i d) (drop (i + 1) self.old.stores.items)) }
+    {
+        keep_word(&mut self.path, self.loads.as_slice(), self.word)?;
+        let store = self.stores[i];
+        write(&mut self.word, &store.bytes);
+        finish_store(self.stores.as_mut_slice(), i);
+        Ok(())
+    }
+
+    // The way on: store `i` takes effect.
+    pub(crate) fn effect(&self, alloc: Global, i: usize) -> Result<Way, AllocError>
+        requires { i < length self.now.stores.items }
+        ensures { IfOk result (λ w. (d : OpenStore) → shown w ≡ effect_of (shown self.now) (take i self.now.stores.items) (slice_index_or self.now.stores.items i d) (drop (i + 1) self.now.stores.items)) }
+    {
+        let mut on = self.copy(alloc)?;
+        on.take_effect(i)?;
+        Ok(on)
+    }
+
+    fn may_have(&self, unit: UnitPlace, bytes: &[u8], load: &WatchedLoad) -> bool
+        ensures { result ≡ may_have unit bytes.now (shown self.now) load.now }
+    {
+        is_word_of(unit.first, &self.word, load.address, bytes)
+            || has_word(
+                words_from(self.path.as_slice(), load.since),
+                unit.first,
+                load.address,
+                bytes,
+            )
+    }
+
+    fn has_answer(&self, unit: UnitPlace, number: u64, bytes: &[u8]) -> bool
+        ensures { result ≡ has_answer unit number bytes.now (shown self.now) }
+    {
+        self.loads.iter().all(|load| !is_watched(load, number) || self.may_have(unit, bytes, load))
+    }
+
+    fn has_effect(&self, number: u64) -> bool
+        ensures { result ≡ has_effect number (shown self.now) }
+    {
+        self.stores
+            .iter()
+            .all(|store| !is_store(store, number) || store.is_done)
+    }
+
+    pub(crate) fn meets(&self, wanted: Wanted) -> bool
+        ensures { result ≡ goal_of wanted.entry (shown self.now) }
+    {
+        match wanted {
+            Wanted::Effect { number } => self.has_effect(number),
+            Wanted::Answer {
+                unit,
+                number,
+                bytes,
+            } => self.has_answer(unit, number, bytes),
+        }
+    }
+
+    fn remove_load(&mut self, number: u64)
+        ensures { shown self.new ≡ branch_without_load number (shown self.old) }
+    {
+        end_load(&mut self.loads, number);
+        forget_words(&mut self.path, self.loads.as_slice());
+    }
+
+    fn remove_store(&mut self, number: u64)
+        ensures { shown self.new ≡ branch_without_store number (shown self.old) }
+    {
+        end_store(&mut self.stores, number);
+    }
+
+    // The operation that is wanted is answered.
+    fn answer(&mut self, wanted: Wanted)
+        ensures { shown self.new ≡ without_of wanted.entry (shown self.old) }
+    {
+        match wanted {
+            Wanted::Effect { number } => self.remove_store(number),
+            Wanted::Answer {
+                unit: _,
+                number,
+                bytes: _,
+            } => self.remove_load(number),
+        }
+    }
+
+    // The way behind that answer.
+    pub(crate) fn answered(&self, alloc: Global, wanted: Wanted) -> Result<Way, AllocError>
+        ensures { IfOk result (λ w. shown w ≡ without_of wanted.entry (shown self.now)) }
+    {
+        let mut left = self.copy(alloc)?;
+        left.answer(wanted);
+        Ok(left)
+    }
+
+    // The way once a load is requested.
+    pub(crate) fn with_load(
+        &self,
+        alloc: Global,
+        number: u64,
+        address: u64,
+    ) -> Result<Way, AllocError>
+        ensures { IfOk result (λ w. shown w ≡ branch_with_load number address (shown self.now)) }
+    {
+        let mut more = self.copy(alloc)?;
+        let since = more.path.len();
+        more.loads.push(WatchedLoad {
+            number,
+            address,
+            since,
+        })?;
+        Ok(more)
+    }
+
+    // The way once a store is requested.
+    pub(crate) fn with_store(
+        &self,
+        alloc: Global,
+        number: u64,
+        bytes: Word,
+    ) -> Result<Way, AllocError>
+        ensures { IfOk result (λ w. shown w ≡ branch_with_store number bytes (shown self.now)) }
+    {
+        let mut more = self.copy(alloc)?;
+        more.stores.push(OpenStore {
+            number,
+            bytes,
+            is_done: false,
+        })?;
+        Ok(more)
+    }
+}

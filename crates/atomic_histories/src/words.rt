@@ -1,0 +1,201 @@
+//! The bytes of one aligned unit of memory.
+
+ghost use Rattle.std.specs.Prelude.{◌≡◌, ◌+◌, is_some, slice_get};
+ghost use Rattle.std.specs.List.{list_any};
+ghost use Rattle.atomic_histories.specs.Words.{at_unit, first_byte, initial_byte, byte_for, enabled_byte, stored_byte, at_lane, is_at, written_byte, written, is_as_it_stood, is_word_of};
+
+use crate::unit::{UnitPlace, Word};
+use memory_histories::Rest;
+
+// The byte that memory has before the first store, where this is the image's, if it has one there.
+fn first_byte(image: Option<u8>, rest: Rest) -> Option<u8>
+    ensures { result ≡ first_byte image rest }
+{
+    match image {
+        Some(byte) => Some(byte),
+        None => match rest {
+            Rest::Zeros => Some(0),
+            Rest::Unknown => None,
+        },
+    }
+}
+
+fn byte_at(bytes: &[u8], place: u128) -> Option<u8>
+    ensures { result ≡ slice_get bytes.now place }
+{
+    if place < bytes.len() as u128 {
+        Some(bytes[place as usize])
+    } else {
+        None
+    }
+}
+
+fn initial_byte(image: &[u8], rest: Rest, address: u128) -> Option<u8>
+    ensures { result ≡ initial_byte image.now rest address }
+{
+    first_byte(byte_at(image, address), rest)
+}
+
+// The byte that stands for an address in bytes from another address on.
+fn byte_for(from: u64, bytes: &[u8], address: u128) -> Option<u8>
+    ensures { result ≡ byte_for from bytes.now address }
+{
+    let from = u128::from(from);
+    if from <= address {
+        byte_at(bytes, address - from)
+    } else {
+        None
+    }
+}
+
+// Byte `place` of a store, if it is enabled.
+#[tactic(auto, using(crate::proofs::Bits::none_above))]
+fn enabled_byte(bytes: &[u8], enables: u64, place: u128) -> Option<u8>
+    ensures { result ≡ enabled_byte bytes.now enables place }
+{
+    if place < 64 {
+        if (enables >> place as u32) % 2 == 1 {
+            byte_at(bytes, place)
+        } else {
+            None
+        }
+    } else {
+        None
+    }
+}
+
+// The byte that a store writes at an address.
+fn stored_byte(from: u64, bytes: &[u8], enables: u64, address: u128) -> Option<u8>
+    ensures { result ≡ stored_byte from bytes.now enables address }
+{
+    let from = u128::from(from);
+    if from <= address {
+        enabled_byte(bytes, enables, address - from)
+    } else {
+        None
+    }
+}
+
+// What memory has in a lane of a unit before the first store.
+fn initial_lane(unit: UnitPlace, image: &[u8], rest: Rest, lane: u64) -> Option<u8>
+    ensures { result ≡ at_lane unit (initial_byte image.now rest) lane }
+{
+    if lane < unit.size {
+        initial_byte(image, rest, u128::from(unit.first) + u128::from(lane))
+    } else {
+        None
+    }
+}
+
+// What memory has in a unit before the first store.
+pub(crate) fn initial_word(unit: UnitPlace, image: &[u8], rest: Rest) -> Word
+    ensures { result ≡ at_unit unit (initial_byte image.now rest) }
+{
+    [
+        initial_lane(unit, image, rest, 0),
+        initial_lane(unit, image, rest, 1),
+        initial_lane(unit, image, rest, 2),
+        initial_lane(unit, image, rest, 3),
+        initial_lane(unit, image, rest, 4),
+        initial_lane(unit, image, rest, 5),
+        initial_lane(unit, image, rest, 6),
+        initial_lane(unit, image, rest, 7),
+    ]
+}
+
+// What a store writes in a lane of a unit.
+fn stored_lane(unit: UnitPlace, from: u64, bytes: &[u8], enables: u64, lane: u64) -> Option<u8>
+    ensures { result ≡ at_lane unit (stored_byte from bytes.now enables) lane }
+{
+    if lane < unit.size {
+        stored_byte(
+            from,
+            bytes,
+            enables,
+            u128::from(unit.first) + u128::from(lane),
+        )
+    } else {
+        None
+    }
+}
+
+// What a store writes in a unit.
+pub(crate) fn stored_word(unit: UnitPlace, from: u64, bytes: &[u8], enables: u64) -> Word
+    ensures { result ≡ at_unit unit (stored_byte from bytes.now enables) }
+{
+    [
+        stored_lane(unit, from, bytes, enables, 0),
+        stored_lane(unit, from, bytes, enables, 1),
+        stored_lane(unit, from, bytes, enables, 2),
+        stored_lane(unit, from, bytes, enables, 3),
+        stored_lane(unit, from, bytes, enables, 4),
+        stored_lane(unit, from, bytes, enables, 5),
+        stored_lane(unit, from, bytes, enables, 6),
+        stored_lane(unit, from, bytes, enables, 7),
+    ]
+}
+
+// Whether a store writes anything there.
+pub(crate) fn has_byte(word: Word) -> bool
+    ensures { result ≡ list_any is_some word }
+{
+    word.iter().any(|byte| byte.is_some())
+}
+
+// Whether an operation of so many bytes has one at the unit.
+pub(crate) fn is_at(unit: UnitPlace, address: u64, length: usize) -> bool
+    ensures { result ≡ is_at unit address length }
+{
+    let first = u128::from(unit.first);
+    let from = u128::from(address);
+    from < first + u128::from(unit.size) && first < from + length as u128
+}
+
+fn written_byte(byte: Option<u8>, old: Option<u8>) -> Option<u8>
+    ensures { result ≡ written_byte byte old }
+{
+    match byte {
+        Some(byte) => Some(byte),
+        None => old,
+    }
+}
+
+// These bytes are written over a word.
+#[tactic(auto, using(crate::proofs::Bits::write_more, crate::proofs::Bits::write_past, crate::proofs::Bits::write_all), unfolding(crate::specs::Words::written))]
+pub(crate) fn write(word: &mut [Option<u8>], bytes: &[Option<u8>])
+    ensures { word.new ≡ written bytes.now word.old }
+{
+    for k in 0..word.len() {
+        if k < bytes.len() {
+            word[k] = written_byte(bytes[k], word[k]);
+        }
+    }
+}
+
+// Whether an answer gives a byte as it stood there.
+fn is_as_it_stood(byte: Option<u8>, answer: Option<u8>) -> bool
+    ensures { result ≡ is_as_it_stood byte answer }
+{
+    match byte {
+        None => true,
+        Some(byte) => match answer {
+            None => true,
+            Some(answer) => byte == answer,
+        },
+    }
+}
+
+// Whether these bytes from an address on are the word's, as far as they lie in the unit, which begins at
+// `first`.
+#[tactic(auto, using(crate::proofs::Bits::word_more, crate::proofs::Bits::word_all), unfolding(crate::specs::Words::is_word_of))]
+pub(crate) fn is_word_of(first: u64, word: &[Option<u8>], from: u64, bytes: &[u8]) -> bool
+    ensures { result ≡ is_word_of first word.now from bytes.now }
+{
+    for k in 0..word.len() {
+        let address = u128::from(first) + k as u128;
+        if !is_as_it_stood(word[k], byte_for(from, bytes, address)) {
+            return false;
+        }
+    }
+    true
+}
