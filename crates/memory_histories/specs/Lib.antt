@@ -4,4 +4,6 @@ pub mod Hidden
 pub mod Sets
 pub mod Kept
 pub mod Shown
+pub mod Flat
+pub mod FlatShown
 pub mod Examples

@@ -1,18 +1,24 @@
 //! Histories of a memory: which bytes a load may return, if all that is seen of an operation is its
 //! request and its response.
 //!
-//! What a history may show stands in `specs/Regular.antt`, byte by byte, and [`RegularMemory`] judges
-//! a history as it goes.
+//! There are two laws. Under the regular one an operation takes effect at some moment between its
+//! request and its response (`specs/Regular.antt`, byte by byte), and [`RegularMemory`] judges a
+//! history by it as it goes. Under the flat one it takes effect at its request (`specs/Flat.antt`), and
+//! [`FlatHistory`] judges a history by that.
 #![tactic(auto)]
 
 mod events;
+mod flat;
 mod kept;
+mod reasons;
 mod regular;
 mod sets;
 mod windows;
 
 pub use events::{HistoryEvent, HistoryFault, MAX_LENGTH, Rest, StepFault};
+pub use flat::{FlatHistory, OwedByte};
 pub use kept::OpenByte;
+pub use reasons::{ByteReason, Owed, StoreName, WrongByte};
 pub use regular::RegularMemory;
 pub use sets::ByteSet;
 pub use windows::{LoadByte, StoreByte, may_return};
