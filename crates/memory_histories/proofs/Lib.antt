@@ -7,3 +7,5 @@ pub mod ByteSets
 pub mod Live
 pub mod Requests
 pub mod Stands
+-- what a flat memory owes
+pub mod FlatBytes

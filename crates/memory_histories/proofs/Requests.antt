@@ -99,7 +99,7 @@ has-first : (c : Bool) (set : ByteSet) (b : ℕ) → has (first_set c set) b ≡
 has-first true set b = has-no_bytes b ∙ sym (and_false (has set b))
 has-first false set b = sym (and_true (has set b))
 
-has-only : (i b : ℕ) → has (with_byte no_bytes i) b ≡ (i == b)
+pub has-only : (i b : ℕ) → has (with_byte no_bytes i) b ≡ (i == b)
 has-only i b = has-with_byte no_bytes i b ∙ ap (λ x. x || (i == b)) (has-no_bytes b)
 
 has-initial : (o : Option ℕ) (r : Rest) (b : ℕ) → has (initial_set o r) b ≡ is_initial o r b

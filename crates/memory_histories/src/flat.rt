@@ -5,7 +5,7 @@ ghost use Rattle.std.specs.List.{filter, find, list_any};
 ghost use Rattle.std.specs.HashMap.{get, spare};
 ghost use Rattle.std.specs.Option.{option_map};
 ghost use Rattle.memory_histories.specs.Regular.{is_inside, load_response_fault, wrong_place};
-ghost use Rattle.memory_histories.specs.Flat.{opening, initial, is_of, is_at, is_open, is_paid_by, may_return, owed_bytes, stored, with_bytes, flat_fault, flat_step, flat_after};
+ghost use Rattle.memory_histories.specs.Flat.{opening, initial, is_of, is_at, is_open, is_paid_by, may_return, owed_bytes, stored, with_value, with_bytes, flat_fault, flat_step, flat_after};
 ghost use Rattle.memory_histories.specs.FlatShown.{shown, standing, owed_set, FlatFaultIs, IsOwedSet};
 
 use crate::events::{HistoryEvent, HistoryFault, MAX_LENGTH, Rest, StepFault};
@@ -334,6 +334,15 @@ fn add_load(
     }
 }
 
+// This stands at an address from now on.
+fn write_byte(written: &mut HashMap<u64, Owed>, address: u64, owed: Owed)
+    requires { 0 < spare written.old }
+    ensures at { get nat_eq written.new ≡ with_value (get nat_eq written.old) address (Some owed) }
+    ensures room { spare written.old ≤ spare written.new + 1 }
+{
+    let _before = written.insert(address, owed);
+}
+
 // The enabled bytes of a store that is requested now stand in memory.
 fn write_bytes(
     written: &mut HashMap<u64, Owed>,
@@ -349,7 +358,8 @@ fn write_bytes(
     let mut left = enables;
     for (k, byte) in bytes.iter().enumerate() {
         if left % 2 == 1 {
-            let _before = written.insert(address + k as u64, Owed::Stored { byte: *byte, store });
+            let owed = Owed::Stored { byte: *byte, store };
+            write_byte(written, address + k as u64, owed);
         }
         left /= 2;
     }

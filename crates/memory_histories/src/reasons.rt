@@ -30,6 +30,9 @@ pub enum ByteReason {
     Covered {
         by: StoreName,
     },
+    /// It may not: stores put the byte there, and all of them were overwritten before the load's request,
+    /// so long ago that the judge no longer has their names.
+    Forgotten,
     /// It may not: no store so far put the byte there, and memory didn't have it before the first.
     Absent,
 }

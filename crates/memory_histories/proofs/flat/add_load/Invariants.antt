@@ -1,0 +1,12 @@
+use Rattle.std.proofs.Common.{◌≡◌, ◌+◌, ◌-◌, ◌≤◌, ◌++◌, vec_len, vec_capacity, nat_eq}
+use Rattle.std.specs.HashMap.{get}
+use Rattle.memory_histories.specs.Flat.{owed_bytes}
+use Rattle.memory_histories.specs.FlatShown.{standing}
+use Rattle.memory_histories.proofs.flat.add_load.Given as goal
+
+-- what is left makes the whole, and there is room for it
+abbrev pub invariant-loop-k : goal.invariant-loop-k
+invariant-loop-k l = record {
+  items : l.loads.items ++ owed_bytes (standing l.image l.rest (get nat_eq l.written)) l.number (l.address + l.k) (l.length - l.k) ≡ l.initial.loads.items ++ owed_bytes (standing l.image l.rest (get nat_eq l.written)) l.number l.address l.length;
+  room : vec_len l.loads + l.length ≤ vec_capacity l.loads + l.k;
+}
