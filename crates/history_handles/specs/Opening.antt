@@ -1,5 +1,5 @@
 -- How a history is opened, and how C is told of it.
-use Rattle.std.specs.Prelude.{◌≡◌, ◌≢◌, ℕ, ◌==◌, ◌&&◌, if◌then◌else◌, List, Option, Some, None, is_some, is_none}
+use Rattle.std.specs.Prelude.{◌≡◌, ◌≢◌, ℕ, ◌==◌, if◌then◌else◌, List, Option, Some, None, is_some, is_none}
 use Rattle.std.specs.Option.{option_map}
 use Rattle.memory_histories.specs.declared.events.Rest.{Rest}
 use Rattle.memory_histories.specs.declared.events.Rest.TheVariants.{Zeros, Unknown}
@@ -12,16 +12,23 @@ use Rattle.history_handles.specs.Session.{session_opening}
 use Rattle.history_handles.specs.Behind.{IsKeptOf}
 
 -- the law and the rest of memory that these numbers choose
-abbrev pub chosen : ℕ → ℕ → Option (Law × Rest)
-chosen law rest =
-    if (law == 0) && (rest == 0) then Some (Regular, Zeros) else
-    if (law == 0) && (rest == 1) then Some (Regular, Unknown) else
-    if (law == 1) && (rest == 0) then Some (Flat, Zeros) else
-    if (law == 1) && (rest == 1) then Some (Flat, Unknown) else None
+abbrev pub law_of : ℕ → Option Law
+law_of law = if law == 0 then Some Regular else if law == 1 then Some Flat else None
+
+abbrev pub rest_of : ℕ → Option Rest
+rest_of rest = if rest == 0 then Some Zeros else if rest == 1 then Some Unknown else None
+
+abbrev pub both : {X Y : Type 0} → Option X → Option Y → Option (X × Y)
+both (Some x) (Some y) = Some (x, y)
+both x y = None
+
+-- with the unit of bytes that are read and written as one
+abbrev pub chosen : ℕ → ℕ → ℕ → Option (Law × Rest)
+chosen law unit rest = if unit == 1 then both (law_of law) (rest_of rest) else None
 
 -- why no history is opened, by what is kept behind the handle: `None`, where only memory can be wanting
-abbrev pub open_fault : Option OpenHistory → ℕ → ℕ → Option OpenFault
-open_fault kept law rest = if is_some kept then Some OpenAlready else if is_none (chosen law rest) then Some NoLaw else None
+abbrev pub open_fault : Option OpenHistory → ℕ → ℕ → ℕ → Option OpenFault
+open_fault kept law unit rest = if is_some kept then Some OpenAlready else if is_none (chosen law unit rest) then Some NoLaw else None
 
 abbrev pub fault_or_memory : Option OpenFault → OpenFault
 fault_or_memory (Some fault) = fault
