@@ -5,6 +5,7 @@
 //! box, and a box is kept.
 ghost use Rattle.std.specs.Prelude.{◌≡◌, ◌≢◌, IfSome, IsNone, None, Some, is_some};
 ghost use Rattle.history_handles.specs.declared.history.OpenHistory.{OpenHistory};
+ghost use Rattle.history_handles.specs.contracts.history.OpenHistory.{the_row};
 
 use crate::history::OpenHistory;
 use std::alloc::Global;
@@ -25,7 +26,7 @@ pub struct HistoryHandle {
     pub open: u32,
     at: *mut Opaque,
     /// The history, while the handle is open.
-    pub ghost history: { OpenHistory },
+    pub ghost history: { OpenHistory } by { the_row.coded },
 }
 
 impl Model for HistoryHandle {

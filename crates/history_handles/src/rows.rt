@@ -28,6 +28,7 @@ fn weight_in(set: ByteSet, byte: u8, weight: u8) -> u8
     if set.contains(byte) { weight } else { 0 }
 }
 
+#[tactic(auto, unfolding(crate::specs::Rows::octet))]
 // Which of the eight bytes from `first` on are in the set.
 fn octet(set: ByteSet, first: u8) -> u8
     requires { first ≤ 248 }
