@@ -1,5 +1,5 @@
 -- A history as its law sees it.
-use Rattle.std.specs.Prelude.{ℕ, Bool, List, Option, Some, None}
+use Rattle.std.specs.Prelude.{ℕ, Bool, List, Option}
 use Rattle.std.specs.List.{find}
 use Rattle.std.specs.Option.{option_map}
 use Rattle.memory_histories.specs.declared.events.HistoryEvent.{HistoryEvent}

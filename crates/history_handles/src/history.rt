@@ -1,6 +1,6 @@
 //! A history with the operations that are open.
-ghost use Rattle.std.specs.Prelude.{◌≡◌, ◌<◌, ℕ, None, Some, IfOk, IfErr, OnOk, OnErr, vec_len, vec_capacity};
-ghost use Rattle.history_handles.specs.History.{opening, fault_of, may_return_at};
+ghost use Rattle.std.specs.Prelude.{◌≡◌, ◌<◌, None, Some, IfOk, IfErr, OnOk, OnErr, vec_len, vec_capacity};
+ghost use Rattle.history_handles.specs.History.{fault_of, may_return_at};
 ghost use Rattle.history_handles.specs.Session.{Session, session_opening, session_after, loads_after, stores_after, without};
 ghost use Rattle.history_handles.specs.Kept.{StepFaultIs, IsSetOf};
 ghost use Rattle.history_handles.specs.KeptSession.{IsKept};

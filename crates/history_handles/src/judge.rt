@@ -1,5 +1,5 @@
 //! The judges of all laws as one.
-ghost use Rattle.std.specs.Prelude.{◌≡◌, ℕ, None, IfOk, IfErr, OnOk, OnErr};
+ghost use Rattle.std.specs.Prelude.{◌≡◌, None, IfOk, IfErr, OnOk, OnErr};
 ghost use Rattle.history_handles.specs.History.{History, opening, fault_of, history_after, may_return_at};
 ghost use Rattle.history_handles.specs.Kept.{IsOf, StepFaultIs, IsSetOf};
 

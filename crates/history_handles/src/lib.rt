@@ -2,7 +2,7 @@
 //! goes, and the calls on it.
 //!
 //! A [`HistoryHandle`] is a mark and a pointer. All zeros are a closed one. Every function is total:
-//! each number and each length has an answer. What a call says is a number ([`mod@status`]).
+//! each number and each length has an answer. What a call says is a number.
 #![tactic(auto)]
 
 mod calls;

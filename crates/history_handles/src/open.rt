@@ -1,5 +1,5 @@
 //! A history is opened and freed.
-ghost use Rattle.std.specs.Prelude.{◌≡◌, ◌≢◌, ℕ, Option, None, IfOk, IfErr, OnOk, OnErr};
+ghost use Rattle.std.specs.Prelude.{◌≡◌, ◌≢◌, None, IfErr, OnOk, OnErr};
 ghost use Rattle.history_handles.specs.Behind.{behind};
 ghost use Rattle.history_handles.specs.Opening.{chosen, law_of, rest_of, open_fault, open_number, fault_or_memory, IsTold, IsOpened, told_status};
 
