@@ -42,9 +42,9 @@ def random_run(chance, length=60):
         else:
             actions.append(("load", number, chance.randrange(2)))
         for kind in ("acts", "is answered"):
-            for _ in range(chance.randrange(3)):
-                actions.append((kind, chance.randrange(number + 1)))
-        if chance.random() < 0.3:
+            for _ in range(chance.randrange(4)):
+                actions.append((kind, max(0, number - chance.randrange(4))))
+        if chance.random() < 0.2:
             actions.append(("drain",))
     return actions
 
