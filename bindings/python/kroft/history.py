@@ -6,7 +6,7 @@ from types import TracebackType
 from typing import FrozenSet, List, NamedTuple, Optional, Type, Union
 
 from .errors import Access, Closed, KroftError, Unanswered
-from .library import HandleRow, OperationRow, library, u64
+from .library import HandleRow, OperationRow, library
 
 _LAWFUL, _FOUND, _CLOSED, _OUT_OF_MEMORY = 0, 1, 3, 101
 _SET_BYTES = 32
@@ -176,8 +176,8 @@ def _access(kind: str, operation: Operation) -> Access:
     return Access(kind, operation.number, operation.address, operation.length, 2**operation.length - 1, 0)
 
 
-def _word(number: int) -> u64:
+def _word(number: int) -> c.c_uint64:
     """A number of 64 bits: ctypes would cut another one off."""
     if not 0 <= number < 2**64:
         raise ValueError(f"not a number of 64 bits: {number}")
-    return u64(number)
+    return c.c_uint64(number)

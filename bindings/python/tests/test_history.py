@@ -2,7 +2,7 @@
 
 import random
 import unittest
-from typing import Dict, List, Optional, Tuple
+from typing import Callable, Dict, List, Optional, Tuple
 
 from kroft import Closed, History, HistoryFault, Law, NotLawful, Operation, Unanswered
 
@@ -28,7 +28,7 @@ class Histories(unittest.TestCase):
             history.load_request(1, 0, 2)
             history.store_request(1, 2**64 - 1, b"\x09")
             faults = HistoryFault
-            for fault, call in [
+            rows: List[Tuple[HistoryFault, Callable[[], None]]] = [
                 (faults.BAD_RANGE, lambda: history.load_request(2, 0, 65)),
                 (faults.BAD_RANGE, lambda: history.store_request(2, 2**64 - 1, b"ab")),
                 (faults.NO_BYTE_ENABLED, lambda: history.store_request(2, 0, b"a", 2)),
@@ -38,7 +38,8 @@ class Histories(unittest.TestCase):
                 (faults.NOT_OPEN, lambda: history.store_response(2)),
                 (faults.WRONG_LENGTH, lambda: history.load_response(1, b"a")),
                 (faults.WRONG_BYTE, lambda: history.load_response(1, b"\x02\x02")),
-            ]:
+            ]
+            for fault, call in rows:
                 with self.subTest(fault=fault.name), self.assertRaises(NotLawful) as wrong:
                     call()
                 self.assertEqual((wrong.exception.cause, wrong.exception.name), (fault, fault.name))

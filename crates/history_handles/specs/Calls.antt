@@ -3,6 +3,7 @@ use Rattle.std.specs.Prelude.{ℕ, ◌≡◌, ◌⊎◌, ◌==◌, Bool, true, f
 use Rattle.std.specs.Option.{option_map}
 use Rattle.memory_histories.specs.declared.events.HistoryEvent.{HistoryEvent}
 use Rattle.memory_histories.specs.declared.events.HistoryFault.{HistoryFault}
+use Rattle.memory_histories.specs.declared.events.HistoryFault.TheVariants.{WrongByte}
 use Rattle.history_handles.specs.declared.rows.Operation.{Operation}
 use Rattle.history_handles.specs.History.{fault_of, moment_of, may_return_at}
 use Rattle.history_handles.specs.Session.{Session, session_after}
@@ -39,6 +40,16 @@ IsFittingSet true status row row' found = IsFoundSet status row row' found
 abbrev pub IsSetTold : ℕ → List ℕ → List ℕ → Option (Option (ℕ → Bool)) → Type 0
 IsSetTold status row row' None = (status ≡ 3) × (row' ≡ row)
 IsSetTold status row row' (Some found) = IsFittingSet (length row == 32) status row row' found
+
+-- a fault as it is told, with the place of a wrong byte before and after
+abbrev pub IsFaultTold : ℕ → ℕ → ℕ → Option HistoryFault → Type 0
+IsFaultTold status place place' None = (status ≡ 0) × (place' ≡ place)
+IsFaultTold status place place' (Some (WrongByte wrong)) = (status ≡ 16) × (place' ≡ wrong)
+IsFaultTold status place place' (Some fault) = (status ≡ fault_number fault) × (place' ≡ place)
+
+abbrev pub IsPlaceTold : ℕ → ℕ → ℕ → Option Session → HistoryEvent → Type 0
+IsPlaceTold status place place' None event = (status ≡ 3) × (place' ≡ place)
+IsPlaceTold status place place' (Some s) event = IsFaultTold status place place' (fault_of s.history event)
 
 -- how many operations are open
 abbrev pub IsCounted : ℕ → Option Session → ℕ → ℕ → ℕ → ℕ → Type 0

@@ -3,12 +3,14 @@ ghost use Rattle.std.specs.Prelude.{◌≡◌, Option};
 ghost use Rattle.memory_histories.specs.declared.events.HistoryEvent.TheVariants.{LoadRequest, LoadResponse, StoreRequest, StoreResponse};
 ghost use Rattle.history_handles.specs.Session.{Session};
 ghost use Rattle.history_handles.specs.Behind.{behind, IsBehind};
-ghost use Rattle.history_handles.specs.Calls.{IsStatus, left_by, IsSetTold, set_asked, IsCounted, IsOperationTold, load_asked, store_asked};
+ghost use Rattle.history_handles.specs.Calls.{IsStatus, left_by, IsSetTold, set_asked, IsPlaceTold, IsFaultTold, IsCounted, IsOperationTold, load_asked, store_asked};
 
 use crate::handle::HistoryHandle;
 use crate::rows::{OCTETS, Operation, write_set};
-use crate::status::{CLOSED, DONE, FOUND, NO_ROOM, NOT_THERE, step_status};
-use memory_histories::HistoryEvent;
+use crate::status::{
+    CLOSED, DONE, FOUND, NO_ROOM, NOT_THERE, WRONG_BYTE, fault_number, step_status,
+};
+use memory_histories::{HistoryEvent, HistoryFault};
 use std::alloc::Global;
 
 /// A load of `length` bytes from `address` on is requested under this number.
@@ -131,6 +133,45 @@ pub fn may_return(
             FOUND
         }
         None => NOT_THERE,
+    }
+}
+
+/// What [`load_response`] would say of these bytes if there is room for it, and the first of them that
+/// the load may not return. It isn't told.
+///
+/// 16: the load may not return the byte at `place`, counted from 0. 0, 14, 15 and 3 as of
+/// [`load_response`], and `place` is as it was. The history is as it was after each.
+pub fn wrong_place(
+    alloc: Global,
+    handle: &mut HistoryHandle,
+    number: u64,
+    bytes: &[u8],
+    place: &mut u64,
+) -> u32
+    ensures place { (b : Option Session) → IsBehind handle.old b → IsPlaceTold result place.old place.new b (LoadResponse number bytes.entry) }
+    ensures same { behind handle.new ≡ behind handle.old }
+{
+    let Some(history) = handle.take(alloc) else {
+        return CLOSED;
+    };
+    let found = history
+        .as_ref()
+        .fault(HistoryEvent::LoadResponse { number, bytes });
+    handle.keep(history);
+    told_place(found, place)
+}
+
+// Tells a fault by its number, and the place of a wrong byte.
+fn told_place(found: Option<HistoryFault>, place: &mut u64) -> u32
+    ensures { IsFaultTold result place.old place.new found }
+{
+    match found {
+        None => DONE,
+        Some(HistoryFault::WrongByte { place: wrong }) => {
+            *place = wrong as u64;
+            WRONG_BYTE
+        }
+        Some(fault) => fault_number(fault),
     }
 }
 

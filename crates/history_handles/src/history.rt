@@ -7,7 +7,7 @@ ghost use Rattle.history_handles.specs.KeptSession.{IsKept};
 
 use crate::judge::{Judge, Law};
 use crate::rows::Operation;
-use memory_histories::{ByteSet, HistoryEvent, Rest, StepFault};
+use memory_histories::{ByteSet, HistoryEvent, HistoryFault, Rest, StepFault};
 use std::alloc::{AllocError, Global};
 
 /// A history that is judged as it goes, with the operations that are open in the order of their requests.
@@ -45,7 +45,7 @@ impl OpenHistory {
         ensures unchanged { (s : Session) → IsKept self.old s → OnErr result (IsKept self.new s) }
     {
         if make_room(&mut self.loads).is_err() || make_room(&mut self.stores).is_err() {
-            return Err(match self.judge.fault(event) {
+            return Err(match self.fault(event) {
                 Some(fault) => StepFault::Refused(fault),
                 None => StepFault::OutOfMemory,
             });
@@ -54,6 +54,13 @@ impl OpenHistory {
         note_load(&mut self.loads, event);
         note_store(&mut self.stores, event);
         Ok(())
+    }
+
+    // Why the history with this event would be none of its law.
+    pub(crate) fn fault(&self, event: HistoryEvent) -> Option<HistoryFault>
+        ensures { (s : Session) → IsKept self.now s → result ≡ fault_of s.history event.entry }
+    {
+        self.judge.fault(event)
     }
 
     // What the load that is open under a number may return for the byte at an address.

@@ -15,7 +15,7 @@ mod status;
 
 pub use calls::{
     load_request, load_response, may_return, store_request, store_response, unanswered,
-    unanswered_load, unanswered_store,
+    unanswered_load, unanswered_store, wrong_place,
 };
 pub use handle::HistoryHandle;
 pub use history::OpenHistory;

@@ -19,6 +19,9 @@ pub(crate) const NO_ROOM: u32 = 2;
 /// No history is behind the handle.
 pub(crate) const CLOSED: u32 = 3;
 
+/// A load may not return one of the bytes.
+pub(crate) const WRONG_BYTE: u32 = 16;
+
 /// There was too little memory.
 pub(crate) const OUT_OF_MEMORY: u32 = 101;
 
@@ -41,7 +44,7 @@ pub(crate) fn fault_number(fault: HistoryFault) -> u32
         HistoryFault::NumberInUse => 13,
         HistoryFault::NotOpen => 14,
         HistoryFault::WrongLength => 15,
-        HistoryFault::WrongByte { place: _ } => 16,
+        HistoryFault::WrongByte { place: _ } => WRONG_BYTE,
     }
 }
 
