@@ -443,6 +443,13 @@ uint32_t kroft_store_response(kroft_history *handle, uint64_t number);
  */
 uint32_t kroft_may_return(kroft_history *handle, uint64_t number, uint64_t address, uint8_t *set, size_t nset);
 
+/*
+ * What kroft_load_response would say of these bytes if there is room for it, and the first of them that the load may not
+ * return; it isn't told. Returns KROFT_WRONG_BYTE, and the byte at `place`, counted from 0, is the first such; or
+ * KROFT_LAWFUL, KROFT_NOT_OPEN, KROFT_WRONG_LENGTH or KROFT_CLOSED, and then `place` is as it was.
+ */
+uint32_t kroft_wrong_place(kroft_history *handle, uint64_t number, const uint8_t *bytes, size_t nbytes, uint64_t *place);
+
 /* How many loads and how many stores are open. Returns KROFT_DONE; or KROFT_CLOSED, and both are as they were. */
 uint32_t kroft_unanswered(kroft_history *handle, uint64_t *loads, uint64_t *stores);
 

@@ -504,6 +504,14 @@ public:
         return set;
     }
 
+    /// The place of the first of these bytes that the load that is open under a number may not return; none if there is
+    /// none, or no load of this length is open under it.
+    std::optional<uint64_t> wrong_place(uint64_t number, const uint8_t *bytes, size_t length) {
+        uint64_t place = 0;
+        if (told(kroft_wrong_place(&handle, number, bytes, length, &place)).fault() != KROFT_WRONG_BYTE) return std::nullopt;
+        return place;
+    }
+
     /// The operations that are open, in the order of their requests.
     std::vector<kroft_operation> open_loads() { return operations(kroft_unanswered_load); }
     std::vector<kroft_operation> open_stores() { return operations(kroft_unanswered_store); }

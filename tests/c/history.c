@@ -143,6 +143,23 @@ static void sets(void) {
     CHECK(kroft_history_free(&h) == KROFT_DONE);
 }
 
+/* Which byte of an answer is wrong; nothing is told. */
+static void places(void) {
+    static const uint8_t bytes[4] = {1, 2, 3, 4};
+    kroft_history h = KROFT_NO_HISTORY;
+    uint64_t place = 77;
+    CHECK(kroft_wrong_place(&h, 1, bytes, 4, &place) == KROFT_CLOSED && place == 77);
+    CHECK(kroft_history_open(&h, KROFT_FLAT_LAW, 1, KROFT_ZEROS, bytes, 2) == KROFT_DONE);
+    CHECK(kroft_wrong_place(&h, 1, bytes, 4, &place) == KROFT_NOT_OPEN && place == 77);
+    CHECK(kroft_load_request(&h, 1, 0, 4) == KROFT_LAWFUL);
+    CHECK(kroft_wrong_place(&h, 1, bytes, 3, &place) == KROFT_WRONG_LENGTH && place == 77);
+    CHECK(kroft_wrong_place(&h, 1, bytes, 4, &place) == KROFT_WRONG_BYTE && place == 2);
+    CHECK(kroft_load_request(&h, 2, 0, 2) == KROFT_LAWFUL);
+    CHECK(kroft_wrong_place(&h, 2, bytes, 2, &place) == KROFT_LAWFUL && place == 2);
+    CHECK(kroft_wrong_place(&h, 2, bytes + 1, 2, &place) == KROFT_WRONG_BYTE && place == 0);
+    CHECK(kroft_load_response(&h, 2, bytes, 2) == KROFT_LAWFUL && kroft_history_free(&h) == KROFT_DONE);
+}
+
 static int is_operation(const kroft_operation *it, uint64_t number, uint64_t address, uint64_t length) {
     return it->number == number && it->address == address && it->length == length;
 }
@@ -198,6 +215,7 @@ int main(void) {
     for (law = 0; law < LAWS; law++)
         for (k = 0; k < STORIES; k++) tell_story(&stories[k], law);
     sets();
+    places();
     operations();
     handles();
     return checks_end("history");

@@ -1,5 +1,5 @@
-/* Random short histories, judged by libkroft and by brute force over all orders in this file's own words: each verdict, and
-   each set of what a load may return.
+/* Random short histories, judged by libkroft and by brute force over all orders in this file's own words: each verdict, the
+   place of each wrong byte, and each set of what a load may return.
 
    history_orders COUNT SEED [TURN]: with a TURN the brute force itself is made wrong (1: a load may see what was overwritten;
    2: enables aren't looked at; 3: an open store is never seen; 4: a load never sees a store that was requested after it),
@@ -196,14 +196,20 @@ private:
             said = kroft_store_response(&handle, it.number);
         } else {
             uint8_t bytes[3];
+            uint64_t wrong = 0, place = 9; /* the first that it may not return */
             for (int k = 0; k < it.length; k++) {
                 Bytes may = set_of(law, history, it, it.address + k);
                 int byte = below(values);
                 if (below(4) != 0) /* mostly one that it may return */
                     while (!may[byte]) byte = (byte + 1) % 256;
                 bytes[k] = static_cast<uint8_t>(byte);
-                if (!may[byte]) wanted = KROFT_WRONG_BYTE;
+                if (!may[byte] && wanted == KROFT_LAWFUL) {
+                    wanted = KROFT_WRONG_BYTE;
+                    wrong = k;
+                }
             }
+            expect(kroft_wrong_place(&handle, it.number, bytes, it.length, &place), wanted, "a response that isn't told");
+            expect(static_cast<uint32_t>(place), static_cast<uint32_t>(wanted == KROFT_LAWFUL ? 9 : wrong), "the place of a wrong byte");
             said = kroft_load_response(&handle, it.number, bytes, it.length);
             (wanted == KROFT_LAWFUL ? answers : refusals)++;
         }

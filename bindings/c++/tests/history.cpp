@@ -25,6 +25,7 @@ void a_load_beside_a_store() {
         check(may && may->count() == (law == kroft::Law::Regular ? 2u : 1u) && may->test(0x5a), "a set");
         check(!history.may_return(1, 0x1002), "no such byte");
         kroft::HistoryVerdict said = history.load_response(1, wrong, 2);
+        check(history.wrong_place(1, wrong, 2) == 1u && !history.wrong_place(1, right, 2), "the place of a wrong byte");
         check(!said && said.fault() == KROFT_WRONG_BYTE, "a wrong byte");
         check(history.open_loads().size() == 1 && history.open_loads()[0].address == 0x1000, "an open load");
         check(bool(history.load_response(1, right, 2)), "the right bytes");

@@ -157,12 +157,10 @@ class History:
             raise NotLawful(HistoryFault(status), event)
 
     def _with_place(self, number: int, got: bytes, event: str) -> NotLawful:
+        place = c.c_uint64()
+        self._call("kroft_wrong_place", _word(number), c.c_char_p(got), len(got), c.byref(place))
         load = next(it for it in self.open_loads() if it.number == number)
-        for place, byte in enumerate(got):
-            may = self.may_return(number, load.address + place)
-            if may is not None and byte not in may:
-                return NotLawful(HistoryFault.WRONG_BYTE, event, place, may)
-        raise AssertionError("a byte is wrong, and each may be returned")
+        return NotLawful(HistoryFault.WRONG_BYTE, event, place.value, self.may_return(number, load.address + place.value))
 
     def _operations(self, name: str) -> List[Operation]:
         found: List[Operation] = []

@@ -4,7 +4,7 @@ ghost use Rattle.memory_histories.specs.declared.events.HistoryEvent.TheVariants
 ghost use Rattle.history_handles.specs.Session.{Session};
 ghost use Rattle.history_handles.specs.Behind.{behind, IsBehind};
 ghost use Rattle.history_handles.specs.Opening.{chosen, open_fault, IsTold, IsOpened, told_status};
-ghost use Rattle.history_handles.specs.Calls.{IsStatus, left_by, IsSetTold, set_asked, IsCounted, IsOperationTold, load_asked, store_asked};
+ghost use Rattle.history_handles.specs.Calls.{IsStatus, left_by, IsSetTold, set_asked, IsPlaceTold, IsCounted, IsOperationTold, load_asked, store_asked};
 
 use history_handles::{HistoryHandle, Operation};
 use std::alloc::Global;
@@ -134,6 +134,25 @@ pub extern "C" fn kroft_may_return(
     ensures same { behind handle.new ≡ behind handle.old }
 {
     history_handles::may_return(alloc, handle, number, address, set)
+}
+
+/// What [`kroft_load_response`] would say of these bytes if there is room for it, and the first of them that
+/// the load may not return. It isn't told.
+///
+/// 16: the load may not return the byte at `place`, counted from 0. 0, 14, 15 and 3 as of
+/// [`kroft_load_response`], and `place` is as it was. The history is as it was after each.
+#[unsafe(no_mangle)]
+pub extern "C" fn kroft_wrong_place(
+    alloc: Global,
+    handle: &mut HistoryHandle,
+    number: u64,
+    bytes: &[u8],
+    place: &mut u64,
+) -> u32
+    ensures place { (b : Option Session) → IsBehind handle.old b → IsPlaceTold result place.old place.new b (LoadResponse number bytes.entry) }
+    ensures same { behind handle.new ≡ behind handle.old }
+{
+    history_handles::wrong_place(alloc, handle, number, bytes, place)
 }
 
 /// How many loads and how many stores are open. 0: `loads` and `stores` say it. 3: the handle is
