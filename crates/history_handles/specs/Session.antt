@@ -36,4 +36,5 @@ stores_after stores (StoreResponse number) = without number stores
 stores_after stores event = stores
 
 abbrev pub session_after : Session → HistoryEvent → Session
-session_after s event = record { history = history_after s.history event; loads = loads_after s.loads event; stores = stores_after s.stores event }
+session_after s event =
+    record { history = history_after s.history event; loads = loads_after s.loads event; stores = stores_after s.stores event }

@@ -25,8 +25,12 @@ pub fn load_request(
     address: u64,
     length: usize,
 ) -> u32
-    ensures status { (b : Option Session) → IsBehind handle.old b → IsStatus result b (LoadRequest number address length) }
-    ensures history { (b : Option Session) → IsBehind handle.old b → IsBehind handle.new (left_by result b (LoadRequest number address length)) }
+    ensures status { (b : Option Session)
+        → IsBehind handle.old b
+        → IsStatus result b (LoadRequest number address length) }
+    ensures history { (b : Option Session)
+        → IsBehind handle.old b
+        → IsBehind handle.new (left_by result b (LoadRequest number address length)) }
 {
     tell(
         alloc,
@@ -45,8 +49,12 @@ pub fn load_request(
 /// requested with another length. 16: the load may not return one of the bytes. 104, 101 and 3 as of
 /// [`load_request`]. After each but 0 all is as it was.
 pub fn load_response(alloc: Global, handle: &mut HistoryHandle, number: u64, bytes: &[u8]) -> u32
-    ensures status { (b : Option Session) → IsBehind handle.old b → IsStatus result b (LoadResponse number bytes.entry) }
-    ensures history { (b : Option Session) → IsBehind handle.old b → IsBehind handle.new (left_by result b (LoadResponse number bytes.entry)) }
+    ensures status { (b : Option Session)
+        → IsBehind handle.old b
+        → IsStatus result b (LoadResponse number bytes.entry) }
+    ensures history { (b : Option Session)
+        → IsBehind handle.old b
+        → IsBehind handle.new (left_by result b (LoadResponse number bytes.entry)) }
 {
     tell(alloc, handle, HistoryEvent::LoadResponse { number, bytes })
 }
@@ -65,8 +73,12 @@ pub fn store_request(
     bytes: &[u8],
     enables: u64,
 ) -> u32
-    ensures status { (b : Option Session) → IsBehind handle.old b → IsStatus result b (StoreRequest number address bytes.entry enables) }
-    ensures history { (b : Option Session) → IsBehind handle.old b → IsBehind handle.new (left_by result b (StoreRequest number address bytes.entry enables)) }
+    ensures status { (b : Option Session)
+        → IsBehind handle.old b
+        → IsStatus result b (StoreRequest number address bytes.entry enables) }
+    ensures history { (b : Option Session)
+        → IsBehind handle.old b
+        → IsBehind handle.new (left_by result b (StoreRequest number address bytes.entry enables)) }
 {
     tell(
         alloc,
@@ -85,8 +97,12 @@ pub fn store_request(
 /// 0: the history with it is one of its law. 14: no store is open under the number. 104, 101 and 3 as
 /// of [`load_request`]. After each but 0 all is as it was.
 pub fn store_response(alloc: Global, handle: &mut HistoryHandle, number: u64) -> u32
-    ensures status { (b : Option Session) → IsBehind handle.old b → IsStatus result b (StoreResponse number) }
-    ensures history { (b : Option Session) → IsBehind handle.old b → IsBehind handle.new (left_by result b (StoreResponse number)) }
+    ensures status { (b : Option Session)
+        → IsBehind handle.old b
+        → IsStatus result b (StoreResponse number) }
+    ensures history { (b : Option Session)
+        → IsBehind handle.old b
+        → IsBehind handle.new (left_by result b (StoreResponse number)) }
 {
     tell(alloc, handle, HistoryEvent::StoreResponse { number })
 }
@@ -94,7 +110,9 @@ pub fn store_response(alloc: Global, handle: &mut HistoryHandle, number: u64) ->
 // Tells the history behind a handle an event.
 fn tell(alloc: Global, handle: &mut HistoryHandle, event: HistoryEvent) -> u32
     ensures status { (b : Option Session) → IsBehind handle.old b → IsStatus result b event.entry }
-    ensures history { (b : Option Session) → IsBehind handle.old b → IsBehind handle.new (left_by result b event.entry) }
+    ensures history { (b : Option Session)
+        → IsBehind handle.old b
+        → IsBehind handle.new (left_by result b event.entry) }
 {
     let Some(mut history) = handle.take(alloc) else {
         return CLOSED;
@@ -116,7 +134,9 @@ pub fn may_return(
     address: u64,
     set: &mut [u8],
 ) -> u32
-    ensures set { (b : Option Session) → IsBehind handle.old b → IsSetTold result set.old set.new (set_asked b number address) }
+    ensures set { (b : Option Session)
+        → IsBehind handle.old b
+        → IsSetTold result set.old set.new (set_asked b number address) }
     ensures same { behind handle.new ≡ behind handle.old }
 {
     let Some(history) = handle.take(alloc) else {
@@ -148,7 +168,9 @@ pub fn wrong_place(
     bytes: &[u8],
     place: &mut u64,
 ) -> u32
-    ensures place { (b : Option Session) → IsBehind handle.old b → IsPlaceTold result place.old place.new b (LoadResponse number bytes.entry) }
+    ensures place { (b : Option Session)
+        → IsBehind handle.old b
+        → IsPlaceTold result place.old place.new b (LoadResponse number bytes.entry) }
     ensures same { behind handle.new ≡ behind handle.old }
 {
     let Some(history) = handle.take(alloc) else {
@@ -183,7 +205,9 @@ pub fn unanswered(
     loads: &mut u64,
     stores: &mut u64,
 ) -> u32
-    ensures counts { (b : Option Session) → IsBehind handle.old b → IsCounted result b loads.old loads.new stores.old stores.new }
+    ensures counts { (b : Option Session)
+        → IsBehind handle.old b
+        → IsCounted result b loads.old loads.new stores.old stores.new }
     ensures same { behind handle.new ≡ behind handle.old }
 {
     let Some(history) = handle.take(alloc) else {
@@ -203,7 +227,9 @@ pub fn unanswered_load(
     n: u64,
     operation: &mut Operation,
 ) -> u32
-    ensures load { (b : Option Session) → IsBehind handle.old b → IsOperationTold result operation.old operation.new (load_asked b n) }
+    ensures load { (b : Option Session)
+        → IsBehind handle.old b
+        → IsOperationTold result operation.old operation.new (load_asked b n) }
     ensures same { behind handle.new ≡ behind handle.old }
 {
     let Some(history) = handle.take(alloc) else {
@@ -222,7 +248,9 @@ pub fn unanswered_store(
     n: u64,
     operation: &mut Operation,
 ) -> u32
-    ensures store { (b : Option Session) → IsBehind handle.old b → IsOperationTold result operation.old operation.new (store_asked b n) }
+    ensures store { (b : Option Session)
+        → IsBehind handle.old b
+        → IsOperationTold result operation.old operation.new (store_asked b n) }
     ensures same { behind handle.new ≡ behind handle.old }
 {
     let Some(history) = handle.take(alloc) else {

@@ -40,8 +40,12 @@ impl OpenHistory {
 
     // Takes one event. After each fault everything is as it was.
     pub(crate) fn step(&mut self, event: HistoryEvent) -> Result<(), StepFault>
-        ensures ok { (s : Session) → IsKept self.old s → OnOk result ((fault_of s.history event.entry ≡ None) × IsKept self.new (session_after s event.entry)) }
-        ensures fault { (s : Session) → IsKept self.old s → IfErr result (StepFaultIs s.history event.entry) }
+        ensures ok { (s : Session)
+            → IsKept self.old s
+            → OnOk result ((fault_of s.history event.entry ≡ None) × IsKept self.new (session_after s event.entry)) }
+        ensures fault { (s : Session)
+            → IsKept self.old s
+            → IfErr result (StepFaultIs s.history event.entry) }
         ensures unchanged { (s : Session) → IsKept self.old s → OnErr result (IsKept self.new s) }
     {
         if make_room(&mut self.loads).is_err() || make_room(&mut self.stores).is_err() {
@@ -65,7 +69,9 @@ impl OpenHistory {
 
     // What the load that is open under a number may return for the byte at an address.
     pub(crate) fn may_return(&self, number: u64, address: u64) -> Option<ByteSet>
-        ensures { (s : Session) → IsKept self.now s → IsSetOf (may_return_at s.history number address) result }
+        ensures { (s : Session)
+            → IsKept self.now s
+            → IsSetOf (may_return_at s.history number address) result }
     {
         self.judge.may_return(number, address)
     }

@@ -54,7 +54,9 @@ impl Judge {
 
     // What the load that is open under a number may return for the byte at an address.
     pub(crate) fn may_return(&self, number: u64, address: u64) -> Option<ByteSet>
-        ensures { (h : History) → IsOf self.now h → IsSetOf (may_return_at h number address) result }
+        ensures { (h : History)
+            → IsOf self.now h
+            → IsSetOf (may_return_at h number address) result }
     {
         match self {
             Judge::Regular(memory) => memory.may_return(number, address),
@@ -64,7 +66,9 @@ impl Judge {
 
     // Takes one event.
     pub(crate) fn step(&mut self, event: HistoryEvent) -> Result<(), StepFault>
-        ensures ok { (h : History) → IsOf self.old h → OnOk result ((fault_of h event.entry ≡ None) × IsOf self.new (history_after h event.entry)) }
+        ensures ok { (h : History)
+            → IsOf self.old h
+            → OnOk result ((fault_of h event.entry ≡ None) × IsOf self.new (history_after h event.entry)) }
         ensures fault { (h : History) → IsOf self.old h → IfErr result (StepFaultIs h event.entry) }
         ensures unchanged { (h : History) → IsOf self.old h → OnErr result (IsOf self.new h) }
     {

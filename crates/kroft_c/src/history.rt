@@ -56,8 +56,12 @@ pub extern "C" fn kroft_load_request(
     address: u64,
     length: usize,
 ) -> u32
-    ensures status { (b : Option Session) → IsBehind handle.old b → IsStatus result b (LoadRequest number address length) }
-    ensures history { (b : Option Session) → IsBehind handle.old b → IsBehind handle.new (left_by result b (LoadRequest number address length)) }
+    ensures status { (b : Option Session)
+        → IsBehind handle.old b
+        → IsStatus result b (LoadRequest number address length) }
+    ensures history { (b : Option Session)
+        → IsBehind handle.old b
+        → IsBehind handle.new (left_by result b (LoadRequest number address length)) }
 {
     history_handles::load_request(alloc, handle, number, address, length)
 }
@@ -74,8 +78,12 @@ pub extern "C" fn kroft_load_response(
     number: u64,
     bytes: &[u8],
 ) -> u32
-    ensures status { (b : Option Session) → IsBehind handle.old b → IsStatus result b (LoadResponse number bytes.entry) }
-    ensures history { (b : Option Session) → IsBehind handle.old b → IsBehind handle.new (left_by result b (LoadResponse number bytes.entry)) }
+    ensures status { (b : Option Session)
+        → IsBehind handle.old b
+        → IsStatus result b (LoadResponse number bytes.entry) }
+    ensures history { (b : Option Session)
+        → IsBehind handle.old b
+        → IsBehind handle.new (left_by result b (LoadResponse number bytes.entry)) }
 {
     history_handles::load_response(alloc, handle, number, bytes)
 }
@@ -95,8 +103,12 @@ pub extern "C" fn kroft_store_request(
     bytes: &[u8],
     enables: u64,
 ) -> u32
-    ensures status { (b : Option Session) → IsBehind handle.old b → IsStatus result b (StoreRequest number address bytes.entry enables) }
-    ensures history { (b : Option Session) → IsBehind handle.old b → IsBehind handle.new (left_by result b (StoreRequest number address bytes.entry enables)) }
+    ensures status { (b : Option Session)
+        → IsBehind handle.old b
+        → IsStatus result b (StoreRequest number address bytes.entry enables) }
+    ensures history { (b : Option Session)
+        → IsBehind handle.old b
+        → IsBehind handle.new (left_by result b (StoreRequest number address bytes.entry enables)) }
 {
     history_handles::store_request(alloc, handle, number, address, bytes, enables)
 }
@@ -111,8 +123,12 @@ pub extern "C" fn kroft_store_response(
     handle: &mut HistoryHandle,
     number: u64,
 ) -> u32
-    ensures status { (b : Option Session) → IsBehind handle.old b → IsStatus result b (StoreResponse number) }
-    ensures history { (b : Option Session) → IsBehind handle.old b → IsBehind handle.new (left_by result b (StoreResponse number)) }
+    ensures status { (b : Option Session)
+        → IsBehind handle.old b
+        → IsStatus result b (StoreResponse number) }
+    ensures history { (b : Option Session)
+        → IsBehind handle.old b
+        → IsBehind handle.new (left_by result b (StoreResponse number)) }
 {
     history_handles::store_response(alloc, handle, number)
 }
@@ -130,7 +146,9 @@ pub extern "C" fn kroft_may_return(
     address: u64,
     set: &mut [u8],
 ) -> u32
-    ensures set { (b : Option Session) → IsBehind handle.old b → IsSetTold result set.old set.new (set_asked b number address) }
+    ensures set { (b : Option Session)
+        → IsBehind handle.old b
+        → IsSetTold result set.old set.new (set_asked b number address) }
     ensures same { behind handle.new ≡ behind handle.old }
 {
     history_handles::may_return(alloc, handle, number, address, set)
@@ -149,7 +167,9 @@ pub extern "C" fn kroft_wrong_place(
     bytes: &[u8],
     place: &mut u64,
 ) -> u32
-    ensures place { (b : Option Session) → IsBehind handle.old b → IsPlaceTold result place.old place.new b (LoadResponse number bytes.entry) }
+    ensures place { (b : Option Session)
+        → IsBehind handle.old b
+        → IsPlaceTold result place.old place.new b (LoadResponse number bytes.entry) }
     ensures same { behind handle.new ≡ behind handle.old }
 {
     history_handles::wrong_place(alloc, handle, number, bytes, place)
@@ -164,7 +184,9 @@ pub extern "C" fn kroft_unanswered(
     loads: &mut u64,
     stores: &mut u64,
 ) -> u32
-    ensures counts { (b : Option Session) → IsBehind handle.old b → IsCounted result b loads.old loads.new stores.old stores.new }
+    ensures counts { (b : Option Session)
+        → IsBehind handle.old b
+        → IsCounted result b loads.old loads.new stores.old stores.new }
     ensures same { behind handle.new ≡ behind handle.old }
 {
     history_handles::unanswered(alloc, handle, loads, stores)
@@ -179,7 +201,9 @@ pub extern "C" fn kroft_unanswered_load(
     n: u64,
     operation: &mut Operation,
 ) -> u32
-    ensures load { (b : Option Session) → IsBehind handle.old b → IsOperationTold result operation.old operation.new (load_asked b n) }
+    ensures load { (b : Option Session)
+        → IsBehind handle.old b
+        → IsOperationTold result operation.old operation.new (load_asked b n) }
     ensures same { behind handle.new ≡ behind handle.old }
 {
     history_handles::unanswered_load(alloc, handle, n, operation)
@@ -194,7 +218,9 @@ pub extern "C" fn kroft_unanswered_store(
     n: u64,
     operation: &mut Operation,
 ) -> u32
-    ensures store { (b : Option Session) → IsBehind handle.old b → IsOperationTold result operation.old operation.new (store_asked b n) }
+    ensures store { (b : Option Session)
+        → IsBehind handle.old b
+        → IsOperationTold result operation.old operation.new (store_asked b n) }
     ensures same { behind handle.new ≡ behind handle.old }
 {
     history_handles::unanswered_store(alloc, handle, n, operation)
