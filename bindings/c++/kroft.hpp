@@ -12,19 +12,30 @@
 //     expect(judge.stored(1));                    // the store's answer
 //     for (const kroft::Access &lost : judge.unanswered()) ..
 //
-// Every access has both its ends, a request and an answer, so that a law under which it may happen anywhere
-// between them can be judged behind the same calls.
+// kroft::History sees nothing but requests and responses, and judges by the regular law: an operation takes
+// effect at some moment between the two, each of its bytes for itself. Nobody has to say which moment:
+//
+//     kroft::History history;
+//     expect(history.store_request(1, 0x8000, data, 4));
+//     expect(history.load_request(2, 0x8002, 8));
+//     expect(history.load_response(2, bytes, 8));  // before or after the store: either is lawful
+//     for (const kroft_operation &lost : history.open_loads()) ..
 #pragma once
 
 #include "kroft.h"
 
 #include <algorithm>
 #include <array>
+#include <bitset>
+#include <cstddef>
 #include <cstdint>
 #include <cstdio>
 #include <cstring>
 #include <functional>
 #include <memory>
+#include <new>
+#include <optional>
+#include <stdexcept>
 #include <string>
 #include <unordered_map>
 #include <utility>
@@ -414,6 +425,117 @@ private:
     std::unordered_map<uint64_t, Access> stores;
     uint64_t call = 0;
     uint64_t step_count = 0;
+};
+
+/// The laws by which a history can be judged.
+enum class Law : uint32_t { Regular = KROFT_REGULAR_LAW, Flat = KROFT_FLAT_LAW };
+
+/// What stands beyond the image before the first store.
+enum class Beyond : uint32_t { Zeros = KROFT_ZEROS, Unknown = KROFT_UNKNOWN };
+
+/// What an event is told: true if the history with it is one of the law.
+class HistoryVerdict {
+public:
+    explicit HistoryVerdict(uint32_t status) : status(status) {}
+
+    explicit operator bool() const { return status == KROFT_LAWFUL; }
+
+    /// The number of the fault, as in kroft.h; KROFT_LAWFUL if there is none.
+    uint32_t fault() const { return status; }
+
+    const char *text() const {
+        switch (status) {
+        case KROFT_LAWFUL: return "lawful";
+        case KROFT_BAD_RANGE: return "no byte or more than 64, or bytes beyond the last address";
+        case KROFT_NO_BYTE_ENABLED: return "a store of no byte";
+        case KROFT_NUMBER_IN_USE: return "an operation is open under the number";
+        case KROFT_NOT_OPEN: return "no operation is open under the number";
+        case KROFT_WRONG_LENGTH: return "the load was requested with another length";
+        case KROFT_WRONG_BYTE: return "the load may not return one of the bytes";
+        case KROFT_TOO_LONG: return "as many events as can be counted";
+        default: return "not the library of this header";
+        }
+    }
+
+private:
+    uint32_t status;
+};
+
+/// A history by a law over the image of a memory, from address 0 on. It is moved, not copied. A call throws
+/// std::bad_alloc if there is too little memory, and then everything is as it was.
+class History {
+public:
+    explicit History(Law law = Law::Regular, const std::vector<uint8_t> &image = {}, Beyond beyond = Beyond::Zeros) {
+        const uint8_t none = 0;
+        const uint8_t *bytes = image.empty() ? &none : image.data();
+        done(kroft_history_open(&handle, static_cast<uint32_t>(law), 1, static_cast<uint32_t>(beyond), bytes, image.size()));
+    }
+    ~History() { kroft_history_free(&handle); }
+    History(History &&other) noexcept : handle(std::exchange(other.handle, kroft_history KROFT_NO_HISTORY)) {}
+    History &operator=(History &&other) noexcept {
+        std::swap(handle, other.handle);
+        return *this;
+    }
+    History(const History &) = delete;
+    History &operator=(const History &) = delete;
+
+    HistoryVerdict load_request(uint64_t number, uint64_t address, size_t length) {
+        return told(kroft_load_request(&handle, number, address, length));
+    }
+
+    HistoryVerdict load_response(uint64_t number, const uint8_t *bytes, size_t length) {
+        return told(kroft_load_response(&handle, number, bytes, length));
+    }
+
+    /// Of these bytes those are stored whose enable is set: bit k of `enables` is the one of byte k.
+    HistoryVerdict store_request(uint64_t number, uint64_t address, const uint8_t *bytes, size_t length, uint64_t enables = ~uint64_t{0}) {
+        return told(kroft_store_request(&handle, number, address, bytes, length, enables));
+    }
+
+    HistoryVerdict store_response(uint64_t number) { return told(kroft_store_response(&handle, number)); }
+
+    /// What the load that is open under a number may return for the byte at an address, if it is answered now; none if
+    /// no such load asks for that byte.
+    std::optional<std::bitset<256>> may_return(uint64_t number, uint64_t address) {
+        uint8_t row[KROFT_SET_BYTES];
+        if (told(kroft_may_return(&handle, number, address, row, sizeof row)).fault() != KROFT_FOUND) return std::nullopt;
+        std::bitset<256> set;
+        for (size_t byte = 0; byte < set.size(); byte++) set[byte] = row[byte / 8] >> byte % 8 & 1;
+        return set;
+    }
+
+    /// The place of the first of these bytes that the load that is open under a number may not return; none if there is
+    /// none, or no load of this length is open under it.
+    std::optional<uint64_t> wrong_place(uint64_t number, const uint8_t *bytes, size_t length) {
+        uint64_t place = 0;
+        if (told(kroft_wrong_place(&handle, number, bytes, length, &place)).fault() != KROFT_WRONG_BYTE) return std::nullopt;
+        return place;
+    }
+
+    /// The operations that are open, in the order of their requests.
+    std::vector<kroft_operation> open_loads() { return operations(kroft_unanswered_load); }
+    std::vector<kroft_operation> open_stores() { return operations(kroft_unanswered_store); }
+
+private:
+    kroft_history handle = KROFT_NO_HISTORY;
+
+    static void done(uint32_t status) {
+        if (status == KROFT_OUT_OF_MEMORY) throw std::bad_alloc();
+        if (status == KROFT_CLOSED) throw std::logic_error("a history that was moved from");
+        if (status == KROFT_NO_LAW) throw std::invalid_argument("no such law");
+    }
+
+    static HistoryVerdict told(uint32_t status) {
+        done(status);
+        return HistoryVerdict(status);
+    }
+
+    std::vector<kroft_operation> operations(uint32_t (*ask)(kroft_history *, uint64_t, kroft_operation *)) {
+        std::vector<kroft_operation> found;
+        kroft_operation it{};
+        while (told(ask(&handle, found.size(), &it)).fault() == KROFT_FOUND) found.push_back(it);
+        return found;
+    }
 };
 
 } // namespace kroft

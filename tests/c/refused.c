@@ -1,5 +1,5 @@
-/* Each allocation of kroft_open refused in turn: it says so, keeps no memory, and the handle stays closed.
-   Linked with the C library's calls wrapped (-Wl,--wrap=malloc and so on). */
+/* Each allocation of kroft_open, and of a history, refused in turn: it says so, keeps no memory, and what is behind the
+   handle is as it was. Linked with the C library's calls wrapped (-Wl,--wrap=malloc and so on). */
 #include "check.h"
 #include "kroft.h"
 
@@ -30,6 +30,50 @@ void __wrap_free(void *at) {
     __real_free(at);
 }
 
+/* A call of a history of 40 loads and stores that are open at once, and what it says. */
+static uint32_t call(kroft_history *h, uint32_t law, unsigned k) {
+    static const uint8_t bytes[4] = {1, 2, 3, 4};
+    if (k == 0) return kroft_history_open(h, law, 1, KROFT_ZEROS, bytes, 4);
+    if (k <= 40) return kroft_store_request(h, k, 8 * k, bytes, 4, 15);
+    if (k <= 80) return kroft_load_request(h, k, 8 * (k - 40), 4);
+    if (k <= 120) return kroft_load_response(h, k - 40, bytes, 4);
+    return kroft_store_response(h, k - 120);
+}
+
+enum { CALLS = 161 };
+
+/* A history in which the allocation at this place is refused, and its call made again: whether one was. */
+static int is_refused(uint32_t law, long place) {
+    kroft_history h = KROFT_NO_HISTORY;
+    uint64_t loads, stores;
+    unsigned k;
+    int found = 0;
+    granted = place;
+    for (k = 0; k < CALLS; k++) {
+        uint32_t status = call(&h, law, k);
+        if (status == KROFT_OUT_OF_MEMORY) {
+            found++;
+            if (k == 0) CHECK(held == 0 && h.open == 0);
+            granted = 1000000;
+            status = call(&h, law, k);
+        }
+        CHECK(status == KROFT_LAWFUL);
+        CHECK(kroft_unanswered(&h, &loads, &stores) == KROFT_DONE);
+        CHECK(stores == (k <= 40 ? k : k <= 120 ? 40 : 160 - k) && loads == (k <= 40 ? 0 : k <= 80 ? k - 40 : k <= 120 ? 120 - k : 0));
+    }
+    CHECK(kroft_history_free(&h) == KROFT_DONE && held == 0 && found <= 1);
+    return found;
+}
+
+static void histories(void) {
+    uint32_t law;
+    long place;
+    for (law = KROFT_REGULAR_LAW; law <= KROFT_FLAT_LAW; law++) {
+        for (place = 0; is_refused(law, place); place++) {}
+        CHECK(place > 8);
+    }
+}
+
 int main(void) {
     static const kroft_shape shape = {2, 4, 8, 4, 64, 4, 4, 8, 8, 8};
     static kroft_word image[64];
@@ -49,5 +93,6 @@ int main(void) {
     while (kroft_pump(&handle, &e, &a) == KROFT_FOUND) {}
     CHECK(kroft_settled(&handle) == KROFT_FOUND);
     CHECK(kroft_free(&handle) == KROFT_DONE && held == 0);
+    histories();
     return checks_end("refused");
 }

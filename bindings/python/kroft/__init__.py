@@ -1,8 +1,9 @@
 """Kroft for Python: does a memory answer as flat memory would, and a lockup-free cache to learn from.
 
-`FlatJudge` judges the accesses of a memory system of yours, `StepJudge` single steps of words, and `Machine` is the
-cache. What goes wrong is an exception below `KroftError`, with its cause and name. All of it is libkroft's, by ctypes:
-`library.places` says where the library is looked for.
+`History` judges the requests and responses of a memory system of yours, `FlatJudge` its accesses if each happens at its
+request, `StepJudge` single steps of words, and `Machine` is the cache. What goes wrong is an exception below
+`KroftError`, with its cause and name. All of it is libkroft's, by ctypes: `library.places` says where the library is
+looked for.
 """
 
 from .errors import (
@@ -36,6 +37,7 @@ from .events import (
     Take,
     Value,
 )
+from .history import History, HistoryFault, Law, NotLawful, Operation
 from .judge import FlatJudge, StepJudge
 from .machine import SHAPES, Field, Machine, Register, Shape, Target
 
@@ -54,13 +56,18 @@ __all__ = [
     "Evict",
     "Field",
     "FlatJudge",
+    "History",
+    "HistoryFault",
     "KroftError",
+    "Law",
     "LibraryMissing",
     "Load",
     "Machine",
     "Moved",
     "NotFlat",
+    "NotLawful",
     "Nothing",
+    "Operation",
     "Prefetch",
     "Process",
     "Reason",

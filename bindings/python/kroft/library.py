@@ -62,6 +62,10 @@ class TargetRow(c.Structure):
     _fields_ = [("tag", u16), ("lanes", u8), ("held", Word)]
 
 
+class OperationRow(c.Structure):
+    _fields_ = [("number", u64), ("address", u64), ("length", u64)]
+
+
 def places() -> Iterator[Path]:
     """Where the library may be, the first that counts first: the folder or file that KROFT_LIB names, and then nowhere
     else; the lib folder of the prefix that this Python or this package is installed in; dist/x86_64-linux of the
@@ -87,6 +91,17 @@ def declare(library: c.CDLL) -> c.CDLL:
         "kroft_flat_owed": [c.c_void_p, c.c_size_t, u16, c.c_void_p],
         "kroft_flat_why": [c.c_void_p, c.c_size_t, c.c_void_p, c.c_size_t, c.c_void_p, c.c_void_p, c.c_void_p],
         "kroft_flat_open": [c.c_void_p, c.c_size_t, u32, c.c_void_p],
+        "kroft_history_open": [handle, u32, u32, u32, out, c.c_size_t],
+        "kroft_history_free": [handle],
+        "kroft_load_request": [handle, u64, u64, c.c_size_t],
+        "kroft_load_response": [handle, u64, out, c.c_size_t],
+        "kroft_store_request": [handle, u64, u64, out, c.c_size_t, u64],
+        "kroft_store_response": [handle, u64],
+        "kroft_may_return": [handle, u64, u64, out, c.c_size_t],
+        "kroft_wrong_place": [handle, u64, out, c.c_size_t, out],
+        "kroft_unanswered": [handle, out, out],
+        "kroft_unanswered_load": [handle, u64, out],
+        "kroft_unanswered_store": [handle, u64, out],
         "kroft_open": [handle, out, out, c.c_size_t],
         "kroft_free": [handle],
         "kroft_apply": [handle, out, out],

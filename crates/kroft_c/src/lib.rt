@@ -1,14 +1,21 @@
-//! Kroft for C: the judge of one step of flat memory, and the machine behind a handle.
+//! Kroft for C: the judge of one step of flat memory, the history behind a handle, and the machine behind
+//! one.
 //!
-//! Each export is the call of its name in `flat_judge` or in `machine_handles`, and states its
-//! contract again. Every export is total: each number, each row and each length that C may pass has
+//! Each export is the call of its name in `flat_judge`, `history_handles` or `machine_handles`, and
+//! states its contract again. Every export is total: each number, each row and each length that C may pass has
 //! an answer.
 #![tactic(auto)]
 
+mod history;
 mod judge;
 mod machine;
 mod views;
 
+pub use history::{
+    kroft_history_free, kroft_history_open, kroft_load_request, kroft_load_response,
+    kroft_may_return, kroft_store_request, kroft_store_response, kroft_unanswered,
+    kroft_unanswered_load, kroft_unanswered_store, kroft_wrong_place,
+};
 pub use judge::{
     kroft_flat_open, kroft_flat_owed, kroft_flat_step, kroft_flat_why, kroft_why_text,
 };

@@ -1,0 +1,181 @@
+"""A history of a memory's loads and stores, judged as it goes: only their requests and responses are seen."""
+
+import ctypes as c
+import enum
+from types import TracebackType
+from typing import FrozenSet, List, NamedTuple, Optional, Type, Union
+
+from .errors import Access, Closed, KroftError, Unanswered
+from .library import HandleRow, OperationRow, library
+
+_LAWFUL, _FOUND, _CLOSED, _OUT_OF_MEMORY = 0, 1, 3, 101
+_SET_BYTES = 32
+
+Buffer = Union[bytes, bytearray, memoryview]
+
+
+class Law(enum.IntEnum):
+    """When an operation takes effect."""
+
+    REGULAR = 0  #: at some moment between its request and its response, each byte for itself
+    FLAT = 1  #: at its request
+
+
+class HistoryFault(enum.IntEnum):
+    """Why a history with an event is none of its law."""
+
+    BAD_RANGE = 11  #: the operation has no byte or more than 64, or runs beyond the last address
+    NO_BYTE_ENABLED = 12  #: no byte of the store is enabled
+    NUMBER_IN_USE = 13  #: an operation of this kind is open under the number
+    NOT_OPEN = 14  #: no operation of this kind is open under the number
+    WRONG_LENGTH = 15  #: the load was requested with another length
+    WRONG_BYTE = 16  #: the load may not return one of the bytes
+    TOO_LONG = 104  #: as many events as can be counted were taken
+
+
+class NotLawful(KroftError):
+    """The history with this event is none of its law. The history is as it was before."""
+
+    def __init__(self, cause: HistoryFault, event: str, place: Optional[int] = None, may: Optional[FrozenSet[int]] = None) -> None:
+        text = f"{event}: {cause.name.lower()}"
+        if place is not None and may is not None:
+            wanted = " or ".join(f"{byte:02x}" for byte in sorted(may)[:4]) + (" or others" if len(may) > 4 else "")
+            text += f" {place}: may be {wanted}"
+        super().__init__(text)
+        self.cause = cause
+        self.name = cause.name
+        self.place = place  #: WRONG_BYTE: the place of the first wrong byte in the response
+        self.may = may  #: WRONG_BYTE: what the load may return there
+
+
+class Operation(NamedTuple):
+    """An operation that is open: requested, and not yet answered."""
+
+    number: int
+    address: int
+    length: int
+
+
+class History:
+    """A history by a law over the image of a memory, from address 0 on. Beyond it there are zeros, or nothing is known.
+
+    Events are told in the order in which they happened. It is a context manager: left without an exception, it raises
+    `Unanswered` if an operation is open. Numbers are free again once their operation is answered.
+
+    >>> with History() as history:
+    ...     history.store_request(1, 0x1000, b"\\x5a")
+    ...     history.load_request(1, 0x1000, 1)
+    ...     print(sorted(history.may_return(1, 0x1000)))
+    ...     history.load_response(1, b"\\0")
+    ...     history.store_response(1)
+    [0, 90]
+    """
+
+    def __init__(self, law: Law = Law.REGULAR, image: Buffer = b"", *, unknown: bool = False) -> None:
+        self._handle = HandleRow()
+        self._library = library()
+        self.law = Law(law)
+        data = bytes(image)
+        status = self._library.kroft_history_open(c.byref(self._handle), self.law, 1, int(unknown), c.c_char_p(data), len(data))
+        if status == _OUT_OF_MEMORY:
+            raise MemoryError("no history was opened")
+        assert status == _LAWFUL, status
+
+    def load_request(self, number: int, address: int, length: int) -> None:
+        """A load of `length` bytes from `address` on is requested."""
+        self._tell(f"load {number} of {length} bytes at {address:#x}", "kroft_load_request", number, address, length)
+
+    def load_response(self, number: int, data: Buffer) -> None:
+        """The load that is open under the number is answered with these bytes."""
+        got = bytes(data)
+        event = f"load {number} returns {got.hex()}"
+        try:
+            self._tell(event, "kroft_load_response", number, c.c_char_p(got), len(got))
+        except NotLawful as error:
+            if error.cause != HistoryFault.WRONG_BYTE:
+                raise
+            raise self._with_place(number, got, event) from None
+
+    def store_request(self, number: int, address: int, data: Buffer, enables: Optional[int] = None) -> None:
+        """A store of the bytes whose enable is set is requested: bit `k` of `enables` is that of byte `k`; none: all are."""
+        stored = bytes(data)
+        mask = 2**64 - 1 if enables is None else enables
+        event = f"store {number} of {len(stored)} bytes at {address:#x}"
+        self._tell(event, "kroft_store_request", number, address, c.c_char_p(stored), len(stored), mask)
+
+    def store_response(self, number: int) -> None:
+        """The store that is open under the number is answered."""
+        self._tell(f"store {number} is answered", "kroft_store_response", number)
+
+    def may_return(self, number: int, address: int) -> Optional[FrozenSet[int]]:
+        """What the load that is open under a number may return for the byte at an address, if it is answered now; None if no
+        such load asks for that byte."""
+        row = c.create_string_buffer(_SET_BYTES)
+        status = self._call("kroft_may_return", _word(number), _word(address), row, _SET_BYTES)
+        if status != _FOUND:
+            return None
+        bits = int.from_bytes(row.raw, "little")
+        return frozenset(byte for byte in range(256) if bits >> byte & 1)
+
+    def open_loads(self) -> List[Operation]:
+        """The loads that are open, in the order of their requests."""
+        return self._operations("kroft_unanswered_load")
+
+    def open_stores(self) -> List[Operation]:
+        """The stores that are open, in the order of their requests."""
+        return self._operations("kroft_unanswered_store")
+
+    def close(self) -> None:
+        """Gives the memory back. Every later call raises `Closed`."""
+        if self._handle.open:
+            self._library.kroft_history_free(c.byref(self._handle))
+
+    def __enter__(self) -> "History":
+        return self
+
+    def __exit__(self, kind: Optional[Type[BaseException]], error: Optional[BaseException], trace: Optional[TracebackType]) -> None:
+        lost = [] if kind else [_access("load", it) for it in self.open_loads()] + [_access("store", it) for it in self.open_stores()]
+        self.close()
+        if lost:
+            raise Unanswered(lost)
+
+    def __del__(self) -> None:
+        if hasattr(self, "_library"):
+            self.close()
+
+    def _call(self, name: str, *arguments: object) -> int:
+        status: int = getattr(self._library, name)(c.byref(self._handle), *arguments)
+        if status == _CLOSED:
+            raise Closed("the history was closed")
+        return status
+
+    def _tell(self, event: str, name: str, *arguments: object) -> None:
+        status = self._call(name, *(_word(it) if isinstance(it, int) else it for it in arguments))
+        if status == _OUT_OF_MEMORY:
+            raise MemoryError(event)
+        if status != _LAWFUL:
+            raise NotLawful(HistoryFault(status), event)
+
+    def _with_place(self, number: int, got: bytes, event: str) -> NotLawful:
+        place = c.c_uint64()
+        self._call("kroft_wrong_place", _word(number), c.c_char_p(got), len(got), c.byref(place))
+        load = next(it for it in self.open_loads() if it.number == number)
+        return NotLawful(HistoryFault.WRONG_BYTE, event, place.value, self.may_return(number, load.address + place.value))
+
+    def _operations(self, name: str) -> List[Operation]:
+        found: List[Operation] = []
+        row = OperationRow()
+        while self._call(name, len(found), c.byref(row)) == _FOUND:
+            found.append(Operation(row.number, row.address, row.length))
+        return found
+
+
+def _access(kind: str, operation: Operation) -> Access:
+    return Access(kind, operation.number, operation.address, operation.length, 2**operation.length - 1, 0)
+
+
+def _word(number: int) -> c.c_uint64:
+    """A number of 64 bits: ctypes would cut another one off."""
+    if not 0 <= number < 2**64:
+        raise ValueError(f"not a number of 64 bits: {number}")
+    return c.c_uint64(number)

@@ -1,0 +1,113 @@
+"""Histories, judged as a Python programmer would."""
+
+import random
+import unittest
+from typing import Callable, Dict, List, Optional, Tuple
+
+from kroft import Closed, History, HistoryFault, Law, NotLawful, Operation, Unanswered
+
+
+class Histories(unittest.TestCase):
+    def test_a_load_beside_a_store(self) -> None:
+        for law, may in [(Law.REGULAR, {0x00, 0x5A}), (Law.FLAT, {0x5A})]:
+            with self.subTest(law=law), History(law) as history:
+                history.store_request(1, 0x1000, b"\x5a\x5b", 0b01)
+                history.load_request(1, 0x1000, 2)
+                self.assertEqual(history.may_return(1, 0x1000), may)
+                self.assertEqual(history.may_return(1, 0x1001), {0x00})
+                self.assertIsNone(history.may_return(1, 0x1002))
+                with self.assertRaises(NotLawful) as wrong:
+                    history.load_response(1, b"\x5a\x5b")
+                self.assertEqual((wrong.exception.name, wrong.exception.place, wrong.exception.may), ("WRONG_BYTE", 1, {0}))
+                self.assertEqual(str(wrong.exception), "load 1 returns 5a5b: wrong_byte 1: may be 00")
+                history.load_response(1, bytearray(b"\x5a\x00"))
+                history.store_response(1)
+
+    def test_each_fault_has_its_cause(self) -> None:
+        with History(image=b"\x01\x02", unknown=True) as history:
+            history.load_request(1, 0, 2)
+            history.store_request(1, 2**64 - 1, b"\x09")
+            faults = HistoryFault
+            rows: List[Tuple[HistoryFault, Callable[[], None]]] = [
+                (faults.BAD_RANGE, lambda: history.load_request(2, 0, 65)),
+                (faults.BAD_RANGE, lambda: history.store_request(2, 2**64 - 1, b"ab")),
+                (faults.NO_BYTE_ENABLED, lambda: history.store_request(2, 0, b"a", 2)),
+                (faults.NUMBER_IN_USE, lambda: history.load_request(1, 0, 1)),
+                (faults.NUMBER_IN_USE, lambda: history.store_request(1, 0, b"a")),
+                (faults.NOT_OPEN, lambda: history.load_response(2, b"a")),
+                (faults.NOT_OPEN, lambda: history.store_response(2)),
+                (faults.WRONG_LENGTH, lambda: history.load_response(1, b"a")),
+                (faults.WRONG_BYTE, lambda: history.load_response(1, b"\x02\x02")),
+            ]
+            for fault, call in rows:
+                with self.subTest(fault=fault.name), self.assertRaises(NotLawful) as wrong:
+                    call()
+                self.assertEqual((wrong.exception.cause, wrong.exception.name), (fault, fault.name))
+            for number in (-1, 2**64):
+                with self.assertRaises(ValueError):
+                    history.load_request(number, 0, 1)
+            history.load_request(3, 2, 1)
+            self.assertEqual(history.may_return(3, 2), set(range(256)))
+            self.assertEqual(history.open_loads(), [Operation(1, 0, 2), Operation(3, 2, 1)])
+            self.assertEqual(history.open_stores(), [Operation(1, 2**64 - 1, 1)])
+            history.load_response(3, b"\x77")
+            history.load_response(1, b"\x01\x02")
+            history.store_response(1)
+
+    def test_what_is_lost_is_told_at_the_end(self) -> None:
+        with self.assertRaises(Unanswered) as lost:
+            with History() as history:
+                history.load_request(7, 0x20, 4)
+                history.store_request(8, 0x30, b"abcd")
+        self.assertEqual([(it.kind, it.id, it.address, it.size) for it in lost.exception.accesses], [("load", 7, 0x20, 4), ("store", 8, 0x30, 4)])
+        with self.assertRaises(Closed):
+            history.load_request(1, 0, 1)
+
+    def test_random_runs_of_a_memory(self) -> None:
+        """A memory that takes effect at a hidden moment is never blamed; one that forgets stores is, soon."""
+        for forgets in (False, True):
+            for seed in range(20):
+                with self.subTest(forgets=forgets, seed=seed):
+                    blamed = run_of_memory(random.Random(seed), forgets)
+                    self.assertEqual(blamed is not None, forgets, blamed)
+
+
+def run_of_memory(chance: random.Random, forgets: bool) -> Optional[NotLawful]:
+    """Loads and stores of a byte at three addresses, each of which takes effect at a moment of its own."""
+    memory = [0, 0, 0]
+    waiting: Dict[int, Tuple[str, int, int]] = {}  # requested, and of no effect yet: kind, address, byte
+    done: Dict[int, Tuple[str, int]] = {}  # of effect, and not yet answered: kind, the byte of a load
+    history = History()
+    try:
+        for number in range(400):
+            address, byte = chance.randrange(3), chance.randrange(1, 256)
+            kind = chance.choice(["load", "store"])
+            waiting[number] = (kind, address, byte)
+            if kind == "load":
+                history.load_request(number, address, 1)
+            else:
+                history.store_request(number, address, bytes([byte]))
+            for moved in some_of(chance, list(waiting)):
+                kind, address, byte = waiting.pop(moved)
+                if kind == "store" and not (forgets and chance.random() < 0.2):
+                    memory[address] = byte
+                done[moved] = (kind, memory[address])
+            for answered in some_of(chance, list(done)):
+                kind, byte = done.pop(answered)
+                if kind == "load":
+                    history.load_response(answered, bytes([byte]))
+                else:
+                    history.store_response(answered)
+    except NotLawful as error:
+        return error
+    finally:
+        history.close()
+    return None
+
+
+def some_of(chance: random.Random, numbers: List[int]) -> List[int]:
+    return [number for number in numbers if chance.random() < 0.5]
+
+
+if __name__ == "__main__":
+    unittest.main()

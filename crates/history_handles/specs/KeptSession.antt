@@ -1,0 +1,10 @@
+-- Of which session is kept what stands behind a handle.
+use Rattle.std.specs.Prelude.{◌≡◌}
+use Rattle.history_handles.specs.declared.history.OpenHistory.{OpenHistory}
+use Rattle.history_handles.specs.Session.{Session}
+use Rattle.history_handles.specs.Kept.{IsOf}
+
+pub record IsKept (m : OpenHistory) (s : Session) : Type 0 where
+  pub judge : IsOf m.judge s.history
+  pub loads : m.loads.items ≡ s.loads
+  pub stores : m.stores.items ≡ s.stores

@@ -1,0 +1,54 @@
+-- How a history is opened, and how C is told of it.
+use Rattle.std.specs.Prelude.{◌≡◌, ◌≢◌, ℕ, ◌==◌, if◌then◌else◌, List, Option, Some, None, is_some, is_none}
+use Rattle.std.specs.Option.{option_map}
+use Rattle.memory_histories.specs.declared.events.Rest.{Rest}
+use Rattle.memory_histories.specs.declared.events.Rest.TheVariants.{Zeros, Unknown}
+use Rattle.history_handles.specs.declared.judge.Law.{Law}
+use Rattle.history_handles.specs.declared.judge.Law.TheVariants.{Regular, Flat}
+use Rattle.history_handles.specs.declared.history.OpenHistory.{OpenHistory}
+use Rattle.history_handles.specs.declared.open.OpenFault.{OpenFault}
+use Rattle.history_handles.specs.declared.open.OpenFault.TheVariants.{NoLaw, OutOfMemory, OpenAlready}
+use Rattle.history_handles.specs.Session.{session_opening}
+use Rattle.history_handles.specs.Behind.{IsKeptOf}
+
+-- the law and the rest of memory that these numbers choose
+abbrev pub law_of : ℕ → Option Law
+law_of law = if law == 0 then Some Regular else if law == 1 then Some Flat else None
+
+abbrev pub rest_of : ℕ → Option Rest
+rest_of rest = if rest == 0 then Some Zeros else if rest == 1 then Some Unknown else None
+
+abbrev pub both : {X Y : Type 0} → Option X → Option Y → Option (X × Y)
+both (Some x) (Some y) = Some (x, y)
+both x y = None
+
+-- with the unit of bytes that are read and written as one
+abbrev pub chosen : ℕ → ℕ → ℕ → Option (Law × Rest)
+chosen law unit rest = if unit == 1 then both (law_of law) (rest_of rest) else None
+
+-- why no history is opened, by what is kept behind the handle: `None`, where only memory can be wanting
+abbrev pub open_fault : Option OpenHistory → ℕ → ℕ → ℕ → Option OpenFault
+open_fault kept law unit rest = if is_some kept then Some OpenAlready else if is_none (chosen law unit rest) then Some NoLaw else None
+
+abbrev pub fault_or_memory : Option OpenFault → OpenFault
+fault_or_memory (Some fault) = fault
+fault_or_memory None = OutOfMemory
+
+abbrev pub open_number : OpenFault → ℕ
+open_number NoLaw = 103
+open_number OutOfMemory = 101
+open_number OpenAlready = 102
+
+-- C is told of a fault by its number, and of none by 0, where there was memory
+abbrev pub IsTold : ℕ → Option OpenFault → Type 0
+IsTold status (Some fault) = status ≡ open_number fault
+IsTold status None = status ≢ open_number OutOfMemory → status ≡ 0
+
+-- the history that is kept has no event yet, and is of this law and memory
+abbrev pub IsOpened : Option OpenHistory → Option (Law × Rest) → List ℕ → Type 0
+IsOpened kept choice image = IsKeptOf kept (option_map (λ c. session_opening c.0 image c.1) choice)
+
+-- 0, where there is a history
+abbrev pub told_status : Option OpenHistory → ℕ
+told_status None = 3
+told_status (Some m) = 0

@@ -1,0 +1,40 @@
+-- A history with the operations that are open.
+use Rattle.std.specs.Prelude.{ℕ, ◌==◌, not, List, [], ◌∷◌, ◌++◌, length}
+use Rattle.std.specs.List.{filter}
+use Rattle.memory_histories.specs.declared.events.HistoryEvent.{HistoryEvent}
+use Rattle.memory_histories.specs.declared.events.HistoryEvent.TheVariants.{LoadRequest, LoadResponse, StoreRequest, StoreResponse}
+use Rattle.memory_histories.specs.declared.events.Rest.{Rest}
+use Rattle.history_handles.specs.declared.judge.Law.{Law}
+use Rattle.history_handles.specs.declared.rows.Operation.{Operation}
+use Rattle.history_handles.specs.History.{History, opening, history_after}
+
+-- the loads and the stores that are open stand in the order of their requests
+pub record Session : Type 0 where
+  pub history : History
+  pub loads : List Operation
+  pub stores : List Operation
+
+-- no event yet
+abbrev pub session_opening : Law → List ℕ → Rest → Session
+session_opening law image rest = record { history = opening law image rest; loads = []; stores = [] }
+
+-- those that have another number
+abbrev pub without : ℕ → List Operation → List Operation
+without number operations = filter (λ o. not (o.number == number)) operations
+
+abbrev pub with_one : ℕ → ℕ → ℕ → List Operation → List Operation
+with_one number address bytes operations = operations ++ record { number = number; address = address; length = bytes } ∷ []
+
+abbrev pub loads_after : List Operation → HistoryEvent → List Operation
+loads_after loads (LoadRequest number address n) = with_one number address n loads
+loads_after loads (LoadResponse number bytes) = without number loads
+loads_after loads event = loads
+
+abbrev pub stores_after : List Operation → HistoryEvent → List Operation
+stores_after stores (StoreRequest number address bytes enables) = with_one number address (length bytes.now) stores
+stores_after stores (StoreResponse number) = without number stores
+stores_after stores event = stores
+
+abbrev pub session_after : Session → HistoryEvent → Session
+session_after s event =
+    record { history = history_after s.history event; loads = loads_after s.loads event; stores = stores_after s.stores event }

@@ -1,0 +1,56 @@
+//! What goes over as rows of plain numbers: operations, and sets of bytes.
+ghost use Rattle.std.specs.Prelude.{◌≡◌, ◌+◌, ◌*◌, ◌≤◌, length};
+ghost use Rattle.memory_histories.specs.Sets.{has};
+ghost use Rattle.history_handles.specs.Rows.{weight_in, octet, IsOctets};
+
+use memory_histories::ByteSet;
+
+/// An operation that is open: requested, and not yet answered.
+#[repr(C)]
+#[derive(Clone, Copy, PartialEq, Eq, Debug)]
+pub struct Operation {
+    /// Its number.
+    pub number: u64,
+    /// The address of its first byte.
+    pub address: u64,
+    /// How many bytes it has.
+    pub length: u64,
+}
+
+/// How many bytes the row of a set has: bit `k` of byte `n` says whether byte `8n + k` is in the set.
+pub const OCTETS: usize = 32;
+
+// This weight if the byte is in the set, else 0.
+fn weight_in(set: ByteSet, byte: u8, weight: u8) -> u8
+    ensures weight { result ≡ weight_in (has set) byte weight }
+    ensures most { result ≤ weight }
+{
+    if set.contains(byte) { weight } else { 0 }
+}
+
+#[tactic(auto, unfolding(crate::specs::Rows::octet))]
+// Which of the eight bytes from `first` on are in the set.
+fn octet(set: ByteSet, first: u8) -> u8
+    requires { first ≤ 248 }
+    ensures { result ≡ octet (has set) first }
+{
+    let low = weight_in(set, first, 1)
+        + weight_in(set, first + 1, 2)
+        + weight_in(set, first + 2, 4)
+        + weight_in(set, first + 3, 8);
+    let high = weight_in(set, first + 4, 16)
+        + weight_in(set, first + 5, 32)
+        + weight_in(set, first + 6, 64)
+        + weight_in(set, first + 7, 128);
+    low + high
+}
+
+// Writes a set into its row.
+pub(crate) fn write_set(set: ByteSet, row: &mut [u8])
+    requires { length row.old ≡ OCTETS }
+    ensures { IsOctets row.new (has set) }
+{
+    for (n, place) in row.iter_mut().enumerate() {
+        *place = octet(set, 8 * n as u8);
+    }
+}

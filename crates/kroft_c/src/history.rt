@@ -1,0 +1,227 @@
+//! The history behind a handle: it is opened, told the events of a memory, asked, and given up.
+ghost use Rattle.std.specs.Prelude.{◌≡◌, ◌≢◌, None, Option};
+ghost use Rattle.memory_histories.specs.declared.events.HistoryEvent.TheVariants.{LoadRequest, LoadResponse, StoreRequest, StoreResponse};
+ghost use Rattle.history_handles.specs.Session.{Session};
+ghost use Rattle.history_handles.specs.Behind.{behind, IsBehind};
+ghost use Rattle.history_handles.specs.Opening.{chosen, open_fault, IsTold, IsOpened, told_status};
+ghost use Rattle.history_handles.specs.Calls.{IsStatus, left_by, IsSetTold, set_asked, IsPlaceTold, IsCounted, IsOperationTold, load_asked, store_asked};
+
+use history_handles::{HistoryHandle, Operation};
+use std::alloc::Global;
+
+/// Opens a history without an event behind a closed handle, to be judged by a law (0: the regular
+/// one; 1: the flat one) under which so many bytes are read and written as one: a `unit` of 1 for these
+/// two. Memory begins as the bytes of the image, from address 0 on, and beyond them as `rest` says (0:
+/// zeros; 1: nothing is known).
+///
+/// 0: it stands behind the handle. 102: a history is behind the handle already. 103: no law has this
+/// number or this unit, or `rest` is neither. 101: there was too little memory. They are looked for in this order,
+/// and after each of them the handle is as it was, and no memory is kept.
+#[unsafe(no_mangle)]
+pub extern "C" fn kroft_history_open(
+    alloc: Global,
+    handle: &mut HistoryHandle,
+    law: u32,
+    unit: u32,
+    rest: u32,
+    image: &[u8],
+) -> u32
+    ensures status { IsTold result (open_fault (behind handle.old) law unit rest) }
+    ensures opened { result ≡ 0 → IsOpened (behind handle.new) (chosen law unit rest) image.now }
+    ensures unchanged { result ≢ 0 → behind handle.new ≡ behind handle.old }
+{
+    history_handles::open_history(alloc, handle, law, unit, rest, image)
+}
+
+/// Gives the history up, with all its memory. 0: it is given up, and the handle is closed. 3: the
+/// handle was closed already.
+#[unsafe(no_mangle)]
+pub extern "C" fn kroft_history_free(alloc: Global, handle: &mut HistoryHandle) -> u32
+    ensures status { result ≡ told_status (behind handle.old) }
+    ensures closed { behind handle.new ≡ None }
+{
+    history_handles::free_history(alloc, handle)
+}
+
+/// A load of `length` bytes from `address` on is requested under this number.
+///
+/// 0: the history with it is one of its law. 11: it has no byte or more than 64, or runs beyond the
+/// last address. 13: a load is open under the number. 104: the history has 2^64 - 1 events. 101:
+/// there was too little memory. 3: the handle is closed. After each but 0 all is as it was.
+#[unsafe(no_mangle)]
+pub extern "C" fn kroft_load_request(
+    alloc: Global,
+    handle: &mut HistoryHandle,
+    number: u64,
+    address: u64,
+    length: usize,
+) -> u32
+    ensures status { (b : Option Session)
+        → IsBehind handle.old b
+        → IsStatus result b (LoadRequest number address length) }
+    ensures history { (b : Option Session)
+        → IsBehind handle.old b
+        → IsBehind handle.new (left_by result b (LoadRequest number address length)) }
+{
+    history_handles::load_request(alloc, handle, number, address, length)
+}
+
+/// The load that is open under this number is answered with these bytes.
+///
+/// 0: the history with it is one of its law. 14: no load is open under the number. 15: the load was
+/// requested with another length. 16: the load may not return one of the bytes. 104, 101 and 3 as of
+/// [`kroft_load_request`]. After each but 0 all is as it was.
+#[unsafe(no_mangle)]
+pub extern "C" fn kroft_load_response(
+    alloc: Global,
+    handle: &mut HistoryHandle,
+    number: u64,
+    bytes: &[u8],
+) -> u32
+    ensures status { (b : Option Session)
+        → IsBehind handle.old b
+        → IsStatus result b (LoadResponse number bytes.entry) }
+    ensures history { (b : Option Session)
+        → IsBehind handle.old b
+        → IsBehind handle.new (left_by result b (LoadResponse number bytes.entry)) }
+{
+    history_handles::load_response(alloc, handle, number, bytes)
+}
+
+/// A store is requested under this number: of these bytes from `address` on, those whose enable is
+/// set. Bit `k` of `enables` is the enable of byte `k`; bits beyond the last byte have no meaning.
+///
+/// 0: the history with it is one of its law. 11: it has no byte or more than 64, or runs beyond the
+/// last address. 12: no byte is enabled. 13: a store is open under the number. 104, 101 and 3 as of
+/// [`kroft_load_request`]. After each but 0 all is as it was.
+#[unsafe(no_mangle)]
+pub extern "C" fn kroft_store_request(
+    alloc: Global,
+    handle: &mut HistoryHandle,
+    number: u64,
+    address: u64,
+    bytes: &[u8],
+    enables: u64,
+) -> u32
+    ensures status { (b : Option Session)
+        → IsBehind handle.old b
+        → IsStatus result b (StoreRequest number address bytes.entry enables) }
+    ensures history { (b : Option Session)
+        → IsBehind handle.old b
+        → IsBehind handle.new (left_by result b (StoreRequest number address bytes.entry enables)) }
+{
+    history_handles::store_request(alloc, handle, number, address, bytes, enables)
+}
+
+/// The store that is open under this number is answered.
+///
+/// 0: the history with it is one of its law. 14: no store is open under the number. 104, 101 and 3 as
+/// of [`kroft_load_request`]. After each but 0 all is as it was.
+#[unsafe(no_mangle)]
+pub extern "C" fn kroft_store_response(
+    alloc: Global,
+    handle: &mut HistoryHandle,
+    number: u64,
+) -> u32
+    ensures status { (b : Option Session)
+        → IsBehind handle.old b
+        → IsStatus result b (StoreResponse number) }
+    ensures history { (b : Option Session)
+        → IsBehind handle.old b
+        → IsBehind handle.new (left_by result b (StoreResponse number)) }
+{
+    history_handles::store_response(alloc, handle, number)
+}
+
+/// What the load that is open under a number may return for the byte at an address, if it is answered
+/// now: bit `k` of byte `n` of `set` says whether it may return byte `8n + k`.
+///
+/// 1: `set` is it. 0: no such load asks for that byte. 2: `set` hasn't 32 bytes. 3: the handle is
+/// closed. After each but 1 `set` is as it was; the history is so after each.
+#[unsafe(no_mangle)]
+pub extern "C" fn kroft_may_return(
+    alloc: Global,
+    handle: &mut HistoryHandle,
+    number: u64,
+    address: u64,
+    set: &mut [u8],
+) -> u32
+    ensures set { (b : Option Session)
+        → IsBehind handle.old b
+        → IsSetTold result set.old set.new (set_asked b number address) }
+    ensures same { behind handle.new ≡ behind handle.old }
+{
+    history_handles::may_return(alloc, handle, number, address, set)
+}
+
+/// What [`kroft_load_response`] would say of these bytes if there is room for it, and the first of them that
+/// the load may not return. It isn't told.
+///
+/// 16: the load may not return the byte at `place`, counted from 0. 0, 14, 15 and 3 as of
+/// [`kroft_load_response`], and `place` is as it was. The history is as it was after each.
+#[unsafe(no_mangle)]
+pub extern "C" fn kroft_wrong_place(
+    alloc: Global,
+    handle: &mut HistoryHandle,
+    number: u64,
+    bytes: &[u8],
+    place: &mut u64,
+) -> u32
+    ensures place { (b : Option Session)
+        → IsBehind handle.old b
+        → IsPlaceTold result place.old place.new b (LoadResponse number bytes.entry) }
+    ensures same { behind handle.new ≡ behind handle.old }
+{
+    history_handles::wrong_place(alloc, handle, number, bytes, place)
+}
+
+/// How many loads and how many stores are open. 0: `loads` and `stores` say it. 3: the handle is
+/// closed, and they are as they were.
+#[unsafe(no_mangle)]
+pub extern "C" fn kroft_unanswered(
+    alloc: Global,
+    handle: &mut HistoryHandle,
+    loads: &mut u64,
+    stores: &mut u64,
+) -> u32
+    ensures counts { (b : Option Session)
+        → IsBehind handle.old b
+        → IsCounted result b loads.old loads.new stores.old stores.new }
+    ensures same { behind handle.new ≡ behind handle.old }
+{
+    history_handles::unanswered(alloc, handle, loads, stores)
+}
+
+/// The load at place `n` among those that are open, in the order of their requests. 1: `operation` is
+/// it. 0: there is none. 3: the handle is closed. After 0 and 3 `operation` is as it was.
+#[unsafe(no_mangle)]
+pub extern "C" fn kroft_unanswered_load(
+    alloc: Global,
+    handle: &mut HistoryHandle,
+    n: u64,
+    operation: &mut Operation,
+) -> u32
+    ensures load { (b : Option Session)
+        → IsBehind handle.old b
+        → IsOperationTold result operation.old operation.new (load_asked b n) }
+    ensures same { behind handle.new ≡ behind handle.old }
+{
+    history_handles::unanswered_load(alloc, handle, n, operation)
+}
+
+/// The store at place `n` among those that are open, in the order of their requests. 1: `operation` is
+/// it. 0: there is none. 3: the handle is closed. After 0 and 3 `operation` is as it was.
+#[unsafe(no_mangle)]
+pub extern "C" fn kroft_unanswered_store(
+    alloc: Global,
+    handle: &mut HistoryHandle,
+    n: u64,
+    operation: &mut Operation,
+) -> u32
+    ensures store { (b : Option Session)
+        → IsBehind handle.old b
+        → IsOperationTold result operation.old operation.new (store_asked b n) }
+    ensures same { behind handle.new ≡ behind handle.old }
+{
+    history_handles::unanswered_store(alloc, handle, n, operation)
+}
