@@ -37,31 +37,31 @@ abbrev pub sizes : ℕ → ℕ → ℕ → ℕ → ShapeRow → Sizes
 sizes ways words regs depth r = sizes_of ways words regs depth (shape_of r)
 
 -- those of the machine of the list that a row asks for, where the list has it
-abbrev pub one_way : ShapeRow → Option Sizes
+unfoldable pub one_way : ShapeRow → Option Sizes
 one_way r =
     if has r 4 1 1 then Some (sizes 1 4 1 1 r) else
     if has r 4 4 4 then Some (sizes 1 4 4 4 r) else
     if has r 8 8 8 then Some (sizes 1 8 8 8 r) else None
 
-abbrev pub two_ways : ShapeRow → Option Sizes
+unfoldable pub two_ways : ShapeRow → Option Sizes
 two_ways r =
     if has r 4 4 4 then Some (sizes 2 4 4 4 r) else
     if has r 4 8 4 then Some (sizes 2 4 8 4 r) else
     if has r 8 8 8 then Some (sizes 2 8 8 8 r) else
     if has r 16 16 16 then Some (sizes 2 16 16 16 r) else None
 
-abbrev pub four_ways : ShapeRow → Option Sizes
+unfoldable pub four_ways : ShapeRow → Option Sizes
 four_ways r =
     if has r 4 8 8 then Some (sizes 4 4 8 8 r) else
     if has r 8 8 8 then Some (sizes 4 8 8 8 r) else
     if has r 16 16 16 then Some (sizes 4 16 16 16 r) else None
 
-abbrev pub eight_ways : ShapeRow → Option Sizes
+unfoldable pub eight_ways : ShapeRow → Option Sizes
 eight_ways r =
     if has r 8 16 16 then Some (sizes 8 8 16 16 r) else
     if has r 16 16 16 then Some (sizes 8 16 16 16 r) else None
 
-abbrev pub numbers : ShapeRow → Option Sizes
+unfoldable pub numbers : ShapeRow → Option Sizes
 numbers r =
     if r.ways == 1 then one_way r else
     if r.ways == 2 then two_ways r else

@@ -3,9 +3,6 @@ ghost use Rattle.std.specs.Prelude.{◌≡◌, ◌≤◌, Some, None, IfOk, OnOk
 ghost use Rattle.flat_model.specs.Flat.{flat_step};
 ghost use Rattle.machine_core.specs.Law.{most_weight};
 ghost use Rattle.machine_core.specs.AnyMachine as any;
-ghost use Rattle.machine_core.specs.Machine.{opening};
-ghost use Rattle.machine_core.specs.Whole.{bad_field};
-ghost use Rattle.memory_banks.specs.Memory.{fault_of};
 ghost use Rattle.machine_handles.specs.Listed.{state, sizes, opened, fault_in, why, numbers, one_way, two_ways, four_ways, eight_ways};
 
 use crate::views::ShapeRow;
@@ -96,6 +93,7 @@ impl Listed {
     /// `NotListed` if the list has no machine of the row's first four numbers; `BadShape` names the
     /// first of the others that is out of its range, the image's length last, before any memory is
     /// asked for; `OutOfMemory` says that there was too little memory.
+    #[tactic(auto, unfolding(crate::specs::Listed::numbers))]
     pub(crate) fn new(alloc: Global, row: &ShapeRow, image: &[Word]) -> Result<Listed, OpenFault>
         ensures ok { IfOk result (λ m. opened (numbers row.now) image.now ≡ Some (state m)) }
         ensures in_range { OnOk result (fault_in (numbers row.now) (length image.now) ≡ None) }
@@ -113,6 +111,7 @@ impl Listed {
 }
 
 // A machine of one way.
+#[tactic(auto, unfolding(crate::specs::Listed::one_way))]
 fn one_way(alloc: Global, row: &ShapeRow, image: &[Word]) -> Result<Listed, OpenFault>
     ensures ok { IfOk result (λ m. opened (one_way row.now) image.now ≡ Some (state m)) }
     ensures in_range { OnOk result (fault_in (one_way row.now) (length image.now) ≡ None) }
@@ -131,6 +130,7 @@ fn one_way(alloc: Global, row: &ShapeRow, image: &[Word]) -> Result<Listed, Open
 }
 
 // A machine of two ways.
+#[tactic(auto, unfolding(crate::specs::Listed::two_ways))]
 fn two_ways(alloc: Global, row: &ShapeRow, image: &[Word]) -> Result<Listed, OpenFault>
     ensures ok { IfOk result (λ m. opened (two_ways row.now) image.now ≡ Some (state m)) }
     ensures in_range { OnOk result (fault_in (two_ways row.now) (length image.now) ≡ None) }
@@ -152,6 +152,7 @@ fn two_ways(alloc: Global, row: &ShapeRow, image: &[Word]) -> Result<Listed, Ope
 }
 
 // A machine of four ways.
+#[tactic(auto, unfolding(crate::specs::Listed::four_ways))]
 fn four_ways(alloc: Global, row: &ShapeRow, image: &[Word]) -> Result<Listed, OpenFault>
     ensures ok { IfOk result (λ m. opened (four_ways row.now) image.now ≡ Some (state m)) }
     ensures in_range { OnOk result (fault_in (four_ways row.now) (length image.now) ≡ None) }
@@ -170,6 +171,7 @@ fn four_ways(alloc: Global, row: &ShapeRow, image: &[Word]) -> Result<Listed, Op
 }
 
 // A machine of eight ways.
+#[tactic(auto, unfolding(crate::specs::Listed::eight_ways))]
 fn eight_ways(alloc: Global, row: &ShapeRow, image: &[Word]) -> Result<Listed, OpenFault>
     ensures ok { IfOk result (λ m. opened (eight_ways row.now) image.now ≡ Some (state m)) }
     ensures in_range { OnOk result (fault_in (eight_ways row.now) (length image.now) ≡ None) }
@@ -189,18 +191,15 @@ fn machine<const WAYS: usize, const WORDS: usize, const REGS: usize, const DEPTH
     alloc: Global,
     row: &ShapeRow,
     image: &[Word],
-) -> Result<Machine<WAYS, WORDS, REGS, DEPTH>, MakeFault>
+) -> Result<Machine<WAYS, WORDS, REGS, DEPTH>, OpenFault>
     ensures ok { IfOk result
-        (λ m. m ≡ record {
-          sizes = sizes WAYS WORDS REGS DEPTH row.now;
-          machine = opening (sizes WAYS WORDS REGS DEPTH row.now) image.now;
-        }) }
+        (λ m. opened (Some (sizes WAYS WORDS REGS DEPTH row.now)) image.now ≡ Some m) }
     ensures in_range { OnOk result
-        (bad_field (sizes WAYS WORDS REGS DEPTH row.now) (length image.now) ≡ None) }
+        (fault_in (Some (sizes WAYS WORDS REGS DEPTH row.now)) (length image.now) ≡ None) }
     ensures fault { IfErr result
-        (λ e. e ≡ fault_of (bad_field (sizes WAYS WORDS REGS DEPTH row.now) (length image.now))) }
+        (λ e. e ≡ why (fault_in (Some (sizes WAYS WORDS REGS DEPTH row.now)) (length image.now))) }
 {
-    Machine::new(alloc, row.shape(), image)
+    Ok(Machine::new(alloc, row.shape(), image)?)
 }
 
 impl AnyMachine for Listed {

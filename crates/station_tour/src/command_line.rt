@@ -89,63 +89,125 @@ fn seed<'a>(alloc: Global) -> Arg<'a> {
     )
 }
 
+fn stations<'a>(alloc: Global) -> Arg<'a> {
+    number(
+        alloc,
+        "stations",
+        1_000_000,
+        "How many stations are run [default: 4]",
+    )
+}
+
+fn ports<'a>(alloc: Global) -> Arg<'a> {
+    number(
+        alloc,
+        "ports",
+        i64::from(MAX_PORTS),
+        "How many ports ask, 1 to 16 [default: 4]",
+    )
+}
+
+fn journal<'a>(alloc: Global) -> Arg<'a> {
+    flag(
+        alloc,
+        "journal",
+        "Write the journal alone, as a recorded run",
+    )
+}
+
+fn core_once<'a>(alloc: Global) -> Arg<'a> {
+    flag(
+        alloc,
+        "core-once",
+        "Serve the asks once by the core, and tell nothing",
+    )
+}
+
+fn hand_once<'a>(alloc: Global) -> Arg<'a> {
+    flag(
+        alloc,
+        "hand-once",
+        "Serve them once by a station that is stepped by hand, and tell nothing",
+    )
+}
+
+// The arguments go into a list and to their command in one call: each call that takes a command and
+// gives it back makes the proof dearer.
+fn push_argument<'a>(args: &mut Vec<Arg<'a>>, arg: Arg<'a>) -> Result<(), AllocError> {
+    Ok(args.push(arg)?)
+}
+
+fn soak_arguments<'a>(alloc: Global) -> Result<Vec<Arg<'a>>, AllocError> {
+    let mut args = Vec::new(alloc);
+    push_argument(&mut args, stations(alloc))?;
+    push_argument(&mut args, seed(alloc))?;
+    Ok(args)
+}
+
+fn rates_arguments<'a>(alloc: Global) -> Result<Vec<Arg<'a>>, AllocError> {
+    let mut args = Vec::new(alloc);
+    push_argument(&mut args, asks(alloc))?;
+    push_argument(&mut args, seed(alloc))?;
+    push_argument(&mut args, core_once(alloc))?;
+    push_argument(&mut args, hand_once(alloc))?;
+    Ok(args)
+}
+
+fn tour_arguments<'a>(alloc: Global) -> Result<Vec<Arg<'a>>, AllocError> {
+    let mut args = Vec::new(alloc);
+    push_argument(&mut args, ports(alloc))?;
+    push_argument(&mut args, asks(alloc))?;
+    push_argument(&mut args, seed(alloc))?;
+    push_argument(&mut args, journal(alloc))?;
+    Ok(args)
+}
+
 // The subcommand that runs stations at random.
 fn soak_command<'a>(alloc: Global) -> Result<Command<'a>, AllocError> {
+    let args = soak_arguments(alloc)?;
     Command::new(alloc, SOAK)
         .about("Run stations at random on threads, and look at each")
         .after_help(SOAK_NOTES)
-        .arg(number(
-            alloc,
-            "stations",
-            1_000_000,
-            "How many stations are run [default: 4]",
-        ))?
-        .arg(seed(alloc))
+        .args(args)
 }
 
 // The subcommand that measures.
 fn rates_command<'a>(alloc: Global) -> Result<Command<'a>, AllocError> {
+    let args = rates_arguments(alloc)?;
     Command::new(alloc, RATES)
         .about("Tell how many asks a second are served, of the asks of sixteen ports")
-        .arg(asks(alloc))?
-        .arg(seed(alloc))?
-        .arg(flag(
-            alloc,
-            "core-once",
-            "Serve the asks once by the core, and tell nothing",
-        ))?
-        .arg(flag(
-            alloc,
-            "hand-once",
-            "Serve them once by a station that is stepped by hand, and tell nothing",
-        ))
+        .args(args)
 }
 
-// The program's whole command line.
-fn program<'a>(alloc: Global) -> Result<Command<'a>, AllocError> {
+fn subcommands<'a>(alloc: Global) -> Result<Vec<Command<'a>>, AllocError> {
+    let mut commands = Vec::new(alloc);
+    commands.push(soak_command(alloc)?)?;
+    commands.push(rates_command(alloc)?)?;
+    Ok(commands)
+}
+
+// The command line without its arguments.
+fn base<'a>(alloc: Global) -> Result<Command<'a>, AllocError> {
     Command::new(alloc, NAME)
         .version("0.1.0")
         .about("Ports on threads over one lockup-free cache, and an audit of what they were told")
         .after_help(NOTES)
         .no_binary_name(true)
-        .bin_name(NAME)?
         .disable_help_subcommand(true)
         .args_conflicts_with_subcommands(true)
-        .arg(number(
-            alloc,
-            "ports",
-            i64::from(MAX_PORTS),
-            "How many ports ask, 1 to 16 [default: 4]",
-        ))?
-        .arg(asks(alloc))?
-        .arg(seed(alloc))?
-        .arg(flag(
-            alloc,
-            "journal",
-            "Write the journal alone, as a recorded run",
-        ))?
-        .subcommand(soak_command(alloc)?)?
-        .subcommand(rates_command(alloc)?)
+        .bin_name(NAME)
+}
+
+// The command line without its subcommands.
+fn tour_command<'a>(alloc: Global) -> Result<Command<'a>, AllocError> {
+    let args = tour_arguments(alloc)?;
+    base(alloc)?.args(args)
+}
+
+// The program's whole command line.
+fn program<'a>(alloc: Global) -> Result<Command<'a>, AllocError> {
+    let commands = subcommands(alloc)?;
+    tour_command(alloc)?.subcommands(commands)
 }
 
 /// Reads the words behind the program's name. Help and the version come as a fault too.

@@ -45,6 +45,15 @@ fn start<R: AllocGlobal + Clock + Env + Print + Threads + Sync, E: Print>(
     rt: &R,
     errors: &E,
 ) -> Result<u8, StationFault> {
+    let job = asked_for(rt)?;
+    let mut output = BufWriter::new(rt.alloc(), io::writer(rt))?;
+    let is_good = done(rt, &mut output, errors, &job)?;
+    output.flush()?;
+    Ok(u8::from(!is_good))
+}
+
+// What the words of the command line ask for.
+fn asked_for<R: AllocGlobal + Env>(rt: &R) -> Result<Job, StationFault> {
     let alloc = rt.alloc();
     let words: Vec<String> = env::args(rt)?.collect(alloc)?;
     let texts: Vec<&str> = words
@@ -52,15 +61,21 @@ fn start<R: AllocGlobal + Clock + Env + Print + Threads + Sync, E: Print>(
         .skip(1)
         .map(|word| word.as_str())
         .collect(alloc)?;
-    let job = read_words(alloc, &texts)?;
-    let mut output = BufWriter::new(alloc, io::writer(rt))?;
+    read_words(alloc, &texts)
+}
+
+// Does a job. Says whether nothing wrong was found.
+fn done<R: AllocGlobal + Clock + Threads + Sync, W: Write, E: Print>(
+    rt: &R,
+    output: &mut W,
+    errors: &E,
+    job: &Job,
+) -> Result<bool, StationFault> {
     let mut errors = io::writer(errors);
-    let is_good = match job {
-        Job::Tour { plan, show } => tour(rt, &mut output, &mut errors, &plan, show)?,
-        Job::Soak { stations, seed } => soak(rt, &mut output, &mut errors, stations, seed)?,
-        Job::Rates { plan } => tell_rates(rt, &mut output, &plan)?,
-        Job::Once { plan, server } => serve_once(rt, server, &plan)?,
-    };
-    output.flush()?;
-    Ok(u8::from(!is_good))
+    match job {
+        Job::Tour { plan, show } => tour(rt, output, &mut errors, plan, *show),
+        Job::Soak { stations, seed } => soak(rt, output, &mut errors, *stations, *seed),
+        Job::Rates { plan } => tell_rates(rt, output, plan),
+        Job::Once { plan, server } => serve_once(rt, *server, plan),
+    }
 }

@@ -16,12 +16,12 @@ use ring_station::Ask;
 use station_checks::{BLOCK_WORDS, Plan, WORDS, ask_by, bytes_of, per_second};
 use station_parts::{MAX_PORTS, PORT_TAGS};
 use std::alloc::{AllocError, Global};
-use std::fmt;
 use std::fmt::{Display, Formatter};
 use std::io::Write;
 use std::rt::Clock;
 use std::thread::Threads;
 use std::time::{Duration, Instant};
+use std::{fmt, io};
 
 // Each rate is the median of so many runs.
 const RUNS: u32 = 9;
@@ -99,18 +99,32 @@ pub(crate) fn tell_rates<R: AllocGlobal + Clock + Threads + Sync, W: Write>(
     out: &mut W,
     plan: &Plan,
 ) -> Result<bool, StationFault> {
-    let alloc = rt.alloc();
-    let requests = requests(alloc, plan)?;
-    let mut timings = Timing::of_servers(alloc)?;
-    let mut all_good = true;
-    for _run in 0..RUNS {
-        all_good &= run_each(rt, &mut timings, &requests)?;
-    }
-    let count = requests.len() as u64;
+    let requests = requests(rt.alloc(), plan)?;
+    let mut timings = Timing::of_servers(rt.alloc())?;
+    let all_good = run_all(rt, &mut timings, &requests)?;
+    tell_medians(out, requests.len() as u64, &mut timings)?;
+    Ok(all_good)
+}
+
+// Tells the rate of each server that has served so many requests in each of its runs.
+fn tell_medians<W: Write>(out: &mut W, count: u64, timings: &mut [Timing]) -> io::Result<()> {
     writeln!(out, "{count} requests, each rate the median of {RUNS} runs")?;
-    for timing in &mut timings {
+    for timing in timings {
         let rate = per_second(count, timing.median());
         writeln!(out, "{}: {rate} asks per second", timing.server)?;
+    }
+    Ok(())
+}
+
+// Runs the servers in turn, each so often as is wanted. Says whether all went well.
+fn run_all<R: AllocGlobal + Clock + Threads + Sync>(
+    rt: &R,
+    timings: &mut [Timing],
+    requests: &[Ask],
+) -> Result<bool, StationFault> {
+    let mut all_good = true;
+    for _run in 0..RUNS {
+        all_good &= run_each(rt, timings, requests)?;
     }
     Ok(all_good)
 }

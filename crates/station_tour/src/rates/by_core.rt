@@ -15,11 +15,19 @@ type Core = Machine<WAYS, BLOCK_WORDS, REGS, DEPTH>;
 /// Asks each request, again after each step of the driver if what is in its way passes. Says
 /// whether the machine then came to rest.
 pub(crate) fn ask_core(alloc: Global, requests: &[Ask]) -> Result<bool, StationFault> {
+    let mut core = new_core(alloc)?;
+    ask_all(&mut core, requests)
+}
+
+fn new_core(alloc: Global) -> Result<Core, StationFault> {
     let image = vec![in alloc; Word::default(); WORDS as usize]?;
-    let mut core = Core::new(alloc, shape(), &image)?;
+    Ok(Core::new(alloc, shape(), &image)?)
+}
+
+fn ask_all(core: &mut Core, requests: &[Ask]) -> Result<bool, StationFault> {
     for ask in requests {
         if let Some(event) = event_of(*ask) {
-            ask_one(&mut core, event)?;
+            ask_one(core, event)?;
         }
     }
     for _turn in 0..TURNS {

@@ -19,9 +19,18 @@ pub(crate) fn ask_by_hand(alloc: Global, requests: &[Ask]) -> Result<bool, Stati
         ports,
         banks,
     } = &mut station;
-    let Some(port) = ports.first_mut() else {
-        return Ok(false);
-    };
+    match ports.first_mut() {
+        Some(port) => ask_all(cache, port, banks, requests),
+        None => Ok(false),
+    }
+}
+
+fn ask_all(
+    cache: &mut Cache,
+    port: &mut Port,
+    banks: &mut [BankSide],
+    requests: &[Ask],
+) -> Result<bool, StationFault> {
     for ask in requests {
         ask_one(cache, port, banks, *ask)?;
     }
