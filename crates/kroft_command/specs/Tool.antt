@@ -8,7 +8,7 @@ use Rattle.access_logs.specs.declared.fault.LogFault.{LogFault}
 use Rattle.access_logs.specs.declared.fault.LogFault.TheVariants as log
 use Rattle.kroft_jobs.specs.Jobs as jobs
 use Rattle.kroft_command.specs.declared.fault.ToolFault.{ToolFault}
-use Rattle.kroft_command.specs.declared.fault.ToolFault.TheVariants.{CommandLine, Job, NoRoom}
+use Rattle.kroft_command.specs.declared.fault.ToolFault.TheVariants.{CommandLine, Job, NoRoom, ImageUnreadable}
 
 -- the numbers of what is asked for are in their ranges
 abbrev pub IsInRange : Task → Type 0
@@ -22,6 +22,7 @@ abbrev pub status_of : ToolFault → ℕ
 status_of (CommandLine error) = 2
 status_of (Job fault) = jobs.status_of fault
 status_of (NoRoom fault) = 4
+status_of ImageUnreadable = 4
 
 -- what is told of a log's fault
 abbrev pub of_log : LogFault → ToolFault

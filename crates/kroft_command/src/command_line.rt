@@ -9,6 +9,7 @@ use crate::commands::{FILE, LATENCY, Subcommand, program, shown};
 use access_logs::MAX_WORDS;
 use clap::error::ErrorKind;
 use clap::{ArgMatches, Error};
+use memory_histories::Rest;
 use round_driver::MOST_LATENCY;
 use run_pictures::Form;
 use std::alloc::{AllocError, Global};
@@ -56,6 +57,13 @@ pub(crate) enum Task {
         /// A page, screens or a waveform.
         form: Form,
     },
+    /// Judge a history.
+    History {
+        /// What memory has beyond its image.
+        rest: Rest,
+        /// Whether operations that are open at the end are a fault.
+        all_answered: bool,
+    },
 }
 
 /// What the words of the command line ask for.
@@ -65,6 +73,8 @@ pub(crate) struct CommandLine<'a> {
     pub task: Task,
     /// The path of the shape file, where one is given.
     pub shape_file: Option<&'a str>,
+    /// The path of the image of memory, where one is given.
+    pub image_file: Option<&'a str>,
 }
 
 /// Rounds from a command's begin to its service, where none are given.
@@ -133,6 +143,9 @@ fn conflict(task: Task, before: Option<&str>, behind: Option<&str>) -> Option<&'
                 "the argument '--shape <FILE>' cannot be used with 'requests': it takes '--words <N>'",
             )
         }
+        Task::History { .. } if before.is_some() => {
+            Some("the argument '--shape <FILE>' cannot be used with 'history'")
+        }
         Task::Requests { words, .. } if words % 4 != 0 => {
             Some("invalid value for '--words <N>': it is no multiple of 4")
         }
@@ -154,6 +167,29 @@ fn show_task(rest: &ArgMatches<'_>) -> Task
     Task::Show { form }
 }
 
+// What the words behind `history` ask for.
+fn history_task(rest: &ArgMatches<'_>) -> Task
+    ensures { IsInRange result }
+{
+    let beyond = if rest.get_flag("unknown") {
+        Rest::Unknown
+    } else {
+        Rest::Zeros
+    };
+    Task::History {
+        rest: beyond,
+        all_answered: rest.get_flag("all-answered"),
+    }
+}
+
+// The image that is asked for. Only `history` has one.
+fn image_of<'a>(task: Task, rest: &ArgMatches<'a>) -> Option<&'a str> {
+    match task {
+        Task::History { .. } => rest.get_str("image"),
+        _ => None,
+    }
+}
+
 // What a command and the words behind it ask for.
 fn task_of(subcommand: Subcommand, rest: &ArgMatches<'_>) -> Task
     ensures { IsInRange result }
@@ -166,6 +202,7 @@ fn task_of(subcommand: Subcommand, rest: &ArgMatches<'_>) -> Task
         Subcommand::Drive => drive_task(rest),
         Subcommand::Requests => requests_task(rest),
         Subcommand::Show => show_task(rest),
+        Subcommand::History => history_task(rest),
     }
 }
 
@@ -195,6 +232,7 @@ struct Asked<'a> {
     task: Task,
     before: Option<&'a str>,
     behind: Option<&'a str>,
+    image: Option<&'a str>,
     file: Option<&'a str>,
 }
 
@@ -204,16 +242,21 @@ fn asked_for<'a>(subcommand: Subcommand, matches: &ArgMatches<'a>) -> Asked<'a>
 {
     let shape = matches.get_str("shape");
     match matches.subcommand() {
-        Some((_, rest)) => Asked {
-            task: task_of(subcommand, rest),
-            before: shape,
-            behind: rest.get_str("shape"),
-            file: rest.get_str(FILE),
-        },
+        Some((_, rest)) => {
+            let task = task_of(subcommand, rest);
+            Asked {
+                task,
+                before: shape,
+                behind: rest.get_str("shape"),
+                image: image_of(task, rest),
+                file: rest.get_str(FILE),
+            }
+        }
         None => Asked {
             task: Task::Run,
             before: shape,
             behind: None,
+            image: None,
             file: None,
         },
     }
@@ -233,6 +276,7 @@ fn allowed<'a>(
         None => Ok(CommandLine {
             task: asked.task,
             shape_file: asked.before.or(asked.behind),
+            image_file: asked.image,
         }),
     }
 }

@@ -1,8 +1,8 @@
 //! The program's commands: their words, their options, and what their help says.
 
 use crate::notes::{
-    CHECK_NOTES, DRIVE_NOTES, EXPLAIN_NOTES, PROGRAM_NOTES, REQUESTS_NOTES, RUN_NOTES, SHOW_NOTES,
-    SWEEP_NOTES,
+    CHECK_NOTES, DRIVE_NOTES, EXPLAIN_NOTES, HISTORY_NOTES, PROGRAM_NOTES, REQUESTS_NOTES,
+    RUN_NOTES, SHOW_NOTES, SWEEP_NOTES,
 };
 use access_logs::MAX_WORDS;
 use clap::{Arg, ArgAction, Command};
@@ -28,10 +28,11 @@ pub(crate) enum Subcommand {
     Drive,
     Requests,
     Show,
+    History,
 }
 
 /// The commands, in the order in which help lists them.
-const SUBCOMMANDS: [Subcommand; 7] = [
+const SUBCOMMANDS: [Subcommand; 8] = [
     Subcommand::Run,
     Subcommand::Check,
     Subcommand::Sweep,
@@ -39,6 +40,7 @@ const SUBCOMMANDS: [Subcommand; 7] = [
     Subcommand::Drive,
     Subcommand::Requests,
     Subcommand::Show,
+    Subcommand::History,
 ];
 
 impl Subcommand {
@@ -52,6 +54,7 @@ impl Subcommand {
             "drive" => Some(Subcommand::Drive),
             "requests" => Some(Subcommand::Requests),
             "show" => Some(Subcommand::Show),
+            "history" => Some(Subcommand::History),
             _ => None,
         }
     }
@@ -66,6 +69,7 @@ impl Subcommand {
             Subcommand::Drive => "drive",
             Subcommand::Requests => "requests",
             Subcommand::Show => "show",
+            Subcommand::History => "history",
         }
     }
 
@@ -79,6 +83,7 @@ impl Subcommand {
             Subcommand::Drive => "kroft drive",
             Subcommand::Requests => "kroft requests",
             Subcommand::Show => "kroft show",
+            Subcommand::History => "kroft history",
         }
     }
 
@@ -87,6 +92,7 @@ impl Subcommand {
         match self {
             Subcommand::Check | Subcommand::Explain => "the recorded run",
             Subcommand::Requests => "the log",
+            Subcommand::History => "the history",
             _ => "the trace",
         }
     }
@@ -101,6 +107,7 @@ impl Subcommand {
             Subcommand::Drive => "Drive requests in rounds, with a latency of memory",
             Subcommand::Requests => "Write the loads and stores of a log of accesses as a trace",
             Subcommand::Show => "Draw the machine at each event of a trace, as a page",
+            Subcommand::History => "Tell whether requests and responses are those of a memory",
         }
     }
 
@@ -114,6 +121,7 @@ impl Subcommand {
             Subcommand::Drive => DRIVE_NOTES,
             Subcommand::Requests => REQUESTS_NOTES,
             Subcommand::Show => SHOW_NOTES,
+            Subcommand::History => HISTORY_NOTES,
         }
     }
 }
@@ -229,6 +237,48 @@ fn push_show<'a>(alloc: Global, args: &mut Vec<Arg<'a>>) -> Result<(), AllocErro
     Ok(())
 }
 
+// The argument for the law of a history.
+fn law_argument<'a>(alloc: Global) -> Arg<'a> {
+    Arg::new(alloc, "law")
+        .long("law")
+        .value_name("LAW")
+        .action(ArgAction::Set)
+        .value_parser(["regular"].as_slice())
+        .help("The law that the history is judged by [default: regular]")
+}
+
+// The argument for what memory had before the first store.
+fn image_argument<'a>(alloc: Global) -> Arg<'a> {
+    Arg::new(alloc, "image")
+        .long("image")
+        .value_name("FILE")
+        .action(ArgAction::Set)
+        .help("The file whose bytes memory has from address 0 on, in place of zeros")
+}
+
+// The argument for memory of which nothing is known.
+fn unknown_argument<'a>(alloc: Global) -> Result<Arg<'a>, AllocError> {
+    flag(
+        alloc,
+        "unknown",
+        "Memory may have had anything before the first store",
+    )
+    .conflicts_with("image")
+}
+
+// Adds the options of `history`. It knows no shape.
+fn push_history<'a>(alloc: Global, args: &mut Vec<Arg<'a>>) -> Result<(), AllocError> {
+    args.push(law_argument(alloc))?;
+    args.push(image_argument(alloc))?;
+    args.push(unknown_argument(alloc)?)?;
+    args.push(flag(
+        alloc,
+        "all-answered",
+        "End with status 1 if operations are open at the end",
+    ))?;
+    Ok(())
+}
+
 // Adds the options that only one command takes.
 fn push_own_options<'a>(
     alloc: Global,
@@ -242,6 +292,7 @@ fn push_own_options<'a>(
         Subcommand::Drive => push_drive(alloc, args),
         Subcommand::Requests => push_requests(alloc, args, takes_file),
         Subcommand::Show => push_show(alloc, args),
+        Subcommand::History => push_history(alloc, args),
     }
 }
 
@@ -249,14 +300,14 @@ fn push_argument<'a>(args: &mut Vec<Arg<'a>>, arg: Arg<'a>) -> Result<(), AllocE
     Ok(args.push(arg)?)
 }
 
-// Adds the argument for the shape file. Only `requests` takes none.
+// Adds the argument for the shape file. Only `requests` and `history` take none.
 fn push_shape<'a>(
     alloc: Global,
     args: &mut Vec<Arg<'a>>,
     subcommand: Subcommand,
 ) -> Result<(), AllocError> {
     match subcommand {
-        Subcommand::Requests => Ok(()),
+        Subcommand::Requests | Subcommand::History => Ok(()),
         _ => push_argument(args, shape_argument(alloc)),
     }
 }

@@ -16,6 +16,8 @@ pub enum ToolFault {
     Job(JobFault),
     /// A log touches a page for which there is no room.
     NoRoom(NoRoom),
+    /// The image of a history's memory can't be read.
+    ImageUnreadable,
 }
 
 impl ToolFault {
@@ -26,7 +28,7 @@ impl ToolFault {
         match self {
             ToolFault::CommandLine(_) => 2,
             ToolFault::Job(fault) => fault.status(),
-            ToolFault::NoRoom(_) => 4,
+            ToolFault::NoRoom(_) | ToolFault::ImageUnreadable => 4,
         }
     }
 
@@ -37,6 +39,7 @@ impl ToolFault {
             ToolFault::CommandLine(error) => write!(errors, "{error}"),
             ToolFault::Job(fault) => writeln!(errors, "{fault}"),
             ToolFault::NoRoom(fault) => writeln!(errors, "{fault}"),
+            ToolFault::ImageUnreadable => writeln!(errors, "image: file not readable"),
         };
         let _flushed = errors.flush();
     }

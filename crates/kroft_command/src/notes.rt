@@ -6,11 +6,13 @@ A fault is one line on standard error. `kroft run --help` lists the lines of a t
 
 Statuses:
   0  done, or help was asked for
-  1  check or explain found an answer that flat memory doesn't explain
+  1  check or explain found an answer that flat memory doesn't explain, or history one that its law
+     doesn't allow
   2  the command line is wrong
   3  the shape file is wrong
   4  the input is wrong, or a stream failed
   5  there is too little memory
+  6  history can't tell
 
 Keys of a shape file, a TOML table of whole numbers:
   words        1 to 1048576, a multiple of 4        default 64
@@ -218,3 +220,30 @@ Example:
   * bank 1 command 0   read place 1: register 0, word 1
   * bank 2 command 0   read place 1: register 0, word 2
   * bank 3 command 0   read place 1: register 0, word 3";
+
+pub(crate) const HISTORY_NOTES: &str = "Reads a history from standard input, one event a line:
+  load-request ID ADDRESS LENGTH             a load of LENGTH bytes from ADDRESS on is asked for
+  load-response ID BYTES                     it is answered
+  store-request ID ADDRESS BYTES [ENABLES]   a store of the bytes that are enabled is asked for
+  store-response ID                          it is answered
+Numbers are below 2^64, decimal with no zero in front, or hexadecimal behind 0x. BYTES are 1 to 64
+bytes in the order of memory, two digits each, 0 to 9 or a to f; ENABLES is a digit 0 or 1 for each
+byte, the first byte's first. One space stands between the words of a line, and an LF at its end.
+Blank lines and lines that begin with # are passed over. A line has at most 768 bytes; a history
+may have any number of lines.
+
+An operation is open from its request to its response, and took effect somewhere between. Loads and
+stores have numbers of their own, free again after the response.
+  regular   each byte of a load is one that a store left there, and that was not overwritten before
+            the load was asked for, or what memory had before the first store
+
+Writes 'history of N events is regular', and ', K operations open' behind it if some are; or
+'line N: ' and why the event of that line is none of the law. The lines behind it are not judged.
+
+Statuses: 0 the history is one of the law, 1 it isn't (or, with --all-answered, operations are
+open), 2 the command line is wrong, 4 a line is faulty, the image can't be read or a stream failed,
+5 there is too little memory, 6 it can't be told.
+
+Example:
+  $ printf 'load-request 7 0x1000 1\\nload-response 7 5a\\n' | kroft history
+  line 2: load 7 returned 5a at 0x1000, which may be 00";

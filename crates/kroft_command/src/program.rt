@@ -9,9 +9,11 @@ use crate::command_line::{CommandLine, LogName, Task, read_words};
 use crate::fault::ToolFault;
 use access_logs::{Din, Lackey, write_requests};
 use clap::error::ErrorKind;
+use history_text::{HistoryVerdict, LawName, judge_by_regular_law};
 use kroft_jobs::{
     JobFault, Verdict, drive_requests, serve, summarize_requests, sweep_in_rounds, sweep_registers,
 };
+use memory_histories::Rest;
 use run_pictures::Form;
 use shape_files::{ShapeFault, ToolShape, bad_field, read_shape};
 use std::alloc::Global;
@@ -24,7 +26,7 @@ use trace_text::TraceFault;
 /// Does what the words behind the program's name ask for, and gives the status that the program
 /// ends with: 0 done, 1 a mismatch was found, 2 the words were refused, 3 a fault of the shape
 /// file, 4 a fault of the trace or a failed write of the output, 5 want of memory or the turn limit
-/// of a sweep. A fault is told in one line on `errors`.
+/// of a sweep, 6 a history of which it can't be told. A fault is told in one line on `errors`.
 pub fn tool<R: AllocGlobal + Files + Threads + Sync, I: Read, O: Write, E: Write>(
     rt: &R,
     words: &[&str],
@@ -32,7 +34,7 @@ pub fn tool<R: AllocGlobal + Files + Threads + Sync, I: Read, O: Write, E: Write
     output: &mut O,
     errors: &mut E,
 ) -> u8
-    ensures { result ≤ 5 }
+    ensures { result ≤ 6 }
 {
     match work(rt, words, input, output) {
         Ok(status) => status,
@@ -62,7 +64,7 @@ fn work<R: AllocGlobal + Files + Threads + Sync, I: Read, O: Write>(
     input: &mut I,
     output: &mut O,
 ) -> Result<u8, ToolFault>
-    ensures { IfOk result (λ status. status ≤ 1) }
+    ensures { IfOk result (λ status. status ≤ 6) }
 {
     match read_words(rt.alloc(), words) {
         Ok(asked) => perform(rt, asked, input, output),
@@ -94,7 +96,7 @@ fn perform<R: AllocGlobal + Files + Threads + Sync, I: Read, O: Write>(
     output: &mut O,
 ) -> Result<u8, ToolFault>
     requires { IsInRange asked.task }
-    ensures { IfOk result (λ status. status ≤ 1) }
+    ensures { IfOk result (λ status. status ≤ 6) }
 {
     let shape = shape_of(rt, asked.shape_file)?;
     let status = match asked.task {
@@ -107,6 +109,10 @@ fn perform<R: AllocGlobal + Files + Threads + Sync, I: Read, O: Write>(
         }
         Task::Requests { from, words } => requests(rt.alloc(), from, words, input, output)?,
         Task::Show { form } => show(rt.alloc(), &shape, form, input, output)?,
+        Task::History { rest, all_answered } => {
+            let image = image_of(rt, asked.image_file)?;
+            history(rt.alloc(), &image, rest, all_answered, input, output)?
+        }
     };
     Ok(status)
 }
@@ -237,6 +243,39 @@ fn show<I: Read, O: Write>(
     put(output, drawing)?;
     finish(output)?;
     Ok(0)
+}
+
+// The bytes that memory has before the first store: those of the file, if one is named.
+fn image_of<R: AllocGlobal + Files>(rt: &R, file: Option<&str>) -> Result<Vec<u8>, ToolFault> {
+    let Some(path) = file else {
+        return Ok(Vec::new(rt.alloc()));
+    };
+    match std::fs::read(rt, path) {
+        Ok(bytes) => Ok(bytes),
+        Err(error) if error.kind() == io::ErrorKind::OutOfMemory => {
+            Err(ToolFault::Job(JobFault::OutOfMemory))
+        }
+        Err(_) => Err(ToolFault::ImageUnreadable),
+    }
+}
+
+// Judges a history by the regular law.
+fn history<I: Read, O: Write>(
+    alloc: Global,
+    image: &[u8],
+    rest: Rest,
+    all_answered: bool,
+    input: &mut I,
+    output: &mut O,
+) -> Result<u8, JobFault>
+    ensures { IfOk result (λ status. status ≤ 6) }
+{
+    let end = judge_by_regular_law(alloc, input, image, rest)?;
+    let law = LawName::Regular;
+    let verdict = HistoryVerdict { law, end };
+    put(output, format_args!("{verdict}\n"))?;
+    finish(output)?;
+    Ok(verdict.status(all_answered))
 }
 
 // Serves the requests with 1, 2, 4 and 8 registers, or drives them in rounds if there is a latency.
