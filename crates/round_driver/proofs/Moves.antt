@@ -18,7 +18,7 @@ use Rattle.machine_core.proofs.Weighing.{arrive_lowers}
 use Rattle.machine_core.proofs.Moving.{FallsOr, HasCommand, take_falls, process_falls, serve_falls, drain_falls, leaves_commands}
 use Rattle.round_driver.specs.declared.schedule.Schedule.{Schedule}
 use Rattle.round_driver.specs.Machines.{command_count, has_answer, has_stack_room}
-use Rattle.round_driver.specs.Rounds.{Course, scheduled, begun_at, with_begun, first_begun, is_free_since, is_free, has_unbegun, with_begin, without_first, is_due_since, attempt, begin, serve_due, bank_turns, first_with_answer, next_with_answer, arrive_from, arrive, moves}
+use Rattle.round_driver.specs.Rounds.{Course, scheduled, begun_at, with_begun, first_begun, is_free_since, is_free, with_begin, without_first, is_due_since, attempt, begin, serve_due, bank_turns, first_with_answer, next_with_answer, arrive_from, arrive, moves}
 use Rattle.round_driver.proofs.Commands.{commands_stay, one_served}
 
 -- ---- where a run stands

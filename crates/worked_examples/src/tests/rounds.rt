@@ -2,7 +2,9 @@
 
 use super::fixture::{ZERO, same};
 use machine_core::{Event, Machine, Shape};
-use round_driver::{LostRounds, Table, Timing, drive, drive_with, summarize, summarize_with};
+use round_driver::{
+    LostRounds, MOST_LATENCY, Table, Timing, drive, drive_with, summarize, summarize_with,
+};
 use std::alloc::Global;
 use std::test::Fail;
 use trace_text::{CheckEnd, check_text, read_requests};
@@ -289,24 +291,17 @@ load 39 17
 evict 4
 ";
 
-// The rounds of one load through one bank with these times.
-fn rounds_of_a_load(alloc: Global, timing: Timing) -> Result<u64, Fail> {
-    let shape = Shape {
-        banks: 1,
-        ..NARROW_SHAPE
-    };
-    let mut machine = machine::<1>(alloc, shape)?;
-    let requests = [Event::Load { tag: 1, at: 0 }];
-    let table = summarize_with(alloc, &mut machine, timing, &requests)?;
-    Ok(table.rounds)
-}
-
 // The load is accepted in round 1, and the bank begins the first of its four reads in round 2. A pipelined bank begins
 // another each `busy` rounds, so it serves the last one in round 2 + 3 * busy + latency, in which the word
 // arrives and is processed; nothing moves in the next one. A bank that isn't pipelined begins each read in the
 // round behind the one in which it served the last, so every latency + 1 rounds.
 #[test]
 fn one_load_through_one_bank(rt: HostRuntime) -> Result<(), Fail> {
+    let shape = Shape {
+        banks: 1,
+        ..NARROW_SHAPE
+    };
+    let requests = [Event::Load { tag: 1, at: 0 }];
     for (latency, busy, wanted) in [
         (5, 1, 11),
         (5, 2, 14),
@@ -317,8 +312,11 @@ fn one_load_through_one_bank(rt: HostRuntime) -> Result<(), Fail> {
         (9, 9, 42),
         (1, 1, 10),
     ] {
-        let rounds = rounds_of_a_load(rt.alloc(), Timing { latency, busy })?;
-        same(&rt, "rounds", rounds, wanted);
+        let mut machine = machine::<1>(rt.alloc(), shape)?;
+        let timing = Timing { latency, busy };
+        assert!(rt; timing.latency <= MOST_LATENCY);
+        let table = summarize_with(rt.alloc(), &mut machine, timing, &requests)?;
+        same(&rt, "rounds", table.rounds, wanted);
     }
     Ok(())
 }
@@ -331,6 +329,7 @@ fn runs_are_flat(rt: HostRuntime) -> Result<(), Fail> {
         let mut machine = machine::<2>(rt.alloc(), NARROW_SHAPE)?;
         let mut written = Vec::new(rt.alloc());
         let timing = Timing { latency, busy };
+        assert!(rt; timing.latency <= MOST_LATENCY);
         drive_with(rt.alloc(), &mut machine, timing, &requests, &mut written)?;
         let verdict = check_text(rt.alloc(), &mut written.as_slice(), 64)?;
         assert!(rt; matches!(verdict, CheckEnd::Flat { .. }));
