@@ -1,7 +1,9 @@
-//! What the regular law lets through and what it refuses, in histories of a few events; the order of
-//! the faults; and what memory may have before the first store.
+//! What the regular law and the flat one let through and what they refuse, in histories of a few events;
+//! the order of the faults; and what memory may have before the first store.
 
-use memory_histories::{HistoryEvent, HistoryFault, RegularMemory, Rest, StepFault};
+use memory_histories::{
+    FlatHistory, HistoryEvent, HistoryFault, Owed, RegularMemory, Rest, StepFault, StoreName,
+};
 use std::process::Abort;
 use std::test::Fail;
 
@@ -185,5 +187,155 @@ fn before_the_first_store(rt: HostRuntime) -> Result<(), Fail> {
         assert_eq!(rt; wrong, Some(HistoryFault::WrongByte { place: 0 }));
         assert_eq!(rt; refusal(&rt, &mut memory, loaded(1, &[7, 9])), second);
     }
+    Ok(())
+}
+
+/// Why a flat memory refuses an event, or `None` where it takes it. Where it finds too little memory it
+/// is asked again.
+fn flat_refusal<R: Abort>(
+    rt: &R,
+    memory: &mut FlatHistory,
+    event: HistoryEvent,
+) -> Option<HistoryFault> {
+    let mut answer = memory.step(event);
+    if answer == Err(StepFault::OutOfMemory) {
+        answer = memory.step(event);
+    }
+    match answer {
+        Ok(()) => None,
+        Err(StepFault::Refused(fault)) => Some(fault),
+        Err(_) => {
+            assert!(rt; false, "neither taken nor refused");
+            None
+        }
+    }
+}
+
+/// Asserts that a flat memory takes these events.
+fn flat_takes<R: Abort>(rt: &R, memory: &mut FlatHistory, events: &[HistoryEvent]) {
+    for (place, event) in events.iter().enumerate() {
+        assert_eq!(rt; flat_refusal(rt, memory, *event), None, "event {place}");
+    }
+}
+
+/// A load is owed what stood there at its request: a store that is requested before it, answered or
+/// not, and no later one.
+#[test]
+fn effect_at_the_request(rt: HostRuntime) -> Result<(), Fail> {
+    let mut memory = FlatHistory::new(rt.alloc(), &[], Rest::Zeros)?;
+    flat_takes(
+        &rt,
+        &mut memory,
+        &[load(1, 2), store(7, &[0x11, 0x22], 2), load(2, 2)],
+    );
+    let put = StoreName {
+        number: 7,
+        requested: 1,
+    };
+    let second = Owed::Stored {
+        byte: 0x22,
+        store: put,
+    };
+    assert_eq!(rt; memory.owed(1, PLACE + 1), Some(Owed::Initial { byte: 0 }));
+    assert_eq!(rt; memory.owed(2, PLACE), Some(Owed::Initial { byte: 0 }));
+    assert_eq!(rt; memory.owed(2, PLACE + 1), Some(second));
+    assert_eq!(rt; memory.owed(2, PLACE + 2), None);
+    assert_eq!(rt; memory.owed(3, PLACE), None);
+    flat_takes(&rt, &mut memory, &[store(8, &[0x33, 0x33], 3), stored(8)]);
+    let set = memory.may_return(2, PLACE + 1);
+    assert!(rt; set.is_some());
+    if let Some(set) = set {
+        for byte in 0..=u8::MAX {
+            assert_eq!(rt; set.contains(byte), byte == 0x22, "byte {byte}");
+        }
+    }
+    let rows: [(HistoryEvent, Option<HistoryFault>); 6] = [
+        (
+            loaded(2, &[0x33, 0x33]),
+            Some(HistoryFault::WrongByte { place: 0 }),
+        ),
+        (
+            loaded(2, &[0, 0]),
+            Some(HistoryFault::WrongByte { place: 1 }),
+        ),
+        (loaded(2, &[0, 0x22]), None),
+        (
+            loaded(1, &[0, 0x22]),
+            Some(HistoryFault::WrongByte { place: 1 }),
+        ),
+        (loaded(1, &[0, 0]), None),
+        (stored(7), None),
+    ];
+    for (event, fault) in rows {
+        assert_eq!(rt; memory.fault(event), fault);
+        assert_eq!(rt; flat_refusal(&rt, &mut memory, event), fault);
+    }
+    Ok(())
+}
+
+/// A byte that nobody knows may be anything, each time it is loaded, until a store covers it; an image
+/// and zeros are known.
+#[test]
+fn flat_memory_before_the_first_store(rt: HostRuntime) -> Result<(), Fail> {
+    let first = HistoryEvent::LoadRequest {
+        number: 1,
+        address: 0,
+        length: 2,
+    };
+    let rows = [
+        (Rest::Zeros, Some(HistoryFault::WrongByte { place: 1 })),
+        (Rest::Unknown, None),
+    ];
+    for (rest, second) in rows {
+        let mut memory = FlatHistory::new(rt.alloc(), &[7], rest)?;
+        flat_takes(&rt, &mut memory, &[first]);
+        let wrong = flat_refusal(&rt, &mut memory, loaded(1, &[0, 0]));
+        assert_eq!(rt; wrong, Some(HistoryFault::WrongByte { place: 0 }));
+        assert_eq!(rt; flat_refusal(&rt, &mut memory, loaded(1, &[7, 9])), second);
+    }
+    let mut memory = FlatHistory::new(rt.alloc(), &[], Rest::Unknown)?;
+    flat_takes(
+        &rt,
+        &mut memory,
+        &[load(1, 1), loaded(1, &[1]), load(1, 1), loaded(1, &[2])],
+    );
+    flat_takes(&rt, &mut memory, &[store(1, &[3], 1), load(1, 1)]);
+    let wrong = flat_refusal(&rt, &mut memory, loaded(1, &[2]));
+    assert_eq!(rt; wrong, Some(HistoryFault::WrongByte { place: 0 }));
+    flat_takes(&rt, &mut memory, &[loaded(1, &[3])]);
+    Ok(())
+}
+
+/// The faults of the flat law come in the same order, and change nothing.
+#[test]
+fn flat_faults_in_order(rt: HostRuntime) -> Result<(), Fail> {
+    let mut memory = FlatHistory::new(rt.alloc(), &[], Rest::Zeros)?;
+    flat_takes(&rt, &mut memory, &[store(1, &[1, 2], 2), load(1, 1)]);
+    let beyond = HistoryEvent::StoreRequest {
+        number: 1,
+        address: u64::MAX,
+        bytes: &[1, 2],
+        enables: 0,
+    };
+    let refused = [
+        (beyond, HistoryFault::OutOfRange),
+        (load(1, 65), HistoryFault::OutOfRange),
+        (store(1, &[1, 2], 4), HistoryFault::NoByteEnabled),
+        (store(1, &[1, 2], 1), HistoryFault::NumberInUse),
+        (load(1, 1), HistoryFault::NumberInUse),
+        (stored(2), HistoryFault::NotOpen),
+        (loaded(2, &[1, 2]), HistoryFault::NotOpen),
+        (loaded(1, &[1, 2]), HistoryFault::WrongLength),
+        (loaded(1, &[1]), HistoryFault::WrongByte { place: 0 }),
+    ];
+    for (event, fault) in refused {
+        assert_eq!(rt; memory.fault(event), Some(fault));
+        assert_eq!(rt; flat_refusal(&rt, &mut memory, event), Some(fault));
+    }
+    flat_takes(
+        &rt,
+        &mut memory,
+        &[stored(1), store(1, &[5], 1), loaded(1, &[0])],
+    );
     Ok(())
 }

@@ -11,7 +11,7 @@ use Rattle.memory_histories.specs.declared.events.Rest.TheVariants.{Zeros}
 use Rattle.memory_histories.specs.Windows.{Windows, opening}
 use Rattle.memory_histories.specs.Regular.{fault, regular_run}
 
-abbrev bytes : List ℕ → Bor (List ℕ)
+abbrev pub bytes : List ℕ → Bor (List ℕ)
 bytes xs = record { ref_ptr = (0, 0); now = xs }
 
 -- memory of zeros
@@ -27,11 +27,11 @@ abbrev Stops : List HistoryEvent → HistoryEvent → HistoryFault → Type 0
 Stops events event cause = option_map (λ w. fault w event) (regular_run start events) ≡ Some (Some cause)
 
 -- a load of so many bytes at 4096 that is requested and answered
-abbrev load : ℕ → ℕ → List ℕ → List HistoryEvent
+abbrev pub load : ℕ → ℕ → List ℕ → List HistoryEvent
 load number length xs = LoadRequest number 4096 length ∷ LoadResponse number (bytes xs) ∷ []
 
 -- two stores of a word of two bytes that overlap
-abbrev two_stores : List HistoryEvent
+abbrev pub two_stores : List HistoryEvent
 two_stores = StoreRequest 1 4096 (bytes (17 ∷ 17 ∷ [])) 3 ∷ StoreRequest 2 4096 (bytes (34 ∷ 34 ∷ [])) 3 ∷ StoreResponse 1 ∷ StoreResponse 2 ∷ []
 
 -- new then old: while a store is open, one load sees it, and a later one doesn't

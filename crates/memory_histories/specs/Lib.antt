@@ -7,3 +7,4 @@ pub mod Shown
 pub mod Flat
 pub mod FlatShown
 pub mod Examples
+pub mod FlatExamples

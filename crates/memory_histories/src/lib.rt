@@ -18,7 +18,7 @@ mod windows;
 pub use events::{HistoryEvent, HistoryFault, MAX_LENGTH, Rest, StepFault};
 pub use flat::{FlatHistory, OwedByte};
 pub use kept::OpenByte;
-pub use reasons::{ByteReason, Owed, StoreName, WrongByte};
+pub use reasons::{Owed, StoreName};
 pub use regular::RegularMemory;
 pub use sets::ByteSet;
 pub use windows::{LoadByte, StoreByte, may_return};

@@ -13,7 +13,6 @@ use crate::kept::{
     OpenByte, add_load, answer_store, end_load, is_open_of, length_of, open_byte, open_store,
     show_stores, wrong_place,
 };
-use crate::reasons::{ByteReason, StoreName, WrongByte};
 use crate::sets::ByteSet;
 use crate::windows::{StoreByte, add_store, has_enabled, is_inside, is_open};
 use std::alloc::{AllocError, Global};
@@ -64,40 +63,6 @@ impl RegularMemory {
         ensures { (w : Windows) → StandsFor (kept self.now) w → IsSetOf w number address result }
     {
         self.kept_set(number, address)
-    }
-
-    /// Why the load that is open under a number may return this byte at an address if it is answered
-    /// now, or why it may not; `None` if no such load asks for that byte.
-    pub fn reason(&self, number: u64, address: u64, byte: u8) -> Option<ByteReason> {
-        let set = self.may_return(number, address)?;
-        if !set.contains(byte) {
-            return Some(ByteReason::Absent);
-        }
-        match left_store(self.live.as_slice(), address, byte) {
-            Some(store) => Some(ByteReason::Stored { store }),
-            None => Some(ByteReason::Initial),
-        }
-    }
-
-    /// The first byte that a load may not return, and why, if [`RegularMemory::fault`] of this event is
-    /// [`HistoryFault::WrongByte`]; else `None`.
-    pub fn why(&self, event: HistoryEvent) -> Option<WrongByte> {
-        let HistoryEvent::LoadResponse { number, bytes } = event else {
-            return None;
-        };
-        let Some(HistoryFault::WrongByte { place }) = self.fault(event) else {
-            return None;
-        };
-        let load = self.loads.iter().filter(|load| is_open_of(load, number)).nth(place)?;
-        let byte = *bytes.get(place)?;
-        let address = load.load.address;
-        let reason = self.reason(number, address, byte)?;
-        Some(WrongByte {
-            place,
-            address,
-            byte,
-            reason,
-        })
     }
 
     /// Takes one event of a history.
@@ -266,16 +231,6 @@ impl RegularMemory {
         Ok(())
     }
 }
-
-// A store that left this byte at an address.
-fn left_store(live: &[StoreByte], address: u64, byte: u8) -> Option<StoreName> {
-    let store = live.iter().find(|store| store.address == address && store.byte == byte)?;
-    Some(StoreName {
-        number: store.number,
-        requested: store.began,
-    })
-}
-
 // Of the faults of an event, the first in the order of its own list.
 pub(crate) fn load_request_fault(inside: bool, used: bool) -> Option<HistoryFault>
     ensures { result ≡ load_request_fault inside used }
