@@ -14,6 +14,6 @@ returns-in_err-ways-clause-stop c =
     let within : c.loop-unit.unit-index < length c.args.units.now = omega arith in
     let here : StopIs (is_wide_at c.args.limit c.args.size c.args.event (shown_unit unit)) stop =
     subst (λ ws. StopIs (is_too_wide c.args.limit (record { first = unit.first; size = c.args.size }) (shown_all ws) c.args.event) stop) c.as_slice.ensures.value
-        c.in_err-ways.ensures.stop in
+    c.in_err-ways.ensures.stop in
     pass_on c.from_residual.result stop (StopIs (is_wide c.args.limit c.args.size c.args.event (shown_units c.args.units.now))) c.from_residual.ensures.1
-        (stop_at stop c.args.limit c.args.size c.args.event c.args.units.now c.loop-unit.unit-index unit within c.unit-item.is here)
+    (stop_at stop c.args.limit c.args.size c.args.event c.args.units.now c.loop-unit.unit-index unit within c.unit-item.is here)
