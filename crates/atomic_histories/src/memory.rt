@@ -366,6 +366,7 @@ impl AtomicMemory {
     fn open_or_close(&mut self, event: HistoryEvent) -> Result<(), AllocError>
         ensures ok { OnOk result (held self.new ≡ record { image = (held self.old).image; rest = (held self.old).rest; size = (held self.old).size; opened = opened_after (held self.old).opened event.entry; units = (held self.old).units }) }
         ensures err { OnErr result (held self.new ≡ held self.old) }
+        ensures limit { limit_of self.new ≡ limit_of self.old }
     {
         match event {
             HistoryEvent::LoadRequest {
