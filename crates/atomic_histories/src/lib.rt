@@ -15,3 +15,6 @@ pub use memory::{AtomicFault, AtomicMemory, DEFAULT_LIMIT, KeptUnit, UnitSize};
 pub use search::Stop;
 pub use unit::{OpenStore, Operation, UnitPlace, WatchedLoad, Word};
 pub use ways::{Wanted, Way};
+
+#[cfg(test)]
+mod tests;

@@ -244,6 +244,7 @@ impl AtomicMemory {
     ) -> Result<AtomicMemory, AllocError>
         ensures held { IfOk result (λ m. held m ≡ nothing_held image.now rest (bytes_of size)) }
         ensures stands { IfOk result (λ m. StandsForAll (held m) []) }
+        ensures limit { IfOk result (λ m. limit_of m ≡ limit) }
     {
         let image = Vec::from_slice(alloc, image)?;
         Ok(AtomicMemory {
@@ -269,6 +270,7 @@ impl AtomicMemory {
         ensures ok { (history : List HistoryEvent) → StandsForAll (held self.old) history → OnOk result (IsAtomic (held self.old).image (held self.old).rest (held self.old).size (history ++ event.entry ∷ []) × StandsForAll (held self.new) (history ++ event.entry ∷ [])) }
         ensures fault { (history : List HistoryEvent) → StandsForAll (held self.old) history → IfErr result (StepFaultIs (limit_of self.old) (held self.old) history event.entry) }
         ensures unchanged { OnErr result (held self.new ≡ held self.old) }
+        ensures limit { limit_of self.new ≡ limit_of self.old }
     {
         self.kept_step(event)
     }
@@ -277,6 +279,7 @@ impl AtomicMemory {
         ensures ok { OnOk result (IsTaken (held self.old) event.entry (held self.new)) }
         ensures fault { IfErr result (KeptFaultIs (limit_of self.old) (held self.old) event.entry) }
         ensures unchanged { OnErr result (held self.new ≡ held self.old) }
+        ensures limit { limit_of self.new ≡ limit_of self.old }
     {
         if let Some(fault) = self.form_fault(event) {
             return Err(AtomicFault::Refused(fault));
@@ -363,6 +366,7 @@ impl AtomicMemory {
     fn open_or_close(&mut self, event: HistoryEvent) -> Result<(), AllocError>
         ensures ok { OnOk result (held self.new ≡ record { image = (held self.old).image; rest = (held self.old).rest; size = (held self.old).size; opened = opened_after (held self.old).opened event.entry; units = (held self.old).units }) }
         ensures err { OnErr result (held self.new ≡ held self.old) }
+        ensures limit { limit_of self.new ≡ limit_of self.old }
     {
         match event {
             HistoryEvent::LoadRequest {
