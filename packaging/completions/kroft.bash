@@ -5,6 +5,7 @@ _kroft() {
   case $before in
     --shape) COMPREPLY=($(compgen -f -- "$word")); return ;;
     --latency) COMPREPLY=($(compgen -W '' -- "$word")); return ;;
+    --busy) COMPREPLY=($(compgen -W '' -- "$word")); return ;;
     --from) COMPREPLY=($(compgen -W 'lackey din' -- "$word")); return ;;
     --words) COMPREPLY=($(compgen -W '' -- "$word")); return ;;
   esac
@@ -16,9 +17,9 @@ _kroft() {
   case $command in
     run) k='--shape -h --help' ;;
     check) k='--shape -h --help' ;;
-    sweep) k='--shape --latency -h --help' ;;
+    sweep) k='--shape --latency --busy -h --help' ;;
     explain) k='--shape -h --help' ;;
-    drive) k='--shape --latency --summary -h --help' ;;
+    drive) k='--shape --latency --busy --summary -h --help' ;;
     requests) k='--from --words -h --help' ;;
     show) k='--shape --text --vcd -h --help' ;;
     *) k='run check sweep explain drive requests show --shape -h --help -V --version' ;;

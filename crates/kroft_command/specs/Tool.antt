@@ -12,8 +12,8 @@ use Rattle.kroft_command.specs.declared.fault.ToolFault.TheVariants.{CommandLine
 
 -- the numbers of what is asked for are in their ranges
 abbrev pub IsInRange : Task → Type 0
-IsInRange (Sweep latency) = IfSome latency (λ rounds. rounds ≤ MOST_LATENCY)
-IsInRange (Drive latency summary) = latency ≤ MOST_LATENCY
+IsInRange (Sweep timing) = IfSome timing (λ t. t.latency ≤ MOST_LATENCY)
+IsInRange (Drive timing summary) = timing.latency ≤ MOST_LATENCY
 IsInRange (Requests from words) = words ≤ MAX_WORDS
 IsInRange task = Unit {0}
 

@@ -1,16 +1,16 @@
 //! The words of the command line.
 
-ghost use Rattle.std.specs.Prelude.{◌≤◌, IfOk, IfSome};
+ghost use Rattle.std.specs.Prelude.{◌≡◌, ◌≤◌, IfOk, IfSome};
 ghost use Rattle.access_logs.specs.declared.writing.TheConstants.{MAX_WORDS};
 ghost use Rattle.round_driver.specs.declared.driving.TheConstants.{MOST_LATENCY};
 ghost use Rattle.kroft_command.specs.Tool.{IsInRange};
 
-use crate::commands::{FILE, LATENCY, Subcommand, program, shown};
+use crate::commands::{BUSY, FILE, LATENCY, Subcommand, program, shown};
 use access_logs::MAX_WORDS;
 use clap::error::ErrorKind;
 use clap::{ArgMatches, Error};
 use memory_histories::Rest;
-use round_driver::MOST_LATENCY;
+use round_driver::{MOST_LATENCY, Timing};
 use run_pictures::Form;
 use std::alloc::{AllocError, Global};
 
@@ -32,16 +32,16 @@ pub(crate) enum Task {
     Check,
     /// Serve its requests with 1, 2, 4 and 8 registers.
     Sweep {
-        /// Rounds from a command's begin to its service, 0 to 1,000, if the requests are driven in
-        /// rounds; none if they are served by pumps.
-        latency: Option<u64>,
+        /// How long a bank takes for a command, if the requests are driven in rounds; none if they
+        /// are served by pumps.
+        timing: Option<Timing>,
     },
     /// Judge its lines up to the first that flat memory doesn't explain, and say why.
     Explain,
     /// Drive its requests in rounds.
     Drive {
-        /// Rounds from a command's begin to its service, 0 to 1,000.
-        latency: u64,
+        /// How long a bank takes for a command.
+        timing: Timing,
         /// Whether a table of counts is written in place of the run.
         summary: bool,
     },
@@ -90,6 +90,16 @@ fn latency_of(rest: &ArgMatches<'_>) -> Option<u64>
     }
 }
 
+// The times of memory that are asked for with this latency: one command at a time, unless `busy` is given.
+fn timing_with(rest: &ArgMatches<'_>, latency: u64) -> Timing
+    ensures { result.latency ≡ latency }
+{
+    match rest.get_one::<u64>(BUSY) {
+        Some(busy) => Timing { latency, busy },
+        None => Timing::unpipelined(latency),
+    }
+}
+
 // The words of memory that are asked for. More were refused, as for the latency.
 fn words_of(rest: &ArgMatches<'_>) -> u32
     ensures { result ≤ MAX_WORDS }
@@ -105,7 +115,10 @@ fn sweep_task(rest: &ArgMatches<'_>) -> Task
     ensures { IsInRange result }
 {
     Task::Sweep {
-        latency: latency_of(rest),
+        timing: match latency_of(rest) {
+            Some(latency) => Some(timing_with(rest, latency)),
+            None => None,
+        },
     }
 }
 
@@ -114,7 +127,7 @@ fn drive_task(rest: &ArgMatches<'_>) -> Task
     ensures { IsInRange result }
 {
     Task::Drive {
-        latency: latency_of(rest).unwrap_or(USUAL_LATENCY),
+        timing: timing_with(rest, latency_of(rest).unwrap_or(USUAL_LATENCY)),
         summary: rest.get_flag("summary"),
     }
 }
@@ -132,10 +145,25 @@ fn requests_task(rest: &ArgMatches<'_>) -> Task
     }
 }
 
+// The times of memory of a task that makes rounds.
+fn timing_of(task: Task) -> Option<Timing> {
+    match task {
+        Task::Drive { timing, .. } => Some(timing),
+        Task::Sweep { timing } => timing,
+        _ => None,
+    }
+}
+
 // Why what was asked for can't be done with these arguments, if it can't.
 fn conflict(task: Task, before: Option<&str>, behind: Option<&str>) -> Option<&'static str> {
     if before.is_some() && behind.is_some() {
         return Some("the argument '--shape <FILE>' cannot be used multiple times");
+    }
+    match timing_of(task) {
+        Some(timing) if timing.busy > timing.latency => {
+            return Some("invalid value for '--busy <B>': it is more than the latency");
+        }
+        _ => {}
     }
     match task {
         Task::Requests { .. } if before.is_some() => {

@@ -15,6 +15,9 @@ const PROGRAM: &str = "kroft";
 /// The name of the argument for the latency of rounds.
 pub(crate) const LATENCY: &str = "latency";
 
+/// The name of the argument for the rounds between two begins of a bank.
+pub(crate) const BUSY: &str = "busy";
+
 /// The name of the argument that stands for files' names.
 pub(crate) const FILE: &str = "file";
 
@@ -145,6 +148,16 @@ fn latency_argument<'a>(alloc: Global, help: &'a str) -> Arg<'a> {
         .help(help)
 }
 
+// The argument for the rounds between two begins of a bank.
+fn busy_argument<'a>(alloc: Global) -> Arg<'a> {
+    Arg::new(alloc, BUSY)
+        .long(BUSY)
+        .value_name("B")
+        .action(ArgAction::Set)
+        .value_parser(clap::value_parser!(u64).range(1..=MOST_LATENCY as i64))
+        .help("Rounds from one command that a bank begins to its next, 1 to L [default: L]")
+}
+
 // An argument that is given or not.
 fn flag<'a>(alloc: Global, name: &'a str, help: &'a str) -> Arg<'a> {
     Arg::new(alloc, name)
@@ -212,9 +225,17 @@ fn drive_latency<'a>(alloc: Global) -> Arg<'a> {
     )
 }
 
+// Adds the options of `sweep` alone. Without a latency it makes no rounds, so no bank is busy.
+fn push_sweep<'a>(alloc: Global, args: &mut Vec<Arg<'a>>) -> Result<(), AllocError> {
+    args.push(sweep_latency(alloc))?;
+    args.push(busy_argument(alloc).requires_arg(LATENCY)?)?;
+    Ok(())
+}
+
 // Adds the options of `drive` alone.
 fn push_drive<'a>(alloc: Global, args: &mut Vec<Arg<'a>>) -> Result<(), AllocError> {
     args.push(drive_latency(alloc))?;
+    args.push(busy_argument(alloc))?;
     args.push(flag(alloc, "summary", "Write counts in place of the run"))?;
     Ok(())
 }
@@ -288,7 +309,7 @@ fn push_own_options<'a>(
 ) -> Result<(), AllocError> {
     match subcommand {
         Subcommand::Run | Subcommand::Check | Subcommand::Explain => Ok(()),
-        Subcommand::Sweep => push_argument(args, sweep_latency(alloc)),
+        Subcommand::Sweep => push_sweep(alloc, args),
         Subcommand::Drive => push_drive(alloc, args),
         Subcommand::Requests => push_requests(alloc, args, takes_file),
         Subcommand::Show => push_show(alloc, args),

@@ -94,7 +94,8 @@ A pump is one step of the machine's own driver: it counts work, and not time, an
 requests wait one after another. So on a long trace the rows hardly differ. A shape file's
 number of registers isn't used.
 With --latency L the requests are driven in rounds instead ('kroft drive --help' describes them),
-and each row has 'regs N' and the counts of 'drive --latency L --summary' with N registers.
+and each row has 'regs N' and the counts of 'drive --latency L --summary' with N registers; with
+--busy B those of 'drive --latency L --busy B --summary'.
 
 Statuses: 0 done, 2 the command line is wrong, 3 the shape file is wrong, 4 a line is faulty or a
 stream failed, 5 there is too little memory. (The limit of turns that a sweep has for callers
@@ -134,6 +135,9 @@ A round makes, in this order:
 A request that is accepted, or refused with 1, 2 or 11, is followed by the next one; one that is
 refused with 3 to 10 is asked again in the next round. A round is a step of this schedule, and no
 time of any hardware.
+A bank is busy until it has served its command. With --busy B, fewer rounds than L, it is a pipeline:
+it begins its next command B rounds behind the last one that it began, or later, and serves each
+of them L rounds behind its begin.
 Writes each request with its answer, and each other event that did something, as 'check' reads
 them. With --summary, in their place, one line of counts: rounds, the last of which moves nothing;
 requests accepted and denied; of those accepted how many found their word at hand (hits) or on its

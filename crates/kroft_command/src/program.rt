@@ -14,6 +14,7 @@ use kroft_jobs::{
     JobFault, Verdict, drive_requests, serve, summarize_requests, sweep_in_rounds, sweep_registers,
 };
 use memory_histories::Rest;
+use round_driver::Timing;
 use run_pictures::Form;
 use shape_files::{ShapeFault, ToolShape, bad_field, read_shape};
 use std::alloc::Global;
@@ -102,10 +103,10 @@ fn perform<R: AllocGlobal + Files + Threads + Sync, I: Read, O: Write>(
     let status = match asked.task {
         Task::Run => run(rt.alloc(), &shape, input, output)?,
         Task::Check => check(rt.alloc(), &shape, input, output)?,
-        Task::Sweep { latency } => sweep(rt, &shape, latency, input, output)?,
+        Task::Sweep { timing } => sweep(rt, &shape, timing, input, output)?,
         Task::Explain => explain(rt.alloc(), &shape, input, output)?,
-        Task::Drive { latency, summary } => {
-            drive(rt.alloc(), &shape, latency, summary, input, output)?
+        Task::Drive { timing, summary } => {
+            drive(rt.alloc(), &shape, timing, summary, input, output)?
         }
         Task::Requests { from, words } => requests(rt.alloc(), from, words, input, output)?,
         Task::Show { form } => show(rt.alloc(), &shape, form, input, output)?,
@@ -187,22 +188,22 @@ fn explain<I: Read, O: Write>(
 fn drive<I: Read, O: Write>(
     alloc: Global,
     tool: &ToolShape,
-    latency: u64,
+    timing: Timing,
     summary: bool,
     input: &mut I,
     output: &mut O,
 ) -> Result<u8, JobFault>
-    requires { latency ≤ MOST_LATENCY }
+    requires { timing.latency ≤ MOST_LATENCY }
     ensures { IfOk result (λ status. status ≤ 1) }
 {
     if let Some(field) = bad_field(tool) {
         return Err(JobFault::Shape(ShapeFault::BadShape(field)));
     }
     if summary {
-        let table = summarize_requests(alloc, tool, latency, input)?;
+        let table = summarize_requests(alloc, tool, timing, input)?;
         put(output, format_args!("{table}\n"))?;
     } else {
-        drive_requests(alloc, tool, latency, input, output)?;
+        drive_requests(alloc, tool, timing, input, output)?;
     }
     finish(output)?;
     Ok(0)
@@ -278,24 +279,24 @@ fn history<I: Read, O: Write>(
     Ok(verdict.status(all_answered))
 }
 
-// Serves the requests with 1, 2, 4 and 8 registers, or drives them in rounds if there is a latency.
+// Serves the requests with 1, 2, 4 and 8 registers, or drives them in rounds if there are times of memory.
 fn sweep<R: AllocGlobal + Threads + Sync, I: Read, O: Write>(
     rt: &R,
     tool: &ToolShape,
-    latency: Option<u64>,
+    timing: Option<Timing>,
     input: &mut I,
     output: &mut O,
 ) -> Result<u8, JobFault>
-    requires { IfSome latency (λ rounds. rounds ≤ MOST_LATENCY) }
+    requires { IfSome timing (λ timing. timing.latency ≤ MOST_LATENCY) }
     ensures { IfOk result (λ status. status ≤ 1) }
 {
-    match latency {
+    match timing {
         None => {
             let rows = sweep_registers(rt, rt.alloc(), tool, input)?;
             put_rows(output, rows.as_slice())?;
         }
-        Some(latency) => {
-            let rows = sweep_in_rounds(rt, rt.alloc(), tool, latency, input)?;
+        Some(timing) => {
+            let rows = sweep_in_rounds(rt, rt.alloc(), tool, timing, input)?;
             put_rows(output, rows.as_slice())?;
         }
     }

@@ -11,6 +11,7 @@ use Rattle.trace_text.specs.Serving.{trace_fault}
 use Rattle.trace_text.specs.declared.fault.TheConstants.{MAX_LINE}
 use Rattle.trace_text.specs.declared.fault.TraceFault.{TraceFault}
 use Rattle.round_driver.specs.Walks.{is_request}
+use Rattle.round_driver.specs.declared.timing.Timing.{Timing}
 use Rattle.kroft_jobs.specs.Driving.{IsDriven, DrivesAll}
 
 -- what is read as requests is asked as requests
@@ -26,8 +27,8 @@ all_requests (Arrive bank place ∷ events) all = absurd all.0
 all_requests (Process place ∷ events) all = absurd all.0
 all_requests (Take place ∷ events) all = absurd all.0
 
-pub driven : {R W : Type 0} (gave : R → List ℕ → R → Type 0) (failed : R → R → Type 0) (took : W → List ℕ → W → Type 0) (refused : W → W → Type 0) (latency : ℕ) (s : MachineState) (input input' : R) (output output' : W) (texts : List (List ℕ)) (requests : List Event) → ReadWhole gave trace_fault MAX_LINE input input' texts → requests ≡ requests_of texts → (result : Result ℕ TraceFault) → IsDriven took refused latency s requests output output' result → DrivesAll gave failed took refused latency s input input' output output' result
-driven gave failed took refused latency s input input' output output' texts requests whole same (Ok n) d =
-    (texts, whole, subst (λ r. IsDriven took refused latency s r output output' (Ok n)) same d)
-driven gave failed took refused latency s input input' output output' texts requests whole same (Err f) d =
-    inr (texts, whole, subst (λ r. IsDriven took refused latency s r output output' (Err f)) same d)
+pub driven : {R W : Type 0} (gave : R → List ℕ → R → Type 0) (failed : R → R → Type 0) (took : W → List ℕ → W → Type 0) (refused : W → W → Type 0) (timing : Timing) (s : MachineState) (input input' : R) (output output' : W) (texts : List (List ℕ)) (requests : List Event) → ReadWhole gave trace_fault MAX_LINE input input' texts → requests ≡ requests_of texts → (result : Result ℕ TraceFault) → IsDriven took refused timing s requests output output' result → DrivesAll gave failed took refused timing s input input' output output' result
+driven gave failed took refused timing s input input' output output' texts requests whole same (Ok n) d =
+    (texts, whole, subst (λ r. IsDriven took refused timing s r output output' (Ok n)) same d)
+driven gave failed took refused timing s input input' output output' texts requests whole same (Err f) d =
+    inr (texts, whole, subst (λ r. IsDriven took refused timing s r output output' (Err f)) same d)

@@ -11,6 +11,7 @@ use Rattle.trace_text.specs.declared.fault.TheConstants.{MAX_LINE}
 use Rattle.round_driver.specs.Tables.{table_of}
 use Rattle.round_driver.specs.Walks.{is_request, RequestsEnd}
 use Rattle.round_driver.specs.declared.table.Table.{Table}
+use Rattle.round_driver.specs.declared.timing.Timing.{Timing}
 use Rattle.shape_files.specs.declared.shape_file.ToolShape.{ToolShape}
 use Rattle.shape_files.specs.ShapeFile.{bad_field}
 use Rattle.register_sweeps.specs.declared.rounds.RoundsRow.{RoundsRow}
@@ -65,9 +66,9 @@ module _ {R : Type 0} (gave : R → List ℕ → R → Type 0) (failed : R → R
 
 -- ---- what is counted of requests that were read
 
-pub table_counted : (latency : ℕ) (s : MachineState) (requests said : List Event) (table : Table) → requests ≡ said → list_all is_request requests ≡ true → table ≡ table_of latency s requests → RequestsEnd latency s requests → IsCounted latency s said table
-table_counted latency s requests said table read all made ends = subst (λ events. IsCounted latency s events table) read (made, ends all)
+pub table_counted : (timing : Timing) (s : MachineState) (requests said : List Event) (table : Table) → requests ≡ said → list_all is_request requests ≡ true → table ≡ table_of timing s requests → RequestsEnd timing s requests → IsCounted timing s said table
+table_counted timing s requests said table read all made ends = subst (λ events. IsCounted timing s events table) read (made, ends all)
 
-pub rows_counted : (latency : ℕ) (t : ToolShape) (requests said : List Event) (shapes : List ToolShape) (rows : List RoundsRow) → requests ≡ said → list_all is_request requests ≡ true → shapes ≡ swept t → rows ≡ map (rounds_row_of latency requests) shapes → EachRunEnds latency requests shapes → AreCounted latency (swept t) said rows
-rows_counted latency t requests said shapes rows read all same made ends =
-    subst (λ events. AreCounted latency (swept t) events rows) read (subst (λ ts. AreCounted latency ts requests rows) same (made, λ i u inside. ends i u inside all))
+pub rows_counted : (timing : Timing) (t : ToolShape) (requests said : List Event) (shapes : List ToolShape) (rows : List RoundsRow) → requests ≡ said → list_all is_request requests ≡ true → shapes ≡ swept t → rows ≡ map (rounds_row_of timing requests) shapes → EachRunEnds timing requests shapes → AreCounted timing (swept t) said rows
+rows_counted timing t requests said shapes rows read all same made ends =
+    subst (λ events. AreCounted timing (swept t) events rows) read (subst (λ ts. AreCounted timing ts requests rows) same (made, λ i u inside. ends i u inside all))

@@ -12,18 +12,19 @@ use Rattle.trace_text.specs.declared.fault.TraceFault.TheVariants.{OutOfMemory}
 use Rattle.round_driver.specs.Rounds.{start_of, rounds_until_over, whole_run}
 use Rattle.round_driver.specs.Walks.{IsOverInTime}
 use Rattle.round_driver.specs.Written.{run_text, BreaksOff}
+use Rattle.round_driver.specs.declared.timing.Timing.{Timing}
 
 -- The run of these requests is written, is over in time, and its rounds are told. Or the writing broke off behind a
 -- round, or nothing is written for want of memory.
-abbrev pub IsDriven : {W : Type 0} (took : W → List ℕ → W → Type 0) (refused : W → W → Type 0) (latency : ℕ) (s : MachineState) (requests : List Event) (old new : W) → Result ℕ TraceFault → Type 0
-IsDriven took refused latency s requests old new (Ok rounds) =
-    Moves took old (run_text (whole_run latency s requests).told) new × IsOverInTime latency s requests × (rounds ≡ (whole_run latency s requests).schedule.round + 1)
-IsDriven took refused latency s requests old new (Err fault) =
-    ((fault ≡ OutOfMemory) × (new ≡ old)) ⊎ ((n : ℕ) × BreaksOff took refused old (run_text (rounds_until_over n (start_of latency s requests)).told) new fault)
+abbrev pub IsDriven : {W : Type 0} (took : W → List ℕ → W → Type 0) (refused : W → W → Type 0) (timing : Timing) (s : MachineState) (requests : List Event) (old new : W) → Result ℕ TraceFault → Type 0
+IsDriven took refused timing s requests old new (Ok rounds) =
+    Moves took old (run_text (whole_run timing s requests).told) new × IsOverInTime timing s requests × (rounds ≡ (whole_run timing s requests).schedule.round + 1)
+IsDriven took refused timing s requests old new (Err fault) =
+    ((fault ≡ OutOfMemory) × (new ≡ old)) ⊎ ((n : ℕ) × BreaksOff took refused old (run_text (rounds_until_over n (start_of timing s requests)).told) new fault)
 
 -- The requests of the input are driven, or it couldn't be read to its end, and then nothing is written.
-abbrev pub DrivesAll : {R W : Type 0} (gave : R → List ℕ → R → Type 0) (failed : R → R → Type 0) (took : W → List ℕ → W → Type 0) (refused : W → W → Type 0) (latency : ℕ) (s : MachineState) (input input' : R) (output output' : W) → Result ℕ TraceFault → Type 0
-DrivesAll gave failed took refused latency s input input' output output' (Ok rounds) =
-    (texts : List (List ℕ)) × ReadWhole gave trace_fault MAX_LINE input input' texts × IsDriven took refused latency s (requests_of texts) output output' (Ok rounds)
-DrivesAll gave failed took refused latency s input input' output output' (Err fault) =
-    (ReadFails gave failed trace_fault MAX_LINE input input' fault × (output' ≡ output)) ⊎ ((texts : List (List ℕ)) × ReadWhole gave trace_fault MAX_LINE input input' texts × IsDriven took refused latency s (requests_of texts) output output' (Err fault))
+abbrev pub DrivesAll : {R W : Type 0} (gave : R → List ℕ → R → Type 0) (failed : R → R → Type 0) (took : W → List ℕ → W → Type 0) (refused : W → W → Type 0) (timing : Timing) (s : MachineState) (input input' : R) (output output' : W) → Result ℕ TraceFault → Type 0
+DrivesAll gave failed took refused timing s input input' output output' (Ok rounds) =
+    (texts : List (List ℕ)) × ReadWhole gave trace_fault MAX_LINE input input' texts × IsDriven took refused timing s (requests_of texts) output output' (Ok rounds)
+DrivesAll gave failed took refused timing s input input' output output' (Err fault) =
+    (ReadFails gave failed trace_fault MAX_LINE input input' fault × (output' ≡ output)) ⊎ ((texts : List (List ℕ)) × ReadWhole gave trace_fault MAX_LINE input input' texts × IsDriven took refused timing s (requests_of texts) output output' (Err fault))

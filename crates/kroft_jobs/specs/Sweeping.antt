@@ -9,6 +9,7 @@ use Rattle.trace_text.specs.declared.fault.TheConstants.{MAX_LINE}
 use Rattle.round_driver.specs.Tables.{table_of}
 use Rattle.round_driver.specs.Walks.{IsOverInTime}
 use Rattle.round_driver.specs.declared.table.Table.{Table}
+use Rattle.round_driver.specs.declared.timing.Timing.{Timing}
 use Rattle.shape_files.specs.declared.shape_file.ToolShape.{ToolShape}
 use Rattle.shape_files.specs.declared.shape_file.ShapeFault.TheVariants as shape
 use Rattle.shape_files.specs.ShapeFile.{bad_field}
@@ -20,13 +21,13 @@ use Rattle.kroft_jobs.specs.declared.fault.JobFault.TheVariants.{Shape, Trace, T
 use Rattle.kroft_jobs.specs.Jobs.{with_registers}
 
 -- the table of these requests in rounds, in a run that is over in time
-abbrev pub IsCounted : (latency : ℕ) (s : MachineState) (requests : List Event) → Table → Type 0
-IsCounted latency s requests table = (table ≡ table_of latency s requests) × IsOverInTime latency s requests
+abbrev pub IsCounted : (timing : Timing) (s : MachineState) (requests : List Event) → Table → Type 0
+IsCounted timing s requests table = (table ≡ table_of timing s requests) × IsOverInTime timing s requests
 
 -- the rows of these requests in rounds on machines of these shapes, each of a run that is over in time
-abbrev pub AreCounted : (latency : ℕ) (shapes : List ToolShape) (requests : List Event) → List RoundsRow → Type 0
-AreCounted latency shapes requests rows =
-    (rows ≡ map (rounds_row_of latency requests) shapes) × All (λ t. IsOverInTime latency (new_machine t) requests) shapes
+abbrev pub AreCounted : (timing : Timing) (shapes : List ToolShape) (requests : List Event) → List RoundsRow → Type 0
+AreCounted timing shapes requests rows =
+    (rows ≡ map (rounds_row_of timing requests) shapes) × All (λ t. IsOverInTime timing (new_machine t) requests) shapes
 
 -- Why a sweep over a trace has no rows. A fault of the trace goes before one of the shape, whose own number of registers
 -- doesn't matter: it isn't swept. Memory may be missing anywhere.

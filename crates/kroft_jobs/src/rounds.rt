@@ -19,7 +19,7 @@ use crate::fault::JobFault;
 use crate::jobs::{SWEEP_TURNS, swept_shapes};
 use flat_model::Event;
 use register_sweeps::{MachineJob, OpenGate, RoundsRow, rounds_table, sweep_rounds, with_machine};
-use round_driver::{Table, drive};
+use round_driver::{Table, Timing, drive_with};
 use run_pictures::PictureMachine;
 use shape_files::ToolShape;
 use std::alloc::Global;
@@ -27,45 +27,45 @@ use std::thread::Threads;
 use trace_text::{Sink, Source, TraceFault, read_requests};
 
 /// Drives the requests of a trace in rounds through a new machine of a shape whose fields are in
-/// range, over zeros, as [`drive`] does, and writes the run. Gives the number of rounds, behind which the
+/// range, over zeros, as [`drive_with`] does, and writes the run. Gives the number of rounds, behind which the
 /// requests are used up and nothing is on its way. The output isn't flushed.
 ///
 /// All requests are read before anything is written: a fault of the trace leaves the output as it is.
-/// A write that is refused ends the run at once. `latency` is in rounds, at most `MOST_LATENCY`.
+/// A write that is refused ends the run at once. The latency of `timing` is at most `MOST_LATENCY`.
 pub fn drive_requests<I: Source, O: Sink>(
     alloc: Global,
     tool: &ToolShape,
-    latency: u64,
+    timing: Timing,
     input: &mut I,
     output: &mut O,
 ) -> Result<u64, TraceFault>
     requires shape { bad_field tool.now ≡ None }
-    requires latency { latency ≤ MOST_LATENCY }
-    ensures { DrivesAll I.gave I.failed O.took O.refused latency (new_machine tool.now) input.old input.new
+    requires latency { timing.latency ≤ MOST_LATENCY }
+    ensures { DrivesAll I.gave I.failed O.took O.refused timing (new_machine tool.now) input.old input.new
         output.old output.new result }
 {
     let requests = read_requests(alloc, input)?;
-    drive_all(alloc, tool, latency, requests.as_slice(), output)
+    drive_all(alloc, tool, timing, requests.as_slice(), output)
 }
 
 // Drives requests on a new machine.
 fn drive_all<O: Sink>(
     alloc: Global,
     tool: &ToolShape,
-    latency: u64,
+    timing: Timing,
     requests: &[Event],
     output: &mut O,
 ) -> Result<u64, TraceFault>
     requires shape { bad_field tool.now ≡ None }
-    requires latency { latency ≤ MOST_LATENCY }
+    requires latency { timing.latency ≤ MOST_LATENCY }
     requires few { length requests.now ≤ most_requests }
     requires all { list_all is_request requests.now ≡ true }
-    ensures { IsDriven O.took O.refused latency (new_machine tool.now) requests.now output.old output.new
+    ensures { IsDriven O.took O.refused timing (new_machine tool.now) requests.now output.old output.new
         result }
 {
     let mut job = DrivenRequests {
         alloc,
-        latency,
+        timing,
         requests,
         output,
     };
@@ -76,7 +76,7 @@ fn drive_all<O: Sink>(
 #[derive(Drop)]
 struct DrivenRequests<'a, O> {
     alloc: Global,
-    latency: u64,
+    timing: Timing,
     requests: &'a [Event],
     output: &'a mut O,
 }
@@ -84,20 +84,14 @@ struct DrivenRequests<'a, O> {
 impl<'a, O: Sink> MachineJob for DrivenRequests<'a, O> {
     type Done = Result<u64, TraceFault>;
 
-    ghost can = { λ s. (s.latency ≤ MOST_LATENCY) × (length s.requests.now ≤ most_requests) × (list_all is_request s.requests.now ≡ true) };
+    ghost can = { λ s. (s.timing.latency ≤ MOST_LATENCY) × (length s.requests.now ≤ most_requests) × (list_all is_request s.requests.now ≡ true) };
 
-    ghost done = { λ s machine t result. IsDriven O.took O.refused s.latency machine s.requests.now s.output.now t.output.now result };
+    ghost done = { λ s machine t result. IsDriven O.took O.refused s.timing machine s.requests.now s.output.now t.output.now result };
 
     ghost holds_same = { λ s t. t.output.ghost_name ≡ s.output.ghost_name };
 
     fn work<M: PictureMachine>(&mut self, machine: &mut M) -> Result<u64, TraceFault> {
-        drive(
-            self.alloc,
-            machine,
-            self.latency,
-            self.requests,
-            self.output,
-        )
+        drive_with(self.alloc, machine, self.timing, self.requests, self.output)
     }
 
     fn give_up(&mut self) -> Result<u64, TraceFault> {
@@ -107,27 +101,27 @@ impl<'a, O: Sink> MachineJob for DrivenRequests<'a, O> {
 
 /// Drives the requests of a trace in rounds through a new machine of a shape whose fields are in
 /// range, over zeros, and counts, as [`rounds_table`] does. Behind the rounds that are counted the requests
-/// are used up and nothing is on its way. `latency` is in rounds, at most `MOST_LATENCY`.
+/// are used up and nothing is on its way. The latency of `timing` is at most `MOST_LATENCY`.
 pub fn summarize_requests<I: Source>(
     alloc: Global,
     tool: &ToolShape,
-    latency: u64,
+    timing: Timing,
     input: &mut I,
 ) -> Result<Table, TraceFault>
     requires shape { bad_field tool.now ≡ None }
-    requires latency { latency ≤ MOST_LATENCY }
+    requires latency { timing.latency ≤ MOST_LATENCY }
     ensures table { IfOk result
         (λ table. (texts : List (List ℕ)) × ReadWhole I.gave trace_fault MAX_LINE input.old input.new texts
-        × IsCounted latency (new_machine tool.now) (requests_of texts) table) }
+        × IsCounted timing (new_machine tool.now) (requests_of texts) table) }
     ensures fault { IfErr result
         (ReadFails I.gave I.failed trace_fault MAX_LINE input.old input.new) }
 {
     let requests = read_requests(alloc, input)?;
-    Ok(rounds_table(alloc, tool, latency, requests.as_slice())?)
+    Ok(rounds_table(alloc, tool, timing, requests.as_slice())?)
 }
 
 /// The rows of the requests of a trace in rounds, with 1, 2, 4 and 8 registers and all else as the shape
-/// says, as [`sweep_rounds`] makes them. Each run is over in time. `latency` is in rounds, at most
+/// says, as [`sweep_rounds`] makes them. Each run is over in time. The latency of `timing` is at most
 /// `MOST_LATENCY`.
 ///
 /// All requests are read before the shape is judged, with 1 register in place of its own: so a fault of the
@@ -136,20 +130,20 @@ pub fn sweep_in_rounds<R: Threads + Sync, I: Source>(
     rt: &R,
     alloc: Global,
     tool: &ToolShape,
-    latency: u64,
+    timing: Timing,
     input: &mut I,
 ) -> Result<Vec<RoundsRow>, JobFault>
-    requires latency { latency ≤ MOST_LATENCY }
+    requires latency { timing.latency ≤ MOST_LATENCY }
     ensures rows { IfOk result
         (λ rows. (texts : List (List ℕ)) × ReadWhole I.gave trace_fault MAX_LINE input.old input.new texts
-        × AreCounted latency (swept tool.now) (requests_of texts) rows.items) }
+        × AreCounted timing (swept tool.now) (requests_of texts) rows.items) }
     ensures fault { IfErr result (SweepFails I.gave I.failed tool.now input.old input.new) }
 {
     let requests = read_requests(alloc, input)?;
     let rows = sweep_rounds(
         rt,
         alloc,
-        latency,
+        timing,
         requests.as_slice(),
         &swept_shapes(tool),
         SWEEP_TURNS,

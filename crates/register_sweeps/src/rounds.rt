@@ -1,4 +1,4 @@
-//! The rows of a sweep in rounds: a machine is driven with a latency of memory, and its table counted.
+//! The rows of a sweep in rounds: a machine is driven with times of memory, and its table counted.
 
 ghost use Rattle.std.specs.Prelude.{⊤, ◌≡◌, ◌≤◌, length, map, Some, None, IfOk, IfErr, OnOk};
 ghost use Rattle.round_driver.specs.declared.driving.TheConstants.{MOST_LATENCY};
@@ -13,7 +13,7 @@ use crate::choice::{MachineJob, with_machine};
 use crate::sweeps::{SweepFault, SweepGate};
 use crate::threads::{RowMaker, rows_on_threads};
 use flat_model::Event;
-use round_driver::{Table, summarize};
+use round_driver::{Table, Timing, summarize_with};
 use run_pictures::PictureMachine;
 use shape_files::ToolShape;
 use std::alloc::{AllocError, Global};
@@ -39,25 +39,25 @@ impl fmt::Display for RoundsRow {
 }
 
 /// The table of requests that are driven in rounds through a new machine of a shape whose fields are
-/// in range, over zeros, as [`summarize`] counts it. The run is over in time, as [`summarize`] has it.
+/// in range, over zeros, as [`summarize_with`] counts it. The run is over in time.
 ///
 /// `AllocError` says that there was too little memory.
 pub fn rounds_table(
     alloc: Global,
     tool: &ToolShape,
-    latency: u64,
+    timing: Timing,
     requests: &[Event],
 ) -> Result<Table, AllocError>
     requires shape { bad_field tool.now ≡ None }
-    requires latency { latency ≤ MOST_LATENCY }
+    requires latency { timing.latency ≤ MOST_LATENCY }
     requires requests { length requests.now ≤ most_requests }
     ensures table { IfOk result
-        (λ table. table ≡ table_of latency (new_machine tool.now) requests.now) }
-    ensures over { OnOk result (RunEnds latency requests.now tool.now) }
+        (λ table. table ≡ table_of timing (new_machine tool.now) requests.now) }
+    ensures over { OnOk result (RunEnds timing requests.now tool.now) }
 {
     let mut job = CountedRounds {
         alloc,
-        latency,
+        timing,
         requests,
     };
     with_machine(alloc, tool, &mut job)
@@ -67,21 +67,21 @@ pub fn rounds_table(
 #[derive(Drop)]
 struct CountedRounds<'a> {
     alloc: Global,
-    latency: u64,
+    timing: Timing,
     requests: &'a [Event],
 }
 
 impl MachineJob for CountedRounds<'_> {
     type Done = Result<Table, AllocError>;
 
-    ghost can = { λ s. (s.latency ≤ MOST_LATENCY) × (length s.requests.now ≤ most_requests) };
+    ghost can = { λ s. (s.timing.latency ≤ MOST_LATENCY) × (length s.requests.now ≤ most_requests) };
 
-    ghost done = { λ s machine t result. (IfOk result (λ table. table ≡ table_of s.latency machine s.requests.now)) × OnOk result (RequestsEnd s.latency machine s.requests.now) };
+    ghost done = { λ s machine t result. (IfOk result (λ table. table ≡ table_of s.timing machine s.requests.now)) × OnOk result (RequestsEnd s.timing machine s.requests.now) };
 
     ghost holds_same = { λ s t. ⊤ };
 
     fn work<M: PictureMachine>(&mut self, machine: &mut M) -> Result<Table, AllocError> {
-        summarize(self.alloc, machine, self.latency, self.requests)
+        summarize_with(self.alloc, machine, self.timing, self.requests)
     }
 
     fn give_up(&mut self) -> Result<Table, AllocError> {
@@ -89,24 +89,24 @@ impl MachineJob for CountedRounds<'_> {
     }
 }
 
-// What makes the row of these requests for each shape, with a latency.
+// What makes the row of these requests for each shape, with these times of memory.
 #[derive(Drop)]
 struct RoundsRows<'a> {
-    latency: u64,
+    timing: Timing,
     requests: &'a [Event],
 }
 
 impl RowMaker for RoundsRows<'_> {
     type Row = RoundsRow;
 
-    ghost can = { λ s. (s.latency ≤ MOST_LATENCY) × (length s.requests.now ≤ most_requests) };
+    ghost can = { λ s. (s.timing.latency ≤ MOST_LATENCY) × (length s.requests.now ≤ most_requests) };
 
-    ghost gives = { λ s tool. rounds_row_of s.latency s.requests.now tool };
+    ghost gives = { λ s tool. rounds_row_of s.timing s.requests.now tool };
 
-    ghost shows = { λ s tool. RunEnds s.latency s.requests.now tool };
+    ghost shows = { λ s tool. RunEnds s.timing s.requests.now tool };
 
     fn make_row(&self, alloc: Global, tool: &ToolShape) -> Result<RoundsRow, AllocError> {
-        let table = rounds_table(alloc, tool, self.latency, self.requests)?;
+        let table = rounds_table(alloc, tool, self.timing, self.requests)?;
         Ok(RoundsRow {
             regs: tool.regs,
             table,
@@ -118,26 +118,26 @@ impl RowMaker for RoundsRows<'_> {
 /// machine of the shape, over zeros, is driven in rounds, as [`rounds_table`] has it. Each run is over in
 /// time.
 ///
-/// `latency` is as that of [`summarize`], [`MOST_LATENCY`](round_driver::MOST_LATENCY) at most.
+/// `timing` is as that of [`summarize_with`], with a latency of at most [`MOST_LATENCY`](round_driver::MOST_LATENCY).
 /// There may be at most 16,777,216 requests. Turns, gate and faults are those of
 /// [`sweep`](crate::sweep).
 pub fn sweep_rounds<R: Threads + Sync, G: SweepGate>(
     rt: &R,
     alloc: Global,
-    latency: u64,
+    timing: Timing,
     requests: &[Event],
     shapes: &[ToolShape],
     turns: u64,
     gate: &G,
 ) -> Result<Vec<RoundsRow>, SweepFault>
-    requires latency { latency ≤ MOST_LATENCY }
+    requires latency { timing.latency ≤ MOST_LATENCY }
     requires requests { length requests.now ≤ most_requests }
     ensures rows { IfOk result
-        (λ rows. rows.items ≡ map (rounds_row_of latency requests.now) shapes.now) }
-    ensures over { OnOk result (EachRunEnds latency requests.now shapes.now) }
+        (λ rows. rows.items ≡ map (rounds_row_of timing requests.now) shapes.now) }
+    ensures over { OnOk result (EachRunEnds timing requests.now shapes.now) }
     ensures good { OnOk result (bad_from 0 shapes.now ≡ None) }
     ensures fault { IfErr result (FaultSays shapes.now) }
 {
-    let maker = RoundsRows { latency, requests };
+    let maker = RoundsRows { timing, requests };
     rows_on_threads(rt, alloc, &maker, shapes, turns, gate)
 }

@@ -14,4 +14,4 @@ pub returns-clause-rows : goal.returns-clause-rows
 returns-clause-rows g c =
     let read = c.in_ok-requests.ensures.read in
     let all = ap (list_all is_request) c.as_slice.ensures.value ∙ all_requests c.in_ok-requests.requests.items c.in_ok-requests.ensures.requests in
-    (read.0, read.1, rows_counted c.args.latency c.args.tool.now c.as_slice.result.now _ c.swept_shapes.result c.in_ok-rows.rows.items (c.as_slice.ensures.value ∙ read.2) all c.swept_shapes.ensures c.in_ok-rows.ensures.rows c.in_ok-rows.ensures.over)
+    (read.0, read.1, rows_counted c.args.timing c.args.tool.now c.as_slice.result.now _ c.swept_shapes.result c.in_ok-rows.rows.items (c.as_slice.ensures.value ∙ read.2) all c.swept_shapes.ensures c.in_ok-rows.ensures.rows c.in_ok-rows.ensures.over)

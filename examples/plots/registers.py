@@ -1,0 +1,95 @@
+#!/usr/bin/env python3
+"""Draws how many rounds 64 misses take, by the number of miss registers: a line for each latency of memory.
+
+    examples/plots/registers.py [LATENCY..] > registers.svg
+
+The latencies are 5, 20 and 80 rounds if none are given, and each bank begins a command every round. The numbers are
+those that `./kroft sweep` counts; both axes are logarithmic, so where twice as many registers take half of the rounds
+a line falls by one step for each step to the right. Needs nothing beside Python.
+"""
+
+import math
+import pathlib
+import subprocess
+import sys
+
+TOP = pathlib.Path(__file__).resolve().parent.parent.parent
+SWEEP = [TOP / "kroft", "sweep", "--busy", "1", "--shape", TOP / "examples/misses.toml"]
+MISSES = "".join(f"load {block} {4 * block}\n" for block in range(64))
+
+# Units of the picture: its size, and where the axes are.
+WIDTH, HEIGHT = 480, 400
+LEFT, RIGHT, TOP_EDGE, BOTTOM = 70, 440, 40, 340
+COLOURS = ["#1b6ca8", "#c8553d", "#3a7d44", "#7b4b94", "#8a6d00"]
+
+
+def rounds_by_registers(latency):
+    """The rounds that a sweep counts, by the number of registers."""
+    words = [*SWEEP, "--latency", str(latency)]
+    told = subprocess.run(words, input=MISSES, capture_output=True, text=True, check=True).stdout
+    rows = (line.split() for line in told.splitlines())
+    return {int(row[1]): int(row[3]) for row in rows}
+
+
+class Axes:
+    """Where a number of registers and a number of rounds lie in the picture."""
+
+    def __init__(self, lines):
+        self.registers = sorted({n for line in lines.values() for n in line})
+        rounds = [r for line in lines.values() for r in line.values()]
+        lowest, highest = math.floor(math.log2(min(rounds))), math.ceil(math.log2(max(rounds)))
+        self.ticks = [2**power for power in range(lowest, highest + 1)]
+
+    @staticmethod
+    def along(value, ends, begin, end):
+        low, high = (math.log2(it) for it in ends)
+        return begin + (end - begin) * (math.log2(value) - low) / (high - low)
+
+    def x(self, registers):
+        return self.along(registers, (self.registers[0], self.registers[-1]), LEFT, RIGHT)
+
+    def y(self, rounds):
+        return self.along(rounds, (self.ticks[0], self.ticks[-1]), BOTTOM, TOP_EDGE)
+
+
+def text(x, y, words, anchor="middle", colour="#222"):
+    return f'<text x="{x:.1f}" y="{y:.1f}" text-anchor="{anchor}" fill="{colour}">{words}</text>'
+
+
+def grid(axes):
+    """The lines and numbers behind the curves."""
+    for rounds in axes.ticks:
+        y = axes.y(rounds)
+        yield f'<path d="M{LEFT} {y:.1f}H{RIGHT}" stroke="#ddd"/>'
+        yield text(LEFT - 8, y + 4, rounds, "end")
+    for registers in axes.registers:
+        x = axes.x(registers)
+        yield f'<path d="M{x:.1f} {TOP_EDGE}V{BOTTOM}" stroke="#ddd"/>'
+        yield text(x, BOTTOM + 20, registers)
+    yield text((LEFT + RIGHT) / 2, BOTTOM + 44, "miss registers")
+    yield text(LEFT, TOP_EDGE - 16, "rounds for 64 misses", "start")
+
+
+def curve(axes, latency, line, colour):
+    """The points of one latency, joined, with its name at the first."""
+    points = [(axes.x(registers), axes.y(rounds)) for registers, rounds in sorted(line.items())]
+    joined = "L".join(f"{x:.1f} {y:.1f}" for x, y in points)
+    yield f'<path d="M{joined}" fill="none" stroke="{colour}" stroke-width="2"/>'
+    for x, y in points:
+        yield f'<circle cx="{x:.1f}" cy="{y:.1f}" r="4" fill="{colour}"/>'
+    yield text(points[0][0] + 12, points[0][1] - 2, f"latency {latency}", "start", colour)
+
+
+def main(words):
+    lines = {latency: rounds_by_registers(latency) for latency in map(int, words or (5, 20, 80))}
+    axes = Axes(lines)
+    print(f'<svg xmlns="http://www.w3.org/2000/svg" viewBox="0 0 {WIDTH} {HEIGHT}" font-family="sans-serif" font-size="13">')
+    print(f'<rect width="{WIDTH}" height="{HEIGHT}" fill="white"/>')
+    print(*grid(axes), sep="\n")
+    for colour, (latency, line) in zip(COLOURS * len(lines), lines.items()):
+        print(*curve(axes, latency, line, colour), sep="\n")
+    print("</svg>")
+
+
+if __name__ == "__main__":
+    main(sys.argv[1:])
