@@ -141,11 +141,14 @@ function putPicture(name) {
   frame.dataset.step = stepAtCursor();
   frame.src = `${name}#${frame.dataset.step}`;
   frame.onload = () => {
+    // (a newer one may have been put there meanwhile)
+    if (pane.lastChild !== frame) return;
     for (const it of [...pane.childNodes]) if (it !== frame) it.remove();
     frame.className = '';
     frame.dataset.isThere = 'yes';
     followCursor();
   };
+  for (const it of pane.querySelectorAll('.coming')) it.remove();
   pane.append(frame);
 }
 // Lines that only show something are no steps.
