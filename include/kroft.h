@@ -16,6 +16,9 @@
 #include <stddef.h>
 #include <stdint.h>
 
+/* The version of this library, which is also the program's, the Python package's and the one that `pkg-config` tells. */
+#define KROFT_VERSION "0.1.0"
+
 #ifdef __cplusplus
 extern "C" {
 #endif
