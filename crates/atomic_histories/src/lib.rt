@@ -15,6 +15,3 @@ pub use memory::{AtomicFault, AtomicMemory, DEFAULT_LIMIT, KeptUnit, UnitSize};
 pub use search::Stop;
 pub use unit::{OpenStore, Operation, UnitPlace, WatchedLoad, Word};
 pub use ways::{Wanted, Way};
-
-#[cfg(test)]
-mod tests;
