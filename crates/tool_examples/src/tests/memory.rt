@@ -5,6 +5,7 @@
 use super::sweeps::{REQUESTS, row_of_three_loads, with_registers};
 use kroft_command::tool;
 use register_sweeps::{OpenGate, SweepFault, sweep, sweep_rounds, sweep_row};
+use round_driver::Timing;
 use shape_files::{ShapeFault, read_shape};
 use std::io::Cursor;
 use std::test::Fail;
@@ -47,7 +48,16 @@ fn a_sweep_may_find_no_memory(rt: HostRuntime) -> Result<(), Fail> {
 #[test]
 fn a_sweep_in_rounds_may_find_no_memory(rt: HostRuntime) -> Result<(), Fail> {
     let shapes = [with_registers(1), with_registers(2)];
-    match sweep_rounds(&rt, rt.alloc(), 10, &REQUESTS, &shapes, 1_000, &OpenGate) {
+    let timing = Timing::unpipelined(10);
+    match sweep_rounds(
+        &rt,
+        rt.alloc(),
+        timing,
+        &REQUESTS,
+        &shapes,
+        1_000,
+        &OpenGate,
+    ) {
         Ok(rows) => assert_eq!(rt; rows.len(), 2),
         Err(fault) => assert_eq!(rt; fault, SweepFault::OutOfMemory),
     }

@@ -2,6 +2,7 @@
 
 use flat_model::Event;
 use register_sweeps::{OpenGate, Row, SweepFault, SweepGate, sweep, sweep_rounds, sweep_row};
+use round_driver::Timing;
 use shape_files::{ToolShape, read_shape};
 use std::alloc::Global;
 use std::fmt::Display;
@@ -171,7 +172,8 @@ fn swept<R: Abort + AllocGlobal + Threads + Sync>(
 ) -> Result<String, Fail> {
     let alloc = rt.alloc();
     if in_rounds {
-        let rows = sweep_rounds(rt, alloc, 10, &REQUESTS, shapes, turns, gate);
+        let timing = Timing::unpipelined(10);
+        let rows = sweep_rounds(rt, alloc, timing, &REQUESTS, shapes, turns, gate);
         return text_of(alloc, rows);
     }
     text_of(alloc, sweep(rt, alloc, &REQUESTS, shapes, turns, gate))
