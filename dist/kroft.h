@@ -1,5 +1,6 @@
 /*
- * Kroft for C and C++: the judge of one step of flat memory, and the machine behind a handle.
+ * Kroft for C and C++: the judge of one step of flat memory; the judge of a history, behind a handle; and
+ * the machine, behind another.
  *
  * Link with -lkroft (`./kroft-lib DIR` leaves libkroft.a, libkroft.so and this file in DIR). C99 and
  * later, C++11 and later.
@@ -14,6 +15,9 @@
 
 #include <stddef.h>
 #include <stdint.h>
+
+/* The version of this library, which is also the program's, the Python package's and the one that `pkg-config` tells. */
+#define KROFT_VERSION "0.1.0"
 
 #ifdef __cplusplus
 extern "C" {
@@ -333,6 +337,137 @@ typedef struct {
    in which they were accepted. KROFT_NONE: there is none. */
 uint32_t kroft_target(kroft_handle *handle, uint32_t slot, uint32_t i, uint32_t place, kroft_target_view *view);
 
+/* ---- histories --------------------------------------------------------------------------------- */
+
+/*
+ * A history is what is seen of a memory from outside: each load and each store is requested, and is answered
+ * later or never. It is judged as it goes, by one of two laws:
+ *
+ * - the regular law: an operation takes effect at some moment between its request and its response, each of its
+ *   bytes for itself. Nobody has to know that moment.
+ * - the flat law: an operation takes effect at its request. (A memory without caches and queues.)
+ *
+ * Addresses and numbers have 64 bits. An operation has 1 to 64 bytes, in the order of memory, and none of them
+ * lies at 2^64 or beyond. A number is free again once its operation is answered; loads and stores have numbers of
+ * their own. What is told first happened first: in one cycle of a clock, tell the responses before the requests if
+ * the design answers before it takes new requests.
+ *
+ * A handle holds one history, or none: then it is closed. Zeroed, it is closed.
+ *
+ *     kroft_history history = KROFT_NO_HISTORY;
+ */
+typedef struct {
+    uint32_t open; /* 0: closed. Written by the library alone, once it was zeroed */
+    void *at;      /* the library's own */
+} kroft_history;
+
+#define KROFT_NO_HISTORY \
+    { 0, 0 }
+
+/* The laws. */
+enum {
+    KROFT_REGULAR_LAW = 0,
+    KROFT_FLAT_LAW = 1
+};
+
+/* What stands beyond the image before the first store. */
+enum {
+    KROFT_ZEROS = 0,  /* zeros                                                                              */
+    KROFT_UNKNOWN = 1 /* nothing is known: until a store covers it, a load may return anything for the byte */
+};
+
+/*
+ * What a call of a history says. KROFT_CLOSED (3), KROFT_FOUND (1) and KROFT_NONE (0) are those of the machine, and so
+ * are KROFT_OUT_OF_MEMORY (101) and KROFT_OPEN_ALREADY (102). Of the faults of an event, 11 to 16, the first that
+ * holds is told. After each number but KROFT_LAWFUL everything is as it was: an event that was refused may be told
+ * again with other bytes, or left out.
+ */
+enum {
+    KROFT_LAWFUL = 0,          /* the event was taken: the history with it is one of the law                */
+    KROFT_NO_ROOM = 2,         /* the row of a set hasn't KROFT_SET_BYTES bytes                             */
+    KROFT_BAD_RANGE = 11,      /* the operation has no byte or more than 64, or runs beyond the last address */
+    KROFT_NO_BYTE_ENABLED = 12, /* no byte of the store is enabled                                          */
+    KROFT_NUMBER_IN_USE = 13,  /* a load, or a store, is open under the number                              */
+    KROFT_NOT_OPEN = 14,       /* no load, or no store, is open under the number                            */
+    KROFT_WRONG_LENGTH = 15,   /* the load was requested with another length                                */
+    KROFT_WRONG_BYTE = 16,     /* the load may not return one of the bytes                                  */
+    KROFT_NO_LAW = 103,        /* there is no such law, unit or rest                                        */
+    KROFT_TOO_LONG = 104       /* 2^64 - 1 events were taken                                                */
+};
+
+/*
+ * Opens a history without an event, to be judged by a law. `unit` is how many bytes are read and written as one: 1
+ * for these two laws. Memory begins with the bytes of the image, from address 0 on, of which a copy is kept, and
+ * beyond them as `rest` says. Returns KROFT_DONE; or, and then the handle is as it was, and no memory is kept, the
+ * first that holds of KROFT_OPEN_ALREADY, KROFT_NO_LAW and KROFT_OUT_OF_MEMORY.
+ */
+uint32_t kroft_history_open(kroft_history *handle, uint32_t law, uint32_t unit, uint32_t rest, const uint8_t *image,
+                            size_t nimage);
+
+/*
+ * Gives the history up, with all its memory. Returns KROFT_DONE, and the handle is closed; or KROFT_CLOSED: it was
+ * closed already.
+ */
+uint32_t kroft_history_free(kroft_history *handle);
+
+/*
+ * A load of `length` bytes from `address` on is requested. Returns KROFT_LAWFUL, KROFT_BAD_RANGE or
+ * KROFT_NUMBER_IN_USE; or KROFT_CLOSED, KROFT_TOO_LONG or KROFT_OUT_OF_MEMORY.
+ */
+uint32_t kroft_load_request(kroft_history *handle, uint64_t number, uint64_t address, size_t length);
+
+/*
+ * The load that is open under the number is answered with these bytes. Returns KROFT_LAWFUL, KROFT_NOT_OPEN,
+ * KROFT_WRONG_LENGTH or KROFT_WRONG_BYTE; or KROFT_CLOSED, KROFT_TOO_LONG or KROFT_OUT_OF_MEMORY.
+ */
+uint32_t kroft_load_response(kroft_history *handle, uint64_t number, const uint8_t *bytes, size_t nbytes);
+
+/*
+ * A store is requested: of these bytes from `address` on, those whose enable is set. Bit k of `enables` is the enable
+ * of byte k; bits beyond the last byte have no meaning. Returns KROFT_LAWFUL, KROFT_BAD_RANGE,
+ * KROFT_NO_BYTE_ENABLED or KROFT_NUMBER_IN_USE; or KROFT_CLOSED, KROFT_TOO_LONG or KROFT_OUT_OF_MEMORY.
+ */
+uint32_t kroft_store_request(kroft_history *handle, uint64_t number, uint64_t address, const uint8_t *bytes,
+                             size_t nbytes, uint64_t enables);
+
+/*
+ * The store that is open under the number is answered. Returns KROFT_LAWFUL or KROFT_NOT_OPEN; or KROFT_CLOSED,
+ * KROFT_TOO_LONG or KROFT_OUT_OF_MEMORY.
+ */
+uint32_t kroft_store_response(kroft_history *handle, uint64_t number);
+
+/* The bytes of the row of a set of bytes: bit k of the row's byte n says whether byte 8n + k is in the set. */
+#define KROFT_SET_BYTES 32
+
+/*
+ * What the load that is open under a number may return for the byte at an address, if it is answered now. Returns
+ * KROFT_FOUND, and `set` is it; KROFT_NONE: no such load asks for that byte; KROFT_NO_ROOM; or KROFT_CLOSED. After
+ * each but KROFT_FOUND `set` is as it was. The history is as it was after each.
+ */
+uint32_t kroft_may_return(kroft_history *handle, uint64_t number, uint64_t address, uint8_t *set, size_t nset);
+
+/*
+ * What kroft_load_response would say of these bytes if there is room for it, and the first of them that the load may not
+ * return; it isn't told. Returns KROFT_WRONG_BYTE, and the byte at `place`, counted from 0, is the first such; or
+ * KROFT_LAWFUL, KROFT_NOT_OPEN, KROFT_WRONG_LENGTH or KROFT_CLOSED, and then `place` is as it was.
+ */
+uint32_t kroft_wrong_place(kroft_history *handle, uint64_t number, const uint8_t *bytes, size_t nbytes, uint64_t *place);
+
+/* How many loads and how many stores are open. Returns KROFT_DONE; or KROFT_CLOSED, and both are as they were. */
+uint32_t kroft_unanswered(kroft_history *handle, uint64_t *loads, uint64_t *stores);
+
+/* An operation that is open. */
+typedef struct {
+    uint64_t number;
+    uint64_t address;
+    uint64_t length;
+} kroft_operation;
+
+/* The load, or the store, at place `n` among those that are open, in the order of their requests. Returns KROFT_FOUND;
+   or KROFT_NONE or KROFT_CLOSED, and then `operation` is as it was. */
+uint32_t kroft_unanswered_load(kroft_history *handle, uint64_t n, kroft_operation *operation);
+uint32_t kroft_unanswered_store(kroft_history *handle, uint64_t n, kroft_operation *operation);
+
 /* ---- the layout that the library was built with ------------------------------------------------ */
 
 #if defined(__cplusplus)
@@ -358,6 +493,11 @@ KROFT_ASSERT(due_size, sizeof(kroft_due) == 8);
 KROFT_ASSERT(due_word, offsetof(kroft_due, word) == 4);
 KROFT_ASSERT(handle_size, sizeof(kroft_handle) == 16);
 KROFT_ASSERT(handle_at, offsetof(kroft_handle, at) == 8);
+KROFT_ASSERT(history_size, sizeof(kroft_history) == 16);
+KROFT_ASSERT(history_at, offsetof(kroft_history, at) == 8);
+KROFT_ASSERT(operation_size, sizeof(kroft_operation) == 24);
+KROFT_ASSERT(operation_address, offsetof(kroft_operation, address) == 8);
+KROFT_ASSERT(operation_length, offsetof(kroft_operation, length) == 16);
 KROFT_ASSERT(shape_size, sizeof(kroft_shape) == 40);
 KROFT_ASSERT(shape_words, offsetof(kroft_shape, words) == 16);
 KROFT_ASSERT(shape_replies, offsetof(kroft_shape, replies) == 36);

@@ -8,10 +8,12 @@ _kroft() {
     --busy) COMPREPLY=($(compgen -W '' -- "$word")); return ;;
     --from) COMPREPLY=($(compgen -W 'lackey din' -- "$word")); return ;;
     --words) COMPREPLY=($(compgen -W '' -- "$word")); return ;;
+    --law) COMPREPLY=($(compgen -W 'regular' -- "$word")); return ;;
+    --image) COMPREPLY=($(compgen -f -- "$word")); return ;;
   esac
   for ((k = 1; k < COMP_CWORD; k++)); do
     case ${COMP_WORDS[k]} in
-    run|check|sweep|explain|drive|requests|show) command=${COMP_WORDS[k]} ;;
+    run|check|sweep|explain|drive|requests|show|history) command=${COMP_WORDS[k]} ;;
     esac
   done
   case $command in
@@ -22,7 +24,8 @@ _kroft() {
     drive) k='--shape --latency --busy --summary -h --help' ;;
     requests) k='--from --words -h --help' ;;
     show) k='--shape --text --vcd -h --help' ;;
-    *) k='run check sweep explain drive requests show --shape -h --help -V --version' ;;
+    history) k='--law --image --unknown --all-answered -h --help' ;;
+    *) k='run check sweep explain drive requests show history --shape -h --help -V --version' ;;
   esac
   COMPREPLY=($(compgen -W "$k" -- "$word"))
 }
