@@ -167,7 +167,7 @@ class Pages:
     """All that may be got: the page's own files, the examples, and the last pictures. No request names a file."""
 
     def __init__(self):
-        folder = TOP / "page/work"
+        folder = TOP / "page/workbench"
         self.fixed = {
             "": ("text/html", (folder / "work.html").read_bytes()),
             "work.css": ("text/css", (folder / "work.css").read_bytes()),
