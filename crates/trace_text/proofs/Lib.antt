@@ -14,3 +14,4 @@ pub mod Written
 pub mod Commands
 pub mod AnswerTexts
 pub mod Recorded
+pub mod LineTexts

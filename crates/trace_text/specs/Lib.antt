@@ -1,5 +1,6 @@
 pub mod Codes
 pub mod Fields
+pub mod Faults
 pub mod Lines
 pub mod Texts
 pub mod Pairs

@@ -1,8 +1,12 @@
 //! Why a trace isn't read or served to its end, and the limits of a trace.
 
+ghost use Rattle.std.specs.Prelude.{Some};
+ghost use Rattle.trace_text.specs.Faults.{trace_fault_text};
+
 use crate::lines::LineFault;
 use std::alloc::AllocError;
-use thiserror::Error;
+use std::error::Error;
+use std::fmt;
 
 /// How many lines a trace has at most.
 pub const MAX_LINES: u64 = 16_777_216;
@@ -21,23 +25,35 @@ pub const MAX_LINE_LIMIT: usize = 1000;
 pub const BUFFER_LEN: usize = 4096;
 
 /// Why a trace wasn't read or served to its end.
-#[derive(Clone, Copy, Debug, PartialEq, Eq, Error)]
+#[derive(Clone, Copy, Debug, PartialEq, Eq)]
 pub enum TraceFault {
     /// The line of this number, counted from 1, has this fault.
-    #[error("line {number}: {fault}")]
     Line { number: u64, fault: LineFault },
     /// The reader answered an error.
-    #[error("read failed")]
     Read,
     /// The writer answered an error, or took no byte.
-    #[error("write failed")]
     Write,
     /// There was too little memory.
-    #[error("out of memory")]
     OutOfMemory,
     /// Line 16,777,217 begins.
-    #[error("too many lines")]
     TooManyLines,
+}
+
+impl Error for TraceFault {}
+
+/// `line N: bad field` and the like, or what failed.
+impl fmt::Display for TraceFault {
+    ghost output = { λ fault. Some (trace_fault_text fault) };
+
+    fn fmt<W: fmt::Write>(&self, f: &mut fmt::Formatter<W>) -> fmt::Result {
+        match self {
+            TraceFault::Line { number, fault } => write!(f, "line {number}: {fault}"),
+            TraceFault::Read => f.write_str("read failed"),
+            TraceFault::Write => f.write_str("write failed"),
+            TraceFault::OutOfMemory => f.write_str("out of memory"),
+            TraceFault::TooManyLines => f.write_str("too many lines"),
+        }
+    }
 }
 
 impl From<AllocError> for TraceFault {

@@ -1,12 +1,14 @@
 //! The lines of a trace.
-ghost use Rattle.std.specs.Prelude.{◌≡◌, ◌≢◌, ℕ, ◌<◌, ◌++◌, List, length, ◌==◌, position, IfSome, IfNone, IfErr};
+ghost use Rattle.std.specs.Prelude.{◌≡◌, ◌≢◌, ℕ, ◌<◌, ◌++◌, List, length, ◌==◌, position, Some, IfSome, IfNone, IfErr};
 ghost use Rattle.std.specs.Option.{option_map};
+ghost use Rattle.trace_text.specs.Faults.{line_fault_text};
 ghost use Rattle.trace_text.specs.Lines.{IsSaid, line_of, ended_line_of, cut_of, name_of, command_told, BeginsNoCommand, command_named, one_number, bare as bare_line, load_of, store_of, arrive_of, line_from as line_made};
 
 use crate::fault::MAX_LINE;
 use crate::fields::{MAX_NUMBER, MAX_TAG, lanes, number, word};
 use flat_model::Event;
-use thiserror::Error;
+use std::error::Error;
+use std::fmt;
 
 /// What a line of a trace asks for.
 #[derive(Clone, Copy, Debug, PartialEq, Eq)]
@@ -23,20 +25,32 @@ pub enum Line {
 
 /// Why a line can't be read. Of the faults that a line has, the one that comes first in the order
 /// TooLong, NotEnded, Unknown, Field is named.
-#[derive(Clone, Copy, Debug, PartialEq, Eq, Error)]
+#[derive(Clone, Copy, Debug, PartialEq, Eq)]
 pub enum LineFault {
     /// What stands up to the first space is no command. An empty line has none.
-    #[error("unknown command")]
     Unknown,
     /// A field is missing, too many, malformed or too large, or a space is out of place.
-    #[error("bad field")]
     Field,
     /// More than 64 bytes, or 768 in a served trace, come with no LF.
-    #[error("line too long")]
     TooLong,
     /// The last byte isn't LF, or there is no byte.
-    #[error("line not ended")]
     NotEnded,
+}
+
+impl Error for LineFault {}
+
+/// What stands behind the line's number.
+impl fmt::Display for LineFault {
+    ghost output = { λ fault. Some (line_fault_text fault) };
+
+    fn fmt<W: fmt::Write>(&self, f: &mut fmt::Formatter<W>) -> fmt::Result {
+        f.write_str(match self {
+            LineFault::Unknown => "unknown command",
+            LineFault::Field => "bad field",
+            LineFault::TooLong => "line too long",
+            LineFault::NotEnded => "line not ended",
+        })
+    }
 }
 
 // The first word of a line.
