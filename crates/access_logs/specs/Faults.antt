@@ -1,6 +1,9 @@
 -- The texts of faults.
 use Rattle.std.specs.Prelude.{ℕ, ◌*◌, if◌then◌else◌, nat_le, List, ◌++◌, codes, decimal}
+use Rattle.trace_text.specs.Faults.{trace_fault_text}
 use Rattle.access_logs.specs.declared.fault.NoRoom.{NoRoom}
+use Rattle.access_logs.specs.declared.fault.LogFault.{LogFault}
+use Rattle.access_logs.specs.declared.fault.LogFault.TheVariants as log
 use Rattle.access_logs.specs.declared.pages.TheConstants.{PAGE_WORDS, MAX_PAGES}
 
 -- how many words would do, if any
@@ -18,3 +21,8 @@ place_text n = number_text (codes "line ") n.line ++ number_text (codes ": no ro
 
 abbrev pub no_room_text : NoRoom → List ℕ
 no_room_text n = place_text n ++ codes ": " ++ remedy_text n.pages
+
+-- why the requests of a log weren't written to its end
+abbrev pub log_fault_text : LogFault → List ℕ
+log_fault_text (log.Trace fault) = trace_fault_text fault
+log_fault_text (log.NoRoom n) = no_room_text n

@@ -5,6 +5,7 @@ ghost use Rattle.access_logs.specs.Faults.{place_text, remedy_text};
 
 use crate::pages::{MAX_PAGES, PAGE_WORDS};
 use std::alloc::AllocError;
+use std::error::Error;
 use std::fmt;
 use trace_text::TraceFault;
 
@@ -39,6 +40,8 @@ impl NoRoom {
     }
 }
 
+impl Error for NoRoom {}
+
 /// `line N: no room for page P: W words would do`, or that memory has at most 1,048,576 words. Pages are
 /// counted from 1.
 impl fmt::Display for NoRoom {
@@ -62,7 +65,14 @@ pub enum LogFault {
     NoRoom(NoRoom),
 }
 
+impl Error for LogFault {}
+
+/// As that of a trace's fault, or of a page that has no room.
 impl fmt::Display for LogFault {
+    ghost use Rattle.access_logs.specs.Faults.{log_fault_text};
+
+    ghost output = { λ fault. Some (log_fault_text fault) };
+
     fn fmt<W: fmt::Write>(&self, f: &mut fmt::Formatter<W>) -> fmt::Result {
         match self {
             LogFault::Trace(fault) => write!(f, "{fault}"),
