@@ -108,8 +108,8 @@ class Firefox:
         """The value of an expression over the page's document; a promise is waited for."""
         body = f"const done = arguments[0]; Promise.resolve({script}).then((it) => done([it]), (it) => done([null, String(it)]))"
         told = self.call("WebDriver:ExecuteAsyncScript", script=body, args=[], sandbox=None)["value"]
-        if len(told) > 1:
-            raise BrowserFault(told[1])
+        if told is None or len(told) > 1:
+            raise BrowserFault(told[1] if told else "the page was left meanwhile")
         return told[0]
 
     def run_in_page(self, script):
