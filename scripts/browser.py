@@ -133,6 +133,14 @@ class Browser:
         if "loaderId" in said:
             self.wait_for("Page.loadEventFired")
 
+    def open_anew(self, url):
+        """The same for an address that may differ in its fragment alone. (A page that is left for another one costs more: its process
+        ends, and another one begins.)"""
+        self.open(url)
+        self.events.clear()
+        self.call("Page.reload")
+        self.wait_for("Page.loadEventFired")
+
     def run(self, script):
         """The value of an expression in the page; a promise is waited for."""
         said = self.call("Runtime.evaluate", expression=script, returnByValue=True, awaitPromise=True)

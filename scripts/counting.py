@@ -5,6 +5,7 @@ import shutil
 import subprocess
 
 import browser
+import firefox
 import page_parts
 
 
@@ -20,12 +21,24 @@ def same(what, shown, wanted):
 FAULTS = (Different, browser.BrowserFault, page_parts.PageFault, subprocess.SubprocessError, LookupError, ValueError, OSError)
 
 
+# Tools that have more than one name.
+FIND = {"chromium": browser.find, "firefox": firefox.find}
+
+
+def program():
+    """The program's path: that of $KROFT, or else what ./kroft calls (the launcher looks at all sources at each call)."""
+    if "KROFT" in os.environ:
+        return os.path.abspath(os.environ["KROFT"])
+    found = subprocess.run([page_parts.TOP / "scripts/run_program", "--path", "kroft_tool"], stdout=subprocess.PIPE, text=True, check=True)
+    return found.stdout.strip()
+
+
 class Count:
     def __init__(self):
         self.passed = self.failed = self.skipped = 0
 
     def step(self, name, tool, command, *words):
-        lacks = not (browser.find() if tool == "chromium" else shutil.which(tool))
+        lacks = not FIND.get(tool, lambda: shutil.which(tool))()
         if lacks and not os.environ.get("KROFT_SKIP_NOTHING"):
             self.skipped += 1
             print(f"skipped: {name}, which lacks {tool}")

@@ -44,7 +44,10 @@ JOBS = {
     "sweep": ["sweep"],
     "drive": ["drive", "--summary"],
     "show": ["show"],
+    "grade": ["grade"],
 }
+# What an older program may lack.
+MAY_LACK = ("grade",)
 WITH_LATENCY = ("sweep", "drive")
 
 PAGE_POLICY = ("default-src 'none'; script-src 'self'; style-src 'self'; connect-src 'self'; frame-src 'self'; base-uri 'none'; "
@@ -104,6 +107,10 @@ class Program:
         texts = [(folder / name).read_bytes().decode("utf-8", "replace") for name in ("said", "told")]
         return {"status": status, "said": texts[0], "told": texts[1]}
 
+    def jobs(self):
+        """The jobs that the program has."""
+        return [job for job, words in JOBS.items() if job not in MAY_LACK or self.answer([words[0], "--help"], b"", {})["status"] == 0]
+
     def start(self, words, **options):
         with self.lock:
             if self.is_closed:
@@ -139,7 +146,7 @@ def whole_number(value, most):
 
 
 def read_asked(body):
-    """What a request for an answer says: the job, the input, the shape, and the latency."""
+    """What a request for an answer says: the job, the input, the shape, and the numbers of memory's rounds."""
     try:
         asked = json.loads(body)
     except (ValueError, RecursionError):
@@ -154,8 +161,10 @@ def read_asked(body):
         raise Refusal(400, "a shape has no such key")
     shape = {key: whole_number(shape[key], 4_294_967_295) for key in SHAPE_KEYS if key in shape}
     words = list(JOBS[job])
-    if asked.get("latency") is not None and job in WITH_LATENCY:
-        words += ["--latency", str(whole_number(asked["latency"], 4_294_967_295))]
+    if job in WITH_LATENCY:
+        for key in ("latency", "busy"):
+            if asked.get(key) is not None:
+                words += [f"--{key}", str(whole_number(asked[key], 4_294_967_295))]
     try:
         given = asked["given"].encode()
     except UnicodeError:
@@ -166,15 +175,16 @@ def read_asked(body):
 class Pages:
     """All that may be got: the page's own files, the examples, and the last pictures. No request names a file."""
 
-    def __init__(self):
+    def __init__(self, jobs):
         folder = TOP / "page/workbench"
         self.fixed = {
             "": ("text/html", (folder / "work.html").read_bytes()),
             "work.css": ("text/css", (folder / "work.css").read_bytes()),
             "lines.js": ("text/javascript", (folder / "lines.js").read_bytes()),
+            "sheets.js": ("text/javascript", (folder / "sheets.js").read_bytes()),
             "charts.js": ("text/javascript", (folder / "charts.js").read_bytes()),
             "work.js": ("text/javascript", (folder / "work.js").read_bytes()),
-            "examples": ("application/json", json.dumps(self.examples()).encode()),
+            "examples": ("application/json", json.dumps({"examples": self.examples(), "jobs": jobs}).encode()),
         }
         self.pictures = {}
         self.count = 0
@@ -182,8 +192,9 @@ class Pages:
 
     @staticmethod
     def examples():
-        """The traces, recorded runs and shape files of examples/."""
-        files = sorted(it for kind in ("*.trace", "*.recorded", "*.toml") for it in (TOP / "examples").glob(kind))
+        """The traces, recorded runs and shape files of examples/, and the exercises."""
+        kinds = ("*.trace", "*.recorded", "*.toml", "exercises/*.sheet")
+        files = [it for kind in kinds for it in sorted((TOP / "examples").glob(kind))]
         return [{"name": it.name, "text": it.read_text()} for it in files if it.stat().st_size <= MOST_GIVEN]
 
     def keep(self, picture):
@@ -300,6 +311,8 @@ class Handler(http.server.BaseHTTPRequestHandler):
         if self.headers.get_content_type() != "application/json":
             raise Refusal(415, "the body is no JSON")
         job, words, given, shape = read_asked(self.body())
+        if job not in self.server.jobs:
+            raise Refusal(400, "no such job")
         if len(given) > MOST_GIVEN:
             raise Refusal(413, "the input has more than a megabyte")
         said = self.server.program.answer(words, given, shape)
@@ -313,12 +326,13 @@ class Server(http.server.ThreadingHTTPServer):
 
     daemon_threads = True
     block_on_close = False
-    request_queue_size = 64
+    request_queue_size = 1024
 
     def __init__(self, port, program):
         super().__init__(("127.0.0.1", port), Handler)
         self.program = program
-        self.pages = Pages()
+        self.jobs = program.jobs()
+        self.pages = Pages(self.jobs)
         self.token = secrets.token_urlsafe(16)
         names = [f"{host}:{self.server_port}" for host in ("127.0.0.1", "localhost")]
         self.hosts = [[name] for name in names]
@@ -355,7 +369,7 @@ class Server(http.server.ThreadingHTTPServer):
 def find_program():
     """The program's path; it is built first if it has to be."""
     if "KROFT" in os.environ:
-        return os.environ["KROFT"]
+        return os.path.abspath(os.environ["KROFT"])
     found = subprocess.run([TOP / "scripts/run_program", "--path", "kroft_tool"], stdout=subprocess.PIPE, text=True)
     if found.returncode != 0:
         sys.exit(found.returncode)

@@ -50,9 +50,9 @@ function listOf(row) {
 
 // Bars of one count, one for each name; their lengths are in the proportion of the numbers.
 const BAR = { height: 26, names: 110, length: 260, numbers: 80 };
-function chartOf(title, bars) {
+function chartOf(title, bars, names = BAR.names) {
   const height = (bars.length + 1) * BAR.height;
-  const width = BAR.names + BAR.length + BAR.numbers;
+  const width = names + BAR.length + BAR.numbers;
   const told = `${title}: ${bars.map(([name, number]) => `${name} ${number}`).join(', ')}`;
   const svg = made('svg', '', { class: 'chart', width, height, viewBox: `0 0 ${width} ${height}`, role: 'img', 'aria-label': told });
   const most = Math.max(1, ...bars.map(([, number]) => Number(number)));
@@ -60,9 +60,9 @@ function chartOf(title, bars) {
   bars.forEach(([name, number], k) => {
     const y = (k + 1) * BAR.height;
     const length = (BAR.length * Number(number)) / most;
-    svg.append(made('text', name, { x: BAR.names - 8, y: y + 18, 'text-anchor': 'end' }));
-    svg.append(made('rect', '', { x: BAR.names, y: y + 3, width: length, height: BAR.height - 6 }));
-    svg.append(made('text', number, { x: BAR.names + length + 6, y: y + 18 }));
+    svg.append(made('text', name, { x: names - 8, y: y + 18, 'text-anchor': 'end' }));
+    svg.append(made('rect', '', { x: names, y: y + 3, width: length, height: BAR.height - 6 }));
+    svg.append(made('text', number, { x: names + length + 6, y: y + 18 }));
   });
   return svg;
 }
@@ -74,9 +74,15 @@ function sweepCharts(rows) {
   return OF_SWEEPS.filter((name) => named.some((row) => Number(row.get(name) ?? 0) > 0))
     .map((name) => chartOf(name, named.map((row) => [`regs ${row.get('regs')}`, row.get(name)])));
 }
+// Why a request is refused that is asked again.
+const CAUSES = {
+  3: 'the tag is in use', 4: 'too many loads are owed', 5: 'four loads wait for it', 7: 'no register is free',
+  8: 'all ways wait for words', 9: 'the write queue is full', 10: "a bank's queue is full",
+};
 function driveCharts(row) {
   const counts = new Map(row);
   const of = (names) => names.filter((name) => counts.has(name)).map((name) => [name, counts.get(name)]);
   const lost = [...counts.keys()].filter((name) => name.startsWith('lost '));
-  return [chartOf('accepted requests', of(['hits', 'joins', 'misses'])), chartOf('rounds lost, by cause', of(lost))];
+  const causes = of(lost).map(([name, number]) => [`${name.slice(5)}: ${CAUSES[name.slice(5)] ?? ''}`, number]);
+  return [chartOf('accepted requests', of(['hits', 'joins', 'misses'])), chartOf('rounds lost, by cause', causes, 230)];
 }

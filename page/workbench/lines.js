@@ -1,20 +1,24 @@
 'use strict';
 window.onerror = (told) => { document.body.dataset.fault = String(told); };
 
-// ---- a trace and a machine in an address
+// ---- a trace, a machine and a view in an address
 
-// Behind '#': the trace, with ~ for the end of a line and _ for a space; then each number that isn't the default.
-function fragmentOf(trace, shape) {
+// Behind '#': the trace, with ~ for the end of a line and _ for a space; then each number that isn't the default, and what is
+// looked at: `tab`, `latency` and `busy`.
+function fragmentOf(trace, shape, view) {
   const text = encodeURIComponent(trace).replace(/[~_]/g, (it) => (it === '~' ? '%7E' : '%5F')).replace(/%0A/g, '~').replace(/%20/g, '_');
-  const numbers = Object.entries(shape).map(([key, number]) => `&${key}=${number}`);
-  return `#trace=${text}${numbers.join('')}`;
+  const more = Object.entries({ ...shape, ...view }).map(([key, value]) => `&${key}=${value}`);
+  return `#trace=${text}${more.join('')}`;
 }
 function readFragment(fragment) {
-  const found = { trace: null, shape: {} };
+  const found = { trace: null, shape: {}, view: {} };
   for (const part of fragment.replace(/^#/, '').split('&')) {
     const [key, value] = part.split('=');
+    const isNumber = /^\d{1,10}$/.test(value ?? '');
     if (key === 'trace' && value !== undefined) found.trace = decoded(value);
-    else if (/^\d{1,10}$/.test(value ?? '') && KEYS.some(([name]) => name === key)) found.shape[key] = Number(value);
+    else if (key === 'tab') found.view.tab = value;
+    else if (isNumber && (key === 'latency' || key === 'busy')) found.view[key] = Number(value);
+    else if (isNumber && KEYS.some(([name]) => name === key)) found.shape[key] = Number(value);
   }
   return found;
 }
@@ -31,8 +35,6 @@ const KEYS = [['words', 64], ['sets', 4], ['ways', 2], ['regs', 4], ['banks', 4]
 
 // ---- a trace as the program reads it
 
-// A recorded run has answers of its own.
-const isRecorded = (text) => / -> /.test(text.split('\n', 1)[0]);
 const withEnd = (text) => (text === '' || text.endsWith('\n') ? text : `${text}\n`);
 const linesOf = (text) => withEnd(text).split('\n').slice(0, -1);
 

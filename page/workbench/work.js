@@ -1,10 +1,17 @@
 'use strict';
 
 const find = (id) => document.getElementById(id);
-const PANES = ['picture', 'check', 'explain', 'sweep', 'drive'];
+const PANES = ['picture', 'grade', 'check', 'explain', 'sweep', 'drive'];
+const WITH_ROUNDS = ['sweep', 'drive'];
+const LATENCY = 10;
 const DELAY = 200;
 let examples = [];
+// Whether the program has `grade`.
+let canGrade = false;
 let pane = 'picture';
+// What stands beside the lines, and behind that what is told of the cursor's line.
+let beside = [];
+let reasons = new Map();
 // The number of the last edit: what answers an earlier one comes too late.
 let edits = 0;
 let timer = 0;
@@ -34,14 +41,36 @@ function putShape(shape) {
   for (const [key, number] of KEYS) find(`shape-${key}`).value = shape[key] ?? number;
 }
 
+// ---- what is looked at: the numbers of memory's rounds, and the tab
+
+const numberIn = (id, least) => {
+  const value = Math.floor(Number(find(id).value));
+  return find(id).value === '' || !(value >= least && value <= 1000) ? null : value;
+};
+const latencyOf = () => numberIn('latency', 0) ?? LATENCY;
+const busyOf = () => numberIn('busy', 1);
+function viewOf() {
+  const view = {};
+  if (pane !== 'picture') view.tab = pane;
+  if (latencyOf() !== LATENCY) view.latency = latencyOf();
+  if (busyOf() !== null) view.busy = busyOf();
+  return view;
+}
+function putView(view) {
+  find('latency').value = view.latency ?? LATENCY;
+  find('busy').value = view.busy ?? '';
+  showPane(panes().includes(view.tab) ? view.tab : 'picture');
+}
+const panes = () => PANES.filter((name) => canGrade || name !== 'grade');
+
 // ---- asking the program
 
-async function ask(job, given, latency = null) {
+async function ask(job, given, latency = null, busy = null) {
   try {
     const said = await fetch('answer', {
       method: 'POST',
       headers: { 'Content-Type': 'application/json' },
-      body: JSON.stringify({ job, given: withEnd(given), shape: shapeOf(), latency }),
+      body: JSON.stringify({ job, given: withEnd(given), shape: shapeOf(), latency, busy }),
     });
     return said.ok ? await said.json() : { status: -1, said: '', told: await said.text() };
   } catch {
@@ -56,19 +85,35 @@ function putAnswers(answers, fault) {
   find('numbers').textContent = Array.from({ length: count }, (_, k) => k + 1).join('\n');
   const box = find('answers');
   box.textContent = answers.join('\n');
+  beside = answers;
   faultLine = fault ? fault.line : 0;
   if (fault) {
     const before = answers.slice(0, fault.line - 1);
     const line = document.createElement('span');
     line.className = 'fault';
     line.textContent = fault.text;
+    line.title = fault.text;
     box.textContent = before.map((it) => `${it}\n`).join('') + '\n'.repeat(fault.line - 1 - before.length);
     box.append(line, '\n');
+    beside = [...before, ...Array(fault.line - 1 - before.length).fill(''), fault.text];
   }
   scrolled();
+  putHere();
 }
+const LINE = 20;
 function scrolled() {
   for (const id of ['numbers', 'answers']) find(id).scrollTop = find('trace').scrollTop;
+  find('cursor').style.top = `${4 + LINE * (lineAtCursor() - 1) - find('trace').scrollTop}px`;
+}
+const lineAtCursor = () => find('trace').value.slice(0, find('trace').selectionStart).split('\n').length;
+
+// The cursor's line is marked, and its answer is told (a screen reader can't see what is beside a line).
+function putHere() {
+  const line = lineAtCursor();
+  const answer = beside[line - 1];
+  const words = answer ? `line ${line}: ${answer}${reasons.has(line) ? `, ${reasons.get(line)}` : ''}` : '';
+  if (find('here').textContent !== words) find('here').textContent = words;
+  scrolled();
 }
 function tell(words, isFault = false) {
   find('told').textContent = words;
@@ -77,33 +122,47 @@ function tell(words, isFault = false) {
 
 // ---- what is shown
 
+// A text is judged by what it is; behind the tab for grades one with answers is a sheet.
+function judgedAs(text) {
+  const kind = kindOf(text, canGrade);
+  return kind === 'recorded' && pane === 'grade' ? 'sheet' : kind;
+}
+const JUDGED_BY = { trace: 'run', recorded: 'check', sheet: 'grade' };
 async function answerTrace(edit, text) {
-  const recorded = isRecorded(text);
-  const answer = text === '' ? { status: 0, said: '', told: '' } : await ask(recorded ? 'check' : 'run', text);
+  const kind = judgedAs(text);
+  const answer = text === '' ? { status: 0, said: '', told: '' } : await ask(JUDGED_BY[kind], text);
   if (edit !== edits) return;
   const fault = faultOf(answer);
-  putAnswers(recorded ? [] : answersOf(answer.said), fault);
-  const told = answer.told.trim() || (recorded ? answer.said.trim() : '');
+  reasons = kind === 'sheet' ? wrongLines(answer.said) : new Map();
+  putAnswers({ trace: () => answersOf(answer.said), recorded: () => [], sheet: () => (fault ? [] : marksOf(text, reasons)) }[kind](), fault);
+  const said = linesOf(answer.said.trim());
+  const told = answer.told.trim() || { trace: '', recorded: said[0] ?? '', sheet: said.at(-1) ?? '' }[kind];
   tell(told, answer.told !== '' || fault !== null);
 }
 const shown = {
   async picture(edit, text) {
-    if (isRecorded(text)) {
+    const kind = kindOf(text, canGrade);
+    if (kind === 'recorded') {
       putTexts('picture', 'A recorded run has no machine to draw: see check and explain.');
       return;
     }
     // (up to the line that has a fault, if one has)
-    const answer = await ask('show', faultLine > 0 ? linesOf(text).slice(0, faultLine - 1).join('\n') : text);
+    const drawn = faultLine > 0 ? linesOf(text).slice(0, faultLine - 1).join('\n') : text;
+    const answer = await ask('show', kind === 'sheet' ? traceOfSheet(drawn) : drawn);
     if (edit === edits && answer.picture) putPicture(answer.picture);
+  },
+  async grade(edit, text) {
+    const answer = await ask('grade', text);
+    if (edit === edits) putTexts('grade', answer.said + answer.told);
   },
   async check(edit, text) { await putSaid('check', edit, text); },
   async explain(edit, text) { await putSaid('explain', edit, text); },
   async sweep(edit, text) {
     for (const latency of [null, latencyOf()]) {
-      const answer = await ask('sweep', text, latency);
+      const answer = await ask('sweep', requestsOf(text), latency, latency === null ? null : busyOf());
       if (edit !== edits) return;
       if (latency === null) find('pane-sweep').textContent = '';
-      const title = latency === null ? 'One after another' : `In rounds, with a latency of ${latency}`;
+      const title = latency === null ? 'One after another' : `In rounds, with a latency of ${latency}${busyWords()}`;
       find('pane-sweep').append(made('h2', title));
       const rows = answer.status === 0 ? linesOf(answer.said).map(countsOf) : [];
       if (rows.length > 0) find('pane-sweep').append(...sweepCharts(rows), tableOf(rows));
@@ -111,13 +170,14 @@ const shown = {
     }
   },
   async drive(edit, text) {
-    const answer = await ask('drive', text, latencyOf());
+    const answer = await ask('drive', requestsOf(text), latencyOf(), busyOf());
     if (edit !== edits) return;
     putTexts('drive', answer.said || answer.told);
     if (answer.status === 0) find('pane-drive').append(listOf(countsOf(answer.said.trim())), ...driveCharts(countsOf(answer.said.trim())));
   },
 };
-const latencyOf = () => Math.max(0, Math.min(1000, Math.floor(Number(find('latency').value)) || 0));
+const requestsOf = (text) => (kindOf(text, canGrade) === 'sheet' ? traceOfSheet(text) : text);
+const busyWords = () => (busyOf() === null ? '' : `, a bank busy for ${busyOf()}`);
 
 function putTexts(name, ...texts) {
   find(`pane-${name}`).textContent = '';
@@ -125,7 +185,7 @@ function putTexts(name, ...texts) {
 }
 // A trace is judged by the run that the program makes of it.
 async function putSaid(job, edit, text) {
-  const run = isRecorded(text) ? text : (await ask('run', text)).said;
+  const run = kindOf(text, canGrade) === 'recorded' ? text : (await ask('run', requestsOf(text))).said;
   const answer = await ask(job, run);
   if (edit === edits) putTexts(job, answer.said + answer.told);
 }
@@ -159,6 +219,7 @@ function stepAtCursor() {
   return lines.filter((it) => !/^(reg|bank|settled)\b/.test(it)).length;
 }
 function followCursor() {
+  putHere();
   const frame = find('pane-picture').querySelector('iframe:last-of-type');
   if (frame && frame.dataset.isThere && frame.dataset.step !== String(stepAtCursor())) {
     frame.dataset.step = stepAtCursor();
@@ -171,7 +232,7 @@ async function update() {
   const edit = edits;
   const text = find('trace').value;
   delete document.body.dataset.done;
-  history.replaceState(null, '', fragmentOf(text, shapeOf()));
+  history.replaceState(null, '', fragmentOf(text, shapeOf(), viewOf()));
   await answerTrace(edit, text);
   if (edit === edits) await shown[pane](edit, text);
   if (edit === edits) document.body.dataset.done = edit;
@@ -190,14 +251,17 @@ function putTrace(text) {
 }
 
 function choose(name) {
+  showPane(name);
+  update();
+}
+function showPane(name) {
   pane = name;
   for (const it of PANES) {
     find(`pane-${it}`).hidden = it !== name;
     find(`tab-${it}`).setAttribute('aria-selected', it === name);
     find(`tab-${it}`).tabIndex = it === name ? 0 : -1;
   }
-  find('latency-label').hidden = !['sweep', 'drive'].includes(name);
-  update();
+  find('timing').hidden = !WITH_ROUNDS.includes(name);
 }
 
 // ---- what the user does
@@ -206,7 +270,7 @@ for (const name of PANES) find(`tab-${name}`).onclick = () => choose(name);
 document.querySelector('.tabs').addEventListener('keydown', (event) => {
   const move = { ArrowRight: 1, ArrowLeft: -1 }[event.key];
   if (!move || event.target.getAttribute('role') !== 'tab') return;
-  choose(PANES[(PANES.indexOf(pane) + move + PANES.length) % PANES.length]);
+  choose(panes().at((panes().indexOf(pane) + move) % panes().length));
   find(`tab-${pane}`).focus();
 });
 find('trace').addEventListener('input', later);
@@ -214,7 +278,7 @@ find('trace').addEventListener('scroll', scrolled);
 for (const kind of ['keyup', 'click']) find('trace').addEventListener(kind, followCursor);
 find('shape').addEventListener('input', later);
 find('shape').addEventListener('submit', (event) => event.preventDefault());
-find('latency').addEventListener('input', later);
+find('timing').addEventListener('input', later);
 find('new').onclick = () => putTrace('');
 find('alone').onclick = () => {
   const isAlone = find('work').classList.toggle('alone');
@@ -222,7 +286,10 @@ find('alone').onclick = () => {
 };
 async function write(made) {
   const text = withEnd(find('trace').value);
-  if (isRecorded(text)) return;
+  if (kindOf(text, canGrade) !== 'trace') {
+    tell('lines are written behind a trace alone: this text has answers', true);
+    return;
+  }
   const fault = faultOf(await ask('run', text));
   if (fault) tell(`line ${fault.line} has to be put right first: ${fault.text}`, true);
   else putTrace(await made(text));
@@ -236,21 +303,25 @@ find('example').onchange = () => {
     putShape(Object.fromEntries([...chosen.text.matchAll(/^(\w+) = (\d+)$/gm)].map(([, key, number]) => [key, Number(number)])));
     update();
   } else {
+    if (chosen.name.endsWith('.sheet')) showPane('grade');
     putTrace(chosen.text);
   }
 };
 function follow() {
-  const { trace, shape } = readFragment(location.hash);
+  const { trace, shape, view } = readFragment(location.hash);
   putShape(shape);
+  putView(view);
   find('trace').value = trace ?? 'load 1 4\n';
   update();
 }
 window.addEventListener('hashchange', follow);
 
 async function begin() {
-  examples = await (await fetch('examples')).json();
+  const told = await (await fetch('examples')).json();
+  canGrade = told.jobs.includes('grade');
+  find('tab-grade').hidden = !canGrade;
+  examples = told.examples;
   for (const { name } of examples) find('example').append(made('option', name, { value: name }));
-  find('latency-label').hidden = true;
   follow();
 }
 begin();

@@ -120,7 +120,12 @@
     for (let k = 0; k < 50; k += 1) call(k);
     return (performance.now() - begin) / 50;
   };
-  window.later = (told, milliseconds) => new Promise((done) => { setTimeout(() => done(told()), milliseconds); });
+  // Whether something holds within some milliseconds: as soon as it does.
+  window.until = async (holds, milliseconds) => {
+    const end = performance.now() + milliseconds;
+    while (!holds() && performance.now() < end) await new Promise((done) => { setTimeout(done, 20); });
+    return holds();
+  };
 
   // The ways of going to steps, each of which gives what is seen behind every move.
   const wait = () => new Promise((done) => { addEventListener('hashchange', () => done(), { once: true }); });
