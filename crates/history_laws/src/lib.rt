@@ -1,0 +1,26 @@
+//! How the laws of histories stand to one another: laws over the definitions alone.
+//!
+//! Each function here does nothing; its contract is a law.
+#![tactic(auto)]
+
+ghost use Rattle.std.specs.Prelude.{ℕ, List};
+ghost use Rattle.memory_histories.specs.declared.events.HistoryEvent.{HistoryEvent};
+ghost use Rattle.memory_histories.specs.declared.events.Rest.{Rest};
+ghost use Rattle.history_laws.specs.Laws.{AtomicIsRegular, FlatIsAtomic, FlatIsRegular};
+
+/// An atomic history, in units of any size, is a regular one: the regular law blames nothing that the
+/// atomic one lets through.
+pub fn atomic_is_regular()
+    ensures { (image : List ℕ) (rest : Rest) (size : ℕ) (history : List HistoryEvent) → AtomicIsRegular image rest size history }
+{}
+
+/// A flat history is an atomic one, in units of any size: an operation may take effect right behind its
+/// request.
+pub fn flat_is_atomic()
+    ensures { (image : List ℕ) (rest : Rest) (size : ℕ) (history : List HistoryEvent) → FlatIsAtomic image rest size history }
+{}
+
+/// So a flat history is a regular one.
+pub fn flat_is_regular()
+    ensures { (image : List ℕ) (rest : Rest) (history : List HistoryEvent) → FlatIsRegular image rest history }
+{}
