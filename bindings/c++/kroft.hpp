@@ -20,6 +20,8 @@
 //     expect(history.load_request(2, 0x8002, 8));
 //     expect(history.load_response(2, bytes, 8));  // before or after the store: either is lawful
 //     for (const kroft_operation &lost : history.open_loads()) ..
+//
+// kroft::Traffic makes the accesses of a bench, from a seed: kroft::Traffic(plan, seed)(number).
 #pragma once
 
 #include "kroft.h"
@@ -536,6 +538,47 @@ private:
         while (told(ask(&handle, found.size(), &it)).fault() == KROFT_FOUND) found.push_back(it);
         return found;
     }
+};
+
+// ---- traffic for a bench
+
+/// An access of traffic: a load or a store of some bytes of one block.
+struct TrafficAccess {
+    uint64_t number = 0;    ///< its number in the traffic
+    uint32_t requester = 0; ///< who asks
+    uint64_t turn = 0;      ///< how many accesses this requester had before
+    Kind kind = Kind::Load;
+    uint64_t address = 0;
+    unsigned size = 0;
+    uint64_t enables = 0; ///< the bytes that a store writes
+    Bytes data{};         ///< what it writes
+};
+
+/// Random loads and stores that caches find hard, from a seed: the access of each number. kroft.h says what the members
+/// of a plan are.
+class Traffic {
+public:
+    /// std::invalid_argument: a number of the plan isn't as its description says.
+    Traffic(const kroft_plan &plan, uint64_t seed) : plan(plan), seed(seed) { (*this)(0); }
+
+    TrafficAccess operator()(uint64_t number) const {
+        TrafficAccess made;
+        kroft_access row{};
+        if (kroft_traffic(&plan, seed, number, &row, made.data.data(), made.data.size()) != KROFT_DRAWN)
+            throw std::invalid_argument("no plan of traffic");
+        made.number = number;
+        made.requester = row.requester;
+        made.turn = row.turn;
+        made.kind = row.enables ? Kind::Store : Kind::Load;
+        made.address = row.address;
+        made.size = row.length;
+        made.enables = row.enables;
+        return made;
+    }
+
+private:
+    kroft_plan plan;
+    uint64_t seed;
 };
 
 } // namespace kroft

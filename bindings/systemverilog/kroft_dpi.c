@@ -425,3 +425,22 @@ int kroft_sv_unanswered(void *judge) {
 }
 
 const char *kroft_sv_text(void *judge) { return ((const judge_state *)judge)->text; }
+
+int kroft_sv_traffic(unsigned long long base, unsigned blocks, unsigned block_bytes, unsigned widest, unsigned sets,
+                     unsigned conflicts, unsigned burst, unsigned requesters, unsigned apart, unsigned stores, unsigned partial,
+                     unsigned long long seed, unsigned long long number, unsigned *requester, unsigned *size,
+                     unsigned long long *turn, unsigned long long *address, unsigned long long *enables, uint32_t *data) {
+    kroft_plan plan = {base, blocks, block_bytes, widest, sets, conflicts, burst, requesters, apart, stores, partial};
+    kroft_access access = {0, 0, 0, 0, 0};
+    uint8_t bytes[64] = {0};
+    int is_drawn = kroft_traffic(&plan, seed, number, &access, bytes, sizeof bytes) == KROFT_DRAWN;
+    int i;
+    *requester = access.requester;
+    *size = access.length;
+    *turn = access.turn;
+    *address = access.address;
+    *enables = access.enables;
+    for (i = 0; i < 16; i++)
+        data[i] = bytes[4 * i] | (uint32_t)bytes[4 * i + 1] << 8 | (uint32_t)bytes[4 * i + 2] << 16 | (uint32_t)bytes[4 * i + 3] << 24;
+    return is_drawn;
+}

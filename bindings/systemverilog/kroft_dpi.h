@@ -57,6 +57,13 @@ int kroft_sv_unanswered(void *judge);
 /* What the last call said, as one line. It stands until the next call. */
 const char *kroft_sv_text(void *judge);
 
+/* The access of a number in the traffic of a plan and a seed, as kroft.h describes them: 64 bytes of data, byte 0 in the
+   lowest bits. Returns 1; or 0, and all is 0, if one of the plan's numbers isn't as described. */
+int kroft_sv_traffic(unsigned long long base, unsigned blocks, unsigned block_bytes, unsigned widest, unsigned sets,
+                     unsigned conflicts, unsigned burst, unsigned requesters, unsigned apart, unsigned stores, unsigned partial,
+                     unsigned long long seed, unsigned long long number, unsigned *requester, unsigned *size,
+                     unsigned long long *turn, unsigned long long *address, unsigned long long *enables, uint32_t *data);
+
 #ifdef __cplusplus
 }
 #endif

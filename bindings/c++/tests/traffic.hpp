@@ -1,7 +1,9 @@
 // Random requests from a seed, of the kind that finds bugs in caches: most go to a few lines that share sets,
-// in bursts, so that bytes of one word are loaded and stored by turns.
+// in bursts, so that bytes of one word are loaded and stored by turns. Half of them are the library's traffic, and
+// the others may begin at any byte, and run over the end of a line.
 #pragma once
 
+#include "../kroft.hpp"
 #include "replay_cache.hpp"
 
 #include <random>
@@ -10,13 +12,37 @@ namespace replay {
 
 class Traffic {
 public:
-    explicit Traffic(uint64_t seed) : random(seed) {}
+    explicit Traffic(uint64_t seed) : random(seed), planned(PLAN, seed) {}
 
-    Request next() {
+    Request next() { return ++count / 16 % 2 ? by_plan() : anywhere(); }
+
+private:
+    static constexpr uint64_t BASE = 0xffff'8000'0000'1000;
+    // (three lines for each of eight sets)
+    static constexpr kroft_plan PLAN = {BASE, 24, 64, 64, 8, 64, 4, 4, 0, 128, 96};
+    std::mt19937_64 random;
+    kroft::Traffic planned;
+    uint64_t near = BASE, count = 0;
+
+    uint64_t id() const { return (uint64_t{0xfeed} << 48) + count; }
+
+    Request by_plan() {
+        kroft::TrafficAccess access = planned(count);
+        Request request;
+        request.is_store = access.kind == kroft::Kind::Store;
+        request.id = id();
+        request.size = access.size;
+        request.address = access.address;
+        request.enables = request.is_store ? access.enables : kroft::ALL_BYTES;
+        request.data = access.data;
+        return request;
+    }
+
+    Request anywhere() {
         if (random() % 8 == 0) near = BASE + random() % 24 * 64; // three lines for each set
         Request request;
         request.is_store = random() % 2 == 0;
-        request.id = (uint64_t{0xfeed} << 48) + ++count;
+        request.id = id();
         request.size = random() % 4 ? 1u << random() % 4 : 1 + unsigned(random() % 64);
         request.address = near + random() % 64;
         request.enables = random() % 3 ? ~uint64_t{0} : random();
@@ -26,11 +52,6 @@ public:
         }
         return request;
     }
-
-private:
-    static constexpr uint64_t BASE = 0xffff'8000'0000'1000;
-    std::mt19937_64 random;
-    uint64_t near = BASE, count = 0;
 };
 
 } // namespace replay

@@ -1,9 +1,9 @@
 """Kroft for Python: does a memory answer as flat memory would, and a lockup-free cache to learn from.
 
 `History` judges the requests and responses of a memory system of yours, `FlatJudge` its accesses if each happens at its
-request, `StepJudge` single steps of words, and `Machine` is the cache. What goes wrong is an exception below
-`KroftError`, with its cause and name. All of it is libkroft's, by ctypes: `library.places` says where the library is
-looked for.
+request, `StepJudge` single steps of words, and `Machine` is the cache. `Traffic` makes the accesses of a test. What goes
+wrong is an exception below `KroftError`, with its cause and name. All of it is libkroft's, by ctypes: `library.places`
+says where the library is looked for.
 """
 
 from .errors import (
@@ -40,6 +40,7 @@ from .events import (
 from .history import History, HistoryFault, Law, NotLawful, Operation
 from .judge import FlatJudge, StepJudge
 from .machine import SHAPES, Field, Machine, Register, Shape, Target
+from .traffic import Traffic, TrafficAccess
 
 __version__ = "0.1.0"
 
@@ -78,10 +79,12 @@ __all__ = [
     "Serve",
     "Shape",
     "ShapeFault",
-    "Store",
     "StepJudge",
+    "Store",
     "Take",
     "Target",
+    "Traffic",
+    "TrafficAccess",
     "Unanswered",
     "Value",
 ]

@@ -66,6 +66,20 @@ class OperationRow(c.Structure):
     _fields_ = [("number", u64), ("address", u64), ("length", u64)]
 
 
+class PlanRow(c.Structure):
+    _fields_ = [
+        ("base", u64),
+        *(
+            (name, u32)
+            for name in ("blocks", "block_bytes", "widest", "sets", "conflicts", "burst", "requesters", "apart", "stores", "partial")
+        ),
+    ]
+
+
+class AccessRow(c.Structure):
+    _fields_ = [("requester", u32), ("length", u32), ("turn", u64), ("address", u64), ("enables", u64)]
+
+
 def places() -> Iterator[Path]:
     """Where the library may be, the first that counts first: the folder or file that KROFT_LIB names, and then nowhere
     else; the lib folder of the prefix that this Python or this package is installed in; dist/x86_64-linux of the
@@ -112,6 +126,8 @@ def declare(library: c.CDLL) -> c.CDLL:
         "kroft_register": [handle, u32, out],
         "kroft_field": [handle, u32, u32, out],
         "kroft_target": [handle, u32, u32, u32, out],
+        "kroft_traffic": [out, u64, u64, out, out, c.c_size_t],
+        "kroft_version": [out, c.c_size_t],
     }
     for name, types in signatures.items():
         function = getattr(library, name)
@@ -136,6 +152,13 @@ def library() -> c.CDLL:
         except (OSError, AttributeError) as error:
             raise LibraryMissing(f"{path}: {error}") from error
     return _loaded
+
+
+def version() -> str:
+    """The version of the library."""
+    text = c.create_string_buffer(16)
+    library().kroft_version(text, len(text))
+    return text.value.decode("ascii")
 
 
 def fast_step() -> Callable[..., int]:

@@ -8,6 +8,8 @@ import random
 from collections import deque
 from typing import Deque, Dict, List, NamedTuple, Optional, Tuple
 
+import kroft
+
 LINE = 64
 BASE = 0xFFFF_8000_0000_1000
 BUGS = ("stores first", "whole words", "stale refill", "lost answer")
@@ -22,10 +24,19 @@ class Request(NamedTuple):
 
 
 def traffic(seed: int, count: int) -> "list[Request]":
-    """Requests within lines, of which most share a few sets."""
+    """Requests within lines, of which most share a few sets. Half of them are the library's traffic; the others begin at
+    any byte."""
     chance = random.Random(seed)
+    planned = kroft.Traffic(
+        seed, base=BASE, blocks=24, block_bytes=LINE, widest=16, sets=8, conflicts=64, burst=4, requesters=4, stores=128, partial=96
+    )
     requests, line = [], BASE
     for id in range(count):
+        if id // 16 % 2:
+            access = planned[id]
+            enables = access.enables or (1 << access.size) - 1
+            requests.append(Request(id, access.address, access.size, enables, access.data))
+            continue
         bits = chance.getrandbits(64)
         if bits & 7 == 0:
             line = BASE + (bits >> 3) % 24 * LINE

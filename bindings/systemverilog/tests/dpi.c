@@ -1,5 +1,6 @@
 /* The functions of kroft_dpi.h against a model of bytes, which is this file's: random requests and answers, of which
    some are wrong. The status is 0 only if each is judged as the model says. */
+#include "kroft.h"
 #include "kroft_dpi.h"
 
 #include <stdio.h>
@@ -159,10 +160,34 @@ static void memory_stays(void) {
     kroft_sv_close(judge);
 }
 
+/* The access is that of the library, with its bytes from the lowest bits on; no plan leaves zeros. */
+static void traffic(void) {
+    kroft_plan plan = {0x1000, 8, 64, 64, 2, 32, 3, 5, 0, 200, 64};
+    kroft_access access;
+    unsigned long long number, turn, address, enables;
+    unsigned requester, size, block_bytes;
+    for (number = 0; number < 2000; number++)
+        for (block_bytes = 64; block_bytes >= 63; block_bytes--) {
+            uint8_t bytes[64] = {0};
+            uint32_t data[16];
+            int i, is_plan = block_bytes == 64, same;
+            memset(&access, 0, sizeof access);
+            plan.block_bytes = block_bytes;
+            kroft_traffic(&plan, 9, number, &access, bytes, sizeof bytes);
+            same = kroft_sv_traffic(0x1000, 8, block_bytes, 64, 2, 32, 3, 5, 0, 200, 64, 9, number, &requester, &size, &turn, &address,
+                                    &enables, data) == is_plan;
+            same = same && requester == access.requester && size == access.length && turn == access.turn &&
+                   address == access.address && enables == access.enables && is_plan == (size != 0);
+            for (i = 0; i < 64; i++) same = same && (data[i / 4] >> 8 * (i % 4) & 255) == bytes[i];
+            if (!same && wrong++ < 10) printf("access %llu of traffic is another one\n", number);
+        }
+}
+
 int main(void) {
     void *judge = kroft_sv_open(FIRST, LAST);
     long n;
     memory_stays();
+    traffic();
     for (n = 0; n < 1000000; n++) {
         if (random_bits() & 1) request(judge);
         else answer(judge);

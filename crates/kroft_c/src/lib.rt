@@ -1,14 +1,16 @@
-//! Kroft for C: the judge of one step of flat memory, the history behind a handle, and the machine behind
-//! one.
+//! Kroft for C: the judge of one step of flat memory, the history behind a handle, the machine behind
+//! one, and traffic for a bench.
 //!
-//! Each export is the call of its name in `flat_judge`, `history_handles` or `machine_handles`, and
-//! states its contract again. Every export is total: each number, each row and each length that C may pass has
+//! Each export but `kroft_version` is the call of its name in `flat_judge`, `history_handles`, `machine_handles` or
+//! `memory_traffic`, and states its contract again. Every export is total: each number, each row and each length that C may pass has
 //! an answer.
 #![tactic(auto)]
 
 mod history;
 mod judge;
 mod machine;
+mod traffic;
+mod version;
 mod views;
 
 pub use history::{
@@ -20,4 +22,6 @@ pub use judge::{
     kroft_flat_open, kroft_flat_owed, kroft_flat_step, kroft_flat_why, kroft_why_text,
 };
 pub use machine::{kroft_apply, kroft_free, kroft_open, kroft_pump, kroft_settled, kroft_weight};
+pub use traffic::kroft_traffic;
+pub use version::kroft_version;
 pub use views::{kroft_bank_word, kroft_field, kroft_register, kroft_target};

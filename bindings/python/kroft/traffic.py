@@ -1,0 +1,75 @@
+"""Random loads and stores that caches find hard, from a seed."""
+
+import ctypes as c
+from typing import Iterator, NamedTuple
+
+from .library import AccessRow, PlanRow, library
+
+_DRAWN = 0
+_WIDEST = 64
+
+
+class TrafficAccess(NamedTuple):
+    """A load or a store of some bytes of one block."""
+
+    number: int
+    requester: int  #: who asks
+    turn: int  #: how many accesses this requester had before
+    address: int
+    size: int
+    enables: int  #: the bytes that a store writes: bit `k` is its byte `k`; 0: a load
+    data: bytes  #: what a store writes; of a load, nothing
+
+    @property
+    def is_store(self) -> bool:
+        return self.enables != 0
+
+
+class Traffic:
+    """The traffic of a plan and a seed: `traffic[n]` is the access of a number, and iterating gives them all, for ever.
+
+    Shares are in 256ths. `ValueError`: one of the numbers isn't as `kroft.h` describes it.
+
+    >>> traffic = Traffic(seed=1, base=0x1000, blocks=16, block_bytes=64, requesters=2)
+    >>> traffic[5].requester, traffic[5].turn
+    (1, 2)
+    """
+
+    def __init__(
+        self,
+        seed: int,
+        *,
+        base: int = 0,
+        blocks: int,
+        block_bytes: int,
+        widest: int = 8,
+        sets: int = 1,
+        conflicts: int = 0,
+        burst: int = 1,
+        requesters: int = 1,
+        apart: bool = False,
+        stores: int = 128,
+        partial: int = 64,
+    ) -> None:
+        numbers = (base, blocks, block_bytes, widest, sets, conflicts, burst, requesters, int(apart), stores, partial)
+        if not 0 <= seed < 2**64 or not 0 <= base < 2**64 or any(not 0 <= it < 2**32 for it in numbers[1:]):
+            raise ValueError("no plan of traffic: a number is too large")
+        self._library = library()
+        self._plan = PlanRow(*numbers)
+        self._seed = seed
+        self[0]
+
+    def __getitem__(self, number: int) -> TrafficAccess:
+        if not 0 <= number < 2**64:
+            raise IndexError(number)
+        row, data = AccessRow(), c.create_string_buffer(_WIDEST)
+        if self._library.kroft_traffic(c.byref(self._plan), self._seed, number, c.byref(row), data, _WIDEST) != _DRAWN:
+            raise ValueError("no plan of traffic")
+        stored = data.raw[: row.length] if row.enables else b""
+        return TrafficAccess(number, row.requester, row.turn, row.address, row.length, row.enables, stored)
+
+    def __iter__(self) -> Iterator[TrafficAccess]:
+        number = 0
+        while True:
+            yield self[number]
+            number += 1

@@ -1,0 +1,124 @@
+"""Traffic: against the generator written down once more, and what holds of each access."""
+
+import itertools
+import unittest
+from typing import Dict, List, Tuple
+
+import kroft
+from kroft.library import version
+
+MASK = 2**64 - 1
+
+
+class Pcg32:
+    """PCG XSH RR 64/32, as its author publishes it."""
+
+    def __init__(self, state: int, stream: int) -> None:
+        self.increment = (stream << 1 | 1) & MASK
+        self.state = state + self.increment & MASK
+        self.step()
+
+    def step(self) -> None:
+        self.state = self.state * 6364136223846793005 + self.increment & MASK
+
+    def word(self) -> int:
+        state = self.state
+        self.step()
+        mixed, turned = ((state >> 18 ^ state) >> 27) & 0xFFFFFFFF, state >> 59
+        return (mixed >> turned | mixed << (32 - turned)) & 0xFFFFFFFF
+
+
+Plan = Dict[str, int]
+LINES: Plan = dict(base=0x1000, blocks=24, block_bytes=64, widest=16, sets=8, conflicts=64, burst=4, requesters=3, stores=100, partial=90)
+BYTES: Plan = dict(base=2**64 - 64 * 8, blocks=8, block_bytes=64, widest=64, sets=2, conflicts=128, burst=5, requesters=7, apart=1, stores=256, partial=0)
+ONE: Plan = dict(base=0, blocks=1, block_bytes=1, widest=1, requesters=1, stores=200, partial=256)
+PLANS = (LINES, BYTES, ONE)
+
+
+def expected(plan: Plan, seed: int, number: int) -> Tuple[int, int, int, int, int, bytes]:
+    """Requester, turn, address, size, enables and data, by the words of kroft.h and the order of the draws."""
+    p = dict(sets=1, conflicts=0, burst=1, apart=0)
+    p.update(plan)
+    of_burst, own = Pcg32(seed, number // p["burst"]), Pcg32(MASK - seed, number)
+    block = of_burst.word() % p["blocks"]
+    if of_burst.word() % 256 < p["conflicts"]:
+        block -= block % p["sets"]
+    place, pick = own.word(), own.word()
+    chosen = own.word() | own.word() << 32
+    requester = number % p["requesters"]
+    if p["apart"]:
+        size = 1
+        offset = place % (p["block_bytes"] // p["requesters"]) * p["requesters"] + requester
+    else:
+        size = max(1, p["widest"] >> pick % 4)
+        offset = place % (p["block_bytes"] // size) * size
+    enables = 0
+    if pick // 4 % 256 < p["stores"]:
+        enables = (1 << size) - 1
+        if pick // 1024 % 256 < p["partial"]:
+            enables &= chosen
+    data = b"".join(own.word().to_bytes(4, "little") for _ in range(16))
+    address = p["base"] + block * p["block_bytes"] + offset
+    return requester, number // p["requesters"], address, size, enables, data[:size] if enables else b""
+
+
+def told(access: kroft.TrafficAccess) -> Tuple[int, int, int, int, int, bytes]:
+    return access.requester, access.turn, access.address, access.size, access.enables, access.data
+
+
+class Accesses(unittest.TestCase):
+    def test_the_published_first_words(self) -> None:
+        generator = Pcg32(42, 54)
+        self.assertEqual([generator.word() for _ in range(3)], [0xA15C02B7, 0x7B47F409, 0xBA1D3330])
+
+    def test_each_access_is_drawn_as_described(self) -> None:
+        for plan in PLANS:
+            for seed in (0, 1, 0x5EED, MASK):
+                traffic = kroft.Traffic(seed, **plan)  # type: ignore[arg-type]
+                for number in [*range(300), 2**32 - 1, 2**32, MASK]:
+                    with self.subTest(plan=plan, seed=seed, number=number):
+                        self.assertEqual(told(traffic[number]), expected(plan, seed, number))
+
+    def test_what_a_plan_promises(self) -> None:
+        for plan in PLANS:
+            for access in itertools.islice(kroft.Traffic(7, **plan), 3000):  # type: ignore[arg-type]
+                first, past = plan["base"], plan["base"] + plan["blocks"] * plan["block_bytes"]
+                self.assertTrue(first <= access.address and access.address + access.size <= past)
+                self.assertEqual((access.address - first) // plan["block_bytes"], (access.address + access.size - 1 - first) // plan["block_bytes"])
+                self.assertLess(access.enables, 1 << access.size)
+                if plan.get("apart"):
+                    self.assertEqual((access.address - first) % plan["block_bytes"] % plan["requesters"], access.requester)
+
+    def test_shares_bursts_and_turns(self) -> None:
+        accesses: List[kroft.TrafficAccess] = list(itertools.islice(kroft.Traffic(3, **LINES), 12000))  # type: ignore[arg-type]
+        # (100 of 256, but for stores of one byte that leave it out)
+        self.assertTrue(0.34 < sum(it.is_store for it in accesses) / len(accesses) < 0.42)
+        blocks = [(it.address - 0x1000) // 64 for it in accesses]
+        self.assertTrue(all(len(set(blocks[at : at + 4])) == 1 for at in range(0, 12000, 4)))
+        # (a quarter of the bursts, and an eighth of the others)
+        self.assertTrue(0.29 < sum(it % 8 == 0 for it in blocks) / len(blocks) < 0.40)
+        self.assertEqual(set(blocks), set(range(24)))
+        for requester in range(3):
+            own = [it.turn for it in accesses if it.requester == requester]
+            self.assertEqual(own, list(range(4000)))
+
+    def test_numbers_that_are_no_plan(self) -> None:
+        for change in (
+            {"blocks": 0}, {"block_bytes": 0}, {"widest": 0}, {"widest": 3}, {"widest": 128}, {"sets": 0}, {"burst": 0}, {"requesters": 0},
+            {"base": 0x1001}, {"base": 2**64 - 64}, {"block_bytes": 24}, {"base": 2**64}, {"stores": -1}, {"blocks": 2**32},
+            {"apart": True, "requesters": 65},
+        ):
+            with self.subTest(change=change), self.assertRaises(ValueError):
+                kroft.Traffic(1, **{**LINES, **change})  # type: ignore[arg-type]
+        kroft.Traffic(1, **{**LINES, "apart": True, "requesters": 64})  # type: ignore[arg-type]
+        with self.assertRaises(IndexError):
+            kroft.Traffic(1, **LINES)[2**64]  # type: ignore[arg-type]
+
+
+class Versions(unittest.TestCase):
+    def test_the_library_is_of_this_package(self) -> None:
+        self.assertEqual(version(), kroft.__version__)
+
+
+if __name__ == "__main__":
+    unittest.main()

@@ -1,0 +1,2 @@
+-- what the library tells of itself
+pub mod Version

@@ -1,0 +1,6 @@
+-- What the library tells of itself.
+use Rattle.std.specs.Prelude.{ℕ, List, codes}
+
+-- the version
+unfoldable pub version : List ℕ
+version = codes "0.1.0"

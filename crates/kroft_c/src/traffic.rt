@@ -1,0 +1,27 @@
+//! Traffic for a test bench.
+ghost use Rattle.std.specs.Prelude.{◌≡◌, length};
+ghost use Rattle.memory_traffic.specs.Traffic.{access_of, bytes_behind, row_behind, status_of};
+
+use memory_traffic::{Access, Plan};
+
+/// Writes the access of a number, under a seed, and the bytes of a store.
+///
+/// 0: `access` is the access, and if it is a store, `bytes` begins with its bytes. 1: a number of the
+/// plan isn't as its description says. 2: `bytes` has fewer bytes than the widest access. After 1 and 2
+/// all is as it was. A plan that says nothing is told first. It takes no memory, and equal arguments
+/// have equal answers.
+#[unsafe(no_mangle)]
+pub extern "C" fn kroft_traffic(
+    plan: &Plan,
+    seed: u64,
+    number: u64,
+    access: &mut Access,
+    bytes: &mut [u8],
+) -> u32
+    ensures status { result ≡ status_of plan.now (length bytes.old) }
+    ensures access { access.new ≡ row_behind access.old result (access_of plan.now seed number) }
+    ensures bytes { bytes.new
+        ≡ bytes_behind bytes.old result seed number (access_of plan.now seed number) }
+{
+    memory_traffic::traffic(plan, seed, number, access, bytes)
+}

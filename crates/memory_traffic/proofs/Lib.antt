@@ -1,0 +1,2 @@
+-- what follows from a plan's numbers
+pub mod Standing

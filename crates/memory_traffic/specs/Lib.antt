@@ -1,0 +1,4 @@
+-- what a plan says
+pub mod Plan
+-- the access of each number
+pub mod Traffic
