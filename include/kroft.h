@@ -471,52 +471,6 @@ typedef struct {
 uint32_t kroft_unanswered_load(kroft_history *handle, uint64_t n, kroft_operation *operation);
 uint32_t kroft_unanswered_store(kroft_history *handle, uint64_t n, kroft_operation *operation);
 
-/* ---- the layout that the library was built with ------------------------------------------------ */
-
-#if defined(__cplusplus)
-#define KROFT_ASSERT(name, holds) static_assert(holds, #name)
-#elif defined(__STDC_VERSION__) && __STDC_VERSION__ >= 201112L
-#define KROFT_ASSERT(name, holds) _Static_assert(holds, #name)
-#else
-#define KROFT_ASSERT(name, holds) typedef char kroft_assert_##name[(holds) ? 1 : -1]
-#endif
-
-KROFT_ASSERT(word_size, sizeof(kroft_word) == 4);
-KROFT_ASSERT(event_size, sizeof(kroft_event) == 20);
-KROFT_ASSERT(event_tag, offsetof(kroft_event, tag) == 4);
-KROFT_ASSERT(event_lanes, offsetof(kroft_event, lanes) == 6);
-KROFT_ASSERT(event_at, offsetof(kroft_event, at) == 8);
-KROFT_ASSERT(event_place, offsetof(kroft_event, place) == 12);
-KROFT_ASSERT(event_word, offsetof(kroft_event, word) == 16);
-KROFT_ASSERT(answer_size, sizeof(kroft_answer) == 16);
-KROFT_ASSERT(answer_cause, offsetof(kroft_answer, cause) == 4);
-KROFT_ASSERT(answer_tag, offsetof(kroft_answer, tag) == 8);
-KROFT_ASSERT(answer_word, offsetof(kroft_answer, word) == 10);
-KROFT_ASSERT(due_size, sizeof(kroft_due) == 8);
-KROFT_ASSERT(due_word, offsetof(kroft_due, word) == 4);
-KROFT_ASSERT(handle_size, sizeof(kroft_handle) == 16);
-KROFT_ASSERT(handle_at, offsetof(kroft_handle, at) == 8);
-KROFT_ASSERT(history_size, sizeof(kroft_history) == 16);
-KROFT_ASSERT(history_at, offsetof(kroft_history, at) == 8);
-KROFT_ASSERT(operation_size, sizeof(kroft_operation) == 24);
-KROFT_ASSERT(operation_address, offsetof(kroft_operation, address) == 8);
-KROFT_ASSERT(operation_length, offsetof(kroft_operation, length) == 16);
-KROFT_ASSERT(shape_size, sizeof(kroft_shape) == 40);
-KROFT_ASSERT(shape_words, offsetof(kroft_shape, words) == 16);
-KROFT_ASSERT(shape_replies, offsetof(kroft_shape, replies) == 36);
-KROFT_ASSERT(register_size, sizeof(kroft_register_view) == 20);
-KROFT_ASSERT(register_processed, offsetof(kroft_register_view, processed) == 16);
-KROFT_ASSERT(field_size, sizeof(kroft_field_view) == 24);
-KROFT_ASSERT(field_tag, offsetof(kroft_field_view, tag) == 16);
-KROFT_ASSERT(field_code, offsetof(kroft_field_view, code) == 18);
-KROFT_ASSERT(field_held_lanes, offsetof(kroft_field_view, held_lanes) == 19);
-KROFT_ASSERT(field_held, offsetof(kroft_field_view, held) == 20);
-KROFT_ASSERT(target_size, sizeof(kroft_target_view) == 8);
-KROFT_ASSERT(target_lanes, offsetof(kroft_target_view, lanes) == 2);
-KROFT_ASSERT(target_held, offsetof(kroft_target_view, held) == 3);
-
-#undef KROFT_ASSERT
-
 /* ---- traffic ----------------------------------------------------------------------------------- */
 
 /*
@@ -579,6 +533,58 @@ uint32_t kroft_traffic(const kroft_plan *plan, uint64_t seed, uint64_t number, k
  * fit, the buffer is as it was. A client that finds the library at run time compares it with KROFT_VERSION.
  */
 uint32_t kroft_version(char *text, size_t ntext);
+
+/* ---- the layout that the library was built with ------------------------------------------------ */
+
+#if defined(__cplusplus)
+#define KROFT_ASSERT(name, holds) static_assert(holds, #name)
+#elif defined(__STDC_VERSION__) && __STDC_VERSION__ >= 201112L
+#define KROFT_ASSERT(name, holds) _Static_assert(holds, #name)
+#else
+#define KROFT_ASSERT(name, holds) typedef char kroft_assert_##name[(holds) ? 1 : -1]
+#endif
+
+KROFT_ASSERT(word_size, sizeof(kroft_word) == 4);
+KROFT_ASSERT(event_size, sizeof(kroft_event) == 20);
+KROFT_ASSERT(event_tag, offsetof(kroft_event, tag) == 4);
+KROFT_ASSERT(event_lanes, offsetof(kroft_event, lanes) == 6);
+KROFT_ASSERT(event_at, offsetof(kroft_event, at) == 8);
+KROFT_ASSERT(event_place, offsetof(kroft_event, place) == 12);
+KROFT_ASSERT(event_word, offsetof(kroft_event, word) == 16);
+KROFT_ASSERT(answer_size, sizeof(kroft_answer) == 16);
+KROFT_ASSERT(answer_cause, offsetof(kroft_answer, cause) == 4);
+KROFT_ASSERT(answer_tag, offsetof(kroft_answer, tag) == 8);
+KROFT_ASSERT(answer_word, offsetof(kroft_answer, word) == 10);
+KROFT_ASSERT(due_size, sizeof(kroft_due) == 8);
+KROFT_ASSERT(due_word, offsetof(kroft_due, word) == 4);
+KROFT_ASSERT(handle_size, sizeof(kroft_handle) == 16);
+KROFT_ASSERT(handle_at, offsetof(kroft_handle, at) == 8);
+KROFT_ASSERT(history_size, sizeof(kroft_history) == 16);
+KROFT_ASSERT(history_at, offsetof(kroft_history, at) == 8);
+KROFT_ASSERT(operation_size, sizeof(kroft_operation) == 24);
+KROFT_ASSERT(operation_address, offsetof(kroft_operation, address) == 8);
+KROFT_ASSERT(operation_length, offsetof(kroft_operation, length) == 16);
+KROFT_ASSERT(shape_size, sizeof(kroft_shape) == 40);
+KROFT_ASSERT(shape_words, offsetof(kroft_shape, words) == 16);
+KROFT_ASSERT(shape_replies, offsetof(kroft_shape, replies) == 36);
+KROFT_ASSERT(register_size, sizeof(kroft_register_view) == 20);
+KROFT_ASSERT(register_processed, offsetof(kroft_register_view, processed) == 16);
+KROFT_ASSERT(field_size, sizeof(kroft_field_view) == 24);
+KROFT_ASSERT(field_tag, offsetof(kroft_field_view, tag) == 16);
+KROFT_ASSERT(field_code, offsetof(kroft_field_view, code) == 18);
+KROFT_ASSERT(field_held_lanes, offsetof(kroft_field_view, held_lanes) == 19);
+KROFT_ASSERT(field_held, offsetof(kroft_field_view, held) == 20);
+KROFT_ASSERT(target_size, sizeof(kroft_target_view) == 8);
+KROFT_ASSERT(target_lanes, offsetof(kroft_target_view, lanes) == 2);
+KROFT_ASSERT(target_held, offsetof(kroft_target_view, held) == 3);
+KROFT_ASSERT(plan_size, sizeof(kroft_plan) == 48);
+KROFT_ASSERT(plan_blocks, offsetof(kroft_plan, blocks) == 8);
+KROFT_ASSERT(plan_partial, offsetof(kroft_plan, partial) == 44);
+KROFT_ASSERT(access_size, sizeof(kroft_access) == 32);
+KROFT_ASSERT(access_turn, offsetof(kroft_access, turn) == 8);
+KROFT_ASSERT(access_enables, offsetof(kroft_access, enables) == 24);
+
+#undef KROFT_ASSERT
 
 #ifdef __cplusplus
 }

@@ -44,6 +44,9 @@ static void accesses(void) {
     plan.widest = 8;
     CHECK(kroft_traffic(&plan, seed, 54, &access, bytes, 16) == KROFT_DRAWN);
     CHECK(access.length == 4 && access.address == 0x1000 + 28 && access.enables == 0 && memcmp(bytes, as_was, 64) == 0);
+    plan.requesters = 7;
+    CHECK(kroft_traffic(&plan, seed, 54, &access, bytes, 16) == KROFT_DRAWN && access.requester == 5 && access.turn == 7);
+    plan.requesters = 10;
     plan.apart = 1;
     CHECK(kroft_traffic(&plan, seed, 54, &access, bytes, 16) == KROFT_DRAWN);
     /* (a15c02b7 modulo the six bytes that each has is 3) */

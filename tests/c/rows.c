@@ -1,0 +1,210 @@
+/* Each member of each row is what it is called: every row is written, and read back through the library, with values that
+   all differ, so that two members that changed places would be seen. */
+#include "check.h"
+#include "kroft.h"
+
+#include <string.h>
+
+enum { WORDS = 48 };
+
+/* 4 sets, and 5 banks; all numbers but those of the list differ. */
+static const kroft_shape shape = {2, 4, 8, 4, WORDS, 4, 5, 7, 9, 11};
+static kroft_word image[WORDS];
+
+static kroft_word word(unsigned b0, unsigned b1, unsigned b2, unsigned b3) {
+    kroft_word w;
+    w.b[0] = (uint8_t)b0;
+    w.b[1] = (uint8_t)b1;
+    w.b[2] = (uint8_t)b2;
+    w.b[3] = (uint8_t)b3;
+    return w;
+}
+
+static int same(kroft_word w, unsigned b0, unsigned b1, unsigned b2, unsigned b3) {
+    return w.b[0] == b0 && w.b[1] == b1 && w.b[2] == b2 && w.b[3] == b3;
+}
+
+/* An event in whose row the members that its kind doesn't read hold something, too. */
+static kroft_event event(uint32_t kind, uint16_t tag, uint8_t lanes, uint32_t at, uint32_t place, kroft_word w) {
+    kroft_event e;
+    e.kind = kind;
+    e.tag = tag;
+    e.lanes = lanes;
+    e.at = at;
+    e.place = place;
+    e.word = w;
+    return e;
+}
+
+static kroft_event load(uint16_t tag, uint32_t at) { return event(KROFT_LOAD, tag, 6, at, 77, word(91, 92, 93, 94)); }
+static kroft_event store(uint32_t at, uint8_t lanes, kroft_word w) { return event(KROFT_STORE, 501, lanes, at, 78, w); }
+static kroft_event move(uint32_t kind, uint32_t at, uint32_t place) {
+    return event(kind, 502, 9, at, place, word(95, 96, 97, 98));
+}
+
+static uint32_t kind_of(kroft_handle *handle, kroft_event e) {
+    kroft_answer a;
+    CHECK(kroft_apply(handle, &e, &a) == KROFT_DONE);
+    return a.kind;
+}
+
+static kroft_answer answer_to(kroft_handle *handle, kroft_event e) {
+    kroft_answer a;
+    memset(&a, 0xff, sizeof a);
+    CHECK(kroft_apply(handle, &e, &a) == KROFT_DONE);
+    return a;
+}
+
+static kroft_handle opened(void) {
+    kroft_handle handle = KROFT_NO_MACHINE;
+    unsigned n;
+    for (n = 0; n < WORDS; n++) image[n] = word(n, n + 50, n + 100, n + 150);
+    CHECK(kroft_open(&handle, &shape, image, WORDS) == KROFT_DONE);
+    return handle;
+}
+
+/* The first four numbers change places only to a row that isn't listed. Of the others each has a fault of its own. */
+static void shapes(void) {
+    static const uint32_t listed[2][4] = {{1, 4, 1, 1}, {2, 4, 8, 4}};
+    kroft_handle handle = KROFT_NO_MACHINE;
+    kroft_word w;
+    unsigned n, one, other;
+    for (n = 0; n < 2; n++)
+        for (one = 0; one < 4; one++)
+            for (other = 0; other < one; other++) {
+                uint32_t row[4];
+                kroft_shape s = shape;
+                memcpy(row, listed[n], sizeof row);
+                row[one] = listed[n][other];
+                row[other] = listed[n][one];
+                s.ways = row[0];
+                s.block_words = row[1];
+                s.regs = row[2];
+                s.depth = row[3];
+                if (row[one] == row[other]) continue;
+                CHECK(kroft_open(&handle, &s, image, WORDS) == KROFT_NOT_LISTED);
+            }
+    for (n = 0; n < 6; n++) {
+        kroft_shape s = shape;
+        if (n == 0) s.words = 0;
+        if (n == 1) s.sets = 0;
+        if (n == 2) s.banks = 0;
+        if (n == 3) s.bank_queue = 0;
+        if (n == 4) s.write_queue = 0;
+        if (n == 5) s.replies = 0;
+        CHECK(kroft_open(&handle, &s, image, WORDS) == KROFT_BAD_WORDS + n);
+    }
+    handle = opened();
+    CHECK(kroft_bank_word(&handle, WORDS - 1, &w) == KROFT_FOUND && same(w, 47, 97, 147, 197));
+    CHECK(kroft_bank_word(&handle, WORDS, &w) == KROFT_NONE);
+    CHECK(kroft_free(&handle) == KROFT_DONE);
+}
+
+/* A block on its way: block 7, which lies in set 3 and begins with word 28, in bank 3. */
+static void views(void) {
+    kroft_handle handle = opened();
+    kroft_register_view r;
+    kroft_field_view f;
+    kroft_target_view t;
+    CHECK(kind_of(&handle, store(29, 5, word(61, 62, 63, 64))) == KROFT_ACCEPTED);
+    CHECK(kind_of(&handle, load(258, 29)) == KROFT_ACCEPTED);
+    CHECK(kind_of(&handle, store(29, 2, word(71, 72, 73, 74))) == KROFT_ACCEPTED);
+    CHECK(kind_of(&handle, load(259, 29)) == KROFT_ACCEPTED);
+    CHECK(kind_of(&handle, load(260, 29)) == KROFT_ACCEPTED);
+    /* word 28 is processed, word 30 stands in the stack, 29 and 31 are on their way */
+    CHECK(kind_of(&handle, move(KROFT_SERVE, 3, 0)) == KROFT_MOVED);
+    CHECK(kind_of(&handle, move(KROFT_ARRIVE, 3, 0)) == KROFT_MOVED);
+    CHECK(kind_of(&handle, move(KROFT_PROCESS, 1, 0)) == KROFT_MOVED);
+    CHECK(kind_of(&handle, move(KROFT_SERVE, 0, 3)) == KROFT_MOVED);
+    CHECK(kind_of(&handle, move(KROFT_ARRIVE, 0, 0)) == KROFT_MOVED);
+    CHECK(kroft_register(&handle, 0, &r) == KROFT_FOUND);
+    CHECK(r.valid == 1 && r.obsolete == 0 && r.block == 7 && r.frame == 6 && r.processed == 1);
+    CHECK(kroft_field(&handle, 0, 0, &f) == KROFT_FOUND);
+    CHECK(f.send == 0 && f.in_stack == 0 && f.processed == 1 && f.targets == 0 && f.code == 0);
+    CHECK(kroft_field(&handle, 0, 2, &f) == KROFT_FOUND);
+    CHECK(f.send == 0 && f.in_stack == 1 && f.processed == 0 && f.targets == 0 && f.code == 0);
+    CHECK(kroft_field(&handle, 0, 1, &f) == KROFT_FOUND);
+    CHECK(f.send == 1 && f.in_stack == 0 && f.processed == 0);
+    CHECK(f.targets == 3 && f.tag == 258 && f.code == 7 && f.held_lanes == 5 && f.held.b[0] == 61 && f.held.b[2] == 63);
+    CHECK(kroft_target(&handle, 0, 1, 2, &t) == KROFT_FOUND);
+    CHECK(t.tag == 260 && t.lanes == 7 && t.held.b[0] == 61 && t.held.b[1] == 72 && t.held.b[2] == 63);
+    CHECK(kroft_target(&handle, 0, 2, 1, &t) == KROFT_NONE && kroft_field(&handle, 1, 8, &f) == KROFT_NONE);
+    /* given up: the register stays, without a frame */
+    CHECK(kind_of(&handle, move(KROFT_EVICT, 7, 1)) == KROFT_ACCEPTED);
+    CHECK(kroft_register(&handle, 0, &r) == KROFT_FOUND);
+    CHECK(r.valid == 1 && r.obsolete == 1 && r.block == 7 && r.frame == 0 && r.processed == 1);
+    CHECK(kroft_free(&handle) == KROFT_DONE);
+}
+
+/* A value has its tag and its word, a refusal its cause; what an answer of its kind doesn't name is 0. */
+static void answers(void) {
+    kroft_handle handle = opened();
+    kroft_answer a;
+    CHECK(kind_of(&handle, load(258, 29)) == KROFT_ACCEPTED);
+    a = answer_to(&handle, load(258, 30));
+    CHECK(a.kind == KROFT_REFUSED && a.cause == KROFT_TAG_IN_USE && a.tag == 0 && same(a.word, 0, 0, 0, 0));
+    /* word 29 lies in bank 4, whose answer comes to the first place of the stack */
+    CHECK(kind_of(&handle, move(KROFT_SERVE, 4, 1)) == KROFT_MOVED);
+    CHECK(kind_of(&handle, move(KROFT_ARRIVE, 0, 4)) == KROFT_NOTHING);
+    CHECK(kind_of(&handle, move(KROFT_ARRIVE, 4, 0)) == KROFT_MOVED);
+    CHECK(kind_of(&handle, move(KROFT_PROCESS, 0, 1)) == KROFT_NOTHING);
+    CHECK(kind_of(&handle, move(KROFT_PROCESS, 1, 0)) == KROFT_MOVED);
+    CHECK(kind_of(&handle, move(KROFT_TAKE, 0, 1)) == KROFT_NOTHING);
+    a = answer_to(&handle, move(KROFT_TAKE, 1, 0));
+    CHECK(a.kind == KROFT_VALUE && a.cause == 0 && a.tag == 258 && same(a.word, 29, 79, 129, 179));
+    CHECK(kroft_free(&handle) == KROFT_DONE);
+}
+
+/* The driver's events have the bank in `at` and the place in `place`. */
+static void pumped(void) {
+    kroft_handle handle = opened();
+    kroft_event e;
+    kroft_answer a;
+    CHECK(kind_of(&handle, load(258, 18)) == KROFT_ACCEPTED);
+    CHECK(kroft_pump(&handle, &e, &a) == KROFT_FOUND && a.kind == KROFT_MOVED);
+    /* block 4 begins with word 16, in bank 1; the lowest bank with a command is bank 1 */
+    CHECK(e.kind == KROFT_SERVE && e.at == 1 && e.place == 0 && e.tag == 0 && e.lanes == 0 && same(e.word, 0, 0, 0, 0));
+    CHECK(kroft_free(&handle) == KROFT_DONE);
+}
+
+/* The judge reads the tag, the word and the lanes of its rows, and an entry of the table says what is owed. */
+static void judged(void) {
+    static kroft_due due[KROFT_TAGS];
+    kroft_word words[3] = {{{1, 2, 3, 4}}, {{5, 6, 7, 8}}, {{9, 10, 11, 12}}}, owed = {{0, 0, 0, 0}};
+    kroft_event e = load(258, 2);
+    kroft_answer a = {KROFT_ACCEPTED, 11, 503, {{41, 42, 43, 44}}};
+    uint16_t tag = 0;
+    CHECK(kroft_flat_step(words, 3, due, KROFT_TAGS, &e, &a) == KROFT_FLAT);
+    CHECK(due[258].owed == 1 && same(due[258].word, 9, 10, 11, 12));
+    CHECK(kroft_flat_open(due, KROFT_TAGS, 0, &tag) == 1 && tag == 258);
+    e = store(2, 6, word(31, 32, 33, 34));
+    CHECK(kroft_flat_step(words, 3, due, KROFT_TAGS, &e, &a) == KROFT_FLAT && same(words[2], 9, 32, 33, 12));
+    e = move(KROFT_TAKE, 5, 6);
+    a.kind = KROFT_VALUE;
+    a.tag = 258;
+    CHECK(kroft_flat_why(words, 3, due, KROFT_TAGS, &e, &a, &owed) == KROFT_WHY_WRONG_WORD && same(owed, 9, 10, 11, 12));
+    a.word = owed;
+    CHECK(kroft_flat_step(words, 3, due, KROFT_TAGS, &e, &a) == KROFT_FLAT && due[258].owed == 0);
+}
+
+static void operations(void) {
+    kroft_history history = KROFT_NO_HISTORY;
+    kroft_operation it;
+    const uint8_t bytes[3] = {81, 82, 83};
+    CHECK(kroft_history_open(&history, KROFT_REGULAR_LAW, 1, KROFT_ZEROS, bytes, 3) == KROFT_DONE);
+    CHECK(kroft_load_request(&history, 601, 702, 8) == KROFT_LAWFUL);
+    CHECK(kroft_store_request(&history, 603, 704, bytes, 3, 7) == KROFT_LAWFUL);
+    CHECK(kroft_unanswered_load(&history, 0, &it) == KROFT_FOUND && it.number == 601 && it.address == 702 && it.length == 8);
+    CHECK(kroft_unanswered_store(&history, 0, &it) == KROFT_FOUND && it.number == 603 && it.address == 704 && it.length == 3);
+    CHECK(kroft_history_free(&history) == KROFT_DONE);
+}
+
+int main(void) {
+    shapes();
+    views();
+    answers();
+    pumped();
+    judged();
+    operations();
+    return checks_end("rows");
+}
