@@ -40,7 +40,7 @@ use Rattle.history_laws.proofs.Words.{lane_map, zero_plus, lane_word, stored_ins
 -- What stands at an address. ----
 
 -- what is known of a byte that is owed
-abbrev known : Owed → Option ℕ
+abbrev pub known : Owed → Option ℕ
 known owed.Unknown = None
 known (owed.Initial b) = Some b
 known (owed.Stored b store) = Some b
@@ -60,11 +60,11 @@ stood_none None = refl
 stood_none (Some b) = refl
 
 -- a byte that a store writes, or what was there
-abbrev chosen : (ℕ → Owed) → Option ℕ → Owed → Owed
+abbrev pub chosen : (ℕ → Owed) → Option ℕ → Owed → Owed
 chosen value (Some b) old = value b
 chosen value None old = old
 
-not_below : (a x : ℕ) (bs : List ℕ) (e : ℕ) → x < a → stored_byte a bs e x ≡ None
+pub not_below : (a x : ℕ) (bs : List ℕ) (e : ℕ) → x < a → stored_byte a bs e x ≡ None
 not_below a x bs e h = rw (lt-leb a x h) refl
 
 value_at : (t : Bool) (at : ℕ → Owed) (a : ℕ) (o : Owed) (x : ℕ) → (a == x) ≡ false → (if t then with_value at a o else at) x ≡ at x
@@ -106,11 +106,11 @@ written_at value a x b bs e at = elim (cases_lt x a) [
   ]
 ]
 
-bytes_at : (value : ℕ → Owed) (bs : List ℕ) (a x e : ℕ) (at : ℕ → Owed) → with_bytes at value a bs e x ≡ chosen value (stored_byte a bs e x) (at x)
+pub bytes_at : (value : ℕ → Owed) (bs : List ℕ) (a x e : ℕ) (at : ℕ → Owed) → with_bytes at value a bs e x ≡ chosen value (stored_byte a bs e x) (at x)
 bytes_at value [] a x e at = rw (nothing_stored a x e) refl
 bytes_at value (b ∷ bs) a x e at = bytes_at value bs (a + 1) x (e / 2) (if e % 2 == 1 then with_value at a (value b) else at) ∙ written_at value a x b bs e at
 
-known_chosen : (store : StoreName) (o : Option ℕ) (old : Owed) → known (chosen (λ b. owed.Stored b store) o old) ≡ written_byte o (known old)
+pub known_chosen : (store : StoreName) (o : Option ℕ) (old : Owed) → known (chosen (λ b. owed.Stored b store) o old) ≡ written_byte o (known old)
 known_chosen store (Some b) old = refl
 known_chosen store None old = refl
 

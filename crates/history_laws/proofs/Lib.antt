@@ -6,3 +6,4 @@ pub mod Fits
 pub mod Agrees
 pub mod Atomic
 pub mod Flat
+pub mod Told

@@ -6,7 +6,12 @@
 ghost use Rattle.std.specs.Prelude.{ℕ, List};
 ghost use Rattle.memory_histories.specs.declared.events.HistoryEvent.{HistoryEvent};
 ghost use Rattle.memory_histories.specs.declared.events.Rest.{Rest};
+ghost use Rattle.flat_model.specs.declared.Word.{Word};
+ghost use Rattle.flat_model.specs.declared.Event.{Event};
+ghost use Rattle.flat_model.specs.declared.Answer.{Answer};
+ghost use Rattle.cache_unit.specs.State.{Sizes};
 ghost use Rattle.history_laws.specs.Laws.{AtomicIsRegular, FlatIsAtomic, FlatIsRegular};
+ghost use Rattle.history_laws.specs.Told.{RunIsLawful, MachineIsLawful};
 
 /// An atomic history, in units of any size, is a regular one: the regular law blames nothing that the
 /// atomic one lets through.
@@ -23,4 +28,16 @@ pub fn flat_is_atomic()
 /// So a flat history is a regular one.
 pub fn flat_is_regular()
     ensures { (image : List ℕ) (rest : Rest) (history : List HistoryEvent) → FlatIsRegular image rest history }
+{}
+
+/// A run of flat memory over words is a history of all three laws, if each load is open from its
+/// acceptance, under its tag, to its value, and each store is answered at its acceptance.
+pub fn run_is_lawful()
+    ensures { (image : List Word) (size : ℕ) (events : List Event) (answers : List Answer) → RunIsLawful image size events answers }
+{}
+
+/// Whatever events come, what the machine answers is such a history: no judge of the three laws ever
+/// blames the machine.
+pub fn machine_is_lawful()
+    ensures { (z : Sizes) (image : List Word) (size : ℕ) (events : List Event) → MachineIsLawful z image size events }
 {}
