@@ -133,12 +133,11 @@ class Browser:
         if "loaderId" in said:
             self.wait_for("Page.loadEventFired")
 
-    def open_anew(self, url):
-        """The same for an address that may differ in its fragment alone. (A page that is left for another one costs more: its process
+    def reload_at(self, fragment):
+        """Loads the page again, at this fragment of its address. (To leave it for another page and come back costs more: its process
         ends, and another one begins.)"""
-        self.open(url)
         self.events.clear()
-        self.call("Page.reload")
+        self.run(f"(history.replaceState(null, '', {json.dumps(fragment or '#')}), location.reload())")
         self.wait_for("Page.loadEventFired")
 
     def run(self, script):
