@@ -10,7 +10,8 @@ import tempfile
 
 TOP = pathlib.Path(__file__).resolve().parent.parent.parent
 REQUESTS = (TOP / "examples/true.requests").read_text()
-SHAPE = (TOP / "examples/program.toml").read_text()
+# Room for each page of the program, and 64 sets; all else as the default machine has it.
+SHAPE = "words = 1048576\nsets = 64\n"
 ROUNDS = ["--latency", "20", "--busy", "1"]
 REGISTERS = [1, 2, 4, 8]
 # The causes for which a round may be lost.
@@ -18,13 +19,17 @@ CAUSES = {3: "tag in use", 4: "too many loads are owed", 5: "four loads wait for
           8: "all ways wait for words", 9: "write queue too full", 10: "bank queue too full"}
 
 
-def kroft(*words, given):
-    return subprocess.run([TOP / "kroft", *words], input=given, capture_output=True, text=True, check=True).stdout
+def kroft(*words, given, shape=SHAPE):
+    with tempfile.NamedTemporaryFile("w", suffix=".toml") as file:
+        file.write(shape)
+        file.flush()
+        command = [TOP / "kroft", *words, "--shape", file.name]
+        return subprocess.run(command, input=given, capture_output=True, text=True, check=True).stdout
 
 
 def lost_by_registers():
     """For each number of registers the rounds in all, and those in which the request at hand was refused, by the cause."""
-    told = kroft("sweep", *ROUNDS, "--shape", TOP / "examples/program.toml", given=REQUESTS)
+    told = kroft("sweep", *ROUNDS, given=REQUESTS)
     rows = {}
     for line in told.splitlines():
         words = line.split()
@@ -38,18 +43,15 @@ def busy_rounds(registers):
 
     `drive` asks the request at hand once in each round, behind all else that the round does, so each line of a request ends a
     round. Behind each the registers are shown, by `run` of the same lines on a machine of the same shape."""
-    with tempfile.NamedTemporaryFile("w", suffix=".toml") as shape:
-        shape.write(f"{SHAPE}regs = {registers}\n")
-        shape.flush()
-        lines = kroft("drive", *ROUNDS, "--shape", shape.name, given=REQUESTS).splitlines()
-        shows = "".join(f"reg {slot}\n" for slot in range(registers))
-        trace = ""
-        for line in lines:
-            event = line.split(" -> ")[0]
-            trace += f"{event}\n"
-            if event.split()[0] in ("load", "store", "prefetch", "evict"):
-                trace += shows
-        said = kroft("run", "--shape", shape.name, given=trace).splitlines()
+    shape = f"{SHAPE}regs = {registers}\n"
+    shows = "".join(f"reg {slot}\n" for slot in range(registers))
+    trace = ""
+    for line in kroft("drive", *ROUNDS, given=REQUESTS, shape=shape).splitlines():
+        event = line.split(" -> ")[0]
+        trace += f"{event}\n"
+        if event.split()[0] in ("load", "store", "prefetch", "evict"):
+            trace += shows
+    said = kroft("run", given=trace, shape=shape).splitlines()
     shown = [line.split(" -> ")[1] for line in said if line.startswith("reg ")]
     rounds = [shown[k : k + registers] for k in range(0, len(shown), registers)]
     return collections.Counter(sum(it.startswith("V") for it in each) for each in rounds)
