@@ -19,7 +19,7 @@ use Rattle.cache_unit.specs.Counts.{tally, bit}
 use Rattle.cache_unit.proofs.FormsLists.{Adds, Adds-tally, Adds-find_other, Adds-find_same, Adds-push, Adds-left, Adds-right, Adds-same, Adds-remove, find_none, flat_map_part, read_set}
 use Rattle.machine_core.specs.Machine.{Machine, backing, take_in, arrive_from, without_answer}
 use Rattle.machine_core.specs.Sound.{is_for, coming, coming_from, word_in, word_now, has_tag, dues, IsSound, is_entry_for}
-use Rattle.machine_core.proofs.Coming.{due_in}
+use Rattle.machine_core.proofs.Coming.{once_due, once_from, word_kept, kept_from, due_in}
 use Rattle.machine_core.proofs.Sound.{Kept, KeptBy, flat_of-same, word_now-same}
 use Rattle.machine_core.proofs.Serving.{dues-same}
 
@@ -115,8 +115,8 @@ module _ (z : Sizes) (m : Machine) (b place : ℕ) (a : BankAnswer) (h : IsSound
             let f = ap bit (for_same s i) in
             let c = h.counted s i in
             omega arith;
-        once = λ tag. subst (λ ds. tally (has_tag tag) ds ≤ 1) (sym dues_same) (h.once tag);
-        kept = λ at. words_same at ∙ h.kept at ∙ ap (λ w. merged w (cell_of m.cache (block_of z at) (place_in z at)).word (cell_of m.cache (block_of z at) (place_in z at)).dirty) (sym (backing_same at));
+        once = once_from (moved_in m b place a) (λ tag. subst (λ ds. tally (has_tag tag) ds ≤ 1) (sym dues_same) (once_due z m h tag));
+        kept = kept_from z (moved_in m b place a) (λ at. words_same at ∙ word_kept z m h at ∙ ap (λ w. merged w (cell_of m.cache (block_of z at) (place_in z at)).word (cell_of m.cache (block_of z at) (place_in z at)).dirty) (sym (backing_same at)));
         whole_frames = h.whole_frames;
         whole_registers = h.whole_registers;
         queue_in = h.queue_in;

@@ -1,6 +1,6 @@
 -- What a machine stands for, word by word: the word that comes to a register, the word at an
 -- address, and the values that are owed.
-use Rattle.std.proofs.Common.{◌≡◌, ℕ, Bool, true, false, cond, ◌&&◌, ◌==◌, List, [], ◌∷◌, map, Option, Some, None, option_map, find, refl, sym, ap, ◌∙◌}
+use Rattle.std.proofs.Common.{◌≡◌, ℕ, ◌+◌, ◌≤◌, Bool, true, false, cond, ◌&&◌, ◌==◌, List, [], ◌∷◌, ◌++◌, map, Option, Some, None, option_map, find, refl, sym, ap, ap₂, ◌∙◌, subst}
 use Rattle.std.specs.Option.{option_or}
 use Rattle.std.proofs.lemmas.List.Folds.{find-append}
 use Rattle.flat_model.specs.declared.Word.{Word}
@@ -9,13 +9,14 @@ use Rattle.flat_model.specs.Words.{Lane, byte, word_of, zero_word, has, merged}
 use Rattle.memory_banks.specs.declared.BankAnswer.{BankAnswer}
 use Rattle.memory_banks.specs.Banks.{all_pending}
 use Rattle.cache_unit.specs.declared.Reply.{Reply}
-use Rattle.cache_unit.specs.State.{Sizes, Target, Cache, field_at, frame_of, live_for, cell_in, cell_of, targets, block_of, place_in}
+use Rattle.cache_unit.specs.State.{Sizes, Target, Cache, field_at, frame_of, live_for, cell_in, cell_of, targets, tags, block_of, place_in}
 use Rattle.input_stack.specs.Stack.{stack_word}
 use Rattle.cache_unit.specs.Forms.{Byte, Asked, missing_form, coming_form, over_form, bytes_of, form_in, target_form, value, filled_by}
-use Rattle.cache_unit.proofs.FormsLists.{find-map}
-use Rattle.machine_core.specs.Machine.{Machine, flat_word, flat_word_in, flat_due}
+use Rattle.cache_unit.specs.Counts.{tally}
+use Rattle.cache_unit.proofs.FormsLists.{find-map, tally-append, tally-map}
+use Rattle.machine_core.specs.Machine.{Machine, backing, flat_word, flat_word_in, flat_due}
 use Rattle.flat_model.proofs.Lanewise.{byte_word_of, same_word_from, byte-merged}
-use Rattle.machine_core.specs.Sound.{is_for, word_in, coming_from, coming, shown_word, word_now_in, word_now, reply_to, dues, has_tag}
+use Rattle.machine_core.specs.Sound.{is_for, word_in, coming_from, coming, shown_word, word_now_in, word_now, reply_to, dues, has_tag, IsSound}
 
 value-byte : (answers : List BankAnswer) (b : ℕ) → value answers (Byte b) ≡ b
 value-byte [] b = refl
@@ -79,3 +80,26 @@ flat_due-in m tag =
     go (Some r) b = ap Some (filled-bytes (all_pending m.banks) r.word)
     go None None = refl
     go None (Some t) = ap Some (filled-over m.cache (all_pending m.banks) t.load.lanes t.load.held t.slot t.i)
+
+-- ---- the same, by tags and by flat words
+
+pub tags_tally : (m : Machine) (tag : ℕ) → tally (λ t. t == tag) (tags m.cache) ≡ tally (has_tag tag) (dues m)
+unfolding dues
+tags_tally m tag =
+    tally-append (λ t. t == tag) (map (λ (r : Reply). r.tag) m.cache.ready) _ ∙ ap₂ (λ x y. x + y) (tally-map (λ (r : Reply). r.tag) (λ t. t == tag) m.cache.ready) (tally-map (λ (t : Target). t.load.tag) (λ t. t == tag) (targets m.cache.registers) ∙ sym (tally-map (reply_to m) (has_tag tag) (targets m.cache.registers))) ∙ sym (tally-append (has_tag tag) m.cache.ready (map (reply_to m) (targets m.cache.registers)))
+
+pub once_due : (z : Sizes) (m : Machine) → IsSound z m → (tag : ℕ) → tally (has_tag tag) (dues m) ≤ 1
+once_due z m h tag = subst (λ n. n ≤ 1) (tags_tally m tag) (h.once tag)
+
+pub once_from : (m : Machine) → ((tag : ℕ) → tally (has_tag tag) (dues m) ≤ 1) → (tag : ℕ) → tally (λ t. t == tag) (tags m.cache) ≤ 1
+once_from m once tag = subst (λ n. n ≤ 1) (sym (tags_tally m tag)) (once tag)
+
+abbrev pub kept_word : Sizes → Machine → ℕ → Word
+kept_word z m at =
+    merged (backing z m at) (cell_of m.cache (block_of z at) (place_in z at)).word (cell_of m.cache (block_of z at) (place_in z at)).dirty
+
+pub word_kept : (z : Sizes) (m : Machine) → IsSound z m → (at : ℕ) → word_now z m at ≡ kept_word z m at
+word_kept z m h at = sym (flat_word-now z m at) ∙ h.kept at
+
+pub kept_from : (z : Sizes) (m : Machine) → ((at : ℕ) → word_now z m at ≡ kept_word z m at) → (at : ℕ) → flat_word z m at ≡ kept_word z m at
+kept_from z m kept at = flat_word-now z m at ∙ kept at

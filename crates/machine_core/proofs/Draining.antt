@@ -19,7 +19,7 @@ use Rattle.cache_unit.proofs.FormsLists.{flat_map_part, read_set}
 use Rattle.machine_core.specs.Law.{IsLawful}
 use Rattle.machine_core.specs.Machine.{Machine, backing, joined_with}
 use Rattle.machine_core.specs.Sound.{is_for, coming, coming_from, word_now, has_tag, dues, IsSound, AllIn, is_entry_for}
-use Rattle.machine_core.proofs.Coming.{due_in}
+use Rattle.machine_core.proofs.Coming.{once_due, once_from, word_kept, kept_from, due_in}
 use Rattle.machine_core.proofs.Sound.{Kept, KeptBy, flat_of-same, word_now-same}
 use Rattle.machine_core.proofs.Serving.{dues-same}
 
@@ -134,8 +134,8 @@ module _ (z : Sizes) (lawful : IsLawful z) (m : Machine) (h : IsSound z m) (q : 
         live_apart = h.live_apart;
         live_present = h.live_present;
         counted = λ s i. ap (λ ps. tally (is_for s i) ps + tally (is_entry_for s i) m.cache.stack) pending_same ∙ h.counted s i;
-        once = λ tag. subst (λ ds. tally (has_tag tag) ds ≤ 1) (sym dues_kept) (h.once tag);
-        kept = λ at. words_same at ∙ h.kept at ∙ ap (λ w. merged w (cell_of m.cache (block_of z at) (place_in z at)).word (cell_of m.cache (block_of z at) (place_in z at)).dirty) (sym (backing_same at));
+        once = once_from drained (λ tag. subst (λ ds. tally (has_tag tag) ds ≤ 1) (sym dues_kept) (once_due z m h tag));
+        kept = kept_from z drained (λ at. words_same at ∙ word_kept z m h at ∙ ap (λ w. merged w (cell_of m.cache (block_of z at) (place_in z at)).word (cell_of m.cache (block_of z at) (place_in z at)).dirty) (sym (backing_same at)));
         whole_frames = h.whole_frames;
         whole_registers = h.whole_registers;
         queue_in = in_memory.1;

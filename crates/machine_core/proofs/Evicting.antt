@@ -21,7 +21,7 @@ use Rattle.machine_core.specs.Law.{IsLawful}
 use Rattle.machine_core.specs.Machine.{Machine, backing}
 use Rattle.machine_core.specs.Sound.{coming, word_now_in, word_now, has_tag, dues, InOrder, IsSound}
 use Rattle.flat_model.proofs.Lanewise.{merged-none}
-use Rattle.machine_core.proofs.Coming.{due_in}
+use Rattle.machine_core.proofs.Coming.{once_due, once_from, word_kept, kept_from, due_in}
 use Rattle.machine_core.proofs.Sound.{Same, word_now-same}
 use Rattle.machine_core.proofs.Serving.{dues-same}
 use Rattle.machine_core.proofs.Dirty.{overlaid-append, overlaid_below, overlaid_at, overlaid_past, block_in, outside, AllIn-append, AllIn-dirty}
@@ -227,7 +227,7 @@ module _ (z : Sizes) (lawful : IsLawful z) (m : Machine) (h : IsSound z m) (bloc
   words_given_up at = ⊎_elim inside elsewhere (cases_eq (block_of z at) block)
     where
       inside : block_of z at ≡ block → word_now z given_up at ≡ word_now z m at
-      inside e = word_in_block at e ∙ backing_in at e ∙ sym (h.kept at)
+      inside e = word_in_block at e ∙ backing_in at e ∙ sym (word_kept z m h at)
 
       elsewhere : (block_of z at ≡ block → ⊥) → word_now z given_up at ≡ word_now z m at
       elsewhere n =
@@ -245,7 +245,7 @@ module _ (z : Sizes) (lawful : IsLawful z) (m : Machine) (h : IsSound z m) (bloc
 
       elsewhere : (block_of z at ≡ block → ⊥) → word_now z given_up at ≡ merged (backing z given_up at) (cell_of given_up.cache (block_of z at) (place_in z at)).word (cell_of given_up.cache (block_of z at) (place_in z at)).dirty
       elsewhere n =
-          words_given_up at ∙ h.kept at ∙ ap (λ (c : Cell). merged (backing z m at) c.word c.dirty) (sym (cell_out at n)) ∙ ap (λ w. merged w (cell_of given_up.cache (block_of z at) (place_in z at)).word (cell_of given_up.cache (block_of z at) (place_in z at)).dirty) (sym (backing_out at n))
+          words_given_up at ∙ word_kept z m h at ∙ ap (λ (c : Cell). merged (backing z m at) c.word c.dirty) (sym (cell_out at n)) ∙ ap (λ w. merged w (cell_of given_up.cache (block_of z at) (place_in z at)).word (cell_of given_up.cache (block_of z at) (place_in z at)).dirty) (sym (backing_out at n))
 
   dues_given_up : dues given_up ≡ dues m
   dues_given_up = dues-same m given_up refl ret.same_targets given_up_coming
@@ -261,8 +261,8 @@ module _ (z : Sizes) (lawful : IsLawful z) (m : Machine) (h : IsSound z m) (bloc
             let far : p.0 ≡ f → ⊥ = λ q. let same : Some (register_at m.cache t).block ≡ Some block = sym p.1 ∙ ap (λ x. (frame_at m.cache x).block) q ∙ at_f in let eq : (register_at m.cache t).block ≡ block = cc in n eq in
             (p.0, ap (λ (x : Frame). x.block) (other_frame p.0 far) ∙ p.1 ∙ ap Some (sym (block_before t l)));
         counted = λ t j. h.counted t j ∙ sym (ap₂ (λ x y. bit (x && (nat_lt j z.block_words && not y))) (ret.same_valid t) (ret.same_processed t j));
-        once = λ tag. subst (λ ds. tally (has_tag tag) ds ≤ 1) (sym dues_given_up) (h.once tag);
-        kept = kept_given_up;
+        once = once_from given_up (λ tag. subst (λ ds. tally (has_tag tag) ds ≤ 1) (sym dues_given_up) (once_due z m h tag));
+        kept = kept_from z given_up (kept_given_up);
         whole_frames = λ k b e. let p = h.whole_frames k b (held_before k b e) in (ap (λ (x : Frame). length x.cells) (other_frame k (holds_other k b e)) ∙ p.0, p.1);
         whole_registers = λ t v. ret.same_fields t ∙ h.whole_registers t (sym (ret.same_valid t) ∙ v);
         queue_in = let k = whole.0 in let l = block_in z lawful block whole.1 in AllIn-append z m.cache.queue _ h.queue_in (AllIn-dirty z block (address z block 0) (frame_at m.cache f).cells (omega arith));

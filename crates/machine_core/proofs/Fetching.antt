@@ -19,7 +19,7 @@ use Rattle.machine_core.specs.Law.{IsLawful}
 use Rattle.machine_core.specs.Machine.{Machine, backing}
 use Rattle.memory_banks.specs.Banks.{all_sent}
 use Rattle.machine_core.specs.Sound.{coming, word_now, has_tag, dues, InOrder, is_in, IsSound}
-use Rattle.machine_core.proofs.Coming.{due_in}
+use Rattle.machine_core.proofs.Coming.{once_due, once_from, word_kept, kept_from, due_in}
 use Rattle.machine_core.proofs.Orders.{InOrder-released, InOrder-installed, member}
 use Rattle.machine_core.proofs.Sound.{Same, word_now-same}
 use Rattle.machine_core.proofs.Serving.{dues-same}
@@ -81,8 +81,8 @@ module _ (z : Sizes) (m : Machine) (h : IsSound z m) (f : ℕ) (free : (frame_at
         live_apart = h.live_apart;
         live_present = λ t l. let p = h.live_present t l in (p.0, same_blocks p.0 ∙ p.1);
         counted = h.counted;
-        once = λ tag. subst (λ ds. tally (has_tag tag) ds ≤ 1) (sym same_dues) (h.once tag);
-        kept = λ at. same_words at ∙ h.kept at ∙ ap (λ (c : Cell). merged (backing z m at) c.word c.dirty) (sym (same_cell at));
+        once = once_from cleared (λ tag. subst (λ ds. tally (has_tag tag) ds ≤ 1) (sym same_dues) (once_due z m h tag));
+        kept = kept_from z cleared (λ at. same_words at ∙ word_kept z m h at ∙ ap (λ (c : Cell). merged (backing z m at) c.word c.dirty) (sym (same_cell at)));
         whole_frames = λ k b e. let p = h.whole_frames k b (sym (same_blocks k) ∙ e) in (ap (λ (x : Frame). length x.cells) (other_frame k b (sym (same_blocks k) ∙ e)) ∙ p.0, p.1);
         whole_registers = h.whole_registers;
         queue_in = h.queue_in;

@@ -22,7 +22,7 @@ use Rattle.cache_unit.proofs.FormsFinding.{frame_of-some, live_for-some, live_fo
 use Rattle.machine_core.specs.Law.{IsLawful}
 use Rattle.machine_core.specs.Machine.{Machine, joined_with}
 use Rattle.machine_core.specs.Sound.{coming, shown_word, word_now_in, word_now, has_tag, dues, IsSound, wanted}
-use Rattle.machine_core.proofs.Coming.{due_in}
+use Rattle.machine_core.proofs.Coming.{once_due, once_from, word_kept, kept_from, due_in}
 use Rattle.machine_core.proofs.Sound.{Same, Kept, KeptBy, flat_of-same}
 use Rattle.machine_core.proofs.Serving.{dues-same}
 use Rattle.machine_core.proofs.Processing.{Filling, partly, partly_sound, partly_same, slot_there, waits}
@@ -139,8 +139,8 @@ module _ (z : Sizes) (lawful : IsLawful z) (m : Machine) (s : ℕ) (h : IsSound 
         live_apart = freed_apart;
         live_present = λ t l. let p = h.live_present t (live_before t l) in (p.0, p.1 ∙ ap Some (sym (block_before t l)));
         counted = λ t j. h.counted t j ∙ sym (freed_counted t j);
-        once = λ tag. subst (λ ds. tally (has_tag tag) ds ≤ 1) (sym freed_dues) (h.once tag);
-        kept = λ at. freed_words at ∙ h.kept at;
+        once = once_from freed (λ tag. subst (λ ds. tally (has_tag tag) ds ≤ 1) (sym freed_dues) (once_due z m h tag));
+        kept = kept_from z freed (λ at. freed_words at ∙ word_kept z m h at);
         whole_frames = h.whole_frames;
         whole_registers = λ t k. let e = freed_valid t k in ap (λ (r : Register). length r.fields) e ∙ h.whole_registers t (ap (λ (r : Register). r.valid) (sym e) ∙ k);
         queue_in = h.queue_in;

@@ -25,7 +25,7 @@ use Rattle.machine_core.specs.Sound.{is_for, coming, coming_from, word_in, shown
 use Rattle.flat_model.proofs.Lanewise.{merged-none}
 use Rattle.machine_core.proofs.Overlaid.{overlaid-split}
 use Rattle.machine_core.proofs.Finding.{word_now-live}
-use Rattle.machine_core.proofs.Coming.{due_in}
+use Rattle.machine_core.proofs.Coming.{once_due, once_from, word_kept, kept_from, due_in}
 use Rattle.machine_core.proofs.Sound.{Same, word_now-same}
 use Rattle.machine_core.proofs.Arriving.{bit-le}
 use Rattle.machine_core.proofs.Sending.{base_in, answer_at, commands, AddsAll-tally, AddsAll-find_other, AddsAll-find, sent_words, sent_lengths, sent_number, sent_adds, reads_other, reads_tally, reads_find}
@@ -242,7 +242,7 @@ module _ (z : Sizes) (lawful : IsLawful z) (m : Machine) (h : IsSound z m) (bloc
 
       elsewhere : (block_of z at ≡ block → ⊥) → word_now z with_block at ≡ merged (backing z with_block at) (cell_of with_block.cache (block_of z at) (place_in z at)).word (cell_of with_block.cache (block_of z at) (place_in z at)).dirty
       elsewhere n =
-          words_with_block at ∙ h.kept at ∙ ap (λ (c : Cell). merged (backing z m at) c.word c.dirty) (sym (cell_other at n)) ∙ ap (λ w. merged w (cell_of with_block.cache (block_of z at) (place_in z at)).word (cell_of with_block.cache (block_of z at) (place_in z at)).dirty) (sym (backing_same at))
+          words_with_block at ∙ word_kept z m h at ∙ ap (λ (c : Cell). merged (backing z m at) c.word c.dirty) (sym (cell_other at n)) ∙ ap (λ w. merged w (cell_of with_block.cache (block_of z at) (place_in z at)).word (cell_of with_block.cache (block_of z at) (place_in z at)).dirty) (sym (backing_same at))
 
   -- ---- what is owed
 
@@ -284,8 +284,8 @@ module _ (z : Sizes) (lawful : IsLawful z) (m : Machine) (h : IsSound z m) (bloc
         live_apart = live_apart_after;
         live_present = λ t l. ⊎_elim (λ q. (f, ap (λ (x : Frame). x.block) own_frame ∙ ap Some (sym (own_block t q)))) (λ x. let p = h.live_present t x.1 in (p.0, ap (λ (y : Frame). y.block) (other_frame p.0 (held_other p.0 _ p.1)) ∙ p.1 ∙ ap Some (sym x.2))) (lives t l);
         counted = counted_after;
-        once = λ tag. subst (λ ds. tally (has_tag tag) ds ≤ 1) (sym dues_with_block) (h.once tag);
-        kept = kept_with_block;
+        once = once_from with_block (λ tag. subst (λ ds. tally (has_tag tag) ds ≤ 1) (sym dues_with_block) (once_due z m h tag));
+        kept = kept_from z with_block (kept_with_block);
         whole_frames = λ k b e. ⊎_elim (λ x. (ap (λ y. length (frame_at with_block.cache y).cells) x.0 ∙ ap (λ (y : Frame). length y.cells) own_frame ∙ length-map-range_with_len _ (address z block 0) z.block_words, subst (λ y. address z y 0 < z.words) (sym x.1) in_memory)) (λ x. let p = h.whole_frames k b x.1 in (ap (λ (y : Frame). length y.cells) (other_frame k x.0) ∙ p.0, p.1)) (holds k b e);
         whole_registers = whole_after;
         queue_in = h.queue_in;

@@ -21,11 +21,6 @@ use Rattle.machine_core.proofs.Requests.{flat_in_use}
 use Rattle.machine_core.proofs.Walking.{event_ok}
 use Rattle.machine_core.proofs.Resting.{opening_bounded, held_walked}
 
-tags_tally : (m : Machine) (tag : ℕ) → tally (λ t. t == tag) (tags m.cache) ≡ tally (has_tag tag) (dues m)
-unfolding dues
-tags_tally m tag =
-    tally-append (λ t. t == tag) (map (λ (r : Reply). r.tag) m.cache.ready) _ ∙ ap₂ (λ x y. x + y) (tally-map (λ (r : Reply). r.tag) (λ t. t == tag) m.cache.ready) (tally-map (λ (t : Target). t.load.tag) (λ t. t == tag) (targets m.cache.registers) ∙ sym (tally-map (reply_to m) (has_tag tag) (targets m.cache.registers))) ∙ sym (tally-append (has_tag tag) m.cache.ready (map (reply_to m) (targets m.cache.registers)))
-
 -- where only one bank has such an answer on its way, it has all of them
 none_at : (p : BankAnswer → Bool) (banks : List Bank) → ((b : ℕ) → tally p (pending (bank_at banks b)) ≡ 0) → tally p (flat_map pending banks) ≡ 0
 none_at p [] h = refl
@@ -51,7 +46,7 @@ pub kept_whole : (z : Sizes) → IsLawful z → (m : Machine) → IsSound z m �
 kept_whole z lawful m sound bounded =
     record {
       one_live = sound.live_apart;
-      tags_differ = λ tag. subst (λ n. n ≤ 1) (sym (tags_tally m tag)) (sound.once tag);
+      tags_differ = sound.once;
       tags_fit = bounded.few_tags;
       tags_owed = λ tag. some (flat_due m tag) ∙ flat_in_use m tag;
       on_its_way = λ s i. let e = all_at_one (is_for s i) m.banks (own_bank z m s i) (λ b d. elsewhere b s i d) in let c = sound.counted s i in omega arith;

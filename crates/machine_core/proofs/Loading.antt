@@ -16,6 +16,7 @@ use Rattle.cache_unit.proofs.FormsFields.{live_with_field, with_fields, with_fie
 use Rattle.cache_unit.proofs.FormsParts.{in_range, word_part}
 use Rattle.cache_unit.proofs.FormsFinding.{live_for-some}
 use Rattle.machine_core.specs.Law.{IsLawful}
+use Rattle.machine_core.proofs.Coming.{once_due, once_from, word_kept, kept_from}
 use Rattle.machine_core.specs.Machine.{Machine}
 use Rattle.machine_core.specs.Sound.{coming, coming_from, shown_word, word_now, has_tag, dues, reply_to, IsSound}
 use Rattle.flat_model.proofs.Lanewise.{merged_held, merged-all}
@@ -56,7 +57,7 @@ module _ (z : Sizes) (lawful : IsLawful z) (m : Machine) (h : IsSound z m) (tag 
       let ready = m.cache.ready ++ record { tag = tag; word = w } ∷ [] in
       let more : Adds (record { tag = tag; word = w }) (dues m) (dues (with_ready m ready)) = Adds-same (record { tag = tag; word = w }) _ _ _ _ refl (with_ready-dues m ready) (Adds-right (map (reply_to m) (targets m.cache.registers)) (record { tag = tag; word = w }) _ _ (Adds-push (record { tag = tag; word = w }) m.cache.ready)) in
       record {
-        sound = with_ready-sound z m ready (once_more m (with_ready m ready) (record { tag = tag; word = w }) more fresh h.once) h;
+        sound = with_ready-sound z m ready (once_more m (with_ready m ready) (record { tag = tag; word = w }) more fresh (once_due z m h)) h;
         words = with_ready-words z m ready;
         word = w;
         right = e;
@@ -134,8 +135,8 @@ module _ (z : Sizes) (lawful : IsLawful z) (m : Machine) (h : IsSound z m) (tag 
           live_apart = λ a b p q e. h.live_apart a b (sym (live_part a) ∙ p) (sym (live_part b) ∙ q) (sym (block_part a) ∙ e ∙ block_part b);
           live_present = λ a p. let l = h.live_present a (sym (live_part a) ∙ p) in (l.0, l.1 ∙ ap Some (sym (block_part a)));
           counted = λ t j. h.counted t j ∙ sym (ap₂ (λ x y. bit (x && (nat_lt j z.block_words && not y))) (same_at m.cache.registers s (place_in z at) longer (λ (r : Register). r.valid) refl t) (same_processed t j));
-          once = once_more m waiting_more (record { tag = tag; word = told }) more_dues fresh h.once;
-          kept = λ a. same_words a ∙ h.kept a;
+          once = once_from waiting_more (once_more m waiting_more (record { tag = tag; word = told }) more_dues fresh (once_due z m h));
+          kept = kept_from z waiting_more (λ a. same_words a ∙ word_kept z m h a);
           whole_frames = h.whole_frames;
           whole_registers = λ t v. same_at m.cache.registers s (place_in z at) longer (λ (r : Register). length r.fields) (length-set (register_at m.cache s).fields (place_in z at) longer) t ∙ h.whole_registers t (sym (same_at m.cache.registers s (place_in z at) longer (λ (r : Register). r.valid) refl t) ∙ v);
           queue_in = h.queue_in;

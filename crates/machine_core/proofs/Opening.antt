@@ -21,7 +21,7 @@ use Rattle.cache_unit.proofs.FormsFinding.{frame_of-none}
 use Rattle.cache_unit.proofs.Made.{all_same}
 use Rattle.machine_core.specs.Sound.{word_now, word_now_in, has_tag, dues, IsSound, wanted}
 use Rattle.flat_model.proofs.Lanewise.{merged-none, merged_no_lane, has-none}
-use Rattle.machine_core.proofs.Coming.{flat_word-now, flat_due-in, due_in}
+use Rattle.machine_core.proofs.Coming.{once_from, kept_from, flat_word-now, flat_due-in, due_in}
 use Rattle.machine_core.proofs.Requests.{mem_length, mem_at}
 
 no_targets : (n k : ℕ) → gathered targets_of k (replicate n free_register) ≡ []
@@ -97,8 +97,8 @@ module _ (z : Sizes) (lawful : IsLawful z) (image : List Word) (fits : length im
         live_apart = λ s t p q e. absurd (no_live s p);
         live_present = λ s p. absurd (no_live s p);
         counted = λ s i. ap (λ ps. tally (Rattle.machine_core.specs.Sound.is_for s i) ps + 0) opening_idle ∙ sym (ap (λ r. wanted z r i) (free_registers s));
-        once = λ tag. subst (λ ds. tally (has_tag tag) ds ≤ 1) (sym nothing_due) (omega arith);
-        kept = λ at. opening_word at ∙ sym (merged-none (backing z m0 at) zero_word) ∙ ap (λ o. merged (backing z m0 at) (cell_in m0.cache o (place_in z at)).word (cell_in m0.cache o (place_in z at)).dirty) (sym (absent (block_of z at)));
+        once = once_from m0 (λ tag. subst (λ ds. tally (has_tag tag) ds ≤ 1) (sym nothing_due) (omega arith));
+        kept = kept_from z m0 (λ at. opening_word at ∙ sym (merged-none (backing z m0 at) zero_word) ∙ ap (λ o. merged (backing z m0 at) (cell_in m0.cache o (place_in z at)).word (cell_in m0.cache o (place_in z at)).dirty) (sym (absent (block_of z at))));
         whole_frames = λ f b p. absurd (no_block f b p);
         whole_registers = λ s v. absurd (no_valid s v);
         queue_in = tt;
@@ -143,7 +143,7 @@ settled_ok z m h s at l =
     let bank : (bank_at m.banks (at % z.banks)).queue ≡ [] = nil_from _ (all_at (λ (b : Bank). is_empty b.queue) no_bank m.banks (at % z.banks) refl r.1) in
     let base : backing z m at ≡ bank_word z m at = ap₂ (λ qs cs. overlaid (word_at (Rattle.memory_banks.specs.Banks.after (bank_at m.banks (at % z.banks)).words cs) (at / z.banks)) qs at) queue bank in
     let clean : has_any (cell_of m.cache (block_of z at) (place_in z at)).dirty ≡ false = by_frame (frame_of m.cache (block_of z at)) q.0 in
-    sym (mem_at z m at l ∙ flat_word-now z m at ∙ h.kept at ∙ merged_no_lane (backing z m at) _ _ clean ∙ base)
+    sym (mem_at z m at l ∙ h.kept at ∙ merged_no_lane (backing z m at) _ _ clean ∙ base)
   where
     by_frame : (o : Option ℕ) → list_all (λ (f : Frame). list_all (λ (cell : Cell). not (has_any cell.dirty)) f.cells) m.cache.frames ≡ true → has_any (cell_in m.cache o (place_in z at)).dirty ≡ false
     by_frame None e = none_dirty

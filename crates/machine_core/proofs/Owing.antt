@@ -9,7 +9,7 @@ use Rattle.cache_unit.proofs.FormsLists.{Adds, Adds-tally, Adds-find_other, Adds
 use Rattle.input_stack.specs.Stack.{stack_word}
 use Rattle.machine_core.specs.Machine.{Machine}
 use Rattle.machine_core.specs.Sound.{coming, word_now, has_tag, dues, reply_to, IsSound}
-use Rattle.machine_core.proofs.Coming.{due_in}
+use Rattle.machine_core.proofs.Coming.{due_in, once_from}
 
 -- ---- a test of tags, both ways round
 
@@ -71,7 +71,7 @@ with_ready-sound z m ready once h =
       live_apart = h.live_apart;
       live_present = h.live_present;
       counted = h.counted;
-      once = once;
+      once = once_from (with_ready m ready) once;
       kept = h.kept;
       whole_frames = h.whole_frames;
       whole_registers = h.whole_registers;

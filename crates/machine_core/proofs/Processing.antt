@@ -21,7 +21,7 @@ use Rattle.machine_core.specs.Machine.{Machine, backing}
 use Rattle.machine_core.specs.Sound.{is_for, coming, coming_from, word_now, has_tag, dues, reply_to, IsSound, is_entry_for, wanted}
 use Rattle.flat_model.proofs.Lanewise.{merged_held}
 use Rattle.machine_core.proofs.Finding.{word_now-live}
-use Rattle.machine_core.proofs.Coming.{due_in}
+use Rattle.machine_core.proofs.Coming.{once_due, once_from, word_kept, kept_from, due_in}
 use Rattle.machine_core.proofs.Orders.{InOrder-same}
 use Rattle.machine_core.proofs.Sound.{Same, word_now-same}
 use Rattle.machine_core.proofs.Arriving.{bit-le, bit-pos}
@@ -193,7 +193,7 @@ module _ (z : Sizes) (m : Machine) (place : ℕ) (e : Entry) (h : IsSound z m) (
 
         elsewhere : (IsHit at → ⊥) → word_now z partly at ≡ merged (backing z m at) (cell_of partly.cache (block_of z at) (place_in z at)).word (cell_of partly.cache (block_of z at) (place_in z at)).dirty
         elsewhere n =
-            words_same at ∙ h.kept at ∙ ap (λ (c : Cell). merged (backing z m at) c.word c.dirty) (sym (cell_other at n))
+            words_same at ∙ word_kept z m h at ∙ ap (λ (c : Cell). merged (backing z m at) c.word c.dirty) (sym (cell_other at n))
 
         at_hit : IsHit at → word_now z partly at ≡ merged (backing z m at) (cell_of partly.cache (block_of z at) (place_in z at)).word (cell_of partly.cache (block_of z at) (place_in z at)).dirty
         at_hit hit =
@@ -201,7 +201,7 @@ module _ (z : Sizes) (m : Machine) (place : ℕ) (e : Entry) (h : IsSound z m) (
             let old = cell_in m.cache (Some k.0) e.i in
             let w = merged e.word old.word fld.code in
             let same_cell : cell_of m.cache (block_of z at) (place_in z at) ≡ old = ap₂ (λ o j. cell_in m.cache o j) (ap (frame_of m.cache) (sym hit.1) ∙ k.1) (sym hit.2) in
-            let before : w ≡ merged (backing z m at) old.word old.dirty = sym (hit_before at hit) ∙ h.kept at ∙ ap (λ (c : Cell). merged (backing z m at) c.word c.dirty) same_cell in
+            let before : w ≡ merged (backing z m at) old.word old.dirty = sym (hit_before at hit) ∙ word_kept z m h at ∙ ap (λ (c : Cell). merged (backing z m at) c.word c.dirty) same_cell in
             let again : merged (backing z m at) w old.dirty ≡ merged (backing z m at) old.word old.dirty = ap (λ x. merged (backing z m at) x old.dirty) before ∙ merged_held (backing z m at) (backing z m at) old.word old.dirty in
             words_same at ∙ hit_before at hit ∙ before ∙ sym again ∙ ap (λ (c : Cell). merged (backing z m at) c.word c.dirty) (sym (hit_cell at hit))
 
@@ -261,14 +261,14 @@ module _ (z : Sizes) (m : Machine) (place : ℕ) (e : Entry) (h : IsSound z m) (
         let a = ap (tally (has_tag tag)) dues_after in
         let b = ap (tally (has_tag tag)) dues_before in
         let s = tally_swapped (has_tag tag) m.cache.ready seg (map (reply_to m) part.front) (map (reply_to m) part.back) in
-        let o = h.once tag in
+        let o = once_due z m h tag in
         omega arith
 
     owing_same : (tag : ℕ) → due_in (dues partly) tag ≡ due_in (dues m) tag
     unfolding due_in
     owing_same tag =
         let b = ap (tally (has_tag tag)) dues_before in
-        let o = h.once tag in
+        let o = once_due z m h tag in
         ap (option_map (λ (r : Reply). r.word)) (ap (find (has_tag tag)) dues_after ∙ find_swapped (has_tag tag) m.cache.ready seg (map (reply_to m) part.front) (map (reply_to m) part.back) (omega arith) ∙ sym (ap (find (has_tag tag)) dues_before))
 
     -- ---- all of it
@@ -312,8 +312,8 @@ module _ (z : Sizes) (m : Machine) (place : ℕ) (e : Entry) (h : IsSound z m) (
           live_apart = λ s t p q k. h.live_apart s t (sym (same_register is_live refl s) ∙ p) (sym (same_register is_live refl t) ∙ q) (sym (same_register (λ (r : Register). r.block) refl s) ∙ k ∙ same_register (λ (r : Register). r.block) refl t);
           live_present = λ s p. let l = h.live_present s (sym (same_register is_live refl s) ∙ p) in (l.0, filling.same_block l.0 ∙ l.1 ∙ ap Some (sym (same_register (λ (r : Register). r.block) refl s)));
           counted = counted_after;
-          once = once_after;
-          kept = words_kept;
+          once = once_from partly (once_after);
+          kept = kept_from z partly (words_kept);
           whole_frames = λ f b p. let l = h.whole_frames f b (sym (filling.same_block f) ∙ p) in (filling.same_cells f ∙ l.0, l.1);
           whole_registers = λ s v. same_register (λ (r : Register). length r.fields) (length-set reg.fields e.i done) s ∙ h.whole_registers s (sym (same_register (λ (r : Register). r.valid) refl s) ∙ v);
           queue_in = h.queue_in;

@@ -15,7 +15,7 @@ use Rattle.input_stack.specs.Stack.{stack_word}
 use Rattle.write_queue.specs.Queue.{overlaid}
 use Rattle.machine_core.specs.Machine.{Machine, backing, serve_from}
 use Rattle.machine_core.specs.Sound.{is_for, coming, coming_from, word_now, has_tag, dues, reply_to, IsSound, is_entry_for}
-use Rattle.machine_core.proofs.Coming.{due_in}
+use Rattle.machine_core.proofs.Coming.{once_due, once_from, word_kept, kept_from, due_in}
 use Rattle.machine_core.proofs.Sound.{Same, Kept, KeptBy, flat_of-same, word_now-same}
 
 -- the banks of two machines come to the same words and answers
@@ -76,8 +76,8 @@ with_banks-sound z m banks same h =
       live_apart = h.live_apart;
       live_present = h.live_present;
       counted = λ s i. ap (λ ps. tally (is_for s i) ps + tally (is_entry_for s i) m.cache.stack) same.same_pending ∙ h.counted s i;
-      once = λ tag. subst (λ ds. tally (has_tag tag) ds ≤ 1) (sym (with_banks-dues m banks same.same_pending)) (h.once tag);
-      kept = λ at. with_banks-word z m banks same at ∙ h.kept at ∙ ap (λ w. merged w (cell_of m.cache (block_of z at) (place_in z at)).word (cell_of m.cache (block_of z at) (place_in z at)).dirty) (sym (with_banks-backing z m banks same at));
+      once = once_from (with_banks m banks) (λ tag. subst (λ ds. tally (has_tag tag) ds ≤ 1) (sym (with_banks-dues m banks same.same_pending)) (once_due z m h tag));
+      kept = kept_from z (with_banks m banks) (λ at. with_banks-word z m banks same at ∙ word_kept z m h at ∙ ap (λ w. merged w (cell_of m.cache (block_of z at) (place_in z at)).word (cell_of m.cache (block_of z at) (place_in z at)).dirty) (sym (with_banks-backing z m banks same at)));
       whole_frames = h.whole_frames;
       whole_registers = h.whole_registers;
       queue_in = h.queue_in;

@@ -16,6 +16,7 @@ use Rattle.cache_unit.proofs.FormsParts.{in_range, word_part, nested_same, neste
 use Rattle.cache_unit.proofs.FormsFinding.{frame_of-some, frame_of-like, live_for-some, live_for-like}
 use Rattle.cache_unit.proofs.FormsFetching.{address_is}
 use Rattle.machine_core.specs.Law.{IsLawful}
+use Rattle.machine_core.proofs.Coming.{once_due, once_from, word_kept, kept_from}
 use Rattle.machine_core.specs.Machine.{Machine, backing}
 use Rattle.machine_core.specs.Sound.{coming, shown_word, word_now, has_tag, dues, IsSound}
 use Rattle.flat_model.proofs.Lanewise.{merged_over}
@@ -210,11 +211,11 @@ module _ (z : Sizes) (lawful : IsLawful z) (m : Machine) (h : IsSound z m) (at :
                 after ∙ ap (λ b. cond b new_cell.word (merged (coming stored_machine s (place_in z at)) new_cell.word (field_at stored_machine.cache s (place_in z at)).code)) (note.same_processed s (place_in z at) ∙ p) ∙ ap₂ (λ u x. merged u new_cell.word x) (same_coming s (place_in z at)) (note.own_code s e p) ∙ merged_over (coming m s (place_in z at)) old_cell.word w (field_at m.cache s (place_in z at)).code lanes ∙ ap (λ u. merged u w lanes) (sym (before ∙ ap (λ b. cond b old_cell.word (merged (coming m s (place_in z at)) old_cell.word (field_at m.cache s (place_in z at)).code)) p))
 
     kept_after : (a : ℕ) → word_now z stored_machine a ≡ merged (backing z m a) (cell_of stored_machine.cache (block_of z a) (place_in z a)).word (cell_of stored_machine.cache (block_of z a) (place_in z a)).dirty
-    kept_after a = ⊎_elim here (λ n. words_other a n ∙ h.kept a ∙ ap (λ (c : Cell). merged (backing z m a) c.word c.dirty) (sym (cell_other a n))) (cases_eq a at)
+    kept_after a = ⊎_elim here (λ n. words_other a n ∙ word_kept z m h a ∙ ap (λ (c : Cell). merged (backing z m a) c.word c.dirty) (sym (cell_other a n))) (cases_eq a at)
       where
         there : word_now z stored_machine at ≡ merged (backing z m at) (cell_of stored_machine.cache (block_of z at) (place_in z at)).word (cell_of stored_machine.cache (block_of z at) (place_in z at)).dirty
         there =
-            words_there ∙ ap (λ u. merged u w lanes) (h.kept at ∙ ap (λ (c : Cell). merged (backing z m at) c.word c.dirty) cell_before) ∙ sym (merged_over (backing z m at) old_cell.word w old_cell.dirty lanes) ∙ ap (λ (c : Cell). merged (backing z m at) c.word c.dirty) (sym cell_there)
+            words_there ∙ ap (λ u. merged u w lanes) (word_kept z m h at ∙ ap (λ (c : Cell). merged (backing z m at) c.word c.dirty) cell_before) ∙ sym (merged_over (backing z m at) old_cell.word w old_cell.dirty lanes) ∙ ap (λ (c : Cell). merged (backing z m at) c.word c.dirty) (sym cell_there)
 
         here : a ≡ at → word_now z stored_machine a ≡ merged (backing z m a) (cell_of stored_machine.cache (block_of z a) (place_in z a)).word (cell_of stored_machine.cache (block_of z a) (place_in z a)).dirty
         here e = subst (λ x. word_now z stored_machine x ≡ merged (backing z m x) (cell_of stored_machine.cache (block_of z x) (place_in z x)).word (cell_of stored_machine.cache (block_of z x) (place_in z x)).dirty) (sym e) there
@@ -229,8 +230,8 @@ module _ (z : Sizes) (lawful : IsLawful z) (m : Machine) (h : IsSound z m) (at :
           live_apart = λ a b p q e. h.live_apart a b (sym (note.same_live a) ∙ p) (sym (note.same_live b) ∙ q) (sym (note.same_block a) ∙ e ∙ note.same_block b);
           live_present = λ a p. let l = h.live_present a (sym (note.same_live a) ∙ p) in (l.0, same_blocks l.0 ∙ l.1 ∙ ap Some (sym (note.same_block a)));
           counted = λ t j. h.counted t j ∙ sym (ap₂ (λ x y. bit (x && (nat_lt j z.block_words && not y))) (note.same_valid t) (note.same_processed t j));
-          once = λ tag. subst (λ ds. tally (has_tag tag) ds ≤ 1) (sym dues_stored) (h.once tag);
-          kept = kept_after;
+          once = once_from stored_machine (λ tag. subst (λ ds. tally (has_tag tag) ds ≤ 1) (sym dues_stored) (once_due z m h tag));
+          kept = kept_from z stored_machine (kept_after);
           whole_frames = λ f b p. let l = h.whole_frames f b (sym (same_blocks f) ∙ p) in (same_cells f ∙ l.0, l.1);
           whole_registers = λ t v. note.same_length t ∙ h.whole_registers t (sym (note.same_valid t) ∙ v);
           queue_in = h.queue_in;

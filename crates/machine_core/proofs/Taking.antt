@@ -12,7 +12,7 @@ use Rattle.cache_unit.specs.Counts.{tally}
 use Rattle.cache_unit.proofs.FormsLists.{Adds, Adds-tally, Adds-right, Adds-remove, Adds-length}
 use Rattle.machine_core.specs.Machine.{Machine, joined_with, flat_word, flat_due, flat_of}
 use Rattle.machine_core.specs.Sound.{has_tag, dues, reply_to, IsSound}
-use Rattle.machine_core.proofs.Coming.{flat_word-now, flat_due-in}
+use Rattle.machine_core.proofs.Coming.{once_due, flat_word-now, flat_due-in}
 use Rattle.machine_core.proofs.Sound.{KeptBy, Kept}
 use Rattle.machine_core.proofs.Owing.{due_in-removed, due_in-at, with_ready, with_ready-words, with_ready-dues, with_ready-sound}
 
@@ -30,10 +30,10 @@ took_ok z m place h (Some r) e =
     let rest = remove m.cache.ready place in
     let m' = with_ready m rest in
     let less : Adds r (dues m') (dues m) = unfold dues in subst (λ l. Adds r l (dues m)) (sym (with_ready-dues m rest)) (Adds-right (map (reply_to m) (targets m.cache.registers)) r rest m.cache.ready (Adds-remove r m.cache.ready place e)) in
-    let once : (tag : ℕ) → tally (has_tag tag) (dues m') ≤ 1 = λ tag. let n = Adds-tally (has_tag tag) r (dues m') (dues m) less in let k = h.once tag in omega arith in
+    let once : (tag : ℕ) → tally (has_tag tag) (dues m') ≤ 1 = λ tag. let n = Adds-tally (has_tag tag) r (dues m') (dues m) less in let k = once_due z m h tag in omega arith in
     let words : (at : ℕ) → flat_word z m' at ≡ flat_word z m at = λ at. flat_word-now z m' at ∙ with_ready-words z m rest at ∙ sym (flat_word-now z m at) in
-    let gone : (t : ℕ) → flat_due m' t ≡ with_due (flat_due m) r.tag None t = λ t. flat_due-in m' t ∙ due_in-removed r (dues m') (dues m) less (h.once r.tag) t ∙ ap (λ o. cond (t == r.tag) None o) (sym (flat_due-in m t)) in
-    let owed : is_owed (flat_due m r.tag) r.word ≡ true = ap (λ o. is_owed o r.word) (flat_due-in m r.tag ∙ due_in-at r (dues m') (dues m) less (h.once r.tag)) ∙ same_word-same r.word in
+    let gone : (t : ℕ) → flat_due m' t ≡ with_due (flat_due m) r.tag None t = λ t. flat_due-in m' t ∙ due_in-removed r (dues m') (dues m) less (once_due z m h r.tag) t ∙ ap (λ o. cond (t == r.tag) None o) (sym (flat_due-in m t)) in
+    let owed : is_owed (flat_due m r.tag) r.word ≡ true = ap (λ o. is_owed o r.word) (flat_due-in m r.tag ∙ due_in-at r (dues m') (dues m) less (once_due z m h r.tag)) ∙ same_word-same r.word in
     let after : flat_after (flat_of z m) (Take place) (Value r.tag r.word) ≡ flat_of z m' = λ i. record { mem = map (λ at. sym (words at) i) (range_with_len 0 z.words); due = λ t. sym (gone t) i } in
     record {
       sound = with_ready-sound z m rest once h;

@@ -12,7 +12,7 @@ use Rattle.cache_unit.specs.declared.Reply.{Reply}
 use Rattle.cache_unit.specs.State.{Sizes, Frame, Register, Target, empty_frame, clear_field, frame_at, frame_of, register_at, field_at, is_live, live_for, cell_in, cell_of, targets, tags, block_of, place_in, address}
 use Rattle.cache_unit.specs.Counts.{bit, tally}
 use Rattle.cache_unit.specs.Causes.{order_of}
-use Rattle.machine_core.specs.Machine.{Machine, backing}
+use Rattle.machine_core.specs.Machine.{Machine, backing, flat_word}
 
 -- ---- words on their way
 
@@ -109,9 +109,9 @@ pub record IsSound (z : Sizes) (m : Machine) : Type 0 where
   -- each word that a register waits for is once on its way, and nothing else is
   pub counted : (s i : ℕ) → tally (is_for s i) (all_pending m.banks) + tally (is_entry_for s i) m.cache.stack ≡ wanted z (register_at m.cache s) i
   -- no tag is owed two values
-  pub once : (tag : ℕ) → tally (has_tag tag) (dues m) ≤ 1
+  pub once : (tag : ℕ) → tally (λ t. t == tag) (tags m.cache) ≤ 1
   -- a word is its backing with the buffer's bytes in the dirty lanes
-  pub kept : (at : ℕ) → word_now z m at ≡ merged (backing z m at) (cell_of m.cache (block_of z at) (place_in z at)).word (cell_of m.cache (block_of z at) (place_in z at)).dirty
+  pub kept : (at : ℕ) → flat_word z m at ≡ merged (backing z m at) (cell_of m.cache (block_of z at) (place_in z at)).word (cell_of m.cache (block_of z at) (place_in z at)).dirty
   -- the sizes of the parts
   pub whole_frames : (f b : ℕ) → (frame_at m.cache f).block ≡ Some b → (length (frame_at m.cache f).cells ≡ z.block_words) × (address z b 0 < z.words)
   pub whole_registers : (s : ℕ) → (register_at m.cache s).valid ≡ true → length (register_at m.cache s).fields ≡ z.block_words
