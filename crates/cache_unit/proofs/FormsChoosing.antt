@@ -1,5 +1,7 @@
 -- An accepted request finds a frame and a register for a missing block.
-use Rattle.std.proofs.Common.{◌≡◌, ℕ, zero, suc, ◌+◌, ◌*◌, ◌/◌, ◌%◌, ◌<◌, ◌≤◌, Bool, true, false, cond, not, ◌&&◌, ◌==◌, List, [], ◌∷◌, ◌++◌, length, set, Option, Some, None, option_map, find, filter, is_some, is_none, refl, sym, ap, ◌∙◌, subst, arith, ⊎_elim, mod-lt, mul-le-mul_right, eq-eqb, eqb-true}
+use Rattle.std.proofs.Common.{◌≡◌, ℕ, zero, suc, ◌+◌, ◌*◌, ◌/◌, ◌%◌, ◌<◌, ◌≤◌, Bool, true, false, cond, not, ◌&&◌, ◌==◌, List, [], ◌∷◌}
+use Rattle.std.proofs.Common.{◌++◌, length, set, Option, Some, None, option_map, find, filter, is_some, is_none, refl, sym, ap, ◌∙◌, subst}
+use Rattle.std.proofs.Common.{arith, ◌⊎◌, inl, inr, ⊎_elim, mod-lt, mul-le-mul_right, eq-eqb, eqb-true}
 use Rattle.std.specs.List.{range_with_len, list_all, list_any}
 use Rattle.std.specs.Option.{option_or}
 use native.Mathlib.Nat.{div-eq_of_lt-le}
@@ -8,15 +10,16 @@ use Rattle.std.proofs.lemmas.List.{set-set}
 use Rattle.flat_model.specs.Places.{place_of}
 use Rattle.flat_model.proofs.Places.{place_of-passes}
 use Rattle.write_queue.specs.declared.Queued.{Queued}
-use Rattle.cache_unit.specs.State.{Sizes, Frame, Register, Cache, empty_frame, free_register, frame_at, frame_of, is_present, register_at, is_live, live_for, is_pending, is_pending_block, free_slot}
+use Rattle.cache_unit.specs.State.{Sizes, Frame, Register, Cache, empty_frame, free_register, frame_at, frame_of, is_present, register_at}
+use Rattle.cache_unit.specs.State.{is_live, live_for, is_pending, is_pending_block, free_slot}
 use Rattle.cache_unit.specs.Causes.{choose, ways_of, order_of, is_resident_block, dirty_words}
-use Rattle.cache_unit.specs.Steps.{fresh_frame, fresh_register, released, installed, missed, fetched}
+use Rattle.cache_unit.specs.Steps.{fresh_frame, fresh_register, released, installed, missed, reads, fetched, fetches}
 use Rattle.cache_unit.specs.FormLaws.{form_at, missed_words, fetched_words}
 use Rattle.cache_unit.specs.SoundCache.{IsSoundCache}
 use Rattle.cache_unit.proofs.FormsPlaces.{frame-comes}
 use Rattle.cache_unit.proofs.FormsParts.{in_range}
 use Rattle.cache_unit.proofs.FormsFinding.{frame_of-some, none_in_frames, live_for-some}
-use Rattle.cache_unit.proofs.FormsFetching.{FetchedBy, installed-by}
+use Rattle.cache_unit.proofs.FormsFetching.{FetchedBy, installed-by, MissedBy, missed-by}
 use Rattle.cache_directory.proofs.Finds.{find-passes}
 
 -- ---- searches
@@ -29,17 +32,23 @@ pub found_in : (p : ℕ → Bool) (order : List ℕ) (f : ℕ) → is_in order f
 found_in p [] f e h = cc
 found_in p (x ∷ order) f e h = go (p x) refl (found_in p order f)
   where
-    go : (b : Bool) → p x ≡ b → (is_in order f ≡ true → p f ≡ true → is_some (find p order) ≡ true) → is_some (cond b (Some x) (find p order)) ≡ true
+    go : (b : Bool) → p x ≡ b → (is_in order f ≡ true → p f ≡ true → is_some (find p order) ≡ true)
+        → is_some (cond b (Some x) (find p order)) ≡ true
     go true q rest = refl
     go false q rest =
-        ⊎_elim (λ k. let same : x ≡ f = eqb-true x f k in let no : p f ≡ false = ap p (sym same) ∙ q in cc) (λ k. rest k h) (or_cases (x == f) (is_in order f) e)
+        ⊎_elim (λ k. let same : x ≡ f = eqb-true x f k in let no : p f ≡ false = ap p (sym same) ∙ q in cc)
+        (λ k. rest k h) (or_cases (x == f) (is_in order f) e)
 
 -- where not all pass, one does not
-pub one_fails : (p : ℕ → Bool) (a n : ℕ) → list_all p (range_with_len a n) ≡ false → (k : ℕ) × (a ≤ k) × (k < a + n) × (p k ≡ false) × (is_in (range_with_len a n) k ≡ true)
+pub one_fails : (p : ℕ → Bool) (a n : ℕ) → list_all p (range_with_len a n) ≡ false
+    → (k : ℕ) × (a ≤ k) × (k < a + n) × (p k ≡ false) × (is_in (range_with_len a n) k ≡ true)
 one_fails p a zero e = cc
 one_fails p a (suc n) e = go (p a) refl e (one_fails p (a + 1) n)
   where
-    go : (b : Bool) → p a ≡ b → (b && list_all p (range_with_len (a + 1) n)) ≡ false → (list_all p (range_with_len (a + 1) n) ≡ false → (k : ℕ) × (a + 1 ≤ k) × (k < a + 1 + n) × (p k ≡ false) × (is_in (range_with_len (a + 1) n) k ≡ true)) → (k : ℕ) × (a ≤ k) × (k < a + suc n) × (p k ≡ false) × (is_in (range_with_len a (suc n)) k ≡ true)
+    go : (b : Bool) → p a ≡ b → (b && list_all p (range_with_len (a + 1) n)) ≡ false
+        → (list_all p (range_with_len (a + 1) n) ≡ false
+        → (k : ℕ) × (a + 1 ≤ k) × (k < a + 1 + n) × (p k ≡ false) × (is_in (range_with_len (a + 1) n) k ≡ true))
+        → (k : ℕ) × (a ≤ k) × (k < a + suc n) × (p k ≡ false) × (is_in (range_with_len a (suc n)) k ≡ true)
     go true q r rest =
         let k = rest r in
         (k.0, let l = k.1 in omega arith, let l = k.2 in omega arith, k.3, or_right (a == k.0) (is_in (range_with_len (a + 1) n) k.0) k.4)
@@ -49,7 +58,8 @@ pub find_range : (p : ℕ → Bool) (a n x : ℕ) → find p (range_with_len a n
 find_range p a zero x e = cc
 find_range p a (suc n) x e = go (p a) (find_range p (a + 1) n x) e
   where
-    go : (b : Bool) → (find p (range_with_len (a + 1) n) ≡ Some x → (a + 1 ≤ x) × (x < a + 1 + n)) → cond b (Some a) (find p (range_with_len (a + 1) n)) ≡ Some x → (a ≤ x) × (x < a + suc n)
+    go : (b : Bool) → (find p (range_with_len (a + 1) n) ≡ Some x → (a + 1 ≤ x) × (x < a + 1 + n))
+        → cond b (Some a) (find p (range_with_len (a + 1) n)) ≡ Some x → (a ≤ x) × (x < a + suc n)
     go true rest q = let same : a ≡ x = cc in (omega arith, omega arith)
     go false rest q = let r = rest q in (let r0 = r.0 in omega arith, let r1 = r.1 in omega arith)
 
@@ -59,11 +69,29 @@ pub none_from : {X : Type 0} (o : Option X) → is_none o ≡ true → o ≡ Non
 none_from None e = refl
 none_from (Some x) e = cc
 
-resident_from : (c : Cache) (o : Option ℕ) → is_resident_block c o ≡ true → is_some o ≡ true
+resident_from : (c : Cache) (o : Option ℕ) → is_resident_block c o ≡ true → (b : ℕ) × (o ≡ Some b) × (live_for c b ≡ None)
 resident_from c None e = cc
-resident_from c (Some b) e = refl
+resident_from c (Some b) e = (b, refl, none_from (live_for c b) e)
 
-chosen : (z : Sizes) (c : Cache) → IsSoundCache z c → (block f : ℕ) → choose z c block ≡ Some f → f < length c.frames
+-- what is found is a member
+member : (p : ℕ → Bool) (order : List ℕ) (f : ℕ) → find p order ≡ Some f → is_in order f ≡ true
+member p [] f e = cc
+member p (x ∷ order) f e = go (p x) e (member p order f)
+  where
+    go : (b : Bool) → cond b (Some x) (find p order) ≡ Some f → (find p order ≡ Some f → is_in order f ≡ true) → is_in (x ∷ order) f ≡ true
+    go true q rest = let same : x ≡ f = cc in or_left (x == f) (is_in order f) (eq-eqb x f same)
+    go false q rest = or_right (x == f) (is_in order f) (rest q)
+
+-- a frame that holds nothing, or a block with no live register
+abbrev pub MayGo : Cache → ℕ → Type 0
+MayGo c f = ((frame_at c f).block ≡ None) ⊎ ((b : ℕ) × ((frame_at c f).block ≡ Some b) × (live_for c b ≡ None))
+
+-- a frame of the set, by its number or by the set's order
+abbrev pub OfSet : Sizes → Cache → ℕ → ℕ → Type 0
+OfSet z c s f = (f / z.ways ≡ s) ⊎ (is_in (order_of c.orders s) f ≡ true)
+
+chosen : (z : Sizes) (c : Cache) → IsSoundCache z c → (block f : ℕ) → choose z c block ≡ Some f
+    → (f < length c.frames) × MayGo c f × OfSet z c (block % z.sets) f
 unfolding choose
 chosen z c h block f e = go (find free ways) refl (find resident order) refl e
   where
@@ -79,20 +107,23 @@ chosen z c h block f e = go (find free ways) refl (find resident order) refl e
     resident : ℕ → Bool
     resident g = is_resident_block c (frame_at c g).block
 
-    by_free : find free ways ≡ Some f → f < length c.frames
+    by_free : find free ways ≡ Some f → (f < length c.frames) × MayGo c f × OfSet z c (block % z.sets) f
     by_free q =
         let r = find_range free (block % z.sets * z.ways) z.ways f q in
         let l : block % z.sets < z.sets = mod-lt block h.some_sets in
         let k : suc (block % z.sets) * z.ways ≤ z.sets * z.ways = mul-le-mul_right z.ways l in
         let n = h.frames_are in
         let r1 = r.1 in
-        omega arith
+        let own : f / z.ways ≡ block % z.sets = div-eq_of_lt-le z.ways (let r0 = r.0 in omega arith) (let r2 = r.1 in omega arith) in
+        (omega arith, inl (none_from _ (find-passes free ways f q)), inl own)
 
-    by_resident : find resident order ≡ Some f → f < length c.frames
+    by_resident : find resident order ≡ Some f → (f < length c.frames) × MayGo c f × OfSet z c (block % z.sets) f
     by_resident q =
-        in_range (λ (x : Frame). is_some x.block) empty_frame c.frames f refl (resident_from c (frame_at c f).block (find-passes resident order f q))
+        let p = resident_from c (frame_at c f).block (find-passes resident order f q) in
+        (in_range (λ (x : Frame). is_some x.block) empty_frame c.frames f refl (ap is_some p.1), inr p, inr (member resident order f q))
 
-    go : (a : Option ℕ) → find free ways ≡ a → (b : Option ℕ) → find resident order ≡ b → option_or a b ≡ Some f → f < length c.frames
+    go : (a : Option ℕ) → find free ways ≡ a → (b : Option ℕ) → find resident order ≡ b → option_or a b ≡ Some f
+        → (f < length c.frames) × MayGo c f × OfSet z c (block % z.sets) f
     go (Some x) p b q r = by_free (p ∙ r)
     go None p b q r = by_resident (q ∙ r)
 
@@ -107,25 +138,32 @@ free_register_at c slot e =
 abbrev pub Able : Sizes → Cache → ℕ → Type 0
 Able z c block = ((length (filter (λ r. r.valid) c.registers) == z.regs) ≡ false) × (list_all (is_pending c) (ways_of z block) ≡ false)
 
-pub all_valid : (registers : List Register) → place_of (λ (r : Register). not r.valid) registers ≡ None → length (filter (λ (r : Register). r.valid) registers) ≡ length registers
+pub all_valid : (registers : List Register) → place_of (λ (r : Register). not r.valid) registers ≡ None
+    → length (filter (λ (r : Register). r.valid) registers) ≡ length registers
 all_valid [] e = refl
 all_valid (r ∷ registers) e = go r.valid (place_of (λ (x : Register). not x.valid) registers) e (all_valid registers)
   where
-    go : (b : Bool) (o : Option ℕ) → cond (not b) (Some 0) (option_map (λ k. suc k) o) ≡ None → (o ≡ None → length (filter (λ (x : Register). x.valid) registers) ≡ length registers) → length (cond b (r ∷ filter (λ (x : Register). x.valid) registers) (filter (λ (x : Register). x.valid) registers)) ≡ suc (length registers)
+    go : (b : Bool) (o : Option ℕ) → cond (not b) (Some 0) (option_map (λ k. suc k) o) ≡ None
+        → (o ≡ None → length (filter (λ (x : Register). x.valid) registers) ≡ length registers)
+        → length (cond b (r ∷ filter (λ (x : Register). x.valid) registers) (filter (λ (x : Register). x.valid) registers))
+        ≡ suc (length registers)
     go true None q rest = ap suc (rest refl)
     go true (Some k) q rest = cc
     go false o q rest = cc
 
-some_slot : (z : Sizes) (c : Cache) → IsSoundCache z c → (length (filter (λ r. r.valid) c.registers) == z.regs) ≡ false → is_none (free_slot c) ≡ false
+some_slot : (z : Sizes) (c : Cache) → IsSoundCache z c → (length (filter (λ r. r.valid) c.registers) == z.regs) ≡ false
+    → is_none (free_slot c) ≡ false
 some_slot z c h e = go (free_slot c) refl
   where
     go : (o : Option ℕ) → free_slot c ≡ o → is_none o ≡ false
     go (Some k) q = refl
     go None q =
-        let full : (length (filter (λ r. r.valid) c.registers) == z.regs) ≡ true = eq-eqb _ z.regs (all_valid c.registers q ∙ h.registers_are) in
+        let full : (length (filter (λ r. r.valid) c.registers) == z.regs) ≡ true =
+        eq-eqb _ z.regs (all_valid c.registers q ∙ h.registers_are) in
         cc
 
-some_frame : (z : Sizes) (c : Cache) → IsSoundCache z c → (block : ℕ) → list_all (is_pending c) (ways_of z block) ≡ false → is_none (choose z c block) ≡ false
+pub some_frame : (z : Sizes) (c : Cache) → IsSoundCache z c → (block : ℕ) → list_all (is_pending c) (ways_of z block) ≡ false
+    → is_none (choose z c block) ≡ false
 unfolding choose
 some_frame z c h block e = go (frame_at c x.0).block refl x.3
   where
@@ -157,45 +195,119 @@ some_frame z c h block e = go (frame_at c x.0).block refl x.3
     none None q = refl
     none (Some k) q = cc
 
-    go : (o : Option ℕ) → (frame_at c x.0).block ≡ o → is_pending_block c (frame_at c x.0).block ≡ false → is_none (option_or (find free (ways_of z block)) (find resident (order_of c.orders (block % z.sets)))) ≡ false
+    go : (o : Option ℕ) → (frame_at c x.0).block ≡ o → is_pending_block c (frame_at c x.0).block ≡ false
+        → is_none (option_or (find free (ways_of z block)) (find resident (order_of c.orders (block % z.sets)))) ≡ false
     go None q r = left _ _ (found_in free (ways_of z block) x.0 x.4 (ap is_none q))
     go (Some b) q r =
-        let here : is_in (order_of c.orders (block % z.sets)) x.0 ≡ true = ap (λ s. is_in (order_of c.orders s) x.0) (sym own) ∙ h.placed x.0 b q in
+        let here : is_in (order_of c.orders (block % z.sets)) x.0 ≡ true = ap (λ s. is_in (order_of c.orders s) x.0) (sym own)
+        ∙ h.placed x.0 b q in
         let waits : is_some (live_for c b) ≡ false = ap (is_pending_block c) (sym q) ∙ r in
-        right (find free (ways_of z block)) _ (found_in resident (order_of c.orders (block % z.sets)) x.0 here (ap (is_resident_block c) q ∙ none (live_for c b) waits))
+        right (find free (ways_of z block)) _ (found_in resident (order_of c.orders (block % z.sets)) x.0 here
+        (ap (is_resident_block c) q ∙ none (live_for c b) waits))
 
 -- ---- the block is fetched
 
-missed-by : (z : Sizes) (c : Cache) → IsSoundCache z c → (block f slot : ℕ) → frame_of c block ≡ None → choose z c block ≡ Some f → free_slot c ≡ Some slot → FetchedBy z c block (installed z (released z c f) block f slot)
-unfolding installed released
-missed-by z c h block f slot absent ef es =
-    subst (λ fs. FetchedBy z c block (record { frames = fs; orders = orders; registers = set c.registers slot (fresh_register z queue block); stack = c.stack; queue = queue; ready = c.ready })) (sym (set-set c.frames f empty_frame (fresh_frame z queue block))) (installed-by z c h block f slot absent (chosen z c h block f ef) r.0 r.1 orders (missed_words z c block (Some f) (Some slot)) refl words)
+-- a missing block with the frame and the register that are chosen for it
+module _ (z : Sizes) (c : Cache) (h : IsSoundCache z c) (block f slot : ℕ) (absent : frame_of c block ≡ None)
+    (ef : choose z c block ≡ Some f) (es : free_slot c ≡ Some slot) where
+  queue_then : List Queued
+  queue_then = c.queue ++ dirty_words z c (Some f)
+
+  orders_then : List (List ℕ)
+  orders_then = (installed z (released z c f) block f slot).orders
+
+  free : (slot < length c.registers) × ((register_at c slot).valid ≡ false)
+  free = free_register_at c slot es
+
+  -- the frame is cleared, and then taken
+  taken_is : installed z (released z c f) block f slot
+      ≡ record {
+        frames = set c.frames f (fresh_frame z queue_then block);
+        orders = orders_then;
+        registers =
+            set c.registers slot (fresh_register z queue_then block);
+        stack = c.stack;
+        queue = queue_then;
+        ready = c.ready;
+      }
+  unfolding installed released queue_then orders_then
+  taken_is =
+      let with_frames : List Frame → Cache = λ fs. record {
+        frames = fs;
+        orders = orders_then;
+        registers =
+            set c.registers slot (fresh_register z queue_then block);
+        stack = c.stack;
+        queue = queue_then;
+        ready = c.ready;
+      } in
+      ap with_frames (set-set c.frames f empty_frame (fresh_frame z queue_then block))
+
+  pub fetched_is : fetched z c block ≡ installed z (released z c f) block f slot
+  unfolding fetched
+  fetched_is =
+      ap (λ o. cond (is_some o) c (missed z c block (choose z c block) (free_slot c))) absent
+      ∙ ap (λ o. missed z c block o (free_slot c)) ef ∙ ap (missed z c block (Some f)) es
+
+  miss-parts : MissedBy z c block f slot (installed z (released z c f) block f slot)
+  unfolding queue_then
+  miss-parts =
+      subst (MissedBy z c block f slot) (sym taken_is)
+      (missed-by z c h block f slot absent (chosen z c h block f ef).0 free.0 free.1 orders_then)
+
+  miss-fetched : FetchedBy z c block (installed z (released z c f) block f slot)
+  unfolding queue_then
+  miss-fetched =
+      subst (FetchedBy z c block) (sym taken_is)
+      (installed-by z c h block f slot absent (chosen z c h block f ef).0 free.0 free.1 orders_then
+      (missed_words z c block (Some f) (Some slot)) refl words)
+    where
+      words : fetched_words z c block ≡ missed_words z c block (Some f) (Some slot)
+      words =
+          ap (λ o. cond (is_some o) (form_at z c) (missed_words z c block (choose z c block) (free_slot c))) absent
+          ∙ ap (λ o. missed_words z c block o (free_slot c)) ef ∙ ap (missed_words z c block (Some f)) es
+
+-- a missing block that a frame and a register are found for, and what its fetch makes of the unit
+pub record Misses (z : Sizes) (c : Cache) (block : ℕ) : Type 0 where
+  pub frame : ℕ
+  pub slot : ℕ
+  pub may_go : MayGo c frame
+  pub of_set : OfSet z c (block % z.sets) frame
+  pub invalid : (register_at c slot).valid ≡ false
+  pub sent : fetches z c block ≡ reads z block (Some slot)
+  pub is : fetched z c block ≡ installed z (released z c frame) block frame slot
+  pub by : MissedBy z c block frame slot (fetched z c block)
+  pub fetched_by : FetchedBy z c block (fetched z c block)
+
+pub misses : (z : Sizes) (c : Cache) → IsSoundCache z c → (block : ℕ) → frame_of c block ≡ None → Able z c block → Misses z c block
+unfolding fetches
+misses z c h block absent able =
+    go (choose z c block) refl (some_frame z c h block able.1) (free_slot c) refl (some_slot z c h able.0)
   where
-    queue : List Queued
-    queue = c.queue ++ dirty_words z c (Some f)
+    go : (o : Option ℕ) → choose z c block ≡ o → is_none o ≡ false → (s : Option ℕ) → free_slot c ≡ s → is_none s ≡ false → Misses z c block
+    go None ef p s es q = cc
+    go (Some f) ef p None es q = cc
+    go (Some f) ef p (Some slot) es q =
+        let way = chosen z c h block f ef in
+        let free = free_register_at c slot es in
+        let is = fetched_is z c h block f slot absent ef es in
+        record {
+          frame = f;
+          slot = slot;
+          may_go = way.1;
+          of_set = way.2;
+          invalid = free.1;
+          sent = ap (λ o. cond (is_some o) [] (reads z block (free_slot c))) absent ∙ ap (reads z block) es;
+          is = is;
+          by = subst (MissedBy z c block f slot) (sym is) (miss-parts z c h block f slot absent ef es);
+          fetched_by = subst (FetchedBy z c block) (sym is) (miss-fetched z c h block f slot absent ef es);
+        }
 
-    orders : List (List ℕ)
-    orders = (installed z (released z c f) block f slot).orders
-
-    r : (slot < length c.registers) × ((register_at c slot).valid ≡ false)
-    r = free_register_at c slot es
-
-    words : fetched_words z c block ≡ missed_words z c block (Some f) (Some slot)
-    words =
-        ap (λ o. cond (is_some o) (form_at z c) (missed_words z c block (choose z c block) (free_slot c))) absent ∙ ap (λ o. missed_words z c block o (free_slot c)) ef ∙ ap (missed_words z c block (Some f)) es
-
-pub fetched-by : (z : Sizes) (c : Cache) → IsSoundCache z c → (block : ℕ) → (is_present c block ≡ false → Able z c block) → FetchedBy z c block (fetched z c block)
+pub fetched-by : (z : Sizes) (c : Cache) → IsSoundCache z c → (block : ℕ) → (is_present c block ≡ false → Able z c block)
+    → FetchedBy z c block (fetched z c block)
 unfolding fetched
 fetched-by z c h block able = go (frame_of c block) refl
   where
-    by : Bool → Option ℕ → Option ℕ → Cache
-    by b o s = cond b c (missed z c block o s)
-
-    taken : (s : Option ℕ) → free_slot c ≡ s → (o : Option ℕ) → choose z c block ≡ o → is_none s ≡ false → is_none o ≡ false → frame_of c block ≡ None → FetchedBy z c block (by false o s)
-    taken None es o eo p q absent = cc
-    taken (Some slot) es None eo p q absent = cc
-    taken (Some slot) es (Some f) eo p q absent = missed-by z c h block f slot absent eo es
-
     there : (k : ℕ) → frame_of c block ≡ Some k → FetchedBy z c block c
     there k e =
         record {
@@ -219,23 +331,20 @@ fetched-by z c h block able = go (frame_of c block) refl
 
     go : (o : Option ℕ) → frame_of c block ≡ o → FetchedBy z c block (fetched z c block)
     go (Some k) e =
-        subst (λ b. FetchedBy z c block (by b (choose z c block) (free_slot c))) (sym (ap is_some e)) (there k e)
-    go None e =
-        let a = able (ap is_some e) in
-        subst (λ b. FetchedBy z c block (by b (choose z c block) (free_slot c))) (sym (ap is_some e)) (taken (free_slot c) refl (choose z c block) refl (some_slot z c h a.0) (some_frame z c h block a.1) e)
+        subst (λ b. FetchedBy z c block (cond b c (missed z c block (choose z c block) (free_slot c)))) (sym (ap is_some e)) (there k e)
+    go None e = (misses z c h block e (able (ap is_some e))).fetched_by
 
 -- a block that is fetched lies in the frame that was chosen for it
-pub fetched_frame : (z : Sizes) (c : Cache) → IsSoundCache z c → (block f slot : ℕ) → frame_of c block ≡ None → choose z c block ≡ Some f → free_slot c ≡ Some slot → frame_of (fetched z c block) block ≡ Some f
+pub fetched_frame : (z : Sizes) (c : Cache) → IsSoundCache z c → (block f slot : ℕ) → frame_of c block ≡ None → choose z c block ≡ Some f
+    → free_slot c ≡ Some slot → frame_of (fetched z c block) block ≡ Some f
 unfolding fetched installed released
 fetched_frame z c h block f slot absent ef es =
-    ap (λ (x : Cache). frame_of x block) by ∙ frame-comes c (installed z (released z c f) block f slot) f (fresh_frame z queue block) block frames (chosen z c h block f ef) refl (λ k e. absurd (none_in_frames c block absent k e))
+    ap (λ (x : Cache). frame_of x block) (fetched_is z c h block f slot absent ef es)
+    ∙ frame-comes c (installed z (released z c f) block f slot) f (fresh_frame z queue block) block frames
+    (chosen z c h block f ef).0 refl (λ k e. absurd (none_in_frames c block absent k e))
   where
     queue : List Queued
     queue = c.queue ++ dirty_words z c (Some f)
 
     frames : (installed z (released z c f) block f slot).frames ≡ set c.frames f (fresh_frame z queue block)
     frames = set-set c.frames f empty_frame (fresh_frame z queue block)
-
-    by : fetched z c block ≡ installed z (released z c f) block f slot
-    by =
-        ap (λ o. cond (is_some o) c (missed z c block (choose z c block) (free_slot c))) absent ∙ ap (λ o. missed z c block o (free_slot c)) ef ∙ ap (missed z c block (Some f)) es

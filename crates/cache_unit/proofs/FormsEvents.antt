@@ -1,5 +1,6 @@
 -- The events that move a word or a value: a drained write, a word that arrives, a value that is taken.
-use Rattle.std.proofs.Common.{◌≡◌, ℕ, ◌/◌, ◌%◌, ◌≤◌, Bool, true, false, cond, ◌&&◌, ◌==◌, nat_lt, List, [], ◌∷◌, map, Option, Some, None, option_map, find, remove, slice_get, refl, sym, ap, ◌∙◌, subst, arith, eq-eqb, ne_eqb, eqb-true}
+use Rattle.std.proofs.Common.{◌≡◌, ℕ, ◌/◌, ◌%◌, ◌≤◌, Bool, true, false, cond, ◌&&◌, ◌==◌, nat_lt, List, [], ◌∷◌, map, Option, Some, None}
+use Rattle.std.proofs.Common.{option_map, find, remove, slice_get, refl, sym, ap, ◌∙◌, subst, arith, eq-eqb, ne_eqb, eqb-true}
 use Rattle.std.specs.Option.{option_or}
 use Rattle.std.proofs.lemmas.Bool.{eqb-false}
 use Rattle.std.proofs.lemmas.List.Folds.{find-append}
@@ -18,8 +19,9 @@ use Rattle.cache_unit.specs.declared.Reply.{Reply}
 use Rattle.cache_unit.specs.State.{Sizes, Target, Cache, field_at, live_for, frame_of, targets, cell_of, block_of, place_in}
 use Rattle.cache_unit.specs.Causes.{arrive_cause}
 use Rattle.cache_unit.specs.Steps.{Stepped, unless, moved, drain_first, arrived, arrive_step, take_reply, take_step}
-use Rattle.cache_unit.specs.Forms.{Byte, Asked, Form, bytes_of, missing_form, coming_form, over_form, form_in, form, target_form, owed, fill}
-use Rattle.cache_unit.specs.FormLaws.{form_where, form_at, forms, but_at, filled_form, DrainForms, ArriveForms, TakenForms}
+use Rattle.cache_unit.specs.Forms.{Byte, Asked, Form, bytes_of, missing_form, coming_form, over_form, form_in, form, target_form, owed}
+use Rattle.cache_unit.specs.Forms.{fill}
+use Rattle.cache_unit.specs.FormLaws.{form_where, form_at, forms, but_at, filled_form, DrainForms, ArriveForms, TakeForms, TakenForms}
 use Rattle.cache_unit.specs.SoundCache.{IsSoundCache}
 use Rattle.cache_unit.specs.Counts.{tally, bit}
 use Rattle.cache_unit.proofs.FormsLists.{Adds, Adds-tally, Adds-find_other, Adds-find_same, find_none, Adds-right, Adds-map, Adds-remove}
@@ -57,36 +59,50 @@ drain_kept z c a = refl
 -- ---- arrive
 
 -- a word that arrives fills what comes
-coming_filled : (c : Cache) (slot i : ℕ) (w : Word) (s j : ℕ) (l : Lane) → coming_form (arrived c slot i w) s j l ≡ fill slot i w (coming_form c s j l)
+coming_filled : (c : Cache) (slot i : ℕ) (w : Word) (s j : ℕ) (l : Lane)
+    → coming_form (arrived c slot i w) s j l ≡ fill slot i w (coming_form c s j l)
 unfolding stack_word arrived
 coming_filled c slot i w s j l =
-    ap (λ o. missing_form (option_map (λ (x : Entry). x.word) o) s j l) (find-append (is_entry s j) c.stack (e ∷ [])) ∙ go (find (is_entry s j) c.stack)
+    ap (λ o. missing_form (option_map (λ (x : Entry). x.word) o) s j l) (find-append (is_entry s j) c.stack (e ∷ []))
+    ∙ go (find (is_entry s j) c.stack)
   where
     e : Entry
     e = record { slot = slot; i = i; word = w }
 
-    go : (o : Option Entry) → missing_form (option_map (λ (x : Entry). x.word) (option_or o (cond ((slot == s) && (i == j)) (Some e) None))) s j l ≡ fill slot i w (missing_form (option_map (λ (x : Entry). x.word) o) s j l)
+    go : (o : Option Entry) → missing_form (option_map
+        (λ (x : Entry). x.word) (option_or o (cond ((slot == s) && (i == j)) (Some e) None))) s j l
+        ≡ fill slot i w (missing_form (option_map (λ (x : Entry). x.word) o) s j l)
     go (Some x) = refl
     go None =
-        elim ((slot == s) && (i == j)) as (λ b. missing_form (option_map (λ (x : Entry). x.word) (cond b (Some e) None)) s j l ≡ cond b (Byte (byte w l)) (Asked s j l)) [ true ↦ refl | false ↦ refl ]
+        elim ((slot == s) && (i == j)) as (λ b. missing_form (option_map (λ (x : Entry). x.word) (cond b (Some e) None)) s j l
+        ≡ cond b (Byte (byte w l)) (Asked s j l)) [ true ↦ refl | false ↦ refl ]
 
-over_filled : (lanes : Lanes) (u : Word) (slot i : ℕ) (w : Word) (f g : Form) → ((l : Lane) → g l ≡ fill slot i w (f l)) → (l : Lane) → over_form lanes u g l ≡ fill slot i w (over_form lanes u f l)
+over_filled : (lanes : Lanes) (u : Word) (slot i : ℕ) (w : Word) (f g : Form) → ((l : Lane) → g l ≡ fill slot i w (f l)) → (l : Lane)
+    → over_form lanes u g l ≡ fill slot i w (over_form lanes u f l)
 over_filled lanes u slot i w f g same l =
-    elim (has lanes l) as (λ b. cond b (Byte (byte u l)) (g l) ≡ fill slot i w (cond b (Byte (byte u l)) (f l))) [ true ↦ refl | false ↦ same l ]
+    elim (has lanes l) as (λ b. cond b (Byte (byte u l)) (g l) ≡ fill slot i w (cond b (Byte (byte u l)) (f l)))
+    [ true ↦ refl | false ↦ same l ]
 
-form_filled : (c : Cache) (slot i : ℕ) (w : Word) (block k : ℕ) (l : Lane) → form (arrived c slot i w) block k l ≡ fill slot i w (form c block k l)
+form_filled : (c : Cache) (slot i : ℕ) (w : Word) (block k : ℕ) (l : Lane)
+    → form (arrived c slot i w) block k l ≡ fill slot i w (form c block k l)
 unfolding live_for frame_of arrived
 form_filled c slot i w block k l = go (live_for c block)
   where
-    go : (o : Option ℕ) → form_in (arrived c slot i w) o k (cell_of c block k).word l ≡ fill slot i w (form_in c o k (cell_of c block k).word l)
+    go : (o : Option ℕ) → form_in (arrived c slot i w) o k (cell_of c block k).word l
+        ≡ fill slot i w (form_in c o k (cell_of c block k).word l)
     go None = refl
     go (Some s) = by_field (field_at c s k).processed
       where
-        by_field : (p : Bool) → cond p (bytes_of (cell_of c block k).word) (over_form (field_at c s k).code (cell_of c block k).word (coming_form (arrived c slot i w) s k)) l ≡ fill slot i w (cond p (bytes_of (cell_of c block k).word) (over_form (field_at c s k).code (cell_of c block k).word (coming_form c s k)) l)
+        by_field : (p : Bool) → cond p (bytes_of (cell_of c block k).word)
+            (over_form (field_at c s k).code (cell_of c block k).word (coming_form (arrived c slot i w) s k)) l
+            ≡ fill slot i w (cond p (bytes_of (cell_of c block k).word)
+            (over_form (field_at c s k).code (cell_of c block k).word (coming_form c s k)) l)
         by_field true = refl
-        by_field false = over_filled (field_at c s k).code (cell_of c block k).word slot i w (coming_form c s k) (coming_form (arrived c slot i w) s k) (coming_filled c slot i w s k) l
+        by_field false = over_filled (field_at c s k).code (cell_of c block k).word slot i w (coming_form c s k)
+            (coming_form (arrived c slot i w) s k) (coming_filled c slot i w s k) l
 
-word_filled : (z : Sizes) (c : Cache) (slot i : ℕ) (w : Word) (at : ℕ) → form_at z (arrived c slot i w) at ≡ option_map (filled_form slot i w) (form_at z c at)
+word_filled : (z : Sizes) (c : Cache) (slot i : ℕ) (w : Word) (at : ℕ)
+    → form_at z (arrived c slot i w) at ≡ option_map (filled_form slot i w) (form_at z c at)
 unfolding form_at frame_of arrived
 word_filled z c slot i w at = go (frame_of c (block_of z at))
   where
@@ -96,23 +112,39 @@ word_filled z c slot i w at = go (frame_of c (block_of z at))
 
 owed_filled : (c : Cache) (slot i : ℕ) (w : Word) (tag : ℕ) → owed (arrived c slot i w) tag ≡ option_map (filled_form slot i w) (owed c tag)
 unfolding arrived
-owed_filled c slot i w tag = go (find (λ (r : Reply). r.tag == tag) c.ready) (find (λ (t : Target). t.load.tag == tag) (targets c.registers))
+owed_filled c slot i w tag = go (find (λ (r : Reply). r.tag == tag) c.ready)
+    (find (λ (t : Target). t.load.tag == tag) (targets c.registers))
   where
-    go : (a : Option Reply) (b : Option Target) → option_or (option_map (λ r. bytes_of r.word) a) (option_map (target_form (arrived c slot i w)) b) ≡ option_map (filled_form slot i w) (option_or (option_map (λ r. bytes_of r.word) a) (option_map (target_form c) b))
+    go : (a : Option Reply) (b : Option Target)
+        → option_or (option_map (λ r. bytes_of r.word) a) (option_map (target_form (arrived c slot i w)) b)
+        ≡ option_map (filled_form slot i w) (option_or (option_map (λ r. bytes_of r.word) a) (option_map (target_form c) b))
     go (Some r) b = refl
     go None None = refl
     go None (Some t) =
-        ap Some (λ n l. over_filled t.load.lanes t.load.held slot i w (coming_form c t.slot t.i) (coming_form (arrived c slot i w) t.slot t.i) (coming_filled c slot i w t.slot t.i) l n)
+        ap Some (λ n l. over_filled t.load.lanes t.load.held slot i w (coming_form c t.slot t.i)
+        (coming_form (arrived c slot i w) t.slot t.i) (coming_filled c slot i w t.slot t.i) l n)
 
-arrive_ok : (z : Sizes) (c : Cache) (slot i : ℕ) (w : Word) (o : Option Cause) → ArriveForms z c slot i w (unless o c (moved (arrived c slot i w))).answer (unless o c (moved (arrived c slot i w))).cache
+pub arrived_forms : (z : Sizes) (c : Cache) (slot i : ℕ) (w : Word)
+    → forms z (arrived c slot i w) ≡ record {
+      words = λ at. option_map (filled_form slot i w) (form_at z c at);
+      owing =
+          λ tag. option_map (filled_form slot i w) (owed c tag);
+    }
+arrived_forms z c slot i w = forms-from z (arrived c slot i w) _ _ (word_filled z c slot i w) (owed_filled c slot i w)
+
+arrive_ok : (z : Sizes) (c : Cache) (slot i : ℕ) (w : Word) (o : Option Cause)
+    → ArriveForms z c slot i w (unless o c (moved (arrived c slot i w))).answer (unless o c (moved (arrived c slot i w))).cache
 unfolding ArriveForms
 arrive_ok z c slot i w (Some cause) = refl
-arrive_ok z c slot i w None = forms-from z (arrived c slot i w) _ _ (word_filled z c slot i w) (owed_filled c slot i w)
+arrive_ok z c slot i w None = arrived_forms z c slot i w
 
-pub arrive_forms : (z : Sizes) (c : Cache) (slot i : ℕ) (w : Word) (a : Answer) (d : Cache) → a ≡ (arrive_step z c slot i w).answer → d ≡ (arrive_step z c slot i w).cache → ArriveForms z c slot i w a d
+pub arrive_forms : (z : Sizes) (c : Cache) (slot i : ℕ) (w : Word) (a : Answer) (d : Cache) → a ≡ (arrive_step z c slot i w).answer
+    → d ≡ (arrive_step z c slot i w).cache → ArriveForms z c slot i w a d
 unfolding arrive_step
 arrive_forms z c slot i w a d ea ed =
-    subst (λ x. ArriveForms z c slot i w x d) (sym ea) (subst (λ x. ArriveForms z c slot i w (arrive_step z c slot i w).answer x) (sym ed) (arrive_ok z c slot i w (arrive_cause z c slot i)))
+    subst (λ x. ArriveForms z c slot i w x d) (sym ea)
+    (subst (λ x. ArriveForms z c slot i w (arrive_step z c slot i w).answer x) (sym ed)
+    (arrive_ok z c slot i w (arrive_cause z c slot i)))
 
 -- ---- take
 
@@ -126,17 +158,20 @@ tag_same r t e = eq-eqb r.tag t (sym (eqb-true t r.tag e))
 tag_other : (r : Due) (t : ℕ) → (t == r.tag) ≡ false → has_tag t r ≡ false
 tag_other r t e = ne_eqb r.tag t (λ k. eqb-false t r.tag e (sym k))
 
-pub due_in-added : (r : Due) (xs ys : List Due) → Adds r xs ys → tally (has_tag r.tag) xs ≡ 0 → (t : ℕ) → due_in ys t ≡ but_at (due_in xs) r.tag (Some r.form) t
+pub due_in-added : (r : Due) (xs ys : List Due) → Adds r xs ys → tally (has_tag r.tag) xs ≡ 0 → (t : ℕ)
+    → due_in ys t ≡ but_at (due_in xs) r.tag (Some r.form) t
 unfolding due_in
 due_in-added r xs ys a none t = go (t == r.tag) refl
   where
     go : (b : Bool) → (t == r.tag) ≡ b → due_in ys t ≡ cond b (Some r.form) (due_in xs t)
     go true e =
         let same : r.tag ≡ t = sym (eqb-true t r.tag e) in
-        ap (option_map (λ (x : Due). x.form)) (Adds-find_same (has_tag t) r xs ys a (tag_same r t e) (subst (λ n. tally (has_tag n) xs ≡ 0) same none))
+        ap (option_map (λ (x : Due). x.form)) (Adds-find_same (has_tag t) r xs ys a (tag_same r t e)
+        (subst (λ n. tally (has_tag n) xs ≡ 0) same none))
     go false e = ap (option_map (λ (x : Due). x.form)) (Adds-find_other (has_tag t) r xs ys a (tag_other r t e))
 
-due_in-removed : (r : Due) (xs ys : List Due) → Adds r xs ys → tally (has_tag r.tag) ys ≤ 1 → (t : ℕ) → due_in xs t ≡ but_at (due_in ys) r.tag None t
+due_in-removed : (r : Due) (xs ys : List Due) → Adds r xs ys → tally (has_tag r.tag) ys ≤ 1 → (t : ℕ)
+    → due_in xs t ≡ but_at (due_in ys) r.tag None t
 unfolding due_in
 due_in-removed r xs ys a once t = go (t == r.tag) refl
   where
@@ -161,15 +196,16 @@ same_words : (z : Sizes) (c : Cache) (ready : List Reply) (at : ℕ) → form_at
 unfolding form_at frame_of live_for
 same_words z c ready at = refl
 
-fewer : (c : Cache) (place : ℕ) (r : Reply) → slice_get c.ready place ≡ Some r → Adds (due_ready r) (dues (record c { ready = remove c.ready place })) (dues c)
+fewer : (c : Cache) (place : ℕ) (r : Reply) → slice_get c.ready place ≡ Some r
+    → Adds (due_ready r) (dues (record c { ready = remove c.ready place })) (dues c)
 unfolding dues
 fewer c place r e =
-    Adds-right (map (due_to c.stack) (targets c.registers)) (due_ready r) _ _ (Adds-map due_ready r (remove c.ready place) c.ready (Adds-remove r c.ready place e))
+    Adds-right (map (due_to c.stack) (targets c.registers)) (due_ready r) _ _
+    (Adds-map due_ready r (remove c.ready place) c.ready (Adds-remove r c.ready place e))
 
-take_ok : (z : Sizes) (c : Cache) → IsSoundCache z c → (place : ℕ) (o : Option Reply) → slice_get c.ready place ≡ o → TakenForms z c (take_reply c place o).answer (take_reply c place o).cache
-unfolding TakenForms
-take_ok z c h place None e = refl
-take_ok z c h place (Some r) e =
+pub took_forms : (z : Sizes) (c : Cache) → IsSoundCache z c → (place : ℕ) (r : Reply) → slice_get c.ready place ≡ Some r
+    → TakeForms z c r.tag r.word (record c { ready = remove c.ready place })
+took_forms z c h place r e =
     let d : Cache = record c { ready = remove c.ready place } in
     let less = fewer c place r e in
     let count = dues-tally c r.tag in
@@ -177,10 +213,20 @@ take_ok z c h place (Some r) e =
     let once : tally (has_tag r.tag) (dues c) ≤ 1 = omega arith in
     record {
       before = owed-due c r.tag ∙ due_in-at (due_ready r) (dues d) (dues c) less once;
-      after = forms-from z d _ _ (same_words z c (remove c.ready place)) (λ tag. owed-due d tag ∙ due_in-removed (due_ready r) (dues d) (dues c) less once tag ∙ ap (λ o. cond (tag == r.tag) None o) (sym (owed-due c tag)));
+      after = forms-from z d _ _ (same_words z c (remove c.ready place))
+          (λ tag. owed-due d tag ∙ due_in-removed (due_ready r) (dues d) (dues c) less once tag
+          ∙ ap (λ o. cond (tag == r.tag) None o) (sym (owed-due c tag)));
     }
 
-pub take_forms : (z : Sizes) (c : Cache) → IsSoundCache z c → (place : ℕ) (a : Answer) (d : Cache) → a ≡ (take_step c place).answer → d ≡ (take_step c place).cache → TakenForms z c a d
+take_ok : (z : Sizes) (c : Cache) → IsSoundCache z c → (place : ℕ) (o : Option Reply) → slice_get c.ready place ≡ o
+    → TakenForms z c (take_reply c place o).answer (take_reply c place o).cache
+unfolding TakenForms
+take_ok z c h place None e = refl
+take_ok z c h place (Some r) e = took_forms z c h place r e
+
+pub take_forms : (z : Sizes) (c : Cache) → IsSoundCache z c → (place : ℕ) (a : Answer) (d : Cache) → a ≡ (take_step c place).answer
+    → d ≡ (take_step c place).cache → TakenForms z c a d
 unfolding take_step
 take_forms z c h place a d ea ed =
-    subst (λ x. TakenForms z c x d) (sym ea) (subst (λ x. TakenForms z c (take_step c place).answer x) (sym ed) (take_ok z c h place (slice_get c.ready place) refl))
+    subst (λ x. TakenForms z c x d) (sym ea)
+    (subst (λ x. TakenForms z c (take_step c place).answer x) (sym ed) (take_ok z c h place (slice_get c.ready place) refl))

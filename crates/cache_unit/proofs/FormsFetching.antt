@@ -1,5 +1,7 @@
 -- A missing block gets a frame and a register, and its words are asked for.
-use Rattle.std.proofs.Common.{◌≡◌, ℕ, zero, suc, ◌+◌, ◌<◌, true, false, cond, not, ◌==◌, List, [], ◌∷◌, ◌++◌, map, length, get_or, set, Option, Some, None, refl, sym, ap, ◌∙◌, arith, ◌⊎◌, inl, inr, ⊎_elim, mod-lt, div-add-mod', get_or-set_same, get_or-set_other, add-zero, eq-eqb, ne_eqb}
+use Rattle.std.proofs.Common.{◌≡◌, ℕ, zero, suc, ◌+◌, ◌<◌, true, false, cond, not, ◌==◌, List, [], ◌∷◌, ◌++◌, map, length, get_or, set}
+use Rattle.std.proofs.Common.{Option, Some, None, refl, sym, ap, ◌∙◌, arith, length-set, ◌⊎◌, inl, inr, ⊎_elim, mod-lt, div-add-mod'}
+use Rattle.std.proofs.Common.{get_or-set_same, get_or-set_other, add-zero, eq-eqb, ne_eqb}
 use Rattle.std.specs.List.{range_with_len}
 use Rattle.std.proofs.lemmas.Bool.{cases_eq, and_parts}
 use Rattle.std.proofs.lemmas.List.FromFn.{length-map-range_with_len}
@@ -8,7 +10,9 @@ use Rattle.flat_model.specs.Words.{zero_word, no_lanes}
 use Rattle.write_queue.specs.declared.Queued.{Queued}
 use Rattle.write_queue.specs.Queue.{overlaid, queued_lanes}
 use Rattle.input_stack.specs.Stack.{stack_word}
-use Rattle.cache_unit.specs.State.{Sizes, Frame, Field, Register, Cache, zero_cell, empty_frame, clear_field, free_register, frame_at, frame_of, is_present, register_at, field_at, is_live, live_for, cell_in, gathered, targets_of, targets_of_field, targets, block_of, place_in, address}
+use Rattle.cache_unit.specs.State.{Sizes, Frame, Field, Register, Cache, zero_cell, empty_frame, clear_field, free_register, frame_at}
+use Rattle.cache_unit.specs.State.{frame_of, is_present, register_at, field_at, is_live, live_for, cell_in, cell_of, gathered, targets_of}
+use Rattle.cache_unit.specs.State.{targets_of_field, targets, block_of, place_in, address}
 use Rattle.cache_unit.specs.Causes.{dirty_words, addresses}
 use Rattle.cache_unit.specs.Steps.{fresh_frame, fresh_register}
 use Rattle.cache_unit.specs.Forms.{Form, Asked, bytes_of, missing_form, over_form, form_in}
@@ -16,7 +20,8 @@ use Rattle.cache_unit.specs.FormLaws.{form_at, words_without, asked_form, missed
 use Rattle.cache_unit.specs.SoundCache.{IsSoundCache}
 use Rattle.cache_unit.proofs.FormsLists.{gathered_part}
 use Rattle.cache_unit.proofs.FormsFinding.{live_for-some, none_in_frames}
-use Rattle.cache_unit.proofs.FormsPlaces.{frame-stays, frame-comes, frame-goes, holds-not, live-stays, live-comes, serves-not, stack_word-none}
+use Rattle.cache_unit.proofs.FormsPlaces.{frame-stays, frame-comes, frame-goes, holds-not, live-stays, live-comes, serves-not}
+use Rattle.cache_unit.proofs.FormsPlaces.{stack_word-none}
 use Rattle.cache_unit.proofs.FormsSame.{form_at-same, form_at-live, form_at-absent}
 use Rattle.cache_unit.proofs.FormsEvicting.{cell-other}
 
@@ -25,7 +30,9 @@ range_at g d a zero j l = absurd (omega arith)
 range_at g d a (suc n) zero l = ap g (sym (add-zero a))
 range_at g d a (suc n) (suc j) l = let e : a + 1 + j ≡ a + suc j = omega arith in range_at g d (a + 1) n j (omega arith) ∙ ap g e
 
-pub no_loads : (queue : List Queued) (slot n a k : ℕ) → gathered (targets_of_field slot) n (map (λ (at : ℕ). let f : Field = record { processed = false; code = queued_lanes queue at; waiting = [] } in f) (range_with_len a k)) ≡ []
+pub no_loads : (queue : List Queued) (slot n a k : ℕ)
+    → gathered (targets_of_field slot) n (map
+    (λ (at : ℕ). let f : Field = record { processed = false; code = queued_lanes queue at; waiting = [] } in f) (range_with_len a k)) ≡ []
 no_loads queue slot n a zero = refl
 no_loads queue slot n a (suc k) = no_loads queue slot (suc n) (a + 1) k
 
@@ -45,12 +52,36 @@ pub record FetchedBy (z : Sizes) (c : Cache) (block : ℕ) (d : Cache) : Type 0 
   -- no load waits yet for a word of a block that was absent
   pub waits : is_present c block ≡ false → (s : ℕ) → live_for d block ≡ Some s → (j : ℕ) → (field_at d s j).waiting ≡ []
 
-none_wait : (queue : List Queued) (xs : List ℕ) (j : ℕ) → (get_or (map (λ at. let x : Field = record { processed = false; code = queued_lanes queue at; waiting = [] } in x) xs) j clear_field).waiting ≡ []
+-- the unit in which a missing block has this frame and this register
+pub record MissedBy (z : Sizes) (c : Cache) (block f slot : ℕ) (d : Cache) : Type 0 where
+  pub number_of_frames : length d.frames ≡ length c.frames
+  pub own_frame : frame_at d f ≡ fresh_frame z d.queue block
+  pub other_frame : (k : ℕ) → (k ≡ f → ⊥) → frame_at d k ≡ frame_at c k
+  pub number_of_registers : length d.registers ≡ length c.registers
+  pub own_register : register_at d slot ≡ fresh_register z d.queue block
+  pub other_register : (t : ℕ) → (t ≡ slot → ⊥) → register_at d t ≡ register_at c t
+  pub words : (at : ℕ) → form_at z d at ≡ missed_words z c block (Some f) (Some slot) at
+  pub same_targets : targets d.registers ≡ targets c.registers
+  pub same_ready : d.ready ≡ c.ready
+  pub same_stack : d.stack ≡ c.stack
+  pub queue : d.queue ≡ c.queue ++ dirty_words z c (Some f)
+  -- the block's words are clean, those of the block that went are nowhere, and the others stay
+  pub clean : (at : ℕ) → block_of z at ≡ block → (cell_of d (block_of z at) (place_in z at)).dirty ≡ no_lanes
+  pub gone : (at : ℕ) → (block_of z at ≡ block → ⊥) → (frame_at c f).block ≡ Some (block_of z at)
+      → cell_of d (block_of z at) (place_in z at) ≡ zero_cell
+  pub cells : (at : ℕ) → (block_of z at ≡ block → ⊥) → ((frame_at c f).block ≡ Some (block_of z at) → ⊥)
+      → cell_of d (block_of z at) (place_in z at) ≡ cell_of c (block_of z at) (place_in z at)
+
+none_wait : (queue : List Queued) (xs : List ℕ) (j : ℕ)
+    → (get_or (map (λ at. let x : Field = record { processed = false; code = queued_lanes queue at; waiting = [] } in
+    x) xs) j clear_field).waiting ≡ []
 none_wait queue [] j = refl
 none_wait queue (x ∷ xs) zero = refl
 none_wait queue (x ∷ xs) (suc j) = none_wait queue xs j
 
-module _ (z : Sizes) (c : Cache) (h : IsSoundCache z c) (block f slot : ℕ) (absent : frame_of c block ≡ None) (f_there : f < length c.frames) (slot_there : slot < length c.registers) (invalid : (register_at c slot).valid ≡ false) (orders : List (List ℕ)) where
+module _ (z : Sizes) (c : Cache) (h : IsSoundCache z c) (block f slot : ℕ) (absent : frame_of c block ≡ None)
+    (f_there : f < length c.frames) (slot_there : slot < length c.registers) (invalid : (register_at c slot).valid ≡ false)
+    (orders : List (List ℕ)) where
   abbrev queue_then : List Queued
   queue_then = c.queue ++ dirty_words z c (Some f)
 
@@ -75,32 +106,59 @@ module _ (z : Sizes) (c : Cache) (h : IsSoundCache z c) (block f slot : ℕ) (ab
 
   found_now : frame_of with_block block ≡ Some f
   found_now =
-      frame-comes c with_block f (fresh_frame z queue_then block) block refl f_there refl (λ k e. absurd (none_in_frames c block absent k e))
+      frame-comes c with_block f (fresh_frame z queue_then block) block refl f_there refl
+      (λ k e. absurd (none_in_frames c block absent k e))
 
   live_now : live_for with_block block ≡ Some slot
   live_now =
-      live-comes c with_block slot (fresh_register z queue_then block) block refl slot_there (eq-eqb block block refl) (λ t l e. let p = h.live_present t l in absurd (none_in_frames c block absent p.0 (p.1 ∙ ap Some e)))
+      live-comes c with_block slot (fresh_register z queue_then block) block refl slot_there (eq-eqb block block refl)
+      (λ t l e. let p = h.live_present t l in absurd (none_in_frames c block absent p.0 (p.1 ∙ ap Some e)))
 
   not_live : is_live (register_at c slot) ≡ true → ⊥
   not_live l = let v = (and_parts (register_at c slot).valid (not (register_at c slot).obsolete) l).0 in cc
 
   live_same : (b : ℕ) → (b ≡ block → ⊥) → live_for with_block b ≡ live_for c b
   live_same b n =
-      live-stays c with_block slot (fresh_register z queue_then block) b refl (ne_eqb block b (λ q. n (sym q)) ∙ sym (serves-not (register_at c slot) b (λ l e. not_live l)))
+      live-stays c with_block slot (fresh_register z queue_then block) b refl
+      (ne_eqb block b (λ q. n (sym q)) ∙ sym (serves-not (register_at c slot) b (λ l e. not_live l)))
+
+  block_other : (b : ℕ) → (b ≡ block → ⊥) → Some block ≡ Some b → ⊥
+  block_other b n q = let s : b ≡ block = cc in n s
+
+  frame_gone : (b : ℕ) → (b ≡ block → ⊥) → (frame_at c f).block ≡ Some b → frame_of with_block b ≡ None
+  frame_gone b n e =
+      frame-goes c with_block f (fresh_frame z queue_then block) b refl f_there (block_other b n) (λ k q. h.frames_apart k f b q e)
+
+  frame_same : (b : ℕ) → (b ≡ block → ⊥) → ((frame_at c f).block ≡ Some b → ⊥) → frame_of with_block b ≡ frame_of c b
+  frame_same b n far =
+      let no = holds-not (frame_at c f) b far in
+      frame-stays c with_block f (fresh_frame z queue_then block) b refl (ne_eqb block b (λ q. n (sym q)) ∙ sym no)
+
+  cell_same : (at : ℕ) → (block_of z at ≡ block → ⊥) → ((frame_at c f).block ≡ Some (block_of z at) → ⊥)
+      → cell_of with_block (block_of z at) (place_in z at) ≡ cell_of c (block_of z at) (place_in z at)
+  cell_same at n far =
+      cell-other z c with_block at f (fresh_frame z queue_then block) refl (frame_same (block_of z at) n far) far
 
   -- ---- the block's words
 
-  own_cell : (j : ℕ) → j < z.block_words → cell_in with_block (Some f) j ≡ record { word = overlaid zero_word queue_then (address z block 0 + j); dirty = no_lanes }
+  own_cell : (j : ℕ) → j < z.block_words → cell_in with_block (Some f) j
+      ≡ record { word = overlaid zero_word queue_then (address z block 0 + j); dirty = no_lanes }
   own_cell j l =
-      ap (λ (x : Frame). get_or x.cells j zero_cell) own_frame ∙ range_at (λ at. record { word = overlaid zero_word queue_then at; dirty = no_lanes }) zero_cell (address z block 0) z.block_words j l
+      ap (λ (x : Frame). get_or x.cells j zero_cell) own_frame
+      ∙ range_at (λ at. record { word = overlaid zero_word queue_then at; dirty = no_lanes }) zero_cell
+      (address z block 0) z.block_words j l
 
-  own_field : (j : ℕ) → j < z.block_words → field_at with_block slot j ≡ record { processed = false; code = queued_lanes queue_then (address z block 0 + j); waiting = [] }
+  own_field : (j : ℕ) → j < z.block_words → field_at with_block slot j
+      ≡ record { processed = false; code = queued_lanes queue_then (address z block 0 + j); waiting = [] }
   own_field j l =
-      ap (λ (r : Register). get_or r.fields j clear_field) own_register ∙ range_at (λ at. record { processed = false; code = queued_lanes queue_then at; waiting = [] }) clear_field (address z block 0) z.block_words j l
+      ap (λ (r : Register). get_or r.fields j clear_field) own_register
+      ∙ range_at (λ at. record { processed = false; code = queued_lanes queue_then at; waiting = [] }) clear_field
+      (address z block 0) z.block_words j l
 
   none_came : (j : ℕ) → stack_word c.stack slot j ≡ None
   none_came j =
-      stack_word-none c.stack slot j (λ k e q s i. let v : (register_at c slot).valid ≡ true = ap (λ x. (register_at c x).valid) (sym s) ∙ (h.entries k e q).valid in cc)
+      stack_word-none c.stack slot j (λ k e q s i. let v : (register_at c slot).valid ≡ true = ap (λ x. (register_at c x).valid) (sym s)
+      ∙ (h.entries k e q).valid in cc)
 
   abbrev form_with : ℕ → Word → Field → Option Word → Form
   form_with j w x o = cond x.processed (bytes_of w) (over_form x.code w (missing_form o slot j))
@@ -111,7 +169,13 @@ module _ (z : Sizes) (c : Cache) (h : IsSoundCache z c) (block f slot : ℕ) (ab
       let l : place_in z at < z.block_words = mod-lt at h.some_words in
       let a : address z block 0 + place_in z at ≡ at = ap (λ b. address z b 0 + place_in z at) (sym e) ∙ address_is z at in
       let w = overlaid zero_word queue_then (address z block 0 + place_in z at) in
-      form_at-live z with_block at f slot (place_in z at) (ap (frame_of with_block) e ∙ found_now) (ap (live_for with_block) e ∙ live_now) refl ∙ ap (λ x. Some (form_in with_block (Some slot) (place_in z at) x.word)) (own_cell (place_in z at) l) ∙ ap (λ x. Some (form_with (place_in z at) w x (stack_word c.stack slot (place_in z at)))) (own_field (place_in z at) l) ∙ ap (λ o. Some (over_form (queued_lanes queue_then (address z block 0 + place_in z at)) w (missing_form o slot (place_in z at)))) (none_came (place_in z at)) ∙ ap (λ n. Some (over_form (queued_lanes queue_then n) (overlaid zero_word queue_then n) (λ k. Asked slot (place_in z at) k))) a
+      form_at-live z with_block at f slot (place_in z at) (ap (frame_of with_block) e ∙ found_now)
+      (ap (live_for with_block) e ∙ live_now) refl
+      ∙ ap (λ x. Some (form_in with_block (Some slot) (place_in z at) x.word)) (own_cell (place_in z at) l)
+      ∙ ap (λ x. Some (form_with (place_in z at) w x (stack_word c.stack slot (place_in z at)))) (own_field (place_in z at) l)
+      ∙ ap (λ o. Some (over_form (queued_lanes queue_then (address z block 0 + place_in z at)) w
+      (missing_form o slot (place_in z at)))) (none_came (place_in z at))
+      ∙ ap (λ n. Some (over_form (queued_lanes queue_then n) (overlaid zero_word queue_then n) (λ k. Asked slot (place_in z at) k))) a
 
   -- ---- the other words
 
@@ -121,24 +185,33 @@ module _ (z : Sizes) (c : Cache) (h : IsSoundCache z c) (block f slot : ℕ) (ab
       b : ℕ
       b = block_of z at
 
-      cases_holds : (o : Option ℕ) → (frame_at c f).block ≡ o → ((frame_at c f).block ≡ Some (block_of z at)) ⊎ ((frame_at c f).block ≡ Some (block_of z at) → ⊥)
+      cases_holds : (o : Option ℕ) → (frame_at c f).block ≡ o
+          → ((frame_at c f).block ≡ Some (block_of z at)) ⊎ ((frame_at c f).block ≡ Some (block_of z at) → ⊥)
       cases_holds None e = inr (λ q. cc)
-      cases_holds (Some x) e = ⊎_elim (λ q. inl (e ∙ ap Some q)) (λ q. inr (λ p. let s : Some x ≡ Some (block_of z at) = sym e ∙ p in let t : x ≡ block_of z at = cc in q t)) (cases_eq x (block_of z at))
-
-      other : Some block ≡ Some (block_of z at) → ⊥
-      other q = let s : block_of z at ≡ block = cc in n s
+      cases_holds (Some x) e = ⊎_elim (λ q. inl (e ∙ ap Some q))
+          (λ q. inr (λ p. let s : Some x ≡ Some (block_of z at) = sym e ∙ p in let t : x ≡ block_of z at = cc in q t))
+          (cases_eq x (block_of z at))
 
       gone : (frame_at c f).block ≡ Some (block_of z at) → form_at z with_block at ≡ words_without z (form_at z c) (frame_at c f).block at
       gone e =
-          form_at-absent z with_block at (frame-goes c with_block f (fresh_frame z queue_then block) (block_of z at) refl f_there other (λ k q. h.frames_apart k f (block_of z at) q e)) ∙ sym (ap (λ o. words_without z (form_at z c) o at) e ∙ ap (λ x. cond x None (form_at z c at)) (eq-eqb (block_of z at) (block_of z at) refl))
+          form_at-absent z with_block at (frame_gone (block_of z at) n e)
+          ∙ sym (ap (λ o. words_without z (form_at z c) o at) e
+          ∙ ap (λ x. cond x None (form_at z c at)) (eq-eqb (block_of z at) (block_of z at) refl))
 
-      stays : ((frame_at c f).block ≡ Some (block_of z at) → ⊥) → form_at z with_block at ≡ words_without z (form_at z c) (frame_at c f).block at
+      stays : ((frame_at c f).block ≡ Some (block_of z at) → ⊥)
+          → form_at z with_block at ≡ words_without z (form_at z c) (frame_at c f).block at
       stays far =
           let no = holds-not (frame_at c f) (block_of z at) far in
-          let ef = frame-stays c with_block f (fresh_frame z queue_then block) (block_of z at) refl (ne_eqb block (block_of z at) (λ q. n (sym q)) ∙ sym no) in
-          form_at-same z c with_block at ef (live_same (block_of z at) n) (ap (λ x. x.word) (cell-other z c with_block at f (fresh_frame z queue_then block) refl ef far)) (λ t l.
-          let same = get_or-set_other c.registers slot t (fresh_register z queue_then block) free_register (λ q. not_live (ap (λ x. is_live (register_at c x)) (sym q) ∙ (live_for-some c (block_of z at) t l).0)) in
-          (ap (λ (r : Register). (get_or r.fields (place_in z at) clear_field).processed) same, ap (λ (r : Register). (get_or r.fields (place_in z at) clear_field).code) same, refl)) ∙ sym (ap (λ x. cond x None (form_at z c at)) no)
+          form_at-same z c with_block at (frame_same (block_of z at) n far) (live_same (block_of z at) n)
+          (ap (λ x. x.word) (cell_same at n far)) (λ t l.
+          let same = get_or-set_other c.registers slot t (fresh_register z queue_then block) free_register
+          (λ q. not_live (ap (λ x. is_live (register_at c x)) (sym q) ∙ (live_for-some c (block_of z at) t l).0)) in (
+            ap (λ (r : Register). (get_or r.fields (place_in z at) clear_field).processed) same,
+            ap
+                (λ (r : Register). (get_or r.fields (place_in z at) clear_field).code) same,
+            refl,
+          ))
+          ∙ sym (ap (λ x. cond x None (form_at z c at)) no)
 
   word_missed : (at : ℕ) → form_at z with_block at ≡ missed_words z c block (Some f) (Some slot) at
   word_missed at = ⊎_elim here there (cases_eq (block_of z at) block)
@@ -146,10 +219,12 @@ module _ (z : Sizes) (c : Cache) (h : IsSoundCache z c) (block f slot : ℕ) (ab
       old : Option Form
       old = words_without z (form_at z c) (frame_at c f).block at
 
-      here : block_of z at ≡ block → form_at z with_block at ≡ cond (block_of z at == block) (Some (asked_form z queue_then slot at)) (words_without z (form_at z c) (frame_at c f).block at)
+      here : block_of z at ≡ block → form_at z with_block at
+          ≡ cond (block_of z at == block) (Some (asked_form z queue_then slot at)) (words_without z (form_at z c) (frame_at c f).block at)
       here e = word_asked at e ∙ sym (ap (λ x. cond x (Some (asked_form z queue_then slot at)) old) (eq-eqb (block_of z at) block e))
 
-      there : (block_of z at ≡ block → ⊥) → form_at z with_block at ≡ cond (block_of z at == block) (Some (asked_form z queue_then slot at)) (words_without z (form_at z c) (frame_at c f).block at)
+      there : (block_of z at ≡ block → ⊥) → form_at z with_block at
+          ≡ cond (block_of z at == block) (Some (asked_form z queue_then slot at)) (words_without z (form_at z c) (frame_at c f).block at)
       there n = word_kept at n ∙ sym (ap (λ x. cond x (Some (asked_form z queue_then slot at)) old) (ne_eqb (block_of z at) block n))
 
   -- ---- what is owed
@@ -159,9 +234,33 @@ module _ (z : Sizes) (c : Cache) (h : IsSoundCache z c) (block f slot : ℕ) (ab
   targets_kept =
       let p = gathered_part targets_of free_register 0 c.registers slot slot_there in
       let r = register_at c slot in
-      p.then (fresh_register z queue_then block) ∙ ap (λ l. p.front ++ (l ++ p.back)) (no_loads queue_then (0 + slot) 0 (address z block 0) z.block_words ∙ sym (ap (λ v. cond v (gathered (targets_of_field (0 + slot)) 0 r.fields) []) invalid)) ∙ sym p.now
+      p.then (fresh_register z queue_then block)
+      ∙ ap (λ l. p.front ++ (l ++ p.back)) (no_loads queue_then (0 + slot) 0 (address z block 0) z.block_words
+      ∙ sym (ap (λ v. cond v (gathered (targets_of_field (0 + slot)) 0 r.fields) []) invalid)) ∙ sym p.now
 
-  pub installed-by : (words : ℕ → Option Form) → words ≡ missed_words z c block (Some f) (Some slot) → fetched_words z c block ≡ words → FetchedBy z c block with_block
+  pub missed-by : MissedBy z c block f slot with_block
+  missed-by =
+      record {
+        number_of_frames = length-set c.frames f _;
+        own_frame = own_frame;
+        other_frame = λ k n. get_or-set_other c.frames f k _ empty_frame n;
+        number_of_registers = length-set c.registers slot _;
+        own_register = own_register;
+        other_register = λ t n. get_or-set_other c.registers slot t _ free_register n;
+        words = word_missed;
+        same_targets = targets_kept;
+        same_ready = refl;
+        same_stack = refl;
+        queue = refl;
+        clean = λ at e.
+            ap (λ o. (cell_in with_block o (place_in z at)).dirty) (ap (frame_of with_block) e ∙ found_now)
+            ∙ ap (λ x. x.dirty) (own_cell (place_in z at) (mod-lt at h.some_words));
+        gone = λ at n e. ap (λ o. cell_in with_block o (place_in z at)) (frame_gone (block_of z at) n e);
+        cells = cell_same;
+      }
+
+  pub installed-by : (words : ℕ → Option Form) → words ≡ missed_words z c block (Some f) (Some slot) → fetched_words z c block ≡ words
+      → FetchedBy z c block with_block
   installed-by words e k =
       record {
         words = λ at. word_missed at ∙ ap (λ g. g at) (sym (k ∙ e));
@@ -170,7 +269,11 @@ module _ (z : Sizes) (c : Cache) (h : IsSoundCache z c) (block f slot : ℕ) (ab
         same_stack = refl;
         frame = f;
         present = found_now;
-        waits = λ a s l j. let q : s ≡ slot = let e : Some s ≡ Some slot = sym l ∙ live_now in cc in ap (λ x. (field_at with_block x j).waiting) q ∙ ap (λ (r : Register). (get_or r.fields j clear_field).waiting) own_register ∙ none_wait queue_then (addresses z block) j;
+        waits = λ a s l j. let q : s ≡ slot = let e : Some s ≡ Some slot = sym l
+            ∙ live_now in cc in ap (λ x. (field_at with_block x j).waiting) q
+            ∙ ap (λ (r : Register). (get_or r.fields j clear_field).waiting) own_register ∙ none_wait queue_then (addresses z block) j;
         cells = ap (λ (x : Frame). length x.cells) own_frame ∙ length-map-range_with_len _ (address z block 0) z.block_words;
-        fields = λ s l. let q : s ≡ slot = let e : Some s ≡ Some slot = sym l ∙ live_now in cc in ap (λ x. length (register_at with_block x).fields) q ∙ ap (λ (r : Register). length r.fields) own_register ∙ length-map-range_with_len _ (address z block 0) z.block_words;
+        fields = λ s l. let q : s ≡ slot = let e : Some s ≡ Some slot = sym l
+            ∙ live_now in cc in ap (λ x. length (register_at with_block x).fields) q ∙ ap (λ (r : Register). length r.fields) own_register
+            ∙ length-map-range_with_len _ (address z block 0) z.block_words;
       }

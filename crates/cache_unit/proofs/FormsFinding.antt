@@ -1,10 +1,9 @@
 -- Which frame holds a block, and which register is live for it.
-use Rattle.std.proofs.Common.{◌≡◌, ℕ, ◌<◌, true, ◌&&◌, ◌==◌, length, Option, Some, None, refl, sym, ap, ap₂, ◌∙◌, eqb-true, eq-eqb}
+use Rattle.std.proofs.Common.{◌≡◌, ℕ, ◌<◌, true, ◌&&◌, ◌==◌, length, Option, Some, None, refl, sym, ap, ◌∙◌, eqb-true, eq-eqb}
 use Rattle.std.proofs.lemmas.Bool.{and_parts, and_from, false_from_ne_true}
 use Rattle.flat_model.specs.Places.{is_number}
 use Rattle.flat_model.proofs.Places.{place_of-passes}
 use Rattle.cache_unit.specs.State.{Frame, Register, Cache, empty_frame, free_register, frame_at, frame_of, register_at, is_live, live_for}
-use Rattle.cache_unit.proofs.FormsParts.{place_of-like}
 use Rattle.cache_unit.proofs.Lists.{place_of-only, place_of-none, place_of-all_none}
 
 pub number_from : (o : Option ℕ) (n : ℕ) → is_number o n ≡ true → o ≡ Some n
@@ -20,10 +19,12 @@ frame_of-some c b k h =
     let s = place_of-passes (λ (f : Frame). is_number f.block b) c.frames k empty_frame h in
     (s.0, number_from _ b s.1)
 
-pub frame_of-is : (c : Cache) (b k : ℕ) → ((f g n : ℕ) → (frame_at c f).block ≡ Some n → (frame_at c g).block ≡ Some n → f ≡ g) → (frame_at c k).block ≡ Some b → frame_of c b ≡ Some k
+pub frame_of-is : (c : Cache) (b k : ℕ) → ((f g n : ℕ) → (frame_at c f).block ≡ Some n → (frame_at c g).block ≡ Some n → f ≡ g)
+    → (frame_at c k).block ≡ Some b → frame_of c b ≡ Some k
 unfolding frame_of
 frame_of-is c b k apart h =
-    place_of-only (λ (f : Frame). is_number f.block b) empty_frame c.frames k refl (number_is _ b h) (λ j e. apart j k b (number_from _ b e) h)
+    place_of-only (λ (f : Frame). is_number f.block b) empty_frame c.frames k refl (number_is _ b h)
+    (λ j e. apart j k b (number_from _ b e) h)
 
 pub frame_of-none : (c : Cache) (b : ℕ) → ((k : ℕ) → (frame_at c k).block ≡ Some b → ⊥) → frame_of c b ≡ None
 unfolding frame_of
@@ -37,11 +38,6 @@ none_in_frames c b h k e =
     let t = number_is (frame_at c k).block b e in
     cc
 
-pub frame_of-like : (c c' : Cache) (b : ℕ) → length c'.frames ≡ length c.frames → ((k : ℕ) → (frame_at c' k).block ≡ (frame_at c k).block) → frame_of c' b ≡ frame_of c b
-unfolding frame_of
-frame_of-like c c' b e h =
-    place_of-like (λ (f : Frame). is_number f.block b) empty_frame c'.frames c.frames e (λ k. ap (λ o. is_number o b) (h k))
-
 pub live_for-some : (c : Cache) (b s : ℕ) → live_for c b ≡ Some s → (is_live (register_at c s) ≡ true) × ((register_at c s).block ≡ b)
 unfolding live_for
 live_for-some c b s h =
@@ -49,14 +45,17 @@ live_for-some c b s h =
     let q = and_parts (is_live (register_at c s)) ((register_at c s).block == b) p.1 in
     (q.0, eqb-true (register_at c s).block b q.1)
 
-pub live_for-is : (c : Cache) (b s : ℕ) → ((s t : ℕ) → is_live (register_at c s) ≡ true → is_live (register_at c t) ≡ true → (register_at c s).block ≡ (register_at c t).block → s ≡ t) → is_live (register_at c s) ≡ true → (register_at c s).block ≡ b → live_for c b ≡ Some s
+pub live_for-is : (c : Cache) (b s : ℕ) →
+    ((s t : ℕ) → is_live (register_at c s) ≡ true → is_live (register_at c t) ≡ true → (register_at c s).block ≡ (register_at c t).block
+    → s ≡ t) → is_live (register_at c s) ≡ true → (register_at c s).block ≡ b → live_for c b ≡ Some s
 unfolding live_for
 live_for-is c b s apart l e =
     place_of-only (λ (r : Register). is_live r && r.block == b) free_register c.registers s refl (and_from _ _ l (eq-eqb _ b e)) (λ j k.
     let q = and_parts (is_live (register_at c j)) ((register_at c j).block == b) k in
     apart j s q.0 l (eqb-true _ b q.1 ∙ sym e))
 
-pub live_for-none : (c : Cache) (b : ℕ) → ((s : ℕ) → is_live (register_at c s) ≡ true → (register_at c s).block ≡ b → ⊥) → live_for c b ≡ None
+pub live_for-none : (c : Cache) (b : ℕ) → ((s : ℕ) → is_live (register_at c s) ≡ true → (register_at c s).block ≡ b → ⊥)
+    → live_for c b ≡ None
 unfolding live_for
 live_for-none c b h =
     place_of-all_none (λ (r : Register). is_live r && r.block == b) free_register c.registers (λ s. false_from_ne_true _ (λ e.
@@ -69,8 +68,3 @@ none_live c b h s l e =
     let f = place_of-none (λ (r : Register). is_live r && r.block == b) free_register c.registers refl h s in
     let t = and_from (is_live (register_at c s)) ((register_at c s).block == b) l (eq-eqb _ b e) in
     cc
-
-pub live_for-like : (c c' : Cache) (b : ℕ) → length c'.registers ≡ length c.registers → ((s : ℕ) → is_live (register_at c' s) ≡ is_live (register_at c s)) → ((s : ℕ) → (register_at c' s).block ≡ (register_at c s).block) → live_for c' b ≡ live_for c b
-unfolding live_for
-live_for-like c c' b e h k =
-    place_of-like (λ (r : Register). is_live r && r.block == b) free_register c'.registers c.registers e (λ s. ap₂ (λ x y. x && (y == b)) (h s) (k s))

@@ -1,5 +1,6 @@
 -- A load of a word of a present block.
-use Rattle.std.proofs.Common.{◌≡◌, ℕ, ◌<◌, Bool, true, false, cond, ◌||◌, ◌==◌, [], ◌∷◌, ◌++◌, map, set, Option, Some, None, refl, sym, ap, ◌∙◌}
+use Rattle.std.proofs.Common.{◌≡◌, ℕ, ◌<◌, Bool, true, false, cond, not, ◌&&◌, ◌||◌, ◌==◌, nat_lt, [], ◌∷◌, ◌++◌, map, set, Option, Some}
+use Rattle.std.proofs.Common.{None, refl, sym, ap, ap₂, ◌∙◌, length-set}
 use Rattle.flat_model.specs.declared.Word.{Word}
 use Rattle.flat_model.specs.declared.Lanes.{Lanes}
 use Rattle.flat_model.specs.Words.{Lane, byte, has, has_all, merged, zero_word}
@@ -7,7 +8,8 @@ use Rattle.flat_model.proofs.Lanewise.{byte-merged, all_from_all}
 use Rattle.input_stack.specs.Stack.{stack_word}
 use Rattle.miss_registers.specs.declared.Owed.{Owed}
 use Rattle.cache_unit.specs.declared.Reply.{Reply}
-use Rattle.cache_unit.specs.State.{Sizes, Field, Target, Cache, frame_of, register_at, field_at, live_for, cell_in, cell_of, targets, targets_of_field, with_field, block_of, place_in}
+use Rattle.cache_unit.specs.State.{Sizes, Field, Register, Target, Cache, frame_of, register_at, field_at, live_for, cell_in, cell_of}
+use Rattle.cache_unit.specs.State.{targets, tags, targets_of_field, with_field, block_of, place_in}
 use Rattle.cache_unit.specs.Causes.{Found, Here, found_missing, found_in, found}
 use Rattle.cache_unit.specs.Steps.{replied, awaited, loaded}
 use Rattle.cache_unit.specs.Forms.{LaneForm, Byte, Form, bytes_of, missing_form, coming_form, over_form, form_in, owed}
@@ -15,9 +17,11 @@ use Rattle.cache_unit.specs.FormLaws.{form_at, but_at}
 use Rattle.cache_unit.specs.Counts.{tally}
 use Rattle.cache_unit.proofs.FormsLists.{Adds, Adds-push, Adds-left, Adds-right, Adds-map, Adds-same}
 use Rattle.cache_unit.proofs.FormsParts.{word_part}
-use Rattle.cache_unit.proofs.FormsFields.{with_fields, with_field_in, field_part}
+use Rattle.cache_unit.proofs.FormsFields.{with_fields, with_field_in, same_at, field_part}
 use Rattle.cache_unit.proofs.FormsPlaces.{live-stays}
-use Rattle.cache_unit.proofs.FormsSame.{form_at-same, form_at-live, form_at-resident, due_ready, due_to, dues, has_tag, owed-due}
+use Rattle.cache_unit.proofs.FormsSame.{form_at-same, form_at-live, form_at-resident, Due, due_ready, due_to, dues, has_tag, owed-due}
+use Rattle.cache_unit.proofs.FormsSame.{tags-dues}
+use Rattle.cache_unit.proofs.Within.{frames_like-same, registers_within-same, registers_within-set, Within, within_like, Beside}
 use Rattle.cache_unit.proofs.FormsEvents.{due_in-added}
 use Rattle.cache_unit.proofs.FormsStoring.{bytes-merged, Hit, Fits, fits}
 
@@ -45,11 +49,22 @@ pub record LoadedBy (z : Sizes) (c : Cache) (tag at : ℕ) (d : Cache) : Type 0 
   pub owing : (t : ℕ) → owed d t ≡ but_at (owed c) tag (form_at z c at) t
   pub frame : ℕ
   pub present : frame_of d (block_of z at) ≡ Some frame
+  pub beside : Beside z c d
+  pub frames : d.frames ≡ c.frames
+  pub more : Adds tag (tags c) (tags d)
 
-module _ (z : Sizes) (some : 0 < z.block_words) (c : Cache) (tag at : ℕ) (hit : Hit z c (block_of z at)) (fresh : tally (has_tag tag) (dues c) ≡ 0) where
-  owed-more : (form : Form) → form_at z c at ≡ Some form → (d : Cache) → Adds (record { tag = tag; form = form }) (dues c) (dues d) → (t : ℕ) → owed d t ≡ but_at (owed c) tag (form_at z c at) t
+module _ (z : Sizes) (some : 0 < z.block_words) (c : Cache) (tag at : ℕ) (hit : Hit z c (block_of z at))
+    (fresh : tally (has_tag tag) (dues c) ≡ 0) where
+  owed-more : (form : Form) → form_at z c at ≡ Some form → (d : Cache) → Adds (record { tag = tag; form = form }) (dues c) (dues d)
+      → (t : ℕ) → owed d t ≡ but_at (owed c) tag (form_at z c at) t
   owed-more form right d more t =
-      owed-due d t ∙ due_in-added (record { tag = tag; form = form }) (dues c) (dues d) more fresh t ∙ ap (λ o. cond (t == tag) (Some form) o) (sym (owed-due c t)) ∙ ap (λ o. cond (t == tag) o (owed c t)) (sym right)
+      owed-due d t ∙ due_in-added (record { tag = tag; form = form }) (dues c) (dues d) more fresh t
+      ∙ ap (λ o. cond (t == tag) (Some form) o) (sym (owed-due c t)) ∙ ap (λ o. cond (t == tag) o (owed c t)) (sym right)
+
+  tags-more : (form : Form) (d : Cache) → Adds (record { tag = tag; form = form }) (dues c) (dues d) → Adds tag (tags c) (tags d)
+  tags-more form d more =
+      Adds-same tag _ _ _ _ (sym (tags-dues c)) (sym (tags-dues d))
+      (Adds-map (λ (x : Due). x.tag) (record { tag = tag; form = form }) _ _ more)
 
   -- ---- the word is ready
 
@@ -61,13 +76,20 @@ module _ (z : Sizes) (some : 0 < z.block_words) (c : Cache) (tag at : ℕ) (hit 
         owing = owed-more (bytes_of w) right (replied c tag w) more;
         frame = hit.frame;
         present = hit.present;
+        beside = record { within = like; waits = λ s i. refl; orders = refl; stack = refl; queue = refl };
+        frames = refl;
+        more = tags-more (bytes_of w) (replied c tag w) more;
       }
     where
       r : Reply
       r = record { tag = tag; word = w }
 
+      like : Within c (replied c tag w)
+      like = within_like c (replied c tag w) (frames_like-same c.frames) (registers_within-same c.registers)
+
       more : Adds (due_ready (record { tag = tag; word = w })) (dues c) (dues (replied c tag w))
-      more = Adds-right (map (due_to c.stack) (targets c.registers)) (due_ready r) _ _ (Adds-map due_ready r c.ready _ (Adds-push r c.ready))
+      more = Adds-right (map (due_to c.stack) (targets c.registers)) (due_ready r) _ _
+          (Adds-map due_ready r c.ready _ (Adds-push r c.ready))
 
   -- ---- the tag waits for the word
 
@@ -93,7 +115,15 @@ module _ (z : Sizes) (some : 0 < z.block_words) (c : Cache) (tag at : ℕ) (hit 
     awaited_words : (a : ℕ) → form_at z waiting_more a ≡ form_at z c a
     unfolding frame_of
     awaited_words a =
-        form_at-same z c waiting_more a refl (live-stays c waiting_more s (with_fields (register_at c s) (set (register_at c s).fields (place_in z at) longer)) (block_of z a) refl refl) refl (λ t e. (field_part c.registers s (place_in z at) longer (λ (x : Field). x.processed) (fit).slot_there (fit).field_there refl t (place_in z a), field_part c.registers s (place_in z at) longer (λ (x : Field). x.code) (fit).slot_there (fit).field_there refl t (place_in z a), refl))
+        form_at-same z c waiting_more a refl (live-stays c waiting_more s
+        (with_fields (register_at c s) (set (register_at c s).fields (place_in z at) longer)) (block_of z a) refl refl) refl
+        (λ t e. (
+          field_part c.registers s (place_in z at) longer
+              (λ (x : Field). x.processed) (fit).slot_there (fit).field_there refl t (place_in z a),
+          field_part c.registers s
+              (place_in z at) longer (λ (x : Field). x.code) (fit).slot_there (fit).field_there refl t (place_in z a),
+          refl,
+        ))
 
     told : Form
     told = over_form fld.code (merged zero_word buffer fld.code) (coming_form c s (place_in z at))
@@ -101,7 +131,10 @@ module _ (z : Sizes) (some : 0 < z.block_words) (c : Cache) (tag at : ℕ) (hit 
     right_form : form_at z c at ≡ Some told
     unfolding told
     right_form =
-        form_at-live z c at hit.frame s (place_in z at) hit.present live refl ∙ ap (λ o. Some (form_in c (Some s) (place_in z at) (cell_in c o (place_in z at)).word)) (sym hit.present) ∙ ap (λ b. Some (cond b (bytes_of buffer) (over_form fld.code buffer (coming_form c s (place_in z at))))) missing ∙ ap Some (sym (over-held fld.code zero_word buffer (coming_form c s (place_in z at))))
+        form_at-live z c at hit.frame s (place_in z at) hit.present live refl
+        ∙ ap (λ o. Some (form_in c (Some s) (place_in z at) (cell_in c o (place_in z at)).word)) (sym hit.present)
+        ∙ ap (λ b. Some (cond b (bytes_of buffer) (over_form fld.code buffer (coming_form c s (place_in z at))))) missing
+        ∙ ap Some (sym (over-held fld.code zero_word buffer (coming_form c s (place_in z at))))
 
     more_dues : Adds (record { tag = tag; form = told }) (dues c) (dues waiting_more)
     unfolding dues told
@@ -110,12 +143,31 @@ module _ (z : Sizes) (some : 0 < z.block_words) (c : Cache) (tag at : ℕ) (hit 
         let t : Target = record { slot = s; i = place_in z at; load = load } in
         let mk : Owed → Target = λ w. record { slot = s; i = place_in z at; load = w } in
         let seg : targets_of_field s (place_in z at) fld ≡ map mk fld.waiting = ap (λ b. cond b [] (map mk fld.waiting)) missing in
-        let seg' : targets_of_field s (place_in z at) longer ≡ map mk (fld.waiting ++ load ∷ []) = ap (λ b. cond b [] (map mk (fld.waiting ++ load ∷ []))) missing in
+        let seg' : targets_of_field s (place_in z at) longer ≡ map mk (fld.waiting ++ load ∷ []) =
+        ap (λ b. cond b [] (map mk (fld.waiting ++ load ∷ []))) missing in
         let one : Adds t (map mk fld.waiting) (map mk (fld.waiting ++ load ∷ [])) = Adds-map mk load _ _ (Adds-push load fld.waiting) in
-        let all : Adds t (p.front ++ (map mk fld.waiting ++ p.back)) (p.front ++ (map mk (fld.waiting ++ load ∷ []) ++ p.back)) = Adds-left p.front t _ _ (Adds-right p.back t _ _ one) in
+        let all : Adds t (p.front ++ (map mk fld.waiting ++ p.back)) (p.front ++ (map mk (fld.waiting ++ load ∷ []) ++ p.back)) =
+        Adds-left p.front t _ _ (Adds-right p.back t _ _ one) in
         let before : targets c.registers ≡ p.front ++ (map mk fld.waiting ++ p.back) = p.now ∙ ap (λ l. p.front ++ (l ++ p.back)) seg in
-        let after : targets waiting_more.registers ≡ p.front ++ (map mk (fld.waiting ++ load ∷ []) ++ p.back) = p.then (with_fields (register_at c s) (set (register_at c s).fields (place_in z at) longer)) longer (fit).valid refl ∙ ap (λ l. p.front ++ (l ++ p.back)) seg' in
+        let after : targets waiting_more.registers ≡ p.front ++ (map mk (fld.waiting ++ load ∷ []) ++ p.back) =
+        p.then (with_fields (register_at c s) (set (register_at c s).fields (place_in z at) longer)) longer (fit).valid refl
+        ∙ ap (λ l. p.front ++ (l ++ p.back)) seg' in
         Adds-left (map due_ready c.ready) (due_to c.stack t) _ _ (Adds-map (due_to c.stack) t _ _ (Adds-same t _ _ _ _ before after all))
+
+    awaited_beside : Beside z c waiting_more
+    awaited_beside =
+        let new = with_fields (register_at c s) (set (register_at c s).fields (place_in z at) longer) in
+        let registers = registers_within-set c.registers s new (λ l. (l, refl))
+        (λ v. (v, length-set (register_at c s).fields (place_in z at) longer)) in
+        record {
+          within = within_like c waiting_more (frames_like-same c.frames) registers;
+          waits = λ t j. ap₂ (λ x y. x && (nat_lt j z.block_words && not y))
+              (same_at c.registers s (place_in z at) longer (λ (r : Register). r.valid) refl t)
+              (field_part c.registers s (place_in z at) longer (λ (x : Field). x.processed) (fit).slot_there (fit).field_there refl t j);
+          orders = refl;
+          stack = refl;
+          queue = refl;
+        }
 
     awaited_ok : LoadedBy z c tag at (awaited c s (place_in z at) tag buffer)
     unfolding with_field frame_of
@@ -125,6 +177,9 @@ module _ (z : Sizes) (some : 0 < z.block_words) (c : Cache) (tag at : ℕ) (hit 
           owing = owed-more told right_form waiting_more more_dues;
           frame = hit.frame;
           present = hit.present;
+          beside = awaited_beside;
+          frames = refl;
+          more = tags-more told waiting_more more_dues;
         }
 
   -- ---- all cases
@@ -142,18 +197,29 @@ module _ (z : Sizes) (some : 0 < z.block_words) (c : Cache) (tag at : ℕ) (hit 
       f : Field
       f = field_at c s (place_in z at)
 
-      shown : (p : Bool) → (field_at c s (place_in z at)).processed ≡ p → form_at z c at ≡ Some (cond p (bytes_of buf) (over_form (field_at c s (place_in z at)).code buf (coming_form c s (place_in z at))))
+      shown : (p : Bool) → (field_at c s (place_in z at)).processed ≡ p
+          → form_at z c at ≡ Some (cond p (bytes_of buf)
+          (over_form (field_at c s (place_in z at)).code buf (coming_form c s (place_in z at))))
       shown p e =
-          form_at-live z c at hit.frame s (place_in z at) hit.present live refl ∙ ap (λ o. Some (form_in c (Some s) (place_in z at) (cell_in c o (place_in z at)).word)) (sym hit.present) ∙ ap (λ b. Some (cond b (bytes_of buf) (over_form (field_at c s (place_in z at)).code buf (coming_form c s (place_in z at))))) e
+          form_at-live z c at hit.frame s (place_in z at) hit.present live refl
+          ∙ ap (λ o. Some (form_in c (Some s) (place_in z at) (cell_in c o (place_in z at)).word)) (sym hit.present)
+          ∙ ap (λ b. Some (cond b (bytes_of buf) (over_form (field_at c s (place_in z at)).code buf
+          (coming_form c s (place_in z at))))) e
 
-      in_stack : (o : Option Word) → stack_word c.stack s (place_in z at) ≡ o → (field_at c s (place_in z at)).processed ≡ false → LoadedBy z c tag at (after_load (found_missing o s (field_at c s (place_in z at)).code buf))
+      in_stack : (o : Option Word) → stack_word c.stack s (place_in z at) ≡ o → (field_at c s (place_in z at)).processed ≡ false
+          → LoadedBy z c tag at (after_load (found_missing o s (field_at c s (place_in z at)).code buf))
       in_stack (Some w) e p =
-          replied_ok (merged w buf (field_at c s (place_in z at)).code) (shown false p ∙ ap (λ o. Some (over_form (field_at c s (place_in z at)).code buf (missing_form o s (place_in z at)))) e ∙ ap Some (sym (bytes-merged w buf (field_at c s (place_in z at)).code)))
+          replied_ok (merged w buf (field_at c s (place_in z at)).code)
+          (shown false p ∙ ap (λ o. Some (over_form (field_at c s (place_in z at)).code buf (missing_form o s (place_in z at)))) e
+          ∙ ap Some (sym (bytes-merged w buf (field_at c s (place_in z at)).code)))
       in_stack None e p = awaited_ok s live p
 
-      go : (p : Bool) → (field_at c s (place_in z at)).processed ≡ p → (q : Bool) → has_all (field_at c s (place_in z at)).code ≡ q → LoadedBy z c tag at (after_load (cond (p || q) (Here buf) (found_missing (stack_word c.stack s (place_in z at)) s (field_at c s (place_in z at)).code buf)))
+      go : (p : Bool) → (field_at c s (place_in z at)).processed ≡ p → (q : Bool) → has_all (field_at c s (place_in z at)).code ≡ q
+          → LoadedBy z c tag at (after_load (cond (p || q) (Here buf)
+          (found_missing (stack_word c.stack s (place_in z at)) s (field_at c s (place_in z at)).code buf)))
       go true e q r = replied_ok buf (shown true e)
-      go false e true r = replied_ok buf (shown false e ∙ ap Some (over-all (field_at c s (place_in z at)).code buf (coming_form c s (place_in z at)) r))
+      go false e true r = replied_ok buf (shown false e
+          ∙ ap Some (over-all (field_at c s (place_in z at)).code buf (coming_form c s (place_in z at)) r))
       go false e false r = in_stack (stack_word c.stack s (place_in z at)) refl e
 
   pub loaded-by : LoadedBy z c tag at (loaded c tag (place_in z at) buf (found c (block_of z at) (place_in z at)))
@@ -161,5 +227,6 @@ module _ (z : Sizes) (some : 0 < z.block_words) (c : Cache) (tag at : ℕ) (hit 
   loaded-by = go (live_for c (block_of z at)) refl
     where
       go : (o : Option ℕ) → live_for c (block_of z at) ≡ o → LoadedBy z c tag at (after_load (found_in c o (place_in z at) buf))
-      go None e = replied_ok buf (form_at-resident z c at hit.frame hit.present e ∙ ap (λ o. Some (bytes_of (cell_in c o (place_in z at)).word)) (sym hit.present))
+      go None e = replied_ok buf (form_at-resident z c at hit.frame hit.present e
+          ∙ ap (λ o. Some (bytes_of (cell_in c o (place_in z at)).word)) (sym hit.present))
       go (Some s) e = in_register s e

@@ -1,48 +1,102 @@
 -- A word of the stack is processed.
-use Rattle.std.proofs.Common.{◌≡◌, ℕ, zero, suc, ◌+◌, ◌<◌, Bool, true, false, cond, ◌&&◌, ◌==◌, List, [], ◌∷◌, ◌++◌, map, length, get_or, set, Option, Some, None, option_map, find, remove, slice_get, refl, sym, ap, ap₂, ◌∙◌, subst, arith, length-set, ◌⊎◌, inl, inr, ⊎_elim, eqb-true, eq-eqb, mod-lt, get_or-set_other}
+use Rattle.std.proofs.Common.{◌≡◌, ℕ, zero, suc, ◌+◌, ◌<◌, Bool, true, false, cond, not, ◌&&◌, ◌==◌, nat_lt, List, [], ◌∷◌, ◌++◌, map}
+use Rattle.std.proofs.Common.{length, get_or, set, Option, Some, None, option_map, find, remove, slice_get, refl, sym, ap, ap₂, ◌∙◌, subst}
+use Rattle.std.proofs.Common.{arith, length-set, ◌⊎◌, inl, inr, ⊎_elim, eqb-true, eq-eqb, mod-lt, get_or-set_same, get_or-set_other}
+use Rattle.std.proofs.Common.{ltb-true}
 use Rattle.std.specs.List.{list_all}
 use Rattle.std.proofs.lemmas.Bool.{cases_eq, cases_Bool, and_parts, false_from_ne_true}
 use Rattle.std.proofs.lemmas.List.{map-append}
 use Rattle.flat_model.specs.declared.Word.{Word}
 use Rattle.flat_model.specs.declared.Answer.{Answer}
 use Rattle.flat_model.specs.Words.{merged, no_lanes}
+use Rattle.flat_model.specs.declared.Lanes.{Lanes}
 use Rattle.input_stack.specs.declared.Entry.{Entry}
 use Rattle.input_stack.specs.Stack.{stack_word}
 use Rattle.miss_registers.specs.declared.Owed.{Owed}
 use Rattle.cache_directory.specs.declared.Cell.{Cell}
-use Rattle.cache_unit.specs.State.{Sizes, Frame, Field, Register, Cache, zero_cell, empty_frame, clear_field, free_register, frame_at, frame_of, register_at, field_at, is_live, live_for, cell_in, cell_of, gathered, targets_of, targets_of_field, targets, with_cell, block_of, place_in}
+use Rattle.cache_unit.specs.State.{Sizes, Frame, Field, Register, Cache, zero_cell, empty_frame, clear_field, free_register, frame_at}
+use Rattle.cache_unit.specs.State.{frame_of, register_at, field_at, is_live, live_for, cell_in, cell_of, gathered, targets_of}
+use Rattle.cache_unit.specs.State.{targets_of_field, targets, tags, with_cell, block_of, place_in}
 use Rattle.cache_unit.specs.Steps.{answered, filled, filled_in, finished, processed, process_entry, process_step}
 use Rattle.cache_unit.specs.Forms.{bytes_of, missing_form, coming_form, over_form, owed}
 use Rattle.cache_unit.specs.FormLaws.{form_at, forms, ProcessForms}
 use Rattle.cache_unit.specs.SoundCache.{HasWord, IsSoundCache}
 use Rattle.cache_unit.specs.Counts.{tally}
 use Rattle.cache_unit.proofs.FormsLists.{Adds, Adds-find_other, Adds-remove, find-only, gathered_part}
-use Rattle.cache_unit.proofs.FormsParts.{in_range, nested_same, nested_other, find_swapped, targets_map, WordPart, word_part}
+use Rattle.cache_unit.proofs.FormsParts.{in_range, nested_same, nested_other, find_swapped, tally_swapped, targets_map, WordPart, word_part}
 use Rattle.cache_unit.proofs.FormsFinding.{frame_of-some, frame_of-is, live_for-some, live_for-is}
-use Rattle.cache_unit.proofs.FormsFields.{with_fields, with_field_in, field_elsewhere, field_here}
+use Rattle.cache_unit.proofs.FormsFields.{with_fields, with_field_in, same_at, field_elsewhere, field_here}
 use Rattle.cache_unit.proofs.FormsPlaces.{frame-stays, live-stays, live-goes, serves, is_entry}
-use Rattle.cache_unit.proofs.FormsSame.{form_at-same, form_at-live, form_at-resident, form_at-absent, Due, due_ready, due_to, dues, has_tag, due_in, owed-due, dues-tally, forms-from}
+use Rattle.cache_unit.proofs.FormsSame.{form_at-same, form_at-live, form_at-resident, form_at-absent, Due, due_ready, due_to, dues, has_tag}
+use Rattle.cache_unit.proofs.FormsSame.{due_in, owed-due, dues-passing, dues-tally, forms-from}
+use Rattle.cache_unit.proofs.Within.{waits_for, FramesLike, frames_like-same, frames_like-set, RegistersWithin, registers_within-set}
+use Rattle.cache_unit.proofs.Within.{Within, within_like}
 use Rattle.cache_unit.proofs.FormsStoring.{bytes-merged, with_cells}
 
 abbrev pub done : Field
 done = record { processed = true; code = no_lanes; waiting = [] }
 
-pub all_processed : (fields : List Field) → list_all (λ f. f.processed) fields ≡ true → (j : ℕ) → j < length fields → (get_or fields j clear_field).processed ≡ true
+pub all_processed : (fields : List Field) → list_all (λ f. f.processed) fields ≡ true → (j : ℕ) → j < length fields
+    → (get_or fields j clear_field).processed ≡ true
 all_processed [] h j l = absurd (omega arith)
 all_processed (f ∷ fields) h zero l = (and_parts f.processed (list_all (λ f. f.processed) fields) h).0
-all_processed (f ∷ fields) h (suc j) l = all_processed fields (and_parts f.processed (list_all (λ f. f.processed) fields) h).1 j (omega arith)
+all_processed (f ∷ fields) h (suc j) l =
+    all_processed fields (and_parts f.processed (list_all (λ f. f.processed) fields) h).1 j (omega arith)
 
-pub no_targets : (slot n : ℕ) (fields : List Field) → list_all (λ f. f.processed) fields ≡ true → gathered (targets_of_field slot) n fields ≡ []
+pub no_targets : (slot n : ℕ) (fields : List Field) → list_all (λ f. f.processed) fields ≡ true
+    → gathered (targets_of_field slot) n fields ≡ []
 no_targets slot n [] h = refl
 no_targets slot n (f ∷ fields) h =
     let p = and_parts f.processed (list_all (λ f. f.processed) fields) h in
     ap₂ ◌++◌ (ap (λ b. cond b [] (map (λ w. record { slot = slot; i = n; load = w }) f.waiting)) p.0) (no_targets slot (suc n) fields p.1)
 
+-- the word's bytes outside the code
+abbrev filled_cell : Entry → Cell → Lanes → Cell
+filled_cell e cell code = record { word = merged e.word cell.word code; dirty = cell.dirty }
+
+-- a word that has come to the buffer: its form is the buffer's bytes
+pub record HasCome (z : Sizes) (c d : Cache) (at : ℕ) : Type 0 where
+  pub dirty : (cell_of d (block_of z at) (place_in z at)).dirty ≡ (cell_of c (block_of z at) (place_in z at)).dirty
+  pub form : form_at z d at ≡ Some (bytes_of (cell_of d (block_of z at) (place_in z at)).word)
+
+-- the unit once the word of this entry is processed
+pub record ProcessedBy (z : Sizes) (c : Cache) (place : ℕ) (e : Entry) (d : Cache) : Type 0 where
+  pub within : Within c d
+  pub same_forms : forms z d ≡ forms z c
+  pub passing : (p : ℕ → Bool) → tally p (tags d) ≡ tally p (tags c)
+  -- the register no longer waits for this word, and the others wait for what they did
+  pub own : waits_for z d e.slot e.i ≡ false
+  pub others : (t j : ℕ) → (t ≡ e.slot → j ≡ e.i → ⊥) → waits_for z d t j ≡ waits_for z c t j
+  pub cells : (at : ℕ) → (cell_of d (block_of z at) (place_in z at) ≡ cell_of c (block_of z at) (place_in z at)) ⊎ HasCome z c d at
+  pub orders : d.orders ≡ c.orders
+  pub stack : d.stack ≡ remove c.stack place
+  pub queue : d.queue ≡ c.queue
+
+never : (a b : Bool) → (a && (b && false)) ≡ false
+never true true = refl
+never true false = refl
+never false b = refl
+
 -- how the buffer is filled by a word
 record Filling (c : Cache) (e : Entry) (frames : List Frame) : Type 0 where
   pub stays : (d : Cache) → d.frames ≡ frames → (b : ℕ) → frame_of d b ≡ frame_of c b
-  pub others : (k j : ℕ) → (is_live (register_at c e.slot) ≡ true → (frame_at c k).block ≡ Some (register_at c e.slot).block → j ≡ e.i → ⊥) → get_or (get_or frames k empty_frame).cells j zero_cell ≡ get_or (frame_at c k).cells j zero_cell
-  pub here : is_live (register_at c e.slot) ≡ true → (k : ℕ) → frame_of c (register_at c e.slot).block ≡ Some k → (get_or (get_or frames k empty_frame).cells e.i zero_cell).word ≡ merged e.word (get_or (frame_at c k).cells e.i zero_cell).word (field_at c e.slot e.i).code
+  pub others : (k j : ℕ) → (is_live (register_at c e.slot) ≡ true → (frame_at c k).block ≡ Some (register_at c e.slot).block → j ≡ e.i
+      → ⊥) → get_or (get_or frames k empty_frame).cells j zero_cell ≡ get_or (frame_at c k).cells j zero_cell
+  pub here : is_live (register_at c e.slot) ≡ true → (k : ℕ) → frame_of c (register_at c e.slot).block ≡ Some k
+      → get_or (get_or frames k empty_frame).cells e.i zero_cell
+      ≡ filled_cell e (get_or (frame_at c k).cells e.i zero_cell) (field_at c e.slot e.i).code
+  pub like : FramesLike c.frames frames
+
+-- filling changes the frames alone
+pub filled_only : (c : Cache) (s i : ℕ) (w : Word) → filled c s i w ≡ record c { frames = (filled c s i w).frames }
+unfolding with_cell
+filled_only c s i w = go (is_live (register_at c s)) (frame_of c (register_at c s).block)
+  where
+    go : (b : Bool) (o : Option ℕ) → cond b (filled_in c o i w (field_at c s i).code) c
+        ≡ record c { frames = (cond b (filled_in c o i w (field_at c s i).code) c).frames }
+    go true None = refl
+    go true (Some f) = refl
+    go false o = refl
 
 module _ (z : Sizes) (c : Cache) (h : IsSoundCache z c) (place : ℕ) (e : Entry) (found : slice_get c.stack place ≡ Some e) where
   abbrev reg : Register
@@ -68,7 +122,8 @@ module _ (z : Sizes) (c : Cache) (h : IsSoundCache z c) (place : ℕ) (e : Entry
   comes : stack_word c.stack e.slot e.i ≡ Some e.word
   unfolding stack_word
   comes =
-      ap (option_map (λ (x : Entry). x.word)) (find-only (is_entry e.slot e.i) c.stack place e found (ap₂ (λ x y. x && y) (eq-eqb e.slot e.slot refl) (eq-eqb e.i e.i refl)) (λ j y q t.
+      ap (option_map (λ (x : Entry). x.word)) (find-only (is_entry e.slot e.i) c.stack place e found
+      (ap₂ (λ x y. x && y) (eq-eqb e.slot e.slot refl) (eq-eqb e.i e.i refl)) (λ j y q t.
       let p = and_parts (y.slot == e.slot) (y.i == e.i) t in
       h.entries_apart j place y e q found (eqb-true y.slot e.slot p.0) (eqb-true y.i e.i p.1)))
 
@@ -105,13 +160,23 @@ module _ (z : Sizes) (c : Cache) (h : IsSoundCache z c) (place : ℕ) (e : Entry
   -- the other words of a register whose words are all processed
   done_before : AllDone → (j : ℕ) → j < z.block_words → (j ≡ e.i → ⊥) → (field_at c e.slot j).processed ≡ true
   done_before all j l n =
-      ap (λ (x : Field). x.processed) (sym (get_or-set_other reg.fields e.i j done clear_field n)) ∙ all_processed (set reg.fields e.i done) all j (let k = h.fields e.slot (waits).valid in let m = length-set reg.fields e.i done in omega arith)
+      ap (λ (x : Field). x.processed) (sym (get_or-set_other reg.fields e.i j done clear_field n))
+      ∙ all_processed (set reg.fields e.i done) all j
+      (let k = h.fields e.slot (waits).valid in let m = length-set reg.fields e.i done in omega arith)
 
   targets2 : AllDone → targets registers2 ≡ targets registers1
   unfolding targets
   targets2 all =
       let p = gathered_part targets_of free_register 0 c.registers e.slot slot_there in
-      p.then free_register ∙ ap (λ l. p.front ++ (l ++ p.back)) (sym (ap (λ x. cond x (gathered (targets_of_field (0 + e.slot)) 0 (set reg.fields e.i done)) []) (waits).valid ∙ no_targets (0 + e.slot) 0 (set reg.fields e.i done) all)) ∙ sym (p.then worked)
+      p.then free_register ∙ ap (λ l. p.front ++ (l ++ p.back))
+      (sym (ap (λ x. cond x (gathered (targets_of_field (0 + e.slot)) 0 (set reg.fields e.i done)) []) (waits).valid
+      ∙ no_targets (0 + e.slot) 0 (set reg.fields e.i done) all)) ∙ sym (p.then worked)
+
+  within1 : RegistersWithin c.registers registers1
+  within1 = registers_within-set c.registers e.slot worked (λ l. (l, refl)) (λ v. (v, length-set reg.fields e.i done))
+
+  within2 : RegistersWithin c.registers registers2
+  within2 = registers_within-set c.registers e.slot free_register (λ l. cc) (λ v. cc)
 
   -- ---- the unit after the turn
 
@@ -133,16 +198,20 @@ module _ (z : Sizes) (c : Cache) (h : IsSoundCache z c) (place : ℕ) (e : Entry
 
     hit_or_not : (at : ℕ) → IsHit at ⊎ (IsHit at → ⊥)
     hit_or_not at =
-        ⊎_elim (λ l. ⊎_elim (λ b. ⊎_elim (λ i. inl (l, b, i)) (λ n. inr (λ k. n k.2)) (cases_eq e.i (place_in z at))) (λ n. inr (λ k. n k.1)) (cases_eq reg.block (block_of z at))) (λ n. inr (λ k. let p = k.0 in cc)) (cases_Bool (is_live reg))
+        ⊎_elim (λ l. ⊎_elim (λ b. ⊎_elim (λ i. inl (l, b, i)) (λ n. inr (λ k. n k.2)) (cases_eq e.i (place_in z at)))
+        (λ n. inr (λ k. n k.1)) (cases_eq reg.block (block_of z at))) (λ n. inr (λ k. let p = k.0 in cc)) (cases_Bool (is_live reg))
 
-    cell_other : (registers : List Register) (at : ℕ) → (IsHit at → ⊥) → cell_of (turned registers) (block_of z at) (place_in z at) ≡ cell_of c (block_of z at) (place_in z at)
+    cell_other : (registers : List Register) (at : ℕ) → (IsHit at → ⊥)
+        → cell_of (turned registers) (block_of z at) (place_in z at) ≡ cell_of c (block_of z at) (place_in z at)
     cell_other registers at n =
-        ap (λ o. cell_in (turned registers) o (place_in z at)) (filling.stays (turned registers) refl (block_of z at)) ∙ go (frame_of c (block_of z at)) refl
+        ap (λ o. cell_in (turned registers) o (place_in z at)) (filling.stays (turned registers) refl (block_of z at))
+        ∙ go (frame_of c (block_of z at)) refl
       where
         go : (o : Option ℕ) → frame_of c (block_of z at) ≡ o → cell_in (turned registers) o (place_in z at) ≡ cell_in c o (place_in z at)
         go None k = refl
         go (Some f) k =
-            filling.others f (place_in z at) (λ l b i. let here = (frame_of-some c (block_of z at) f k).1 in let same : reg.block ≡ block_of z at = cc in n (l, same, sym i))
+            filling.others f (place_in z at) (λ l b i. let here = (frame_of-some c (block_of z at) f k).1 in
+            let same : reg.block ≡ block_of z at = cc in n (l, same, sym i))
 
     -- ---- the word itself
 
@@ -162,13 +231,17 @@ module _ (z : Sizes) (c : Cache) (h : IsSoundCache z c) (place : ℕ) (e : Entry
     hit_before at hit =
         let k = hit_frame at hit in
         let buffer = (cell_in c (Some k.0) e.i).word in
-        form_at-live z c at k.0 e.slot e.i k.1 (hit_live at hit) (sym hit.2) ∙ ap (λ b. Some (cond b (bytes_of buffer) (over_form fld.code buffer (coming_form c e.slot e.i)))) (waits).waits ∙ ap (λ o. Some (over_form fld.code buffer (missing_form o e.slot e.i))) comes ∙ ap Some (sym (bytes-merged e.word buffer fld.code))
+        form_at-live z c at k.0 e.slot e.i k.1 (hit_live at hit) (sym hit.2)
+        ∙ ap (λ b. Some (cond b (bytes_of buffer) (over_form fld.code buffer (coming_form c e.slot e.i)))) (waits).waits
+        ∙ ap (λ o. Some (over_form fld.code buffer (missing_form o e.slot e.i))) comes
+        ∙ ap Some (sym (bytes-merged e.word buffer fld.code))
 
-    hit_cell : (registers : List Register) (at : ℕ) (hit : IsHit at) → (cell_in (turned registers) (Some (hit_frame at hit).0) e.i).word ≡ hit_word at hit
+    hit_cell : (registers : List Register) (at : ℕ) (hit : IsHit at)
+        → (cell_in (turned registers) (Some (hit_frame at hit).0) e.i).word ≡ hit_word at hit
     unfolding hit_word
     hit_cell registers at hit =
         let k = hit_frame at hit in
-        filling.here hit.0 k.0 (ap (frame_of c) hit.1 ∙ k.1)
+        ap (λ (x : Cell). x.word) (filling.here hit.0 k.0 (ap (frame_of c) hit.1 ∙ k.1))
 
     -- ---- the words, while the register stays
 
@@ -182,13 +255,24 @@ module _ (z : Sizes) (c : Cache) (h : IsSoundCache z c) (place : ℕ) (e : Entry
         at_hit hit =
             let k = hit_frame at hit in
             let buffer = (cell_in (turned registers1) (Some k.0) e.i).word in
-            form_at-live z (turned registers1) at k.0 e.slot e.i (filling.stays (turned registers1) refl _ ∙ k.1) (live1 _ ∙ hit_live at hit) (sym hit.2) ∙ ap (λ (x : Field). Some (cond x.processed (bytes_of buffer) (over_form x.code buffer (coming_form (turned registers1) e.slot e.i)))) own_field ∙ ap (λ w. Some (bytes_of w)) (hit_cell registers1 at hit) ∙ sym (hit_before at hit)
+            form_at-live z (turned registers1) at k.0 e.slot e.i (filling.stays (turned registers1) refl _ ∙ k.1)
+            (live1 _ ∙ hit_live at hit) (sym hit.2) ∙ ap
+            (λ (x : Field). Some (cond x.processed (bytes_of buffer)
+            (over_form x.code buffer (coming_form (turned registers1) e.slot e.i)))) own_field
+            ∙ ap (λ w. Some (bytes_of w)) (hit_cell registers1 at hit) ∙ sym (hit_before at hit)
 
         elsewhere : (IsHit at → ⊥) → form_at z (turned registers1) at ≡ form_at z c at
         elsewhere n =
-            form_at-same z c (turned registers1) at (filling.stays (turned registers1) refl _) (live1 _) (ap (λ (x : Cell). x.word) (cell_other registers1 at n)) (λ t k.
+            form_at-same z c (turned registers1) at (filling.stays (turned registers1) refl _) (live1 _)
+            (ap (λ (x : Cell). x.word) (cell_other registers1 at n)) (λ t k.
             let l = live_for-some c (block_of z at) t k in
-            let differs : t ≡ e.slot → place_in z at ≡ e.i → ⊥ = λ q i. n (subst (λ x. is_live (register_at c x) ≡ true) q l.0, subst (λ x. (register_at c x).block ≡ block_of z at) q l.1, sym i) in
+            let differs : t ≡ e.slot → place_in z at ≡ e.i
+            → ⊥ = λ q i. n (
+              subst (λ x. is_live (register_at c x) ≡ true) q l.0,
+              subst
+                  (λ x. (register_at c x).block ≡ block_of z at) q l.1,
+              sym i,
+            ) in
             let f = other_field t (place_in z at) differs in
             (ap (λ (x : Field). x.processed) f, ap (λ (x : Field). x.code) f, other_word t (place_in z at) differs))
 
@@ -204,7 +288,8 @@ module _ (z : Sizes) (c : Cache) (h : IsSoundCache z c) (place : ℕ) (e : Entry
             p = let q = and_parts (is_live reg) (reg.block == block_of z at) s in (q.0, eqb-true reg.block (block_of z at) q.1)
 
             gone : live_for (turned registers2) (block_of z at) ≡ None
-            gone = live-goes c (turned registers2) e.slot free_register (block_of z at) refl slot_there refl (λ t l b. h.live_apart t e.slot l p.0 (b ∙ sym p.1))
+            gone = live-goes c (turned registers2) e.slot free_register (block_of z at) refl slot_there refl
+                (λ t l b. h.live_apart t e.slot l p.0 (b ∙ sym p.1))
 
             before : live_for c (block_of z at) ≡ Some e.slot
             before = live_for-is c (block_of z at) e.slot h.live_apart p.0 p.1
@@ -220,22 +305,36 @@ module _ (z : Sizes) (c : Cache) (h : IsSoundCache z c) (place : ℕ) (e : Entry
                 at_hit : IsHit at → form_at z (turned registers2) at ≡ form_at z c at
                 at_hit hit =
                     let k' = hit_frame at hit in
-                    form_at-resident z (turned registers2) at k'.0 (filling.stays (turned registers2) refl _ ∙ k'.1) gone ∙ ap (λ j. Some (bytes_of (cell_in (turned registers2) (Some k'.0) j).word)) (sym hit.2) ∙ ap (λ w. Some (bytes_of w)) (hit_cell registers2 at hit) ∙ sym (hit_before at hit)
+                    form_at-resident z (turned registers2) at k'.0 (filling.stays (turned registers2) refl _ ∙ k'.1) gone
+                    ∙ ap (λ j. Some (bytes_of (cell_in (turned registers2) (Some k'.0) j).word)) (sym hit.2)
+                    ∙ ap (λ w. Some (bytes_of w)) (hit_cell registers2 at hit) ∙ sym (hit_before at hit)
 
                 elsewhere : (IsHit at → ⊥) → form_at z (turned registers2) at ≡ form_at z c at
                 elsewhere n =
                     let w = (cell_in c (Some k) (place_in z at)).word in
                     let x = done_before all (place_in z at) (mod-lt at h.some_words) (λ i. n (p.0, p.1, sym i)) in
-                    let same : cell_in (turned registers2) (Some k) (place_in z at) ≡ cell_in c (Some k) (place_in z at) = ap (λ o. cell_in (turned registers2) o (place_in z at)) (sym frame') ∙ cell_other registers2 at n ∙ ap (λ o. cell_in c o (place_in z at)) q in
-                    form_at-resident z (turned registers2) at k frame' gone ∙ ap (λ (y : Cell). Some (bytes_of y.word)) same ∙ sym (form_at-live z c at k e.slot (place_in z at) q before refl ∙ ap (λ b. Some (cond b (bytes_of w) (over_form (field_at c e.slot (place_in z at)).code w (coming_form c e.slot (place_in z at))))) x)
+                    let same : cell_in (turned registers2) (Some k) (place_in z at) ≡ cell_in c (Some k) (place_in z at) =
+                    ap (λ o. cell_in (turned registers2) o (place_in z at)) (sym frame') ∙ cell_other registers2 at n
+                    ∙ ap (λ o. cell_in c o (place_in z at)) q in
+                    form_at-resident z (turned registers2) at k frame' gone ∙ ap (λ (y : Cell). Some (bytes_of y.word)) same
+                    ∙ sym (form_at-live z c at k e.slot (place_in z at) q before refl
+                    ∙ ap (λ b. Some (cond b (bytes_of w) (over_form (field_at c e.slot (place_in z at)).code w
+                    (coming_form c e.slot (place_in z at))))) x)
 
         other : serves (block_of z at) reg ≡ false → form_at z (turned registers2) at ≡ form_at z c at
         other s =
-            form_at-same z c (turned registers2) at (filling.stays (turned registers2) refl _) (live-stays c (turned registers2) e.slot free_register (block_of z at) refl (sym s)) (ap (λ (x : Cell). x.word) (cell_other registers2 at not_hit)) (λ t k.
+            form_at-same z c (turned registers2) at (filling.stays (turned registers2) refl _)
+            (live-stays c (turned registers2) e.slot free_register (block_of z at) refl (sym s))
+            (ap (λ (x : Cell). x.word) (cell_other registers2 at not_hit)) (λ t k.
             let l = live_for-some c (block_of z at) t k in
-            let far : t ≡ e.slot → ⊥ = λ q. not_here (ap (λ x. is_live (register_at c x)) (sym q) ∙ l.0) (ap (λ x. (register_at c x).block) (sym q) ∙ l.1) in
-            let same = get_or-set_other c.registers e.slot t free_register free_register far in
-            (ap (λ (r : Register). (get_or r.fields (place_in z at) clear_field).processed) same, ap (λ (r : Register). (get_or r.fields (place_in z at) clear_field).code) same, other_word t (place_in z at) (λ a b. far a)))
+            let far : t ≡ e.slot → ⊥ = λ q. not_here (ap (λ x. is_live (register_at c x)) (sym q) ∙ l.0)
+            (ap (λ x. (register_at c x).block) (sym q) ∙ l.1) in
+            let same = get_or-set_other c.registers e.slot t free_register free_register far in (
+              ap (λ (r : Register). (get_or r.fields (place_in z at) clear_field).processed) same,
+              ap
+                  (λ (r : Register). (get_or r.fields (place_in z at) clear_field).code) same,
+              other_word t (place_in z at) (λ a b. far a),
+            ))
           where
             not_here : is_live reg ≡ true → reg.block ≡ block_of z at → ⊥
             not_here l b =
@@ -255,12 +354,15 @@ module _ (z : Sizes) (c : Cache) (h : IsSoundCache z c) (place : ℕ) (e : Entry
 
     seg_is : map (due_to c.stack) (targets_of_field e.slot e.i fld) ≡ seg
     seg_is =
-        ap (λ b. map (due_to c.stack) (cond b [] (map (λ w. record { slot = e.slot; i = e.i; load = w }) fld.waiting))) (waits).waits ∙ go fld.waiting
+        ap (λ b. map (due_to c.stack) (cond b [] (map (λ w. record { slot = e.slot; i = e.i; load = w }) fld.waiting))) (waits).waits
+        ∙ go fld.waiting
       where
-        one : (w : Owed) → over_form w.lanes w.held (missing_form (stack_word c.stack e.slot e.i) e.slot e.i) ≡ bytes_of (merged e.word w.held w.lanes)
+        one : (w : Owed) → over_form w.lanes w.held (missing_form (stack_word c.stack e.slot e.i) e.slot e.i)
+            ≡ bytes_of (merged e.word w.held w.lanes)
         one w = ap (λ o. over_form w.lanes w.held (missing_form o e.slot e.i)) comes ∙ sym (bytes-merged e.word w.held w.lanes)
 
-        go : (ws : List Owed) → map (due_to c.stack) (map (λ w. record { slot = e.slot; i = e.i; load = w }) ws) ≡ map due_ready (answered e.word ws)
+        go : (ws : List Owed) → map (due_to c.stack) (map (λ w. record { slot = e.slot; i = e.i; load = w }) ws)
+            ≡ map due_ready (answered e.word ws)
         go [] = refl
         go (w ∷ ws) = ap₂ (λ (x : Due) xs. x ∷ xs) (ap (λ f. record { tag = w.tag; form = f }) (one w)) (go ws)
 
@@ -273,7 +375,11 @@ module _ (z : Sizes) (c : Cache) (h : IsSoundCache z c) (place : ℕ) (e : Entry
     dues_before : dues c ≡ map due_ready c.ready ++ (front ++ (seg ++ back))
     unfolding dues front back
     dues_before =
-        ap (λ l. map due_ready c.ready ++ map (due_to c.stack) l) (part).now ∙ ap (λ l. map due_ready c.ready ++ l) (map-append (due_to c.stack) (part).front _ ∙ ap (λ l. map (due_to c.stack) (part).front ++ l) (map-append (due_to c.stack) (targets_of_field e.slot e.i fld) (part).back ∙ ap (λ l. l ++ map (due_to c.stack) (part).back) seg_is))
+        ap (λ l. map due_ready c.ready ++ map (due_to c.stack) l) (part).now
+        ∙ ap (λ l. map due_ready c.ready ++ l) (map-append (due_to c.stack) (part).front _
+        ∙ ap (λ l. map (due_to c.stack) (part).front ++ l)
+        (map-append (due_to c.stack) (targets_of_field e.slot e.i fld) (part).back
+        ∙ ap (λ l. l ++ map (due_to c.stack) (part).back) seg_is))
 
     targets1 : targets registers1 ≡ (part).front ++ (part).back
     targets1 = (part).then worked done (waits).valid refl
@@ -281,46 +387,144 @@ module _ (z : Sizes) (c : Cache) (h : IsSoundCache z c) (place : ℕ) (e : Entry
     same_dues : map (due_to (remove c.stack place)) (targets registers1) ≡ map (due_to c.stack) (targets registers1)
     same_dues = targets_map (due_to (remove c.stack place)) (due_to c.stack) registers1 each
       where
-        agree : (t j : ℕ) (f : Field) → (t ≡ e.slot → j ≡ e.i → ⊥) → map (due_to (remove c.stack place)) (targets_of_field t j f) ≡ map (due_to c.stack) (targets_of_field t j f)
+        agree : (t j : ℕ) (f : Field) → (t ≡ e.slot → j ≡ e.i → ⊥)
+            → map (due_to (remove c.stack place)) (targets_of_field t j f) ≡ map (due_to c.stack) (targets_of_field t j f)
         agree t j f n = go f.processed f.waiting
           where
-            go' : (ws : List Owed) → map (due_to (remove c.stack place)) (map (λ w. record { slot = t; i = j; load = w }) ws) ≡ map (due_to c.stack) (map (λ w. record { slot = t; i = j; load = w }) ws)
+            go' : (ws : List Owed) → map (due_to (remove c.stack place)) (map (λ w. record { slot = t; i = j; load = w }) ws)
+                ≡ map (due_to c.stack) (map (λ w. record { slot = t; i = j; load = w }) ws)
             go' [] = refl
-            go' (w ∷ ws) = ap₂ (λ (x : Due) xs. x ∷ xs) (ap (λ o. record { tag = w.tag; form = over_form w.lanes w.held (missing_form o t j) }) (other_word t j n)) (go' ws)
+            go' (w ∷ ws) = ap₂ (λ (x : Due) xs. x ∷ xs)
+                (ap (λ o. record { tag = w.tag; form = over_form w.lanes w.held (missing_form o t j) }) (other_word t j n)) (go' ws)
 
-            go : (b : Bool) (ws : List Owed) → map (due_to (remove c.stack place)) (cond b [] (map (λ w. record { slot = t; i = j; load = w }) ws)) ≡ map (due_to c.stack) (cond b [] (map (λ w. record { slot = t; i = j; load = w }) ws))
+            go : (b : Bool) (ws : List Owed) → map (due_to (remove c.stack place))
+                (cond b [] (map (λ w. record { slot = t; i = j; load = w }) ws))
+                ≡ map (due_to c.stack) (cond b [] (map (λ w. record { slot = t; i = j; load = w }) ws))
             go true ws = refl
             go false ws = go' ws
 
-        each : (t j : ℕ) → (get_or registers1 t free_register).valid ≡ true → map (due_to (remove c.stack place)) (targets_of_field t j (get_or (get_or registers1 t free_register).fields j clear_field)) ≡ map (due_to c.stack) (targets_of_field t j (get_or (get_or registers1 t free_register).fields j clear_field))
-        each t j v = ⊎_elim (λ p. ⊎_elim (λ q. here p q) (λ n. agree t j (get_or (get_or registers1 t free_register).fields j clear_field) (λ a b. n b)) (cases_eq j e.i)) (λ n. agree t j (get_or (get_or registers1 t free_register).fields j clear_field) (λ a b. n a)) (cases_eq t e.slot)
+        each : (t j : ℕ) → (get_or registers1 t free_register).valid ≡ true
+            → map (due_to (remove c.stack place)) (targets_of_field t j (get_or (get_or registers1 t free_register).fields j clear_field))
+            ≡ map (due_to c.stack) (targets_of_field t j (get_or (get_or registers1 t free_register).fields j clear_field))
+        each t j v = ⊎_elim (λ p. ⊎_elim (λ q. here p q)
+            (λ n. agree t j (get_or (get_or registers1 t free_register).fields j clear_field) (λ a b. n b)) (cases_eq j e.i))
+            (λ n. agree t j (get_or (get_or registers1 t free_register).fields j clear_field) (λ a b. n a)) (cases_eq t e.slot)
           where
-            here : t ≡ e.slot → j ≡ e.i → map (due_to (remove c.stack place)) (targets_of_field t j (get_or (get_or registers1 t free_register).fields j clear_field)) ≡ map (due_to c.stack) (targets_of_field t j (get_or (get_or registers1 t free_register).fields j clear_field))
+            here : t ≡ e.slot → j ≡ e.i → map (due_to (remove c.stack place))
+                (targets_of_field t j (get_or (get_or registers1 t free_register).fields j clear_field))
+                ≡ map (due_to c.stack) (targets_of_field t j (get_or (get_or registers1 t free_register).fields j clear_field))
             here p q =
-                let f : get_or (get_or registers1 t free_register).fields j clear_field ≡ done = ap₂ (λ a b. get_or (get_or registers1 a free_register).fields b clear_field) p q ∙ own_field in
-                ap (λ x. map (due_to (remove c.stack place)) (targets_of_field t j x)) f ∙ sym (ap (λ x. map (due_to c.stack) (targets_of_field t j x)) f)
+                let f : get_or (get_or registers1 t free_register).fields j clear_field ≡ done =
+                ap₂ (λ a b. get_or (get_or registers1 a free_register).fields b clear_field) p q ∙ own_field in
+                ap (λ x. map (due_to (remove c.stack place)) (targets_of_field t j x)) f
+                ∙ sym (ap (λ x. map (due_to c.stack) (targets_of_field t j x)) f)
 
-    dues_after : (registers : List Register) → targets registers ≡ targets registers1 → dues (turned registers) ≡ (map due_ready c.ready ++ seg) ++ (front ++ back)
+    dues_after : (registers : List Register) → targets registers ≡ targets registers1
+        → dues (turned registers) ≡ (map due_ready c.ready ++ seg) ++ (front ++ back)
     unfolding dues front back
     dues_after registers same =
-        ap₂ ◌++◌ (map-append due_ready c.ready (answered e.word fld.waiting)) (ap (map (due_to (remove c.stack place))) same ∙ same_dues ∙ ap (map (due_to c.stack)) targets1 ∙ map-append (due_to c.stack) (part).front (part).back)
+        ap₂ ◌++◌ (map-append due_ready c.ready (answered e.word fld.waiting))
+        (ap (map (due_to (remove c.stack place))) same ∙ same_dues ∙ ap (map (due_to c.stack)) targets1
+        ∙ map-append (due_to c.stack) (part).front (part).back)
 
     owed_same : (registers : List Register) → targets registers ≡ targets registers1 → (tag : ℕ) → owed (turned registers) tag ≡ owed c tag
     unfolding due_in
     owed_same registers same tag =
         let count = dues-tally c tag in
         let one = h.once tag in
-        let n : tally (has_tag tag) (map due_ready c.ready ++ (front ++ (seg ++ back))) ≡ tally (has_tag tag) (dues c) = ap (tally (has_tag tag)) (sym dues_before) in
-        owed-due (turned registers) tag ∙ ap (option_map (λ (d : Due). d.form)) (ap (find (has_tag tag)) (dues_after registers same) ∙ find_swapped (has_tag tag) (map due_ready c.ready) seg front back (omega arith) ∙ sym (ap (find (has_tag tag)) dues_before)) ∙ sym (owed-due c tag)
+        let n : tally (has_tag tag) (map due_ready c.ready ++ (front ++ (seg ++ back))) ≡ tally (has_tag tag) (dues c) =
+        ap (tally (has_tag tag)) (sym dues_before) in
+        owed-due (turned registers) tag ∙ ap (option_map (λ (d : Due). d.form))
+        (ap (find (has_tag tag)) (dues_after registers same)
+        ∙ find_swapped (has_tag tag) (map due_ready c.ready) seg front back (omega arith) ∙ sym (ap (find (has_tag tag)) dues_before))
+        ∙ sym (owed-due c tag)
+
+    passing : (p : ℕ → Bool) (registers : List Register) → targets registers ≡ targets registers1
+        → tally p (tags (turned registers)) ≡ tally p (tags c)
+    passing p registers same =
+        let q : Due → Bool = λ d. p d.tag in
+        sym (dues-passing p (turned registers)) ∙ ap (tally q) (dues_after registers same)
+        ∙ tally_swapped q (map due_ready c.ready) seg front back ∙ ap (tally q) (sym dues_before) ∙ dues-passing p c
+
+    -- ---- what is waited for
+
+    abbrev waits_in : ℕ → Register → Bool
+    waits_in j r = r.valid && (nat_lt j z.block_words && not (get_or r.fields j clear_field).processed)
+
+    own1 : waits_for z (turned registers1) e.slot e.i ≡ false
+    own1 =
+        let r = register_at (turned registers1) e.slot in
+        ap (λ (x : Field). r.valid && (nat_lt e.i z.block_words && not x.processed)) own_field ∙ never r.valid (nat_lt e.i z.block_words)
+
+    waits1 : (t j : ℕ) → (t ≡ e.slot → j ≡ e.i → ⊥) → waits_for z (turned registers1) t j ≡ waits_for z c t j
+    waits1 t j n =
+        ap₂ (λ x y. x && (nat_lt j z.block_words && not y)) (same_at c.registers e.slot e.i done (λ (r : Register). r.valid) refl t)
+        (ap (λ (x : Field). x.processed) (other_field t j n))
+
+    own2 : (j : ℕ) → waits_for z (turned registers2) e.slot j ≡ false
+    own2 j = ap (waits_in j) (get_or-set_same c.registers e.slot free_register free_register slot_there)
+
+    waits2 : AllDone → (t j : ℕ) → (t ≡ e.slot → j ≡ e.i → ⊥) → waits_for z (turned registers2) t j ≡ waits_for z c t j
+    waits2 all t j n =
+        ⊎_elim here (λ far. ap (waits_in j) (get_or-set_other c.registers e.slot t free_register free_register far)) (cases_eq t e.slot)
+      where
+        before : t ≡ e.slot → (b : Bool) → nat_lt j z.block_words ≡ b → (reg.valid && (b && not (field_at c e.slot j).processed)) ≡ false
+        before q true l =
+            ap (λ x. reg.valid && not x) (done_before all j (ltb-true j z.block_words l) (n q)) ∙ never reg.valid true
+        before q false l = never reg.valid false
+
+        here : t ≡ e.slot → waits_for z (turned registers2) t j ≡ waits_for z c t j
+        here q =
+            ap (λ k. waits_for z (turned registers2) k j) q ∙ own2 j
+            ∙ sym (ap (λ k. waits_for z c k j) q ∙ before q (nat_lt j z.block_words) refl)
+
+    -- ---- the cells
+
+    cells : (registers : List Register) (at : ℕ) → form_at z (turned registers) at ≡ form_at z c at
+        → (cell_of (turned registers) (block_of z at) (place_in z at) ≡ cell_of c (block_of z at) (place_in z at)) ⊎ HasCome z c
+        (turned registers) at
+    unfolding hit_word
+    cells registers at same = ⊎_elim come (λ n. inl (cell_other registers at n)) (hit_or_not at)
+      where
+        come : IsHit at → (cell_of (turned registers) (block_of z at) (place_in z at)
+            ≡ cell_of c (block_of z at) (place_in z at)) ⊎ HasCome z c (turned registers) at
+        come hit =
+            let k = hit_frame at hit in
+            let here = filling.here hit.0 k.0 (ap (frame_of c) hit.1 ∙ k.1) in
+            let cell : cell_of (turned registers) (block_of z at) (place_in z at) ≡ filled_cell e (cell_in c (Some k.0) e.i) fld.code =
+            ap₂ (λ o j. cell_in (turned registers) o j) (filling.stays (turned registers) refl _ ∙ k.1) (sym hit.2) ∙ here in
+            inr (record {
+              dirty = ap (λ (x : Cell). x.dirty) cell ∙ sym (ap₂ (λ o j. (cell_in c o j).dirty) k.1 (sym hit.2));
+              form = same ∙ hit_before at hit ∙ ap (λ (x : Cell). Some (bytes_of x.word)) (sym cell);
+            })
 
     -- ---- both cases
 
-    turned_forms : forms z (turned (set c.registers e.slot (finished reg e.i))) ≡ forms z c
-    turned_forms = go (list_all (λ f. f.processed) (set reg.fields e.i done)) refl
+    turned_by : ProcessedBy z c place e (turned (set c.registers e.slot (finished reg e.i)))
+    turned_by = go (list_all (λ f. f.processed) (set reg.fields e.i done)) refl
       where
-        go : (b : Bool) → list_all (λ f. f.processed) (set reg.fields e.i done) ≡ b → forms z (turned (set c.registers e.slot (cond b free_register worked))) ≡ forms z c
-        go true all = forms-from z (turned registers2) _ _ (words2 all) (owed_same registers2 (targets2 all))
-        go false all = forms-from z (turned registers1) _ _ words1 (owed_same registers1 refl)
+        by : (registers : List Register) → RegistersWithin c.registers registers
+            → ((at : ℕ) → form_at z (turned registers) at ≡ form_at z c at)
+            → targets registers ≡ targets registers1 → waits_for z (turned registers) e.slot e.i ≡ false
+            → ((t j : ℕ) → (t ≡ e.slot → j ≡ e.i → ⊥) → waits_for z (turned registers) t j ≡ waits_for z c t j)
+            → ProcessedBy z c place e (turned registers)
+        by registers like words same own others =
+            record {
+              within = within_like c (turned registers) filling.like like;
+              same_forms = forms-from z (turned registers) _ _ words (owed_same registers same);
+              passing = λ p. passing p registers same;
+              own = own;
+              others = others;
+              cells = λ at. cells registers at (words at);
+              orders = refl;
+              stack = refl;
+              queue = refl;
+            }
+
+        go : (b : Bool) → list_all (λ f. f.processed) (set reg.fields e.i done) ≡ b
+            → ProcessedBy z c place e (turned (set c.registers e.slot (cond b free_register worked)))
+        go true all = by registers2 within2 (words2 all) (targets2 all) (own2 e.i) (waits2 all)
+        go false all = by registers1 within1 words1 refl own1 waits1
 
   -- ---- the buffer is filled
 
@@ -329,14 +533,16 @@ module _ (z : Sizes) (c : Cache) (h : IsSoundCache z c) (place : ℕ) (e : Entry
   filling_of = go (is_live reg) refl (frame_of c reg.block) refl
     where
       unfilled : (is_live reg ≡ true → (k : ℕ) → frame_of c reg.block ≡ Some k → ⊥) → Filling c e c.frames
-      unfilled never =
+      unfilled impossible =
           record {
             stays = λ d ed b. ap (λ fs. frame_of (record c { frames = fs }) b) ed;
             others = λ k j n. refl;
-            here = λ l k q. absurd (never l k q);
+            here = λ l k q. absurd (impossible l k q);
+            like = frames_like-same c.frames;
           }
 
-      go : (b : Bool) → is_live reg ≡ b → (o : Option ℕ) → frame_of c reg.block ≡ o → Filling c e (cond b (filled_in c o e.i e.word fld.code) c).frames
+      go : (b : Bool) → is_live reg ≡ b → (o : Option ℕ) → frame_of c reg.block ≡ o
+          → Filling c e (cond b (filled_in c o e.i e.word fld.code) c).frames
       go false l o q = unfilled (λ l' k p. cc)
       go true l None q = unfilled (λ l' k p. cc)
       go true l (Some f) q =
@@ -348,21 +554,18 @@ module _ (z : Sizes) (c : Cache) (h : IsSoundCache z c) (place : ℕ) (e : Entry
           let room : e.i < length (frame_at c f).cells = omega arith in
           record {
             stays = λ d ed b. frame-stays c d f (with_cells (frame_at c f) (set (frame_at c f).cells e.i cell')) b ed refl;
-            others = λ k j n. nested_other (λ (x : Frame). x.cells) with_cells (λ x ys. refl) empty_frame zero_cell c.frames f e.i k j cell' (λ p r. n l (ap (λ x. (frame_at c x).block) p ∙ at_f.1) r);
+            others = λ k j n. nested_other (λ (x : Frame). x.cells) with_cells
+                (λ x ys. refl) empty_frame zero_cell c.frames f e.i k j cell' (λ p r. n l (ap (λ x. (frame_at c x).block) p ∙ at_f.1) r);
             here = λ l' k p.
                 let same : f ≡ k = cc in
-                subst (λ x. (get_or (get_or (set c.frames f (with_cells (frame_at c f) (set (frame_at c f).cells e.i cell'))) x empty_frame).cells e.i zero_cell).word ≡ merged e.word (get_or (frame_at c x).cells e.i zero_cell).word fld.code) same (ap (λ (x : Cell). x.word) (nested_same (λ (x : Frame). x.cells) with_cells (λ x ys. refl) empty_frame zero_cell c.frames f e.i cell' at_f.0 room));
+                let there = nested_same (λ (x : Frame). x.cells) with_cells
+                (λ x ys. refl) empty_frame zero_cell c.frames f e.i cell' at_f.0 room in
+                let new = set c.frames f (with_cells (frame_at c f) (set (frame_at c f).cells e.i cell')) in
+                subst (λ x. get_or (get_or new x empty_frame).cells e.i zero_cell
+                ≡ filled_cell e (get_or (frame_at c x).cells e.i zero_cell) fld.code) same there;
+            like = frames_like-set c.frames f (with_cells (frame_at c f) (set (frame_at c f).cells e.i cell')) refl
+                (length-set (frame_at c f).cells e.i cell');
           }
-
-  -- filling changes the frames alone
-  filled_only : filled c e.slot e.i e.word ≡ record c { frames = (filled c e.slot e.i e.word).frames }
-  unfolding with_cell
-  filled_only = go (is_live reg) (frame_of c reg.block)
-    where
-      go : (b : Bool) (o : Option ℕ) → cond b (filled_in c o e.i e.word fld.code) c ≡ record c { frames = (cond b (filled_in c o e.i e.word fld.code) c).frames }
-      go true None = refl
-      go true (Some f) = refl
-      go false o = refl
 
   after : Cache → Cache
   after d =
@@ -372,14 +575,18 @@ module _ (z : Sizes) (c : Cache) (h : IsSoundCache z c) (place : ℕ) (e : Entry
         registers = set c.registers e.slot (finished reg e.i);
       }
 
-  processed_forms : forms z (processed c place e) ≡ forms z c
+  pub processed-by : ProcessedBy z c place e (processed c place e)
   unfolding processed after
-  processed_forms = subst (λ d. forms z (after d) ≡ forms z c) (sym filled_only) (turned_forms (filled c e.slot e.i e.word).frames filling_of)
+  processed-by =
+      subst (λ d. ProcessedBy z c place e (after d)) (sym (filled_only c e.slot e.i e.word))
+      (turned_by (filled c e.slot e.i e.word).frames filling_of)
 
-process_ok : (z : Sizes) (c : Cache) → IsSoundCache z c → (place : ℕ) (o : Option Entry) → slice_get c.stack place ≡ o → forms z (process_entry c place o).cache ≡ forms z c
+process_ok : (z : Sizes) (c : Cache) → IsSoundCache z c → (place : ℕ) (o : Option Entry) → slice_get c.stack place ≡ o
+    → forms z (process_entry c place o).cache ≡ forms z c
 process_ok z c h place None e = refl
-process_ok z c h place (Some x) e = processed_forms z c h place x e
+process_ok z c h place (Some x) e = (processed-by z c h place x e).same_forms
 
-pub process_forms : (z : Sizes) (c : Cache) → IsSoundCache z c → (place : ℕ) (a : Answer) (d : Cache) → d ≡ (process_step c place).cache → ProcessForms z c a d
+pub process_forms : (z : Sizes) (c : Cache) → IsSoundCache z c → (place : ℕ) (a : Answer) (d : Cache) → d ≡ (process_step c place).cache
+    → ProcessForms z c a d
 unfolding ProcessForms process_step
 process_forms z c h place a d e = ap (forms z) e ∙ process_ok z c h place (slice_get c.stack place) refl

@@ -1,5 +1,6 @@
 -- What a request makes of the forms.
-use Rattle.std.proofs.Common.{◌≡◌, ℕ, Bool, true, false, cond, ◌||◌, ◌==◌, List, [], ◌∷◌, ◌++◌, map, length, Option, Some, None, option_map, filter, is_some, refl, sym, ap, ap₂, ◌∙◌, subst}
+use Rattle.std.proofs.Common.{◌≡◌, ℕ, Bool, true, false, cond, ◌||◌, ◌==◌, List, [], ◌∷◌, ◌++◌, map, length, Option, Some, None, option_map}
+use Rattle.std.proofs.Common.{filter, is_some, refl, sym, ap, ap₂, ◌∙◌, subst}
 use Rattle.std.specs.List.{list_any}
 use Rattle.flat_model.specs.declared.Word.{Word}
 use Rattle.flat_model.specs.declared.Lanes.{Lanes}
@@ -37,15 +38,17 @@ able-from z room c block e =
     (p.0, q.0)
 
 -- a missing block meets the causes of a miss
-pub missing : (z : Sizes) (room : ℕ → ℕ) (c : Cache) (block : ℕ) (here : List (Bool × Cause)) → first_cause (cond (is_present c block) here (miss_causes z room c block)) ≡ None → is_present c block ≡ false → Able z c block
+pub missing : (z : Sizes) (room : ℕ → ℕ) (c : Cache) (block : ℕ) (here : List (Bool × Cause))
+    → first_cause (cond (is_present c block) here (miss_causes z room c block)) ≡ None → is_present c block ≡ false → Able z c block
 missing z room c block here e q =
     able-from z room c block (subst (λ b. first_cause (cond b here (miss_causes z room c block)) ≡ None) q e)
 
-none-counted : (p : ℕ → Bool) (xs : List ℕ) → list_any p xs ≡ false → length (filter p xs) ≡ 0
+pub none-counted : (p : ℕ → Bool) (xs : List ℕ) → list_any p xs ≡ false → length (filter p xs) ≡ 0
 none-counted p [] e = refl
 none-counted p (x ∷ xs) e = go (p x) e (none-counted p xs)
   where
-    go : (b : Bool) → (b || list_any p xs) ≡ false → (list_any p xs ≡ false → length (filter p xs) ≡ 0) → length (cond b (x ∷ filter p xs) (filter p xs)) ≡ 0
+    go : (b : Bool) → (b || list_any p xs) ≡ false → (list_any p xs ≡ false → length (filter p xs) ≡ 0)
+        → length (cond b (x ∷ filter p xs) (filter p xs)) ≡ 0
     go true q rest = cc
     go false q rest = rest q
 
@@ -67,24 +70,34 @@ module _ (z : Sizes) (c : Cache) (h : IsSoundCache z c) (at : ℕ) (d : Cache) (
       let e = written d (block_of z at) (place_in z at) word lanes in
       record {
         present = ap is_some s.present;
-        after = forms-from z e _ _ (λ a. s.words a ∙ ap₂ (λ o p. cond (a == at) (option_map (over_form lanes word) o) p) (fetch.words at) (fetch.words a)) (λ tag. s.owing tag ∙ same_owed tag);
+        after = forms-from z e _ _ (λ a. s.words a
+            ∙ ap₂ (λ o p. cond (a == at) (option_map (over_form lanes word) o) p) (fetch.words at) (fetch.words a))
+            (λ tag. s.owing tag ∙ same_owed tag);
       }
 
-  load-ok : (tag : ℕ) → is_in_use c tag ≡ false → LoadForms z c tag at (loaded d tag (place_in z at) (cell_of d (block_of z at) (place_in z at)).word (found d (block_of z at) (place_in z at)))
+  load-ok : (tag : ℕ) → is_in_use c tag ≡ false
+      → LoadForms z c tag at (loaded d tag (place_in z at) (cell_of d (block_of z at) (place_in z at)).word
+      (found d (block_of z at) (place_in z at)))
   load-ok tag unused =
-      let same : tags d ≡ tags c = ap₂ (λ (r : List Reply) (t : List Target). map (λ x. x.tag) r ++ map (λ x. x.load.tag) t) fetch.same_ready fetch.same_targets in
-      let fresh : tally (has_tag tag) (dues d) ≡ 0 = dues-tally d tag ∙ ap (λ ts. length (filter (λ t. t == tag) ts)) same ∙ none-counted (λ t. t == tag) (tags c) unused in
+      let same : tags d ≡ tags c = ap₂ (λ (r : List Reply) (t : List Target). map (λ x. x.tag) r ++ map
+      (λ x. x.load.tag) t) fetch.same_ready fetch.same_targets in
+      let fresh : tally (has_tag tag) (dues d) ≡ 0 = dues-tally d tag ∙ ap (λ ts. length (filter (λ t. t == tag) ts)) same
+      ∙ none-counted (λ t. t == tag) (tags c) unused in
       let l = loaded-by z h.some_words d tag at there fresh in
       let e = loaded d tag (place_in z at) (cell_of d (block_of z at) (place_in z at)).word (found d (block_of z at) (place_in z at)) in
       record {
         present = ap is_some l.present;
-        after = forms-from z e _ _ (λ a. l.words a ∙ fetch.words a) (λ t. l.owing t ∙ ap₂ (λ o p. cond (t == tag) o p) (fetch.words at) (same_owed t));
+        after = forms-from z e _ _ (λ a. l.words a ∙ fetch.words a)
+            (λ t. l.owing t ∙ ap₂ (λ o p. cond (t == tag) o p) (fetch.words at) (same_owed t));
       }
 
 -- ---- the steps
 
 -- a refusal changes nothing
-unless-ok : (z : Sizes) (c : Cache) (request : Request) (o : Option Cause) (d : Cache) (sent : List (ℕ × Command)) → (o ≡ None → RequestForms z c request Accepted d) → RequestForms z c request (unless o c (record { answer = Accepted; cache = d; sent = sent })).answer (unless o c (record { answer = Accepted; cache = d; sent = sent })).cache
+unless-ok : (z : Sizes) (c : Cache) (request : Request) (o : Option Cause) (d : Cache) (sent : List (ℕ × Command))
+    → (o ≡ None → RequestForms z c request Accepted d)
+    → RequestForms z c request (unless o c (record { answer = Accepted; cache = d; sent = sent })).answer
+    (unless o c (record { answer = Accepted; cache = d; sent = sent })).cache
 unfolding RequestForms
 unless-ok z c (Load tag at) (Some cause) d sent ok = refl
 unless-ok z c (Store at word lanes) (Some cause) d sent ok = refl
@@ -104,12 +117,15 @@ module _ (z : Sizes) (room : ℕ → ℕ) (c : Cache) (h : IsSoundCache z c) whe
       unless-ok z c (Store at word lanes) (store_cause z room c at lanes) _ _ (λ e.
       let p = no-cause _ OutOfRange _ e in
       let q = no-cause _ NoLanes _ p.1 in
-      store-ok z c h at (fetched z c (block_of z at)) (fetched-by z c h (block_of z at) (missing z room c (block_of z at) _ q.1)) word lanes)
+      store-ok z c h at (fetched z c (block_of z at))
+      (fetched-by z c h (block_of z at) (missing z room c (block_of z at) _ q.1)) word lanes)
   request-ok (Prefetch at) =
       unless-ok z c (Prefetch at) (prefetch_cause z room c at) _ _ (λ e.
       let p = no-cause _ OutOfRange _ e in
       prefetch-ok z c h at (fetched z c (block_of z at)) (fetched-by z c h (block_of z at) (missing z room c (block_of z at) _ p.1)))
 
-pub request_forms : (z : Sizes) (room : ℕ → ℕ) (c : Cache) → IsSoundCache z c → (request : Request) (a : Answer) (d : Cache) → a ≡ (request_step z room c request).answer → d ≡ (request_step z room c request).cache → RequestForms z c request a d
+pub request_forms : (z : Sizes) (room : ℕ → ℕ) (c : Cache) → IsSoundCache z c → (request : Request) (a : Answer) (d : Cache)
+    → a ≡ (request_step z room c request).answer → d ≡ (request_step z room c request).cache → RequestForms z c request a d
 request_forms z room c h request a d ea ed =
-    subst (λ x. RequestForms z c request x d) (sym ea) (subst (λ x. RequestForms z c request (request_step z room c request).answer x) (sym ed) (request-ok z room c h request))
+    subst (λ x. RequestForms z c request x d) (sym ea)
+    (subst (λ x. RequestForms z c request (request_step z room c request).answer x) (sym ed) (request-ok z room c h request))

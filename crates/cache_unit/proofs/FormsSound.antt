@@ -1,5 +1,6 @@
 -- What the forms rest on holds of each sound unit.
-use Rattle.std.proofs.Common.{◌≡◌, ℕ, suc, ◌+◌, ◌*◌, ◌/◌, ◌<◌, ◌≤◌, Bool, true, false, cond, ◌&&◌, ◌||◌, ◌==◌, List, [], ◌∷◌, map, length, Option, Some, is_some, filter, slice_get, refl, sym, ap, ap₂, ◌∙◌, subst, arith, ⊎_elim, eq-eqb}
+use Rattle.std.proofs.Common.{◌≡◌, ℕ, suc, ◌+◌, ◌*◌, ◌/◌, ◌<◌, ◌≤◌, Bool, true, false, cond, ◌&&◌, ◌||◌, ◌==◌, List, [], ◌∷◌, map, length}
+use Rattle.std.proofs.Common.{Option, Some, is_some, filter, slice_get, refl, sym, ap, ap₂, ◌∙◌, subst, arith, ⊎_elim, eq-eqb}
 use Rattle.std.specs.List.{sum_by, count_by, list_any}
 use Rattle.std.proofs.lemmas.Bool.{cases_lt, or_left, or_right}
 use Rattle.std.proofs.lemmas.List.{length-map}
@@ -11,7 +12,8 @@ use Rattle.miss_registers.specs.declared.Owed.{Owed}
 use Rattle.cache_directory.specs.Frames as dir
 use Rattle.miss_registers.specs.Registers as regs
 use Rattle.cache_unit.specs.declared.Reply.{Reply}
-use Rattle.cache_unit.specs.State.{Sizes, UnitState, Frame, Field, Register, Target, Cache, frame_at, register_at, is_live, gathered, targets_of, targets_of_field, targets, tags}
+use Rattle.cache_unit.specs.State.{Sizes, UnitState, Frame, Field, Register, Target, frame_at, register_at, is_live, gathered, targets_of}
+use Rattle.cache_unit.specs.State.{targets_of_field, targets, tags}
 use Rattle.cache_unit.specs.Shown.{as_frame, as_field, as_register, as_cache}
 use Rattle.cache_unit.specs.Sound.{IsSound, loads_of_field, loads_of, owing}
 use Rattle.cache_unit.specs.SoundCache.{HasWord, IsSoundCache}
@@ -28,7 +30,8 @@ tally-count p [] = refl
 tally-count p (x ∷ xs) =
     let a = sum_by-cons (λ y. cond (p y) 1 0) x xs in
     let r = tally-count p xs in
-    elim (p x) as (λ b. cond b 1 0 + count_by p xs ≡ count_by p (x ∷ xs) → bit b + tally p xs ≡ count_by p (x ∷ xs)) [ true ↦ λ e. omega arith | false ↦ λ e. omega arith ] (sym a)
+    elim (p x) as (λ b. cond b 1 0 + count_by p xs ≡ count_by p (x ∷ xs) → bit b + tally p xs ≡ count_by p (x ∷ xs))
+    [ true ↦ λ e. omega arith | false ↦ λ e. omega arith ] (sym a)
 
 module _ (p : ℕ → Bool) where
   abbrev waits_so : Target → Bool
@@ -38,13 +41,15 @@ module _ (p : ℕ → Bool) where
   field_loads slot i f = go f.processed
     where
       each : tally waits_so (map (λ w. record { slot = slot; i = i; load = w }) f.waiting) ≡ count_by (λ w. p w.tag) f.waiting
-      each = tally-map (λ (w : Owed). record { slot = slot; i = i; load = w }) waits_so f.waiting ∙ tally-count (λ (w : Owed). p w.tag) f.waiting
+      each = tally-map (λ (w : Owed). record { slot = slot; i = i; load = w }) waits_so f.waiting
+          ∙ tally-count (λ (w : Owed). p w.tag) f.waiting
 
       go : (b : Bool) → tally waits_so (cond b [] (map (λ w. record { slot = slot; i = i; load = w }) f.waiting)) ≤ loads_of_field p f
       go true = omega arith
       go false = omega (arith, each)
 
-  fields_loads : (slot n : ℕ) (fs : List regs.Field) → tally waits_so (gathered (targets_of_field slot) n (map as_field fs)) ≤ sum_by (loads_of_field p) fs
+  fields_loads : (slot n : ℕ) (fs : List regs.Field)
+      → tally waits_so (gathered (targets_of_field slot) n (map as_field fs)) ≤ sum_by (loads_of_field p) fs
   fields_loads slot n [] = omega arith
   fields_loads slot n (f ∷ fs) =
       let a = tally-append waits_so (targets_of_field slot n (as_field f)) (gathered (targets_of_field slot) (suc n) (map as_field fs)) in
@@ -69,7 +74,8 @@ module _ (p : ℕ → Bool) where
       let s = sum_by-cons (loads_of p) r rs in
       omega arith
 
-  tags_owed : (d : dir.Frames) (rs : List regs.Register) (st : List Entry) (q : List Queued) (ready : List Reply) → length (filter p (tags (as_cache d rs st q ready))) ≤ owing p ready rs
+  tags_owed : (d : dir.Frames) (rs : List regs.Register) (st : List Entry) (q : List Queued) (ready : List Reply)
+      → length (filter p (tags (as_cache d rs st q ready))) ≤ owing p ready rs
   unfolding targets
   tags_owed d rs st q ready =
       let ts = targets (map as_register rs) in
@@ -87,7 +93,8 @@ stands_in : (order : List ℕ) (f : ℕ) → 1 ≤ dir.times_in order f → list
 stands_in [] f l = absurd (omega arith)
 stands_in (x ∷ order) f l = go (x == f) refl l (stands_in order f)
   where
-    go : (b : Bool) → (x == f) ≡ b → 1 ≤ cond b 1 0 + dir.times_in order f → (1 ≤ dir.times_in order f → list_any (λ g. g == f) order ≡ true) → ((x == f) || list_any (λ g. g == f) order) ≡ true
+    go : (b : Bool) → (x == f) ≡ b → 1 ≤ cond b 1 0 + dir.times_in order f
+        → (1 ≤ dir.times_in order f → list_any (λ g. g == f) order ≡ true) → ((x == f) || list_any (λ g. g == f) order) ≡ true
     go true e k rest = or_left (x == f) (list_any (λ g. g == f) order) e
     go false e k rest = or_right (x == f) (list_any (λ g. g == f) order) (rest (omega arith))
 
@@ -97,7 +104,8 @@ counted held own = cond (is_some held && own) 1 0
 
 -- ---- all of it
 
-pub sound_cache : (z : Sizes) (d : dir.Frames) (rs : List regs.Register) (st : List Entry) (q : Queue) (ready : List Reply) → IsSound z d rs st q ready → IsSoundCache z (as_cache d rs st q.entries ready)
+pub sound_cache : (z : Sizes) (d : dir.Frames) (rs : List regs.Register) (st : List Entry) (q : Queue) (ready : List Reply)
+    → IsSound z d rs st q ready → IsSoundCache z (as_cache d rs st q.entries ready)
 sound_cache z d rs st q ready h =
     record {
       some_words = let l = h.ranges.some_words in omega arith;
@@ -106,7 +114,8 @@ sound_cache z d rs st q ready h =
       registers_are = length-map rs as_register ∙ h.registers.registers_there;
       frames_apart = λ f g b p k. h.directory.alone f g b (sym (block_is f) ∙ p) (sym (block_is g) ∙ k);
       live_apart = λ s t a b e. h.registers.one_live s t (sym (live_is s) ∙ a) (sym (live_is t) ∙ b) (sym (owner_is s) ∙ e ∙ owner_is t);
-      live_present = λ s a. let t = h.tied.frames s (sym (live_is s) ∙ a) in let f = (regs.register_at rs s).frame in (f, block_is f ∙ (frame_of-some d.frames (regs.register_at rs s).block f t.holds).1 ∙ ap Some (sym (owner_is s)));
+      live_present = λ s a. let t = h.tied.frames s (sym (live_is s) ∙ a) in let f = (regs.register_at rs s).frame in
+          (f, block_is f ∙ (frame_of-some d.frames (regs.register_at rs s).block f t.holds).1 ∙ ap Some (sym (owner_is s)));
       cells = λ f b p. ap (λ (x : Frame). length x.cells) (frame_at-shown d.frames f) ∙ h.directory.cells f b (sym (block_is f) ∙ p);
       fields = λ s v. count_is s ∙ (h.registers.each s).fields_there (sym (valid_is s) ∙ v);
       placed = λ f b p. stands_in (dir.order_of d (f / z.ways)) f (held_once f b (sym (block_is f) ∙ p));
@@ -115,9 +124,6 @@ sound_cache z d rs st q ready h =
       once = λ tag. let a = tags_owed (λ t. t == tag) d rs st q.entries ready in let b = h.owes.once tag in omega arith;
     }
   where
-    c : Cache
-    c = as_cache d rs st q.entries ready
-
     block_is : (f : ℕ) → (frame_at (as_cache d rs st q.entries ready) f).block ≡ (dir.frame_at d.frames f).block
     block_is f = ap (λ (x : Frame). x.block) (frame_at-shown d.frames f)
 
@@ -138,7 +144,8 @@ sound_cache z d rs st q ready h =
 
     held_once : (f b : ℕ) → (dir.frame_at d.frames f).block ≡ Some b → 1 ≤ dir.times_in (dir.order_of d (f / z.ways)) f
     held_once f b e =
-        let one : dir.times_in (dir.order_of d (f / z.ways)) f ≡ 1 = h.directory.ordered (f / z.ways) f ∙ ap₂ counted e (eq-eqb (f / z.ways) (f / z.ways) refl) in
+        let one : dir.times_in (dir.order_of d (f / z.ways)) f ≡ 1 = h.directory.ordered (f / z.ways) f
+        ∙ ap₂ counted e (eq-eqb (f / z.ways) (f / z.ways) refl) in
         omega arith
 
     there : (k : ℕ) (e : Entry) → slice_get st k ≡ Some e → HasWord z (as_cache d rs st q.entries ready) e
@@ -159,12 +166,16 @@ sound_cache z d rs st q ready h =
     never j k x y gj gk es ei l =
         let a = Taken-from st j x gj in
         let b = Taken-from st k y gk in
-        h.stack_sound.distinct j k l b.within (ap (λ (v : Entry). v.slot) a.same ∙ es ∙ sym (ap (λ (v : Entry). v.slot) b.same)) (ap (λ (v : Entry). v.i) a.same ∙ ei ∙ sym (ap (λ (v : Entry). v.i) b.same))
+        h.stack_sound.distinct j k l b.within (ap (λ (v : Entry). v.slot) a.same ∙ es ∙ sym (ap (λ (v : Entry). v.slot) b.same))
+        (ap (λ (v : Entry). v.i) a.same ∙ ei ∙ sym (ap (λ (v : Entry). v.i) b.same))
 
     apart : (j k : ℕ) (x y : Entry) → slice_get st j ≡ Some x → slice_get st k ≡ Some y → x.slot ≡ y.slot → x.i ≡ y.i → j ≡ k
     apart j k x y gj gk es ei =
-        ⊎_elim (λ l. absurd (never j k x y gj gk es ei l)) (λ l. ⊎_elim (λ m. absurd (never k j y x gk gj (sym es) (sym ei) m)) (λ m. omega arith) (cases_lt k j)) (cases_lt j k)
+        ⊎_elim (λ l. absurd (never j k x y gj gk es ei l))
+        (λ l. ⊎_elim (λ m. absurd (never k j y x gk gj (sym es) (sym ei) m)) (λ m. omega arith) (cases_lt k j)) (cases_lt j k)
 
 -- the same of what a unit shows
-pub sound_shown : (z : Sizes) (d : dir.Frames) (rs : List regs.Register) (st : List Entry) (q : Queue) (ready : List Reply) → IsSound z d rs st q ready → (u : UnitState) → record { sizes = z; cache = as_cache d rs st q.entries ready } ≡ u → IsSoundCache u.sizes u.cache
+pub sound_shown : (z : Sizes) (d : dir.Frames) (rs : List regs.Register) (st : List Entry) (q : Queue) (ready : List Reply)
+    → IsSound z d rs st q ready → (u : UnitState) → record { sizes = z; cache = as_cache d rs st q.entries ready } ≡ u
+    → IsSoundCache u.sizes u.cache
 sound_shown z d rs st q ready h u e = subst (λ (x : UnitState). IsSoundCache x.sizes x.cache) e (sound_cache z d rs st q ready h)

@@ -8,6 +8,7 @@ pub mod Ranges
 pub mod SentReads
 pub mod FormsLists
 pub mod FormsParts
+pub mod Within
 pub mod FormsFinding
 pub mod FormsFields
 pub mod FormsSame

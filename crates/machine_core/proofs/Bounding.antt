@@ -1,12 +1,15 @@
 -- What is on its way stays within the limits.
-use Rattle.std.proofs.Common.{◌≡◌, ℕ, zero, suc, ◌+◌, ◌-◌, ◌/◌, ◌%◌, ◌<◌, ◌≤◌, Bool, true, false, cond, not, ◌&&◌, ◌||◌, ◌==◌, nat_lt, nat_le, List, [], ◌∷◌, map, length, get_or, set, Option, Some, None, slice_get, refl, sym, ap, ◌∙◌, subst, arith, length-append, ⊎_elim, get_or-set_same, get_or-set_other, ltb-true, lt-ltb, eqb-true}
+use Rattle.std.proofs.Common.{◌≡◌, ℕ, zero, suc, ◌+◌, ◌-◌, ◌/◌, ◌%◌, ◌<◌, ◌≤◌, Bool, true, false, cond, not, ◌&&◌, ◌||◌, ◌==◌, nat_lt}
+use Rattle.std.proofs.Common.{nat_le, List, [], ◌∷◌, map, length, get_or, set, Option, Some, None, slice_get, refl, sym, ap, ◌∙◌, subst}
+use Rattle.std.proofs.Common.{arith, length-append, ⊎_elim, get_or-set_same, get_or-set_other, ltb-true, lt-ltb, eqb-true}
 use Rattle.std.specs.List.{list_all, list_any, filter, range_with_len}
 use Rattle.std.proofs.lemmas.Bool.{cases_eq, cases_lt, ltb-false, eqb-false}
 use Rattle.std.proofs.lemmas.List.{get_or_past, set_past}
 use Rattle.flat_model.specs.declared.Word.{Word}
 use Rattle.flat_model.specs.declared.Lanes.{Lanes}
 use Rattle.flat_model.specs.declared.Cause.{Cause}
-use Rattle.flat_model.specs.declared.Cause.TheVariants.{OutOfRange, NoLanes, TagInUse, RepliesFull, TargetsFull, NoRegister, SetPending, QueueFull, BankFull, NotPresent}
+use Rattle.flat_model.specs.declared.Cause.TheVariants.{OutOfRange, NoLanes, TagInUse, RepliesFull, TargetsFull, NoRegister, SetPending}
+use Rattle.flat_model.specs.declared.Cause.TheVariants.{QueueFull, BankFull, NotPresent}
 use Rattle.flat_model.specs.declared.Event.{Event}
 use Rattle.flat_model.specs.declared.Event.TheVariants.{Load, Store, Prefetch, Evict, Drain, Serve, Arrive, Process, Take}
 use Rattle.flat_model.specs.declared.Answer.TheVariants.{Moved, Refused}
@@ -20,18 +23,25 @@ use Rattle.input_stack.specs.declared.Entry.{Entry}
 use Rattle.write_queue.specs.declared.Queued.{Queued}
 use Rattle.write_queue.specs.Queue.{queued_lanes}
 use Rattle.cache_unit.specs.declared.Reply.{Reply}
-use Rattle.cache_unit.specs.State.{Sizes, Field, Register, Cache, clear_field, free_register, frame_of, is_present, register_at, field_at, live_for, free_slot, with_cell, with_field, block_of, place_in, address, tags, is_pending}
-use Rattle.cache_unit.specs.Causes.{first_cause, ways_of, targets_full, found, is_in_use, choose, dirty_words, addresses, lacks_places, lacks_room, miss_causes, Found, Here, Coming, load_cause, store_cause, prefetch_cause, evict_cause, arrive_cause}
-use Rattle.cache_unit.specs.Steps.{Stepped, unless, without_code, made_obsolete, obsoleted, released, evicted, evicted_from, fresh_register, installed, missed, reads, fetched, fetches, loaded, noted, written_in, written, load_step, store_step, prefetch_step, evict_step, drain_first, drain_step, arrived, finished, processed, process_entry, process_step, take_reply, take_step}
+use Rattle.cache_unit.specs.State.{Sizes, Field, Register, Cache, clear_field, free_register, frame_of, is_present, register_at, field_at}
+use Rattle.cache_unit.specs.State.{live_for, free_slot, with_cell, with_field, block_of, place_in, address, tags, is_pending}
+use Rattle.cache_unit.specs.Causes.{first_cause, ways_of, targets_full, found, is_in_use, choose, dirty_words, addresses, lacks_places}
+use Rattle.cache_unit.specs.Causes.{lacks_room, miss_causes, Found, Here, Coming, load_cause, store_cause, prefetch_cause, evict_cause}
+use Rattle.cache_unit.specs.Causes.{arrive_cause}
+use Rattle.cache_unit.specs.Steps.{Stepped, unless, without_code, made_obsolete, obsoleted, released, evicted, evicted_from, fresh_register}
+use Rattle.cache_unit.specs.Steps.{installed, missed, reads, fetched, fetches, loaded, noted, written_in, written, load_step, store_step}
+use Rattle.cache_unit.specs.Steps.{prefetch_step, evict_step, drain_first, drain_step, arrived, finished, processed, process_entry}
+use Rattle.cache_unit.specs.Steps.{process_step, take_reply, take_step}
 use Rattle.cache_unit.specs.Counts.{bit}
 use Rattle.cache_unit.proofs.FormsChoosing.{Able}
 use Rattle.cache_unit.proofs.FormsProcessing.{done}
 use Rattle.machine_core.specs.Law.{IsLawful}
 use Rattle.machine_core.specs.Machine.{Machine, apply, joined_with, serve_from, take_in, arrive_from, without_answer}
 use Rattle.machine_core.specs.Sound.{IsSound}
-use Rattle.machine_core.proofs.Freeing.{filled_only}
+use Rattle.cache_unit.proofs.FormsProcessing.{filled_only}
 
-each-set : {X : Type 0} (P : X → Type 0) (d : X) (xs : List X) (k : ℕ) (y : X) → ((t : ℕ) → P (get_or xs t d)) → P y → (t : ℕ) → P (get_or (set xs k y) t d)
+each-set : {X : Type 0} (P : X → Type 0) (d : X) (xs : List X) (k : ℕ) (y : X) → ((t : ℕ) → P (get_or xs t d)) → P y → (t : ℕ)
+    → P (get_or (set xs k y) t d)
 each-set P d xs k y h own t =
     ⊎_elim here (λ n. subst P (sym (get_or-set_other xs k t y d n)) (h t)) (cases_eq t k)
   where
@@ -54,16 +64,20 @@ pub record Little (z : Sizes) (c : Cache) : Type 0 where
   pub wait : (s : ℕ) → Waits (get_or c.registers s free_register)
   pub queued : length c.queue ≤ z.write_queue
 
-all-set : (fields : List Field) (i : ℕ) (f : Field) → f.processed ≡ (get_or fields i clear_field).processed → list_all (λ (x : Field). x.processed) (set fields i f) ≡ list_all (λ (x : Field). x.processed) fields
+all-set : (fields : List Field) (i : ℕ) (f : Field) → f.processed ≡ (get_or fields i clear_field).processed
+    → list_all (λ (x : Field). x.processed) (set fields i f) ≡ list_all (λ (x : Field). x.processed) fields
 all-set [] i f e = refl
 all-set (x ∷ fields) zero f e = ap (λ b. b && list_all (λ (y : Field). y.processed) fields) e
 all-set (x ∷ fields) (suc i) f e = ap (λ b. x.processed && b) (all-set fields i f e)
 
-all-codeless : (fields : List Field) → list_all (λ (x : Field). x.processed) (map without_code fields) ≡ list_all (λ (x : Field). x.processed) fields
+all-codeless : (fields : List Field) → list_all (λ (x : Field). x.processed) (map without_code fields)
+    ≡ list_all (λ (x : Field). x.processed) fields
 all-codeless [] = refl
 all-codeless (f ∷ fields) = ap (λ b. f.processed && b) (all-codeless fields)
 
-fresh_waits : (queue : List Queued) (a n : ℕ) → 0 < n → list_all (λ (x : Field). x.processed) (map (λ at. record { processed = false; code = queued_lanes queue at; waiting = [] }) (range_with_len a n)) ≡ false
+fresh_waits : (queue : List Queued) (a n : ℕ) → 0 < n
+    → list_all (λ (x : Field). x.processed) (map
+    (λ at. record { processed = false; code = queued_lanes queue at; waiting = [] }) (range_with_len a n)) ≡ false
 fresh_waits queue a zero l = absurd (omega arith)
 fresh_waits queue a (suc n) l = refl
 
@@ -74,22 +88,26 @@ unfolding released
 little_released z c f h e =
     record {
       wait = h.wait;
-      queued = let n = length-append c.queue (dirty_words z c (Some f)) in let l = ltb-false (z.write_queue - length c.queue) (length (dirty_words z c (Some f))) e in let q = h.queued in omega arith;
+      queued = let n = length-append c.queue (dirty_words z c (Some f)) in let l =
+          ltb-false (z.write_queue - length c.queue) (length (dirty_words z c (Some f))) e in let q = h.queued in omega arith;
     }
 
 little_installed : (z : Sizes) (c : Cache) (block f slot : ℕ) → 0 < z.block_words → Little z c → Little z (installed z c block f slot)
 unfolding installed
 little_installed z c block f slot some h =
     record {
-      wait = each-set Waits free_register c.registers slot (fresh_register z c.queue block) h.wait (λ v. fresh_waits c.queue (address z block 0) z.block_words some);
+      wait = each-set Waits free_register c.registers slot (fresh_register z c.queue block) h.wait
+          (λ v. fresh_waits c.queue (address z block 0) z.block_words some);
       queued = h.queued;
     }
 
-little_fetched : (z : Sizes) (c : Cache) (block : ℕ) → 0 < z.block_words → Little z c → (is_present c block ≡ false → lacks_places z c (choose z c block) ≡ false) → Little z (fetched z c block)
+little_fetched : (z : Sizes) (c : Cache) (block : ℕ) → 0 < z.block_words → Little z c
+    → (is_present c block ≡ false → lacks_places z c (choose z c block) ≡ false) → Little z (fetched z c block)
 unfolding fetched
 little_fetched z c block some h places = go (is_present c block) refl (choose z c block) refl (free_slot c)
   where
-    go : (b : Bool) → is_present c block ≡ b → (o : Option ℕ) → choose z c block ≡ o → (s : Option ℕ) → Little z (cond b c (missed z c block o s))
+    go : (b : Bool) → is_present c block ≡ b → (o : Option ℕ) → choose z c block ≡ o → (s : Option ℕ)
+        → Little z (cond b c (missed z c block o s))
     go true p o q s = h
     go false p None q s = h
     go false p (Some f) q None = h
@@ -98,11 +116,14 @@ little_fetched z c block some h places = go (is_present c block) refl (choose z 
 
 -- ---- loads and stores of a present block
 
-little_field : (z : Sizes) (c : Cache) (slot i : ℕ) (f : Field) → Little z c → f.processed ≡ (field_at c slot i).processed → Little z (with_field c slot i f)
+little_field : (z : Sizes) (c : Cache) (slot i : ℕ) (f : Field) → Little z c → f.processed ≡ (field_at c slot i).processed
+    → Little z (with_field c slot i f)
 unfolding with_field
 little_field z c slot i f h e =
     record {
-      wait = each-set Waits free_register c.registers slot (record (register_at c slot) { fields = set (register_at c slot).fields i f }) h.wait (λ v. all-set (register_at c slot).fields i f e ∙ h.wait slot v);
+      wait = each-set Waits free_register c.registers slot
+          (record (register_at c slot) { fields = set (register_at c slot).fields i f }) h.wait
+          (λ v. all-set (register_at c slot).fields i f e ∙ h.wait slot v);
       queued = h.queued;
     }
 
@@ -114,22 +135,26 @@ little_noted : (z : Sizes) (c : Cache) (o : Option ℕ) (i : ℕ) (lanes : Lanes
 little_noted z c None i lanes h = h
 little_noted z c (Some slot) i lanes h = go (field_at c slot i).processed
   where
-    go : (b : Bool) → Little z (cond b c (with_field c slot i (record (field_at c slot i) { code = joined (field_at c slot i).code lanes })))
+    go : (b : Bool) → Little z (cond b c (with_field c slot i
+        (record (field_at c slot i) { code = joined (field_at c slot i).code lanes })))
     go true = h
     go false = little_field z c slot i _ h refl
 
-little_written_in : (z : Sizes) (c : Cache) (o : Option ℕ) (i : ℕ) (word : Word) (lanes : Lanes) → Little z c → Little z (written_in c o i word lanes)
+little_written_in : (z : Sizes) (c : Cache) (o : Option ℕ) (i : ℕ) (word : Word) (lanes : Lanes) → Little z c
+    → Little z (written_in c o i word lanes)
 unfolding with_cell
 little_written_in z c None i word lanes h = h
 little_written_in z c (Some f) i word lanes h = record { wait = h.wait; queued = h.queued }
 
 little_written : (z : Sizes) (c : Cache) (block i : ℕ) (word : Word) (lanes : Lanes) → Little z c → Little z (written c block i word lanes)
 little_written z c block i word lanes h =
-    little_noted z (written_in c (frame_of c block) i word lanes) (live_for c block) i lanes (little_written_in z c (frame_of c block) i word lanes h)
+    little_noted z (written_in c (frame_of c block) i word lanes) (live_for c block) i lanes
+    (little_written_in z c (frame_of c block) i word lanes h)
 
 -- ---- evictions, and words that have come
 
-little_evicted : (z : Sizes) (c : Cache) (block : ℕ) (o : Option ℕ) → Little z c → lacks_places z c o ≡ false → Little z (evicted_from z c block o)
+little_evicted : (z : Sizes) (c : Cache) (block : ℕ) (o : Option ℕ) → Little z c → lacks_places z c o ≡ false
+    → Little z (evicted_from z c block o)
 unfolding evicted
 little_evicted z c block None h e = h
 little_evicted z c block (Some f) h e = both (little_released z c f h e)
@@ -137,7 +162,8 @@ little_evicted z c block (Some f) h e = both (little_released z c f h e)
     waits : (o : Option ℕ) (s : ℕ) → Waits (get_or (obsoleted c o) s free_register)
     waits None = h.wait
     waits (Some slot) =
-        each-set Waits free_register c.registers slot (made_obsolete (register_at c slot)) h.wait (λ v. all-codeless (register_at c slot).fields ∙ h.wait slot v)
+        each-set Waits free_register c.registers slot (made_obsolete (register_at c slot)) h.wait
+        (λ v. all-codeless (register_at c slot).fields ∙ h.wait slot v)
 
     both : Little z (released z c f) → Little z (evicted z c block f)
     both r = record { wait = waits (live_for c block); queued = r.queued }
@@ -146,11 +172,13 @@ little_processed : (z : Sizes) (c : Cache) (place : ℕ) (e : Entry) → Little 
 unfolding processed
 little_processed z c place e h =
     record {
-      wait = each-set Waits free_register c.registers e.slot (finished (register_at c e.slot) e.i) h.wait (fin (list_all (λ (x : Field). x.processed) (set (register_at c e.slot).fields e.i done)) refl);
+      wait = each-set Waits free_register c.registers e.slot (finished (register_at c e.slot) e.i) h.wait
+          (fin (list_all (λ (x : Field). x.processed) (set (register_at c e.slot).fields e.i done)) refl);
       queued = subst (λ (d : Cache). length d.queue ≤ z.write_queue) (sym (filled_only c e.slot e.i e.word)) h.queued;
     }
   where
-    fin : (b : Bool) → list_all (λ (x : Field). x.processed) (set (register_at c e.slot).fields e.i done) ≡ b → Waits (cond b free_register (record (register_at c e.slot) { fields = set (register_at c e.slot).fields e.i done }))
+    fin : (b : Bool) → list_all (λ (x : Field). x.processed) (set (register_at c e.slot).fields e.i done) ≡ b
+        → Waits (cond b free_register (record (register_at c e.slot) { fields = set (register_at c e.slot).fields e.i done }))
     fin true q v = cc
     fin false q v = q
 
@@ -159,7 +187,8 @@ little_processed z c place e h =
 abbrev pub Fits : Sizes → Bank → Type 0
 Fits z b = length b.queue ≤ z.bank_queue
 
-one_sent : (banks : List Bank) (k : ℕ) (command : Command) (b : ℕ) → length (bank_at (set banks k (with_command (bank_at banks k) command)) b).queue ≤ length (bank_at banks b).queue + bit (k == b)
+one_sent : (banks : List Bank) (k : ℕ) (command : Command) (b : ℕ)
+    → length (bank_at (set banks k (with_command (bank_at banks k) command)) b).queue ≤ length (bank_at banks b).queue + bit (k == b)
 unfolding with_command
 one_sent banks k command b = go (k == b) refl
   where
@@ -169,25 +198,32 @@ one_sent banks k command b = go (k == b) refl
     old : length (bank_at banks b).queue ≤ length (bank_at banks b).queue + 1
     old = omega arith
 
-    go : (t : Bool) → (k == b) ≡ t → length (bank_at (set banks k (with_command (bank_at banks k) command)) b).queue ≤ length (bank_at banks b).queue + bit t
+    go : (t : Bool) → (k == b) ≡ t → length (bank_at (set banks k (with_command (bank_at banks k) command)) b).queue ≤ length
+        (bank_at banks b).queue + bit t
     go true e = ⊎_elim within past (cases_lt k (length banks))
       where
         same : k ≡ b
         same = eqb-true k b e
 
-        within : k < length banks → length (bank_at (set banks k (with_command (bank_at banks k) command)) b).queue ≤ length (bank_at banks b).queue + 1
+        within : k < length banks → length (bank_at (set banks k (with_command (bank_at banks k) command)) b).queue ≤ length
+            (bank_at banks b).queue + 1
         within l =
             let own = ap (λ (x : Bank). length x.queue) (get_or-set_same banks k (with_command (bank_at banks k) command) no_bank l) in
             let n = length-append (bank_at banks k).queue (command ∷ []) in
-            subst (λ j. length (bank_at (set banks k (with_command (bank_at banks k) command)) j).queue ≤ length (bank_at banks j).queue + 1) same (omega arith)
+            subst (λ j. length (bank_at (set banks k (with_command (bank_at banks k) command)) j).queue ≤ length
+            (bank_at banks j).queue + 1) same (omega arith)
 
-        past : length banks ≤ k → length (bank_at (set banks k (with_command (bank_at banks k) command)) b).queue ≤ length (bank_at banks b).queue + 1
-        past l = subst (λ (xs : List Bank). length (bank_at xs b).queue ≤ length (bank_at banks b).queue + 1) (sym (set_past banks k (with_command (bank_at banks k) command) l)) old
+        past : length banks ≤ k → length (bank_at (set banks k (with_command (bank_at banks k) command)) b).queue ≤ length
+            (bank_at banks b).queue + 1
+        past l = subst (λ (xs : List Bank). length (bank_at xs b).queue ≤ length (bank_at banks b).queue + 1)
+            (sym (set_past banks k (with_command (bank_at banks k) command) l)) old
     go false e =
-        let other = ap (λ (x : Bank). length x.queue) (get_or-set_other banks k b (with_command (bank_at banks k) command) no_bank (λ q. eqb-false k b e (sym q))) in
+        let other = ap (λ (x : Bank). length x.queue)
+        (get_or-set_other banks k b (with_command (bank_at banks k) command) no_bank (λ q. eqb-false k b e (sym q))) in
         omega arith
 
-sent_few : (banks : List Bank) (sent : List (ℕ × Command)) (b : ℕ) → length (bank_at (all_sent banks sent) b).queue ≤ length (bank_at banks b).queue + length (commands_for b sent)
+sent_few : (banks : List Bank) (sent : List (ℕ × Command)) (b : ℕ)
+    → length (bank_at (all_sent banks sent) b).queue ≤ length (bank_at banks b).queue + length (commands_for b sent)
 sent_few banks [] b = omega arith
 sent_few banks (c ∷ rest) b =
     go (c.0 == b) (one_sent banks c.0 c.1 b) (sent_few (set banks c.0 (with_command (bank_at banks c.0) c.1)) rest b)
@@ -195,18 +231,25 @@ sent_few banks (c ∷ rest) b =
     banks1 : List Bank
     banks1 = set banks c.0 (with_command (bank_at banks c.0) c.1)
 
-    go : (t : Bool) → length (bank_at banks1 b).queue ≤ length (bank_at banks b).queue + bit t → length (bank_at (all_sent banks1 rest) b).queue ≤ length (bank_at banks1 b).queue + length (commands_for b rest) → length (bank_at (all_sent banks1 rest) b).queue ≤ length (bank_at banks b).queue + length (cond t (c.1 ∷ commands_for b rest) (commands_for b rest))
+    go : (t : Bool) → length (bank_at banks1 b).queue ≤ length (bank_at banks b).queue + bit t
+        → length (bank_at (all_sent banks1 rest) b).queue ≤ length (bank_at banks1 b).queue + length (commands_for b rest)
+        → length (bank_at (all_sent banks1 rest) b).queue ≤ length (bank_at banks b).queue + length
+        (cond t (c.1 ∷ commands_for b rest) (commands_for b rest))
     go true one ih = omega arith
     go false one ih = omega arith
 
-reads_for : (z : Sizes) (slot b : ℕ) (ats : List ℕ) → length (commands_for b (map (λ at. (at % z.banks, Read slot (at % z.block_words) (at / z.banks))) ats)) ≡ length (filter (λ at. at % z.banks == b) ats)
+reads_for : (z : Sizes) (slot b : ℕ) (ats : List ℕ)
+    → length (commands_for b (map (λ at. (at % z.banks, Read slot (at % z.block_words) (at / z.banks))) ats))
+    ≡ length (filter (λ at. at % z.banks == b) ats)
 reads_for z slot b [] = refl
 reads_for z slot b (at ∷ ats) = go (at % z.banks == b) (reads_for z slot b ats)
   where
     sends : List (ℕ × Command)
     sends = map (λ a. (a % z.banks, Read slot (a % z.block_words) (a / z.banks))) ats
 
-    go : (t : Bool) → length (commands_for b sends) ≡ length (filter (λ a. a % z.banks == b) ats) → length (cond t (Read slot (at % z.block_words) (at / z.banks) ∷ commands_for b sends) (commands_for b sends)) ≡ length (cond t (at ∷ filter (λ a. a % z.banks == b) ats) (filter (λ a. a % z.banks == b) ats))
+    go : (t : Bool) → length (commands_for b sends) ≡ length (filter (λ a. a % z.banks == b) ats)
+        → length (cond t (Read slot (at % z.block_words) (at / z.banks) ∷ commands_for b sends) (commands_for b sends))
+        ≡ length (cond t (at ∷ filter (λ a. a % z.banks == b) ats) (filter (λ a. a % z.banks == b) ats))
     go true ih = ap suc ih
     go false ih = ih
 
@@ -214,12 +257,15 @@ any_none : (p : ℕ → Bool) (a n k : ℕ) → list_any p (range_with_len a n) 
 any_none p a zero k e lo hi = absurd (omega arith)
 any_none p a (suc n) k e lo hi = go (p a) refl e (any_none p (a + 1) n k)
   where
-    go : (b : Bool) → p a ≡ b → (b || list_any p (range_with_len (a + 1) n)) ≡ false → (list_any p (range_with_len (a + 1) n) ≡ false → a + 1 ≤ k → k < a + 1 + n → p k ≡ false) → p k ≡ false
+    go : (b : Bool) → p a ≡ b → (b || list_any p (range_with_len (a + 1) n)) ≡ false
+        → (list_any p (range_with_len (a + 1) n) ≡ false → a + 1 ≤ k → k < a + 1 + n → p k ≡ false) → p k ≡ false
     go true q r rest = cc
     go false q r rest = ⊎_elim (λ s. ap p s ∙ q) (λ s. rest r (omega arith) (omega arith)) (cases_eq k a)
 
 -- the commands of a step that was not refused fit
-fits_sent : (z : Sizes) (banks : List Bank) (sent : List (ℕ × Command)) → ((b : ℕ) → Fits z (bank_at banks b)) → ((b : ℕ) → b < length banks → length (bank_at banks b).queue + length (commands_for b sent) ≤ z.bank_queue) → (b : ℕ) → Fits z (bank_at (all_sent banks sent) b)
+fits_sent : (z : Sizes) (banks : List Bank) (sent : List (ℕ × Command)) → ((b : ℕ) → Fits z (bank_at banks b))
+    → ((b : ℕ) → b < length banks → length (bank_at banks b).queue + length (commands_for b sent) ≤ z.bank_queue) → (b : ℕ)
+    → Fits z (bank_at (all_sent banks sent) b)
 fits_sent z banks sent h room b = ⊎_elim within past (cases_lt b (length banks))
   where
     within : b < length banks → Fits z (bank_at (all_sent banks sent) b)
@@ -231,7 +277,9 @@ fits_sent z banks sent h room b = ⊎_elim within past (cases_lt b (length banks
         let k = ap (λ (x : Bank). length x.queue) (get_or_past (all_sent banks sent) b no_bank (omega arith)) in
         omega arith
 
-fits_fetch : (z : Sizes) (banks : List Bank) (c : Cache) (block : ℕ) → length banks ≡ z.banks → ((b : ℕ) → Fits z (bank_at banks b)) → (is_present c block ≡ false → lacks_room z (room_in z.bank_queue banks) block ≡ false) → (b : ℕ) → Fits z (bank_at (all_sent banks (fetches z c block)) b)
+fits_fetch : (z : Sizes) (banks : List Bank) (c : Cache) (block : ℕ) → length banks ≡ z.banks → ((b : ℕ) → Fits z (bank_at banks b))
+    → (is_present c block ≡ false → lacks_room z (room_in z.bank_queue banks) block ≡ false) → (b : ℕ)
+    → Fits z (bank_at (all_sent banks (fetches z c block)) b)
 unfolding fetches
 fits_fetch z banks c block n h rooms = go (is_present c block) refl (free_slot c)
   where
@@ -240,11 +288,14 @@ fits_fetch z banks c block n h rooms = go (is_present c block) refl (free_slot c
     go false e None = h
     go false e (Some slot) = fits_sent z banks (reads z block (Some slot)) h room
       where
-        room : (b : ℕ) → b < length banks → length (bank_at banks b).queue + length (commands_for b (reads z block (Some slot))) ≤ z.bank_queue
+        room : (b : ℕ) → b < length banks → length (bank_at banks b).queue + length
+            (commands_for b (reads z block (Some slot))) ≤ z.bank_queue
         room b l =
-            let some = any_none (λ k. nat_lt (room_in z.bank_queue banks k) (length (filter (λ at. at % z.banks == k) (addresses z block)))) 0 z.banks b (rooms e) (omega arith) (omega arith) in
+            let some = any_none (λ k. nat_lt (room_in z.bank_queue banks k)
+            (length (filter (λ at. at % z.banks == k) (addresses z block)))) 0 z.banks b (rooms e) (omega arith) (omega arith) in
             let le = ltb-false (room_in z.bank_queue banks b) (length (filter (λ at. at % z.banks == b) (addresses z block))) some in
-            let is : room_in z.bank_queue banks b ≡ z.bank_queue - length (bank_at banks b).queue = ap (λ t. cond t (z.bank_queue - length (bank_at banks b).queue) 0) (lt-ltb b (length banks) l) in
+            let is : room_in z.bank_queue banks b ≡ z.bank_queue - length (bank_at banks b).queue =
+            ap (λ t. cond t (z.bank_queue - length (bank_at banks b).queue) 0) (lt-ltb b (length banks) l) in
             let count = reads_for z slot b (addresses z block) in
             let fits = h b in
             omega arith
@@ -255,21 +306,27 @@ fits_fetch z banks c block n h rooms = go (is_present c block) refl (free_slot c
 abbrev pub MayMiss : Sizes → Machine → ℕ → Type 0
 MayMiss z m block = is_present m.cache block ≡ false → first_cause (miss_causes z (room_in z.bank_queue m.banks) m.cache block) ≡ None
 
-may_places : (z : Sizes) (m : Machine) (block : ℕ) → MayMiss z m block → is_present m.cache block ≡ false → lacks_places z m.cache (choose z m.cache block) ≡ false
+may_places : (z : Sizes) (m : Machine) (block : ℕ) → MayMiss z m block → is_present m.cache block ≡ false
+    → lacks_places z m.cache (choose z m.cache block) ≡ false
 may_places z m block may e =
-    go (length (filter (λ (r : Register). r.valid) m.cache.registers) == z.regs) (list_all (is_pending m.cache) (ways_of z block)) (lacks_places z m.cache (choose z m.cache block)) (lacks_room z (room_in z.bank_queue m.banks) block) (may e)
+    go (length (filter (λ (r : Register). r.valid) m.cache.registers) == z.regs) (list_all (is_pending m.cache) (ways_of z block))
+    (lacks_places z m.cache (choose z m.cache block)) (lacks_room z (room_in z.bank_queue m.banks) block) (may e)
   where
-    go : (a b c d : Bool) → cond a (Some NoRegister) (cond b (Some SetPending) (cond c (Some QueueFull) (cond d (Some BankFull) None))) ≡ None → c ≡ false
+    go : (a b c d : Bool) → cond a (Some NoRegister) (cond b (Some SetPending) (cond c (Some QueueFull) (cond d (Some BankFull) None)))
+        ≡ None → c ≡ false
     go false false false d q = refl
     go true b c d q = cc
     go false true c d q = cc
     go false false true d q = cc
 
-may_rooms : (z : Sizes) (m : Machine) (block : ℕ) → MayMiss z m block → is_present m.cache block ≡ false → lacks_room z (room_in z.bank_queue m.banks) block ≡ false
+may_rooms : (z : Sizes) (m : Machine) (block : ℕ) → MayMiss z m block → is_present m.cache block ≡ false
+    → lacks_room z (room_in z.bank_queue m.banks) block ≡ false
 may_rooms z m block may e =
-    go (length (filter (λ (r : Register). r.valid) m.cache.registers) == z.regs) (list_all (is_pending m.cache) (ways_of z block)) (lacks_places z m.cache (choose z m.cache block)) (lacks_room z (room_in z.bank_queue m.banks) block) (may e)
+    go (length (filter (λ (r : Register). r.valid) m.cache.registers) == z.regs) (list_all (is_pending m.cache) (ways_of z block))
+    (lacks_places z m.cache (choose z m.cache block)) (lacks_room z (room_in z.bank_queue m.banks) block) (may e)
   where
-    go : (a b c d : Bool) → cond a (Some NoRegister) (cond b (Some SetPending) (cond c (Some QueueFull) (cond d (Some BankFull) None))) ≡ None → d ≡ false
+    go : (a b c d : Bool) → cond a (Some NoRegister) (cond b (Some SetPending) (cond c (Some QueueFull) (cond d (Some BankFull) None)))
+        ≡ None → d ≡ false
     go false false false false q = refl
     go true b c d q = cc
     go false true c d q = cc
@@ -279,14 +336,20 @@ may_rooms z m block may e =
 -- what a miss needs
 pub may_able : (z : Sizes) (m : Machine) (block : ℕ) → MayMiss z m block → is_present m.cache block ≡ false → Able z m.cache block
 may_able z m block may e =
-    go (length (filter (λ (r : Register). r.valid) m.cache.registers) == z.regs) refl (list_all (is_pending m.cache) (ways_of z block)) refl (lacks_places z m.cache (choose z m.cache block)) (lacks_room z (room_in z.bank_queue m.banks) block) (may e)
+    go (length (filter (λ (r : Register). r.valid) m.cache.registers) == z.regs) refl
+    (list_all (is_pending m.cache) (ways_of z block)) refl (lacks_places z m.cache (choose z m.cache block))
+    (lacks_room z (room_in z.bank_queue m.banks) block) (may e)
   where
-    go : (a : Bool) → (length (filter (λ (r : Register). r.valid) m.cache.registers) == z.regs) ≡ a → (b : Bool) → list_all (is_pending m.cache) (ways_of z block) ≡ b → (c d : Bool) → cond a (Some NoRegister) (cond b (Some SetPending) (cond c (Some QueueFull) (cond d (Some BankFull) None))) ≡ None → Able z m.cache block
+    go : (a : Bool) → (length (filter (λ (r : Register). r.valid) m.cache.registers) == z.regs) ≡ a → (b : Bool)
+        → list_all (is_pending m.cache) (ways_of z block) ≡ b → (c d : Bool)
+        → cond a (Some NoRegister) (cond b (Some SetPending) (cond c (Some QueueFull) (cond d (Some BankFull) None))) ≡ None
+        → Able z m.cache block
     go false p false q c d e = (p, q)
     go true p b q c d e = cc
     go false p true q c d e = cc
 
-pub load_may_miss : (z : Sizes) (m : Machine) (tag at : ℕ) → load_cause z (room_in z.bank_queue m.banks) m.cache tag at ≡ None → MayMiss z m (block_of z at)
+pub load_may_miss : (z : Sizes) (m : Machine) (tag at : ℕ) → load_cause z (room_in z.bank_queue m.banks) m.cache tag at ≡ None
+    → MayMiss z m (block_of z at)
 unfolding load_cause
 load_may_miss z m tag at e absent =
     go (nat_lt at z.words) (is_in_use m.cache tag) (nat_le z.replies (length (tags m.cache))) (is_present m.cache (block_of z at)) absent e
@@ -294,29 +357,38 @@ load_may_miss z m tag at e absent =
     here : List (Bool × Cause)
     here = (targets_full m.cache (place_in z at) (found m.cache (block_of z at) (place_in z at)), TargetsFull) ∷ []
 
-    go : (a b c p : Bool) → p ≡ false → cond (not a) (Some OutOfRange) (cond b (Some TagInUse) (cond c (Some RepliesFull) (first_cause (cond p here (miss_causes z (room_in z.bank_queue m.banks) m.cache (block_of z at)))))) ≡ None → first_cause (miss_causes z (room_in z.bank_queue m.banks) m.cache (block_of z at)) ≡ None
+    go : (a b c p : Bool) → p ≡ false → cond (not a) (Some OutOfRange)
+        (cond b (Some TagInUse) (cond c (Some RepliesFull)
+        (first_cause (cond p here (miss_causes z (room_in z.bank_queue m.banks) m.cache (block_of z at)))))) ≡ None
+        → first_cause (miss_causes z (room_in z.bank_queue m.banks) m.cache (block_of z at)) ≡ None
     go true false false false p q = q
     go a b c true p q = cc
     go false b c false p q = cc
     go true true c false p q = cc
     go true false true false p q = cc
 
-pub store_may_miss : (z : Sizes) (m : Machine) (at : ℕ) (lanes : Lanes) → store_cause z (room_in z.bank_queue m.banks) m.cache at lanes ≡ None → MayMiss z m (block_of z at)
+pub store_may_miss : (z : Sizes) (m : Machine) (at : ℕ) (lanes : Lanes)
+    → store_cause z (room_in z.bank_queue m.banks) m.cache at lanes ≡ None → MayMiss z m (block_of z at)
 unfolding store_cause
 store_may_miss z m at lanes e absent =
     go (nat_lt at z.words) (has_any lanes) (is_present m.cache (block_of z at)) absent e
   where
-    go : (a b p : Bool) → p ≡ false → cond (not a) (Some OutOfRange) (cond (not b) (Some NoLanes) (first_cause (cond p [] (miss_causes z (room_in z.bank_queue m.banks) m.cache (block_of z at))))) ≡ None → first_cause (miss_causes z (room_in z.bank_queue m.banks) m.cache (block_of z at)) ≡ None
+    go : (a b p : Bool) → p ≡ false → cond (not a) (Some OutOfRange)
+        (cond (not b) (Some NoLanes) (first_cause (cond p [] (miss_causes z (room_in z.bank_queue m.banks) m.cache (block_of z at)))))
+        ≡ None → first_cause (miss_causes z (room_in z.bank_queue m.banks) m.cache (block_of z at)) ≡ None
     go true true false p q = q
     go a b true p q = cc
     go false b false p q = cc
     go true false false p q = cc
 
-pub prefetch_may_miss : (z : Sizes) (m : Machine) (at : ℕ) → prefetch_cause z (room_in z.bank_queue m.banks) m.cache at ≡ None → MayMiss z m (block_of z at)
+pub prefetch_may_miss : (z : Sizes) (m : Machine) (at : ℕ) → prefetch_cause z (room_in z.bank_queue m.banks) m.cache at ≡ None
+    → MayMiss z m (block_of z at)
 unfolding prefetch_cause
 prefetch_may_miss z m at e absent = go (nat_lt at z.words) (is_present m.cache (block_of z at)) absent e
   where
-    go : (a p : Bool) → p ≡ false → cond (not a) (Some OutOfRange) (first_cause (cond p [] (miss_causes z (room_in z.bank_queue m.banks) m.cache (block_of z at)))) ≡ None → first_cause (miss_causes z (room_in z.bank_queue m.banks) m.cache (block_of z at)) ≡ None
+    go : (a p : Bool) → p ≡ false → cond (not a) (Some OutOfRange)
+        (first_cause (cond p [] (miss_causes z (room_in z.bank_queue m.banks) m.cache (block_of z at)))) ≡ None
+        → first_cause (miss_causes z (room_in z.bank_queue m.banks) m.cache (block_of z at)) ≡ None
     go true false p q = q
     go a true p q = cc
     go false false p q = cc
@@ -340,7 +412,8 @@ pub record Within (z : Sizes) (m : Machine) : Type 0 where
   pub fits : (b : ℕ) → Fits z (bank_at m.banks b)
 
 -- a step that is refused changes nothing
-unless_within : (z : Sizes) (m : Machine) (cause : Option Cause) (step : Stepped) → Within z m → (cause ≡ None → Within z (joined_with m.banks step).machine) → Within z (joined_with m.banks (unless cause m.cache step)).machine
+unless_within : (z : Sizes) (m : Machine) (cause : Option Cause) (step : Stepped) → Within z m
+    → (cause ≡ None → Within z (joined_with m.banks step).machine) → Within z (joined_with m.banks (unless cause m.cache step)).machine
 unless_within z m None step h go_on = go_on refl
 unless_within z m (Some cause) step h go_on = h
 
@@ -382,25 +455,36 @@ module _ (z : Sizes) (lawful : IsLawful z) (m : Machine) (sound : IsSound z m) (
   unfolding drain_step
   drain_within = go m.cache.queue refl
     where
-      go : (queue : List Queued) → m.cache.queue ≡ queue → Within z (joined_with m.banks (drain_first z (room_in z.bank_queue m.banks) m.cache queue)).machine
+      go : (queue : List Queued) → m.cache.queue ≡ queue
+          → Within z (joined_with m.banks (drain_first z (room_in z.bank_queue m.banks) m.cache queue)).machine
       go [] e = h
       go (q ∷ rest) e = by_room (nat_lt 0 (room_in z.bank_queue m.banks (q.at % z.banks))) refl
         where
           write : Command
           write = Write (q.at / z.banks) q.word q.lanes
 
-          room : nat_lt 0 (room_in z.bank_queue m.banks (q.at % z.banks)) ≡ true → (b : ℕ) → b < length m.banks → length (bank_at m.banks b).queue + length (commands_for b ((q.at % z.banks, write) ∷ [])) ≤ z.bank_queue
+          room : nat_lt 0 (room_in z.bank_queue m.banks (q.at % z.banks)) ≡ true → (b : ℕ) → b < length m.banks
+              → length (bank_at m.banks b).queue + length (commands_for b ((q.at % z.banks, write) ∷ [])) ≤ z.bank_queue
           room e' b l = by_bank (q.at % z.banks == b) refl
             where
-              by_bank : (t : Bool) → (q.at % z.banks == b) ≡ t → length (bank_at m.banks b).queue + length (cond t (write ∷ []) []) ≤ z.bank_queue
+              by_bank : (t : Bool) → (q.at % z.banks == b) ≡ t
+                  → length (bank_at m.banks b).queue + length (cond t (write ∷ []) []) ≤ z.bank_queue
               by_bank false p = let f = h.fits b in omega arith
               by_bank true p =
-                  let here : nat_lt 0 (room_in z.bank_queue m.banks b) ≡ true = ap (λ k. nat_lt 0 (room_in z.bank_queue m.banks k)) (sym (eqb-true (q.at % z.banks) b p)) ∙ e' in
+                  let here : nat_lt 0 (room_in z.bank_queue m.banks b) ≡ true =
+                  ap (λ k. nat_lt 0 (room_in z.bank_queue m.banks k)) (sym (eqb-true (q.at % z.banks) b p)) ∙ e' in
                   let some = ltb-true 0 (room_in z.bank_queue m.banks b) here in
-                  let is : room_in z.bank_queue m.banks b ≡ z.bank_queue - length (bank_at m.banks b).queue = ap (λ t. cond t (z.bank_queue - length (bank_at m.banks b).queue) 0) (lt-ltb b (length m.banks) l) in
+                  let is : room_in z.bank_queue m.banks b ≡ z.bank_queue - length (bank_at m.banks b).queue =
+                  ap (λ t. cond t (z.bank_queue - length (bank_at m.banks b).queue) 0) (lt-ltb b (length m.banks) l) in
                   omega arith
 
-          by_room : (t : Bool) → nat_lt 0 (room_in z.bank_queue m.banks (q.at % z.banks)) ≡ t → Within z (joined_with m.banks (cond t (record { answer = Moved; cache = record m.cache { queue = rest }; sent = (q.at % z.banks, write) ∷ [] }) (record { answer = Refused BankFull; cache = m.cache; sent = [] }))).machine
+          by_room : (t : Bool) → nat_lt 0 (room_in z.bank_queue m.banks (q.at % z.banks)) ≡ t
+              → Within z (joined_with m.banks (cond t (record {
+                answer = Moved;
+                cache = record m.cache { queue = rest };
+                sent =
+                    (q.at % z.banks, write) ∷ [];
+              }) (record { answer = Refused BankFull; cache = m.cache; sent = [] }))).machine
           by_room false p = h
           by_room true p =
               record {
@@ -417,7 +501,8 @@ module _ (z : Sizes) (lawful : IsLawful z) (m : Machine) (sound : IsSound z m) (
       go (first ∷ rest) e =
           record {
             little = h.little;
-            fits = each-set (Fits z) no_bank m.banks bank (served (bank_at m.banks bank) first rest) h.fits (let f = h.fits bank in let k = ap length e in omega arith);
+            fits = each-set (Fits z) no_bank m.banks bank (served (bank_at m.banks bank) first rest) h.fits
+                (let f = h.fits bank in let k = ap length e in omega arith);
           }
 
   arrive_within : (bank place : ℕ) → Within z (apply z m (Arrive bank place)).machine

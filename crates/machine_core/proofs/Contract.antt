@@ -16,5 +16,6 @@ pub use Rattle.machine_core.proofs.Resting.{opening_bounded as bounded_opening, 
 pub sound_apply : (z : Sizes) → IsLawful z → (m : Machine) → IsSound z m → (event : Event) → IsSound z (apply z m event).machine
 sound_apply z lawful m sound event = (event_ok z lawful m sound event).sound
 
-pub flat_apply : (z : Sizes) → IsLawful z → (m : Machine) → IsSound z m → (event : Event) → flat_step (flat_of z m) event (apply z m event).answer ≡ Some (flat_of z (apply z m event).machine)
+pub flat_apply : (z : Sizes) → IsLawful z → (m : Machine) → IsSound z m → (event : Event)
+    → flat_step (flat_of z m) event (apply z m event).answer ≡ Some (flat_of z (apply z m event).machine)
 flat_apply z lawful m sound event = (event_ok z lawful m sound event).run

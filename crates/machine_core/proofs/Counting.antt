@@ -1,5 +1,6 @@
 -- How much the weight may be: what is on its way, counted by the words that registers wait for.
-use Rattle.std.proofs.Common.{◌≡◌, ℕ, zero, suc, ◌+◌, ◌-◌, ◌*◌, ◌<◌, ◌≤◌, Bool, true, false, cond, ◌&&◌, not, ◌==◌, nat_lt, List, [], ◌∷◌, map, length, refl, ap, ap₂, ◌∙◌, subst, arith, length-append, eq-eqb, flat_map, ⊎_elim}
+use Rattle.std.proofs.Common.{◌≡◌, ℕ, zero, suc, ◌+◌, ◌-◌, ◌*◌, ◌<◌, ◌≤◌, Bool, true, false, cond, ◌&&◌, not, ◌==◌, nat_lt, List, [], ◌∷◌}
+use Rattle.std.proofs.Common.{map, length, refl, ap, ap₂, ◌∙◌, subst, arith, length-append, eq-eqb, flat_map, ⊎_elim}
 use Rattle.std.proofs.lemmas.Bool.{and_parts, ltb-true, cases_eq}
 use Rattle.std.proofs.Math.Nat.{mul_assoc}
 use Rattle.std.proofs.lemmas.List.{length-map}
@@ -12,14 +13,15 @@ use Rattle.memory_banks.specs.Banks.{Bank, bank_at, pending, all_pending, answer
 use Rattle.input_stack.specs.declared.Entry.{Entry}
 use Rattle.miss_registers.specs.declared.Owed.{Owed}
 use Rattle.cache_unit.specs.declared.Reply.{Reply}
-use Rattle.cache_unit.specs.State.{Sizes, Cache, Field, Register, Target, free_register, register_at, field_at, gathered, targets_of, targets_of_field, targets, tags}
+use Rattle.cache_unit.specs.State.{Sizes, Cache, Field, Register, Target, free_register, register_at, field_at, gathered, targets_of}
+use Rattle.cache_unit.specs.State.{targets_of_field, targets, tags}
 use Rattle.cache_unit.specs.Counts.{tally, bit}
 use Rattle.cache_unit.proofs.FormsParts.{in_range}
 use Rattle.machine_core.specs.Law.{most_weight}
 use Rattle.machine_core.specs.Machine.{Machine}
 use Rattle.machine_core.specs.Pump.{total, command_weight, bank_weight, field_weight, register_weight, weight}
 use Rattle.machine_core.specs.Sound.{is_for, is_entry_for, wanted, IsSound, IsBounded}
-use Rattle.machine_core.proofs.Arriving.{bit-pos, bit-le}
+use Rattle.machine_core.proofs.Units.{bit-pos, bit-le}
 
 -- ---- sums over the numbers below one
 
@@ -45,7 +47,8 @@ below-same (suc n) f g h = ap₂ (λ x y. x + y) (below-same n f g h) (h n)
 below-hit : (n : ℕ) (f : ℕ → ℕ) (k : ℕ) → k < n → 1 ≤ f k → 1 ≤ below n f
 unfolding below
 below-hit zero f k l h = absurd (omega arith)
-below-hit (suc n) f k l h = ⊎_elim (λ e. let h' = subst (λ j. 1 ≤ f j) e h in omega arith) (λ d. let ih = below-hit n f k (omega arith) h in omega arith) (cases_eq k n)
+below-hit (suc n) f k l h = ⊎_elim (λ e. let h' = subst (λ j. 1 ≤ f j) e h in omega arith)
+    (λ d. let ih = below-hit n f k (omega arith) h in omega arith) (cases_eq k n)
 
 -- ---- a list whose elements have two numbers each
 
@@ -62,21 +65,26 @@ module _ {X : Type 0} (a b : X → ℕ) where
 
   one_each : (n w : ℕ) (x : X) → a x < n → b x < w → 1 ≤ below n (λ s. below w (λ i. bit (has_numbers s i x)))
   one_each n w x l k =
-      below-hit n (λ s. below w (λ i. bit (has_numbers s i x))) (a x) l (below-hit w (λ i. bit (has_numbers (a x) i x)) (b x) k (let e = ap bit (own x) in omega arith))
+      below-hit n (λ s. below w (λ i. bit (has_numbers s i x))) (a x) l
+      (below-hit w (λ i. bit (has_numbers (a x) i x)) (b x) k (let e = ap bit (own x) in omega arith))
 
-  length-summed : (n w : ℕ) (xs : List X) → ((x : X) → 1 ≤ tally (has_numbers (a x) (b x)) xs → (a x < n) × (b x < w)) → length xs ≤ summed n w xs
+  length-summed : (n w : ℕ) (xs : List X) → ((x : X) → 1 ≤ tally (has_numbers (a x) (b x)) xs → (a x < n) × (b x < w))
+      → length xs ≤ summed n w xs
   length-summed n w [] h = omega arith
   length-summed n w (x ∷ xs) h =
       let p = h x (let e = ap bit (own x) in omega arith) in
       let one = one_each n w x p.0 p.1 in
       let ih = length-summed n w xs (λ y l. h y (omega arith)) in
-      let inner : summed n w (x ∷ xs) ≡ below n (λ s. below w (λ i. bit (has_numbers s i x)) + below w (λ i. tally (has_numbers s i) xs)) = below-same n _ _ (λ s. below-add w (λ i. bit (has_numbers s i x)) (λ i. tally (has_numbers s i) xs)) in
+      let inner : summed n w (x ∷ xs) ≡ below n
+      (λ s. below w (λ i. bit (has_numbers s i x)) + below w (λ i. tally (has_numbers s i) xs)) =
+      below-same n _ _ (λ s. below-add w (λ i. bit (has_numbers s i x)) (λ i. tally (has_numbers s i) xs)) in
       let outer = below-add n (λ s. below w (λ i. bit (has_numbers s i x))) (λ s. below w (λ i. tally (has_numbers s i) xs)) in
       omega arith
 
 -- ---- words on their way
 
-wanted_in : (z : Sizes) (m : Machine) → IsSound z m → (s i : ℕ) → 1 ≤ wanted z (register_at m.cache s) i → (s < z.regs) × (i < z.block_words)
+wanted_in : (z : Sizes) (m : Machine) → IsSound z m → (s i : ℕ) → 1 ≤ wanted z (register_at m.cache s) i
+    → (s < z.regs) × (i < z.block_words)
 wanted_in z m sound s i l =
     let w = bit-pos ((register_at m.cache s).valid && (nat_lt i z.block_words && not (field_at m.cache s i).processed)) l in
     let p = and_parts (register_at m.cache s).valid (nat_lt i z.block_words && not (field_at m.cache s i).processed) w in
@@ -87,9 +95,16 @@ wanted_in z m sound s i l =
 -- at most one for each word of each register
 pub on_their_way : (z : Sizes) (m : Machine) → IsSound z m → length (all_pending m.banks) + length m.cache.stack ≤ z.regs * z.block_words
 on_their_way z m sound =
-    let pend = length-summed (λ (x : BankAnswer). x.slot) (λ (x : BankAnswer). x.i) z.regs z.block_words (all_pending m.banks) (λ x l. wanted_in z m sound x.slot x.i (let c = sound.counted x.slot x.i in omega arith)) in
-    let stack = length-summed (λ (x : Entry). x.slot) (λ (x : Entry). x.i) z.regs z.block_words m.cache.stack (λ x l. wanted_in z m sound x.slot x.i (let c = sound.counted x.slot x.i in omega arith)) in
-    let row : (s : ℕ) → below z.block_words (pending_for s) + below z.block_words (entries_for s) ≤ z.block_words = λ s. (let e = below-add z.block_words (pending_for s) (entries_for s) in let l = below-le z.block_words 1 (λ i. pending_for s i + entries_for s i) (λ i. let c = sound.counted s i in let b = bit-le ((register_at m.cache s).valid && (nat_lt i z.block_words && not (field_at m.cache s i).processed)) in omega arith) in omega arith) in
+    let pend = length-summed (λ (x : BankAnswer). x.slot) (λ (x : BankAnswer). x.i) z.regs z.block_words (all_pending m.banks)
+    (λ x l. wanted_in z m sound x.slot x.i (let c = sound.counted x.slot x.i in omega arith)) in
+    let stack = length-summed (λ (x : Entry). x.slot) (λ (x : Entry). x.i) z.regs z.block_words m.cache.stack
+    (λ x l. wanted_in z m sound x.slot x.i (let c = sound.counted x.slot x.i in omega arith)) in
+    let row : (s : ℕ) → below z.block_words (pending_for s) + below z.block_words (entries_for s) ≤ z.block_words =
+    λ s. (let e = below-add z.block_words (pending_for s) (entries_for s) in let l =
+    below-le z.block_words 1 (λ i. pending_for s i + entries_for s i)
+    (λ i. let c = sound.counted s i in let b =
+    bit-le ((register_at m.cache s).valid && (nat_lt i z.block_words && not (field_at m.cache s i).processed)) in omega arith) in
+    omega arith) in
     let e = below-add z.regs (λ s. below z.block_words (pending_for s)) (λ s. below z.block_words (entries_for s)) in
     let l = below-le z.regs z.block_words (λ s. below z.block_words (pending_for s) + below z.block_words (entries_for s)) row in
     omega arith
@@ -102,12 +117,14 @@ on_their_way z m sound =
 
 -- ---- the parts of the weight
 
-commands_weigh : (words : List Word) (queue : List Command) → total command_weight queue ≡ 3 * length (answers_to words queue) + length queue
+commands_weigh : (words : List Word) (queue : List Command)
+    → total command_weight queue ≡ 3 * length (answers_to words queue) + length queue
 commands_weigh words [] = refl
 commands_weigh words (Read slot i place ∷ rest) = let ih = commands_weigh words rest in omega arith
 commands_weigh words (Write place word lanes ∷ rest) = let ih = commands_weigh (stored words place word lanes) rest in omega arith
 
-banks_weigh : (most : ℕ) (banks : List Bank) → ((b : ℕ) → length (bank_at banks b).queue ≤ most) → total bank_weight banks ≤ 3 * length (flat_map pending banks) + length banks * most
+banks_weigh : (most : ℕ) (banks : List Bank) → ((b : ℕ) → length (bank_at banks b).queue ≤ most)
+    → total bank_weight banks ≤ 3 * length (flat_map pending banks) + length banks * most
 banks_weigh most [] h = omega arith
 banks_weigh most (b ∷ banks) h =
     let ih = banks_weigh most banks (λ k. h (suc k)) in
@@ -153,7 +170,8 @@ registers_weigh n (r ∷ registers) =
 
 tags_count : (c : Cache) → length (tags c) ≡ length c.ready + length (targets c.registers)
 tags_count c =
-    length-append (map (λ (r : Reply). r.tag) c.ready) _ ∙ ap₂ (λ x y. x + y) (length-map c.ready (λ (r : Reply). r.tag)) (length-map (targets c.registers) (λ (t : Target). t.load.tag))
+    length-append (map (λ (r : Reply). r.tag) c.ready) _
+    ∙ ap₂ (λ x y. x + y) (length-map c.ready (λ (r : Reply). r.tag)) (length-map (targets c.registers) (λ (t : Target). t.load.tag))
 
 -- where one load waits at most, none weighs
 pub none_behind : (c : Cache) → length (tags c) - length c.ready < 2 → total register_weight c.registers ≡ 0

@@ -1,40 +1,45 @@
 -- A queued word goes to its bank.
-use Rattle.std.proofs.Common.{◌≡◌, ◌≢◌, ℕ, ◌+◌, ◌*◌, ◌/◌, ◌%◌, ◌<◌, ◌≤◌, Bool, true, false, cond, ◌==◌, nat_lt, List, [], ◌∷◌, ◌++◌, length, set, Some, refl, sym, ap, ap₂, ◌∙◌, subst, arith, length-set, ⊎_elim, eqb-true, get_or-set_same, get_or-set_other, div-add-mod', mod-lt}
+use Rattle.std.proofs.Common.{◌≡◌, ◌≢◌, ℕ, ◌+◌, ◌*◌, ◌/◌, ◌%◌, ◌<◌, Bool, true, false, cond, ◌==◌, nat_lt, List, [], ◌∷◌, ◌++◌, length, set}
+use Rattle.std.proofs.Common.{Some, refl, sym, ap, ap₂, ◌∙◌, subst, arith, length-set, ⊎_elim, eqb-true, get_or-set_same, get_or-set_other}
+use Rattle.std.proofs.Common.{div-add-mod', mod-lt}
 use Rattle.std.proofs.lemmas.Bool.{cases_eq, eqb-false}
 use Rattle.flat_model.specs.declared.Word.{Word}
 use Rattle.flat_model.specs.declared.Lanes.{Lanes}
 use Rattle.flat_model.specs.declared.Event.TheVariants.{Drain}
+use Rattle.flat_model.specs.declared.Cause.TheVariants.{BankFull}
+use Rattle.flat_model.specs.declared.Answer.TheVariants.{Moved, Refused}
 use Rattle.flat_model.specs.Words.{merged, zero_word}
 use Rattle.flat_model.specs.Flat.{word_at, stored}
 use Rattle.memory_banks.specs.declared.Command.{Command}
 use Rattle.memory_banks.specs.declared.Command.TheVariants.{Read, Write}
 use Rattle.memory_banks.specs.Banks.{Bank, bank_at, no_bank, pending, all_pending, words_after, answers_to, after, with_command, room_in}
 use Rattle.write_queue.specs.declared.Queued.{Queued}
-use Rattle.cache_unit.specs.State.{Sizes, frame_of, live_for, block_of, place_in, cell_of}
-use Rattle.input_stack.specs.Stack.{stack_word}
+use Rattle.cache_unit.specs.State.{Sizes, frame_of, live_for, register_at}
+use Rattle.cache_unit.specs.FormLaws.{form_at, forms}
 use Rattle.write_queue.specs.Queue.{overlaid}
-use Rattle.cache_unit.specs.Steps.{drain_first, drain_step}
+use Rattle.cache_unit.specs.Steps.{Stepped, drain_first, drain_step}
 use Rattle.cache_unit.specs.Counts.{tally}
 use Rattle.cache_unit.proofs.FormsLists.{flat_map_part, read_set}
 use Rattle.machine_core.specs.Law.{IsLawful}
 use Rattle.machine_core.specs.Machine.{Machine, backing, joined_with}
-use Rattle.machine_core.specs.Sound.{is_for, coming, coming_from, word_now, has_tag, dues, IsSound, AllIn, is_entry_for}
-use Rattle.machine_core.proofs.Coming.{once_due, once_from, word_kept, kept_from, due_in}
-use Rattle.machine_core.proofs.Sound.{Kept, KeptBy, flat_of-same, word_now-same}
-use Rattle.machine_core.proofs.Serving.{dues-same}
+use Rattle.machine_core.specs.Sound.{is_for, is_entry_for, wanted, AllIn, IsSound}
+use Rattle.machine_core.proofs.FromForms.{Same, flat_of-same, forms_same, Kept, KeptBy}
+use Rattle.machine_core.proofs.Units.{kept_same, sound_within, within_refl}
 
 pub length-after : (words : List Word) (commands : List Command) → length (after words commands) ≡ length words
 length-after words [] = refl
 length-after words (Read slot i place ∷ rest) = length-after words rest
 length-after words (Write place word lanes ∷ rest) = length-after (stored words place word lanes) rest ∙ length-set words place _
 
-pub answers_to-write : (words : List Word) (commands : List Command) (place : ℕ) (word : Word) (lanes : Lanes) → answers_to words (commands ++ Write place word lanes ∷ []) ≡ answers_to words commands
+pub answers_to-write : (words : List Word) (commands : List Command) (place : ℕ) (word : Word) (lanes : Lanes)
+    → answers_to words (commands ++ Write place word lanes ∷ []) ≡ answers_to words commands
 answers_to-write words [] place word lanes = refl
 answers_to-write words (Read slot i p ∷ rest) place word lanes =
     ap (λ l. record { slot = slot; i = i; word = word_at words p } ∷ l) (answers_to-write words rest place word lanes)
 answers_to-write words (Write p w l ∷ rest) place word lanes = answers_to-write (stored words p w l) rest place word lanes
 
-after-write : (words : List Word) (commands : List Command) (place : ℕ) (word : Word) (lanes : Lanes) → after words (commands ++ Write place word lanes ∷ []) ≡ stored (after words commands) place word lanes
+after-write : (words : List Word) (commands : List Command) (place : ℕ) (word : Word) (lanes : Lanes)
+    → after words (commands ++ Write place word lanes ∷ []) ≡ stored (after words commands) place word lanes
 after-write words [] place word lanes = refl
 after-write words (Read slot i p ∷ rest) place word lanes = after-write words rest place word lanes
 after-write words (Write p w l ∷ rest) place word lanes = after-write (stored words p w l) rest place word lanes
@@ -43,7 +48,8 @@ after-write words (Write p w l ∷ rest) place word lanes = after-write (stored 
 pub address_same : (a b n : ℕ) → a / n ≡ b / n → a % n ≡ b % n → a ≡ b
 address_same a b n d r = sym (div-add-mod' a n) ∙ ap₂ (λ x y. x * n + y) d r ∙ div-add-mod' b n
 
-module _ (z : Sizes) (lawful : IsLawful z) (m : Machine) (h : IsSound z m) (q : Queued) (rest : List Queued) (e : m.cache.queue ≡ q ∷ rest) where
+module _ (z : Sizes) (lawful : IsLawful z) (m : Machine) (h : IsSound z m) (q : Queued) (rest : List Queued)
+    (e : m.cache.queue ≡ q ∷ rest) where
   write : Command
   write = Write (q.at / z.banks) q.word q.lanes
 
@@ -68,10 +74,13 @@ module _ (z : Sizes) (lawful : IsLawful z) (m : Machine) (h : IsSound z m) (q : 
   pending_same =
       let b = bank_at m.banks (q.at % z.banks) in
       let part = flat_map_part pending no_bank m.banks (q.at % z.banks) bank_there in
-      part.then _ ∙ ap (λ l. part.front ++ ((b.answers ++ l) ++ part.back)) (answers_to-write b.words b.queue (q.at / z.banks) q.word q.lanes) ∙ sym part.now
+      part.then _ ∙ ap (λ l. part.front ++ ((b.answers ++ l) ++ part.back))
+      (answers_to-write b.words b.queue (q.at / z.banks) q.word q.lanes) ∙ sym part.now
 
   -- the word of memory once this write is done
-  written : (at : ℕ) → word_at (words_after (bank_at drained.banks (at % z.banks))) (at / z.banks) ≡ cond (q.at == at) (merged (word_at (words_after (bank_at m.banks (at % z.banks))) (at / z.banks)) q.word q.lanes) (word_at (words_after (bank_at m.banks (at % z.banks))) (at / z.banks))
+  written : (at : ℕ) → word_at (words_after (bank_at drained.banks (at % z.banks))) (at / z.banks)
+      ≡ cond (q.at == at) (merged (word_at (words_after (bank_at m.banks (at % z.banks))) (at / z.banks)) q.word q.lanes)
+      (word_at (words_after (bank_at m.banks (at % z.banks))) (at / z.banks))
   unfolding drained with_command
   written at = go (q.at == at) refl
     where
@@ -87,12 +96,16 @@ module _ (z : Sizes) (lawful : IsLawful z) (m : Machine) (h : IsSound z m) (q : 
       w : ℕ → Word
       w a = word_at (words_after (bank_at m.banks (a % z.banks))) (a / z.banks)
 
-      go : (t : Bool) → (q.at == at) ≡ t → word_at (words_after (bank_at drained.banks (at % z.banks))) (at / z.banks) ≡ cond t (merged (w at) q.word q.lanes) (w at)
+      go : (t : Bool) → (q.at == at) ≡ t → word_at (words_after (bank_at drained.banks (at % z.banks))) (at / z.banks)
+          ≡ cond t (merged (w at) q.word q.lanes) (w at)
       go true k =
           let same : q.at ≡ at = eqb-true q.at at k in
           let here : bank_at drained.banks (q.at % z.banks) ≡ new = get_or-set_same m.banks (q.at % z.banks) new no_bank bank_there in
-          let room : q.at / z.banks < length (words_after old) = let n = length-after old.words old.queue in let k = h.banks_hold q.at in_memory.0 in omega arith in
-          let there : word_at (words_after (bank_at drained.banks (q.at % z.banks))) (q.at / z.banks) ≡ merged (w q.at) q.word q.lanes = ap (λ (b : Bank). word_at (words_after b) (q.at / z.banks)) here ∙ ap (λ ws. word_at ws (q.at / z.banks)) new_words ∙ get_or-set_same (words_after old) (q.at / z.banks) _ zero_word room in
+          let room : q.at / z.banks < length (words_after old) = let n = length-after old.words old.queue in let k =
+          h.banks_hold q.at in_memory.0 in omega arith in
+          let there : word_at (words_after (bank_at drained.banks (q.at % z.banks))) (q.at / z.banks) ≡ merged (w q.at) q.word q.lanes =
+          ap (λ (b : Bank). word_at (words_after b) (q.at / z.banks)) here ∙ ap (λ ws. word_at ws (q.at / z.banks)) new_words
+          ∙ get_or-set_same (words_after old) (q.at / z.banks) _ zero_word room in
           subst (λ a. word_at (words_after (bank_at drained.banks (a % z.banks))) (a / z.banks) ≡ merged (w a) q.word q.lanes) same there
       go false k =
           ⊎_elim same_bank other_bank (cases_eq (at % z.banks) (q.at % z.banks))
@@ -100,64 +113,66 @@ module _ (z : Sizes) (lawful : IsLawful z) (m : Machine) (h : IsSound z m) (q : 
           differs : q.at ≡ at → ⊥
           differs = eqb-false q.at at k
 
-          other_bank : (at % z.banks ≡ q.at % z.banks → ⊥) → word_at (words_after (bank_at drained.banks (at % z.banks))) (at / z.banks) ≡ w at
-          other_bank d = ap (λ (b : Bank). word_at (words_after b) (at / z.banks)) (get_or-set_other m.banks (q.at % z.banks) (at % z.banks) new no_bank d)
+          other_bank : (at % z.banks ≡ q.at % z.banks → ⊥)
+              → word_at (words_after (bank_at drained.banks (at % z.banks))) (at / z.banks) ≡ w at
+          other_bank d = ap (λ (b : Bank). word_at (words_after b) (at / z.banks))
+              (get_or-set_other m.banks (q.at % z.banks) (at % z.banks) new no_bank d)
 
           same_bank : at % z.banks ≡ q.at % z.banks → word_at (words_after (bank_at drained.banks (at % z.banks))) (at / z.banks) ≡ w at
           same_bank s =
-              let here : bank_at drained.banks (at % z.banks) ≡ new = ap (bank_at drained.banks) s ∙ get_or-set_same m.banks (q.at % z.banks) new no_bank bank_there in
+              let here : bank_at drained.banks (at % z.banks) ≡ new = ap (bank_at drained.banks) s
+              ∙ get_or-set_same m.banks (q.at % z.banks) new no_bank bank_there in
               let far : at / z.banks ≢ q.at / z.banks = λ d. differs (sym (address_same at q.at z.banks d s)) in
-              ap (λ (b : Bank). word_at (words_after b) (at / z.banks)) here ∙ ap (λ ws. word_at ws (at / z.banks)) new_words ∙ get_or-set_other (words_after old) (q.at / z.banks) (at / z.banks) _ zero_word far ∙ ap (λ n. word_at (words_after (bank_at m.banks n)) (at / z.banks)) (sym s)
+              ap (λ (b : Bank). word_at (words_after b) (at / z.banks)) here ∙ ap (λ ws. word_at ws (at / z.banks)) new_words
+              ∙ get_or-set_other (words_after old) (q.at / z.banks) (at / z.banks) _ zero_word far
+              ∙ ap (λ n. word_at (words_after (bank_at m.banks n)) (at / z.banks)) (sym s)
 
   backing_same : (at : ℕ) → backing z drained at ≡ backing z m at
   unfolding drained
   backing_same at =
-      ap (λ w. overlaid w rest at) (written at) ∙ ap (λ qs. overlaid (word_at (words_after (bank_at m.banks (at % z.banks))) (at / z.banks)) qs at) (sym e)
+      ap (λ w. overlaid w rest at) (written at)
+      ∙ ap (λ qs. overlaid (word_at (words_after (bank_at m.banks (at % z.banks))) (at / z.banks)) qs at) (sym e)
 
-  coming_same : (s i : ℕ) → coming drained s i ≡ coming m s i
-  unfolding coming stack_word drained
-  coming_same s i = ap (λ ps. coming_from (stack_word m.cache.stack s i) ps s i) pending_same
+  same_forms : forms z drained.cache ≡ forms z m.cache
+  unfolding drained form_at frame_of live_for
+  same_forms = refl
 
-  words_same : (at : ℕ) → word_now z drained at ≡ word_now z m at
-  unfolding drained frame_of live_for
-  words_same at = word_now-same z m drained at refl refl refl (λ slot k. (refl, refl, coming_same slot (place_in z at))) (backing_same at)
-
-  dues_kept : dues drained ≡ dues m
-  unfolding drained
-  dues_kept = dues-same m drained refl refl coming_same
+  flat : Same z m drained
+  flat = forms_same z m drained same_forms pending_same backing_same
 
   sound_after : IsSound z drained
   unfolding drained frame_of with_command
   sound_after =
-      record {
-        frames_apart = h.frames_apart;
-        live_apart = h.live_apart;
-        live_present = h.live_present;
-        counted = λ s i. ap (λ ps. tally (is_for s i) ps + tally (is_entry_for s i) m.cache.stack) pending_same ∙ h.counted s i;
-        once = once_from drained (λ tag. subst (λ ds. tally (has_tag tag) ds ≤ 1) (sym dues_kept) (once_due z m h tag));
-        kept = kept_from z drained (λ at. words_same at ∙ word_kept z m h at ∙ ap (λ w. merged w (cell_of m.cache (block_of z at) (place_in z at)).word (cell_of m.cache (block_of z at) (place_in z at)).dirty) (sym (backing_same at)));
-        whole_frames = h.whole_frames;
-        whole_registers = h.whole_registers;
-        queue_in = in_memory.1;
-        frames_are = h.frames_are;
-        in_order = h.in_order;
-        registers_are = h.registers_are;
-        banks_are = length-set m.banks (q.at % z.banks) _ ∙ h.banks_are;
-        banks_hold = λ at k. subst (λ n. at / z.banks < n) (sym (read_set (λ (x : Bank). length x.words) no_bank m.banks (q.at % z.banks) _ refl (at % z.banks))) (h.banks_hold at k);
-      }
+      let count : (s i : ℕ) → tally (is_for s i) (all_pending drained.banks) + tally (is_entry_for s i) m.cache.stack
+      ≡ wanted z (register_at m.cache s) i = λ s i. ap
+      (λ ps. tally (is_for s i) ps + tally (is_entry_for s i) m.cache.stack) pending_same ∙ h.counted s i in
+      let lengths = read_set (λ (x : Bank). length x.words) no_bank m.banks (q.at % z.banks) _ refl in
+      sound_within z m drained h (within_refl m.cache drained.cache refl refl) h.in_order in_memory.1 h.once count
+      (λ at. kept_same z m drained h at (flat.words at) refl (backing_same at))
+      (record { number = length-set m.banks (q.at % z.banks) _; lengths = lengths })
 
-drained_ok : (z : Sizes) (lawful : IsLawful z) (m : Machine) → IsSound z m → (queue : List Queued) → m.cache.queue ≡ queue → KeptBy z m Drain (joined_with m.banks (drain_first z (room_in z.bank_queue m.banks) m.cache queue))
+drained_ok : (z : Sizes) (lawful : IsLawful z) (m : Machine) → IsSound z m → (queue : List Queued) → m.cache.queue ≡ queue
+    → KeptBy z m Drain (joined_with m.banks (drain_first z (room_in z.bank_queue m.banks) m.cache queue))
 unfolding drained
 drained_ok z lawful m h [] e = record { sound = h; run = refl; few = λ l. l }
 drained_ok z lawful m h (q ∷ rest) e = go (nat_lt 0 (room_in z.bank_queue m.banks (q.at % z.banks)))
   where
-    go : (t : Bool) → KeptBy z m Drain (joined_with m.banks (cond t (record { answer = Rattle.flat_model.specs.declared.Answer.TheVariants.Moved; cache = record m.cache { queue = rest }; sent = (q.at % z.banks, Write (q.at / z.banks) q.word q.lanes) ∷ [] }) (record { answer = Rattle.flat_model.specs.declared.Answer.TheVariants.Refused Rattle.flat_model.specs.declared.Cause.TheVariants.BankFull; cache = m.cache; sent = [] })))
-    go true =
-        record {
-          sound = sound_after z lawful m h q rest e;
-          run = ap Some (sym (flat_of-same z m (drained z lawful m h q rest e) (record { words = words_same z lawful m h q rest e; owing = λ tag. ap (λ ds. due_in ds tag) (dues_kept z lawful m h q rest e); as_many = ap length (dues_kept z lawful m h q rest e) })));
-          few = λ l. subst (λ n. n ≤ z.replies) (sym (ap length (dues_kept z lawful m h q rest e))) l;
-        }
+    moved : Stepped
+    moved = record {
+      answer = Moved;
+      cache = record m.cache { queue = rest };
+      sent =
+          (q.at % z.banks, Write (q.at / z.banks) q.word q.lanes) ∷ [];
+    }
+
+    go : (t : Bool) → KeptBy z m Drain (joined_with m.banks
+        (cond t moved (record { answer = Refused BankFull; cache = m.cache; sent = [] })))
+    go true = record {
+      sound = sound_after z lawful m h q rest e;
+      run =
+          ap Some (sym (flat_of-same z m (drained z lawful m h q rest e) (flat z lawful m h q rest e)));
+      few = λ l. l;
+    }
     go false = record { sound = h; run = refl; few = λ l. l }
 
 pub drain_ok : (z : Sizes) (lawful : IsLawful z) (m : Machine) → IsSound z m → Kept z m Drain

@@ -1,149 +1,42 @@
--- A miss: the frame that it takes, the block that goes, and the one that comes.
-use Rattle.std.proofs.Common.{◌≡◌, ℕ, suc, ◌+◌, ◌*◌, ◌/◌, ◌%◌, ◌<◌, ◌≤◌, Bool, true, false, cond, ◌==◌, List, [], ◌∷◌, ◌++◌, length, get_or, set, Option, Some, None, find, is_some, is_none, refl, sym, ap, ◌∙◌, subst, arith, length-set, ◌⊎◌, inl, inr, mod-lt, append-nil, get_or-set_same, get_or-set_other, mul-le-mul_right, eq-eqb}
-use Rattle.std.specs.List.{range_with_len, list_all, filter}
-use native.Mathlib.Nat.{div-eq_of_lt-le}
-use Rattle.std.specs.Option.{option_or}
-use Rattle.flat_model.specs.Words.{merged}
-use Rattle.cache_unit.specs.State.{Sizes, Frame, Cache, zero_cell, empty_frame, frame_at, frame_of, is_present, register_at, live_for, is_pending, is_pending_block, free_slot, cell_in, cell_of, block_of, place_in, address}
+-- A miss: the block that goes, and the one that comes, whose words are asked for.
+use Rattle.std.proofs.Common.{◌≡◌, ℕ, ◌+◌, ◌*◌, ◌/◌, ◌%◌, ◌<◌, ◌≤◌, Bool, true, false, cond, not, ◌&&◌, ◌==◌, nat_lt, nat_le, List, []}
+use Rattle.std.proofs.Common.{◌++◌, map, length, get_or, Option, Some, None, option_map, find, is_some, refl, sym, ap, ap₂, ◌∙◌, subst}
+use Rattle.std.proofs.Common.{arith, ◌⊎◌, inl, inr, ⊎_elim, mod-lt, eq-eqb, ne_eqb, le-leb, ltb-true, zero-add}
+use Rattle.std.proofs.lemmas.Bool.{cases_eq, and_parts}
+use Rattle.std.proofs.lemmas.List.FromFn.{length-map-range_with_len}
+use Rattle.flat_model.specs.Words.{merged, zero_word}
+use Rattle.flat_model.specs.Flat.{word_at}
+use Rattle.flat_model.proofs.Lanewise.{merged-none}
+use Rattle.memory_banks.specs.declared.BankAnswer.{BankAnswer}
+use Rattle.memory_banks.specs.Banks.{bank_at, all_pending, all_sent, words_after}
+use Rattle.write_queue.specs.declared.Queued.{Queued}
+use Rattle.write_queue.specs.Queue.{overlaid, queued_lanes}
 use Rattle.cache_directory.specs.declared.Cell.{Cell}
-use Rattle.cache_directory.proofs.Finds.{find-passes}
-use Rattle.input_stack.specs.Stack.{stack_word}
-use Rattle.cache_unit.specs.Causes.{choose, ways_of, order_of, is_resident_block, dirty_from, dirty_of_block, dirty_words}
-use Rattle.cache_unit.specs.Steps.{without, fresh_frame, released, installed, missed, reads, fetched, fetches}
-use Rattle.cache_unit.specs.Counts.{tally}
-use Rattle.cache_unit.proofs.FormsLists.{read_set}
-use Rattle.cache_unit.proofs.FormsChoosing.{find_range, none_from, free_register_at, Able, all_valid, found_in, one_fails}
-use Rattle.cache_unit.proofs.FormsParts.{in_range}
-use Rattle.cache_unit.proofs.FormsFinding.{frame_of-some, frame_of-like, none_in_frames}
+use Rattle.memory_banks.specs.declared.Command.{Command}
+use Rattle.cache_unit.specs.declared.Reply.{Reply}
+use Rattle.cache_unit.specs.State.{Sizes, Frame, Field, Register, Cache, clear_field, frame_at, frame_of, is_present, register_at, field_at}
+use Rattle.cache_unit.specs.State.{is_live, live_for, free_slot, cell_of, Target, tags, block_of, place_in, address}
+use Rattle.cache_unit.specs.Causes.{addresses, dirty_words, choose}
+use Rattle.cache_unit.specs.Steps.{fresh_frame, released, installed, reads, missed, fetched, fetches}
+use Rattle.cache_unit.specs.Forms.{Asked, Form, filled_by}
+use Rattle.cache_unit.specs.FormLaws.{form_at, words_without, asked_form}
+use Rattle.cache_unit.specs.Counts.{tally, bit}
+use Rattle.cache_unit.proofs.FormsFinding.{none_in_frames, none_live}
+use Rattle.cache_unit.proofs.FormsFetching.{range_at, address_is}
+use Rattle.cache_unit.proofs.FormsPlaces.{holds-not}
+use Rattle.cache_unit.proofs.FormsSame.{owed-same}
+use Rattle.cache_unit.proofs.FormsStoring.{Hit}
+use Rattle.cache_unit.proofs.FormsChoosing.{Able, Misses, misses, fetched-by}
 use Rattle.machine_core.specs.Law.{IsLawful}
-use Rattle.machine_core.specs.Machine.{Machine, backing}
-use Rattle.memory_banks.specs.Banks.{all_sent}
-use Rattle.machine_core.specs.Sound.{coming, word_now, has_tag, dues, InOrder, is_in, IsSound}
-use Rattle.machine_core.proofs.Coming.{once_due, once_from, word_kept, kept_from, due_in}
-use Rattle.machine_core.proofs.Orders.{InOrder-released, InOrder-installed, member}
-use Rattle.machine_core.proofs.Sound.{Same, word_now-same}
-use Rattle.machine_core.proofs.Serving.{dues-same}
-use Rattle.machine_core.proofs.Evicting.{retired, given_up, given_up_sound, given_up_same, other_found, empty_now}
-use Rattle.machine_core.proofs.Installing.{with_block_sound, with_block_same, with_block_present}
-
--- ---- a free frame is cleared
-
-module _ (z : Sizes) (m : Machine) (h : IsSound z m) (f : ℕ) (free : (frame_at m.cache f).block ≡ None) (orders : List (List ℕ)) (ordered : InOrder z (set m.cache.frames f empty_frame) orders) where
-  abbrev pub cleared : Machine
-  cleared =
-      record {
-        cache =
-            record {
-              frames = set m.cache.frames f empty_frame;
-              orders = orders;
-              registers = m.cache.registers;
-              stack = m.cache.stack;
-              queue = m.cache.queue;
-              ready = m.cache.ready;
-            };
-        banks = m.banks;
-      }
-
-  same_blocks : (k : ℕ) → (frame_at cleared.cache k).block ≡ (frame_at m.cache k).block
-  same_blocks = read_set (λ (x : Frame). x.block) empty_frame m.cache.frames f empty_frame (sym free)
-
-  pub cleared_frames : (b : ℕ) → frame_of cleared.cache b ≡ frame_of m.cache b
-  cleared_frames b = frame_of-like m.cache cleared.cache b (length-set m.cache.frames f empty_frame) same_blocks
-
-  other_frame : (k b : ℕ) → (frame_at m.cache k).block ≡ Some b → frame_at cleared.cache k ≡ frame_at m.cache k
-  other_frame k b e =
-      get_or-set_other m.cache.frames f k empty_frame empty_frame (λ q. let no : (frame_at m.cache k).block ≡ None = ap (λ x. (frame_at m.cache x).block) q ∙ free in cc)
-
-  same_cell : (at : ℕ) → cell_of cleared.cache (block_of z at) (place_in z at) ≡ cell_of m.cache (block_of z at) (place_in z at)
-  same_cell at = ap (λ o. cell_in cleared.cache o (place_in z at)) (cleared_frames (block_of z at)) ∙ go (frame_of m.cache (block_of z at)) refl
-    where
-      go : (o : Option ℕ) → frame_of m.cache (block_of z at) ≡ o → cell_in cleared.cache o (place_in z at) ≡ cell_in m.cache o (place_in z at)
-      go None e = refl
-      go (Some k) e =
-          ap (λ (x : Frame). get_or x.cells (place_in z at) zero_cell) (other_frame k (block_of z at) (frame_of-some m.cache (block_of z at) k e).1)
-
-  same_coming : (t j : ℕ) → coming cleared t j ≡ coming m t j
-  unfolding coming stack_word
-  same_coming t j = refl
-
-  same_words : (at : ℕ) → word_now z cleared at ≡ word_now z m at
-  unfolding live_for
-  same_words at =
-      word_now-same z m cleared at (cleared_frames _) refl (ap (λ (c : Cell). c.word) (same_cell at)) (λ t e. (refl, refl, same_coming t (place_in z at))) refl
-
-  same_dues : dues cleared ≡ dues m
-  same_dues = dues-same m cleared refl refl same_coming
-
-  pub cleared_sound : IsSound z cleared
-  cleared_sound =
-      record {
-        frames_apart = λ a b n p q. h.frames_apart a b n (sym (same_blocks a) ∙ p) (sym (same_blocks b) ∙ q);
-        live_apart = h.live_apart;
-        live_present = λ t l. let p = h.live_present t l in (p.0, same_blocks p.0 ∙ p.1);
-        counted = h.counted;
-        once = once_from cleared (λ tag. subst (λ ds. tally (has_tag tag) ds ≤ 1) (sym same_dues) (once_due z m h tag));
-        kept = kept_from z cleared (λ at. same_words at ∙ word_kept z m h at ∙ ap (λ (c : Cell). merged (backing z m at) c.word c.dirty) (sym (same_cell at)));
-        whole_frames = λ k b e. let p = h.whole_frames k b (sym (same_blocks k) ∙ e) in (ap (λ (x : Frame). length x.cells) (other_frame k b (sym (same_blocks k) ∙ e)) ∙ p.0, p.1);
-        whole_registers = h.whole_registers;
-        queue_in = h.queue_in;
-        frames_are = length-set m.cache.frames f empty_frame ∙ h.frames_are;
-        in_order = ordered;
-        registers_are = h.registers_are;
-        banks_are = h.banks_are;
-        banks_hold = h.banks_hold;
-      }
-
-  pub cleared_same : Same z m cleared
-  cleared_same = record { words = same_words; owing = λ tag. ap (λ ds. due_in ds tag) same_dues; as_many = ap length same_dues }
-
--- ---- the frame that is chosen
-
-resident_from : (c : Cache) (o : Option ℕ) → is_resident_block c o ≡ true → (b : ℕ) × (o ≡ Some b) × (live_for c b ≡ None)
-resident_from c None e = cc
-resident_from c (Some b) e = (b, refl, none_from (live_for c b) e)
-
--- a frame that holds nothing, or a block with no live register
-abbrev MayGo : Cache → ℕ → Type 0
-MayGo c f = ((frame_at c f).block ≡ None) ⊎ ((b : ℕ) × ((frame_at c f).block ≡ Some b) × (live_for c b ≡ None))
-
-chosen : (z : Sizes) → IsLawful z → (m : Machine) → IsSound z m → (block f : ℕ) → choose z m.cache block ≡ Some f → (f < length m.cache.frames) × MayGo m.cache f × (f / z.ways ≡ block % z.sets)
-unfolding choose
-chosen z lawful m h block f e = go (find free ways) refl (find resident order) refl e
-  where
-    s : ℕ
-    s = block % z.sets
-
-    ways : List ℕ
-    ways = range_with_len (block % z.sets * z.ways) z.ways
-
-    order : List ℕ
-    order = get_or m.cache.orders (block % z.sets) []
-
-    free : ℕ → Bool
-    free g = is_none (frame_at m.cache g).block
-
-    resident : ℕ → Bool
-    resident g = is_resident_block m.cache (frame_at m.cache g).block
-
-    by_free : find free ways ≡ Some f → (f < length m.cache.frames) × MayGo m.cache f × (f / z.ways ≡ block % z.sets)
-    by_free q =
-        let r = find_range free (block % z.sets * z.ways) z.ways f q in
-        let l : block % z.sets < z.sets = mod-lt block lawful.some_sets in
-        let k : suc (block % z.sets) * z.ways ≤ z.sets * z.ways = mul-le-mul_right z.ways l in
-        let n = h.frames_are in
-        let r1 = r.1 in
-        (omega arith, inl (none_from _ (find-passes free ways f q)), div-eq_of_lt-le z.ways (let r0 = r.0 in omega arith) (let r2 = r.1 in omega arith))
-
-    by_resident : find resident order ≡ Some f → (f < length m.cache.frames) × MayGo m.cache f × (f / z.ways ≡ block % z.sets)
-    by_resident q =
-        let p = resident_from m.cache (frame_at m.cache f).block (find-passes resident order f q) in
-        (in_range (λ (x : Frame). is_some x.block) empty_frame m.cache.frames f refl (ap is_some p.1), inr p, h.in_order.in_set (block % z.sets) f (member resident order f q))
-
-    go : (a : Option ℕ) → find free ways ≡ a → (b : Option ℕ) → find resident order ≡ b → option_or a b ≡ Some f → (f < length m.cache.frames) × MayGo m.cache f × (f / z.ways ≡ block % z.sets)
-    go (Some x) p b q r = by_free (p ∙ r)
-    go None p b q r = by_resident (q ∙ r)
-
--- ---- the miss
+use Rattle.machine_core.specs.Machine.{Machine, backing, flat_word, flat_word_in}
+use Rattle.machine_core.specs.Sound.{is_for, is_entry_for, word_in, AllIn, InOrder, IsSound, wanted}
+use Rattle.machine_core.proofs.FromForms.{filled-asked, filled-over, filled-other, word_asks, due_other, word_from, flat_word-form, Same}
+use Rattle.machine_core.proofs.Units.{bit-le, sound_unit, kept_word, kept_same}
+use Rattle.machine_core.proofs.Overlaid.{overlaid-split}
+use Rattle.machine_core.proofs.Orders.{InOrder-released, InOrder-installed}
+use Rattle.machine_core.proofs.Dirty.{dirty_within, dirty_elsewhere, dirty_in, backing_dirty}
+use Rattle.machine_core.proofs.Sending.{base_in, answer_at, commands, AddsAll-tally, AddsAll-find_other, AddsAll-find, sent_words}
+use Rattle.machine_core.proofs.Sending.{sent_lengths, sent_number, sent_adds, reads_other, reads_tally, reads_find}
 
 -- the machine in which a block is present
 abbrev pub fetched_machine : Sizes → Machine → ℕ → Machine
@@ -152,113 +45,347 @@ fetched_machine z m block = record { cache = fetched z m.cache block; banks = al
 pub record FetchedBy (z : Sizes) (m : Machine) (block : ℕ) (m' : Machine) : Type 0 where
   pub sound : IsSound z m'
   pub same : Same z m m'
-  pub frame : ℕ
-  pub present : frame_of m'.cache block ≡ Some frame
+  pub same_tags : tags m'.cache ≡ tags m.cache
 
--- from a machine in which the chosen frame is empty
-fill_frame : (z : Sizes) (lawful : IsLawful z) (m m1 : Machine) (block f slot : ℕ) → IsSound z m1 → Same z m m1 → frame_of m1.cache block ≡ None → (frame_at m1.cache f).block ≡ None → f < length m1.cache.frames → f / z.ways ≡ block % z.sets → (register_at m1.cache slot).valid ≡ false → slot < length m1.cache.registers → address z block 0 < z.words → FetchedBy z m block (record { cache = installed z m1.cache block f slot; banks = all_sent m1.banks (reads z block (Some slot)) })
-unfolding installed
-fill_frame z lawful m m1 block f slot h same absent free f_there own invalid slot_there in_memory =
-    let s' = block % z.sets in
-    let orders = set m1.cache.orders (block % z.sets) (order_of m1.cache.orders (block % z.sets) ++ f ∷ []) in
-    let ordered = InOrder-installed z m1.cache.frames m1.cache.orders f (block % z.sets) (fresh_frame z m1.cache.queue block) own (mod-lt block lawful.some_sets) h.in_order in
-    let s = with_block_same z lawful m1 h block f slot absent free f_there invalid slot_there in_memory orders ordered in
-    record {
-      sound = with_block_sound z lawful m1 h block f slot absent free f_there invalid slot_there in_memory orders ordered;
-      same = record { words = λ at. s.words at ∙ same.words at; owing = λ tag. s.owing tag ∙ same.owing tag; as_many = s.as_many ∙ same.as_many };
-      frame = f;
-      present = with_block_present z lawful m1 h block f slot absent free f_there invalid slot_there in_memory orders ordered;
-    }
+holds_or_not : (o : Option ℕ) (b : ℕ) → (o ≡ Some b) ⊎ (o ≡ Some b → ⊥)
+holds_or_not None b = inr (λ e. cc)
+holds_or_not (Some x) b = ⊎_elim (λ q. inl (ap Some q)) (λ n. inr (λ e. let q : x ≡ b = cc in n q)) (cases_eq x b)
 
-miss_ok : (z : Sizes) (lawful : IsLawful z) (m : Machine) → IsSound z m → (block f slot : ℕ) → frame_of m.cache block ≡ None → f < length m.cache.frames → MayGo m.cache f → f / z.ways ≡ block % z.sets → slot < length m.cache.registers → (register_at m.cache slot).valid ≡ false → address z block 0 < z.words → FetchedBy z m block (record { cache = installed z (released z m.cache f) block f slot; banks = all_sent m.banks (reads z block (Some slot)) })
-unfolding released
-miss_ok z lawful m h block f slot absent f_there (inl free) own slot_there invalid in_memory =
-    let orders = set m.cache.orders (f / z.ways) (without (order_of m.cache.orders (f / z.ways)) f) in
-    let ordered = InOrder-released z m.cache.frames m.cache.orders f h.in_order in
-    let m1 = cleared z m h f free orders ordered in
-    let filled = fill_frame z lawful m m1 block f slot (cleared_sound z m h f free orders ordered) (cleared_same z m h f free orders ordered) (cleared_frames z m h f free orders ordered block ∙ absent) (ap (λ (x : Frame). x.block) (get_or-set_same m.cache.frames f empty_frame empty_frame f_there)) (let e = length-set m.cache.frames f empty_frame in omega arith) own invalid slot_there in_memory in
-    let e : m.cache.queue ++ dirty_words z m.cache (Some f) ≡ m.cache.queue = ap (λ o. m.cache.queue ++ dirty_of_block z o (frame_at m.cache f).cells) free ∙ append-nil m.cache.queue in
-    subst (λ q. FetchedBy z m block (record { cache = installed z (record m.cache { frames = set m.cache.frames f empty_frame; orders = orders; queue = q }) block f slot; banks = all_sent m.banks (reads z block (Some slot)) })) (sym e) filled
-miss_ok z lawful m h block f slot absent f_there (inr victim) own slot_there invalid in_memory =
-    let b = victim.0 in
-    let orders = set m.cache.orders (f / z.ways) (without (order_of m.cache.orders (f / z.ways)) f) in
-    let ordered = InOrder-released z m.cache.frames m.cache.orders f h.in_order in
-    let ret = retired z m b h None victim.2 in
-    let m1 = given_up z lawful m h b f victim.1 m.cache.registers orders ret ordered in
-    let apart : block ≡ b → ⊥ = λ q. none_in_frames m.cache block absent f (victim.1 ∙ ap Some (sym q)) in
-    let filled = fill_frame z lawful m m1 block f slot (given_up_sound z lawful m h b f victim.1 m.cache.registers orders ret ordered) (given_up_same z lawful m h b f victim.1 m.cache.registers orders ret ordered) (other_found z lawful m h b f victim.1 m.cache.registers orders ret ordered block apart ∙ absent) (ap (λ (x : Frame). x.block) (empty_now z lawful m h b f victim.1 m.cache.registers orders ret ordered)) (let e = length-set m.cache.frames f empty_frame in omega arith) own invalid slot_there in_memory in
-    let e : m.cache.queue ++ dirty_words z m.cache (Some f) ≡ m.cache.queue ++ dirty_from b (address z b 0) (frame_at m.cache f).cells = ap (λ o. m.cache.queue ++ dirty_of_block z o (frame_at m.cache f).cells) victim.1 in
-    subst (λ q. FetchedBy z m block (record { cache = installed z (record m.cache { frames = set m.cache.frames f empty_frame; orders = orders; queue = q }) block f slot; banks = all_sent m.banks (reads z block (Some slot)) })) (sym e) filled
+module _ (z : Sizes) (lawful : IsLawful z) (m : Machine) (h : IsSound z m) (block : ℕ) (absent : frame_of m.cache block ≡ None)
+    (in_memory : address z block 0 < z.words) (miss : Misses z m.cache block) where
+  abbrev f : ℕ
+  f = miss.frame
 
--- ---- what the causes leave
+  abbrev slot : ℕ
+  slot = miss.slot
 
-some_slot : (z : Sizes) (m : Machine) → IsSound z m → (length (filter (λ r. r.valid) m.cache.registers) == z.regs) ≡ false → is_none (free_slot m.cache) ≡ false
-some_slot z m h e = go (free_slot m.cache) refl
-  where
-    go : (o : Option ℕ) → free_slot m.cache ≡ o → is_none o ≡ false
-    go (Some k) q = refl
-    go None q =
-        let full : (length (filter (λ r. r.valid) m.cache.registers) == z.regs) ≡ true = eq-eqb _ z.regs (all_valid m.cache.registers q ∙ h.registers_are) in
-        cc
+  abbrev with_block : Machine
+  with_block = record { cache = fetched z m.cache block; banks = all_sent m.banks (commands z slot (addresses z block)) }
 
-pub some_frame : (z : Sizes) → IsLawful z → (m : Machine) → IsSound z m → (block : ℕ) → list_all (is_pending m.cache) (ways_of z block) ≡ false → is_none (choose z m.cache block) ≡ false
-unfolding choose
-some_frame z lawful m h block e = go (frame_at m.cache x.0).block refl x.3
-  where
-    a : ℕ
-    a = block % z.sets * z.ways
+  abbrev queue : List Queued
+  queue = m.cache.queue ++ dirty_words z m.cache (Some f)
 
-    x : (k : ℕ) × (a ≤ k) × (k < a + z.ways) × (is_pending m.cache k ≡ false) × (is_in (range_with_len a z.ways) k ≡ true)
-    x = one_fails (is_pending m.cache) (block % z.sets * z.ways) z.ways e
+  -- ---- frames
 
-    free : ℕ → Bool
-    free f = is_none (frame_at m.cache f).block
+  -- a frame that holds a block is the new one, or held it before
+  holds : (k b : ℕ) → (frame_at with_block.cache k).block ≡ Some b
+      → ((k ≡ f) × (b ≡ block)) ⊎ ((k ≡ f → ⊥) × ((frame_at m.cache k).block ≡ Some b))
+  holds k b e = ⊎_elim here (λ n. inr (n, ap (λ (x : Frame). x.block) (sym (miss.by.other_frame k n)) ∙ e)) (cases_eq k f)
+    where
+      here : k ≡ f → ((k ≡ f) × (b ≡ block)) ⊎ ((k ≡ f → ⊥) × ((frame_at m.cache k).block ≡ Some b))
+      here q =
+          let s : Some block ≡ Some b = sym (ap (λ x. (frame_at with_block.cache x).block) q
+          ∙ ap (λ (x : Frame). x.block) miss.by.own_frame) ∙ e in
+          let eq : b ≡ block = cc in
+          inl (q, eq)
 
-    resident : ℕ → Bool
-    resident f = is_resident_block m.cache (frame_at m.cache f).block
+  no_frame : (k : ℕ) → (frame_at m.cache k).block ≡ Some block → ⊥
+  no_frame = none_in_frames m.cache block absent
 
-    own : x.0 / z.ways ≡ block % z.sets
-    own = div-eq_of_lt-le z.ways (let l = x.1 in omega arith) (let l = x.2 in omega arith)
+  apart_after : (a b n : ℕ) → (frame_at with_block.cache a).block ≡ Some n → (frame_at with_block.cache b).block ≡ Some n → a ≡ b
+  apart_after a b n p q =
+      ⊎_elim (λ x. ⊎_elim (λ y. x.0 ∙ sym y.0) (λ y. absurd (no_frame b (y.1 ∙ ap Some x.1))) (holds b n q))
+      (λ x. ⊎_elim (λ y. absurd (no_frame a (x.1 ∙ ap Some y.1))) (λ y. h.frames_apart a b n x.1 y.1) (holds b n q)) (holds a n p)
 
-    left : (o p : Option ℕ) → is_some o ≡ true → is_none (option_or o p) ≡ false
-    left (Some k) p q = refl
-    left None p q = cc
+  -- the block of a live register is in another frame
+  live_elsewhere : (t k : ℕ) → is_live (register_at m.cache t) ≡ true → (frame_at m.cache k).block ≡ Some (register_at m.cache t).block
+      → k ≡ f → ⊥
+  live_elsewhere t k l e q =
+      ⊎_elim (λ free. let no : (frame_at m.cache k).block ≡ None = ap (λ x. (frame_at m.cache x).block) q ∙ free in cc) victim miss.may_go
+    where
+      victim : (b : ℕ) × ((frame_at m.cache f).block ≡ Some b) × (live_for m.cache b ≡ None) → ⊥
+      victim v =
+          let same : Some (register_at m.cache t).block ≡ Some v.0 = sym e ∙ ap (λ x. (frame_at m.cache x).block) q ∙ v.1 in
+          let eq : (register_at m.cache t).block ≡ v.0 = cc in
+          none_live m.cache v.0 v.2 t l eq
 
-    right : (o p : Option ℕ) → is_some p ≡ true → is_none (option_or o p) ≡ false
-    right (Some k) p q = refl
-    right None (Some k) q = refl
-    right None None q = cc
+  -- ---- registers
 
-    none : (o : Option ℕ) → is_some o ≡ false → is_none o ≡ true
-    none None q = refl
-    none (Some k) q = cc
+  valid_other : (t : ℕ) → (register_at m.cache t).valid ≡ true → (t ≡ slot → ⊥)
+  valid_other t v q = let no : (register_at m.cache t).valid ≡ false = ap (λ x. (register_at m.cache x).valid) q ∙ miss.invalid in cc
 
-    go : (o : Option ℕ) → (frame_at m.cache x.0).block ≡ o → is_pending_block m.cache (frame_at m.cache x.0).block ≡ false → is_none (option_or (find free (ways_of z block)) (find resident (order_of m.cache.orders (block % z.sets)))) ≡ false
-    go None q r = left _ _ (found_in free (ways_of z block) x.0 x.4 (ap is_none q))
-    go (Some b) q r =
-        let here : is_in (order_of m.cache.orders (block % z.sets)) x.0 ≡ true = ap (λ s. is_in (order_of m.cache.orders s) x.0) (sym own) ∙ h.in_order.placed x.0 b q in
-        let waits : is_some (live_for m.cache b) ≡ false = ap (is_pending_block m.cache) (sym q) ∙ r in
-        right (find free (ways_of z block)) _ (found_in resident (order_of m.cache.orders (block % z.sets)) x.0 here (ap (is_resident_block m.cache) q ∙ none (live_for m.cache b) waits))
+  live_other : (t : ℕ) → is_live (register_at m.cache t) ≡ true → (t ≡ slot → ⊥)
+  live_other t l = valid_other t (and_parts (register_at m.cache t).valid (not (register_at m.cache t).obsolete) l).0
+
+  -- no register was live for the block
+  none_before : (t : ℕ) → is_live (register_at m.cache t) ≡ true → (register_at m.cache t).block ≡ block → ⊥
+  none_before t l e = let p = h.live_present t l in no_frame p.0 (p.1 ∙ ap Some e)
+
+  lives : (t : ℕ) → is_live (register_at with_block.cache t) ≡ true
+      → (t ≡ slot) ⊎ ((t ≡ slot → ⊥) × (is_live (register_at m.cache t) ≡ true)
+      × ((register_at with_block.cache t).block ≡ (register_at m.cache t).block))
+  lives t l = ⊎_elim (λ q. inl q)
+      (λ n. inr (n, ap is_live (sym (miss.by.other_register t n)) ∙ l, ap (λ (r : Register). r.block) (miss.by.other_register t n)))
+      (cases_eq t slot)
+
+  own_block : (t : ℕ) → t ≡ slot → (register_at with_block.cache t).block ≡ block
+  own_block t q = ap (λ x. (register_at with_block.cache x).block) q ∙ ap (λ (r : Register). r.block) miss.by.own_register
+
+  live_apart_after : (a b : ℕ) → is_live (register_at with_block.cache a) ≡ true → is_live (register_at with_block.cache b) ≡ true
+      → (register_at with_block.cache a).block ≡ (register_at with_block.cache b).block → a ≡ b
+  live_apart_after a b la lb e =
+      ⊎_elim (λ x. ⊎_elim (λ y. x ∙ sym y) (λ y. absurd (none_before b y.1 (sym y.2 ∙ sym e ∙ own_block a x))) (lives b lb))
+      (λ x. ⊎_elim (λ y. absurd (none_before a x.1 (sym x.2 ∙ e ∙ own_block b y)))
+      (λ y. h.live_apart a b x.1 y.1 (sym x.2 ∙ e ∙ y.2)) (lives b lb)) (lives a la)
+
+  -- ---- answers
+
+  answers : List BankAnswer
+  answers = map (answer_at z m.banks slot) (addresses z block)
+
+  none_pending : (j : ℕ) → (tally (is_for slot j) (all_pending m.banks) ≡ 0) × (tally (is_entry_for slot j) m.cache.stack ≡ 0)
+  none_pending j =
+      let c = h.counted slot j in
+      let w : wanted z (register_at m.cache slot) j ≡ 0 =
+      ap (λ v. bit (v && (nat_lt j z.block_words && not (field_at m.cache slot j).processed))) miss.invalid in
+      (omega arith, omega arith)
+
+  own_tally : (j : ℕ) → tally (is_for slot j) (all_pending with_block.banks) ≡ bit (nat_lt j z.block_words)
+  unfolding answers
+  own_tally j =
+      let a = AddsAll-tally (is_for slot j) answers _ _ (sent_adds z lawful.some_banks slot (addresses z block) m.banks h.banks_are) in
+      let r = reads_tally z m.banks slot block 0 z.block_words (address z block 0) j refl (omega arith) in
+      let n = none_pending j in
+      let e : bit (nat_le 0 j && nat_lt j (0 + z.block_words)) ≡ bit (nat_lt j z.block_words) =
+      ap₂ (λ x k. bit (x && nat_lt j k)) (le-leb 0 j (omega arith)) (zero-add z.block_words) in
+      omega (arith, n.0)
+
+  other_tally : (t j : ℕ) → (t ≡ slot → ⊥) → tally (is_for t j) (all_pending with_block.banks) ≡ tally (is_for t j) (all_pending m.banks)
+  unfolding answers
+  other_tally t j n =
+      let a = AddsAll-tally (is_for t j) answers _ _ (sent_adds z lawful.some_banks slot (addresses z block) m.banks h.banks_are) in
+      let r = reads_other z m.banks slot t j (addresses z block) (λ q. n (sym q)) in
+      omega arith
+
+  other_find : (t j : ℕ) → (t ≡ slot → ⊥) → find (is_for t j) (all_pending with_block.banks) ≡ find (is_for t j) (all_pending m.banks)
+  unfolding answers
+  other_find t j n =
+      let none = reads_other z m.banks slot t j (addresses z block) (λ q. n (sym q)) in
+      AddsAll-find_other (is_for t j) answers _ _ (sent_adds z lawful.some_banks slot (addresses z block) m.banks h.banks_are) none
+
+  own_find : (j : ℕ) → j < z.block_words → word_in (find (is_for slot j) (all_pending with_block.banks))
+      ≡ base_in z m.banks (block * z.block_words + j)
+  unfolding answers
+  own_find j l =
+      let n = none_pending j in
+      let r = reads_tally z m.banks slot block 0 z.block_words (address z block 0) j refl (omega arith) in
+      let b = bit-le (nat_le 0 j && nat_lt j (0 + z.block_words)) in
+      let one = AddsAll-find (is_for slot j) answers _ _ (sent_adds z lawful.some_banks slot (addresses z block) m.banks h.banks_are) n.0
+      (omega arith) in
+      ap word_in (one ∙ reads_find z m.banks slot block 0 z.block_words (address z block 0) j refl (omega arith) (omega arith)
+      (omega arith))
+
+  -- ---- the backing
+
+  base_same : (at : ℕ) → words_after (bank_at with_block.banks (at % z.banks)) ≡ words_after (bank_at m.banks (at % z.banks))
+  base_same at = sent_words z lawful.some_banks slot (addresses z block) m.banks (at % z.banks)
+
+  backing_gone : (at : ℕ) → (frame_at m.cache f).block ≡ Some (block_of z at) → backing z with_block at ≡ kept_word z m at
+  backing_gone at e = backing_dirty z m with_block f at (base_same at) miss.by.queue ∙ dirty_within z m h f at e
+
+  backing_same : (at : ℕ) → ((frame_at m.cache f).block ≡ Some (block_of z at) → ⊥) → backing z with_block at ≡ backing z m at
+  backing_same at n = backing_dirty z m with_block f at (base_same at) miss.by.queue ∙ dirty_elsewhere z lawful m h f at n
+
+  -- ---- the words: of the block that comes, of the one that goes, and the others
+
+  not_victim : (at : ℕ) → block_of z at ≡ block → (frame_at m.cache f).block ≡ Some (block_of z at) → ⊥
+  not_victim at e q = no_frame f (q ∙ ap Some e)
+
+  word_own : (at : ℕ) → block_of z at ≡ block → flat_word z with_block at ≡ backing z with_block at
+  word_own at e =
+      let j = place_in z at in
+      let ps = all_pending with_block.banks in
+      let back = backing z with_block at in
+      let here : block * z.block_words + place_in z at ≡ at = let k = ap (λ b. address z b 0 + place_in z at) (sym e)
+      ∙ address_is z at in omega arith in
+      let asked : form_at z with_block.cache at ≡ Some (asked_form z queue slot at) = miss.by.words at
+      ∙ ap (λ b. cond b (Some (asked_form z queue slot at)) (words_without z (form_at z m.cache) (frame_at m.cache f).block at))
+      (eq-eqb (block_of z at) block e) in
+      let base = base_in z m.banks at in
+      flat_word-form z with_block at ∙ ap (word_from ps back) asked
+      ∙ filled-over ps (queued_lanes queue at) (overlaid zero_word queue at) (λ l. Asked slot (place_in z at) l)
+      ∙ ap (λ w. merged w (overlaid zero_word queue at) (queued_lanes queue at))
+      (filled-asked ps slot (place_in z at) ∙ own_find (place_in z at) (mod-lt at lawful.some_words) ∙ ap (base_in z m.banks) here)
+      ∙ sym (overlaid-split base zero_word queue at)
+      ∙ sym (ap₂ (λ ws q. overlaid (word_at ws (at / z.banks)) q at) (base_same at) miss.by.queue)
+
+  missed_at : (at : ℕ) → (block_of z at ≡ block → ⊥)
+      → form_at z with_block.cache at ≡ words_without z (form_at z m.cache) (frame_at m.cache f).block at
+  missed_at at n =
+      miss.by.words at ∙ ap (λ b. cond b (Some (asked_form z queue slot at))
+      (words_without z (form_at z m.cache) (frame_at m.cache f).block at)) (ne_eqb (block_of z at) block n)
+
+  word_gone : (at : ℕ) → (block_of z at ≡ block → ⊥) → (frame_at m.cache f).block ≡ Some (block_of z at)
+      → flat_word z with_block at ≡ backing z with_block at
+  word_gone at n e =
+      let none : form_at z with_block.cache at ≡ None = missed_at at n ∙ ap (λ o. words_without z (form_at z m.cache) o at) e
+      ∙ ap (λ b. cond b None (form_at z m.cache at)) (eq-eqb (block_of z at) (block_of z at) refl) in
+      flat_word-form z with_block at ∙ ap (word_from (all_pending with_block.banks) (backing z with_block at)) none
+
+  word_other : (at : ℕ) → (block_of z at ≡ block → ⊥) → ((frame_at m.cache f).block ≡ Some (block_of z at) → ⊥)
+      → flat_word z with_block at ≡ flat_word z m at
+  word_other at n far =
+      let form = missed_at at n ∙ ap (λ b. cond b None (form_at z m.cache at)) (holds-not (frame_at m.cache f) (block_of z at) far) in
+      flat_word-form z with_block at ∙ ap (word_from (all_pending with_block.banks) (backing z with_block at)) form
+      ∙ go (form_at z m.cache at) refl ∙ sym (flat_word-form z m at)
+    where
+      go : (o : Option Form) → form_at z m.cache at ≡ o
+          → word_from (all_pending with_block.banks) (backing z with_block at) o ≡ word_from (all_pending m.banks) (backing z m at) o
+      go None e = backing_same at far
+      go (Some g) e = filled-other (λ t. t ≡ slot → ⊥) (all_pending m.banks) (all_pending with_block.banks) other_find g
+          (word_asks (λ t. t ≡ slot → ⊥) z m.cache at live_other g e)
+
+  by_cases : (P : ℕ → Type 0) → ((at : ℕ) → block_of z at ≡ block → P at)
+      → ((at : ℕ) → (block_of z at ≡ block → ⊥) → (frame_at m.cache f).block ≡ Some (block_of z at) → P at)
+      → ((at : ℕ) → (block_of z at ≡ block → ⊥) → ((frame_at m.cache f).block ≡ Some (block_of z at) → ⊥) → P at) → (at : ℕ) → P at
+  by_cases P own gone other at =
+      ⊎_elim (own at) (λ n. ⊎_elim (gone at n) (other at n) (holds_or_not (frame_at m.cache f).block (block_of z at)))
+      (cases_eq (block_of z at) block)
+
+  with_block_same : Same z m with_block
+  with_block_same =
+      record {
+        words = by_cases (λ at. flat_word z with_block at ≡ flat_word z m at)
+            (λ at e. word_own at e ∙ backing_same at (not_victim at e) ∙ sym (ap (flat_word_in z m at) (ap (frame_of m.cache) e ∙ absent)))
+            (λ at n e. word_gone at n e ∙ backing_gone at e ∙ sym (h.kept at)) word_other;
+        owing = λ tag. ap (option_map (filled_by (all_pending with_block.banks)))
+            (owed-same m.cache with_block.cache miss.by.same_ready miss.by.same_targets miss.by.same_stack tag)
+            ∙ due_other (λ t. t ≡ slot → ⊥) m.cache (all_pending m.banks) (all_pending with_block.banks) other_find valid_other tag;
+      }
+
+  kept : (at : ℕ) → flat_word z with_block at ≡ kept_word z with_block at
+  kept =
+      by_cases (λ at. flat_word z with_block at ≡ kept_word z with_block at)
+      (λ at e. let w = (cell_of with_block.cache (block_of z at) (place_in z at)).word in
+      word_own at e ∙ sym (merged-none (backing z with_block at) w) ∙ ap (merged (backing z with_block at) w) (sym (miss.by.clean at e)))
+      (λ at n e. word_gone at n e ∙ sym (merged-none (backing z with_block at) zero_word)
+      ∙ ap (λ (c : Cell). merged (backing z with_block at) c.word c.dirty) (sym (miss.by.gone at n e)))
+      (λ at n far. kept_same z m with_block h at (word_other at n far) (miss.by.cells at n far) (backing_same at far))
+
+  -- ---- all of it
+
+  installed_order : f / z.ways ≡ block % z.sets → (let c = installed z (released z m.cache f) block f slot in InOrder z c.frames c.orders)
+  unfolding installed released
+  installed_order own =
+      let c = released z m.cache f in
+      InOrder-installed z c.frames c.orders f (block % z.sets) (fresh_frame z c.queue block) own (mod-lt block lawful.some_sets)
+      (InOrder-released z m.cache.frames m.cache.orders f h.in_order)
+
+  order : InOrder z with_block.cache.frames with_block.cache.orders
+  order =
+      let own : f / z.ways ≡ block % z.sets = ⊎_elim (λ e. e) (h.in_order.in_set (block % z.sets) f) miss.of_set in
+      subst (λ (c : Cache). InOrder z c.frames c.orders) (sym miss.is) (installed_order own)
+
+  same_tags : tags with_block.cache ≡ tags m.cache
+  same_tags =
+      ap₂ (λ r t. map (λ (x : Reply). x.tag) r ++ map (λ (x : Target). x.load.tag) t) miss.by.same_ready miss.by.same_targets
+
+  with_block_sound : IsSound z with_block
+  with_block_sound =
+      record {
+        frames_apart = apart_after;
+        live_apart = live_apart_after;
+        live_present = λ t l. ⊎_elim (λ q. (f, ap (λ (x : Frame). x.block) miss.by.own_frame ∙ ap Some (sym (own_block t q))))
+            (λ x. let p = h.live_present t x.1 in (
+              p.0,
+              ap
+                  (λ (y : Frame). y.block) (miss.by.other_frame p.0 (live_elsewhere t p.0 x.1 p.1)) ∙ p.1 ∙ ap Some (sym x.2),
+            )) (lives t l);
+        counted = λ t j. ap (λ st. tally (is_for t j) (all_pending with_block.banks) + tally (is_entry_for t j) st) miss.by.same_stack
+            ∙ counted_after t j;
+        once = λ tag. subst (λ ts. tally (λ t. t == tag) ts ≤ 1) (sym same_tags) (h.once tag);
+        kept = kept;
+        whole_frames = λ k b e. ⊎_elim (λ x. (
+          ap (λ y. length (frame_at with_block.cache y).cells) x.0 ∙ ap (λ (y : Frame). length y.cells) miss.by.own_frame
+              ∙ length-map-range_with_len _ (address z block 0) z.block_words,
+          subst (λ y. address z y 0 < z.words) (sym x.1) in_memory,
+        ))
+            (λ x. let p = h.whole_frames k b x.1 in (ap (λ (y : Frame). length y.cells) (miss.by.other_frame k x.0) ∙ p.0, p.1))
+            (holds k b e);
+        whole_registers = whole_after;
+        queue_in = subst (AllIn z) (sym miss.by.queue) (dirty_in z lawful m h f);
+        frames_are = miss.by.number_of_frames ∙ h.frames_are;
+        in_order = order;
+        registers_are = miss.by.number_of_registers ∙ h.registers_are;
+        banks_are = sent_number z lawful.some_banks slot (addresses z block) m.banks ∙ h.banks_are;
+        banks_hold = λ at l. subst (λ n. at / z.banks < n)
+            (sym (sent_lengths z lawful.some_banks slot (addresses z block) m.banks (at % z.banks))) (h.banks_hold at l);
+      }
+    where
+      own_field : (j : ℕ) → j < z.block_words → field_at with_block.cache slot j
+          ≡ record { processed = false; code = queued_lanes with_block.cache.queue (address z block 0 + j); waiting = [] }
+      own_field j l =
+          ap (λ (r : Register). get_or r.fields j clear_field) miss.by.own_register
+          ∙ range_at (λ at. record { processed = false; code = queued_lanes with_block.cache.queue at; waiting = [] }) clear_field
+          (address z block 0) z.block_words j l
+
+      counted_after : (t j : ℕ) → tally (is_for t j) (all_pending with_block.banks) + tally (is_entry_for t j) m.cache.stack
+          ≡ wanted z (register_at with_block.cache t) j
+      counted_after t j = ⊎_elim here there (cases_eq t slot)
+        where
+          there : (t ≡ slot → ⊥) → tally (is_for t j) (all_pending with_block.banks) + tally (is_entry_for t j) m.cache.stack
+              ≡ wanted z (register_at with_block.cache t) j
+          there n =
+              let c = h.counted t j in
+              let o = other_tally t j n in
+              let w : wanted z (register_at with_block.cache t) j ≡ wanted z (register_at m.cache t) j =
+              ap (λ r. wanted z r j) (miss.by.other_register t n) in
+              omega arith
+
+          fresh : (b : Bool) → nat_lt j z.block_words ≡ b → bit (b && not (field_at with_block.cache slot j).processed) ≡ bit b
+          fresh true e = ap (λ (x : Field). bit (not x.processed)) (own_field j (ltb-true j z.block_words e))
+          fresh false e = refl
+
+          own : tally (is_for slot j) (all_pending with_block.banks) + tally (is_entry_for slot j) m.cache.stack
+              ≡ wanted z (register_at with_block.cache slot) j
+          own =
+              let c = own_tally j in
+              let n = none_pending j in
+              let s = n.1 in
+              let w : wanted z (register_at with_block.cache slot) j ≡ bit (nat_lt j z.block_words) =
+              ap (λ (r : Register). bit (r.valid && (nat_lt j z.block_words && not
+              (field_at with_block.cache slot j).processed))) miss.by.own_register ∙ fresh (nat_lt j z.block_words) refl in
+              omega arith
+
+          here : t ≡ slot → tally (is_for t j) (all_pending with_block.banks) + tally (is_entry_for t j) m.cache.stack
+              ≡ wanted z (register_at with_block.cache t) j
+          here q = subst (λ x. tally (is_for x j) (all_pending with_block.banks) + tally (is_entry_for x j) m.cache.stack
+              ≡ wanted z (register_at with_block.cache x) j) (sym q) own
+
+      whole_after : (t : ℕ) → (register_at with_block.cache t).valid ≡ true → length (register_at with_block.cache t).fields ≡ z.block_words
+      whole_after t v = ⊎_elim (λ q. ap (λ x. length (register_at with_block.cache x).fields) q
+          ∙ ap (λ (r : Register). length r.fields) miss.by.own_register ∙ length-map-range_with_len _ (address z block 0) z.block_words)
+          (λ n. ap (λ (r : Register). length r.fields) (miss.by.other_register t n)
+          ∙ h.whole_registers t (ap (λ (r : Register). r.valid) (sym (miss.by.other_register t n)) ∙ v)) (cases_eq t slot)
+
+  by_miss : FetchedBy z m block (fetched_machine z m block)
+  by_miss =
+      let P : List (ℕ × Command) → Type 0 = λ sent. FetchedBy z m block
+      (record { cache = fetched z m.cache block; banks = all_sent m.banks sent }) in
+      subst P (sym miss.sent) (record { sound = with_block_sound; same = with_block_same; same_tags = same_tags })
 
 -- a block is fetched where it is absent, a frame may be chosen and a register is free
-pub fetch_ok : (z : Sizes) (lawful : IsLawful z) (m : Machine) → IsSound z m → (block : ℕ) → address z block 0 < z.words → (is_present m.cache block ≡ false → Able z m.cache block) → FetchedBy z m block (fetched_machine z m block)
+pub fetch_ok : (z : Sizes) (lawful : IsLawful z) (m : Machine) → IsSound z m → (block : ℕ) → address z block 0 < z.words
+    → (is_present m.cache block ≡ false → Able z m.cache block) → FetchedBy z m block (fetched_machine z m block)
 unfolding fetched fetches
 fetch_ok z lawful m h block in_memory able = go (frame_of m.cache block) refl
   where
-    by : Bool → Option ℕ → Option ℕ → Machine
-    by b o s = record { cache = cond b m.cache (missed z m.cache block o s); banks = all_sent m.banks (cond b [] (reads z block s)) }
-
-    taken : (s : Option ℕ) → free_slot m.cache ≡ s → (o : Option ℕ) → choose z m.cache block ≡ o → is_none s ≡ false → is_none o ≡ false → frame_of m.cache block ≡ None → FetchedBy z m block (by false o s)
-    taken None es o eo p q absent = cc
-    taken (Some slot) es None eo p q absent = cc
-    taken (Some slot) es (Some f) eo p q absent =
-        let c = chosen z lawful m h block f eo in
-        let r = free_register_at m.cache slot es in
-        miss_ok z lawful m h block f slot absent c.0 c.1 c.2 r.0 r.1 in_memory
+    by : Bool → Machine
+    by b = record {
+      cache = cond b m.cache (missed z m.cache block (choose z m.cache block) (free_slot m.cache));
+      banks =
+          all_sent m.banks (cond b [] (reads z block (free_slot m.cache)));
+    }
 
     go : (o : Option ℕ) → frame_of m.cache block ≡ o → FetchedBy z m block (fetched_machine z m block)
     go (Some k) e =
-        subst (λ b. FetchedBy z m block (by b (choose z m.cache block) (free_slot m.cache))) (sym (ap is_some e)) (record { sound = h; same = record { words = λ at. refl; owing = λ tag. refl; as_many = refl }; frame = k; present = e })
-    go None e =
-        let a = able (ap is_some e) in
-        subst (λ b. FetchedBy z m block (by b (choose z m.cache block) (free_slot m.cache))) (sym (ap is_some e)) (taken (free_slot m.cache) refl (choose z m.cache block) refl (some_slot z m h a.0) (some_frame z lawful m h block a.1) e)
+        subst (λ b. FetchedBy z m block (by b)) (sym (ap is_some e))
+        (record { sound = h; same = record { words = λ at. refl; owing = λ tag. refl }; same_tags = refl })
+    go None e = by_miss z lawful m h block e in_memory (misses z m.cache (sound_unit z lawful m h) block e (able (ap is_some e)))
+
+-- the block is present then, with all its words
+pub fetched_hit : (z : Sizes) (lawful : IsLawful z) (m : Machine) → IsSound z m → (block : ℕ)
+    → (is_present m.cache block ≡ false → Able z m.cache block) → Hit z (fetched z m.cache block) block
+fetched_hit z lawful m h block able =
+    let f = fetched-by z m.cache (sound_unit z lawful m h) block able in
+    record { frame = f.frame; present = f.present; cells = f.cells; fields = f.fields }

@@ -1,5 +1,6 @@
 -- What every machine of a walk keeps, said of it as it stands.
-use Rattle.std.proofs.Common.{◌≡◌, ◌≢◌, ℕ, zero, suc, ◌+◌, ◌≤◌, Bool, true, false, not, ◌==◌, List, [], ◌∷◌, map, Option, Some, None, is_none, is_some, refl, sym, ap, ap₂, ◌∙◌, subst, arith, flat_map}
+use Rattle.std.proofs.Common.{◌≡◌, ◌≢◌, ℕ, zero, suc, Bool, true, false, not, List, [], ◌∷◌, Option, Some, None, is_none, is_some, refl}
+use Rattle.std.proofs.Common.{sym, ap, ◌∙◌, arith, flat_map}
 use Rattle.flat_model.specs.declared.Word.{Word}
 use Rattle.flat_model.specs.declared.Cause.TheVariants.{StrayWord}
 use Rattle.flat_model.specs.declared.Event.{Event}
@@ -9,20 +10,20 @@ use Rattle.flat_model.specs.declared.Answer.TheVariants.{Refused}
 use Rattle.flat_model.specs.Flat.{flat_step}
 use Rattle.memory_banks.specs.declared.BankAnswer.{BankAnswer}
 use Rattle.memory_banks.specs.Banks.{Bank, bank_at, pending}
-use Rattle.cache_unit.specs.declared.Reply.{Reply}
-use Rattle.cache_unit.specs.State.{Sizes, Target, targets, tags}
+use Rattle.cache_unit.specs.State.{Sizes}
 use Rattle.cache_unit.specs.Counts.{tally}
-use Rattle.cache_unit.proofs.FormsLists.{tally-append, tally-map}
+use Rattle.cache_unit.proofs.FormsLists.{tally-append}
 use Rattle.machine_core.specs.Law.{IsLawful, IsKept, WalkIsKept}
 use Rattle.machine_core.specs.Machine.{Machine, apply, opening, walked, flat_due, flat_of}
-use Rattle.machine_core.specs.Sound.{is_for, has_tag, dues, reply_to, own_bank, IsSound, IsBounded}
+use Rattle.machine_core.specs.Sound.{is_for, own_bank, IsSound, IsBounded}
 use Rattle.machine_core.proofs.Opening.{opening_sound}
 use Rattle.machine_core.proofs.Requests.{flat_in_use}
 use Rattle.machine_core.proofs.Walking.{event_ok}
 use Rattle.machine_core.proofs.Resting.{opening_bounded, held_walked}
 
 -- where only one bank has such an answer on its way, it has all of them
-none_at : (p : BankAnswer → Bool) (banks : List Bank) → ((b : ℕ) → tally p (pending (bank_at banks b)) ≡ 0) → tally p (flat_map pending banks) ≡ 0
+none_at : (p : BankAnswer → Bool) (banks : List Bank) → ((b : ℕ) → tally p (pending (bank_at banks b)) ≡ 0)
+    → tally p (flat_map pending banks) ≡ 0
 none_at p [] h = refl
 none_at p (x ∷ banks) h =
     let ih = none_at p banks (λ b. h (suc b)) in
@@ -30,7 +31,8 @@ none_at p (x ∷ banks) h =
     let n = tally-append p (pending x) (flat_map pending banks) in
     omega arith
 
-all_at_one : (p : BankAnswer → Bool) (banks : List Bank) (k : ℕ) → ((b : ℕ) → b ≢ k → tally p (pending (bank_at banks b)) ≡ 0) → tally p (flat_map pending banks) ≡ tally p (pending (bank_at banks k))
+all_at_one : (p : BankAnswer → Bool) (banks : List Bank) (k : ℕ) → ((b : ℕ) → b ≢ k → tally p (pending (bank_at banks b)) ≡ 0)
+    → tally p (flat_map pending banks) ≡ tally p (pending (bank_at banks k))
 all_at_one p [] k h = refl
 all_at_one p (x ∷ banks) zero h =
     let rest = none_at p banks (λ b. h (suc b) (λ e. omega arith)) in
@@ -49,7 +51,8 @@ kept_whole z lawful m sound bounded =
       tags_differ = sound.once;
       tags_fit = bounded.few_tags;
       tags_owed = λ tag. some (flat_due m tag) ∙ flat_in_use m tag;
-      on_its_way = λ s i. let e = all_at_one (is_for s i) m.banks (own_bank z m s i) (λ b d. elsewhere b s i d) in let c = sound.counted s i in omega arith;
+      on_its_way = λ s i. let e = all_at_one (is_for s i) m.banks (own_bank z m s i) (λ b d. elsewhere b s i d) in let c =
+          sound.counted s i in omega arith;
       nowhere_else = elsewhere;
       none_stray = λ b place e. stray b place (apply z m (Arrive b place)).answer e (event_ok z lawful m sound (Arrive b place)).run;
     }
@@ -65,7 +68,8 @@ kept_whole z lawful m sound bounded =
         go zero e = refl
         go (suc n) e = absurd (d (sym (bounded.at_its_bank b s i (omega arith))))
 
-    stray : (b place : ℕ) (answer : Answer) → answer ≡ Refused StrayWord → flat_step (flat_of z m) (Arrive b place) answer ≡ Some (flat_of z (apply z m (Arrive b place)).machine) → ⊥
+    stray : (b place : ℕ) (answer : Answer) → answer ≡ Refused StrayWord
+        → flat_step (flat_of z m) (Arrive b place) answer ≡ Some (flat_of z (apply z m (Arrive b place)).machine) → ⊥
     stray b place answer e run =
         let no : flat_step (flat_of z m) (Arrive b place) answer ≡ None = ap (flat_step (flat_of z m) (Arrive b place)) e in
         let same : is_some (flat_step (flat_of z m) (Arrive b place) answer) ≡ true = ap is_some run in
@@ -74,5 +78,6 @@ kept_whole z lawful m sound bounded =
 
 pub walk_is_kept : (z : Sizes) (image : List Word) (events : List Event) → WalkIsKept z image events
 walk_is_kept z image events lawful fits =
-    let h = held_walked z lawful (opening z image) (record { sound = opening_sound z lawful image fits; bounded = opening_bounded z lawful image fits }) events in
+    let h = held_walked z lawful (opening z image)
+    (record { sound = opening_sound z lawful image fits; bounded = opening_bounded z lawful image fits }) events in
     kept_whole z lawful (walked z (opening z image) events) h.sound h.bounded

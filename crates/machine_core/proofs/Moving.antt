@@ -1,25 +1,23 @@
 -- An event that moves something on lowers the weight; otherwise the machine stays as it was, and shows why.
-use Rattle.std.proofs.Common.{◌≡◌, ℕ, ◌-◌, ◌*◌, ◌/◌, ◌%◌, ◌<◌, ◌≤◌, true, false, cond, nat_lt, List, [], ◌∷◌, ◌++◌, length, set, Option, Some, None, slice_get, refl, ap, ◌∙◌, subst, arith, ◌⊎◌, inl, inr, ⊎_elim, lt-ltb, le-ltb, mod-lt}
+use Rattle.std.proofs.Common.{◌≡◌, ℕ, ◌-◌, ◌*◌, ◌/◌, ◌%◌, ◌<◌, ◌≤◌, true, false, cond, nat_lt, List, [], ◌∷◌, length}
+use Rattle.std.proofs.Common.{slice_get, refl, ap, ◌∙◌, arith, ◌⊎◌, inl, inr, ⊎_elim, lt-ltb, le-ltb, mod-lt}
 use Rattle.std.proofs.lemmas.Bool.{cases_lt}
 use Rattle.std.proofs.lemmas.Nat.{mul-le}
 use Rattle.flat_model.specs.declared.Event.{Event}
-use Rattle.flat_model.specs.declared.Event.TheVariants.{Load, Store, Prefetch, Evict, Drain, Serve, Arrive, Process, Take}
+use Rattle.flat_model.specs.declared.Event.TheVariants.{Drain, Serve, Process, Take}
 use Rattle.flat_model.specs.declared.Answer.TheVariants.{Moved, Refused}
-use Rattle.flat_model.specs.declared.Cause.{Cause}
 use Rattle.flat_model.specs.declared.Cause.TheVariants.{BankFull}
 use Rattle.memory_banks.specs.declared.Command.{Command}
 use Rattle.memory_banks.specs.declared.Command.TheVariants.{Write}
-use Rattle.memory_banks.specs.declared.BankAnswer.{BankAnswer}
-use Rattle.memory_banks.specs.Banks.{Bank, bank_at, with_command, served, room_in, all_sent}
-use Rattle.memory_banks.proofs.Places.{bank_at-set}
+use Rattle.memory_banks.specs.Banks.{bank_at, room_in}
 use Rattle.input_stack.specs.declared.Entry.{Entry}
 use Rattle.write_queue.specs.declared.Queued.{Queued}
 use Rattle.cache_unit.specs.declared.Reply.{Reply}
 use Rattle.cache_unit.specs.State.{Sizes}
 use Rattle.cache_unit.specs.Sound.{InRange}
-use Rattle.cache_unit.specs.Causes.{arrive_cause}
-use Rattle.cache_unit.specs.Steps.{Stepped, load_step, store_step, prefetch_step, evict_step, drain_first, drain_step, process_entry, process_step, take_reply, take_step}
-use Rattle.machine_core.specs.Machine.{Machine, apply, joined_with, serve_from, arrive_from, take_in, without_answer}
+use Rattle.cache_unit.specs.Steps.{Stepped, drain_first, drain_step, process_entry}
+use Rattle.cache_unit.specs.Steps.{process_step, take_reply, take_step}
+use Rattle.machine_core.specs.Machine.{Machine, apply, joined_with}
 use Rattle.machine_core.specs.Pump.{weight, has_items}
 use Rattle.machine_core.specs.Law.{IsLawful, HasRoom}
 use Rattle.machine_core.specs.Sound.{IsSound, IsBounded}
@@ -79,15 +77,25 @@ module _ (z : Sizes) (lawful : IsLawful z) (roomy : HasRoom z) (m : Machine) (h 
   unfolding drain_step
   drain_falls = go m.cache.queue refl
     where
-      full : (q : Queued) (rest : List Queued) → m.cache.queue ≡ q ∷ rest → z.bank_queue ≤ length (bank_at m.banks (q.at % z.banks)).queue → FallsOr m (apply z m Drain).machine ((m.cache.queue ≡ []) ⊎ HasCommand z m)
+      full : (q : Queued) (rest : List Queued) → m.cache.queue ≡ q ∷ rest → z.bank_queue ≤ length (bank_at m.banks (q.at % z.banks)).queue
+          → FallsOr m (apply z m Drain).machine ((m.cache.queue ≡ []) ⊎ HasCommand z m)
       full q rest e l =
           let b = q.at % z.banks in
           let within = mod-lt q.at lawful.some_banks in
           let there : b < length m.banks = let n = h.banks_are in omega arith in
-          let room : nat_lt 0 (room_in z.bank_queue m.banks b) ≡ false = ap (λ t. nat_lt 0 (cond t (z.bank_queue - length (bank_at m.banks b).queue) 0)) (lt-ltb b (length m.banks) there) ∙ le-ltb 0 (z.bank_queue - length (bank_at m.banks b).queue) (omega (arith, l)) in
-          let moved : Stepped = record { answer = Moved; cache = record m.cache { queue = rest }; sent = (b, Write (q.at / z.banks) q.word q.lanes) ∷ [] } in
+          let room : nat_lt 0 (room_in z.bank_queue m.banks b) ≡ false =
+          ap (λ t. nat_lt 0 (cond t (z.bank_queue - length (bank_at m.banks b).queue) 0)) (lt-ltb b (length m.banks) there)
+          ∙ le-ltb 0 (z.bank_queue - length (bank_at m.banks b).queue) (omega (arith, l)) in
+          let moved : Stepped = record {
+            answer = Moved;
+            cache = record m.cache { queue = rest };
+            sent =
+                (b, Write (q.at / z.banks) q.word q.lanes) ∷ [];
+          } in
           let kept : Stepped = record { answer = Refused BankFull; cache = m.cache; sent = [] } in
-          let same : (apply z m Drain).machine ≡ m = ap (λ qs. (joined_with m.banks (drain_first z (room_in z.bank_queue m.banks) m.cache qs)).machine) e ∙ ap (λ t. (joined_with m.banks (cond t moved kept)).machine) room in
+          let same : (apply z m Drain).machine ≡ m =
+          ap (λ qs. (joined_with m.banks (drain_first z (room_in z.bank_queue m.banks) m.cache qs)).machine) e
+          ∙ ap (λ t. (joined_with m.banks (cond t moved kept)).machine) room in
           inr (same, inr (b, within, some (bank_at m.banks b).queue (let k = some_queue z lawful roomy in omega (arith, k, l))))
         where
           some : {X : Type 0} (xs : List X) → 0 < length xs → has_items xs ≡ true
@@ -106,41 +114,3 @@ module _ (z : Sizes) (lawful : IsLawful z) (roomy : HasRoom z) (m : Machine) (h 
 abbrev pub leaves_commands : ℕ → Event → Type 0
 leaves_commands b (Serve k) = b ≡ k → ⊥
 leaves_commands b event = Unit {0}
-
-abbrev Waits : Bank → Type 0
-Waits x = has_items x.queue ≡ true
-
-last_waits : (queue : List Command) (c : Command) → has_items (queue ++ c ∷ []) ≡ true
-last_waits [] c = refl
-last_waits (x ∷ queue) c = refl
-
-sent_waits : (banks : List Bank) (sent : List (ℕ × Command)) (b : ℕ) → Waits (bank_at banks b) → Waits (bank_at (all_sent banks sent) b)
-unfolding with_command
-sent_waits banks [] b w = w
-sent_waits banks (c ∷ rest) b w =
-    let more = with_command (bank_at banks c.0) c.1 in
-    let first = bank_at-set Waits banks c.0 more b (λ e. last_waits (bank_at banks c.0).queue c.1) w in
-    sent_waits (set banks c.0 more) rest b first
-
-pub command_waits : (z : Sizes) (m : Machine) (b : ℕ) (event : Event) → leaves_commands b event → has_items (bank_at m.banks b).queue ≡ true → has_items (bank_at (apply z m event).machine.banks b).queue ≡ true
-command_waits z m b (Load tag at) other w = sent_waits m.banks (load_step z (room_in z.bank_queue m.banks) m.cache tag at).sent b w
-command_waits z m b (Store at word lanes) other w = sent_waits m.banks (store_step z (room_in z.bank_queue m.banks) m.cache at word lanes).sent b w
-command_waits z m b (Prefetch at) other w = sent_waits m.banks (prefetch_step z (room_in z.bank_queue m.banks) m.cache at).sent b w
-command_waits z m b (Evict block) other w = sent_waits m.banks (evict_step z m.cache block).sent b w
-command_waits z m b Drain other w = sent_waits m.banks (drain_step z (room_in z.bank_queue m.banks) m.cache).sent b w
-command_waits z m b (Process place) other w = sent_waits m.banks (process_step m.cache place).sent b w
-command_waits z m b (Take place) other w = sent_waits m.banks (take_step m.cache place).sent b w
-command_waits z m b (Serve k) other w = go (bank_at m.banks k).queue
-  where
-    go : (queue : List Command) → Waits (bank_at (serve_from m k queue).machine.banks b)
-    go [] = w
-    go (first ∷ rest) = bank_at-set Waits m.banks k (served (bank_at m.banks k) first rest) b (λ e. absurd (other e)) w
-command_waits z m b (Arrive k place) other w = go (slice_get (bank_at m.banks k).answers place)
-  where
-    taken : (a : BankAnswer) (cause : Option Cause) → Waits (bank_at (take_in z m k place a cause).machine.banks b)
-    taken a (Some cause) = w
-    taken a None = bank_at-set Waits m.banks k (without_answer (bank_at m.banks k) place) b (λ e. subst (λ j. Waits (bank_at m.banks j)) e w) w
-
-    go : (o : Option BankAnswer) → Waits (bank_at (arrive_from z m k place o).machine.banks b)
-    go None = w
-    go (Some a) = taken a (arrive_cause z m.cache a.slot a.i)

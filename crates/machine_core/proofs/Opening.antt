@@ -1,5 +1,7 @@
 -- The opening machine, and a settled one.
-use Rattle.std.proofs.Common.{◌≡◌, ℕ, zero, suc, ◌+◌, ◌-◌, ◌*◌, ◌/◌, ◌%◌, ◌<◌, ◌≤◌, Bool, true, false, not, ◌||◌, ◌==◌, List, [], ◌∷◌, ◌++◌, map, length, get_or, set, replicate, Option, Some, None, refl, sym, ap, ap₂, ◌∙◌, subst, arith, mod-lt, div-add-mod', flat_map, ext_get_or, le-div_iff_mul-le, zero-add}
+use Rattle.std.proofs.Common.{◌≡◌, ℕ, zero, suc, ◌+◌, ◌-◌, ◌*◌, ◌/◌, ◌%◌, ◌<◌, ◌≤◌, Bool, true, false, not, ◌||◌, ◌==◌, List, [], ◌∷◌}
+use Rattle.std.proofs.Common.{◌++◌, map, length, get_or, replicate, Option, Some, None, option_map, find, refl, sym, ap, ap₂, ◌∙◌, subst, arith}
+use Rattle.std.proofs.Common.{mod-lt, div-add-mod', flat_map, ext_get_or, le-div_iff_mul-le, zero-add}
 use Rattle.std.specs.List.{range_with_len, list_all, list_any}
 use Rattle.std.proofs.lemmas.Bool.{and_parts, not-true}
 use Rattle.std.proofs.lemmas.List.FromFn.{length-map-range_with_len}
@@ -8,20 +10,20 @@ use Rattle.flat_model.specs.declared.Word.{Word}
 use Rattle.flat_model.specs.Words.{merged, zero_word, no_lanes, has_any}
 use Rattle.flat_model.specs.Flat.{word_at}
 use Rattle.memory_banks.specs.Banks.{Bank, no_bank, bank_at, pending, all_pending, words_after, share_of}
-use Rattle.cache_unit.specs.declared.Reply.{Reply}
-use Rattle.cache_unit.specs.State.{Sizes, Frame, Register, zero_cell, empty_frame, free_register, frame_at, frame_of, register_at, is_live, cell_in, cell_of, gathered, targets_of, targets, block_of, place_in}
+use Rattle.cache_unit.specs.State.{Sizes, Frame, Register, zero_cell, empty_frame, free_register, frame_at, frame_of, register_at, is_live}
+use Rattle.cache_unit.specs.State.{cell_in, cell_of, gathered, targets_of, Target, targets, tags, block_of, place_in}
 use Rattle.cache_directory.specs.declared.Cell.{Cell}
 use Rattle.write_queue.specs.Queue.{overlaid}
 use Rattle.machine_core.specs.Law.{IsLawful}
-use Rattle.machine_core.specs.Machine.{Machine, backing, opening, settled, bank_word, flat_due, flat_of}
+use Rattle.machine_core.specs.Machine.{Machine, backing, opening, settled, bank_word, flat_word, flat_word_in, flat_due, flat_of}
+use Rattle.cache_unit.specs.Forms.{target_form, filled_by}
 use Rattle.cache_unit.specs.Views.{is_empty, is_clean}
 use Rattle.cache_unit.specs.Counts.{tally}
 use Rattle.cache_unit.proofs.FormsFetching.{range_at}
 use Rattle.cache_unit.proofs.FormsFinding.{frame_of-none}
 use Rattle.cache_unit.proofs.Made.{all_same}
-use Rattle.machine_core.specs.Sound.{word_now, word_now_in, has_tag, dues, IsSound, wanted}
+use Rattle.machine_core.specs.Sound.{is_for, IsSound, wanted}
 use Rattle.flat_model.proofs.Lanewise.{merged-none, merged_no_lane, has-none}
-use Rattle.machine_core.proofs.Coming.{once_from, kept_from, flat_word-now, flat_due-in, due_in}
 use Rattle.machine_core.proofs.Requests.{mem_length, mem_at}
 
 no_targets : (n k : ℕ) → gathered targets_of k (replicate n free_register) ≡ []
@@ -55,7 +57,8 @@ module _ (z : Sizes) (lawful : IsLawful z) (image : List Word) (fits : length im
   no_live t e = let n : is_live (register_at m0.cache t) ≡ false = ap is_live (free_registers t) in cc
 
   no_order : (s f : ℕ) → list_any (λ g. g == f) (get_or m0.cache.orders s []) ≡ true → ⊥
-  no_order s f e = let n : list_any (λ g. g == f) (get_or m0.cache.orders s []) ≡ false = ap (list_any (λ g. g == f)) (all_same z.sets s []) in cc
+  no_order s f e = let n : list_any (λ g. g == f) (get_or m0.cache.orders s []) ≡ false =
+      ap (list_any (λ g. g == f)) (all_same z.sets s []) in cc
 
   absent : (b : ℕ) → frame_of m0.cache b ≡ None
   absent b = frame_of-none m0.cache b (λ k e. no_block k b e)
@@ -77,18 +80,19 @@ module _ (z : Sizes) (lawful : IsLawful z) (image : List Word) (fits : length im
 
   word_there : (at : ℕ) → at < z.words → word_at (words_after (bank_at m0.banks (at % z.banks))) (at / z.banks) ≡ word_at image at
   word_there at l =
-      ap (λ b. word_at (words_after b) (at / z.banks)) (bank_is (at % z.banks) (mod-lt at lawful.some_banks)) ∙ range_at (λ k. word_at image (k * z.banks + at % z.banks)) zero_word 0 _ (at / z.banks) (place_there at l) ∙ ap (λ k. word_at image (k * z.banks + at % z.banks)) (zero-add (at / z.banks)) ∙ ap (word_at image) (div-add-mod' at z.banks)
+      ap (λ b. word_at (words_after b) (at / z.banks)) (bank_is (at % z.banks) (mod-lt at lawful.some_banks))
+      ∙ range_at (λ k. word_at image (k * z.banks + at % z.banks)) zero_word 0 _ (at / z.banks) (place_there at l)
+      ∙ ap (λ k. word_at image (k * z.banks + at % z.banks)) (zero-add (at / z.banks)) ∙ ap (word_at image) (div-add-mod' at z.banks)
 
-  opening_word : (at : ℕ) → word_now z m0 at ≡ backing z m0 at
-  unfolding word_now
-  opening_word at = ap (word_now_in z m0 at) (absent (block_of z at))
+  opening_word : (at : ℕ) → flat_word z m0 at ≡ backing z m0 at
+  opening_word at = ap (flat_word_in z m0 at) (absent (block_of z at))
 
   pub opening_idle : all_pending m0.banks ≡ []
   opening_idle = no_pending bank_of (range_with_len 0 z.banks) (λ k. refl)
 
-  pub nothing_due : dues m0 ≡ []
-  unfolding dues targets
-  nothing_due = ap (map _) (no_targets z.regs 0)
+  pub nothing_owed : tags m0.cache ≡ []
+  unfolding targets
+  nothing_owed = ap (map _) (no_targets z.regs 0)
 
   pub opening_sound : IsSound z m0
   opening_sound =
@@ -96,28 +100,37 @@ module _ (z : Sizes) (lawful : IsLawful z) (image : List Word) (fits : length im
         frames_apart = λ f g b p q. absurd (no_block f b p);
         live_apart = λ s t p q e. absurd (no_live s p);
         live_present = λ s p. absurd (no_live s p);
-        counted = λ s i. ap (λ ps. tally (Rattle.machine_core.specs.Sound.is_for s i) ps + 0) opening_idle ∙ sym (ap (λ r. wanted z r i) (free_registers s));
-        once = once_from m0 (λ tag. subst (λ ds. tally (has_tag tag) ds ≤ 1) (sym nothing_due) (omega arith));
-        kept = kept_from z m0 (λ at. opening_word at ∙ sym (merged-none (backing z m0 at) zero_word) ∙ ap (λ o. merged (backing z m0 at) (cell_in m0.cache o (place_in z at)).word (cell_in m0.cache o (place_in z at)).dirty) (sym (absent (block_of z at))));
+        counted = λ s i. ap (λ ps. tally (is_for s i) ps + 0) opening_idle ∙ sym (ap (λ r. wanted z r i) (free_registers s));
+        once = λ tag. subst (λ ts. tally (λ t. t == tag) ts ≤ 1) (sym nothing_owed) (omega arith);
+        kept = λ at. opening_word at ∙ sym (merged-none (backing z m0 at) zero_word)
+            ∙ ap (λ o. merged (backing z m0 at) (cell_in m0.cache o (place_in z at)).word (cell_in m0.cache o (place_in z at)).dirty)
+            (sym (absent (block_of z at)));
         whole_frames = λ f b p. absurd (no_block f b p);
         whole_registers = λ s v. absurd (no_valid s v);
         queue_in = tt;
         frames_are = length-replicate (z.sets * z.ways) empty_frame;
-        in_order = record { placed = λ f b p. absurd (no_block f b p); in_set = λ s f p. absurd (no_order s f p); sized = length-replicate z.sets [] };
+        in_order = record {
+          placed = λ f b p. absurd (no_block f b p);
+          in_set = λ s f p. absurd (no_order s f p);
+          sized =
+              length-replicate z.sets [];
+        };
         registers_are = length-replicate z.regs free_register;
         banks_are = length-map-range_with_len bank_of 0 z.banks;
-        banks_hold = λ at l. subst (λ n. at / z.banks < n) (sym (ap (λ (b : Bank). length b.words) (bank_is (at % z.banks) (mod-lt at lawful.some_banks)) ∙ share_length at)) (place_there at l);
+        banks_hold = λ at l. subst (λ n. at / z.banks < n)
+            (sym (ap (λ (b : Bank). length b.words) (bank_is (at % z.banks) (mod-lt at lawful.some_banks)) ∙ share_length at))
+            (place_there at l);
       }
 
   pub opening_is : flat_of z m0 ≡ record { mem = image; due = λ tag. None }
-  unfolding due_in
+  unfolding targets
   opening_is =
-      let mem : (flat_of z m0).mem ≡ image = ext_get_or zero_word (flat_of z m0).mem image (mem_length z m0 ∙ sym fits) (λ k l. let l' : k < z.words = let n = mem_length z m0 in omega arith in mem_at z m0 k l' ∙ flat_word-now z m0 k ∙ opening_word k ∙ word_there k l') in
-      let due : (tag : ℕ) → flat_due m0 tag ≡ None = λ tag. flat_due-in m0 tag ∙ none tag in
+      let mem : (flat_of z m0).mem ≡ image = ext_get_or zero_word (flat_of z m0).mem image (mem_length z m0 ∙ sym fits)
+      (λ k l. let l' : k < z.words = let n = mem_length z m0 in omega arith in mem_at z m0 k l' ∙ opening_word k ∙ word_there k l') in
+      let due : (tag : ℕ) → flat_due m0 tag ≡ None =
+      λ tag. ap (λ ts. option_map (filled_by (all_pending m0.banks))
+      (option_map (target_form m0.cache) (find (λ (t : Target). t.load.tag == tag) ts))) (no_targets z.regs 0) in
       λ i. record { mem = mem i; due = λ tag. due tag i }
-    where
-      none : (tag : ℕ) → due_in (dues m0) tag ≡ None
-      none tag = ap (λ ds. Rattle.std.proofs.Common.option_map (λ (r : Reply). r.word) (Rattle.std.proofs.Common.find (has_tag tag) ds)) nothing_due
 
 -- ---- settled machines
 
@@ -132,20 +145,29 @@ nil_from (x ∷ xs) e = cc
 
 none_dirty : has_any no_lanes ≡ false
 none_dirty =
-    ap₂ (λ x y. x || y) (has-none Rattle.flat_model.specs.Words.Lane0) (ap₂ (λ x y. x || y) (has-none Rattle.flat_model.specs.Words.Lane1) (ap₂ (λ x y. x || y) (has-none Rattle.flat_model.specs.Words.Lane2) (has-none Rattle.flat_model.specs.Words.Lane3)))
+    ap₂ (λ x y. x || y) (has-none Rattle.flat_model.specs.Words.Lane0)
+    (ap₂ (λ x y. x || y) (has-none Rattle.flat_model.specs.Words.Lane1)
+    (ap₂ (λ x y. x || y) (has-none Rattle.flat_model.specs.Words.Lane2) (has-none Rattle.flat_model.specs.Words.Lane3)))
 
-pub settled_ok : (z : Sizes) (m : Machine) → IsSound z m → settled m ≡ true → (at : ℕ) → at < z.words → bank_word z m at ≡ word_at (flat_of z m).mem at
+pub settled_ok : (z : Sizes) (m : Machine) → IsSound z m → settled m ≡ true → (at : ℕ) → at < z.words
+    → bank_word z m at ≡ word_at (flat_of z m).mem at
 settled_ok z m h s at l =
     let r = and_parts (is_clean m.cache) (list_all (λ (b : Bank). is_empty b.queue) m.banks) s in
     let p = and_parts (list_all (λ (x : Register). not x.valid) m.cache.registers) _ r.0 in
     let q = and_parts (list_all (λ (f : Frame). list_all (λ (cell : Cell). not (has_any cell.dirty)) f.cells) m.cache.frames) _ p.1 in
     let queue : m.cache.queue ≡ [] = nil_from m.cache.queue q.1 in
-    let bank : (bank_at m.banks (at % z.banks)).queue ≡ [] = nil_from _ (all_at (λ (b : Bank). is_empty b.queue) no_bank m.banks (at % z.banks) refl r.1) in
-    let base : backing z m at ≡ bank_word z m at = ap₂ (λ qs cs. overlaid (word_at (Rattle.memory_banks.specs.Banks.after (bank_at m.banks (at % z.banks)).words cs) (at / z.banks)) qs at) queue bank in
+    let bank : (bank_at m.banks (at % z.banks)).queue ≡ [] =
+    nil_from _ (all_at (λ (b : Bank). is_empty b.queue) no_bank m.banks (at % z.banks) refl r.1) in
+    let base : backing z m at ≡ bank_word z m at =
+    ap₂ (λ qs cs. overlaid (word_at (Rattle.memory_banks.specs.Banks.after (bank_at m.banks (at % z.banks)).words cs)
+    (at / z.banks)) qs at) queue bank in
     let clean : has_any (cell_of m.cache (block_of z at) (place_in z at)).dirty ≡ false = by_frame (frame_of m.cache (block_of z at)) q.0 in
     sym (mem_at z m at l ∙ h.kept at ∙ merged_no_lane (backing z m at) _ _ clean ∙ base)
   where
-    by_frame : (o : Option ℕ) → list_all (λ (f : Frame). list_all (λ (cell : Cell). not (has_any cell.dirty)) f.cells) m.cache.frames ≡ true → has_any (cell_in m.cache o (place_in z at)).dirty ≡ false
+    by_frame : (o : Option ℕ) → list_all (λ (f : Frame). list_all (λ (cell : Cell). not (has_any cell.dirty)) f.cells) m.cache.frames
+        ≡ true → has_any (cell_in m.cache o (place_in z at)).dirty ≡ false
     by_frame None e = none_dirty
     by_frame (Some f) e =
-        not-true _ (all_at (λ (cell : Cell). not (has_any cell.dirty)) zero_cell (frame_at m.cache f).cells (place_in z at) (ap not none_dirty) (all_at (λ (x : Frame). list_all (λ (cell : Cell). not (has_any cell.dirty)) x.cells) empty_frame m.cache.frames f refl e))
+        not-true _ (all_at (λ (cell : Cell). not (has_any cell.dirty)) zero_cell (frame_at m.cache f).cells (place_in z at)
+        (ap not none_dirty) (all_at (λ (x : Frame). list_all
+        (λ (cell : Cell). not (has_any cell.dirty)) x.cells) empty_frame m.cache.frames f refl e))

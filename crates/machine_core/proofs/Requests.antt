@@ -1,43 +1,51 @@
 -- Loads, stores, prefetches and evictions.
-use Rattle.std.proofs.Common.{◌≡◌, ℕ, zero, suc, ◌+◌, ◌/◌, ◌<◌, ◌≤◌, Bool, true, false, cond, not, ◌&&◌, ◌||◌, ◌==◌, nat_lt, nat_le, List, [], ◌∷◌, ◌++◌, map, length, set, Option, Some, None, option_map, find, is_some, is_none, refl, sym, ap, ap₂, ◌∙◌, subst, arith, ltb-true, lt-ltb, add-zero, div-add-mod', length-append}
-use Rattle.std.specs.List.{range_with_len, list_any, list_all, filter}
-use Rattle.std.proofs.lemmas.Bool.{not-false, leb-false}
+use Rattle.std.proofs.Common.{◌≡◌, ℕ, zero, suc, ◌+◌, ◌/◌, ◌%◌, ◌<◌, ◌≤◌, Bool, true, false, cond, not, ◌&&◌, ◌||◌, ◌==◌, nat_lt, nat_le}
+use Rattle.std.proofs.Common.{List, [], ◌∷◌, map, length, set, Option, Some, None, option_map, find, filter, is_some, is_none, refl, sym}
+use Rattle.std.proofs.Common.{ap, ap₂, ◌∙◌, subst, arith, ⊎_elim, ltb-true, lt-ltb, add-zero, zero-add, eq-eqb, ne_eqb, eqb-true}
+use Rattle.std.proofs.Common.{div-add-mod'}
+use Rattle.std.specs.List.{range_with_len, list_any, list_all}
+use Rattle.std.proofs.lemmas.Bool.{cases_eq, not-false, leb-false}
+use Rattle.std.proofs.lemmas.List.FromFn.{length-map-range_with_len}
 use Rattle.flat_model.specs.declared.Word.{Word}
 use Rattle.flat_model.specs.declared.Lanes.{Lanes}
 use Rattle.flat_model.specs.declared.Cause.{Cause}
-use Rattle.flat_model.specs.declared.Cause.TheVariants.{OutOfRange, NoLanes, TagInUse, RepliesFull, TargetsFull, NoRegister, SetPending, QueueFull, BankFull, NotPresent, StackFull, StrayWord}
+use Rattle.flat_model.specs.declared.Cause.TheVariants.{OutOfRange, NoLanes, TagInUse, RepliesFull, TargetsFull, NoRegister, SetPending}
+use Rattle.flat_model.specs.declared.Cause.TheVariants.{QueueFull, BankFull, NotPresent, StackFull, StrayWord}
 use Rattle.flat_model.specs.declared.Event.{Event}
 use Rattle.flat_model.specs.declared.Event.TheVariants.{Load, Store, Prefetch, Evict}
 use Rattle.flat_model.specs.declared.Answer.TheVariants.{Accepted, Refused}
 use Rattle.flat_model.specs.Words.{merged, has_any, zero_word}
-use Rattle.flat_model.specs.Flat.{word_at, stored, with_due, flat_after, may_answer, load_refusals, store_refusals, prefetch_refusals, number}
+use Rattle.flat_model.specs.Flat.{word_at, stored, with_due, flat_after, may_answer, load_refusals, store_refusals, prefetch_refusals}
+use Rattle.flat_model.specs.Flat.{number}
 use Rattle.flat_model.specs.Ranges.{is_between}
-use Rattle.cache_unit.specs.declared.Reply.{Reply}
-use Rattle.cache_unit.specs.State.{Sizes, Cache, frame_of, is_present, frame_at, live_for, cell_of, tags, targets, block_of, place_in, address, is_pending, Target}
-use Rattle.cache_unit.specs.Causes.{first_cause, ways_of, choose, found, targets_full, is_in_use, miss_causes, lacks_places, lacks_room, dirty_words, dirty_of_block, dirty_from, order_of, load_cause, store_cause, prefetch_cause, evict_cause}
-use Rattle.cache_unit.specs.Steps.{load_step, store_step, prefetch_step, evict_step, Stepped, unless, fetched, fetches, loaded, written, released, evicted, evicted_from, obsoleted, without}
-use Rattle.cache_unit.specs.Counts.{tally}
-use Rattle.cache_unit.proofs.FormsLists.{none_from_find, Adds-length}
+use Rattle.flat_model.proofs.Lanewise.{merged_over}
+use Rattle.memory_banks.specs.declared.BankAnswer.{BankAnswer}
+use Rattle.memory_banks.specs.Banks.{bank_at, words_after, all_pending, room_in}
+use Rattle.write_queue.specs.Queue.{overlaid}
+use Rattle.cache_directory.specs.declared.Cell.{Cell}
+use Rattle.cache_unit.specs.State.{Sizes, Cache, frame_of, is_present, cell_of, tags, block_of, place_in, address, is_pending}
+use Rattle.cache_unit.specs.Causes.{first_cause, ways_of, choose, found, targets_full, is_in_use, miss_causes, lacks_places, lacks_room}
+use Rattle.cache_unit.specs.Causes.{load_cause, store_cause, prefetch_cause, evict_cause}
+use Rattle.cache_unit.specs.Steps.{load_step, store_step, prefetch_step, evict_step, Stepped, unless, fetched, fetches, loaded, written}
+use Rattle.cache_unit.specs.Steps.{evicted_from}
+use Rattle.cache_unit.specs.Forms.{Form, over_form, form as form_of, filled_by, owed}
+use Rattle.cache_unit.specs.FormLaws.{form_at}
+use Rattle.cache_unit.specs.Counts.{tally, bit}
+use Rattle.cache_unit.proofs.FormsLists.{Adds, Adds-tally, Adds-length, tally-filter}
+use Rattle.cache_unit.proofs.FormsSame.{Due, has_tag, dues, due_in, owed-due, dues-tally, tags-dues}
 use Rattle.cache_unit.proofs.FormsChoosing.{Able}
 use Rattle.cache_unit.proofs.FormsFetching.{range_at}
-use Rattle.cache_unit.proofs.Arrive.{is_some-map}
-use Rattle.cache_unit.proofs.FormsFinding.{frame_of-some}
+use Rattle.cache_unit.proofs.FormsRequests.{none-counted}
+use Rattle.cache_unit.proofs.FormsStoring.{Hit, stored-by}
+use Rattle.cache_unit.proofs.FormsLoading.{loaded-by}
 use Rattle.cache_unit.proofs.Tags.{any-map}
 use Rattle.machine_core.specs.Law.{IsLawful}
-use Rattle.machine_core.specs.Machine.{Machine, joined_with, flat_word, flat_due, flat_of}
-use Rattle.memory_banks.specs.Banks.{room_in}
-use Rattle.machine_core.specs.Sound.{has_tag, dues, reply_to, IsSound}
-use Rattle.machine_core.proofs.Coming.{flat_word-now, flat_due-in, due_in}
-use Rattle.machine_core.proofs.Sound.{Same, Kept, KeptBy, flat_of-same}
-use Rattle.machine_core.proofs.Owing.{due_in-added}
-use Rattle.machine_core.proofs.Evicting.{retired, given_up_sound, given_up_same}
-use Rattle.machine_core.proofs.Loading.{load_hit}
-use Rattle.machine_core.proofs.Storing.{store_hit}
-use Rattle.machine_core.proofs.Orders.{InOrder-released}
-use Rattle.machine_core.proofs.Fetching.{fetched_machine, FetchedBy, fetch_ok}
-use Rattle.std.proofs.lemmas.List.{length-map}
-use Rattle.std.proofs.lemmas.List.FromFn.{length-map-range_with_len}
-use Rattle.std.proofs.lemmas.List.Folds.{list_any-append}
+use Rattle.machine_core.specs.Machine.{Machine, backing, joined_with, flat_word, flat_due, flat_of}
+use Rattle.machine_core.specs.Sound.{IsSound}
+use Rattle.machine_core.proofs.FromForms.{filled-over, word_from, flat_word-form, word_same, form_present, flat_of-same, Kept, KeptBy}
+use Rattle.machine_core.proofs.Units.{bit-le, kept_word, kept_same, cell_frames, sound_beside}
+use Rattle.machine_core.proofs.Evicting.{gone, gone_same, gone_sound, gone_tags}
+use Rattle.machine_core.proofs.Fetching.{fetched_machine, FetchedBy, fetch_ok, fetched_hit}
 
 -- ---- memory as a list
 
@@ -48,7 +56,8 @@ pub mem_at : (z : Sizes) (m : Machine) (at : ℕ) → at < z.words → word_at (
 mem_at z m at l = range_at (flat_word z m) zero_word 0 z.words at l ∙ ap (flat_word z m) (omega arith)
 
 -- a list made from numbers, of which one has another value
-range_set : (f g : ℕ → Word) (a n k : ℕ) → ((j : ℕ) → (j ≡ a + k → ⊥) → g j ≡ f j) → k < n → map g (range_with_len a n) ≡ set (map f (range_with_len a n)) k (g (a + k))
+range_set : (f g : ℕ → Word) (a n k : ℕ) → ((j : ℕ) → (j ≡ a + k → ⊥) → g j ≡ f j) → k < n
+    → map g (range_with_len a n) ≡ set (map f (range_with_len a n)) k (g (a + k))
 range_set f g a zero k others l = absurd (omega arith)
 range_set f g a (suc n) zero others l =
     ap₂ (λ (x : Word) xs. x ∷ xs) (ap g (sym (add-zero a))) (rest (a + 1) n (omega arith))
@@ -58,49 +67,62 @@ range_set f g a (suc n) zero others l =
     rest b (suc c) q = ap₂ (λ (x : Word) xs. x ∷ xs) (others b (λ e. omega arith)) (rest (b + 1) c (omega arith))
 range_set f g a (suc n) (suc k) others l =
     let e : a + 1 + k ≡ a + suc k = omega arith in
-    ap₂ (λ (x : Word) xs. x ∷ xs) (others a (λ q. omega arith)) (range_set f g (a + 1) n k (λ j ne. others j (λ q. ne (q ∙ sym e))) (omega arith) ∙ ap (λ x. set (map f (range_with_len (a + 1) n)) k (g x)) e)
+    ap₂ (λ (x : Word) xs. x ∷ xs) (others a (λ q. omega arith))
+    (range_set f g (a + 1) n k (λ j ne. others j (λ q. ne (q ∙ sym e))) (omega arith)
+    ∙ ap (λ x. set (map f (range_with_len (a + 1) n)) k (g x)) e)
 
 -- ---- refusals
 
 -- a refusal that may come changes nothing
-refusal : (z : Sizes) (m : Machine) (event : Event) (cause : Cause) → IsSound z m → may_answer (flat_of z m) event (Refused cause) ≡ true → flat_after (flat_of z m) event (Refused cause) ≡ flat_of z m → KeptBy z m event (record { answer = Refused cause; machine = m })
+refusal : (z : Sizes) (m : Machine) (event : Event) (cause : Cause) → IsSound z m → may_answer (flat_of z m) event (Refused cause) ≡ true
+    → flat_after (flat_of z m) event (Refused cause) ≡ flat_of z m → KeptBy z m event (record { answer = Refused cause; machine = m })
 refusal z m event cause h may stays =
-    record { sound = h; run = ap (λ b. cond b (Some (flat_after (flat_of z m) event (Refused cause))) None) may ∙ ap Some stays; few = λ l. l }
+    record {
+      sound = h;
+      run = ap (λ b. cond b (Some (flat_after (flat_of z m) event (Refused cause))) None) may
+          ∙ ap Some stays;
+      few = λ l. l;
+    }
 
 -- ---- tags
 
-any-find : {X : Type 0} (p : X → Bool) (xs : List X) → list_any p xs ≡ is_some (find p xs)
-any-find p [] = refl
-any-find p (x ∷ xs) = elim (p x) as (λ b. (b || list_any p xs) ≡ is_some (cond b (Some x) (find p xs))) [ true ↦ refl | false ↦ any-find p xs ]
-
-in_use_is : (m : Machine) (tag : ℕ) → is_in_use m.cache tag ≡ is_some (due_in (dues m) tag)
-unfolding due_in dues
-in_use_is m tag =
-    list_any-append (λ t. t == tag) (map (λ r. r.tag) m.cache.ready) _ ∙ ap₂ (λ x y. x || y) (any-map (λ t. t == tag) (λ (r : Reply). r.tag) m.cache.ready) (any-map (λ t. t == tag) (λ t. t.load.tag) (targets m.cache.registers) ∙ sym (any-map (has_tag tag) (reply_to m) (targets m.cache.registers))) ∙ sym (list_any-append (has_tag tag) m.cache.ready (map (reply_to m) (targets m.cache.registers))) ∙ any-find (has_tag tag) (m.cache.ready ++ map (reply_to m) (targets m.cache.registers)) ∙ sym (is_some-map (λ (r : Reply). r.word) (find (has_tag tag) (m.cache.ready ++ map (reply_to m) (targets m.cache.registers))))
-
-not_due : (replies : List Reply) (tag : ℕ) → is_some (due_in replies tag) ≡ false → tally (has_tag tag) replies ≡ 0
-unfolding due_in
-not_due replies tag e = none_from_find (has_tag tag) replies (go (find (has_tag tag) replies) e)
-  where
-    go : (o : Option Reply) → is_some (option_map (λ (r : Reply). r.word) o) ≡ false → o ≡ None
-    go None q = refl
-    go (Some r) q = cc
-
--- as many tags are awaited and ready as values are owed
-pub tags_dues : (m : Machine) → length (tags m.cache) ≡ length (dues m)
-unfolding dues
-tags_dues m =
-    length-append (map (λ (r : Reply). r.tag) m.cache.ready) _ ∙ ap₂ (λ x y. x + y) (length-map m.cache.ready (λ (r : Reply). r.tag)) (length-map (targets m.cache.registers) (λ (t : Target). t.load.tag) ∙ sym (length-map (targets m.cache.registers) (reply_to m))) ∙ sym (length-append m.cache.ready (map (reply_to m) (targets m.cache.registers)))
-
+-- a tag is in use where it is owed a word
 pub flat_in_use : (m : Machine) (tag : ℕ) → not (is_none (flat_due m tag)) ≡ is_in_use m.cache tag
-flat_in_use m tag = ap (λ o. not (is_none o)) (flat_due-in m tag) ∙ twice (is_some (due_in (dues m) tag)) ∙ sym (in_use_is m tag)
+unfolding due_in
+flat_in_use m tag =
+    ap (λ o. not (is_none (option_map (filled_by (all_pending m.banks)) o))) (owed-due m.cache tag)
+    ∙ owing (find (has_tag tag) (dues m.cache))
+    ∙ sym (any-find (has_tag tag) (dues m.cache)) ∙ sym (any-map (λ t. t == tag) (λ (d : Due). d.tag) (dues m.cache))
+    ∙ ap (list_any (λ t. t == tag)) (tags-dues m.cache)
   where
-    twice : (b : Bool) → not (not b) ≡ b
-    twice true = refl
-    twice false = refl
+    owing : (o : Option Due) → not (is_none (option_map (filled_by (all_pending m.banks)) (option_map (λ (d : Due). d.form) o))) ≡ is_some o
+    owing None = refl
+    owing (Some d) = refl
+
+    any-find : {X : Type 0} (p : X → Bool) (xs : List X) → list_any p xs ≡ is_some (find p xs)
+    any-find p [] = refl
+    any-find p (x ∷ xs) = elim (p x) as (λ b. (b || list_any p xs) ≡ is_some (cond b (Some x) (find p xs)))
+        [ true ↦ refl | false ↦ any-find p xs ]
 
 flat_not_due : (m : Machine) (tag : ℕ) → is_in_use m.cache tag ≡ false → is_none (flat_due m tag) ≡ true
 flat_not_due m tag e = not-false (is_none (flat_due m tag)) (flat_in_use m tag ∙ e)
+
+-- no tag is owed twice, where a new one is added
+once_more : (tag : ℕ) (xs ys : List ℕ) → Adds tag xs ys → tally (λ t. t == tag) xs ≡ 0 → ((t : ℕ) → tally (λ x. x == t) xs ≤ 1) → (t : ℕ)
+    → tally (λ x. x == t) ys ≤ 1
+once_more tag xs ys more none once t = go (tag == t) refl
+  where
+    go : (b : Bool) → (tag == t) ≡ b → tally (λ x. x == t) ys ≤ 1
+    go true e =
+        let n = Adds-tally (λ x. x == t) tag xs ys more in
+        let k = subst (λ u. tally (λ x. x == u) xs ≡ 0) (eqb-true tag t e) none in
+        let one = bit-le (tag == t) in
+        omega arith
+    go false e =
+        let n = Adds-tally (λ x. x == t) tag xs ys more in
+        let no : bit (tag == t) ≡ 0 = ap bit e in
+        let k = once t in
+        omega arith
 
 -- ---- the causes of a miss
 
@@ -111,10 +133,19 @@ starts_in z at l = let e = div-add-mod' at z.block_words in omega arith
 -- ---- requests
 
 -- the event is kept, whichever of a miss's causes holds, if there is one; `go_on` is the case of none
-miss_or : (z : Sizes) (m : Machine) (block : ℕ) (event : Event) (step : Stepped) → IsSound z m → ((cause : Cause) → is_between (number cause) 7 10 ≡ true → KeptBy z m event (record { answer = Refused cause; machine = m })) → (Able z m.cache block → KeptBy z m event (joined_with m.banks step)) → KeptBy z m event (joined_with m.banks (unless (first_cause (miss_causes z (room_in z.bank_queue m.banks) m.cache block)) m.cache step))
-miss_or z m block event step h refuse go_on = go (length (filter (λ r. r.valid) m.cache.registers) == z.regs) refl (list_all (is_pending m.cache) (ways_of z block)) refl (lacks_places z m.cache (choose z m.cache block)) (lacks_room z (room_in z.bank_queue m.banks) block)
+miss_or : (z : Sizes) (m : Machine) (block : ℕ) (event : Event) (step : Stepped) → IsSound z m
+    → ((cause : Cause) → is_between (number cause) 7 10 ≡ true → KeptBy z m event (record { answer = Refused cause; machine = m }))
+    → (Able z m.cache block → KeptBy z m event (joined_with m.banks step))
+    → KeptBy z m event (joined_with m.banks (unless
+    (first_cause (miss_causes z (room_in z.bank_queue m.banks) m.cache block)) m.cache step))
+miss_or z m block event step h refuse go_on =
+    go (length (filter (λ r. r.valid) m.cache.registers) == z.regs) refl (list_all (is_pending m.cache) (ways_of z block)) refl
+    (lacks_places z m.cache (choose z m.cache block)) (lacks_room z (room_in z.bank_queue m.banks) block)
   where
-    go : (a : Bool) → (length (filter (λ r. r.valid) m.cache.registers) == z.regs) ≡ a → (b : Bool) → list_all (is_pending m.cache) (ways_of z block) ≡ b → (c d : Bool) → KeptBy z m event (joined_with m.banks (unless (cond a (Some NoRegister) (cond b (Some SetPending) (cond c (Some QueueFull) (cond d (Some BankFull) None)))) m.cache step))
+    go : (a : Bool) → (length (filter (λ r. r.valid) m.cache.registers) == z.regs) ≡ a → (b : Bool)
+        → list_all (is_pending m.cache) (ways_of z block) ≡ b → (c d : Bool)
+        → KeptBy z m event (joined_with m.banks (unless
+        (cond a (Some NoRegister) (cond b (Some SetPending) (cond c (Some QueueFull) (cond d (Some BankFull) None)))) m.cache step))
     go true p b q c d = refuse NoRegister refl
     go false p true q c d = refuse SetPending refl
     go false p false q true d = refuse QueueFull refl
@@ -124,34 +155,69 @@ miss_or z m block event step h refuse go_on = go (length (filter (λ r. r.valid)
 module _ (z : Sizes) (lawful : IsLawful z) (m : Machine) (h : IsSound z m) where
   -- ---- loads
 
-  accept_load : (tag at : ℕ) → at < z.words → is_in_use m.cache tag ≡ false → length (dues m) < z.replies → (m2 : Machine) → FetchedBy z m (block_of z at) m2 → KeptBy z m (Load tag at) (record { answer = Accepted; machine = record { cache = loaded m2.cache tag (place_in z at) (cell_of m2.cache (block_of z at) (place_in z at)).word (found m2.cache (block_of z at) (place_in z at)); banks = m2.banks } })
-  accept_load tag at l unused room m2 f =
-      let free : is_some (due_in (dues m2) tag) ≡ false = ap is_some (f.same.owing tag) ∙ sym (in_use_is m tag) ∙ unused in
-      let fresh = not_due (dues m2) tag free in
-      let by = load_hit z lawful m2 f.sound tag at fresh f.frame f.present in
-      let m3 : Machine = record { cache = loaded m2.cache tag (place_in z at) (cell_of m2.cache (block_of z at) (place_in z at)).word (found m2.cache (block_of z at) (place_in z at)); banks = m2.banks } in
-      let word : by.word ≡ word_at (flat_of z m).mem at = by.right ∙ f.same.words at ∙ sym (flat_word-now z m at) ∙ sym (mem_at z m at l) in
-      let words : (a : ℕ) → flat_word z m3 a ≡ flat_word z m a = λ a. flat_word-now z m3 a ∙ by.words a ∙ f.same.words a ∙ sym (flat_word-now z m a) in
-      let gained : (t : ℕ) → flat_due m3 t ≡ with_due (flat_due m) tag (Some (word_at (flat_of z m).mem at)) t = λ t. flat_due-in m3 t ∙ due_in-added (record { tag = tag; word = by.word }) (dues m2) (dues m3) by.more fresh t ∙ ap₂ (λ o d. cond (t == tag) (Some o) d) word (f.same.owing t ∙ sym (flat_due-in m t)) in
-      let after : flat_after (flat_of z m) (Load tag at) Accepted ≡ flat_of z m3 = λ i. record { mem = map (λ a. sym (words a) i) (range_with_len 0 z.words); due = λ t. sym (gained t) i } in
-      let may : may_answer (flat_of z m) (Load tag at) Accepted ≡ true = ap₂ (λ x y. nat_lt at x && y) (mem_length z m) (flat_not_due m tag unused) ∙ ap (λ b. b && true) (lt-ltb at z.words l) in
+  accept_load : (tag at : ℕ) → at < z.words → is_in_use m.cache tag ≡ false → length (tags m.cache) < z.replies → (m2 : Machine)
+      → FetchedBy z m (block_of z at) m2 → Hit z m2.cache (block_of z at)
+      → KeptBy z m (Load tag at) (record {
+        answer = Accepted;
+        machine =
+            record {
+              cache = loaded m2.cache tag (place_in z at) (cell_of m2.cache (block_of z at) (place_in z at)).word
+                  (found m2.cache (block_of z at) (place_in z at));
+              banks = m2.banks;
+            };
+      })
+  accept_load tag at l unused room m2 f hit =
+      let c = m2.cache in
+      let ps = all_pending m2.banks in
+      let none : length (filter (λ t. t == tag) (tags c)) ≡ 0 = ap (λ ts. length (filter (λ t. t == tag) ts)) f.same_tags
+      ∙ none-counted (λ t. t == tag) (tags m.cache) unused in
+      let by = loaded-by z lawful.some_words c tag at hit (dues-tally c tag ∙ none) in
+      let m3 : Machine = record {
+        cache = loaded c tag (place_in z at) (cell_of c (block_of z at) (place_in z at)).word
+            (found c (block_of z at) (place_in z at));
+        banks = m2.banks;
+      } in
+      let back : (a : ℕ) → backing z m3 a ≡ backing z m2 a =
+      λ a. ap (λ q. overlaid (word_at (words_after (bank_at m2.banks (a % z.banks))) (a / z.banks)) q a) by.beside.queue in
+      let words : (a : ℕ) → flat_word z m3 a ≡ flat_word z m2 a = λ a. word_same z m2 m3 a (by.words a) refl (back a) in
+      let form = form_present z c at hit.frame hit.present in
+      let told : option_map (filled_by ps) (form_at z c at) ≡ Some (word_at (flat_of z m).mem at) = ap (option_map (filled_by ps)) form
+      ∙ ap (λ o. Some (word_from ps (backing z m2 at) o)) (sym form)
+      ∙ ap Some (sym (flat_word-form z m2 at) ∙ f.same.words at ∙ sym (mem_at z m at l)) in
+      let gained : (t : ℕ) → flat_due m3 t ≡ with_due (flat_due m) tag (Some (word_at (flat_of z m).mem at)) t =
+      λ t. ap (option_map (filled_by ps)) (by.owing t) ∙ but ps (t == tag) (form_at z c at) (owed c t)
+      ∙ ap₂ (λ o d. cond (t == tag) o d) told (f.same.owing t) in
+      let after : flat_after (flat_of z m) (Load tag at) Accepted ≡ flat_of z m3 =
+      λ i. record { mem = map (λ a. sym (words a ∙ f.same.words a) i) (range_with_len 0 z.words); due = λ t. sym (gained t) i } in
+      let may : may_answer (flat_of z m) (Load tag at) Accepted ≡ true =
+      ap₂ (λ x y. nat_lt at x && y) (mem_length z m) (flat_not_due m tag unused) ∙ ap (λ b. b && true) (lt-ltb at z.words l) in
+      let once = once_more tag (tags c) (tags m3.cache) by.more (sym (tally-filter (λ t. t == tag) (tags c)) ∙ none) f.sound.once in
       record {
-        sound = by.sound;
+        sound = sound_beside z m2 m3.cache f.sound by.beside once
+            (λ a. kept_same z m2 m3 f.sound a (words a) (cell_frames c m3.cache by.frames (block_of z a) (place_in z a)) (back a));
         run = ap (λ b. cond b (Some (flat_after (flat_of z m) (Load tag at) Accepted)) None) may ∙ ap Some after;
-        few = λ q. (let k = Adds-length (record { tag = tag; word = by.word }) (dues m2) (dues m3) by.more in let s = f.same.as_many in omega arith);
+        few = λ q. (let k = Adds-length tag (tags c) (tags m3.cache) by.more in let s = ap length f.same_tags in omega arith);
       }
+    where
+      but : (ps : List BankAnswer) (b : Bool) (x y : Option Form)
+          → option_map (filled_by ps) (cond b x y) ≡ cond b (option_map (filled_by ps) x) (option_map (filled_by ps) y)
+      but ps true x y = refl
+      but ps false x y = refl
 
-  load_may : (tag at : ℕ) (cause : Cause) (x y : Bool) → nat_lt at z.words ≡ x → is_in_use m.cache tag ≡ y → load_refusals x y cause ≡ true → may_answer (flat_of z m) (Load tag at) (Refused cause) ≡ true
+  load_may : (tag at : ℕ) (cause : Cause) (x y : Bool) → nat_lt at z.words ≡ x → is_in_use m.cache tag ≡ y
+      → load_refusals x y cause ≡ true → may_answer (flat_of z m) (Load tag at) (Refused cause) ≡ true
   load_may tag at cause x y p q e =
       ap₂ (λ a b. load_refusals a b cause) (ap (nat_lt at) (mem_length z m) ∙ p) (flat_in_use m tag ∙ q) ∙ e
 
-  refuse_load : (tag at : ℕ) (cause : Cause) (x y : Bool) → nat_lt at z.words ≡ x → is_in_use m.cache tag ≡ y → load_refusals x y cause ≡ true → KeptBy z m (Load tag at) (record { answer = Refused cause; machine = m })
+  refuse_load : (tag at : ℕ) (cause : Cause) (x y : Bool) → nat_lt at z.words ≡ x → is_in_use m.cache tag ≡ y
+      → load_refusals x y cause ≡ true → KeptBy z m (Load tag at) (record { answer = Refused cause; machine = m })
   refuse_load tag at cause x y p q e = refusal z m (Load tag at) cause h (load_may tag at cause x y p q e) refl
 
   pub load_ok : (tag at : ℕ) → Kept z m (Load tag at)
   unfolding load_step load_cause
   load_ok tag at =
-      go (nat_lt at z.words) refl (is_in_use m.cache tag) refl (nat_le z.replies (length (tags m.cache))) refl (is_present m.cache (block_of z at)) refl
+      go (nat_lt at z.words) refl (is_in_use m.cache tag) refl (nat_le z.replies (length (tags m.cache))) refl
+      (is_present m.cache (block_of z at)) refl
     where
       block : ℕ
       block = block_of z at
@@ -163,13 +229,18 @@ module _ (z : Sizes) (lawful : IsLawful z) (m : Machine) (h : IsSound z m) where
       step =
           record {
             answer = Accepted;
-            cache = loaded (fetched z m.cache (block_of z at)) tag (place_in z at) (cell_of (fetched z m.cache (block_of z at)) (block_of z at) (place_in z at)).word (found (fetched z m.cache (block_of z at)) (block_of z at) (place_in z at));
+            cache = loaded (fetched z m.cache (block_of z at)) tag (place_in z at)
+                (cell_of (fetched z m.cache (block_of z at)) (block_of z at) (place_in z at)).word
+                (found (fetched z m.cache (block_of z at)) (block_of z at) (place_in z at));
             sent = fetches z m.cache (block_of z at);
           }
 
-      accept : at < z.words → is_in_use m.cache tag ≡ false → nat_le z.replies (length (tags m.cache)) ≡ false → (is_present m.cache (block_of z at) ≡ false → Able z m.cache (block_of z at)) → KeptBy z m (Load tag at) (joined_with m.banks step)
+      accept : at < z.words → is_in_use m.cache tag ≡ false → nat_le z.replies (length (tags m.cache)) ≡ false
+          → (is_present m.cache (block_of z at) ≡ false → Able z m.cache (block_of z at))
+          → KeptBy z m (Load tag at) (joined_with m.banks step)
       accept l u r able =
-          accept_load tag at l u (subst (λ n. n < z.replies) (tags_dues m) (leb-false z.replies (length (tags m.cache)) r)) (fetched_machine z m (block_of z at)) (fetch_ok z lawful m h (block_of z at) (starts_in z at l) able)
+          accept_load tag at l u (leb-false z.replies (length (tags m.cache)) r) (fetched_machine z m (block_of z at))
+          (fetch_ok z lawful m h (block_of z at) (starts_in z at l) able) (fetched_hit z lawful m h (block_of z at) able)
 
       four : Bool
       four = targets_full m.cache (place_in z at) (found m.cache (block_of z at) (place_in z at))
@@ -183,16 +254,26 @@ module _ (z : Sizes) (lawful : IsLawful z) (m : Machine) (h : IsSound z m) where
       between StrayWord e = cc
       between _ e = refl
 
-      present_or : at < z.words → nat_lt at z.words ≡ true → is_in_use m.cache tag ≡ false → nat_le z.replies (length (tags m.cache)) ≡ false → (b : Bool) → is_present m.cache (block_of z at) ≡ b → KeptBy z m (Load tag at) (joined_with m.banks (unless (first_cause (cond b ((four, TargetsFull) ∷ []) (miss_causes z (room_in z.bank_queue m.banks) m.cache (block_of z at)))) m.cache step))
+      present_or : at < z.words → nat_lt at z.words ≡ true → is_in_use m.cache tag ≡ false
+          → nat_le z.replies (length (tags m.cache)) ≡ false → (b : Bool) → is_present m.cache (block_of z at) ≡ b
+          → KeptBy z m (Load tag at) (joined_with m.banks
+          (unless (first_cause (cond b ((four, TargetsFull) ∷ [])
+          (miss_causes z (room_in z.bank_queue m.banks) m.cache (block_of z at)))) m.cache step))
       present_or l p u r true e = by_four four
         where
           by_four : (y : Bool) → KeptBy z m (Load tag at) (joined_with m.banks (unless (cond y (Some TargetsFull) None) m.cache step))
           by_four true = refuse_load tag at TargetsFull true false p u refl
           by_four false = accept l u r (λ q. cc)
       present_or l p u r false e =
-          miss_or z m (block_of z at) (Load tag at) step h (λ cause q. refuse_load tag at cause true false p u (between cause q)) (λ able. accept l u r (λ q. able))
+          miss_or z m (block_of z at) (Load tag at) step h (λ cause q. refuse_load tag at cause true false p u (between cause q))
+          (λ able. accept l u r (λ q. able))
 
-      go : (x : Bool) → nat_lt at z.words ≡ x → (y : Bool) → is_in_use m.cache tag ≡ y → (v : Bool) → nat_le z.replies (length (tags m.cache)) ≡ v → (b : Bool) → is_present m.cache (block_of z at) ≡ b → KeptBy z m (Load tag at) (joined_with m.banks (unless (cond (not x) (Some OutOfRange) (cond y (Some TagInUse) (cond v (Some RepliesFull) (first_cause (cond b ((four, TargetsFull) ∷ []) (miss_causes z (room_in z.bank_queue m.banks) m.cache (block_of z at))))))) m.cache step))
+      go : (x : Bool) → nat_lt at z.words ≡ x → (y : Bool) → is_in_use m.cache tag ≡ y → (v : Bool)
+          → nat_le z.replies (length (tags m.cache)) ≡ v → (b : Bool) → is_present m.cache (block_of z at) ≡ b
+          → KeptBy z m (Load tag at) (joined_with m.banks
+          (unless (cond (not x) (Some OutOfRange) (cond y (Some TagInUse)
+          (cond v (Some RepliesFull) (first_cause (cond b ((four, TargetsFull) ∷ [])
+          (miss_causes z (room_in z.bank_queue m.banks) m.cache (block_of z at))))))) m.cache step))
       go false p y q v r b e = refuse_load tag at OutOfRange false y p q refl
       go true p true q v r b e = refuse_load tag at TagInUse true true p q refl
       go true p false q true r b e = refuse_load tag at RepliesFull true false p q refl
@@ -200,23 +281,58 @@ module _ (z : Sizes) (lawful : IsLawful z) (m : Machine) (h : IsSound z m) where
 
   -- ---- stores
 
-  accept_store : (at : ℕ) (word : Word) (lanes : Lanes) → at < z.words → has_any lanes ≡ true → (m2 : Machine) → FetchedBy z m (block_of z at) m2 → KeptBy z m (Store at word lanes) (record { answer = Accepted; machine = record { cache = written m2.cache (block_of z at) (place_in z at) word lanes; banks = m2.banks } })
-  accept_store at word lanes l any m2 f =
-      let by = store_hit z lawful m2 f.sound at word lanes f.frame f.present in
-      let m3 : Machine = record { cache = written m2.cache (block_of z at) (place_in z at) word lanes; banks = m2.banks } in
-      let others : (j : ℕ) → (j ≡ 0 + at → ⊥) → flat_word z m3 j ≡ flat_word z m j = λ j n. flat_word-now z m3 j ∙ by.others j (λ q. n (q ∙ sym (Rattle.std.proofs.Common.zero-add at))) ∙ f.same.words j ∙ sym (flat_word-now z m j) in
-      let there : flat_word z m3 (0 + at) ≡ merged (word_at (flat_of z m).mem at) word lanes = ap (flat_word z m3) (Rattle.std.proofs.Common.zero-add at) ∙ flat_word-now z m3 at ∙ by.there ∙ ap (λ u. merged u word lanes) (f.same.words at ∙ sym (flat_word-now z m at) ∙ sym (mem_at z m at l)) in
-      let mem : map (flat_word z m3) (range_with_len 0 z.words) ≡ stored (flat_of z m).mem at word lanes = range_set (flat_word z m) (flat_word z m3) 0 z.words at others l ∙ ap (set (flat_of z m).mem at) there in
-      let owing : (t : ℕ) → flat_due m3 t ≡ flat_due m t = λ t. flat_due-in m3 t ∙ ap (λ ds. due_in ds t) by.owing ∙ f.same.owing t ∙ sym (flat_due-in m t) in
-      let after : flat_after (flat_of z m) (Store at word lanes) Accepted ≡ flat_of z m3 = λ i. record { mem = sym mem i; due = λ t. sym (owing t) i } in
-      let may : may_answer (flat_of z m) (Store at word lanes) Accepted ≡ true = ap₂ (λ x y. nat_lt at x && y) (mem_length z m) any ∙ ap (λ b. b && true) (lt-ltb at z.words l) in
+  accept_store : (at : ℕ) (word : Word) (lanes : Lanes) → at < z.words → has_any lanes ≡ true → (m2 : Machine)
+      → FetchedBy z m (block_of z at) m2 → Hit z m2.cache (block_of z at)
+      → KeptBy z m (Store at word lanes) (record {
+        answer = Accepted;
+        machine =
+            record { cache = written m2.cache (block_of z at) (place_in z at) word lanes; banks = m2.banks };
+      })
+  accept_store at word lanes l any m2 f hit =
+      let c = m2.cache in
+      let ps = all_pending m2.banks in
+      let by = stored-by z lawful.some_words c at hit word lanes in
+      let m3 : Machine = record { cache = written c (block_of z at) (place_in z at) word lanes; banks = m2.banks } in
+      let back : (a : ℕ) → backing z m3 a ≡ backing z m2 a =
+      λ a. ap (λ q. overlaid (word_at (words_after (bank_at m2.banks (a % z.banks))) (a / z.banks)) q a) by.beside.queue in
+      let over = option_map (over_form lanes word) (form_at z c at) in
+      let others : (a : ℕ) → (a ≡ at → ⊥) → flat_word z m3 a ≡ flat_word z m2 a =
+      λ a n. word_same z m2 m3 a (by.words a ∙ ap (λ b. cond b over (form_at z c a)) (ne_eqb a at n)) refl (back a) in
+      let form = form_present z c at hit.frame hit.present in
+      let was : flat_word z m2 at ≡ filled_by ps (form_of c (block_of z at) (place_in z at)) = flat_word-form z m2 at
+      ∙ ap (word_from ps (backing z m2 at)) form in
+      let there : flat_word z m3 at ≡ merged (flat_word z m2 at) word lanes = flat_word-form z m3 at
+      ∙ ap (word_from ps (backing z m3 at)) (by.words at ∙ ap (λ b. cond b over (form_at z c at)) (eq-eqb at at refl)
+      ∙ ap (option_map (over_form lanes word)) form) ∙ filled-over ps lanes word (form_of c (block_of z at) (place_in z at))
+      ∙ ap (λ u. merged u word lanes) (sym was) in
+      let old = cell_of c (block_of z at) (place_in z at) in
+      let kept_at : flat_word z m3 at ≡ kept_word z m3 at = there ∙ ap (λ u. merged u word lanes) (f.sound.kept at)
+      ∙ sym (merged_over (backing z m2 at) old.word word old.dirty lanes)
+      ∙ ap₂ (λ w (x : Cell). merged w x.word x.dirty) (sym (back at)) (sym by.cell) in
+      let kept : (a : ℕ) → flat_word z m3 a ≡ kept_word z m3 a =
+      λ a. ⊎_elim (λ e. subst (λ x. flat_word z m3 x ≡ kept_word z m3 x) (sym e) kept_at)
+      (λ n. kept_same z m2 m3 f.sound a (others a n) (by.cells a n) (back a)) (cases_eq a at) in
+      let mem_there : flat_word z m3 (0 + at) ≡ merged (word_at (flat_of z m).mem at) word lanes = ap (flat_word z m3) (zero-add at)
+      ∙ there ∙ ap (λ u. merged u word lanes) (f.same.words at ∙ sym (mem_at z m at l)) in
+      let mem_other : (j : ℕ) → (j ≡ 0 + at → ⊥) → flat_word z m3 j ≡ flat_word z m j = λ j n. others j (λ q. n (q ∙ sym (zero-add at)))
+      ∙ f.same.words j in
+      let mem : map (flat_word z m3) (range_with_len 0 z.words) ≡ stored (flat_of z m).mem at word lanes =
+      range_set (flat_word z m) (flat_word z m3) 0 z.words at mem_other l ∙ ap (set (flat_of z m).mem at) mem_there in
+      let owing : (t : ℕ) → flat_due m3 t ≡ flat_due m t = λ t. ap (option_map (filled_by ps)) (by.owing t) ∙ f.same.owing t in
+      let after : flat_after (flat_of z m) (Store at word lanes) Accepted ≡ flat_of z m3 =
+      λ i. record { mem = sym mem i; due = λ t. sym (owing t) i } in
+      let may : may_answer (flat_of z m) (Store at word lanes) Accepted ≡ true = ap₂ (λ x y. nat_lt at x && y) (mem_length z m) any
+      ∙ ap (λ b. b && true) (lt-ltb at z.words l) in
+      let same_tags : tags m3.cache ≡ tags m.cache = by.same_tags ∙ f.same_tags in
       record {
-        sound = by.sound;
+        sound = sound_beside z m2 m3.cache f.sound by.beside
+            (λ tag. subst (λ ts. tally (λ t. t == tag) ts ≤ 1) (sym by.same_tags) (f.sound.once tag)) kept;
         run = ap (λ b. cond b (Some (flat_after (flat_of z m) (Store at word lanes) Accepted)) None) may ∙ ap Some after;
-        few = λ q. (let k = ap length by.owing in let s = f.same.as_many in omega arith);
+        few = λ q. subst (λ ts. length ts ≤ z.replies) (sym same_tags) q;
       }
 
-  refuse_store : (at : ℕ) (word : Word) (lanes : Lanes) (cause : Cause) (x y : Bool) → nat_lt at z.words ≡ x → has_any lanes ≡ y → store_refusals x y cause ≡ true → KeptBy z m (Store at word lanes) (record { answer = Refused cause; machine = m })
+  refuse_store : (at : ℕ) (word : Word) (lanes : Lanes) (cause : Cause) (x y : Bool) → nat_lt at z.words ≡ x → has_any lanes ≡ y
+      → store_refusals x y cause ≡ true → KeptBy z m (Store at word lanes) (record { answer = Refused cause; machine = m })
   refuse_store at word lanes cause x y p q e =
       refusal z m (Store at word lanes) cause h (ap₂ (λ a b. store_refusals a b cause) (ap (nat_lt at) (mem_length z m) ∙ p) q ∙ e) refl
 
@@ -232,9 +348,11 @@ module _ (z : Sizes) (lawful : IsLawful z) (m : Machine) (h : IsSound z m) where
             sent = fetches z m.cache (block_of z at);
           }
 
-      accept : at < z.words → has_any lanes ≡ true → (is_present m.cache (block_of z at) ≡ false → Able z m.cache (block_of z at)) → KeptBy z m (Store at word lanes) (joined_with m.banks step)
+      accept : at < z.words → has_any lanes ≡ true → (is_present m.cache (block_of z at) ≡ false → Able z m.cache (block_of z at))
+          → KeptBy z m (Store at word lanes) (joined_with m.banks step)
       accept l u able =
-          accept_store at word lanes l u (fetched_machine z m (block_of z at)) (fetch_ok z lawful m h (block_of z at) (starts_in z at l) able)
+          accept_store at word lanes l u (fetched_machine z m (block_of z at))
+          (fetch_ok z lawful m h (block_of z at) (starts_in z at l) able) (fetched_hit z lawful m h (block_of z at) able)
 
       between : (cause : Cause) → is_between (number cause) 7 10 ≡ true → is_between (number cause) 6 10 ≡ true
       between OutOfRange e = cc
@@ -247,16 +365,22 @@ module _ (z : Sizes) (lawful : IsLawful z) (m : Machine) (h : IsSound z m) where
       between StrayWord e = cc
       between _ e = refl
 
-      go : (x : Bool) → nat_lt at z.words ≡ x → (y : Bool) → has_any lanes ≡ y → (b : Bool) → is_present m.cache (block_of z at) ≡ b → KeptBy z m (Store at word lanes) (joined_with m.banks (unless (cond (not x) (Some OutOfRange) (cond (not y) (Some NoLanes) (first_cause (cond b [] (miss_causes z (room_in z.bank_queue m.banks) m.cache (block_of z at)))))) m.cache step))
+      go : (x : Bool) → nat_lt at z.words ≡ x → (y : Bool) → has_any lanes ≡ y → (b : Bool) → is_present m.cache (block_of z at) ≡ b
+          → KeptBy z m (Store at word lanes) (joined_with m.banks
+          (unless (cond (not x) (Some OutOfRange) (cond (not y) (Some NoLanes)
+          (first_cause (cond b [] (miss_causes z (room_in z.bank_queue m.banks) m.cache (block_of z at)))))) m.cache step))
       go false p y q b e = refuse_store at word lanes OutOfRange false y p q refl
       go true p false q b e = refuse_store at word lanes NoLanes true false p q refl
       go true p true q true e = accept (ltb-true at z.words p) q (λ r. cc)
       go true p true q false e =
-          miss_or z m (block_of z at) (Store at word lanes) step h (λ cause r. refuse_store at word lanes cause true true p q (between cause r)) (λ able. accept (ltb-true at z.words p) q (λ r. able))
+          miss_or z m (block_of z at) (Store at word lanes) step h
+          (λ cause r. refuse_store at word lanes cause true true p q (between cause r))
+          (λ able. accept (ltb-true at z.words p) q (λ r. able))
 
   -- ---- prefetches
 
-  refuse_prefetch : (at : ℕ) (cause : Cause) (x : Bool) → nat_lt at z.words ≡ x → prefetch_refusals x cause ≡ true → KeptBy z m (Prefetch at) (record { answer = Refused cause; machine = m })
+  refuse_prefetch : (at : ℕ) (cause : Cause) (x : Bool) → nat_lt at z.words ≡ x → prefetch_refusals x cause ≡ true
+      → KeptBy z m (Prefetch at) (record { answer = Refused cause; machine = m })
   refuse_prefetch at cause x p e =
       refusal z m (Prefetch at) cause h (ap (λ a. prefetch_refusals a cause) (ap (nat_lt at) (mem_length z m) ∙ p) ∙ e) refl
 
@@ -267,13 +391,15 @@ module _ (z : Sizes) (lawful : IsLawful z) (m : Machine) (h : IsSound z m) where
       step : Stepped
       step = record { answer = Accepted; cache = fetched z m.cache (block_of z at); sent = fetches z m.cache (block_of z at) }
 
-      accept : at < z.words → (is_present m.cache (block_of z at) ≡ false → Able z m.cache (block_of z at)) → KeptBy z m (Prefetch at) (joined_with m.banks step)
+      accept : at < z.words → (is_present m.cache (block_of z at) ≡ false → Able z m.cache (block_of z at))
+          → KeptBy z m (Prefetch at) (joined_with m.banks step)
       accept l able =
           let f = fetch_ok z lawful m h (block_of z at) (starts_in z at l) able in
           record {
             sound = f.sound;
-            run = ap (λ b. cond b (Some (flat_of z m)) None) (ap (nat_lt at) (mem_length z m) ∙ lt-ltb at z.words l) ∙ ap Some (sym (flat_of-same z m (fetched_machine z m (block_of z at)) f.same));
-            few = λ q. subst (λ n. n ≤ z.replies) (sym (f.same.as_many)) q;
+            run = ap (λ b. cond b (Some (flat_of z m)) None) (ap (nat_lt at) (mem_length z m) ∙ lt-ltb at z.words l)
+                ∙ ap Some (sym (flat_of-same z m (fetched_machine z m (block_of z at)) f.same));
+            few = λ q. subst (λ ts. length ts ≤ z.replies) (sym f.same_tags) q;
           }
 
       between : (cause : Cause) → is_between (number cause) 7 10 ≡ true → is_between (number cause) 6 10 ≡ true
@@ -287,42 +413,47 @@ module _ (z : Sizes) (lawful : IsLawful z) (m : Machine) (h : IsSound z m) where
       between StrayWord e = cc
       between _ e = refl
 
-      go : (x : Bool) → nat_lt at z.words ≡ x → (b : Bool) → is_present m.cache (block_of z at) ≡ b → KeptBy z m (Prefetch at) (joined_with m.banks (unless (cond (not x) (Some OutOfRange) (first_cause (cond b [] (miss_causes z (room_in z.bank_queue m.banks) m.cache (block_of z at))))) m.cache step))
+      go : (x : Bool) → nat_lt at z.words ≡ x → (b : Bool) → is_present m.cache (block_of z at) ≡ b
+          → KeptBy z m (Prefetch at) (joined_with m.banks
+          (unless (cond (not x) (Some OutOfRange) (first_cause
+          (cond b [] (miss_causes z (room_in z.bank_queue m.banks) m.cache (block_of z at))))) m.cache step))
       go false p b e = refuse_prefetch at OutOfRange false p refl
       go true p true e = accept (ltb-true at z.words p) (λ r. cc)
       go true p false e =
-          miss_or z m (block_of z at) (Prefetch at) step h (λ cause r. refuse_prefetch at cause true p (between cause r)) (λ able. accept (ltb-true at z.words p) (λ r. able))
+          miss_or z m (block_of z at) (Prefetch at) step h (λ cause r. refuse_prefetch at cause true p (between cause r))
+          (λ able. accept (ltb-true at z.words p) (λ r. able))
 
   -- ---- evictions
-
-  evicted_ok : (block f : ℕ) → frame_of m.cache block ≡ Some f → IsSound z (record { cache = evicted z m.cache block f; banks = m.banks }) × Same z m (record { cache = evicted z m.cache block f; banks = m.banks })
-  unfolding evicted released
-  evicted_ok block f e =
-      let at_f = (frame_of-some m.cache block f e).1 in
-      let orders = set m.cache.orders (f / z.ways) (without (order_of m.cache.orders (f / z.ways)) f) in
-      let ret = retired z m block h (live_for m.cache block) refl in
-      let ordered = InOrder-released z m.cache.frames m.cache.orders f h.in_order in
-      let q : m.cache.queue ++ dirty_words z m.cache (Some f) ≡ m.cache.queue ++ dirty_from block (address z block 0) (frame_at m.cache f).cells = ap (λ o. m.cache.queue ++ dirty_of_block z o (frame_at m.cache f).cells) at_f in
-      let registers = obsoleted m.cache (live_for m.cache block) in
-      let sound = given_up_sound z lawful m h block f at_f registers orders ret ordered in
-      let same = given_up_same z lawful m h block f at_f registers orders ret ordered in
-      subst (λ qs. IsSound z (record { cache = record m.cache { frames = set m.cache.frames f Rattle.cache_unit.specs.State.empty_frame; orders = orders; queue = qs; registers = registers }; banks = m.banks }) × Same z m (record { cache = record m.cache { frames = set m.cache.frames f Rattle.cache_unit.specs.State.empty_frame; orders = orders; queue = qs; registers = registers }; banks = m.banks })) (sym q) (sound, same)
 
   pub evict_ok : (block : ℕ) → Kept z m (Evict block)
   unfolding evict_step evict_cause
   evict_ok block = go (nat_lt (address z block 0) z.words) (frame_of m.cache block) refl
     where
-      accept : (o : Option ℕ) → frame_of m.cache block ≡ o → KeptBy z m (Evict block) (record { answer = Accepted; machine = record { cache = evicted_from z m.cache block o; banks = m.banks } })
+      accept : (o : Option ℕ) → frame_of m.cache block ≡ o
+          → KeptBy z m (Evict block) (record {
+            answer = Accepted;
+            machine =
+                record { cache = evicted_from z m.cache block o; banks = m.banks };
+          })
       accept None e = record { sound = h; run = refl; few = λ l. l }
       accept (Some f) e =
-          let ok = evicted_ok block f e in
-          record { sound = ok.0; run = ap Some (sym (flat_of-same z m (record { cache = evicted z m.cache block f; banks = m.banks }) ok.1)); few = λ l. subst (λ n. n ≤ z.replies) (sym (ok.1.as_many)) l }
+          record {
+            sound = gone_sound z lawful m h block f e;
+            run = ap Some (sym (flat_of-same z m (gone z lawful m h block f e) (gone_same z lawful m h block f e)));
+            few = λ l. subst (λ ts. length ts ≤ z.replies) (sym (gone_tags z lawful m h block f e)) l;
+          }
 
-      go : (x : Bool) (o : Option ℕ) → frame_of m.cache block ≡ o → KeptBy z m (Evict block) (joined_with m.banks (unless (cond (not x) (Some OutOfRange) (cond (not (is_some o)) (Some NotPresent) (cond (lacks_places z m.cache o) (Some QueueFull) None))) m.cache (record { answer = Accepted; cache = evicted_from z m.cache block o; sent = [] })))
+      go : (x : Bool) (o : Option ℕ) → frame_of m.cache block ≡ o
+          → KeptBy z m (Evict block) (joined_with m.banks
+          (unless (cond (not x) (Some OutOfRange) (cond (not (is_some o)) (Some NotPresent)
+          (cond (lacks_places z m.cache o) (Some QueueFull) None))) m.cache
+          (record { answer = Accepted; cache = evicted_from z m.cache block o; sent = [] })))
       go false o e = refusal z m (Evict block) OutOfRange h refl refl
       go true None e = refusal z m (Evict block) NotPresent h refl refl
       go true (Some f) e = by_room (lacks_places z m.cache (Some f))
         where
-          by_room : (b : Bool) → KeptBy z m (Evict block) (joined_with m.banks (unless (cond b (Some QueueFull) None) m.cache (record { answer = Accepted; cache = evicted_from z m.cache block (Some f); sent = [] })))
+          by_room : (b : Bool) → KeptBy z m (Evict block)
+              (joined_with m.banks (unless (cond b (Some QueueFull) None) m.cache
+              (record { answer = Accepted; cache = evicted_from z m.cache block (Some f); sent = [] })))
           by_room true = refusal z m (Evict block) QueueFull h refl refl
           by_room false = accept (Some f) e

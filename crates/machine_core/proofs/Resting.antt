@@ -1,5 +1,7 @@
 -- A machine at weight 0 serves each request, and the driver brings it there.
-use Rattle.std.proofs.Common.{◌≡◌, ℕ, zero, suc, ◌+◌, ◌-◌, ◌*◌, ◌/◌, ◌%◌, ◌<◌, ◌≤◌, Bool, true, false, cond, not, ◌&&◌, ◌||◌, ◌==◌, nat_lt, nat_le, List, [], ◌∷◌, ◌++◌, map, length, get_or, Option, Some, None, is_some, refl, sym, ap, ap₂, ◌∙◌, subst, arith, ⊎_elim, lt-ltb, le-ltb, eq-eqb, ne_eqb, mod-lt, div-add-mod', mul-le-mul_right, ◌⊎◌, inl, inr}
+use Rattle.std.proofs.Common.{◌≡◌, ℕ, zero, suc, ◌+◌, ◌-◌, ◌*◌, ◌/◌, ◌%◌, ◌<◌, ◌≤◌, Bool, true, false, cond, not, ◌&&◌, ◌||◌, ◌==◌, nat_lt}
+use Rattle.std.proofs.Common.{nat_le, List, [], ◌∷◌, ◌++◌, map, length, get_or, Option, Some, None, is_some, refl, sym, ap, ap₂, ◌∙◌, subst}
+use Rattle.std.proofs.Common.{arith, ⊎_elim, lt-ltb, le-ltb, eq-eqb, ne_eqb, mod-lt, div-add-mod', mul-le-mul_right, ◌⊎◌, inl, inr}
 use Rattle.std.specs.List.{list_all, list_any, filter, range_with_len}
 use Rattle.std.proofs.lemmas.Bool.{cases_lt, lt-leb}
 use Rattle.std.proofs.lemmas.Nat.{mod-mul-add}
@@ -7,18 +9,23 @@ use Rattle.std.proofs.lemmas.List.{nil_from_length}
 use Rattle.flat_model.specs.declared.Word.{Word}
 use Rattle.flat_model.specs.declared.Lanes.{Lanes}
 use Rattle.flat_model.specs.declared.Cause.{Cause}
-use Rattle.flat_model.specs.declared.Cause.TheVariants.{OutOfRange, NoLanes, TagInUse, RepliesFull, TargetsFull, NoRegister, SetPending, QueueFull, BankFull, NotPresent}
+use Rattle.flat_model.specs.declared.Cause.TheVariants.{OutOfRange, NoLanes, TagInUse, RepliesFull, TargetsFull, NoRegister, SetPending}
+use Rattle.flat_model.specs.declared.Cause.TheVariants.{QueueFull, BankFull, NotPresent}
 use Rattle.flat_model.specs.declared.Event.{Event}
 use Rattle.flat_model.specs.declared.Event.TheVariants.{Load, Store, Prefetch, Evict}
 use Rattle.flat_model.specs.declared.Answer.TheVariants.{Accepted}
 use Rattle.flat_model.specs.Words.{has_any}
 use Rattle.memory_banks.specs.declared.Command.{Command}
 use Rattle.memory_banks.specs.declared.Command.TheVariants.{Read, Write}
-use Rattle.memory_banks.specs.Banks.{Bank, bank_at, no_bank, all_pending, room_in}
+use Rattle.memory_banks.specs.Banks.{bank_at, no_bank, all_pending, room_in}
 use Rattle.cache_directory.specs.declared.Cell.{Cell}
 use Rattle.cache_unit.specs.declared.Reply.{Reply}
-use Rattle.cache_unit.specs.State.{Sizes, Field, Register, Target, Cache, clear_field, free_register, frame_at, frame_of, is_present, register_at, is_live, live_for, is_pending_block, is_pending, cell_of, gathered, targets_of, targets, tags, block_of, place_in, address}
-use Rattle.cache_unit.specs.Causes.{first_cause, ways_of, choose, dirty_from, dirty_of_block, dirty_words, addresses, lacks_places, lacks_room, miss_causes, found, found_in, targets_full, is_in_use, load_cause, store_cause, prefetch_cause, evict_cause}
+use Rattle.cache_unit.specs.State.{Sizes, Field, Register, Target, Cache, clear_field, free_register, frame_at, frame_of, is_present}
+use Rattle.cache_unit.specs.State.{register_at, is_live, live_for, is_pending_block, is_pending, cell_of, gathered, targets_of, targets}
+use Rattle.cache_unit.specs.State.{tags, block_of, place_in, address}
+use Rattle.cache_unit.specs.Causes.{first_cause, ways_of, choose, dirty_from, dirty_of_block, dirty_words, addresses, lacks_places}
+use Rattle.cache_unit.specs.Causes.{lacks_room, miss_causes, found, found_in, targets_full, is_in_use, load_cause, store_cause}
+use Rattle.cache_unit.specs.Causes.{prefetch_cause, evict_cause}
 use Rattle.cache_unit.specs.Steps.{Stepped, unless, load_step, store_step, prefetch_step, evict_step}
 use Rattle.cache_unit.specs.Counts.{tally, bit}
 use Rattle.cache_unit.proofs.FormsFinding.{live_for-none}
@@ -27,8 +34,7 @@ use Rattle.machine_core.specs.Law.{IsLawful, HasRoom, serves_eviction, ServesReq
 use Rattle.machine_core.specs.Machine.{Machine, apply, joined_with, opening, walked}
 use Rattle.machine_core.specs.Pump.{total, command_weight, bank_weight, weight, pumped, after_event, after_pumps}
 use Rattle.machine_core.specs.Sound.{is_for, is_entry_for, wanted, IsSound, IsBounded}
-use Rattle.machine_core.proofs.Opening.{opening_sound, nothing_due, opening_idle}
-use Rattle.machine_core.proofs.Requests.{tags_dues}
+use Rattle.machine_core.proofs.Opening.{opening_sound, nothing_owed, opening_idle}
 use Rattle.machine_core.proofs.Walking.{event_ok}
 use Rattle.machine_core.proofs.Weighing.{all_idle, pump_lowers, pump_rests}
 use Rattle.machine_core.proofs.Routing.{pending_part, event_bounded}
@@ -48,7 +54,11 @@ hits_apart n b lb (suc k) a zero q ld e =
     let rest = hits_apart n b lb k (a + 1) (n - 1) (suc q) (omega arith) (omega arith) in
     go (a % n == b) (eq-eqb (a % n) b here) rest
   where
-    go : (t : Bool) → t ≡ true → (hits n b (a + 1) k ≡ 0) ⊎ (hits n b (a + 1) k * n + (n - 1) + 1 ≤ k + n) → (length (cond t (a ∷ filter (λ at. at % n == b) (range_with_len (a + 1) k)) (filter (λ at. at % n == b) (range_with_len (a + 1) k))) ≡ 0) ⊎ (length (cond t (a ∷ filter (λ at. at % n == b) (range_with_len (a + 1) k)) (filter (λ at. at % n == b) (range_with_len (a + 1) k))) * n + 0 + 1 ≤ suc k + n)
+    go : (t : Bool) → t ≡ true → (hits n b (a + 1) k ≡ 0) ⊎ (hits n b (a + 1) k * n + (n - 1) + 1 ≤ k + n)
+        → (length (cond t (a ∷ filter (λ at. at % n == b) (range_with_len (a + 1) k))
+        (filter (λ at. at % n == b) (range_with_len (a + 1) k))) ≡ 0) ⊎
+        (length (cond t (a ∷ filter (λ at. at % n == b) (range_with_len (a + 1) k))
+        (filter (λ at. at % n == b) (range_with_len (a + 1) k))) * n + 0 + 1 ≤ suc k + n)
     go false t r = cc
     go true t (inl none) = inr (let e' : suc (hits n b (a + 1) k) * n ≡ 1 * n = ap (λ x. suc x * n) none in omega arith)
     go true t (inr r) = inr (omega arith)
@@ -67,7 +77,11 @@ hits_apart n b lb (suc k) a (suc d) q ld e =
         more : q ≤ a / n → ⊥
         more l = let le : q * n ≤ a / n * n = mul-le-mul_right n l in let w = whole in absurd (omega arith)
 
-    go : (t : Bool) → t ≡ false → (hits n b (a + 1) k ≡ 0) ⊎ (hits n b (a + 1) k * n + d + 1 ≤ k + n) → (length (cond t (a ∷ filter (λ at. at % n == b) (range_with_len (a + 1) k)) (filter (λ at. at % n == b) (range_with_len (a + 1) k))) ≡ 0) ⊎ (length (cond t (a ∷ filter (λ at. at % n == b) (range_with_len (a + 1) k)) (filter (λ at. at % n == b) (range_with_len (a + 1) k))) * n + suc d + 1 ≤ suc k + n)
+    go : (t : Bool) → t ≡ false → (hits n b (a + 1) k ≡ 0) ⊎ (hits n b (a + 1) k * n + d + 1 ≤ k + n)
+        → (length (cond t (a ∷ filter (λ at. at % n == b) (range_with_len (a + 1) k))
+        (filter (λ at. at % n == b) (range_with_len (a + 1) k))) ≡ 0) ⊎
+        (length (cond t (a ∷ filter (λ at. at % n == b) (range_with_len (a + 1) k))
+        (filter (λ at. at % n == b) (range_with_len (a + 1) k))) * n + suc d + 1 ≤ suc k + n)
     go true t r = cc
     go false t (inl none) = inl none
     go false t (inr r) = inr (omega arith)
@@ -87,13 +101,15 @@ hits_few n b a k most lb l = ⊎_elim (λ none. omega arith) few (⊎_elim behin
 
     behind : b < a % n → (hits n b a k ≡ 0) ⊎ (hits n b a k * n + 1 ≤ k + n)
     behind s =
-        any (b + n - a % n) (hits_apart n b lb k a (b + n - a % n) (suc (a / n)) (let r' = r in omega arith) (let r' = r in let e' = e in omega arith))
+        any (b + n - a % n) (hits_apart n b lb k a (b + n - a % n) (suc (a / n)) (let r' = r in omega arith)
+        (let r' = r in let e' = e in omega arith))
 
     ahead : a % n ≤ b → (hits n b a k ≡ 0) ⊎ (hits n b a k * n + 1 ≤ k + n)
     ahead s = any (b - a % n) (hits_apart n b lb k a (b - a % n) (a / n) (omega arith) (let e' = e in omega arith))
 
     few : hits n b a k * n + 1 ≤ k + n → hits n b a k ≤ most
-    few h = ⊎_elim (λ big. let le : suc most * n ≤ hits n b a k * n = mul-le-mul_right n big in absurd (omega arith)) (λ s. s) (cases_lt most (hits n b a k))
+    few h = ⊎_elim (λ big. let le : suc most * n ≤ hits n b a k * n = mul-le-mul_right n big in absurd (omega arith))
+        (λ s. s) (cases_lt most (hits n b a k))
 
 -- of k numbers side by side, no more than `most` are for one of n banks, where k is at most `most * n`
 pub spread_evenly : (n b a k most : ℕ) → b < n → k ≤ most * n → length (filter (λ at. at % n == b) (range_with_len a k)) ≤ most
@@ -111,22 +127,30 @@ first_fails : (p : ℕ → Bool) (a n : ℕ) → 0 < n → p a ≡ false → lis
 first_fails p a zero l e = absurd (omega arith)
 first_fails p a (suc n) l e = ap (λ b. b && list_all p (range_with_len (a + 1) n)) e
 
-none_valid : (registers : List Register) → ((s : ℕ) → (get_or registers s free_register).valid ≡ false) → length (filter (λ (r : Register). r.valid) registers) ≡ 0
+none_valid : (registers : List Register) → ((s : ℕ) → (get_or registers s free_register).valid ≡ false)
+    → length (filter (λ (r : Register). r.valid) registers) ≡ 0
 none_valid [] h = refl
 none_valid (r ∷ registers) h =
-    ap (λ b. length (cond b (r ∷ filter (λ (x : Register). x.valid) registers) (filter (λ (x : Register). x.valid) registers))) (h 0) ∙ none_valid registers (λ s. h (suc s))
+    ap (λ b. length (cond b (r ∷ filter (λ (x : Register). x.valid) registers) (filter (λ (x : Register). x.valid) registers))) (h 0)
+    ∙ none_valid registers (λ s. h (suc s))
 
-no_targets : (n : ℕ) (registers : List Register) → ((s : ℕ) → (get_or registers s free_register).valid ≡ false) → gathered targets_of n registers ≡ []
+no_targets : (n : ℕ) (registers : List Register) → ((s : ℕ) → (get_or registers s free_register).valid ≡ false)
+    → gathered targets_of n registers ≡ []
 no_targets n [] h = refl
 no_targets n (r ∷ registers) h =
-    ap₂ ◌++◌ (ap (λ b. cond b (gathered (Rattle.cache_unit.specs.State.targets_of_field n) 0 r.fields) []) (h 0)) (no_targets (suc n) registers (λ s. h (suc s)))
+    ap₂ ◌++◌ (ap (λ b. cond b (gathered (Rattle.cache_unit.specs.State.targets_of_field n) 0 r.fields) []) (h 0))
+    (no_targets (suc n) registers (λ s. h (suc s)))
 
 -- where not all fields are processed, one isn't
-one_waits : (fields : List Field) → list_all (λ (f : Field). f.processed) fields ≡ false → (j : ℕ) × (j < length fields) × ((get_or fields j clear_field).processed ≡ false)
+one_waits : (fields : List Field) → list_all (λ (f : Field). f.processed) fields ≡ false
+    → (j : ℕ) × (j < length fields) × ((get_or fields j clear_field).processed ≡ false)
 one_waits [] e = cc
 one_waits (f ∷ fields) e = go f.processed refl e (one_waits fields)
   where
-    go : (b : Bool) → f.processed ≡ b → (b && list_all (λ (x : Field). x.processed) fields) ≡ false → (list_all (λ (x : Field). x.processed) fields ≡ false → (j : ℕ) × (j < length fields) × ((get_or fields j clear_field).processed ≡ false)) → (j : ℕ) × (j < suc (length fields)) × ((get_or (f ∷ fields) j clear_field).processed ≡ false)
+    go : (b : Bool) → f.processed ≡ b → (b && list_all (λ (x : Field). x.processed) fields) ≡ false
+        → (list_all (λ (x : Field). x.processed) fields ≡ false
+        → (j : ℕ) × (j < length fields) × ((get_or fields j clear_field).processed ≡ false))
+        → (j : ℕ) × (j < suc (length fields)) × ((get_or (f ∷ fields) j clear_field).processed ≡ false)
     go true p q rest = let r = rest q in (suc r.0, let l = r.1 in omega arith, r.2)
     go false p q rest = (0, omega arith, p)
 
@@ -144,13 +168,22 @@ dirty_few : (block at : ℕ) (cells : List Cell) → length (dirty_from block at
 dirty_few block at [] = omega arith
 dirty_few block at (cell ∷ rest) = go (has_any cell.dirty) (dirty_few block (at + 1) rest)
   where
-    go : (b : Bool) → length (dirty_from block (at + 1) rest) ≤ length rest → length (cond b (record { block = block; at = at; word = Rattle.flat_model.specs.Words.merged Rattle.flat_model.specs.Words.zero_word cell.word cell.dirty; lanes = cell.dirty } ∷ dirty_from block (at + 1) rest) (dirty_from block (at + 1) rest)) ≤ suc (length rest)
+    go : (b : Bool) → length (dirty_from block (at + 1) rest) ≤ length rest
+        → length (cond b (record {
+          block = block;
+          at = at;
+          word =
+              Rattle.flat_model.specs.Words.merged Rattle.flat_model.specs.Words.zero_word cell.word cell.dirty;
+          lanes =
+              cell.dirty;
+        } ∷ dirty_from block (at + 1) rest) (dirty_from block (at + 1) rest)) ≤ suc (length rest)
     go true l = omega arith
     go false l = omega arith
 
 -- ---- a machine at weight 0
 
-module _ (z : Sizes) (lawful : IsLawful z) (roomy : HasRoom z) (m : Machine) (sound : IsSound z m) (bounded : IsBounded z m) (rest : weight m ≡ 0) where
+module _ (z : Sizes) (lawful : IsLawful z) (roomy : HasRoom z) (m : Machine) (sound : IsSound z m) (bounded : IsBounded z m)
+    (rest : weight m ≡ 0) where
   no_ready : m.cache.ready ≡ []
   no_ready = nil_from_length m.cache.ready (omega arith)
 
@@ -180,15 +213,18 @@ module _ (z : Sizes) (lawful : IsLawful z) (roomy : HasRoom z) (m : Machine) (so
           let c = sound.counted s j.0 in
           let p = ap (tally (is_for s j.0)) nothing_pending in
           let q = ap (tally (is_entry_for s j.0)) no_stack in
-          let w : wanted z (register_at m.cache s) j.0 ≡ bit (true && (true && not false)) = three e (lt-ltb j.0 z.block_words inside) j.2 in
+          let w : wanted z (register_at m.cache s) j.0 ≡ bit (true && (true && not false)) =
+          three e (lt-ltb j.0 z.block_words inside) j.2 in
           absurd (omega arith)
         where
-          three : {a b c : Bool} → (register_at m.cache s).valid ≡ a → b ≡ true → c ≡ false → bit ((register_at m.cache s).valid && (b && not c)) ≡ bit (a && (true && not false))
+          three : {a b c : Bool} → (register_at m.cache s).valid ≡ a → b ≡ true → c ≡ false
+              → bit ((register_at m.cache s).valid && (b && not c)) ≡ bit (a && (true && not false))
           three {a} {b} {c} x y w = ap₂ (λ p q. bit (p && q)) x (ap₂ (λ p q. p && not q) y w)
 
   no_live : (b : ℕ) → live_for m.cache b ≡ None
   no_live b =
-      live_for-none m.cache b (λ t l k. let f : is_live (register_at m.cache t) ≡ false = ap (λ v. v && not (register_at m.cache t).obsolete) (no_valid t) in cc)
+      live_for-none m.cache b (λ t l k. let f : is_live (register_at m.cache t) ≡ false =
+      ap (λ v. v && not (register_at m.cache t).obsolete) (no_valid t) in cc)
 
   not_pending : (f : ℕ) → is_pending m.cache f ≡ false
   not_pending f = go (frame_at m.cache f).block
@@ -199,7 +235,8 @@ module _ (z : Sizes) (lawful : IsLawful z) (roomy : HasRoom z) (m : Machine) (so
 
   no_tags : tags m.cache ≡ []
   unfolding targets
-  no_tags = ap₂ (λ rs ts. map (λ (r : Reply). r.tag) rs ++ map (λ (t : Target). t.load.tag) ts) no_ready (no_targets 0 m.cache.registers no_valid)
+  no_tags = ap₂ (λ rs ts. map (λ (r : Reply). r.tag) rs ++ map (λ (t : Target). t.load.tag) ts) no_ready
+      (no_targets 0 m.cache.registers no_valid)
 
   few_dirty : (o : Option ℕ) → length (dirty_words z m.cache o) ≤ z.block_words
   few_dirty None = omega arith
@@ -214,25 +251,30 @@ module _ (z : Sizes) (lawful : IsLawful z) (roomy : HasRoom z) (m : Machine) (so
 
   has_places : (o : Option ℕ) → lacks_places z m.cache o ≡ false
   has_places o =
-      le-ltb (z.write_queue - length m.cache.queue) (length (dirty_words z m.cache o)) (let l = few_dirty o in let q = roomy.queue_takes_a_block in let n = no_queue in omega arith)
+      le-ltb (z.write_queue - length m.cache.queue) (length (dirty_words z m.cache o))
+      (let l = few_dirty o in let q = roomy.queue_takes_a_block in let n = no_queue in omega arith)
 
   has_rooms : (block : ℕ) → lacks_room z (room_in z.bank_queue m.banks) block ≡ false
   unfolding hits
   has_rooms block = any_false _ 0 z.banks each
     where
-      each : (b : ℕ) → 0 ≤ b → b < 0 + z.banks → nat_lt (room_in z.bank_queue m.banks b) (length (filter (λ at. at % z.banks == b) (addresses z block))) ≡ false
+      each : (b : ℕ) → 0 ≤ b → b < 0 + z.banks
+          → nat_lt (room_in z.bank_queue m.banks b) (length (filter (λ at. at % z.banks == b) (addresses z block))) ≡ false
       each b lo hi =
           let n = sound.banks_are in
           let there : b < length m.banks = omega arith in
           let none = ap length (idle b there).1 in
-          let room : room_in z.bank_queue m.banks b ≡ z.bank_queue - length (bank_at m.banks b).queue = ap (λ t. cond t (z.bank_queue - length (bank_at m.banks b).queue) 0) (lt-ltb b (length m.banks) there) in
+          let room : room_in z.bank_queue m.banks b ≡ z.bank_queue - length (bank_at m.banks b).queue =
+          ap (λ t. cond t (z.bank_queue - length (bank_at m.banks b).queue) 0) (lt-ltb b (length m.banks) there) in
           let few = hits_few z.banks b (address z block 0) z.block_words z.bank_queue (omega arith) roomy.banks_take_a_block in
           le-ltb (room_in z.bank_queue m.banks b) (length (filter (λ at. at % z.banks == b) (addresses z block))) (omega arith)
 
   -- a miss has no cause
   may_miss : (block : ℕ) → first_cause (miss_causes z (room_in z.bank_queue m.banks) m.cache block) ≡ None
   may_miss block =
-      go (length (filter (λ (r : Register). r.valid) m.cache.registers) == z.regs) registers (list_all (is_pending m.cache) (ways_of z block)) ways (lacks_places z m.cache (choose z m.cache block)) (has_places (choose z m.cache block)) (lacks_room z (room_in z.bank_queue m.banks) block) (has_rooms block)
+      go (length (filter (λ (r : Register). r.valid) m.cache.registers) == z.regs) registers
+      (list_all (is_pending m.cache) (ways_of z block)) ways (lacks_places z m.cache (choose z m.cache block))
+      (has_places (choose z m.cache block)) (lacks_room z (room_in z.bank_queue m.banks) block) (has_rooms block)
     where
       registers : (length (filter (λ (r : Register). r.valid) m.cache.registers) == z.regs) ≡ false
       registers = ne_eqb _ z.regs (λ e. let n = none_valid m.cache.registers no_valid in let s = roomy.some_registers in omega arith)
@@ -240,7 +282,8 @@ module _ (z : Sizes) (lawful : IsLawful z) (roomy : HasRoom z) (m : Machine) (so
       ways : list_all (is_pending m.cache) (ways_of z block) ≡ false
       ways = first_fails (is_pending m.cache) (block % z.sets * z.ways) z.ways roomy.some_ways (not_pending _)
 
-      go : (a : Bool) → a ≡ false → (b : Bool) → b ≡ false → (c : Bool) → c ≡ false → (d : Bool) → d ≡ false → cond a (Some NoRegister) (cond b (Some SetPending) (cond c (Some QueueFull) (cond d (Some BankFull) None))) ≡ None
+      go : (a : Bool) → a ≡ false → (b : Bool) → b ≡ false → (c : Bool) → c ≡ false → (d : Bool) → d ≡ false
+          → cond a (Some NoRegister) (cond b (Some SetPending) (cond c (Some QueueFull) (cond d (Some BankFull) None))) ≡ None
       go false p false q false r false s = refl
       go true p b q c r d s = cc
       go false p true q c r d s = cc
@@ -255,7 +298,9 @@ module _ (z : Sizes) (lawful : IsLawful z) (roomy : HasRoom z) (m : Machine) (so
   load_served : (tag at : ℕ) → at < z.words → (apply z m (Load tag at)).answer ≡ Accepted
   unfolding load_step load_cause
   load_served tag at l =
-      answered (load_cause z (room_in z.bank_queue m.banks) m.cache tag at) _ (go (nat_lt at z.words) (lt-ltb at z.words l) (is_in_use m.cache tag) (ap (list_any (λ t. t == tag)) no_tags) (nat_le z.replies (length (tags m.cache))) few (is_present m.cache (block_of z at)))
+      answered (load_cause z (room_in z.bank_queue m.banks) m.cache tag at) _
+      (go (nat_lt at z.words) (lt-ltb at z.words l) (is_in_use m.cache tag) (ap (list_any (λ t. t == tag)) no_tags)
+      (nat_le z.replies (length (tags m.cache))) few (is_present m.cache (block_of z at)))
     where
       few : nat_le z.replies (length (tags m.cache)) ≡ false
       few = lt-leb z.replies (length (tags m.cache)) (let n = ap length no_tags in let s = roomy.some_replies in omega arith)
@@ -264,21 +309,29 @@ module _ (z : Sizes) (lawful : IsLawful z) (roomy : HasRoom z) (m : Machine) (so
       here = (targets_full m.cache (place_in z at) (found m.cache (block_of z at) (place_in z at)), TargetsFull) ∷ []
 
       not_full : targets_full m.cache (place_in z at) (found m.cache (block_of z at) (place_in z at)) ≡ false
-      not_full = ap (λ o. targets_full m.cache (place_in z at) (found_in m.cache o (place_in z at) (cell_of m.cache (block_of z at) (place_in z at)).word)) (no_live (block_of z at))
+      not_full = ap (λ o. targets_full m.cache (place_in z at)
+          (found_in m.cache o (place_in z at) (cell_of m.cache (block_of z at) (place_in z at)).word)) (no_live (block_of z at))
 
-      go : (a : Bool) → a ≡ true → (b : Bool) → b ≡ false → (c : Bool) → c ≡ false → (p : Bool) → cond (not a) (Some OutOfRange) (cond b (Some TagInUse) (cond c (Some RepliesFull) (first_cause (cond p here (miss_causes z (room_in z.bank_queue m.banks) m.cache (block_of z at)))))) ≡ None
+      go : (a : Bool) → a ≡ true → (b : Bool) → b ≡ false → (c : Bool) → c ≡ false → (p : Bool)
+          → cond (not a) (Some OutOfRange) (cond b (Some TagInUse)
+          (cond c (Some RepliesFull) (first_cause (cond p here (miss_causes z (room_in z.bank_queue m.banks) m.cache (block_of z at))))))
+          ≡ None
       go true ea false eb false ec true = ap (λ t. cond t (Some TargetsFull) None) not_full
       go true ea false eb false ec false = may_miss (block_of z at)
       go false ea b eb c ec p = cc
       go true ea true eb c ec p = cc
       go true ea false eb true ec p = cc
 
-  store_served : (at : ℕ) (word : Word) (lanes : Lanes) → at < z.words → has_any lanes ≡ true → (apply z m (Store at word lanes)).answer ≡ Accepted
+  store_served : (at : ℕ) (word : Word) (lanes : Lanes) → at < z.words → has_any lanes ≡ true
+      → (apply z m (Store at word lanes)).answer ≡ Accepted
   unfolding store_step store_cause
   store_served at word lanes l any =
-      answered (store_cause z (room_in z.bank_queue m.banks) m.cache at lanes) _ (go (nat_lt at z.words) (lt-ltb at z.words l) (has_any lanes) any (is_present m.cache (block_of z at)))
+      answered (store_cause z (room_in z.bank_queue m.banks) m.cache at lanes) _
+      (go (nat_lt at z.words) (lt-ltb at z.words l) (has_any lanes) any (is_present m.cache (block_of z at)))
     where
-      go : (a : Bool) → a ≡ true → (b : Bool) → b ≡ true → (p : Bool) → cond (not a) (Some OutOfRange) (cond (not b) (Some NoLanes) (first_cause (cond p [] (miss_causes z (room_in z.bank_queue m.banks) m.cache (block_of z at))))) ≡ None
+      go : (a : Bool) → a ≡ true → (b : Bool) → b ≡ true → (p : Bool)
+          → cond (not a) (Some OutOfRange) (cond (not b) (Some NoLanes)
+          (first_cause (cond p [] (miss_causes z (room_in z.bank_queue m.banks) m.cache (block_of z at))))) ≡ None
       go true ea true eb true = refl
       go true ea true eb false = may_miss (block_of z at)
       go false ea b eb p = cc
@@ -287,9 +340,11 @@ module _ (z : Sizes) (lawful : IsLawful z) (roomy : HasRoom z) (m : Machine) (so
   prefetch_served : (at : ℕ) → at < z.words → (apply z m (Prefetch at)).answer ≡ Accepted
   unfolding prefetch_step prefetch_cause
   prefetch_served at l =
-      answered (prefetch_cause z (room_in z.bank_queue m.banks) m.cache at) _ (go (nat_lt at z.words) (lt-ltb at z.words l) (is_present m.cache (block_of z at)))
+      answered (prefetch_cause z (room_in z.bank_queue m.banks) m.cache at) _
+      (go (nat_lt at z.words) (lt-ltb at z.words l) (is_present m.cache (block_of z at)))
     where
-      go : (a : Bool) → a ≡ true → (p : Bool) → cond (not a) (Some OutOfRange) (first_cause (cond p [] (miss_causes z (room_in z.bank_queue m.banks) m.cache (block_of z at)))) ≡ None
+      go : (a : Bool) → a ≡ true → (p : Bool) → cond (not a) (Some OutOfRange)
+          (first_cause (cond p [] (miss_causes z (room_in z.bank_queue m.banks) m.cache (block_of z at)))) ≡ None
       go true ea true = refl
       go true ea false = may_miss (block_of z at)
       go false ea p = cc
@@ -297,9 +352,13 @@ module _ (z : Sizes) (lawful : IsLawful z) (roomy : HasRoom z) (m : Machine) (so
   evict_served : (block : ℕ) → serves_eviction (apply z m (Evict block)).answer ≡ true
   unfolding evict_step evict_cause
   evict_served block =
-      go (nat_lt (address z block 0) z.words) (is_present m.cache block) (lacks_places z m.cache (frame_of m.cache block)) (has_places (frame_of m.cache block)) _
+      go (nat_lt (address z block 0) z.words) (is_present m.cache block) (lacks_places z m.cache (frame_of m.cache block))
+      (has_places (frame_of m.cache block)) _
     where
-      go : (a p c : Bool) → c ≡ false → (cache : Cache) → serves_eviction (joined_with m.banks (unless (cond (not a) (Some OutOfRange) (cond (not p) (Some NotPresent) (cond c (Some QueueFull) None))) m.cache (record { answer = Accepted; cache = cache; sent = [] }))).answer ≡ true
+      go : (a p c : Bool) → c ≡ false → (cache : Cache)
+          → serves_eviction (joined_with m.banks (unless
+          (cond (not a) (Some OutOfRange) (cond (not p) (Some NotPresent) (cond c (Some QueueFull) None))) m.cache
+          (record { answer = Accepted; cache = cache; sent = [] }))).answer ≡ true
       go false p c e cache = refl
       go true false c e cache = refl
       go true true false e cache = refl
@@ -314,14 +373,18 @@ module _ (z : Sizes) (lawful : IsLawful z) (roomy : HasRoom z) (m : Machine) (so
 pub opening_bounded : (z : Sizes) → IsLawful z → (image : List Word) → length image ≡ z.words → IsBounded z (opening z image)
 opening_bounded z lawful image fits =
     record {
-      unfinished = λ s v. let no : (register_at (opening z image).cache s).valid ≡ false = ap (λ (r : Register). r.valid) (all_same z.regs s free_register) in cc;
-      few_tags = let e = ap length (nothing_due z lawful image fits) in subst (λ n. n ≤ z.replies) (sym (tags_dues (opening z image) ∙ e)) (omega arith);
+      unfinished = λ s v. let no : (register_at (opening z image).cache s).valid ≡ false =
+          ap (λ (r : Register). r.valid) (all_same z.regs s free_register) in cc;
+      few_tags = let e = ap length (nothing_owed z lawful image fits) in subst (λ n. n ≤ z.replies) (sym e) (omega arith);
       few_queued = omega arith;
-      at_its_bank = λ b s i l. let part = pending_part (is_for s i) (opening z image).banks b in let none = ap (tally (is_for s i)) (opening_idle z lawful image fits) in absurd (omega arith);
-      few_commands = λ b. subst (λ n. n ≤ z.bank_queue) (sym (quiet (λ k. Rattle.memory_banks.specs.Banks.share_of image z.banks k) (range_with_len 0 z.banks) b)) (omega arith);
+      at_its_bank = λ b s i l. let part = pending_part (is_for s i) (opening z image).banks b in let none =
+          ap (tally (is_for s i)) (opening_idle z lawful image fits) in absurd (omega arith);
+      few_commands = λ b. subst (λ n. n ≤ z.bank_queue)
+          (sym (quiet (λ k. Rattle.memory_banks.specs.Banks.share_of image z.banks k) (range_with_len 0 z.banks) b)) (omega arith);
     }
   where
-    quiet : (g : ℕ → List Word) (ks : List ℕ) (b : ℕ) → length (bank_at (map (λ k. record { words = g k; queue = []; answers = [] }) ks) b).queue ≡ 0
+    quiet : (g : ℕ → List Word) (ks : List ℕ) (b : ℕ)
+        → length (bank_at (map (λ k. record { words = g k; queue = []; answers = [] }) ks) b).queue ≡ 0
     quiet g [] b = refl
     quiet g (k ∷ ks) zero = refl
     quiet g (k ∷ ks) (suc b) = quiet g ks b
@@ -340,11 +403,14 @@ held_walked z lawful m h [] = h
 held_walked z lawful m h (event ∷ events) = held_walked z lawful (apply z m event).machine (held_apply z lawful m h event) events
 
 -- after enough pumps the weight is 0
-driven : (z : Sizes) → IsLawful z → HasRoom z → (n : ℕ) (m : Machine) → Held z m → weight m ≤ n → Held z (after_pumps z n m) × (weight (after_pumps z n m) ≡ 0)
+driven : (z : Sizes) → IsLawful z → HasRoom z → (n : ℕ) (m : Machine) → Held z m → weight m ≤ n
+    → Held z (after_pumps z n m) × (weight (after_pumps z n m) ≡ 0)
 driven z lawful roomy zero m h l = (h, omega arith)
 driven z lawful roomy (suc n) m h l = go (pumped z m) refl (driven z lawful roomy n)
   where
-    go : (o : Option Event) → pumped z m ≡ o → ((k : Machine) → Held z k → weight k ≤ n → Held z (after_pumps z n k) × (weight (after_pumps z n k) ≡ 0)) → Held z (after_pumps z n (after_event z m o)) × (weight (after_pumps z n (after_event z m o)) ≡ 0)
+    go : (o : Option Event) → pumped z m ≡ o
+        → ((k : Machine) → Held z k → weight k ≤ n → Held z (after_pumps z n k) × (weight (after_pumps z n k) ≡ 0))
+        → Held z (after_pumps z n (after_event z m o)) × (weight (after_pumps z n (after_event z m o)) ≡ 0)
     go None e rest = let w = pump_rests z lawful roomy m h.sound e in rest m h (omega arith)
     go (Some event) e rest =
         let w = pump_lowers z lawful roomy m h.sound event e in
@@ -361,5 +427,6 @@ served_after_pumps z lawful roomy m sound bounded =
 
 pub requests_are_served : (z : Sizes) (image : List Word) (events : List Event) → RequestsAreServed z image events
 requests_are_served z image events lawful roomy fits =
-    let h = held_walked z lawful (opening z image) (record { sound = opening_sound z lawful image fits; bounded = opening_bounded z lawful image fits }) events in
+    let h = held_walked z lawful (opening z image)
+    (record { sound = opening_sound z lawful image fits; bounded = opening_bounded z lawful image fits }) events in
     served_after_pumps z lawful roomy (walked z (opening z image) events) h.sound h.bounded

@@ -1,5 +1,7 @@
 -- Each read and each answer is at the bank of its word.
-use Rattle.std.proofs.Common.{◌≡◌, ℕ, zero, suc, ◌+◌, ◌-◌, ◌*◌, ◌/◌, ◌%◌, ◌<◌, ◌≤◌, Bool, true, false, cond, not, ◌&&◌, ◌==◌, nat_lt, List, [], ◌∷◌, ◌++◌, length, get_or, set, Option, Some, None, is_none, le_refl, slice_get, refl, sym, ap, ◌∙◌, subst, arith, ◌⊎◌, inl, inr, ⊎_elim, get_or-set_same, get_or-set_other, eqb-true}
+use Rattle.std.proofs.Common.{◌≡◌, ℕ, zero, suc, ◌+◌, ◌-◌, ◌*◌, ◌/◌, ◌%◌, ◌<◌, ◌≤◌, Bool, true, false, cond, not, ◌&&◌, ◌==◌, nat_lt, List}
+use Rattle.std.proofs.Common.{[], ◌∷◌, ◌++◌, length, get_or, set, Option, Some, None, is_none, le_refl, slice_get, refl, sym, ap, ◌∙◌}
+use Rattle.std.proofs.Common.{subst, arith, ◌⊎◌, inl, inr, ⊎_elim, get_or-set_same, get_or-set_other, eqb-true}
 use Rattle.std.specs.List.{range_with_len, list_all, remove}
 use Rattle.std.proofs.lemmas.Bool.{cases_eq, cases_lt, and_parts}
 use Rattle.std.proofs.lemmas.List.{get_or_past, set_past}
@@ -19,22 +21,25 @@ use Rattle.memory_banks.specs.Banks.{Bank, bank_at, no_bank, pending, all_pendin
 use Rattle.input_stack.specs.declared.Entry.{Entry}
 use Rattle.write_queue.specs.declared.Queued.{Queued}
 use Rattle.cache_unit.specs.declared.Reply.{Reply}
-use Rattle.cache_unit.specs.State.{Sizes, Field, Register, Cache, free_register, frame_of, is_present, register_at, field_at, live_for, free_slot, with_cell, with_field, block_of, address}
+use Rattle.cache_unit.specs.State.{Sizes, Field, Register, Cache, free_register, frame_of, is_present, register_at, field_at, live_for}
+use Rattle.cache_unit.specs.State.{free_slot, with_cell, with_field, block_of, address}
 use Rattle.cache_unit.specs.Causes.{choose, Found, Here, Coming, load_cause, store_cause, prefetch_cause, evict_cause, arrive_cause}
-use Rattle.cache_unit.specs.Steps.{Stepped, unless, made_obsolete, obsoleted, released, evicted, evicted_from, fresh_register, installed, missed, reads, fetched, fetches, loaded, noted, written_in, written, load_step, store_step, prefetch_step, evict_step, drain_first, drain_step, arrived, processed, process_entry, process_step, take_reply, take_step}
+use Rattle.cache_unit.specs.Steps.{Stepped, unless, made_obsolete, obsoleted, released, evicted, evicted_from, fresh_register, installed}
+use Rattle.cache_unit.specs.Steps.{missed, reads, fetched, fetches, loaded, noted, written_in, written, load_step, store_step}
+use Rattle.cache_unit.specs.Steps.{prefetch_step, evict_step, drain_first, drain_step, arrived, processed, process_entry, process_step}
+use Rattle.cache_unit.specs.Steps.{take_reply, take_step}
 use Rattle.cache_unit.specs.Counts.{tally, bit}
 use Rattle.cache_unit.proofs.FormsLists.{Adds-tally, Adds-remove, tally-append, flat_map_part, read_set}
-use Rattle.cache_unit.proofs.FormsChoosing.{Able, free_register_at}
+use Rattle.cache_unit.proofs.FormsChoosing.{Able, free_register_at, some_frame}
 use Rattle.cache_unit.proofs.FormsProcessing.{done}
 use Rattle.machine_core.specs.Law.{IsLawful}
 use Rattle.machine_core.specs.Machine.{Machine, apply, joined_with, serve_from, take_in, arrive_from, without_answer}
-use Rattle.machine_core.specs.Sound.{is_for, dues, IsSound, IsBounded}
+use Rattle.machine_core.specs.Sound.{is_for, IsSound, IsBounded}
 use Rattle.machine_core.proofs.Serving.{served-pending}
-use Rattle.machine_core.proofs.Arriving.{bit-pos}
+use Rattle.machine_core.proofs.Units.{bit-pos, sound_unit}
 use Rattle.machine_core.proofs.Draining.{answers_to-write}
 use Rattle.machine_core.proofs.Sending.{commands, one_more, answers_to-read}
-use Rattle.machine_core.proofs.Fetching.{fetched_machine, some_frame}
-use Rattle.machine_core.proofs.Requests.{tags_dues}
+use Rattle.machine_core.proofs.Fetching.{fetched_machine}
 use Rattle.machine_core.proofs.Walking.{event_ok}
 use Rattle.machine_core.proofs.Bounding.{may_able, load_may_miss, store_may_miss, prefetch_may_miss, event_within}
 
@@ -58,7 +63,8 @@ pending_part p banks b = ⊎_elim within past (cases_lt b (length banks))
     past l = let e = ap (λ (x : Bank). tally p (pending x)) (get_or_past banks b no_bank l) in omega arith
 
 -- what is on its way is for a valid register
-valid_for : (z : Sizes) (m : Machine) → IsSound z m → (b s i : ℕ) → 1 ≤ tally (is_for s i) (pending (bank_at m.banks b)) → (register_at m.cache s).valid ≡ true
+valid_for : (z : Sizes) (m : Machine) → IsSound z m → (b s i : ℕ) → 1 ≤ tally (is_for s i) (pending (bank_at m.banks b))
+    → (register_at m.cache s).valid ≡ true
 valid_for z m sound b s i l =
     let part = pending_part (is_for s i) m.banks b in
     let c = sound.counted s i in
@@ -79,7 +85,8 @@ still_routed z m m' sound less blocks h b s i l =
     ap (λ k. address z k i % z.banks) (blocks s (valid_for z m' sound b s i l)) ∙ h b s i (let n = less b s i in omega arith)
 
 -- a bank is another one, with no more on its way
-one_bank : (banks : List Bank) (k : ℕ) (bank : Bank) → ((s i : ℕ) → tally (is_for s i) (pending bank) ≤ tally (is_for s i) (pending (bank_at banks k))) → NoMore banks (set banks k bank)
+one_bank : (banks : List Bank) (k : ℕ) (bank : Bank)
+    → ((s i : ℕ) → tally (is_for s i) (pending bank) ≤ tally (is_for s i) (pending (bank_at banks k))) → NoMore banks (set banks k bank)
 one_bank banks k bank less b s i = ⊎_elim here there (cases_eq b k)
   where
     same : {x y : ℕ} → x ≡ y → x ≤ y
@@ -89,15 +96,18 @@ one_bank banks k bank less b s i = ⊎_elim here there (cases_eq b k)
     there n = same (ap (λ (x : Bank). tally (is_for s i) (pending x)) (get_or-set_other banks k b bank no_bank n))
 
     here : b ≡ k → tally (is_for s i) (pending (bank_at (set banks k bank) b)) ≤ tally (is_for s i) (pending (bank_at banks b))
-    here q = subst (λ j. tally (is_for s i) (pending (bank_at (set banks k bank) j)) ≤ tally (is_for s i) (pending (bank_at banks j))) (sym q) (⊎_elim within past (cases_lt k (length banks)))
+    here q = subst (λ j. tally (is_for s i) (pending (bank_at (set banks k bank) j)) ≤ tally (is_for s i) (pending (bank_at banks j)))
+        (sym q) (⊎_elim within past (cases_lt k (length banks)))
       where
-        within : k < length banks → tally (is_for s i) (pending (bank_at (set banks k bank) k)) ≤ tally (is_for s i) (pending (bank_at banks k))
+        within : k < length banks → tally (is_for s i) (pending (bank_at (set banks k bank) k)) ≤ tally (is_for s i)
+            (pending (bank_at banks k))
         within l =
             let e = ap (λ (x : Bank). tally (is_for s i) (pending x)) (get_or-set_same banks k bank no_bank l) in
             let n = less s i in
             omega arith
 
-        past : length banks ≤ k → tally (is_for s i) (pending (bank_at (set banks k bank) k)) ≤ tally (is_for s i) (pending (bank_at banks k))
+        past : length banks ≤ k → tally (is_for s i) (pending (bank_at (set banks k bank) k)) ≤ tally (is_for s i)
+            (pending (bank_at banks k))
         past l = same (ap (λ (xs : List Bank). tally (is_for s i) (pending (bank_at xs k))) (set_past banks k bank l))
 
 -- ---- the reads of a block
@@ -107,7 +117,9 @@ abbrev ReadFrom : Sizes → ℕ → ℕ → ℕ → ℕ → ℕ → ℕ → Type
 ReadFrom z slot a n b s i =
     (at : ℕ) × (a ≤ at) × (at < a + n) × (at % z.banks ≡ b) × (slot ≡ s) × (at % z.block_words ≡ i)
 
-one_read : (z : Sizes) (some : 0 < z.banks) (slot : ℕ) (banks : List Bank) (at b s i : ℕ) → 1 ≤ tally (is_for s i) (pending (bank_at (one_more z some slot banks at) b)) → (1 ≤ tally (is_for s i) (pending (bank_at banks b))) ⊎ ((at % z.banks ≡ b) × (slot ≡ s) × (at % z.block_words ≡ i))
+one_read : (z : Sizes) (some : 0 < z.banks) (slot : ℕ) (banks : List Bank) (at b s i : ℕ)
+    → 1 ≤ tally (is_for s i) (pending (bank_at (one_more z some slot banks at) b))
+    → (1 ≤ tally (is_for s i) (pending (bank_at banks b))) ⊎ ((at % z.banks ≡ b) × (slot ≡ s) × (at % z.block_words ≡ i))
 unfolding with_command
 one_read z some slot banks at b s i l = ⊎_elim here there (cases_eq b (at % z.banks))
   where
@@ -136,12 +148,20 @@ one_read z some slot banks at b s i l = ⊎_elim here there (cases_eq b (at % z.
         within p = go ((slot == s) && (at % z.block_words == i)) refl
           where
             x : BankAnswer
-            x = record { slot = slot; i = at % z.block_words; word = Rattle.flat_model.specs.Flat.word_at (Rattle.memory_banks.specs.Banks.after bank.words bank.queue) (at / z.banks) }
+            x = record {
+              slot = slot;
+              i = at % z.block_words;
+              word =
+                  Rattle.flat_model.specs.Flat.word_at (Rattle.memory_banks.specs.Banks.after bank.words bank.queue) (at / z.banks);
+            }
 
-            grown : tally (is_for s i) (pending (bank_at (one_more z some slot banks at) b)) ≡ tally (is_for s i) (pending (bank_at banks b)) + (bit ((slot == s) && (at % z.block_words == i)) + 0)
+            grown : tally (is_for s i) (pending (bank_at (one_more z some slot banks at) b))
+                ≡ tally (is_for s i) (pending (bank_at banks b)) + (bit ((slot == s) && (at % z.block_words == i)) + 0)
             grown =
-                let e = ap (λ (y : Bank). tally (is_for s i) (pending y)) (ap (bank_at (set banks k new)) q ∙ get_or-set_same banks k new no_bank p) in
-                let r = ap (λ ys. tally (is_for s i) (bank.answers ++ ys)) (answers_to-read bank.words bank.queue slot (at % z.block_words) (at / z.banks)) in
+                let e = ap (λ (y : Bank). tally (is_for s i) (pending y))
+                (ap (bank_at (set banks k new)) q ∙ get_or-set_same banks k new no_bank p) in
+                let r = ap (λ ys. tally (is_for s i) (bank.answers ++ ys))
+                (answers_to-read bank.words bank.queue slot (at % z.block_words) (at / z.banks)) in
                 let n1 = tally-append (is_for s i) bank.answers (answers_to bank.words bank.queue ++ x ∷ []) in
                 let n2 = tally-append (is_for s i) (answers_to bank.words bank.queue) (x ∷ []) in
                 let n3 = tally-append (is_for s i) bank.answers (answers_to bank.words bank.queue) in
@@ -149,17 +169,24 @@ one_read z some slot banks at b s i l = ⊎_elim here there (cases_eq b (at % z.
                 omega arith
 
             go : (t : Bool) → ((slot == s) && (at % z.block_words == i)) ≡ t → Goal
-            go true e = let p' = and_parts (slot == s) (at % z.block_words == i) e in inr (sym q, eqb-true slot s p'.0, eqb-true (at % z.block_words) i p'.1)
+            go true e = let p' = and_parts (slot == s) (at % z.block_words == i) e in
+                inr (sym q, eqb-true slot s p'.0, eqb-true (at % z.block_words) i p'.1)
             go false e = inl (let g = grown in let e' = ap bit e in omega arith)
 
-all_reads : (z : Sizes) (some : 0 < z.banks) (slot n a : ℕ) (banks : List Bank) (b s i : ℕ) → 1 ≤ tally (is_for s i) (pending (bank_at (all_sent banks (commands z slot (range_with_len a n))) b)) → (1 ≤ tally (is_for s i) (pending (bank_at banks b))) ⊎ ReadFrom z slot a n b s i
+all_reads : (z : Sizes) (some : 0 < z.banks) (slot n a : ℕ) (banks : List Bank) (b s i : ℕ)
+    → 1 ≤ tally (is_for s i) (pending (bank_at (all_sent banks (commands z slot (range_with_len a n))) b))
+    → (1 ≤ tally (is_for s i) (pending (bank_at banks b))) ⊎ ReadFrom z slot a n b s i
 all_reads z some slot zero a banks b s i l = inl l
 all_reads z some slot (suc n) a banks b s i l =
-    ⊎_elim (λ k. ⊎_elim (λ o. inl o) (λ r. inr (a, omega arith, omega arith, r.0, r.1, r.2)) (one_read z some slot banks a b s i k)) (λ r. inr (r.0, (let lo = r.1 in omega arith), (let hi = r.2 in omega arith), r.3, r.4, r.5)) (all_reads z some slot n (a + 1) (one_more z some slot banks a) b s i l)
+    ⊎_elim (λ k. ⊎_elim (λ o. inl o) (λ r. inr (a, omega arith, omega arith, r.0, r.1, r.2)) (one_read z some slot banks a b s i k))
+    (λ r. inr (r.0, (let lo = r.1 in omega arith), (let hi = r.2 in omega arith), r.3, r.4, r.5))
+    (all_reads z some slot n (a + 1) (one_more z some slot banks a) b s i l)
 
 -- ---- a miss
 
-routed_miss : (z : Sizes) (lawful : IsLawful z) (m : Machine) → IsSound z m → Routed z m → (block f slot : ℕ) → slot < length m.cache.registers → (register_at m.cache slot).valid ≡ false → Routed z (record { cache = installed z (released z m.cache f) block f slot; banks = all_sent m.banks (reads z block (Some slot)) })
+routed_miss : (z : Sizes) (lawful : IsLawful z) (m : Machine) → IsSound z m → Routed z m → (block f slot : ℕ)
+    → slot < length m.cache.registers → (register_at m.cache slot).valid ≡ false
+    → Routed z (record { cache = installed z (released z m.cache f) block f slot; banks = all_sent m.banks (reads z block (Some slot)) })
 unfolding installed released
 routed_miss z lawful m sound h block f slot there free b s i l =
     ⊎_elim before now (all_reads z lawful.some_banks slot z.block_words (address z block 0) m.banks b s i l)
@@ -173,8 +200,10 @@ routed_miss z lawful m sound h block f slot there free b s i l =
     before : 1 ≤ tally (is_for s i) (pending (bank_at m.banks b)) → address z (get_or registers s free_register).block i % z.banks ≡ b
     before k =
         let v = valid_for z m sound b s i k in
-        let other : s ≡ slot → ⊥ = λ q. (let v' : (register_at m.cache slot).valid ≡ true = ap (λ j. (register_at m.cache j).valid) (sym q) ∙ v in cc) in
-        ap (λ (r : Register). address z r.block i % z.banks) (get_or-set_other m.cache.registers slot s fresh free_register other) ∙ h b s i k
+        let other : s ≡ slot → ⊥ = λ q. (let v' : (register_at m.cache slot).valid ≡ true =
+        ap (λ j. (register_at m.cache j).valid) (sym q) ∙ v in cc) in
+        ap (λ (r : Register). address z r.block i % z.banks) (get_or-set_other m.cache.registers slot s fresh free_register other)
+        ∙ h b s i k
 
     now : ReadFrom z slot (address z block 0) z.block_words b s i → address z (get_or registers s free_register).block i % z.banks ≡ b
     now r =
@@ -183,18 +212,22 @@ routed_miss z lawful m sound h block f slot there free b s i l =
         let whole : at ≡ block * z.block_words + k = let lo = r.1 in omega arith in
         let small : k < z.block_words = let hi = r.2 in let lo = r.1 in omega arith in
         let place : k ≡ i = sym (mod-mul-add block z.block_words k small) ∙ ap (λ x. x % z.block_words) (sym whole) ∙ r.5 in
-        let own : get_or registers s free_register ≡ fresh = ap (λ j. get_or registers j free_register) (sym r.4) ∙ get_or-set_same m.cache.registers slot fresh free_register there in
-        ap (λ (x : Register). address z x.block i % z.banks) own ∙ ap (λ j. address z block j % z.banks) (sym place) ∙ ap (λ x. x % z.banks) (sym whole) ∙ r.3
+        let own : get_or registers s free_register ≡ fresh = ap (λ j. get_or registers j free_register) (sym r.4)
+        ∙ get_or-set_same m.cache.registers slot fresh free_register there in
+        ap (λ (x : Register). address z x.block i % z.banks) own ∙ ap (λ j. address z block j % z.banks) (sym place)
+        ∙ ap (λ x. x % z.banks) (sym whole) ∙ r.3
 
-routed_fetch : (z : Sizes) (lawful : IsLawful z) (m : Machine) → IsSound z m → Routed z m → (block : ℕ) → (is_present m.cache block ≡ false → Able z m.cache block) → Routed z (fetched_machine z m block)
+routed_fetch : (z : Sizes) (lawful : IsLawful z) (m : Machine) → IsSound z m → Routed z m → (block : ℕ)
+    → (is_present m.cache block ≡ false → Able z m.cache block) → Routed z (fetched_machine z m block)
 unfolding fetched fetches
 routed_fetch z lawful m sound h block able =
     go (is_present m.cache block) refl (choose z m.cache block) refl (free_slot m.cache) refl
   where
-    go : (p : Bool) → is_present m.cache block ≡ p → (o : Option ℕ) → choose z m.cache block ≡ o → (s : Option ℕ) → free_slot m.cache ≡ s → Routed z (record { cache = cond p m.cache (missed z m.cache block o s); banks = all_sent m.banks (cond p [] (reads z block s)) })
+    go : (p : Bool) → is_present m.cache block ≡ p → (o : Option ℕ) → choose z m.cache block ≡ o → (s : Option ℕ) → free_slot m.cache ≡ s
+        → Routed z (record { cache = cond p m.cache (missed z m.cache block o s); banks = all_sent m.banks (cond p [] (reads z block s)) })
     go true ep o eo s e = h
     go false ep None eo s e =
-        let some = some_frame z lawful m sound block (able ep).1 in
+        let some = some_frame z m.cache (sound_unit z lawful m sound) block (able ep).1 in
         let none : is_none (choose z m.cache block) ≡ true = ap is_none eo in
         cc
     go false ep (Some f) eo None e = h
@@ -204,7 +237,8 @@ routed_fetch z lawful m sound h block able =
 
 -- ---- the registers of each step
 
-same_blocks : (c : Cache) (slot : ℕ) (r : Register) → r.block ≡ (register_at c slot).block → (s : ℕ) → (get_or (set c.registers slot r) s free_register).block ≡ (register_at c s).block
+same_blocks : (c : Cache) (slot : ℕ) (r : Register) → r.block ≡ (register_at c slot).block → (s : ℕ)
+    → (get_or (set c.registers slot r) s free_register).block ≡ (register_at c s).block
 same_blocks c slot r e s = read_set (λ (x : Register). x.block) free_register c.registers slot r e s
 
 blocks_field : (c : Cache) (slot i : ℕ) (f : Field) → Blocks c (with_field c slot i f)
@@ -223,11 +257,18 @@ blocks_written c block i word lanes s v = buffer (frame_of c block) (live_for c 
     code d e None = ap (λ rs. (get_or rs s free_register).block) e
     code d e (Some slot) = go (field_at d slot i).processed
       where
-        go : (b : Bool) → (register_at (cond b d (with_field d slot i (record (field_at d slot i) { code = joined (field_at d slot i).code lanes }))) s).block ≡ (register_at c s).block
+        go : (b : Bool) → (register_at (cond b d
+            (with_field d slot i (record (field_at d slot i) { code = joined (field_at d slot i).code lanes }))) s).block
+            ≡ (register_at c s).block
         go true = ap (λ (rs : List Register). (get_or rs s free_register).block) e
-        go false = same_blocks d slot (record (register_at d slot) { fields = set (register_at d slot).fields i (record (field_at d slot i) { code = joined (field_at d slot i).code lanes }) }) refl s ∙ ap (λ (rs : List Register). (get_or rs s free_register).block) e
+        go false = same_blocks d slot (record (register_at d slot) {
+          fields =
+              set (register_at d slot).fields i (record (field_at d slot i) { code = joined (field_at d slot i).code lanes });
+        }) refl s
+            ∙ ap (λ (rs : List Register). (get_or rs s free_register).block) e
 
-    buffer : (f : Option ℕ) (o : Option ℕ) → (register_at (noted (written_in c f i word lanes) o i lanes) s).valid ≡ true → (register_at (noted (written_in c f i word lanes) o i lanes) s).block ≡ (register_at c s).block
+    buffer : (f : Option ℕ) (o : Option ℕ) → (register_at (noted (written_in c f i word lanes) o i lanes) s).valid ≡ true
+        → (register_at (noted (written_in c f i word lanes) o i lanes) s).block ≡ (register_at c s).block
     buffer None o v' = code c refl o
     buffer (Some f) o v' = code (written_in c (Some f) i word lanes) refl o
 
@@ -250,24 +291,33 @@ blocks_processed c place e s v = go (list_all (λ (f : Field). f.processed) fiel
     kept : Register
     kept = record (register_at c e.slot) { fields = fields }
 
-    go : (b : Bool) → (get_or (set c.registers e.slot (cond b free_register kept)) s free_register).valid ≡ true → (get_or (set c.registers e.slot (cond b free_register kept)) s free_register).block ≡ (register_at c s).block
+    go : (b : Bool) → (get_or (set c.registers e.slot (cond b free_register kept)) s free_register).valid ≡ true
+        → (get_or (set c.registers e.slot (cond b free_register kept)) s free_register).block ≡ (register_at c s).block
     go false v' = same_blocks c e.slot kept refl s
-    go true v' = ⊎_elim here (λ n. ap (λ (r : Register). r.block) (get_or-set_other c.registers e.slot s free_register free_register n)) (cases_eq s e.slot)
+    go true v' = ⊎_elim here (λ n. ap (λ (r : Register). r.block) (get_or-set_other c.registers e.slot s free_register free_register n))
+        (cases_eq s e.slot)
       where
         here : s ≡ e.slot → (get_or (set c.registers e.slot free_register) s free_register).block ≡ (register_at c s).block
         here q = ⊎_elim within past (cases_lt e.slot (length c.registers))
           where
-            within : e.slot < length c.registers → (get_or (set c.registers e.slot free_register) s free_register).block ≡ (register_at c s).block
+            within : e.slot < length c.registers → (get_or (set c.registers e.slot free_register) s free_register).block
+                ≡ (register_at c s).block
             within l =
-                let no : (get_or (set c.registers e.slot free_register) s free_register).valid ≡ false = ap (λ k. (get_or (set c.registers e.slot free_register) k free_register).valid) q ∙ ap (λ (r : Register). r.valid) (get_or-set_same c.registers e.slot free_register free_register l) in
+                let no : (get_or (set c.registers e.slot free_register) s free_register).valid ≡ false =
+                ap (λ k. (get_or (set c.registers e.slot free_register) k free_register).valid) q
+                ∙ ap (λ (r : Register). r.valid) (get_or-set_same c.registers e.slot free_register free_register l) in
                 cc
 
-            past : length c.registers ≤ e.slot → (get_or (set c.registers e.slot free_register) s free_register).block ≡ (register_at c s).block
+            past : length c.registers ≤ e.slot → (get_or (set c.registers e.slot free_register) s free_register).block
+                ≡ (register_at c s).block
             past l = ap (λ (rs : List Register). (get_or rs s free_register).block) (set_past c.registers e.slot free_register l)
 
 -- ---- each event
 
-unless_routed : (z : Sizes) (m : Machine) (cause : Option Cause) (step : Stepped) → Routed z m → IsSound z (joined_with m.banks (unless cause m.cache step)).machine → (cause ≡ None → IsSound z (joined_with m.banks step).machine → Routed z (joined_with m.banks step).machine) → Routed z (joined_with m.banks (unless cause m.cache step)).machine
+unless_routed : (z : Sizes) (m : Machine) (cause : Option Cause) (step : Stepped) → Routed z m
+    → IsSound z (joined_with m.banks (unless cause m.cache step)).machine
+    → (cause ≡ None → IsSound z (joined_with m.banks step).machine → Routed z (joined_with m.banks step).machine)
+    → Routed z (joined_with m.banks (unless cause m.cache step)).machine
 unless_routed z m None step h sound go_on = go_on refl sound
 unless_routed z m (Some cause) step h sound go_on = h
 
@@ -278,19 +328,24 @@ module _ (z : Sizes) (lawful : IsLawful z) (m : Machine) (sound : IsSound z m) (
   load_routed : (tag at : ℕ) → Routed z (apply z m (Load tag at)).machine
   unfolding load_step
   load_routed tag at =
-      unless_routed z m (load_cause z (room_in z.bank_queue m.banks) m.cache tag at) _ h (event_ok z lawful m sound (Load tag at)).sound (λ e after.
-      still_routed z (fetched_machine z m (block_of z at)) _ after (no_more _) (blocks_loaded _ tag _ _ _) (routed_fetch z lawful m sound h (block_of z at) (may_able z m (block_of z at) (load_may_miss z m tag at e))))
+      unless_routed z m (load_cause z (room_in z.bank_queue m.banks) m.cache tag at) _ h (event_ok z lawful m sound (Load tag at)).sound
+      (λ e after.
+      still_routed z (fetched_machine z m (block_of z at)) _ after (no_more _) (blocks_loaded _ tag _ _ _)
+      (routed_fetch z lawful m sound h (block_of z at) (may_able z m (block_of z at) (load_may_miss z m tag at e))))
 
   store_routed : (at : ℕ) (word : Word) (lanes : Lanes) → Routed z (apply z m (Store at word lanes)).machine
   unfolding store_step
   store_routed at word lanes =
-      unless_routed z m (store_cause z (room_in z.bank_queue m.banks) m.cache at lanes) _ h (event_ok z lawful m sound (Store at word lanes)).sound (λ e after.
-      still_routed z (fetched_machine z m (block_of z at)) _ after (no_more _) (blocks_written _ _ _ word lanes) (routed_fetch z lawful m sound h (block_of z at) (may_able z m (block_of z at) (store_may_miss z m at lanes e))))
+      unless_routed z m (store_cause z (room_in z.bank_queue m.banks) m.cache at lanes) _ h
+      (event_ok z lawful m sound (Store at word lanes)).sound (λ e after.
+      still_routed z (fetched_machine z m (block_of z at)) _ after (no_more _) (blocks_written _ _ _ word lanes)
+      (routed_fetch z lawful m sound h (block_of z at) (may_able z m (block_of z at) (store_may_miss z m at lanes e))))
 
   prefetch_routed : (at : ℕ) → Routed z (apply z m (Prefetch at)).machine
   unfolding prefetch_step
   prefetch_routed at =
-      unless_routed z m (prefetch_cause z (room_in z.bank_queue m.banks) m.cache at) _ h (event_ok z lawful m sound (Prefetch at)).sound (λ e after.
+      unless_routed z m (prefetch_cause z (room_in z.bank_queue m.banks) m.cache at) _ h (event_ok z lawful m sound (Prefetch at)).sound
+      (λ e after.
       routed_fetch z lawful m sound h (block_of z at) (may_able z m (block_of z at) (prefetch_may_miss z m at e)))
 
   evict_routed : (block : ℕ) → Routed z (apply z m (Evict block)).machine
@@ -303,7 +358,8 @@ module _ (z : Sizes) (lawful : IsLawful z) (m : Machine) (sound : IsSound z m) (
   unfolding drain_step with_command
   drain_routed = go m.cache.queue (event_ok z lawful m sound Drain).sound
     where
-      go : (queue : List Queued) → IsSound z (joined_with m.banks (drain_first z (room_in z.bank_queue m.banks) m.cache queue)).machine → Routed z (joined_with m.banks (drain_first z (room_in z.bank_queue m.banks) m.cache queue)).machine
+      go : (queue : List Queued) → IsSound z (joined_with m.banks (drain_first z (room_in z.bank_queue m.banks) m.cache queue)).machine
+          → Routed z (joined_with m.banks (drain_first z (room_in z.bank_queue m.banks) m.cache queue)).machine
       go [] after = h
       go (q ∷ rest) after = by_room (nat_lt 0 (room_in z.bank_queue m.banks (q.at % z.banks))) after
         where
@@ -317,27 +373,34 @@ module _ (z : Sizes) (lawful : IsLawful z) (m : Machine) (sound : IsSound z m) (
           write = Write (q.at / z.banks) q.word q.lanes
 
           outcome : Bool → Machine
-          outcome t = (joined_with m.banks (cond t (record { answer = Moved; cache = record m.cache { queue = rest }; sent = (q.at % z.banks, write) ∷ [] }) (record { answer = Refused BankFull; cache = m.cache; sent = [] }))).machine
+          outcome t = (joined_with m.banks (cond t
+              (record { answer = Moved; cache = record m.cache { queue = rest }; sent = (q.at % z.banks, write) ∷ [] })
+              (record { answer = Refused BankFull; cache = m.cache; sent = [] }))).machine
 
           by_room : (t : Bool) → IsSound z (outcome t) → Routed z (outcome t)
           by_room false a = h
           by_room true a =
-              still_routed z m _ a (one_bank m.banks k (with_command bank write) (λ s i. (let e = ap (λ xs. tally (is_for s i) (bank.answers ++ xs)) (answers_to-write bank.words bank.queue (q.at / z.banks) q.word q.lanes) in omega arith))) (λ s v. refl) h
+              still_routed z m _ a (one_bank m.banks k (with_command bank write)
+              (λ s i. (let e = ap (λ xs. tally (is_for s i) (bank.answers ++ xs))
+              (answers_to-write bank.words bank.queue (q.at / z.banks) q.word q.lanes) in omega arith))) (λ s v. refl) h
 
   serve_routed : (b : ℕ) → Routed z (apply z m (Serve b)).machine
   serve_routed b = go (bank_at m.banks b).queue refl (event_ok z lawful m sound (Serve b)).sound
     where
-      go : (queue : List Command) → (bank_at m.banks b).queue ≡ queue → IsSound z (serve_from m b queue).machine → Routed z (serve_from m b queue).machine
+      go : (queue : List Command) → (bank_at m.banks b).queue ≡ queue → IsSound z (serve_from m b queue).machine
+          → Routed z (serve_from m b queue).machine
       go [] e after = h
       go (first ∷ rest) e after =
-          still_routed z m _ after (one_bank m.banks b (served (bank_at m.banks b) first rest) (λ s i. (let k = ap (tally (is_for s i)) (served-pending (bank_at m.banks b) first rest e) in omega arith))) (λ s v. refl) h
+          still_routed z m _ after (one_bank m.banks b (served (bank_at m.banks b) first rest)
+          (λ s i. (let k = ap (tally (is_for s i)) (served-pending (bank_at m.banks b) first rest e) in omega arith))) (λ s v. refl) h
 
   arrive_routed : (b place : ℕ) → Routed z (apply z m (Arrive b place)).machine
   unfolding arrived
   arrive_routed b place =
       go (slice_get (bank_at m.banks b).answers place) refl (event_ok z lawful m sound (Arrive b place)).sound
     where
-      go : (o : Option BankAnswer) → slice_get (bank_at m.banks b).answers place ≡ o → IsSound z (arrive_from z m b place o).machine → Routed z (arrive_from z m b place o).machine
+      go : (o : Option BankAnswer) → slice_get (bank_at m.banks b).answers place ≡ o → IsSound z (arrive_from z m b place o).machine
+          → Routed z (arrive_from z m b place o).machine
       go None e after = h
       go (Some a) e after = by_cause (arrive_cause z m.cache a.slot a.i) after
         where
@@ -359,7 +422,8 @@ module _ (z : Sizes) (lawful : IsLawful z) (m : Machine) (sound : IsSound z m) (
   unfolding process_step
   process_routed place = go (slice_get m.cache.stack place) (event_ok z lawful m sound (Process place)).sound
     where
-      go : (o : Option Entry) → IsSound z (joined_with m.banks (process_entry m.cache place o)).machine → Routed z (joined_with m.banks (process_entry m.cache place o)).machine
+      go : (o : Option Entry) → IsSound z (joined_with m.banks (process_entry m.cache place o)).machine
+          → Routed z (joined_with m.banks (process_entry m.cache place o)).machine
       go None after = h
       go (Some e) after = still_routed z m _ after (no_more m.banks) (blocks_processed m.cache place e) h
 
@@ -367,7 +431,8 @@ module _ (z : Sizes) (lawful : IsLawful z) (m : Machine) (sound : IsSound z m) (
   unfolding take_step
   take_routed place = go (slice_get m.cache.ready place) (event_ok z lawful m sound (Take place)).sound
     where
-      go : (o : Option Reply) → IsSound z (joined_with m.banks (take_reply m.cache place o)).machine → Routed z (joined_with m.banks (take_reply m.cache place o)).machine
+      go : (o : Option Reply) → IsSound z (joined_with m.banks (take_reply m.cache place o)).machine
+          → Routed z (joined_with m.banks (take_reply m.cache place o)).machine
       go None after = h
       go (Some r) after = still_routed z m _ after (no_more m.banks) (λ s v. refl) h
 
@@ -383,13 +448,17 @@ module _ (z : Sizes) (lawful : IsLawful z) (m : Machine) (sound : IsSound z m) (
   event_routed (Take place) = take_routed place
 
 -- each event keeps the limits
-pub event_bounded : (z : Sizes) → IsLawful z → (m : Machine) → IsSound z m → IsBounded z m → (event : Event) → IsBounded z (apply z m event).machine
+pub event_bounded : (z : Sizes) → IsLawful z → (m : Machine) → IsSound z m → IsBounded z m → (event : Event)
+    → IsBounded z (apply z m event).machine
 event_bounded z lawful m sound h event =
-    let w = event_within z lawful m sound (record { little = record { wait = h.unfinished; queued = h.few_queued }; fits = h.few_commands }) event in
-    let few : length (dues (apply z m event).machine) ≤ z.replies = (event_ok z lawful m sound event).few (subst (λ n. n ≤ z.replies) (tags_dues m) h.few_tags) in
+    let w = event_within z lawful m sound (record {
+      little = record { wait = h.unfinished; queued = h.few_queued };
+      fits =
+          h.few_commands;
+    }) event in
     record {
       unfinished = w.little.wait;
-      few_tags = subst (λ n. n ≤ z.replies) (sym (tags_dues (apply z m event).machine)) few;
+      few_tags = (event_ok z lawful m sound event).few h.few_tags;
       few_queued = w.little.queued;
       few_commands = w.fits;
       at_its_bank = event_routed z lawful m sound h.at_its_bank event;

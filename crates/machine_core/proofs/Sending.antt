@@ -1,5 +1,7 @@
 -- The reads of a block go to their banks.
-use Rattle.std.proofs.Common.{◌≡◌, ℕ, zero, suc, ◌+◌, ◌*◌, ◌/◌, ◌%◌, ◌<◌, ◌≤◌, Bool, true, false, cond, ◌&&◌, ◌==◌, nat_lt, nat_le, List, [], ◌∷◌, ◌++◌, map, length, set, Some, find, refl, sym, ap, ap₂, ◌∙◌, subst, arith, length-set, ⊎_elim, mod-lt, eq-eqb, ne_eqb, add-zero, leb-true, ltb-true, le-leb, lt-ltb}
+use Rattle.std.proofs.Common.{◌≡◌, ℕ, zero, suc, ◌+◌, ◌*◌, ◌/◌, ◌%◌, ◌<◌, ◌≤◌, Bool, true, false, cond, ◌&&◌, ◌==◌, nat_lt, nat_le, List}
+use Rattle.std.proofs.Common.{[], ◌∷◌, ◌++◌, map, length, set, Some, find, refl, sym, ap, ap₂, ◌∙◌, subst, arith, length-set, ⊎_elim}
+use Rattle.std.proofs.Common.{mod-lt, eq-eqb, ne_eqb, add-zero, leb-true, ltb-true, le-leb, lt-ltb}
 use Rattle.std.specs.List.{range_with_len}
 use Rattle.std.proofs.lemmas.Bool.{cases_eq, cases_order, lt-leb}
 use Rattle.std.proofs.lemmas.Nat.{mod-mul-add}
@@ -11,7 +13,8 @@ use Rattle.memory_banks.specs.declared.BankAnswer.{BankAnswer}
 use Rattle.memory_banks.specs.Banks.{Bank, bank_at, no_bank, pending, all_pending, words_after, answers_to, after, with_command, all_sent}
 use Rattle.cache_unit.specs.State.{Sizes}
 use Rattle.cache_unit.specs.Counts.{tally, bit}
-use Rattle.cache_unit.proofs.FormsLists.{Adds, Adds-tally, Adds-find_other, Adds-find_same, Adds-push, Adds-left, Adds-right, Adds-same, find_none, flat_map_part, read_set, map-same}
+use Rattle.cache_unit.proofs.FormsLists.{Adds, Adds-tally, Adds-find_other, Adds-find_same, Adds-push, Adds-left, Adds-right, Adds-same}
+use Rattle.cache_unit.proofs.FormsLists.{find_none, flat_map_part, read_set, map-same}
 use Rattle.machine_core.specs.Sound.{is_for}
 
 -- the word of memory at an address, once the queue of its bank is served
@@ -45,7 +48,8 @@ AddsAll-find_other p (x ∷ xs) old new a none = go (p x) refl (AddsAll-find_oth
     go false e rest = let k = ap bit e in rest (omega arith) ∙ Adds-find_other p x old a.0 a.1 e
 
 -- where the old list has none and the new elements one, that one is found
-pub AddsAll-find : {X : Type 0} (p : X → Bool) (xs old new : List X) → AddsAll xs old new → tally p old ≡ 0 → tally p xs ≤ 1 → find p new ≡ find p xs
+pub AddsAll-find : {X : Type 0} (p : X → Bool) (xs old new : List X) → AddsAll xs old new → tally p old ≡ 0 → tally p xs ≤ 1
+    → find p new ≡ find p xs
 AddsAll-find p [] old new a none one = ap (find p) a ∙ find_none p old none
 AddsAll-find {X} p (x ∷ xs) old new a none one = go (p x) refl (AddsAll-find p xs a.0 new a.2)
   where
@@ -60,13 +64,16 @@ AddsAll-find {X} p (x ∷ xs) old new a none one = go (p x) refl (AddsAll-find p
 
 -- ---- one read
 
-pub answers_to-read : (words : List Word) (queue : List Command) (slot i place : ℕ) → answers_to words (queue ++ Read slot i place ∷ []) ≡ answers_to words queue ++ record { slot = slot; i = i; word = word_at (after words queue) place } ∷ []
+pub answers_to-read : (words : List Word) (queue : List Command) (slot i place : ℕ)
+    → answers_to words (queue ++ Read slot i place ∷ [])
+    ≡ answers_to words queue ++ record { slot = slot; i = i; word = word_at (after words queue) place } ∷ []
 answers_to-read words [] slot i place = refl
 answers_to-read words (Read s j p ∷ rest) slot i place =
     ap (λ l. record { slot = s; i = j; word = word_at words p } ∷ l) (answers_to-read words rest slot i place)
 answers_to-read words (Write p w l ∷ rest) slot i place = answers_to-read (stored words p w l) rest slot i place
 
-after-read : (words : List Word) (queue : List Command) (slot i place : ℕ) → after words (queue ++ Read slot i place ∷ []) ≡ after words queue
+after-read : (words : List Word) (queue : List Command) (slot i place : ℕ)
+    → after words (queue ++ Read slot i place ∷ []) ≡ after words queue
 after-read words [] slot i place = refl
 after-read words (Read s j p ∷ rest) slot i place = after-read words rest slot i place
 after-read words (Write p w l ∷ rest) slot i place = after-read (stored words p w l) rest slot i place
@@ -86,24 +93,29 @@ module _ (z : Sizes) (some_banks : 0 < z.banks) (slot : ℕ) where
   unfolding with_command
   one_length banks at b = read_set (λ (x : Bank). length x.words) no_bank banks (at % z.banks) _ refl b
 
-  one_adds : (banks : List Bank) (at : ℕ) → length banks ≡ z.banks → Adds (answer_at z banks slot at) (all_pending banks) (all_pending (one_more banks at))
+  one_adds : (banks : List Bank) (at : ℕ) → length banks ≡ z.banks
+      → Adds (answer_at z banks slot at) (all_pending banks) (all_pending (one_more banks at))
   unfolding with_command
   one_adds banks at n =
       let bank = bank_at banks (at % z.banks) in
       let there : at % z.banks < length banks = let k = mod-lt at some_banks in omega arith in
       let part = flat_map_part pending no_bank banks (at % z.banks) there in
       let x = answer_at z banks slot at in
-      let more : Adds x (pending bank) (bank.answers ++ (answers_to bank.words bank.queue ++ x ∷ [])) = Adds-left bank.answers x _ _ (Adds-push x (answers_to bank.words bank.queue)) in
+      let more : Adds x (pending bank) (bank.answers ++ (answers_to bank.words bank.queue ++ x ∷ [])) =
+      Adds-left bank.answers x _ _ (Adds-push x (answers_to bank.words bank.queue)) in
       let e = answers_to-read bank.words bank.queue slot (at % z.block_words) (at / z.banks) in
-      Adds-same x _ _ _ _ part.now (part.then _ ∙ ap (λ l. part.front ++ ((bank.answers ++ l) ++ part.back)) e) (Adds-left part.front x _ _ (Adds-right part.back x _ _ more))
+      Adds-same x _ _ _ _ part.now (part.then _ ∙ ap (λ l. part.front ++ ((bank.answers ++ l) ++ part.back)) e)
+      (Adds-left part.front x _ _ (Adds-right part.back x _ _ more))
 
   -- ---- all of them
 
-  pub sent_words : (ats : List ℕ) (banks : List Bank) (b : ℕ) → words_after (bank_at (all_sent banks (commands z slot ats)) b) ≡ words_after (bank_at banks b)
+  pub sent_words : (ats : List ℕ) (banks : List Bank) (b : ℕ)
+      → words_after (bank_at (all_sent banks (commands z slot ats)) b) ≡ words_after (bank_at banks b)
   sent_words [] banks b = refl
   sent_words (at ∷ ats) banks b = sent_words ats (one_more banks at) b ∙ one_words banks at b
 
-  pub sent_lengths : (ats : List ℕ) (banks : List Bank) (b : ℕ) → length (bank_at (all_sent banks (commands z slot ats)) b).words ≡ length (bank_at banks b).words
+  pub sent_lengths : (ats : List ℕ) (banks : List Bank) (b : ℕ)
+      → length (bank_at (all_sent banks (commands z slot ats)) b).words ≡ length (bank_at banks b).words
   sent_lengths [] banks b = refl
   sent_lengths (at ∷ ats) banks b = sent_lengths ats (one_more banks at) b ∙ one_length banks at b
 
@@ -111,18 +123,27 @@ module _ (z : Sizes) (some_banks : 0 < z.banks) (slot : ℕ) where
   sent_number [] banks = refl
   sent_number (at ∷ ats) banks = sent_number ats (one_more banks at) ∙ length-set banks (at % z.banks) _
 
-  pub sent_adds : (ats : List ℕ) (banks : List Bank) → length banks ≡ z.banks → AddsAll (map (answer_at z banks slot) ats) (all_pending banks) (all_pending (all_sent banks (commands z slot ats)))
+  pub sent_adds : (ats : List ℕ) (banks : List Bank) → length banks ≡ z.banks
+      → AddsAll (map (answer_at z banks slot) ats) (all_pending banks) (all_pending (all_sent banks (commands z slot ats)))
   sent_adds [] banks n = refl
   sent_adds (at ∷ ats) banks n =
       let banks1 = one_more banks at in
       let rest = sent_adds ats banks1 (length-set banks (at % z.banks) _ ∙ n) in
-      let same : map (answer_at z banks1 slot) ats ≡ map (answer_at z banks slot) ats = map-same (answer_at z banks1 slot) (answer_at z banks slot) ats (λ a. ap (λ ws. record { slot = slot; i = a % z.block_words; word = word_at ws (a / z.banks) }) (one_words banks at (a % z.banks))) in
-      (all_pending banks1, one_adds banks at n, subst (λ l. AddsAll l (all_pending banks1) (all_pending (all_sent banks1 (commands z slot ats)))) same rest)
+      let same : map (answer_at z banks1 slot) ats ≡ map (answer_at z banks slot) ats =
+      map-same (answer_at z banks1 slot) (answer_at z banks slot) ats
+      (λ a. ap (λ ws. record { slot = slot; i = a % z.block_words; word = word_at ws (a / z.banks) })
+      (one_words banks at (a % z.banks))) in (
+        all_pending banks1,
+        one_adds banks at n,
+        subst
+            (λ l. AddsAll l (all_pending banks1) (all_pending (all_sent banks1 (commands z slot ats)))) same rest,
+      )
 
 -- ---- which answers these are
 
 -- the answers for another register: none
-pub reads_other : (z : Sizes) (banks : List Bank) (slot t j : ℕ) (ats : List ℕ) → (slot ≡ t → ⊥) → tally (is_for t j) (map (answer_at z banks slot) ats) ≡ 0
+pub reads_other : (z : Sizes) (banks : List Bank) (slot t j : ℕ) (ats : List ℕ) → (slot ≡ t → ⊥)
+    → tally (is_for t j) (map (answer_at z banks slot) ats) ≡ 0
 reads_other z banks slot t j [] n = refl
 reads_other z banks slot t j (at ∷ ats) n =
     let ih = reads_other z banks slot t j ats n in
@@ -139,14 +160,18 @@ one_step r n j = ⊎_elim same (⊎_elim below above) (cases_order r j)
     below l =
         let e : suc r + n ≡ r + suc n = omega arith in
         let b : bit (nat_lt j (suc r + n)) ≡ bit (nat_lt j (r + suc n)) = ap (λ k. bit (nat_lt j k)) e in
-        ap₂ (λ x y. bit x + bit (y && nat_lt j (suc r + n))) (ne_eqb r j (λ q. omega arith)) (le-leb (suc r) j l) ∙ (let k : 0 + bit (nat_lt j (suc r + n)) ≡ bit (nat_lt j (r + suc n)) = omega arith in k) ∙ ap (λ x. bit (x && nat_lt j (r + suc n))) (sym (le-leb r j (omega arith)))
+        ap₂ (λ x y. bit x + bit (y && nat_lt j (suc r + n))) (ne_eqb r j (λ q. omega arith)) (le-leb (suc r) j l)
+        ∙ (let k : 0 + bit (nat_lt j (suc r + n)) ≡ bit (nat_lt j (r + suc n)) = omega arith in k)
+        ∙ ap (λ x. bit (x && nat_lt j (r + suc n))) (sym (le-leb r j (omega arith)))
 
     above : j < r → bit (r == j) + bit (nat_le (suc r) j && nat_lt j (suc r + n)) ≡ bit (nat_le r j && nat_lt j (r + suc n))
     above l =
-        ap₂ (λ x y. bit x + bit (y && nat_lt j (suc r + n))) (ne_eqb r j (λ q. omega arith)) (lt-leb (suc r) j (omega arith)) ∙ ap (λ x. bit (x && nat_lt j (r + suc n))) (sym (lt-leb r j l))
+        ap₂ (λ x y. bit x + bit (y && nat_lt j (suc r + n))) (ne_eqb r j (λ q. omega arith)) (lt-leb (suc r) j (omega arith))
+        ∙ ap (λ x. bit (x && nat_lt j (r + suc n))) (sym (lt-leb r j l))
 
 -- the answers for words r .. r + n of a block
-pub reads_tally : (z : Sizes) (banks : List Bank) (slot b : ℕ) (r n a j : ℕ) → a ≡ b * z.block_words + r → r + n ≤ z.block_words → tally (is_for slot j) (map (answer_at z banks slot) (range_with_len a n)) ≡ bit (nat_le r j && nat_lt j (r + n))
+pub reads_tally : (z : Sizes) (banks : List Bank) (slot b : ℕ) (r n a j : ℕ) → a ≡ b * z.block_words + r → r + n ≤ z.block_words
+    → tally (is_for slot j) (map (answer_at z banks slot) (range_with_len a n)) ≡ bit (nat_le r j && nat_lt j (r + n))
 reads_tally z banks slot b r zero a j e l = nothing (nat_le r j) refl (nat_lt j (r + 0)) refl
   where
     nothing : (x : Bool) → nat_le r j ≡ x → (y : Bool) → nat_lt j (r + 0) ≡ y → 0 ≡ bit (x && y)
@@ -156,13 +181,18 @@ reads_tally z banks slot b r zero a j e l = nothing (nat_le r j) refl (nat_lt j 
 reads_tally z banks slot b r (suc n) a j e l =
     let here : a % z.block_words ≡ r = ap (λ k. k % z.block_words) e ∙ mod-mul-add b z.block_words r (omega arith) in
     let ih = reads_tally z banks slot b (suc r) n (a + 1) j (omega arith) (omega arith) in
-    let own : bit ((slot == slot) && (a % z.block_words == j)) ≡ bit (r == j) = ap₂ (λ x y. bit (x && (y == j))) (eq-eqb slot slot refl) here in
+    let own : bit ((slot == slot) && (a % z.block_words == j)) ≡ bit (r == j) =
+    ap₂ (λ x y. bit (x && (y == j))) (eq-eqb slot slot refl) here in
     ap₂ (λ x y. x + y) own ih ∙ one_step r n j
 
 -- and the one that is found
-pub reads_find : (z : Sizes) (banks : List Bank) (slot b : ℕ) (r n a j : ℕ) → a ≡ b * z.block_words + r → r + n ≤ z.block_words → r ≤ j → j < r + n → find (is_for slot j) (map (answer_at z banks slot) (range_with_len a n)) ≡ Some (record { slot = slot; i = j; word = base_in z banks (b * z.block_words + j) })
+pub reads_find : (z : Sizes) (banks : List Bank) (slot b : ℕ) (r n a j : ℕ) → a ≡ b * z.block_words + r → r + n ≤ z.block_words → r ≤ j
+    → j < r + n → find (is_for slot j) (map (answer_at z banks slot) (range_with_len a n))
+    ≡ Some (record { slot = slot; i = j; word = base_in z banks (b * z.block_words + j) })
 reads_find z banks slot b r zero a j e l lo hi = absurd (omega arith)
-reads_find z banks slot b r (suc n) a j e l lo hi = ⊎_elim here (λ n'. there n' (reads_find z banks slot b (suc r) n (a + 1) j (omega arith) (omega arith) (omega arith) (omega arith))) (cases_eq r j)
+reads_find z banks slot b r (suc n) a j e l lo hi =
+    ⊎_elim here (λ n'. there n' (reads_find z banks slot b (suc r) n (a + 1) j (omega arith) (omega arith) (omega arith) (omega arith)))
+    (cases_eq r j)
   where
     word_r : a % z.block_words ≡ r
     word_r = ap (λ k. k % z.block_words) e ∙ mod-mul-add b z.block_words r (omega arith)
@@ -170,10 +200,18 @@ reads_find z banks slot b r (suc n) a j e l lo hi = ⊎_elim here (λ n'. there 
     test : ((slot == slot) && (a % z.block_words == j)) ≡ (r == j)
     test = ap₂ (λ x y. x && (y == j)) (eq-eqb slot slot refl) word_r
 
-    here : r ≡ j → find (is_for slot j) (map (answer_at z banks slot) (range_with_len a (suc n))) ≡ Some (record { slot = slot; i = j; word = base_in z banks (b * z.block_words + j) })
+    here : r ≡ j → find (is_for slot j) (map (answer_at z banks slot) (range_with_len a (suc n)))
+        ≡ Some (record { slot = slot; i = j; word = base_in z banks (b * z.block_words + j) })
     here q =
-        ap (λ x. cond x (Some (answer_at z banks slot a)) (find (is_for slot j) (map (answer_at z banks slot) (range_with_len (a + 1) n)))) (test ∙ eq-eqb r j q) ∙ ap Some (ap₂ (λ x y. record { slot = slot; i = x; word = base_in z banks y }) (word_r ∙ q) (e ∙ ap (λ k. b * z.block_words + k) q))
+        ap (λ x. cond x (Some (answer_at z banks slot a))
+        (find (is_for slot j) (map (answer_at z banks slot) (range_with_len (a + 1) n)))) (test ∙ eq-eqb r j q)
+        ∙ ap Some (ap₂ (λ x y. record { slot = slot; i = x; word = base_in z banks y }) (word_r ∙ q)
+        (e ∙ ap (λ k. b * z.block_words + k) q))
 
-    there : (r ≡ j → ⊥) → find (is_for slot j) (map (answer_at z banks slot) (range_with_len (a + 1) n)) ≡ Some (record { slot = slot; i = j; word = base_in z banks (b * z.block_words + j) }) → find (is_for slot j) (map (answer_at z banks slot) (range_with_len a (suc n))) ≡ Some (record { slot = slot; i = j; word = base_in z banks (b * z.block_words + j) })
+    there : (r ≡ j → ⊥) → find (is_for slot j) (map (answer_at z banks slot) (range_with_len (a + 1) n))
+        ≡ Some (record { slot = slot; i = j; word = base_in z banks (b * z.block_words + j) })
+        → find (is_for slot j) (map (answer_at z banks slot) (range_with_len a (suc n)))
+        ≡ Some (record { slot = slot; i = j; word = base_in z banks (b * z.block_words + j) })
     there n' rest =
-        ap (λ x. cond x (Some (answer_at z banks slot a)) (find (is_for slot j) (map (answer_at z banks slot) (range_with_len (a + 1) n)))) (test ∙ ne_eqb r j n') ∙ rest
+        ap (λ x. cond x (Some (answer_at z banks slot a))
+        (find (is_for slot j) (map (answer_at z banks slot) (range_with_len (a + 1) n)))) (test ∙ ne_eqb r j n') ∙ rest

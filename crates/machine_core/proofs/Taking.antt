@@ -1,20 +1,24 @@
 -- A ready reply is taken.
-use Rattle.std.proofs.Common.{◌≡◌, ℕ, ◌≤◌, Bool, true, cond, ◌&&◌, ◌==◌, map, Option, Some, None, remove, slice_get, refl, sym, ap, ap₂, ◌∙◌, subst, arith, eq-eqb}
+use Rattle.std.proofs.Common.{◌≡◌, ℕ, ◌≤◌, Bool, true, false, cond, ◌&&◌, ◌==◌, map, Option, Some, None, option_map, remove, slice_get}
+use Rattle.std.proofs.Common.{refl, sym, ap, ap₂, ◌∙◌, arith, eq-eqb}
 use Rattle.std.specs.List.{range_with_len}
 use Rattle.flat_model.specs.declared.Word.{Word}
 use Rattle.flat_model.specs.declared.Event.TheVariants.{Take}
 use Rattle.flat_model.specs.declared.Answer.TheVariants.{Value}
 use Rattle.flat_model.specs.Flat.{with_due, same_word, is_owed, flat_after}
+use Rattle.memory_banks.specs.Banks.{all_pending}
 use Rattle.cache_unit.specs.declared.Reply.{Reply}
-use Rattle.cache_unit.specs.State.{Sizes, targets}
+use Rattle.cache_unit.specs.State.{Sizes, Target, tags, targets, frame_of}
 use Rattle.cache_unit.specs.Steps.{take_reply, take_step}
+use Rattle.cache_unit.specs.Forms.{Form, filled_by, owed}
 use Rattle.cache_unit.specs.Counts.{tally}
-use Rattle.cache_unit.proofs.FormsLists.{Adds, Adds-tally, Adds-right, Adds-remove, Adds-length}
-use Rattle.machine_core.specs.Machine.{Machine, joined_with, flat_word, flat_due, flat_of}
-use Rattle.machine_core.specs.Sound.{has_tag, dues, reply_to, IsSound}
-use Rattle.machine_core.proofs.Coming.{once_due, flat_word-now, flat_due-in}
-use Rattle.machine_core.proofs.Sound.{KeptBy, Kept}
-use Rattle.machine_core.proofs.Owing.{due_in-removed, due_in-at, with_ready, with_ready-words, with_ready-dues, with_ready-sound}
+use Rattle.cache_unit.proofs.FormsLists.{Adds, Adds-tally, Adds-right, Adds-map, Adds-remove, Adds-length}
+use Rattle.cache_unit.proofs.FormsEvents.{took_forms}
+use Rattle.machine_core.specs.Law.{IsLawful}
+use Rattle.machine_core.specs.Machine.{Machine, backing, joined_with, flat_word, flat_due, flat_of}
+use Rattle.machine_core.specs.Sound.{IsSound}
+use Rattle.machine_core.proofs.FromForms.{filled-bytes, word_from, flat_word-form, KeptBy, Kept}
+use Rattle.machine_core.proofs.Units.{sound_unit, kept_same, sound_within, within_refl}
 
 same_word-same : (w : Word) → same_word w w ≡ true
 same_word-same w =
@@ -23,24 +27,39 @@ same_word-same w =
     and : {a b : Bool} → a ≡ true → b ≡ true → (a && b) ≡ true
     and {a} {b} p q = ap₂ (λ x y. x && y) p q
 
-took_ok : (z : Sizes) (m : Machine) (place : ℕ) → IsSound z m → (o : Option Reply) → slice_get m.cache.ready place ≡ o → KeptBy z m (Take place) (joined_with m.banks (take_reply m.cache place o))
-unfolding with_ready
-took_ok z m place h None e = record { sound = h; run = refl; few = λ l. l }
-took_ok z m place h (Some r) e =
-    let rest = remove m.cache.ready place in
-    let m' = with_ready m rest in
-    let less : Adds r (dues m') (dues m) = unfold dues in subst (λ l. Adds r l (dues m)) (sym (with_ready-dues m rest)) (Adds-right (map (reply_to m) (targets m.cache.registers)) r rest m.cache.ready (Adds-remove r m.cache.ready place e)) in
-    let once : (tag : ℕ) → tally (has_tag tag) (dues m') ≤ 1 = λ tag. let n = Adds-tally (has_tag tag) r (dues m') (dues m) less in let k = once_due z m h tag in omega arith in
-    let words : (at : ℕ) → flat_word z m' at ≡ flat_word z m at = λ at. flat_word-now z m' at ∙ with_ready-words z m rest at ∙ sym (flat_word-now z m at) in
-    let gone : (t : ℕ) → flat_due m' t ≡ with_due (flat_due m) r.tag None t = λ t. flat_due-in m' t ∙ due_in-removed r (dues m') (dues m) less (once_due z m h r.tag) t ∙ ap (λ o. cond (t == r.tag) None o) (sym (flat_due-in m t)) in
-    let owed : is_owed (flat_due m r.tag) r.word ≡ true = ap (λ o. is_owed o r.word) (flat_due-in m r.tag ∙ due_in-at r (dues m') (dues m) less (once_due z m h r.tag)) ∙ same_word-same r.word in
-    let after : flat_after (flat_of z m) (Take place) (Value r.tag r.word) ≡ flat_of z m' = λ i. record { mem = map (λ at. sym (words at) i) (range_with_len 0 z.words); due = λ t. sym (gone t) i } in
+took_ok : (z : Sizes) (lawful : IsLawful z) (m : Machine) (place : ℕ) → IsSound z m → (o : Option Reply)
+    → slice_get m.cache.ready place ≡ o → KeptBy z m (Take place) (joined_with m.banks (take_reply m.cache place o))
+unfolding frame_of
+took_ok z lawful m place h None e = record { sound = h; run = refl; few = λ l. l }
+took_ok z lawful m place h (Some r) e =
+    let m' : Machine = record { cache = record m.cache { ready = remove m.cache.ready place }; banks = m.banks } in
+    let ps = all_pending m.banks in
+    let forms = took_forms z m.cache (sound_unit z lawful m h) place r e in
+    let less : Adds r.tag (tags m'.cache) (tags m.cache) =
+    Adds-right (map (λ (t : Target). t.load.tag) (targets m.cache.registers)) r.tag _ _
+    (Adds-map (λ (x : Reply). x.tag) r _ _ (Adds-remove r m.cache.ready place e)) in
+    let once : (tag : ℕ) → tally (λ t. t == tag) (tags m'.cache) ≤ 1 = λ tag. let n =
+    Adds-tally (λ t. t == tag) r.tag (tags m'.cache) (tags m.cache) less in let k = h.once tag in omega arith in
+    let words : (at : ℕ) → flat_word z m' at ≡ flat_word z m at = λ at. flat_word-form z m' at
+    ∙ ap (λ fs. word_from ps (backing z m at) (fs.words at)) forms.after ∙ sym (flat_word-form z m at) in
+    let gone : (t : ℕ) → flat_due m' t ≡ with_due (flat_due m) r.tag None t =
+    λ t. ap (λ fs. option_map (filled_by ps) (fs.owing t)) forms.after ∙ but (t == r.tag) (owed m.cache t) in
+    let owed_it : is_owed (flat_due m r.tag) r.word ≡ true = ap (λ o. is_owed (option_map (filled_by ps) o) r.word) forms.before
+    ∙ ap (λ w. same_word w r.word) (filled-bytes ps r.word) ∙ same_word-same r.word in
+    let after : flat_after (flat_of z m) (Take place) (Value r.tag r.word) ≡ flat_of z m' =
+    λ i. record { mem = map (λ at. sym (words at) i) (range_with_len 0 z.words); due = λ t. sym (gone t) i } in
     record {
-      sound = with_ready-sound z m rest once h;
-      run = ap (λ b. cond b (Some (flat_after (flat_of z m) (Take place) (Value r.tag r.word))) None) owed ∙ ap Some after;
-      few = λ l. (let k = Adds-length r (dues m') (dues m) less in omega arith);
+      sound = sound_within z m m' h (within_refl m.cache m'.cache refl refl) h.in_order h.queue_in once h.counted
+          (λ at. kept_same z m m' h at (words at) refl refl) (record { number = refl; lengths = λ b. refl });
+      run = ap (λ b. cond b (Some (flat_after (flat_of z m) (Take place) (Value r.tag r.word))) None) owed_it ∙ ap Some after;
+      few = λ l. (let k = Adds-length r.tag (tags m'.cache) (tags m.cache) less in omega arith);
     }
+  where
+    but : (b : Bool) (o : Option Form) → option_map (filled_by (all_pending m.banks)) (cond b None o)
+        ≡ cond b None (option_map (filled_by (all_pending m.banks)) o)
+    but true o = refl
+    but false o = refl
 
-pub take_ok : (z : Sizes) (m : Machine) (place : ℕ) → IsSound z m → Kept z m (Take place)
+pub take_ok : (z : Sizes) (lawful : IsLawful z) (m : Machine) (place : ℕ) → IsSound z m → Kept z m (Take place)
 unfolding take_step
-take_ok z m place h = took_ok z m place h (slice_get m.cache.ready place) refl
+take_ok z lawful m place h = took_ok z lawful m place h (slice_get m.cache.ready place) refl

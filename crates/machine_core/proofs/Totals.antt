@@ -13,7 +13,8 @@ total-append f [] ys = omega arith
 total-append f (x ∷ xs) ys = let ih = total-append f xs ys in omega arith
 
 -- one element more
-pub total_more : {X : Type 0} (f : X → ℕ) (xs : List X) (k : ℕ) (d : X) (sum more : ℕ) → k < length xs → sum ≡ total f (take k xs) → more ≡ sum + f (get_or xs k d) → more ≡ total f (take (k + 1) xs)
+pub total_more : {X : Type 0} (f : X → ℕ) (xs : List X) (k : ℕ) (d : X) (sum more : ℕ) → k < length xs → sum ≡ total f (take k xs)
+    → more ≡ sum + f (get_or xs k d) → more ≡ total f (take (k + 1) xs)
 total_more f xs k d sum more l so_far e =
     let t = ap (total f) (take_more xs k d l) in
     let a = total-append f (take k xs) (get_or xs k d ∷ []) in

@@ -1,5 +1,7 @@
 -- The driver lowers the weight.
-use Rattle.std.proofs.Common.{◌≡◌, ℕ, zero, suc, ◌+◌, ◌-◌, ◌*◌, ◌/◌, ◌%◌, ◌<◌, ◌≤◌, Bool, true, false, cond, not, ◌&&◌, nat_lt, nat_le, List, [], ◌∷◌, ◌++◌, length, get_or, set, Option, Some, None, option_map, find, remove, slice_get, refl, sym, ap, ap₂, ◌∙◌, subst, arith, length-append, ◌⊎◌, inl, inr, ⊎_elim, lt-ltb, mod-lt, flat_map}
+use Rattle.std.proofs.Common.{◌≡◌, ℕ, zero, suc, ◌+◌, ◌-◌, ◌*◌, ◌/◌, ◌%◌, ◌<◌, ◌≤◌, Bool, true, false, cond, not, ◌&&◌, nat_lt, nat_le}
+use Rattle.std.proofs.Common.{List, [], ◌∷◌, ◌++◌, length, get_or, set, Option, Some, None, option_map, find, remove, slice_get, refl, sym}
+use Rattle.std.proofs.Common.{ap, ap₂, ◌∙◌, subst, arith, length-append, ◌⊎◌, inl, inr, ⊎_elim, lt-ltb, mod-lt, flat_map}
 use Rattle.std.specs.List.{range_with_len, list_all}
 use Rattle.std.proofs.lemmas.Bool.{cases_eq, lt-leb}
 use Rattle.std.proofs.lemmas.List.{nil_from_length}
@@ -16,16 +18,19 @@ use Rattle.write_queue.specs.declared.Queued.{Queued}
 use Rattle.miss_registers.specs.declared.Owed.{Owed}
 use Rattle.cache_unit.specs.State.{Sizes, Field, Cache, clear_field, free_register, register_at, field_at}
 use Rattle.cache_unit.specs.Causes.{arrive_cause}
-use Rattle.cache_unit.specs.Steps.{answered, filled, finished, processed, process_entry, arrived, drain_first, take_step, process_step, drain_step}
+use Rattle.cache_unit.specs.Steps.{answered, filled, finished, processed, process_entry, arrived, drain_first, take_step, process_step}
+use Rattle.cache_unit.specs.Steps.{drain_step}
 use Rattle.cache_unit.specs.Counts.{tally, bit}
 use Rattle.cache_unit.proofs.FormsProcessing.{all_processed, done}
 use Rattle.cache_unit.proofs.FormsFields.{with_fields}
 use Rattle.machine_core.specs.Machine.{Machine, Outcome, apply, serve_from, arrive_from, take_in, without_answer, joined_with}
-use Rattle.machine_core.specs.Pump.{total, command_weight, bank_weight, field_weight, register_weight, weight, lowest, has_items, when, pumped, first_event}
+use Rattle.machine_core.specs.Pump.{total, command_weight, bank_weight, field_weight, register_weight, weight, lowest, has_items, when}
+use Rattle.machine_core.specs.Pump.{pumped, first_event}
 use Rattle.machine_core.specs.Law.{IsLawful, HasRoom, WalkIsDriven}
 use Rattle.machine_core.specs.Sound.{IsSound, is_entry_for, wanted, is_for}
-use Rattle.machine_core.proofs.Processing.{waits, slot_there, field_there}
-use Rattle.machine_core.proofs.Freeing.{filled_only}
+use Rattle.machine_core.proofs.Processing.{slot_there, field_there}
+use Rattle.machine_core.proofs.Units.{entry_waits}
+use Rattle.cache_unit.proofs.FormsProcessing.{filled_only}
 use Rattle.machine_core.proofs.Arriving.{not_stray}
 use Rattle.machine_core.proofs.Opening.{opening_sound}
 use Rattle.machine_core.proofs.Walking.{walk_sound}
@@ -33,7 +38,8 @@ use Rattle.machine_core.proofs.Totals.{total-append}
 
 -- ---- sums
 
-total_set : {X : Type 0} (f : X → ℕ) (d : X) (xs : List X) (k : ℕ) (y : X) → k < length xs → total f (set xs k y) + f (get_or xs k d) ≡ total f xs + f y
+total_set : {X : Type 0} (f : X → ℕ) (d : X) (xs : List X) (k : ℕ) (y : X) → k < length xs
+    → total f (set xs k y) + f (get_or xs k d) ≡ total f xs + f y
 total_set f d [] k y l = absurd (omega arith)
 total_set f d (x ∷ xs) zero y l = omega arith
 total_set f d (x ∷ xs) (suc k) y l = let ih = total_set f d xs k y (omega arith) in omega arith
@@ -47,7 +53,8 @@ total_none f d (x ∷ xs) h =
 
 processed_weight : (fields : List Field) → list_all (λ f. f.processed) fields ≡ true → total field_weight fields ≡ 0
 processed_weight fields e =
-    total_none field_weight clear_field fields (λ k l. ap (λ b. cond b 0 (length (get_or fields k clear_field).waiting - 1)) (all_processed fields e k l))
+    total_none field_weight clear_field fields
+    (λ k l. ap (λ b. cond b 0 (length (get_or fields k clear_field).waiting - 1)) (all_processed fields e k l))
 
 -- ---- searches for a bank
 
@@ -55,7 +62,8 @@ find_first : (p : ℕ → Bool) (a n b : ℕ) → find p (range_with_len a n) �
 find_first p a zero b e = cc
 find_first p a (suc n) b e = go (p a) refl (find_first p (a + 1) n b) e
   where
-    go : (x : Bool) → p a ≡ x → (find p (range_with_len (a + 1) n) ≡ Some b → (b < a + 1 + n) × (p b ≡ true)) → cond x (Some a) (find p (range_with_len (a + 1) n)) ≡ Some b → (b < a + suc n) × (p b ≡ true)
+    go : (x : Bool) → p a ≡ x → (find p (range_with_len (a + 1) n) ≡ Some b → (b < a + 1 + n) × (p b ≡ true))
+        → cond x (Some a) (find p (range_with_len (a + 1) n)) ≡ Some b → (b < a + suc n) × (p b ≡ true)
     go true q rest r = let same : a ≡ b = cc in (omega arith, ap p (sym same) ∙ q)
     go false q rest r = let k = rest r in (let l = k.0 in omega arith, k.1)
 
@@ -63,7 +71,8 @@ find_nowhere : (p : ℕ → Bool) (a n k : ℕ) → find p (range_with_len a n) 
 find_nowhere p a zero k e lo hi = absurd (omega arith)
 find_nowhere p a (suc n) k e lo hi = go (p a) refl (find_nowhere p (a + 1) n k) e
   where
-    go : (x : Bool) → p a ≡ x → (find p (range_with_len (a + 1) n) ≡ None → a + 1 ≤ k → k < a + 1 + n → p k ≡ false) → cond x (Some a) (find p (range_with_len (a + 1) n)) ≡ None → p k ≡ false
+    go : (x : Bool) → p a ≡ x → (find p (range_with_len (a + 1) n) ≡ None → a + 1 ≤ k → k < a + 1 + n → p k ≡ false)
+        → cond x (Some a) (find p (range_with_len (a + 1) n)) ≡ None → p k ≡ false
     go true q rest r = cc
     go false q rest r = ⊎_elim (λ (s : a ≡ k). ap p (sym s) ∙ q) (λ n'. rest r (omega arith) (omega arith)) (cases_eq a k)
 
@@ -76,11 +85,13 @@ pub some_queue : (z : Sizes) → IsLawful z → HasRoom z → 0 < z.bank_queue
 some_queue z lawful roomy = go z.bank_queue refl
   where
     go : (n : ℕ) → z.bank_queue ≡ n → 0 < n
-    go zero e = let l = subst (λ k. z.block_words ≤ k * z.banks) e roomy.banks_take_a_block in let some = lawful.some_words in absurd (omega arith)
+    go zero e = let l = subst (λ k. z.block_words ≤ k * z.banks) e roomy.banks_take_a_block in let some = lawful.some_words in
+        absurd (omega arith)
     go (suc n) e = omega arith
 
 -- nothing is pending at idle banks
-pub all_idle : (banks : List Bank) → ((b : ℕ) → b < length banks → ((bank_at banks b).answers ≡ []) × ((bank_at banks b).queue ≡ [])) → flat_map pending banks ≡ []
+pub all_idle : (banks : List Bank) → ((b : ℕ) → b < length banks → ((bank_at banks b).answers ≡ []) × ((bank_at banks b).queue ≡ []))
+    → flat_map pending banks ≡ []
 all_idle [] f = refl
 all_idle (x ∷ banks) f =
     let p = f 0 (omega arith) in
@@ -93,7 +104,8 @@ module _ (z : Sizes) (lawful : IsLawful z) (roomy : HasRoom z) (m : Machine) (h 
   unfolding take_step
   take_lowers r rest e =
       let c = m.cache in
-      subst (λ l. weight (joined_with m.banks (Rattle.cache_unit.specs.Steps.take_reply (record c { ready = l }) 0 (slice_get l 0))).machine < weight (record { cache = record c { ready = l }; banks = m.banks })) (sym e) (omega arith)
+      subst (λ l. weight (joined_with m.banks (Rattle.cache_unit.specs.Steps.take_reply (record c { ready = l }) 0
+      (slice_get l 0))).machine < weight (record { cache = record c { ready = l }; banks = m.banks })) (sym e) (omega arith)
 
   pub process_lowers : (x : Entry) (rest : List Entry) → m.cache.stack ≡ x ∷ rest → weight (apply z m (Process 0)).machine < weight m
   unfolding processed process_step
@@ -102,18 +114,19 @@ module _ (z : Sizes) (lawful : IsLawful z) (roomy : HasRoom z) (m : Machine) (h 
       let found : slice_get c.stack 0 ≡ Some x = ap (λ l. slice_get l 0) e in
       let r = register_at c x.slot in
       let f = field_at c x.slot x.i in
-      let w = waits z m 0 x h found in
+      let w = entry_waits z m h 0 x found in
       let there = slot_there z m 0 x h found in
       let within = field_there z m 0 x h found in
       let fields = set r.fields x.i done in
       let by_field = total_set field_weight clear_field r.fields x.i done within in
-      let own : field_weight f ≡ length f.waiting - 1 = ap (λ b. cond b 0 (length f.waiting - 1)) w.2 in
-      let old : register_weight r ≡ total field_weight r.fields = ap (λ b. cond b (total field_weight r.fields) 0) w.0 in
-      let new : register_weight (finished r x.i) ≡ total field_weight fields = fin (list_all (λ g. g.processed) fields) refl w.0 in
+      let own : field_weight f ≡ length f.waiting - 1 = ap (λ b. cond b 0 (length f.waiting - 1)) w.waits in
+      let old : register_weight r ≡ total field_weight r.fields = ap (λ b. cond b (total field_weight r.fields) 0) w.valid in
+      let new : register_weight (finished r x.i) ≡ total field_weight fields = fin (list_all (λ g. g.processed) fields) refl w.valid in
       let by_register = total_set register_weight free_register c.registers x.slot (finished r x.i) there in
       let told : length (answered x.word f.waiting) ≡ length f.waiting = told_all x.word f.waiting in
       let ready = length-append c.ready (answered x.word f.waiting) in
-      let stack : length (remove c.stack 0) + 1 ≡ length c.stack = ap (λ l. length (remove l 0) + 1) e ∙ (let k : length rest + 1 ≡ suc (length rest) = omega arith in k) ∙ sym (ap length e) in
+      let stack : length (remove c.stack 0) + 1 ≡ length c.stack = ap (λ l. length (remove l 0) + 1) e
+      ∙ (let k : length rest + 1 ≡ suc (length rest) = omega arith in k) ∙ sym (ap length e) in
       let queue : (filled c x.slot x.i x.word).queue ≡ c.queue = ap (λ (d : Cache). d.queue) (filled_only c x.slot x.i x.word) in
       let queue' = ap length queue in
       subst (λ o. weight (joined_with m.banks (process_entry m.cache 0 o)).machine < weight m) (sym found) (omega arith)
@@ -122,25 +135,34 @@ module _ (z : Sizes) (lawful : IsLawful z) (roomy : HasRoom z) (m : Machine) (h 
       told_all word [] = refl
       told_all word (y ∷ ws) = ap suc (told_all word ws)
 
-      fin : (b : Bool) → list_all (λ g. g.processed) (set (register_at m.cache x.slot).fields x.i done) ≡ b → (register_at m.cache x.slot).valid ≡ true → register_weight (cond b free_register (with_fields (register_at m.cache x.slot) (set (register_at m.cache x.slot).fields x.i done))) ≡ total field_weight (set (register_at m.cache x.slot).fields x.i done)
+      fin : (b : Bool) → list_all (λ g. g.processed) (set (register_at m.cache x.slot).fields x.i done) ≡ b
+          → (register_at m.cache x.slot).valid ≡ true
+          → register_weight (cond b free_register (with_fields (register_at m.cache x.slot)
+          (set (register_at m.cache x.slot).fields x.i done))) ≡ total field_weight (set (register_at m.cache x.slot).fields x.i done)
       fin true q v = sym (processed_weight _ q)
       fin false q v = ap (λ y. cond y (total field_weight (set (register_at m.cache x.slot).fields x.i done)) 0) v
 
   -- an answer for which the stack has room
-  pub arrive_lowers : (b : ℕ) (a : BankAnswer) (rest : List BankAnswer) → b < length m.banks → (bank_at m.banks b).answers ≡ a ∷ rest → length m.cache.stack < z.depth → weight (apply z m (Arrive b 0)).machine < weight m
+  pub arrive_lowers : (b : ℕ) (a : BankAnswer) (rest : List BankAnswer) → b < length m.banks → (bank_at m.banks b).answers ≡ a ∷ rest
+      → length m.cache.stack < z.depth → weight (apply z m (Arrive b 0)).machine < weight m
   unfolding arrived arrive_cause
   arrive_lowers b a rest l e some =
       let bank = bank_at m.banks b in
       let found : slice_get bank.answers 0 ≡ Some a = ap (λ xs. slice_get xs 0) e in
       let room : nat_le z.depth (length m.cache.stack) ≡ false = lt-leb z.depth (length m.cache.stack) some in
-      let cause : arrive_cause z m.cache a.slot a.i ≡ None = ap₂ (λ x y. cond x (Some Rattle.flat_model.specs.declared.Cause.TheVariants.StrayWord) (cond y (Some Rattle.flat_model.specs.declared.Cause.TheVariants.StackFull) None)) (not_stray z m b 0 a h found) room in
-      let step : arrive_from z m b 0 (slice_get bank.answers 0) ≡ take_in z m b 0 a None = ap (arrive_from z m b 0) found ∙ ap (take_in z m b 0 a) cause in
+      let cause : arrive_cause z m.cache a.slot a.i ≡ None =
+      ap₂ (λ x y. cond x (Some Rattle.flat_model.specs.declared.Cause.TheVariants.StrayWord)
+      (cond y (Some Rattle.flat_model.specs.declared.Cause.TheVariants.StackFull) None)) (not_stray z m b 0 a h found) room in
+      let step : arrive_from z m b 0 (slice_get bank.answers 0) ≡ take_in z m b 0 a None = ap (arrive_from z m b 0) found
+      ∙ ap (take_in z m b 0 a) cause in
       let by_bank = total_set bank_weight no_bank m.banks b (without_answer bank 0) l in
-      let answers : length (remove bank.answers 0) + 1 ≡ length bank.answers = ap (λ xs. length (remove xs 0) + 1) e ∙ (let k : length rest + 1 ≡ suc (length rest) = omega arith in k) ∙ sym (ap length e) in
+      let answers : length (remove bank.answers 0) + 1 ≡ length bank.answers = ap (λ xs. length (remove xs 0) + 1) e
+      ∙ (let k : length rest + 1 ≡ suc (length rest) = omega arith in k) ∙ sym (ap length e) in
       let stack = length-append m.cache.stack (record { slot = a.slot; i = a.i; word = a.word } ∷ []) in
       subst (λ (o : Outcome). weight o.machine < weight m) (sym step) (omega arith)
 
-  pub serve_lowers : (b : ℕ) (first : Command) (rest : List Command) → b < length m.banks → (bank_at m.banks b).queue ≡ first ∷ rest → weight (apply z m (Serve b)).machine < weight m
+  pub serve_lowers : (b : ℕ) (first : Command) (rest : List Command) → b < length m.banks → (bank_at m.banks b).queue ≡ first ∷ rest
+      → weight (apply z m (Serve b)).machine < weight m
   unfolding served
   serve_lowers b first rest l e =
       let bank = bank_at m.banks b in
@@ -155,18 +177,29 @@ module _ (z : Sizes) (lawful : IsLawful z) (roomy : HasRoom z) (m : Machine) (h 
       one_less (Write place word lanes) = refl
 
   -- a write for which its bank has room
-  pub drain_lowers : (q : Queued) (rest : List Queued) → m.cache.queue ≡ q ∷ rest → length (bank_at m.banks (q.at % z.banks)).queue < z.bank_queue → weight (apply z m Drain).machine < weight m
+  pub drain_lowers : (q : Queued) (rest : List Queued) → m.cache.queue ≡ q ∷ rest
+      → length (bank_at m.banks (q.at % z.banks)).queue < z.bank_queue → weight (apply z m Drain).machine < weight m
   unfolding with_command drain_step
   drain_lowers q rest e some =
       let b = q.at % z.banks in
       let bank = bank_at m.banks b in
       let l : b < length m.banks = let k = mod-lt q.at lawful.some_banks in let n = h.banks_are in omega arith in
-      let free : nat_lt 0 (room_in z.bank_queue m.banks b) ≡ true = ap (λ x. nat_lt 0 (cond x (z.bank_queue - length bank.queue) 0)) (lt-ltb b (length m.banks) l) ∙ lt-ltb 0 (z.bank_queue - length bank.queue) (omega (arith, some)) in
+      let free : nat_lt 0 (room_in z.bank_queue m.banks b) ≡ true =
+      ap (λ x. nat_lt 0 (cond x (z.bank_queue - length bank.queue) 0)) (lt-ltb b (length m.banks) l)
+      ∙ lt-ltb 0 (z.bank_queue - length bank.queue) (omega (arith, some)) in
       let write = Write (q.at / z.banks) q.word q.lanes in
       let by_bank = total_set bank_weight no_bank m.banks b (with_command bank write) l in
       let more = total-append command_weight bank.queue (write ∷ []) in
       let queue = ap length e in
-      subst (λ qs. weight (joined_with m.banks (drain_first z (room_in z.bank_queue m.banks) m.cache qs)).machine < weight m) (sym e) (subst (λ x. weight (joined_with m.banks (cond x (record { answer = Rattle.flat_model.specs.declared.Answer.TheVariants.Moved; cache = record m.cache { queue = rest }; sent = (b, write) ∷ [] }) (record { answer = Rattle.flat_model.specs.declared.Answer.TheVariants.Refused Rattle.flat_model.specs.declared.Cause.TheVariants.BankFull; cache = m.cache; sent = [] }))).machine < weight m) (sym free) (omega arith))
+      subst (λ qs. weight (joined_with m.banks (drain_first z (room_in z.bank_queue m.banks) m.cache qs)).machine < weight m) (sym e)
+      (subst (λ x. weight (joined_with m.banks
+      (cond x (record {
+        answer = Rattle.flat_model.specs.declared.Answer.TheVariants.Moved;
+        cache =
+            record m.cache { queue = rest };
+        sent = (b, write) ∷ [];
+      })
+      (record { answer = Rattle.flat_model.specs.declared.Answer.TheVariants.Refused Rattle.flat_model.specs.declared.Cause.TheVariants.BankFull; cache = m.cache; sent = [] }))).machine < weight m) (sym free) (omega arith))
 
   -- ---- which event the driver picks
 
@@ -181,13 +214,16 @@ module _ (z : Sizes) (lawful : IsLawful z) (roomy : HasRoom z) (m : Machine) (h 
 
   abbrev picked : List Reply → List Entry → Option ℕ → Option ℕ → List Queued → Option Event
   picked ready stack a t queue =
-      first_event (when (has_items ready) (Take 0) ∷ when (has_items stack) (Process 0) ∷ option_map (λ b. Arrive b 0) a ∷ option_map (λ b. Serve b) t ∷ when (has_items queue) Drain ∷ [])
+      first_event (when (has_items ready) (Take 0) ∷ when (has_items stack) (Process 0) ∷ option_map (λ b. Arrive b 0) a ∷ option_map
+      (λ b. Serve b) t ∷ when (has_items queue) Drain ∷ [])
 
   first_answer : (b : ℕ) → arrivals ≡ Some b → (b < length m.banks) × (has_items (bank_at m.banks b).answers ≡ true)
-  first_answer b e = let p = find_first (λ k. has_items (bank_at m.banks k).answers) 0 z.banks b e in (let n = h.banks_are in let l = p.0 in omega arith, p.1)
+  first_answer b e = let p = find_first (λ k. has_items (bank_at m.banks k).answers) 0 z.banks b e in
+      (let n = h.banks_are in let l = p.0 in omega arith, p.1)
 
   first_turn : (b : ℕ) → turns ≡ Some b → (b < length m.banks) × (has_items (bank_at m.banks b).queue ≡ true)
-  first_turn b e = let p = find_first (λ k. has_items (bank_at m.banks k).queue) 0 z.banks b e in (let n = h.banks_are in let l = p.0 in omega arith, p.1)
+  first_turn b e = let p = find_first (λ k. has_items (bank_at m.banks k).queue) 0 z.banks b e in
+      (let n = h.banks_are in let l = p.0 in omega arith, p.1)
 
   no_turn : turns ≡ None → (b : ℕ) → b < z.banks → length (bank_at m.banks b).queue ≡ 0
   no_turn e b l = items_none _ (find_nowhere (λ k. has_items (bank_at m.banks k).queue) 0 z.banks b e (omega arith) (omega arith))
@@ -202,10 +238,13 @@ module _ (z : Sizes) (lawful : IsLawful z) (roomy : HasRoom z) (m : Machine) (h 
   pub pump_lowers : (event : Event) → pumped z m ≡ Some event → weight (apply z m event).machine < weight m
   pump_lowers event e = go m.cache.ready refl m.cache.stack refl arrivals refl turns refl m.cache.queue refl e
     where
-      so : (picked_event : Event) → Some picked_event ≡ Some event → weight (apply z m picked_event).machine < weight m → weight (apply z m event).machine < weight m
+      so : (picked_event : Event) → Some picked_event ≡ Some event → weight (apply z m picked_event).machine < weight m
+          → weight (apply z m event).machine < weight m
       so x q k = let same : x ≡ event = cc in subst (λ y. weight (apply z m y).machine < weight m) same k
 
-      go : (ready : List Reply) → m.cache.ready ≡ ready → (stack : List Entry) → m.cache.stack ≡ stack → (a : Option ℕ) → arrivals ≡ a → (t : Option ℕ) → turns ≡ t → (queue : List Queued) → m.cache.queue ≡ queue → picked ready stack a t queue ≡ Some event → weight (apply z m event).machine < weight m
+      go : (ready : List Reply) → m.cache.ready ≡ ready → (stack : List Entry) → m.cache.stack ≡ stack → (a : Option ℕ) → arrivals ≡ a
+          → (t : Option ℕ) → turns ≡ t → (queue : List Queued) → m.cache.queue ≡ queue → picked ready stack a t queue ≡ Some event
+          → weight (apply z m event).machine < weight m
       go (r ∷ rest) er stack es a ea t et queue eq q = so (Take 0) q (take_lowers r rest er)
       go [] er (x ∷ rest) es a ea t et queue eq q = so (Process 0) q (process_lowers x rest es)
       go [] er [] es (Some b) ea t et queue eq q =
@@ -217,14 +256,16 @@ module _ (z : Sizes) (lawful : IsLawful z) (roomy : HasRoom z) (m : Machine) (h 
           let l = parts_of (bank_at m.banks b).queue p.1 in
           so (Serve b) q (serve_lowers b l.0 l.1 p.0 l.2)
       go [] er [] es None ea None et (x ∷ rest) eq q =
-          so Drain q (drain_lowers x rest eq (let none = no_turn et (x.at % z.banks) (mod-lt x.at lawful.some_banks) in let room = some_queue z lawful roomy in omega arith))
+          so Drain q (drain_lowers x rest eq (let none = no_turn et (x.at % z.banks) (mod-lt x.at lawful.some_banks) in let room =
+          some_queue z lawful roomy in omega arith))
       go [] er [] es None ea None et [] eq q = cc
 
   -- nothing is left where the driver has no event
   pub pump_rests : pumped z m ≡ None → weight m ≡ 0
   pump_rests e = go m.cache.ready refl m.cache.stack refl arrivals refl turns refl m.cache.queue refl e
     where
-      go : (ready : List Reply) → m.cache.ready ≡ ready → (stack : List Entry) → m.cache.stack ≡ stack → (a : Option ℕ) → arrivals ≡ a → (t : Option ℕ) → turns ≡ t → (queue : List Queued) → m.cache.queue ≡ queue → picked ready stack a t queue ≡ None → weight m ≡ 0
+      go : (ready : List Reply) → m.cache.ready ≡ ready → (stack : List Entry) → m.cache.stack ≡ stack → (a : Option ℕ) → arrivals ≡ a
+          → (t : Option ℕ) → turns ≡ t → (queue : List Queued) → m.cache.queue ≡ queue → picked ready stack a t queue ≡ None → weight m ≡ 0
       go (r ∷ rest) er stack es a ea t et queue eq q = cc
       go [] er (x ∷ rest) es a ea t et queue eq q = cc
       go [] er [] es (Some b) ea t et queue eq q = cc
@@ -242,11 +283,13 @@ module _ (z : Sizes) (lawful : IsLawful z) (roomy : HasRoom z) (m : Machine) (h 
           idle b l =
               let l' : b < z.banks = let n = h.banks_are in omega arith in
               let a = no_answer ea b l' in
-              let c : total command_weight (bank_at m.banks b).queue ≡ 0 = ap (total command_weight) (nil_from_length _ (no_turn et b l')) in
+              let c : total command_weight (bank_at m.banks b).queue ≡ 0 =
+              ap (total command_weight) (nil_from_length _ (no_turn et b l')) in
               omega arith
 
           nothing : all_pending m.banks ≡ []
-          nothing = all_idle m.banks (λ b l. let l' : b < z.banks = let n = h.banks_are in omega arith in (nil_from_length _ (no_answer ea b l'), nil_from_length _ (no_turn et b l')))
+          nothing = all_idle m.banks (λ b l. let l' : b < z.banks = let n = h.banks_are in omega arith in
+              (nil_from_length _ (no_answer ea b l'), nil_from_length _ (no_turn et b l')))
 
           quiet : (s : ℕ) → s < length m.cache.registers → register_weight (register_at m.cache s) ≡ 0
           quiet s l = by_valid (register_at m.cache s).valid refl
@@ -261,7 +304,8 @@ module _ (z : Sizes) (lawful : IsLawful z) (roomy : HasRoom z) (m : Machine) (h 
                       let p = ap (tally (is_for s j)) nothing in
                       let t = ap (tally (is_entry_for s j)) es in
                       let in_block : j < z.block_words = let n = h.whole_registers s v in omega arith in
-                      let w : wanted z (register_at m.cache s) j ≡ bit (not (field_at m.cache s j).processed) = ap₂ (λ x y. bit (x && (y && not (field_at m.cache s j).processed))) v (lt-ltb j z.block_words in_block) in
+                      let w : wanted z (register_at m.cache s) j ≡ bit (not (field_at m.cache s j).processed) =
+                      ap₂ (λ x y. bit (x && (y && not (field_at m.cache s j).processed))) v (lt-ltb j z.block_words in_block) in
                       let zero_bit : bit (not (field_at m.cache s j).processed) ≡ 0 = omega arith in
                       by_mark (field_at m.cache s j).processed zero_bit
                     where
@@ -270,11 +314,14 @@ module _ (z : Sizes) (lawful : IsLawful z) (roomy : HasRoom z) (m : Machine) (h 
                       by_mark false q' = absurd (omega arith)
 
   -- a machine whose stack, replies and banks' answers are gone, and whose write queue waits for a bank if it isn't empty
-  pub rests_or_waits : m.cache.ready ≡ [] → m.cache.stack ≡ [] → ((b : ℕ) → b < z.banks → (bank_at m.banks b).answers ≡ []) → (m.cache.queue ≡ []) ⊎ ((b : ℕ) × (b < z.banks) × (has_items (bank_at m.banks b).queue ≡ true)) → (weight m ≡ 0) ⊎ ((b : ℕ) × (b < z.banks) × (has_items (bank_at m.banks b).queue ≡ true))
+  pub rests_or_waits : m.cache.ready ≡ [] → m.cache.stack ≡ [] → ((b : ℕ) → b < z.banks → (bank_at m.banks b).answers ≡ [])
+      → (m.cache.queue ≡ []) ⊎ ((b : ℕ) × (b < z.banks) × (has_items (bank_at m.banks b).queue ≡ true))
+      → (weight m ≡ 0) ⊎ ((b : ℕ) × (b < z.banks) × (has_items (bank_at m.banks b).queue ≡ true))
   rests_or_waits er es none (inr waits) = inr waits
   rests_or_waits er es none (inl eq) = go arrivals refl turns refl
     where
-      go : (a : Option ℕ) → arrivals ≡ a → (t : Option ℕ) → turns ≡ t → (weight m ≡ 0) ⊎ ((b : ℕ) × (b < z.banks) × (has_items (bank_at m.banks b).queue ≡ true))
+      go : (a : Option ℕ) → arrivals ≡ a → (t : Option ℕ) → turns ≡ t
+          → (weight m ≡ 0) ⊎ ((b : ℕ) × (b < z.banks) × (has_items (bank_at m.banks b).queue ≡ true))
       go a ea (Some b) et =
           let p = first_turn b et in
           inr (b, let n = h.banks_are in let l = p.0 in omega arith, p.1)
@@ -285,7 +332,9 @@ module _ (z : Sizes) (lawful : IsLawful z) (roomy : HasRoom z) (m : Machine) (h 
           let yes = p.1 in
           cc
       go None ea None et =
-          inl (pump_rests (ap (λ rs. picked rs m.cache.stack arrivals turns m.cache.queue) er ∙ ap (λ xs. picked [] xs arrivals turns m.cache.queue) es ∙ ap (λ a. picked [] [] a turns m.cache.queue) ea ∙ ap (λ t. picked [] [] None t m.cache.queue) et ∙ ap (picked [] [] None None) eq))
+          inl (pump_rests (ap (λ rs. picked rs m.cache.stack arrivals turns m.cache.queue) er
+          ∙ ap (λ xs. picked [] xs arrivals turns m.cache.queue) es ∙ ap (λ a. picked [] [] a turns m.cache.queue) ea
+          ∙ ap (λ t. picked [] [] None t m.cache.queue) et ∙ ap (picked [] [] None None) eq))
 
   pub pump_at_rest : weight m ≡ 0 → pumped z m ≡ None
   pump_at_rest w = go (pumped z m) refl

@@ -1,5 +1,7 @@
 -- What a whole machine keeps, and what follows of it.
-use Rattle.std.proofs.Common.{◌≡◌, ℕ, zero, suc, ◌*◌, ◌<◌, ◌≤◌, Bool, true, false, not, cond, ◌&&◌, ◌==◌, nat_lt, List, [], ◌∷◌, length, Option, Some, None, is_none, is_some, refl, sym, ap, ap₂, ◌∙◌, subst, arith, length-append, eq-eqb, zero-mul, flat_map}
+use Rattle.std.proofs.Common.{◌≡◌, ℕ, zero, suc, ◌*◌, ◌<◌, ◌≤◌, Bool, true, false, not, cond, ◌&&◌, ◌==◌, nat_lt, List, [], ◌∷◌, length}
+use Rattle.std.proofs.Common.{Option, Some, None, is_none, is_some, refl, sym, ap, ap₂, ◌∙◌, subst, arith, length-append, eq-eqb, zero-mul}
+use Rattle.std.proofs.Common.{flat_map}
 use Rattle.std.proofs.lemmas.Nat.{mul-le}
 use Rattle.std.proofs.lemmas.Bool.{eqb-true, le-leb}
 use Rattle.std.specs.Option.{IsNone, option_or}
@@ -13,7 +15,8 @@ use Rattle.flat_model.specs.declared.Answer.{Answer}
 use Rattle.flat_model.specs.declared.Answer.TheVariants.{Refused}
 use Rattle.flat_model.specs.declared.Cause.TheVariants.{StrayWord}
 use Rattle.flat_model.specs.Words.{has_any}
-use Rattle.flat_model.specs.Flat.{Flat, word_at, may_answer, load_refusals, store_refusals, prefetch_refusals, flat_after, flat_step, flat_run}
+use Rattle.flat_model.specs.Flat.{Flat, word_at, may_answer, load_refusals, store_refusals, prefetch_refusals, flat_after, flat_step}
+use Rattle.flat_model.specs.Flat.{flat_run}
 use Rattle.flat_model.specs.Ranges.{is_between}
 use Rattle.memory_banks.specs.Banks.{Bank, bank_at, pending, all_pending, answers_to, opening_banks}
 use Rattle.memory_banks.specs.Memory.{Memory, with_banks}
@@ -29,7 +32,8 @@ use Rattle.machine_core.specs.Law.{IsLawful, HasRoom, IsKept, IsDriven, IsServed
 use Rattle.machine_core.specs.Sound.{IsSound, IsBounded}
 use Rattle.machine_core.specs.Whole.{machine_of, state_of, IsWhole, IsWholeState, Serves, bad_field}
 use Rattle.machine_core.proofs.Counting.{on_their_way}
-use Rattle.machine_core.proofs.Contract.{sound_opening, flat_opening, bounded_opening, sound_apply, bounded_apply, flat_apply, flat_walked, pumped_lowers, pumped_rests, pumped_at_rest, bound_at_rest, served_after_pumps}
+use Rattle.machine_core.proofs.Contract.{sound_opening, flat_opening, bounded_opening, sound_apply, bounded_apply, flat_apply, flat_walked}
+use Rattle.machine_core.proofs.Contract.{pumped_lowers, pumped_rests, pumped_at_rest, bound_at_rest, served_after_pumps}
 use Rattle.machine_core.proofs.Opening.{settled_ok}
 use Rattle.machine_core.proofs.Keeping.{kept_whole}
 use Rattle.machine_core.proofs.Resting.{held_walked}
@@ -38,7 +42,13 @@ use Rattle.machine_core.proofs.Resting.{held_walked}
 
 pub lawful : (z : Sizes) → InRange z → IsLawful z
 lawful z r =
-    record { some_words = omega (arith, r.some_words); some_banks = omega (arith, r.some_banks); some_sets = omega (arith, r.some_sets); whole_blocks = r.whole_blocks }
+    record {
+      some_words = omega (arith, r.some_words);
+      some_banks = omega (arith, r.some_banks);
+      some_sets =
+          omega (arith, r.some_sets);
+      whole_blocks = r.whole_blocks;
+    }
 
 pub roomy : (z : Sizes) → InRange z → HasRoom z
 roomy z r =
@@ -72,27 +82,44 @@ few_answers z m r sound b =
 
 -- ---- after some events
 
-module _ {ways words regs depth : ℕ} {shape : Shape} {unit : UnitState} {memory : Memory} (whole : IsWhole ways words regs depth shape unit memory) where
+module _ {ways words regs depth : ℕ} {shape : Shape} {unit : UnitState} {memory : Memory}
+    (whole : IsWhole ways words regs depth shape unit memory) where
   -- the same shape, with another machine
-  changed : (m : Machine) → IsSound unit.sizes m → IsBounded unit.sizes m → (let u : UnitState = record { sizes = unit.sizes; cache = m.cache } in IsWhole ways words regs depth shape u (with_banks memory m.banks))
+  changed : (m : Machine) → IsSound unit.sizes m → IsBounded unit.sizes m
+      → (let u : UnitState = record { sizes = unit.sizes; cache = m.cache } in
+      IsWhole ways words regs depth shape u (with_banks memory m.banks))
   changed m sound bounded =
-      record { sizes = whole.sizes; memory_words = whole.memory_words; limit = whole.limit; in_range = whole.in_range; sound = sound; bounded = bounded }
+      record {
+        sizes = whole.sizes;
+        memory_words = whole.memory_words;
+        limit = whole.limit;
+        in_range = whole.in_range;
+        sound =
+            sound;
+        bounded = bounded;
+      }
 
-  moved : (m : Machine) → IsSound unit.sizes m → IsBounded unit.sizes m → (u : UnitState) (n : Memory) → u ≡ record unit { cache = m.cache } → n ≡ with_banks memory m.banks → IsWhole ways words regs depth shape u n
+  moved : (m : Machine) → IsSound unit.sizes m → IsBounded unit.sizes m → (u : UnitState) (n : Memory)
+      → u ≡ record unit { cache = m.cache } → n ≡ with_banks memory m.banks → IsWhole ways words regs depth shape u n
   moved m sound bounded u n e f =
       let P : UnitState → Type 0 = λ v. IsWhole ways words regs depth shape v n in
       let Q : Memory → Type 0 = λ k. IsWhole ways words regs depth shape (record unit { cache = m.cache }) k in
       subst P (sym e) (subst Q (sym f) (changed m sound bounded))
 
-  pub whole_applied : (event : Event) (u : UnitState) (n : Memory) → u ≡ record unit { cache = (apply unit.sizes (machine_of unit memory) event).machine.cache } → n ≡ with_banks memory (apply unit.sizes (machine_of unit memory) event).machine.banks → IsWhole ways words regs depth shape u n
+  pub whole_applied : (event : Event) (u : UnitState) (n : Memory)
+      → u ≡ record unit { cache = (apply unit.sizes (machine_of unit memory) event).machine.cache }
+      → n ≡ with_banks memory (apply unit.sizes (machine_of unit memory) event).machine.banks → IsWhole ways words regs depth shape u n
   whole_applied event u n e f =
       let sound = sound_apply unit.sizes (lawful unit.sizes whole.in_range) (machine_of unit memory) whole.sound event in
       let bounded = bounded_apply unit.sizes (lawful unit.sizes whole.in_range) (machine_of unit memory) whole.sound whole.bounded event in
       moved (apply unit.sizes (machine_of unit memory) event).machine sound bounded u n e f
 
-  pub whole_walked : (events : List Event) (u : UnitState) (n : Memory) → u ≡ record unit { cache = (walked unit.sizes (machine_of unit memory) events).cache } → n ≡ with_banks memory (walked unit.sizes (machine_of unit memory) events).banks → IsWhole ways words regs depth shape u n
+  pub whole_walked : (events : List Event) (u : UnitState) (n : Memory)
+      → u ≡ record unit { cache = (walked unit.sizes (machine_of unit memory) events).cache }
+      → n ≡ with_banks memory (walked unit.sizes (machine_of unit memory) events).banks → IsWhole ways words regs depth shape u n
   whole_walked events u n e f =
-      let h = held_walked unit.sizes (lawful unit.sizes whole.in_range) (machine_of unit memory) (record { sound = whole.sound; bounded = whole.bounded }) events in
+      let h = held_walked unit.sizes (lawful unit.sizes whole.in_range) (machine_of unit memory)
+      (record { sound = whole.sound; bounded = whole.bounded }) events in
       moved (walked unit.sizes (machine_of unit memory) events) h.sound h.bounded u n e f
 
 -- ---- a new machine
@@ -119,49 +146,57 @@ module _ (ways words regs depth : ℕ) (shape : Shape) (image : List Word) where
         bounded = bounded_opening new_sizes (lawful new_sizes range) image fits;
       }
 
-  pub whole_opening : (unit : UnitState) (memory : Memory) → limits.bad_field new_sizes ≡ None → length image ≡ shape.words → unit ≡ new_unit → memory ≡ new_memory → IsWhole ways words regs depth shape unit memory
+  pub whole_opening : (unit : UnitState) (memory : Memory) → limits.bad_field new_sizes ≡ None → length image ≡ shape.words
+      → unit ≡ new_unit → memory ≡ new_memory → IsWhole ways words regs depth shape unit memory
   whole_opening unit memory none fits e f =
       let P : UnitState → Type 0 = λ u. IsWhole ways words regs depth shape u memory in
       let Q : Memory → Type 0 = λ n. IsWhole ways words regs depth shape new_unit n in
       subst P (sym e) (subst Q (sym f) (made none fits))
 
   -- it stands for the image, and owes nothing
-  pub flat_new : (unit : UnitState) (memory : Memory) → limits.bad_field new_sizes ≡ None → length image ≡ shape.words → unit ≡ new_unit → memory ≡ new_memory → flat_of unit.sizes (machine_of unit memory) ≡ record { mem = image; due = λ tag. None }
+  pub flat_new : (unit : UnitState) (memory : Memory) → limits.bad_field new_sizes ≡ None → length image ≡ shape.words → unit ≡ new_unit
+      → memory ≡ new_memory → flat_of unit.sizes (machine_of unit memory) ≡ record { mem = image; due = λ tag. None }
   flat_new unit memory none fits e f =
-      ap₂ (λ (u : UnitState) (n : Memory). flat_of u.sizes (machine_of u n)) e f ∙ flat_opening new_sizes (lawful new_sizes (in_range new_sizes none)) image fits
+      ap₂ (λ (u : UnitState) (n : Memory). flat_of u.sizes (machine_of u n)) e f
+      ∙ flat_opening new_sizes (lawful new_sizes (in_range new_sizes none)) image fits
 
 is_there : (n low high : ℕ) → low ≤ n → n ≤ high → is_between n low high ≡ true
 is_there n low high l h = ap₂ (λ a b. a && b) (le-leb low n l) (le-leb n high h)
 
 -- the numbers of a unit are in range for its banks, too
-pub banks_fit : (z : Sizes) (image : ℕ) (shape : Shape) → InRange z → z.words ≡ shape.words → z.banks ≡ shape.banks → z.bank_queue ≡ shape.bank_queue → image ≡ z.words → mem.bad_field image shape ≡ None
+pub banks_fit : (z : Sizes) (image : ℕ) (shape : Shape) → InRange z → z.words ≡ shape.words → z.banks ≡ shape.banks
+    → z.bank_queue ≡ shape.bank_queue → image ≡ z.words → mem.bad_field image shape ≡ None
 banks_fit z image shape r w b q e =
     let words = is_there shape.words 1 1048576 (omega (arith, r.some_memory)) (omega (arith, r.little_memory)) in
     let banks = is_there shape.banks 1 16 (omega (arith, r.some_banks)) (omega (arith, r.few_banks)) in
     let queue = is_there shape.bank_queue 1 64 (subst (λ n. 1 ≤ n) q (some_queue z r)) (omega (arith, r.few_commands)) in
     let fits = eq-eqb image shape.words (e ∙ w) in
-    ap₂ (λ s t. cond (not s) (Some Words) (cond (not t) (Some Banks) (cond (not (is_between shape.bank_queue 1 64)) (Some BankQueue) (cond (not (image == shape.words)) (Some Image) None)))) words banks
+    ap₂ (λ s t. cond (not s) (Some Words) (cond (not t) (Some Banks)
+    (cond (not (is_between shape.bank_queue 1 64)) (Some BankQueue) (cond (not (image == shape.words)) (Some Image) None)))) words banks
     ∙ ap₂ (λ s t. cond (not s) (Some BankQueue) (cond (not t) (Some Image) None)) queue fits
   where
     some_queue : (y : Sizes) → InRange y → 1 ≤ y.bank_queue
     some_queue y h = go y.bank_queue refl
       where
         go : (n : ℕ) → y.bank_queue ≡ n → 1 ≤ y.bank_queue
-        go zero p = let none = ap (λ n. n * y.banks) p in let zeros = zero-mul y.banks in absurd (omega (arith, h.enough_commands, h.some_words))
+        go zero p = let none = ap (λ n. n * y.banks) p in let zeros = zero-mul y.banks in
+            absurd (omega (arith, h.enough_commands, h.some_words))
         go (suc n) p = omega arith
 
 -- what a shape and an image with no bad number give
 pub fits_image : (z : Sizes) (image : ℕ) → bad_field z image ≡ None → (limits.bad_field z ≡ None) × (image ≡ z.words)
 fits_image z image e = go (limits.bad_field z) refl (image == z.words) refl e
   where
-    go : (o : Option ShapeField) → limits.bad_field z ≡ o → (t : Bool) → (image == z.words) ≡ t → option_or o (cond t None (Some Image)) ≡ None → (limits.bad_field z ≡ None) × (image ≡ z.words)
+    go : (o : Option ShapeField) → limits.bad_field z ≡ o → (t : Bool) → (image == z.words) ≡ t
+        → option_or o (cond t None (Some Image)) ≡ None → (limits.bad_field z ≡ None) × (image ≡ z.words)
     go None p true q h = (p, eqb-true image z.words q)
     go None p false q h = cc
     go (Some field) p t q h = cc
 
 -- ---- what each machine promises
 
-module _ {ways words regs depth : ℕ} {shape : Shape} {unit : UnitState} {memory : Memory} (whole : IsWhole ways words regs depth shape unit memory) where
+module _ {ways words regs depth : ℕ} {shape : Shape} {unit : UnitState} {memory : Memory}
+    (whole : IsWhole ways words regs depth shape unit memory) where
   abbrev now : Machine
   now = machine_of unit memory
 
@@ -179,7 +214,8 @@ module _ {ways words regs depth : ℕ} {shape : Shape} {unit : UnitState} {memor
       }
 
   pub is_served : IsServed unit.sizes now
-  is_served = served_after_pumps unit.sizes (lawful unit.sizes whole.in_range) (roomy unit.sizes whole.in_range) now whole.sound whole.bounded
+  is_served = served_after_pumps unit.sizes (lawful unit.sizes whole.in_range)
+      (roomy unit.sizes whole.in_range) now whole.sound whole.bounded
 
   pub is_whole : IsWholeState (state_of unit memory)
   is_whole = record { in_range = whole.in_range; sound = whole.sound; bounded = whole.bounded }
@@ -205,23 +241,32 @@ module _ {ways words regs depth : ℕ} {shape : Shape} {unit : UnitState} {memor
       go (Take place) = tt
 
   -- one event is a step of flat memory
-  pub flat_now : (event : Event) (answer : Answer) (u : UnitState) (n : Memory) → answer ≡ (apply unit.sizes now event).answer → u ≡ record unit { cache = (apply unit.sizes now event).machine.cache } → n ≡ with_banks memory (apply unit.sizes now event).machine.banks → flat_step (flat_of unit.sizes now) event answer ≡ Some (flat_of u.sizes (machine_of u n))
+  pub flat_now : (event : Event) (answer : Answer) (u : UnitState) (n : Memory) → answer ≡ (apply unit.sizes now event).answer
+      → u ≡ record unit { cache = (apply unit.sizes now event).machine.cache }
+      → n ≡ with_banks memory (apply unit.sizes now event).machine.banks
+      → flat_step (flat_of unit.sizes now) event answer ≡ Some (flat_of u.sizes (machine_of u n))
   flat_now event answer u n a e f =
-      ap (flat_step (flat_of unit.sizes now) event) a ∙ flat_apply unit.sizes (lawful unit.sizes whole.in_range) now whole.sound event ∙ sym (ap₂ (λ (v : UnitState) (k : Memory). Some (flat_of v.sizes (machine_of v k))) e f)
+      ap (flat_step (flat_of unit.sizes now) event) a ∙ flat_apply unit.sizes (lawful unit.sizes whole.in_range) now whole.sound event
+      ∙ sym (ap₂ (λ (v : UnitState) (k : Memory). Some (flat_of v.sizes (machine_of v k))) e f)
 
   -- and a walk is a run
-  pub flat_then : (events : List Event) (answers : List Answer) (u : UnitState) (n : Memory) → answers ≡ told unit.sizes now events → u ≡ record unit { cache = (walked unit.sizes now events).cache } → n ≡ with_banks memory (walked unit.sizes now events).banks → flat_run (flat_of unit.sizes now) events answers ≡ Some (flat_of u.sizes (machine_of u n))
+  pub flat_then : (events : List Event) (answers : List Answer) (u : UnitState) (n : Memory) → answers ≡ told unit.sizes now events
+      → u ≡ record unit { cache = (walked unit.sizes now events).cache } → n ≡ with_banks memory (walked unit.sizes now events).banks
+      → flat_run (flat_of unit.sizes now) events answers ≡ Some (flat_of u.sizes (machine_of u n))
   flat_then events answers u n a e f =
-      ap (flat_run (flat_of unit.sizes now) events) a ∙ flat_walked unit.sizes (lawful unit.sizes whole.in_range) now whole.sound events ∙ sym (ap₂ (λ (v : UnitState) (k : Memory). Some (flat_of v.sizes (machine_of v k))) e f)
+      ap (flat_run (flat_of unit.sizes now) events) a ∙ flat_walked unit.sizes (lawful unit.sizes whole.in_range) now whole.sound events
+      ∙ sym (ap₂ (λ (v : UnitState) (k : Memory). Some (flat_of v.sizes (machine_of v k))) e f)
 
   -- wherever a walk stands, no bank has more answers
   pub takes_answers_walked : (events : List Event) (b : ℕ) → length (bank_at (walked unit.sizes now events).banks b).answers ≤ 256
   takes_answers_walked events b =
-      let h = held_walked unit.sizes (lawful unit.sizes whole.in_range) now (record { sound = whole.sound; bounded = whole.bounded }) events in
+      let h = held_walked unit.sizes (lawful unit.sizes whole.in_range) now
+      (record { sound = whole.sound; bounded = whole.bounded }) events in
       few_answers unit.sizes (walked unit.sizes now events) whole.in_range h.sound b
 
   -- a settled machine's banks hold flat memory
-  pub settled_now : settled now ≡ true → (at : ℕ) → at < unit.sizes.words → bank_word unit.sizes now at ≡ word_at (flat_of unit.sizes now).mem at
+  pub settled_now : settled now ≡ true → (at : ℕ) → at < unit.sizes.words
+      → bank_word unit.sizes now at ≡ word_at (flat_of unit.sizes now).mem at
   settled_now s at l = settled_ok unit.sizes now whole.sound s at l
 
 -- a stray word is no answer of flat memory
@@ -252,19 +297,26 @@ no_stray s (Take place) = refl
 
 pub never_stray : (s t : Flat) (event : Event) (answer : Answer) → flat_step s event answer ≡ Some t → answer ≡ Refused StrayWord → ⊥
 never_stray s t event answer run e =
-    let none : flat_step s event answer ≡ None = ap (flat_step s event) e ∙ ap (λ b. cond b (Some (flat_after s event (Refused StrayWord))) None) (no_stray s event) in
+    let none : flat_step s event answer ≡ None = ap (flat_step s event) e
+    ∙ ap (λ b. cond b (Some (flat_after s event (Refused StrayWord))) None) (no_stray s event) in
     let some : is_some (flat_step s event answer) ≡ true = ap is_some run in
     let never : is_some (flat_step s event answer) ≡ false = ap is_some none in
     cc
 
 -- ---- the driver
 
-pub pump_rests : {X : Type 0} (z : Sizes) (m : Machine) (o : Option X) → IsDriven z m → pumped z m ≡ None → o ≡ None → (IsNone o → weight m ≡ 0) × (weight m ≡ 0 → IsNone o)
+pub pump_rests : {X : Type 0} (z : Sizes) (m : Machine) (o : Option X) → IsDriven z m → pumped z m ≡ None → o ≡ None
+    → (IsNone o → weight m ≡ 0) × (weight m ≡ 0 → IsNone o)
 pump_rests z m o driven e is = (λ h. driven.rests e, λ h. subst IsNone (sym is) refl)
 
-pub pump_moves : {X : Type 0} (z : Sizes) (m : Machine) (x : X) (event : Event) → IsDriven z m → pumped z m ≡ Some event → (IsNone (Some x) → weight m ≡ 0) × (weight m ≡ 0 → IsNone (Some x))
-pump_moves z m x event driven e =
-    (λ h. cc, λ h. let none = driven.at_rest h in let some : is_some (pumped z m) ≡ true = ap is_some e in let never : is_some (pumped z m) ≡ false = ap is_some none in cc)
+pub pump_moves : {X : Type 0} (z : Sizes) (m : Machine) (x : X) (event : Event) → IsDriven z m → pumped z m ≡ Some event
+    → (IsNone (Some x) → weight m ≡ 0) × (weight m ≡ 0 → IsNone (Some x))
+pump_moves z m x event driven e = (
+  λ h. cc,
+  λ h. let none = driven.at_rest h in let some : is_some (pumped z m) ≡ true = ap is_some e in
+      let never : is_some (pumped z m) ≡ false = ap is_some none in cc,
+)
 
-pub pump_lowers : (z : Sizes) (m : Machine) (new : MachineState) (event : Event) → IsDriven z m → pumped z m ≡ Some event → new ≡ record { sizes = z; machine = (apply z m event).machine } → weight new.machine < weight m
+pub pump_lowers : (z : Sizes) (m : Machine) (new : MachineState) (event : Event) → IsDriven z m → pumped z m ≡ Some event
+    → new ≡ record { sizes = z; machine = (apply z m event).machine } → weight new.machine < weight m
 pump_lowers z m new event driven e is = subst (λ (s : MachineState). weight s.machine < weight m) (sym is) (driven.lowers event e)

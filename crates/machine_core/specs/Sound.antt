@@ -1,15 +1,13 @@
 -- What each machine that a walk comes to keeps.
-use Rattle.std.specs.Prelude.{◌≡◌, ℕ, ◌+◌, ◌*◌, ◌/◌, ◌%◌, ◌<◌, ◌≤◌, Bool, true, false, ◌&&◌, not, if◌then◌else◌, ◌==◌, nat_lt, List, [], ◌∷◌, ◌++◌, map, length, Option, Some, None, slice_index_or}
-use Rattle.std.specs.List.{find, list_any, list_all}
+use Rattle.std.specs.Prelude.{◌≡◌, ℕ, ◌+◌, ◌*◌, ◌/◌, ◌%◌, ◌<◌, ◌≤◌, Bool, true, false, ◌&&◌, not, ◌==◌, nat_lt, List, [], ◌∷◌, length, Option, Some, None, slice_index_or}
+use Rattle.std.specs.List.{list_any, list_all}
 use Rattle.flat_model.specs.declared.Word.{Word}
 use Rattle.flat_model.specs.Words.{merged, zero_word}
 use Rattle.memory_banks.specs.declared.BankAnswer.{BankAnswer}
 use Rattle.memory_banks.specs.Banks.{bank_at, pending, all_pending}
 use Rattle.input_stack.specs.declared.Entry.{Entry}
-use Rattle.input_stack.specs.Stack.{stack_word}
 use Rattle.write_queue.specs.declared.Queued.{Queued}
-use Rattle.cache_unit.specs.declared.Reply.{Reply}
-use Rattle.cache_unit.specs.State.{Sizes, Frame, Register, Target, empty_frame, clear_field, frame_at, frame_of, register_at, field_at, is_live, live_for, cell_in, cell_of, targets, tags, block_of, place_in, address}
+use Rattle.cache_unit.specs.State.{Sizes, Frame, Register, empty_frame, clear_field, frame_at, register_at, is_live, cell_of, tags, block_of, place_in, address}
 use Rattle.cache_unit.specs.Counts.{bit, tally}
 use Rattle.cache_unit.specs.Causes.{order_of}
 use Rattle.machine_core.specs.Machine.{Machine, backing, flat_word}
@@ -36,46 +34,6 @@ own_bank z m slot i = address z (register_at m.cache slot).block i % z.banks
 abbrev pub word_in : Option BankAnswer → Word
 word_in None = zero_word
 word_in (Some a) = a.word
-
--- the stack's word, or else that of the answer on its way
-abbrev pub coming_from : Option Word → List BankAnswer → ℕ → ℕ → Word
-coming_from (Some w) answers slot i = w
-coming_from None answers slot i = word_in (find (is_for slot i) answers)
-
--- the word that register `slot` has, or will have, from memory for its word i
-unfoldable pub coming : Machine → ℕ → ℕ → Word
-coming m slot i = coming_from (stack_word m.cache.stack slot i) (all_pending m.banks) slot i
-
--- ---- the word at an address
-
--- the buffer's word, or the one that comes with the code's lanes of the buffer's
-abbrev pub shown_word : Machine → Option ℕ → ℕ → Word → Word
-shown_word m None i buffer = buffer
-shown_word m (Some slot) i buffer =
-    if (field_at m.cache slot i).processed then buffer else merged (coming m slot i) buffer (field_at m.cache slot i).code
-
--- memory's word, or that of the frame that holds its block
-abbrev pub word_now_in : Sizes → Machine → ℕ → Option ℕ → Word
-word_now_in z m at None = backing z m at
-word_now_in z m at (Some f) = shown_word m (live_for m.cache (block_of z at)) (place_in z at) (cell_in m.cache (Some f) (place_in z at)).word
-
--- the word that flat memory has at an address
-unfoldable pub word_now : Sizes → Machine → ℕ → Word
-word_now z m at = word_now_in z m at (frame_of m.cache (block_of z at))
-
--- ---- what is owed
-
--- what a waiting load will be told
-abbrev pub reply_to : Machine → Target → Reply
-reply_to m t = record { tag = t.load.tag; word = merged (coming m t.slot t.i) t.load.held t.load.lanes }
-
--- the replies that stand ready, and those to come
-unfoldable pub dues : Machine → List Reply
-dues m = m.cache.ready ++ map (reply_to m) (targets m.cache.registers)
-
--- whether a reply is for this tag
-abbrev pub has_tag : ℕ → Reply → Bool
-has_tag tag r = r.tag == tag
 
 -- ---- orders
 

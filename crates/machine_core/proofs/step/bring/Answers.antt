@@ -18,7 +18,8 @@ returns-in-Moved-clause-unit g c =
     let old = c.args.banks.now in
     let m = machine_of unit old in
     let is = sym c.answer_at.ensures ∙ c.in-Some.is in
-    c.arrive-told.ensures.unit ∙ ap (λ d. record unit { cache = d }) (brought_cache unit.sizes m c.args.bank c.args.place _ c.in-Some.answer is)
+    c.arrive-told.ensures.unit ∙ ap (λ d. record unit { cache = d })
+    (brought_cache unit.sizes m c.args.bank c.args.place _ c.in-Some.answer is)
 
 pub returns-in-Moved-clause-banks : goal.returns-in-Moved-clause-banks
 returns-in-Moved-clause-banks g c =
@@ -37,6 +38,8 @@ returns-in_default-told g c =
     let is = sym c.answer_at.ensures ∙ c.in-Some.is in
     record {
       answer = brought_answer unit.sizes m c.args.bank c.args.place _ c.in-Some.answer _ is c.arrive-told.ensures.answer;
-      unit = c.arrive-told.ensures.unit ∙ ap (λ d. record unit { cache = d }) (brought_cache unit.sizes m c.args.bank c.args.place _ c.in-Some.answer is);
-      banks = ap (with_banks old) (brought_stays unit.sizes m c.args.bank c.args.place _ c.in-Some.answer is (λ e. c.in_default-told.not-Moved (c.arrive-told.ensures.answer ∙ e)));
+      unit = c.arrive-told.ensures.unit ∙ ap (λ d. record unit { cache = d })
+          (brought_cache unit.sizes m c.args.bank c.args.place _ c.in-Some.answer is);
+      banks = ap (with_banks old) (brought_stays unit.sizes m c.args.bank c.args.place _ c.in-Some.answer is
+          (λ e. c.in_default-told.not-Moved (c.arrive-told.ensures.answer ∙ e)));
     }

@@ -9,7 +9,8 @@ pub loop-slot-preserved : goal.loop-slot-preserved
 loop-slot-preserved g c =
     let own = ap (λ n. c.loop-slot.weight + n) c.weight_of_register-weight.ensures.value in
     record {
-      counted = total_more register_weight c.args.unit.now.cache.registers c.loop-slot.slot free_register c.loop-slot.weight (c.loop-slot.weight + c.weight_of_register-weight.result) (omega arith) c.loop-slot.invariant.counted own;
+      counted = total_more register_weight c.args.unit.now.cache.registers c.loop-slot.slot free_register c.loop-slot.weight
+          (c.loop-slot.weight + c.weight_of_register-weight.result) (omega arith) c.loop-slot.invariant.counted own;
       small = omega arith;
     }
 

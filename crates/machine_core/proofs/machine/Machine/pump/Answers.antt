@@ -10,7 +10,8 @@ pub returns-in_err-event-clause-rests : goal.returns-in_err-event-clause-rests
 returns-in_err-event-clause-rests g c =
     let driven = is_driven c.self.invariant in
     let none = sym c.next_event.ensures ∙ c.in_err-event.was in
-    subst (λ (s : MachineState). (IsNone c.from_residual.result → weight s.machine ≡ 0) × (weight s.machine ≡ 0 → IsNone c.from_residual.result)) c.self.view_is (pump_rests _ _ _ driven none c.from_residual.ensures)
+    subst (λ (s : MachineState). (IsNone c.from_residual.result → weight s.machine ≡ 0)
+    × (weight s.machine ≡ 0 → IsNone c.from_residual.result)) c.self.view_is (pump_rests _ _ _ driven none c.from_residual.ensures)
 
 pub returns-in_err-event-clause-kept : goal.returns-in_err-event-clause-kept
 returns-in_err-event-clause-kept g c =

@@ -23,7 +23,8 @@ invariant_of-self-2 g c = whole_walked c.self.invariant c.args.events.now _ _ c.
 pub returns-clause-flat : goal.returns-clause-flat
 returns-clause-flat g c =
     let flat = flat_then c.self.invariant c.args.events.now _ _ _ c.walk.ensures.answers c.walk.ensures.unit c.walk.ensures.banks in
-    subst (λ (s : MachineState). flat_run (flat_of s.sizes s.machine) c.args.events.now c.walk.new.answers.items ≡ Some (flat_of c.walk.new.unit.sizes (machine_of c.walk.new.unit c.walk.new.banks))) c.self.view_is flat
+    subst (λ (s : MachineState). flat_run (flat_of s.sizes s.machine) c.args.events.now c.walk.new.answers.items
+    ≡ Some (flat_of c.walk.new.unit.sizes (machine_of c.walk.new.unit c.walk.new.banks))) c.self.view_is flat
 
 pub returns-clause-kept : goal.returns-clause-kept
 returns-clause-kept g c = is_kept (whole_walked c.self.invariant c.args.events.now _ _ c.walk.ensures.unit c.walk.ensures.banks)

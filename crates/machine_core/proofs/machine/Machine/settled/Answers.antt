@@ -8,4 +8,5 @@ pub returns-then-clean-clause-banks : goal.returns-then-clean-clause-banks
 returns-then-clean-clause-banks g c =
     let is = ap₂ (λ a b. a && b) (sym c.clean.ensures ∙ c.if-clean.true) (sym c.all_served.ensures) in
     let held = λ (h : IsTrue c.all_served.result). settled_now c.self.invariant (is ∙ h) in
-    subst (λ (s : MachineState). IsTrue c.all_served.result → (at : ℕ) → at < s.sizes.words → bank_word s.sizes s.machine at ≡ word_at (flat_of s.sizes s.machine).mem at) c.self.view_is held
+    subst (λ (s : MachineState). IsTrue c.all_served.result → (at : ℕ) → at < s.sizes.words
+    → bank_word s.sizes s.machine at ≡ word_at (flat_of s.sizes s.machine).mem at) c.self.view_is held

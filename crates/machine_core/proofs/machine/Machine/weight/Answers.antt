@@ -8,9 +8,12 @@ use Rattle.machine_core.proofs.machine.Machine.weight.Goals as goal
 
 pub returns-clause-within : goal.returns-clause-within
 returns-clause-within g c =
-    let is : c.weight_of_banks.result + (2 * c.from.result + c.from-2.result + 2 * c.from-3.result) + c.weight_of_registers.result ≡ weight (machine_of c.self.inside.unit c.self.inside.banks) = grind arith in
+    let is : c.weight_of_banks.result + (2 * c.from.result + c.from-2.result + 2 * c.from-3.result) + c.weight_of_registers.result
+    ≡ weight (machine_of c.self.inside.unit c.self.inside.banks) = grind arith in
     let few = is_served c.self.invariant in
-    subst (λ (s : MachineState). c.weight_of_banks.result + (2 * c.from.result + c.from-2.result + 2 * c.from-3.result) + c.weight_of_registers.result ≤ most_weight s.sizes) c.self.view_is (subst (λ n. n ≤ most_weight c.self.inside.unit.sizes) (sym is) few.few)
+    subst (λ (s : MachineState). c.weight_of_banks.result +
+    (2 * c.from.result + c.from-2.result + 2 * c.from-3.result) + c.weight_of_registers.result ≤ most_weight s.sizes) c.self.view_is
+    (subst (λ n. n ≤ most_weight c.self.inside.unit.sizes) (sym is) few.few)
 
 pub returns-clause-served : goal.returns-clause-served
 returns-clause-served g c = subst (λ (s : MachineState). IsServed s.sizes s.machine) c.self.view_is (is_served c.self.invariant)
