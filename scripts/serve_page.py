@@ -109,7 +109,13 @@ class Program:
 
     def jobs(self):
         """The jobs that the program has."""
-        return [job for job, words in JOBS.items() if job not in MAY_LACK or self.answer([words[0], "--help"], b"", {})["status"] == 0]
+        return [job for job, words in JOBS.items() if job not in MAY_LACK or self.has(words[0])]
+
+    def has(self, command):
+        try:
+            return self.answer([command, "--help"], b"", {})["status"] == 0
+        except Refusal:
+            return False
 
     def start(self, words, **options):
         with self.lock:
