@@ -1,4 +1,4 @@
 mod TagUses
-mod LineTexts
+mod PairTexts
 mod LinesRead
 mod Endings

@@ -14,6 +14,7 @@ use Rattle.trace_text.specs.declared.lines.LineFault.TheVariants.{TooLong}
 use Rattle.trace_text.specs.declared.pairs.Pair.{Pair}
 use Rattle.trace_text.specs.declared.fault.TraceFault.TheVariants as fault
 use Rattle.trace_text.proofs.Held.{judged_still, judged_more, judged_mismatch}
+use Rattle.trace_text.proofs.LineTexts.{none_yet, none_more, begins_long, good_more, good_line}
 use Rattle.run_reasons.specs.Origins.{Origins, origins_then, origins_from, origins_of, origins_after, beginning}
 use Rattle.run_reasons.specs.Reasons.{mismatch_at}
 use Rattle.run_reasons.specs.Shown.{shown}
@@ -22,7 +23,7 @@ use Rattle.run_reasons.specs.Lines.{HasRead, StepEnds, bytes_left}
 use Rattle.run_reasons.specs.declared.lines.Lines.{Lines}
 use Rattle.run_reasons.specs.declared.lines.Stop.{Stop}
 use Rattle.run_reasons.specs.declared.lines.Stop.TheVariants as stop
-use Rattle.run_reasons.proofs.LineTexts.{none_yet, none_more, begins_said, begins_long, good_more, good_line}
+use Rattle.run_reasons.proofs.PairTexts.{begins_faulty}
 
 -- ---- the origins of one line more
 
@@ -156,11 +157,11 @@ pub ends_long : {words : ℕ} {bytes : List ℕ} (r : Lines) (b number : ℕ) �
 ends_long r b number h ne long at =
     let found : List ℕ = r.pending.items ++ b ∷ [] in
     ends_in r b (stop.Fault (fault.Line number TooLong)) h
-    (omega (arith, at, h.number), begins_long found (omega (arith, long, length-append r.pending.items (b ∷ []))) (none_more r.pending.items b ne h.text.unfinished))
+    (omega (arith, at, h.number), begins_long pair_fault MAX_PAIR found (omega (arith, long, length-append r.pending.items (b ∷ []))) (none_more r.pending.items b ne h.text.unfinished))
 
 pub ends_faulty : {words : ℕ} {bytes : List ℕ} (r : Lines) (number : ℕ) (f : LineFault) → HasRead words bytes r → number ≡ r.count + 1 → pair_of r.pending.items ≡ Err f → EndsIn words (bytes ++ 10 ∷ []) (stop.Fault (fault.Line number f))
 ends_faulty r number f h at said =
-    ends_in r 10 (stop.Fault (fault.Line number f)) h (omega (arith, at, h.number), begins_said r.pending.items f h.text.short h.text.unfinished said)
+    ends_in r 10 (stop.Fault (fault.Line number f)) h (omega (arith, at, h.number), begins_faulty r.pending.items f h.text.short h.text.unfinished said)
 
 mismatch_ends : (words : ℕ) (texts : List (List ℕ)) (text : List ℕ) (steps : ℕ) (pair : Pair) (event : Event) (answer : Answer) → IsFlat words texts steps → IsGood pair_fault MAX_PAIR text
     → pair_of text ≡ Ok pair → pair ≡ recorded event answer → flat_step (origins_of words texts).flat event answer ≡ None

@@ -5,6 +5,7 @@ use Rattle.std.proofs.Math.Path.{fun_ext}
 use Rattle.std.proofs.lemmas.Bool.{eqb-true}
 use Rattle.std.proofs.lemmas.Bool.Decides.{nat_tests}
 use Rattle.std.proofs.lemmas.List.{get_or-set_same, get_or-set_other, length-set}
+use Rattle.flat_model.specs.declared.Word.{Word}
 use Rattle.flat_model.specs.declared.Event.{Event}
 use Rattle.flat_model.specs.declared.Event.TheVariants.{Load, Store, Take}
 use Rattle.flat_model.specs.declared.Answer.{Answer}
@@ -14,7 +15,8 @@ use Rattle.flat_model.specs.Flat.{Flat, word_at, may_answer, flat_after, flat_st
 use Rattle.run_reasons.specs.declared.origins.Stores.{Stores}
 use Rattle.run_reasons.specs.declared.origins.TagUse.{TagUse}
 use Rattle.run_reasons.specs.declared.origins.TagUse.TheVariants.{Never}
-use Rattle.run_reasons.specs.Origins.{Origins, with_use, stores_after, tags_after, origins_after}
+use Rattle.run_reasons.specs.Origins.{Origins, with_use, stores_after, tags_after, word_under, past_over, past_after, origins_after}
+use Rattle.run_reasons.specs.Pasts.{PastOf}
 use Rattle.run_reasons.specs.Shown.{uses_in}
 
 -- ---- tags
@@ -68,7 +70,7 @@ step_length s t event answer e = ap (λ (x : Flat). length x.mem) (step_after s 
 
 -- a load leaves memory as it is, so its word may be read before or after
 tags_same : (o : Origins) (n : ℕ) (event : Event) (answer : Answer)
-    → tags_after (record { flat = flat_after o.flat event answer; stores = o.stores; tags = o.tags }) n event answer ≡ tags_after o n event answer
+    → tags_after (record { flat = flat_after o.flat event answer; stores = o.stores; tags = o.tags; past = o.past }) n event answer ≡ tags_after o n event answer
 tags_same o n (Load tag at) Accepted = refl
 tags_same o n (Load tag at) Moved = refl
 tags_same o n (Load tag at) (Value t w) = refl
@@ -81,16 +83,25 @@ tags_same o n (Take place) Nothing = refl
 tags_same o n (Take place) (Refused c) = refl
 tags_same o n event answer = refl
 
--- flat memory made its step first, and then stores and tags were noted
-pub noted : (o m p : Origins) (n : ℕ) (event : Event) (answer : Answer)
-    → flat_step o.flat event answer ≡ Some m.flat → m.stores ≡ o.stores → m.tags ≡ o.tags
+-- flat memory made its step first, and then stores, tags and what was overwritten were noted
+pub noted : (o m p : Origins) (old : Word) (n : ℕ) (event : Event) (answer : Answer)
+    → flat_step o.flat event answer ≡ Some m.flat → m.stores ≡ o.stores → m.tags ≡ o.tags → m.past ≡ o.past → old ≡ word_under o.flat event
     → p.flat ≡ m.flat → p.stores ≡ stores_after m.stores n event answer → p.tags ≡ tags_after m n event answer
+    → p.past ≡ past_over old m.stores m.past n event answer
     → p ≡ origins_after o n event answer
-noted o m p n event answer step stores tags flat' stores' tags' =
+noted o m p old n event answer step stores tags past is flat' stores' tags' past' =
     let after = flat_after o.flat event answer in
-    let mk : Flat → List Stores → (ℕ → TagUse) → Origins = λ f s t. record { flat = f; stores = s; tags = t } in
+    let mk : Flat → List Stores → (ℕ → TagUse) → PastOf → Origins = λ f s t q. record { flat = f; stores = s; tags = t; past = q } in
     let flat : m.flat ≡ after = step_after o.flat m.flat event answer step in
-    let middle : m ≡ mk after o.stores o.tags = ap (λ f. mk f m.stores m.tags) flat ∙ ap (λ s. mk after s m.tags) stores ∙ ap (λ t. mk after o.stores t) tags in
-    ap (λ f. mk f p.stores p.tags) (flat' ∙ flat)
-    ∙ ap (λ s. mk after s p.tags) (stores' ∙ ap (λ s. stores_after s n event answer) stores)
-    ∙ ap (λ t. mk after (stores_after o.stores n event answer) t) (tags' ∙ ap (λ (x : Origins). tags_after x n event answer) middle ∙ tags_same o n event answer)
+    let middle : m ≡ mk after o.stores o.tags o.past =
+    ap (λ f. mk f m.stores m.tags m.past) flat ∙ ap (λ s. mk after s m.tags m.past) stores ∙ ap (λ t. mk after o.stores t m.past) tags
+    ∙ ap (mk after o.stores o.tags) past in
+    let kept : p.past ≡ past_after o n event answer =
+    past' ∙ ap (λ w. past_over w m.stores m.past n event answer) is
+    ∙ ap (λ s. past_over (word_under o.flat event) s m.past n event answer) stores
+    ∙ ap (λ q. past_over (word_under o.flat event) o.stores q n event answer) past in
+    ap (λ f. mk f p.stores p.tags p.past) (flat' ∙ flat)
+    ∙ ap (λ s. mk after s p.tags p.past) (stores' ∙ ap (λ s. stores_after s n event answer) stores)
+    ∙ ap (λ t. mk after (stores_after o.stores n event answer) t p.past)
+    (tags' ∙ ap (λ (x : Origins). tags_after x n event answer) middle ∙ tags_same o n event answer)
+    ∙ ap (mk after (stores_after o.stores n event answer) (tags_after o n event answer)) kept

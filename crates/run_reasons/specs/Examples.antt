@@ -1,5 +1,5 @@
 -- Worked examples, each checked by computing.
-use Rattle.std.specs.Prelude.{◌≡◌, ℕ, ◌+◌, List, [], ◌∷◌}
+use Rattle.std.specs.Prelude.{◌≡◌, ℕ, ◌+◌, Some, None, List, [], ◌∷◌}
 use Rattle.std.proofs.Common.{refl}
 use Rattle.flat_model.specs.declared.Word.{Word}
 use Rattle.flat_model.specs.declared.Cause.TheVariants.{OutOfRange, TagInUse, NoRegister, StackFull}
@@ -9,6 +9,7 @@ use Rattle.flat_model.specs.declared.Answer.{Answer}
 use Rattle.flat_model.specs.declared.Answer.TheVariants.{Accepted, Value, Refused}
 use Rattle.flat_model.specs.Words.{has, merged}
 use Rattle.run_reasons.specs.Origins.{Origins, beginning, origins_after, stored_in}
+use Rattle.run_reasons.specs.Pasts.{overwritten_at, overwritten_in, pasts_of}
 use Rattle.run_reasons.specs.Reasons.{reason_of}
 use Rattle.run_reasons.specs.declared.reason.Reason.TheVariants.{NeverAnswered, NeverRefused, Outside, Inside, TagInUse as InUse, NeverLoaded, Taken, WrongWord}
 
@@ -28,34 +29,47 @@ stored_again = after 1 (beginning 2) (
     )
 
 -- The load is owed what stood there in line 3. Of the bytes that came, the first is that of line 4, and the second is none
--- that a last store put there.
+-- that a last store put there, nor any other.
 wrong_word : reason_of stored_again (Take 0) (Value 7 (word 12 1 0 13)) ≡ WrongWord (record {
   tag = 7;
   load = record { line = 3; at = 1; word = word 11 0 0 13; stores = record { b0 = 2; b1 = 0; b2 = 0; b3 = 1 } };
   got = word 12 1 0 13;
   later = record { b0 = 4; b1 = 0; b2 = 0; b3 = 0 };
+  past = record { b0 = None; b1 = None; b2 = None; b3 = None };
 })
-unfolding has merged stored_in
+unfolding has merged stored_in overwritten_at overwritten_in pasts_of
 wrong_word = refl
 
+-- The first byte is the one of line 1, which line 2 overwrote, and of the others the second and third are the zeros that memory
+-- began with: line 4 overwrote one of them.
+stale_word : reason_of stored_again (Take 0) (Value 7 (word 10 0 0 0)) ≡ WrongWord (record {
+  tag = 7;
+  load = record { line = 3; at = 1; word = word 11 0 0 13; stores = record { b0 = 2; b1 = 0; b2 = 0; b3 = 1 } };
+  got = word 10 0 0 0;
+  later = record { b0 = 0; b1 = 0; b2 = 0; b3 = 0 };
+  past = record { b0 = Some (record { put = 1; by = 2 }); b1 = Some (record { put = 0; by = 4 }); b2 = None; b3 = Some (record { put = 0; by = 1 }) };
+})
+unfolding has merged stored_in overwritten_at overwritten_in pasts_of
+stale_word = refl
+
 in_use : reason_of stored_again (Load 7 0) (Refused NoRegister) ≡ InUse 7 3
-unfolding has merged stored_in
+unfolding has merged stored_in overwritten_at overwritten_in
 in_use = refl
 
 never_loaded : reason_of stored_again (Take 0) (Value 8 (word 0 0 0 0)) ≡ NeverLoaded 8
-unfolding has merged stored_in
+unfolding has merged stored_in overwritten_at overwritten_in
 never_loaded = refl
 
 taken : reason_of (after 5 stored_again ((Take 0, Value 7 (word 11 0 0 13)) ∷ [])) (Load 7 0) (Refused TagInUse) ≡ Taken 7 5
-unfolding has merged stored_in
+unfolding has merged stored_in overwritten_at overwritten_in
 taken = refl
 
 outside : reason_of stored_again (Load 7 2) Accepted ≡ Outside 2 2
-unfolding has merged stored_in
+unfolding has merged stored_in overwritten_at overwritten_in
 outside = refl
 
 inside : reason_of stored_again (Load 8 1) (Refused OutOfRange) ≡ Inside 1 2
-unfolding has merged stored_in
+unfolding has merged stored_in overwritten_at overwritten_in
 inside = refl
 
 never_answered : reason_of stored_again Drain Accepted ≡ NeverAnswered

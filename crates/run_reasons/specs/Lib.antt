@@ -1,3 +1,4 @@
+pub mod Pasts
 pub mod Origins
 pub mod Reasons
 pub mod Shown

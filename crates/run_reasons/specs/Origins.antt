@@ -1,5 +1,5 @@
--- Where the words of flat memory come from: the fold that keeps, beside flat memory, where each byte was last stored and
--- where each tag was loaded or taken.
+-- Where the words of flat memory come from: the fold that keeps, beside flat memory, where each byte was last stored,
+-- where each tag was loaded or taken, and when each value of a byte was overwritten.
 use Rattle.std.specs.Prelude.{ℕ, ◌+◌, ◌==◌, ◌&&◌, if◌then◌else◌, nat_lt, Option, Some, None, List, [], ◌∷◌, replicate, slice_set, slice_index_or}
 use Rattle.flat_model.specs.declared.Word.{Word}
 use Rattle.flat_model.specs.declared.Lanes.{Lanes}
@@ -7,7 +7,7 @@ use Rattle.flat_model.specs.declared.Event.{Event}
 use Rattle.flat_model.specs.declared.Event.TheVariants.{Load, Store, Take}
 use Rattle.flat_model.specs.declared.Answer.{Answer}
 use Rattle.flat_model.specs.declared.Answer.TheVariants.{Accepted, Value}
-use Rattle.flat_model.specs.Words.{has, Lane0, Lane1, Lane2, Lane3}
+use Rattle.flat_model.specs.Words.{zero_word, has, Lane0, Lane1, Lane2, Lane3}
 use Rattle.flat_model.specs.Flat.{Flat, word_at, flat_after}
 use Rattle.trace_text.specs.Pairs.{pair_of}
 use Rattle.trace_text.specs.Checks.{step_of, zeros}
@@ -15,13 +15,15 @@ use Rattle.trace_text.specs.declared.check.Step.{Step}
 use Rattle.run_reasons.specs.declared.origins.Stores.{Stores}
 use Rattle.run_reasons.specs.declared.origins.AcceptedLoad.{AcceptedLoad}
 use Rattle.run_reasons.specs.declared.origins.TagUse.{TagUse}
+use Rattle.run_reasons.specs.Pasts.{PastOf, overwritten_in}
 use Rattle.run_reasons.specs.declared.origins.TagUse.TheVariants.{Never, Loaded, Taken}
 
--- flat memory, the lines that last stored each word's bytes, and what became of each tag
+-- flat memory, the lines that last stored each word's bytes, what became of each tag, and which values were overwritten
 pub record Origins : Type 0 where
   pub flat : Flat
   pub stores : List Stores
   pub tags : ℕ → TagUse
+  pub past : PastOf
 
 -- no line has stored a byte
 abbrev pub no_stores : Stores
@@ -45,7 +47,7 @@ with_use tags tag state t = if t == tag then state else tags t
 
 -- memory of so many words of zeros, before any line
 abbrev pub beginning : ℕ → Origins
-beginning words = record { flat = zeros words; stores = replicate words no_stores; tags = λ tag. Never }
+beginning words = record { flat = zeros words; stores = replicate words no_stores; tags = λ tag. Never; past = λ key. None }
 
 -- a load of this address, accepted in line n
 abbrev pub accepted_load : Origins → ℕ → ℕ → AcceptedLoad
@@ -62,12 +64,26 @@ tags_after o n (Load tag at) Accepted = with_use o.tags tag (Loaded (accepted_lo
 tags_after o n (Take place) (Value tag word) = with_use o.tags tag (Taken n)
 tags_after o n event answer = o.tags
 
+-- the word that an event may overwrite: a store's
+abbrev pub word_under : Flat → Event → Word
+word_under s (Store at word lanes) = word_at s.mem at
+word_under s event = zero_word
+
+-- which values were overwritten, where this word stood under the event
+abbrev pub past_over : Word → List Stores → PastOf → ℕ → Event → Answer → PastOf
+past_over old stores past n (Store at word lanes) Accepted = overwritten_in n lanes at old (stores_at stores at) past
+past_over old stores past n event answer = past
+
+abbrev pub past_after : Origins → ℕ → Event → Answer → PastOf
+past_after o n event answer = past_over (word_under o.flat event) o.stores o.past n event answer
+
 -- what an event and its answer in line n leave
 abbrev pub origins_after : Origins → ℕ → Event → Answer → Origins
 origins_after o n event answer = record {
   flat = flat_after o.flat event answer;
   stores = stores_after o.stores n event answer;
   tags = tags_after o n event answer;
+  past = past_after o n event answer;
 }
 
 -- the same of a line, which may be no step

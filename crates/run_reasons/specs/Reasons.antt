@@ -10,6 +10,7 @@ use Rattle.flat_model.specs.Ranges.{is_between}
 use Rattle.flat_model.specs.Words.{has_any}
 use Rattle.flat_model.specs.Flat.{number, word_at}
 use Rattle.run_reasons.specs.Origins.{Origins, stores_at, later_stores}
+use Rattle.run_reasons.specs.Pasts.{pasts_of}
 use Rattle.run_reasons.specs.declared.origins.TagUse.{TagUse}
 use Rattle.run_reasons.specs.declared.origins.TagUse.TheVariants as state
 use Rattle.run_reasons.specs.declared.reason.Mismatch.{Mismatch}
@@ -80,6 +81,7 @@ value_reason o tag got (state.Loaded load) = WrongWord (record {
   load = load;
   got = got;
   later = later_stores load.line (word_at o.flat.mem load.at) got (stores_at o.stores load.at);
+  past = pasts_of o.past load.at got;
 })
 value_reason o tag got (state.Taken n) = Taken tag n
 

@@ -1,11 +1,12 @@
 -- The texts of what an explanation tells.
-use Rattle.std.specs.Prelude.{ℕ, ◌==◌, if◌then◌else◌, List, [], ◌++◌, codes, decimal}
+use Rattle.std.specs.Prelude.{ℕ, ◌==◌, if◌then◌else◌, Option, Some, None, List, [], ◌++◌, codes, decimal}
 use Rattle.flat_model.specs.Texts.{byte_text, word_text, event_text, answer_text}
 use Rattle.flat_model.specs.declared.Event.{Event}
 use Rattle.flat_model.specs.declared.Event.TheVariants.{Load, Store, Prefetch, Evict, Drain, Serve, Arrive, Process, Take}
 use Rattle.flat_model.specs.declared.Answer.{Answer}
 use Rattle.run_reasons.specs.declared.explain.Explanation.{Explanation}
 use Rattle.run_reasons.specs.declared.explain.Explanation.TheVariants as explained
+use Rattle.run_reasons.specs.declared.pasts.Overwritten.{Overwritten}
 use Rattle.run_reasons.specs.declared.reason.Mismatch.{Mismatch}
 use Rattle.run_reasons.specs.declared.reason.WrongWord.{WrongWord}
 use Rattle.run_reasons.specs.declared.reason.Reason.{Reason}
@@ -41,25 +42,38 @@ answers_text (Take place) = codes "a value or nothing"
 abbrev pub owed_from_text : ℕ → List ℕ
 owed_from_text line = if line == 0 then codes "of the initial zeros" else codes "stored in line " ++ decimal line
 
--- the store that the byte that came is from, if it is the last one to it
-abbrev pub got_from_text : ℕ → List ℕ
-got_from_text line = if line == 0 then codes "which no last store put there" else codes "stored in line " ++ decimal line ++ codes ", after the load"
+-- what had put a byte there, and the line that overwrote it
+abbrev pub overwritten_text : ℕ → ℕ → List ℕ
+overwritten_text put by =
+    if put == 0 then codes "memory began with it, and line " ++ (decimal by ++ codes " overwrote it")
+    else codes "line " ++ (decimal put ++ (codes " did, and line " ++ (decimal by ++ codes " overwrote it")))
+
+-- when the byte that came stood there, if it ever did
+abbrev pub past_text : Option Overwritten → List ℕ
+past_text None = codes "no store ever did"
+past_text (Some o) = overwritten_text o.put o.by
+
+-- the store that the byte that came is from, if it is the last one to it, and else when it stood there before
+abbrev pub got_from_text : ℕ → Option Overwritten → List ℕ
+got_from_text line past =
+    if line == 0 then codes "which no last store put there: " ++ past_text past
+    else codes "stored in line " ++ decimal line ++ codes ", after the load"
 
 -- a byte that isn't the one that is owed, in a line of its own
-unfoldable pub byte_line : ℕ → ℕ → ℕ → ℕ → ℕ → List ℕ
-byte_line place owed store got later =
+unfoldable pub byte_line : ℕ → ℕ → ℕ → ℕ → ℕ → Option Overwritten → List ℕ
+byte_line place owed store got later past =
     if owed == got then []
     else codes "\nbyte " ++ decimal place ++ codes ": owed " ++ byte_text owed ++ codes ", " ++ owed_from_text store ++ codes "; got "
-    ++ byte_text got ++ codes ", " ++ got_from_text later
+    ++ byte_text got ++ codes ", " ++ got_from_text later past
 
 -- the load with what it is owed, and a line for each byte that differs
 unfoldable pub wrong_word_text : WrongWord → List ℕ
 wrong_word_text w =
     codes "the load of line " ++ decimal w.load.line ++ codes " (tag " ++ decimal w.tag ++ codes ", word " ++ decimal w.load.at
-    ++ codes ") is owed " ++ word_text w.load.word ++ byte_line 0 w.load.word.b0 w.load.stores.b0 w.got.b0 w.later.b0
-    ++ byte_line 1 w.load.word.b1 w.load.stores.b1 w.got.b1 w.later.b1
-    ++ byte_line 2 w.load.word.b2 w.load.stores.b2 w.got.b2 w.later.b2
-    ++ byte_line 3 w.load.word.b3 w.load.stores.b3 w.got.b3 w.later.b3
+    ++ codes ") is owed " ++ word_text w.load.word ++ byte_line 0 w.load.word.b0 w.load.stores.b0 w.got.b0 w.later.b0 w.past.b0
+    ++ byte_line 1 w.load.word.b1 w.load.stores.b1 w.got.b1 w.later.b1 w.past.b1
+    ++ byte_line 2 w.load.word.b2 w.load.stores.b2 w.got.b2 w.later.b2 w.past.b2
+    ++ byte_line 3 w.load.word.b3 w.load.stores.b3 w.got.b3 w.later.b3 w.past.b3
 
 -- ---- a mismatch
 

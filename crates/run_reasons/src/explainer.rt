@@ -1,12 +1,14 @@
 //! A recorded run, explained line by line.
 
-ghost use Rattle.std.specs.Prelude.{◌≡◌, ◌<◌, ℕ, true, length, vec_len, replicate, slice_set, Some, IfOk, IfErr, OnOk, OnErr};
+ghost use Rattle.std.specs.Prelude.{◌≡◌, ◌<◌, ◌≤◌, ◌+◌, ℕ, true, length, vec_len, replicate, slice_set, Some, IfOk, IfErr, OnOk, OnErr};
+ghost use Rattle.std.specs.HashMap.{spare};
 ghost use Rattle.flat_model.specs.Flat.{Flat, word_at, may_answer, flat_step};
 ghost use Rattle.flat_model.specs.Memory as memory;
 ghost use Rattle.run_reasons.specs.Origins.{no_stores};
 ghost use Rattle.run_reasons.specs.declared.explainer.TheConstants.{TAGS};
 
 use crate::origins::{AcceptedLoad, Stores, TagUse};
+use crate::pasts::Past;
 use crate::reason::{Mismatch, Reason, WrongWord, is_ever, is_out_of_range, never, tag_reason};
 use flat_model::{Answer, Event, FlatMemory, Lanes, StepFault, Word};
 use std::alloc::{AllocError, Global};
@@ -19,18 +21,31 @@ const TAGS: usize = u16::MAX as usize + 1;
 pub enum ReadFault {
     /// Flat memory can't answer so.
     Mismatch(Mismatch),
-    /// There was too little memory for the word that a load is owed.
+    /// There was too little memory for the word that a load is owed, or for those that a store
+    /// overwrites.
     OutOfMemory,
 }
 
-/// Flat memory behind the lines so far, with the line that last stored each byte and what became of
-/// each tag.
+impl From<AllocError> for ReadFault {
+    ghost use Rattle.std.specs.Prelude.{◌≡◌};
+    ghost use Rattle.run_reasons.specs.declared.explainer.ReadFault.TheVariants.{OutOfMemory};
+
+    ghost from_gives = { λ e f. f ≡ OutOfMemory };
+
+    fn from(_fault: AllocError) -> ReadFault {
+        ReadFault::OutOfMemory
+    }
+}
+
+/// Flat memory behind the lines so far, with the line that last stored each byte, what became of each
+/// tag, and which values were overwritten.
 #[derive(Drop)]
 pub struct Explainer {
     flat: FlatMemory,
     words: u32,
     stores: Vec<Stores>,
     tags: Vec<TagUse>,
+    past: Past,
     ghost all_words: { length (memory.shown flat).mem ≡ words },
     ghost all_stores: { vec_len stores ≡ words },
     ghost all_tags: { vec_len tags ≡ TAGS },
@@ -54,9 +69,10 @@ fn no_uses(alloc: Global, count: usize) -> Result<Vec<TagUse>, AllocError>
 
 #[tactic(auto, unfolding(crate::specs::Shown::shown))]
 impl Explainer {
-    ghost use Rattle.run_reasons.specs.Origins.{stores_at, stored_in, with_use, accepted_load, stores_after, tags_after, origins_after, beginning};
+    ghost use Rattle.run_reasons.specs.Origins.{stores_at, stored_in, with_use, accepted_load, stores_after, tags_after, word_under, past_over, origins_after, beginning};
+    ghost use Rattle.run_reasons.specs.Pasts.{overwritten_in};
     ghost use Rattle.run_reasons.specs.Reasons.{reason_of, reason_here, place_reason, value_reason};
-    ghost use Rattle.run_reasons.specs.Shown.{shown, ReadFaultIs};
+    ghost use Rattle.run_reasons.specs.Shown.{shown, more_overwritten, ReadFaultIs};
 
     /// Memory of so many words of zeros, before any line. `AllocError` says that there was too
     /// little memory: nothing is made.
@@ -66,11 +82,13 @@ impl Explainer {
         let flat = FlatMemory::zeros(alloc, words)?;
         let stores = no_stores(alloc, words)?;
         let tags = no_uses(alloc, TAGS)?;
+        let past = Past::new(alloc);
         Ok(Explainer {
             flat,
             words,
             stores,
             tags,
+            past,
         })
     }
 
@@ -78,8 +96,8 @@ impl Explainer {
     /// something is passed over by its caller, and counted.
     ///
     /// It is `Ok` exactly if flat memory can answer so, and the origins are then those that the line
-    /// leaves. [`ReadFault::Mismatch`] says why it can't. Only an accepted load may need more memory:
-    /// [`ReadFault::OutOfMemory`] says that there was too little. After both nothing has changed.
+    /// leaves. [`ReadFault::Mismatch`] says why it can't. Only an accepted load or store may need more
+    /// memory: [`ReadFault::OutOfMemory`] says that there was too little. After both nothing has changed.
     pub fn read(&mut self, line: u64, event: Event, answer: Answer) -> Result<(), ReadFault>
         ensures flat { OnOk result
             (flat_step (shown self.old).flat event answer ≡ Some (shown self.new).flat) }
@@ -88,9 +106,11 @@ impl Explainer {
         ensures fault { IfErr result (ReadFaultIs (shown self.old) line event answer) }
         ensures unchanged { OnErr result (shown self.new ≡ shown self.old) }
     {
+        self.make_room(event, answer)?;
+        let old = self.word_under(event);
         match self.flat.step(event, answer) {
             Ok(()) => {
-                self.note(line, event, answer);
+                self.note(line, event, answer, old);
                 Ok(())
             }
             Err(StepFault::OutOfMemory) => Err(ReadFault::OutOfMemory),
@@ -103,14 +123,39 @@ impl Explainer {
         }
     }
 
-    // Notes what flat memory's step, which is made, says of stores and tags.
-    fn note(&mut self, line: u64, event: Event, answer: Answer)
+    // Makes room for the values that a line overwrites, if it does.
+    fn make_room(&mut self, event: Event, answer: Answer) -> Result<(), AllocError>
+        ensures same { shown self.new ≡ shown self.old }
+        ensures room { OnOk result (more_overwritten event answer ≤ spare self.new.past.values) }
+        ensures needed { OnErr result (more_overwritten event answer ≡ 4) }
+    {
+        match (event, answer) {
+            (Event::Store { .. }, Answer::Accepted) => self.past.make_room(),
+            _ => Ok(()),
+        }
+    }
+
+    // The word that an event may overwrite; zeros for any event but a store.
+    fn word_under(&self, event: Event) -> Word
+        ensures { result ≡ word_under (shown self.now).flat event }
+    {
+        match event {
+            Event::Store { at, .. } => self.word_at(at),
+            _ => Word::default(),
+        }
+    }
+
+    // Notes what flat memory's step, which is made, says of stores, tags and of what stood under it.
+    fn note(&mut self, line: u64, event: Event, answer: Answer, old: Word)
+        requires room { more_overwritten event answer ≤ spare self.old.past.values }
         requires may { (s : Flat) × (length s.mem ≡ length (shown self.old).flat.mem)
             × (may_answer s event answer ≡ true) }
         ensures flat { (shown self.new).flat ≡ (shown self.old).flat }
         ensures stores { (shown self.new).stores
             ≡ stores_after (shown self.old).stores line event answer }
         ensures tags { (shown self.new).tags ≡ tags_after (shown self.old) line event answer }
+        ensures past { (shown self.new).past
+            ≡ past_over old (shown self.old).stores (shown self.old).past line event answer }
     {
         match (event, answer) {
             (Event::Load { tag, at }, Answer::Accepted) => {
@@ -118,6 +163,7 @@ impl Explainer {
                 self.set_use(tag, TagUse::Loaded(load));
             }
             (Event::Store { at, word: _, lanes }, Answer::Accepted) => {
+                self.overwrite(line, at, lanes, old);
                 self.store(line, at, lanes);
             }
             (Event::Take { place: _ }, Answer::Value { tag, word: _ }) => {
@@ -167,9 +213,23 @@ impl Explainer {
         ensures stores { (shown self.new).stores ≡ slice_set (shown self.old).stores at
             (stored_in line lanes (stores_at (shown self.old).stores at)) }
         ensures tags { (shown self.new).tags ≡ (shown self.old).tags }
+        ensures past { (shown self.new).past ≡ (shown self.old).past }
     {
         let old = self.stores[at as usize];
         self.stores[at as usize] = old.stored_in(line, lanes);
+    }
+
+    // The bytes of this word in these lanes are overwritten in this line.
+    fn overwrite(&mut self, line: u64, at: u32, lanes: Lanes, old: Word)
+        requires { 4 ≤ spare self.old.past.values }
+        ensures flat { (shown self.new).flat ≡ (shown self.old).flat }
+        ensures stores { (shown self.new).stores ≡ (shown self.old).stores }
+        ensures tags { (shown self.new).tags ≡ (shown self.old).tags }
+        ensures past { (shown self.new).past
+            ≡ overwritten_in line lanes at old (stores_at (shown self.old).stores at) (shown self.old).past }
+    {
+        let put = self.stores_at(at);
+        self.past.overwrite(line, lanes, at, old, put);
     }
 
     // The tag becomes this.
@@ -177,6 +237,7 @@ impl Explainer {
         ensures flat { (shown self.new).flat ≡ (shown self.old).flat }
         ensures stores { (shown self.new).stores ≡ (shown self.old).stores }
         ensures tags { (shown self.new).tags ≡ with_use (shown self.old).tags tag state }
+        ensures past { (shown self.new).past ≡ (shown self.old).past }
     {
         self.tags[tag as usize] = state;
     }
@@ -240,11 +301,13 @@ impl Explainer {
             TagUse::Loaded(load) => {
                 let now = self.word_at(load.at);
                 let later = self.stores_at(load.at).later_stores(load.line, now, got);
+                let past = self.past.of_word(load.at, got);
                 Reason::WrongWord(WrongWord {
                     tag,
                     load,
                     got,
                     later,
+                    past,
                 })
             }
             TagUse::Taken { line } => Reason::Taken { tag, line },

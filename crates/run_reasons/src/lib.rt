@@ -5,8 +5,9 @@
 //! belongs to, what it is owed, and which lines stored its bytes. [`Explainer`] does the same line by
 //! line, for a run that is in no text.
 //!
-//! Beside flat memory three lists are kept: for each byte the line that last stored it, and for each
-//! of the 65,536 tags the line in which it was loaded or taken. So a run may be as long as it likes.
+//! Beside flat memory it is kept, for each byte, which line last stored it, and for each of the 65,536
+//! tags the line in which it was loaded or taken; and for each value that a byte has had, which store
+//! last overwrote it. A byte has at most 256 values, so a run may be as long as it likes.
 //!
 //! A program that explains a run calls `explain_text(alloc, &mut input, words)?`, writes what it gives
 //! with a line feed behind it, and ends with its `status()`:
@@ -20,10 +21,12 @@ mod explain;
 mod explainer;
 mod lines;
 mod origins;
+mod pasts;
 mod reason;
 mod show;
 
 pub use explain::{Explanation, explain_text};
 pub use explainer::{Explainer, ReadFault};
 pub use origins::{AcceptedLoad, Stores, TagUse};
+pub use pasts::{Overwritten, Pasts};
 pub use reason::{Mismatch, Reason, WrongWord};

@@ -5,6 +5,7 @@ ghost use Rattle.flat_model.specs.Ranges.{is_between};
 ghost use Rattle.run_reasons.specs.Reasons.{is_accepted, is_moved, has_cause, is_ever, never, is_out_of_range, tag_reason};
 
 use crate::origins::{AcceptedLoad, Stores, TagUse};
+use crate::pasts::Pasts;
 use flat_model::{Answer, Cause, Event, Word};
 
 /// The first line of a recorded run that flat memory can't answer so.
@@ -80,6 +81,8 @@ pub struct WrongWord {
     /// The lines behind the load that stored the bytes that came, where memory has them still; 0 for
     /// a byte that no such line stored.
     pub later: Stores,
+    /// Of each byte that came: when it stood there before it was overwritten, if it ever did.
+    pub past: Pasts,
 }
 
 // Whether flat memory can ever answer the event so, whatever it holds.

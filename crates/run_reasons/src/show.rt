@@ -3,9 +3,10 @@
 ghost use Rattle.std.specs.Prelude.{◌≡◌, ◌<◌, Some};
 ghost use Rattle.std.specs.Fmt.{WritesOnOk};
 ghost use Rattle.flat_model.specs.Texts.{byte_text, hex_digit};
-ghost use Rattle.run_reasons.specs.Texts.{kind_text, answers_text, owed_from_text, got_from_text, byte_line, wrong_word_text, reason_text, mismatch_text};
+ghost use Rattle.run_reasons.specs.Texts.{kind_text, answers_text, owed_from_text, overwritten_text, past_text, got_from_text, byte_line, wrong_word_text, reason_text, mismatch_text};
 
-use crate::origins::{AcceptedLoad, Stores};
+use crate::origins::AcceptedLoad;
+use crate::pasts::{Overwritten, Pasts};
 use crate::reason::{Mismatch, Reason, WrongWord};
 use flat_model::{Answer, Event};
 use std::fmt;
@@ -128,15 +129,16 @@ impl fmt::Display for WrongWord {
             stores,
         } = self.load;
         let got = self.got;
-        let Stores { b0, b1, b2, b3 } = self.later;
+        let later = self.later;
+        let Pasts { b0, b1, b2, b3 } = self.past;
         write!(
             f,
             "the load of line {line} (tag {tag}, word {at}) is owed {owed}"
         )?;
-        write_byte(f, 0, owed.b0, stores.b0, got.b0, b0)?;
-        write_byte(f, 1, owed.b1, stores.b1, got.b1, b1)?;
-        write_byte(f, 2, owed.b2, stores.b2, got.b2, b2)?;
-        write_byte(f, 3, owed.b3, stores.b3, got.b3, b3)
+        write_byte(f, 0, owed.b0, stores.b0, got.b0, later.b0, b0)?;
+        write_byte(f, 1, owed.b1, stores.b1, got.b1, later.b1, b1)?;
+        write_byte(f, 2, owed.b2, stores.b2, got.b2, later.b2, b2)?;
+        write_byte(f, 3, owed.b3, stores.b3, got.b3, later.b3, b3)
     }
 }
 
@@ -149,8 +151,9 @@ fn write_byte<W: fmt::Write>(
     store: u64,
     got: u8,
     later: u64,
+    past: Option<Overwritten>,
 ) -> fmt::Result
-    ensures { WritesOnOk W.write_str_gives f.old result (byte_line place owed store got later) f.new }
+    ensures { WritesOnOk W.write_str_gives f.old result (byte_line place owed store got later past) f.new }
 {
     if owed == got {
         return Ok(());
@@ -159,7 +162,7 @@ fn write_byte<W: fmt::Write>(
     write!(f, "\nbyte {place}: owed {owed}, ")?;
     write_owed_from(f, store)?;
     write!(f, "; got {got}, ")?;
-    write_got_from(f, later)
+    write_got_from(f, later, past)
 }
 
 // A byte as two hexadecimal digits.
@@ -193,13 +196,39 @@ fn write_owed_from<W: fmt::Write>(f: &mut fmt::Formatter<W>, store: u64) -> fmt:
     }
 }
 
-// Where the byte that came was stored.
-fn write_got_from<W: fmt::Write>(f: &mut fmt::Formatter<W>, later: u64) -> fmt::Result
-    ensures { WritesOnOk W.write_str_gives f.old result (got_from_text later) f.new }
+// Where the byte that came was stored, or when it stood there.
+fn write_got_from<W: fmt::Write>(
+    f: &mut fmt::Formatter<W>,
+    later: u64,
+    past: Option<Overwritten>,
+) -> fmt::Result
+    ensures { WritesOnOk W.write_str_gives f.old result (got_from_text later past) f.new }
 {
     if later == 0 {
-        f.write_str("which no last store put there")
+        f.write_str("which no last store put there: ")?;
+        write_past(f, past)
     } else {
         write!(f, "stored in line {later}, after the load")
+    }
+}
+
+// When a byte stood there, if it ever did.
+fn write_past<W: fmt::Write>(f: &mut fmt::Formatter<W>, past: Option<Overwritten>) -> fmt::Result
+    ensures { WritesOnOk W.write_str_gives f.old result (past_text past) f.new }
+{
+    match past {
+        None => f.write_str("no store ever did"),
+        Some(overwritten) => write_overwritten(f, overwritten.put, overwritten.by),
+    }
+}
+
+// What had put it there, and the line that overwrote it.
+fn write_overwritten<W: fmt::Write>(f: &mut fmt::Formatter<W>, put: u64, by: u64) -> fmt::Result
+    ensures { WritesOnOk W.write_str_gives f.old result (overwritten_text put by) f.new }
+{
+    if put == 0 {
+        write!(f, "memory began with it, and line {by} overwrote it")
+    } else {
+        write!(f, "line {put} did, and line {by} overwrote it")
     }
 }

@@ -243,8 +243,8 @@ store 8 1111 01020304 -> accepted
         number: 6,
         why: "the load of line 3 (tag 7, word 9) is owed 0b00000d
 byte 0: owed 0b, stored in line 2; got 0c, stored in line 4, after the load
-byte 1: owed 00, of the initial zeros; got 01, which no last store put there
-byte 2: owed 00, of the initial zeros; got 02, which no last store put there",
+byte 1: owed 00, of the initial zeros; got 01, which no last store put there: no store ever did
+byte 2: owed 00, of the initial zeros; got 02, which no last store put there: no store ever did",
     },
     // A stale byte: the one that the load's store had replaced.
     Told {
@@ -256,7 +256,27 @@ load 7 9 -> accepted
         line: "take 0 -> value 7 0a000000",
         number: 4,
         why: "the load of line 3 (tag 7, word 9) is owed 0b000000
-byte 0: owed 0b, stored in line 2; got 0a, which no last store put there",
+byte 0: owed 0b, stored in line 2; got 0a, which no last store put there: line 1 did, and line 2 overwrote it",
+    },
+    // Each byte is told with its own past: the zero that memory began with, a value from before the load, one that came
+    // twice and is told of the last time, and one that stood in another byte and in another word only.
+    Told {
+        name: "each_stale_byte_has_its_own_past",
+        before: "store 9 1111 0a0b0c0d -> accepted
+store 9 0100 00010000 -> accepted
+store 9 0110 000b0e00 -> accepted
+load 7 9 -> accepted
+store 9 0110 00020c00 -> accepted
+store 9 0010 00000f00 -> accepted
+store 8 0001 0000000a -> accepted
+",
+        line: "take 0 -> value 7 00010c0a",
+        number: 8,
+        why: "the load of line 4 (tag 7, word 9) is owed 0a0b0e0d
+byte 0: owed 0a, stored in line 1; got 00, which no last store put there: memory began with it, and line 1 overwrote it
+byte 1: owed 0b, stored in line 3; got 01, which no last store put there: line 2 did, and line 3 overwrote it
+byte 2: owed 0e, stored in line 3; got 0c, which no last store put there: line 5 did, and line 6 overwrote it
+byte 3: owed 0d, stored in line 1; got 0a, which no last store put there: no store ever did",
     },
 ];
 
@@ -340,7 +360,7 @@ take 0 -> value 1 01000000
         Ok(
             "mismatch at line 2: take 0 -> value 1 01000000
 the load of line 1 (tag 1, word 4) is owed 00000000
-byte 0: owed 00, of the initial zeros; got 01, which no last store put there",
+byte 0: owed 00, of the initial zeros; got 01, which no last store put there: no store ever did",
         ),
         1,
     ),

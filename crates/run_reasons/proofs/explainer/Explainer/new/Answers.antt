@@ -10,6 +10,7 @@ use Rattle.run_reasons.specs.declared.explainer.TheConstants.{TAGS}
 use Rattle.run_reasons.specs.declared.origins.Stores.{Stores}
 use Rattle.run_reasons.specs.declared.origins.TagUse.{TagUse}
 use Rattle.run_reasons.specs.declared.origins.TagUse.TheVariants.{Never}
+use Rattle.run_reasons.specs.Pasts.{PastOf, kept}
 use Rattle.run_reasons.specs.Origins.{Origins, no_stores}
 use Rattle.run_reasons.specs.Shown.{shown, uses_in}
 use Rattle.run_reasons.proofs.explainer.Explainer.new.Goals as goal
@@ -27,11 +28,13 @@ pub returns : goal.returns
 unfolding shown
 returns c =
     let words = c.args.words in
-    let mk : Flat → List Stores → (ℕ → TagUse) → Origins = λ f s t. record { flat = f; stores = s; tags = t } in
+    let mk : Flat → List Stores → (ℕ → TagUse) → PastOf → Origins = λ f s t p. record { flat = f; stores = s; tags = t; past = p } in
     let flat : memory.shown c.in_ok-flat.flat ≡ zeros words = c.in_ok-flat.ensures.shown in
     let stores : c.in_ok-stores.stores.items ≡ replicate words no_stores = c.in_ok-stores.ensures.items in
     let tags : c.in_ok-tags.tags.items ≡ replicate TAGS Never = c.in_ok-tags.ensures.items in
-    ap (λ f. mk f c.in_ok-stores.stores.items (uses_in c.in_ok-tags.tags.items)) flat
-    ∙ ap (λ s. mk (zeros words) s (uses_in c.in_ok-tags.tags.items)) stores
-    ∙ ap (λ l. mk (zeros words) (replicate words no_stores) (uses_in l)) tags
-    ∙ ap (mk (zeros words) (replicate words no_stores)) (never_used TAGS)
+    let past = kept c.new-past.result in
+    ap (λ f. mk f c.in_ok-stores.stores.items (uses_in c.in_ok-tags.tags.items) past) flat
+    ∙ ap (λ s. mk (zeros words) s (uses_in c.in_ok-tags.tags.items) past) stores
+    ∙ ap (λ l. mk (zeros words) (replicate words no_stores) (uses_in l) past) tags
+    ∙ ap (λ t. mk (zeros words) (replicate words no_stores) t past) (never_used TAGS)
+    ∙ ap (mk (zeros words) (replicate words no_stores) (λ tag. Never)) c.new-past.ensures

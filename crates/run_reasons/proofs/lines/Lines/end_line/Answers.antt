@@ -5,7 +5,7 @@ use Rattle.trace_text.proofs.Held.{few_steps}
 use Rattle.std.specs.Prelude.{None}
 use Rattle.run_reasons.specs.Origins.{origins_of}
 use Rattle.run_reasons.specs.Shown.{shown}
-use Rattle.run_reasons.proofs.LineTexts.{ended_pair}
+use Rattle.run_reasons.proofs.PairTexts.{ended_pair}
 use Rattle.run_reasons.proofs.LinesRead.{read_still, read_step, ends_faulty, ends_step, left_less, on_ok5, if_err}
 use Rattle.run_reasons.proofs.lines.Lines.end_line.Goals as goal
 

@@ -1,7 +1,7 @@
 use Rattle.std.proofs.Common.{◌≡◌, ◌++◌, ◌+◌, ◌<◌, ℕ, Result, Ok, Err, IfErr, IsErrAnd, List, length, take, drop, sym, subst, refl, arith}
 use Rattle.run_reasons.specs.Lines.{HasRead}
 use Rattle.run_reasons.specs.Runs.{EndsIn}
-use Rattle.run_reasons.proofs.LineTexts.{rest_behind}
+use Rattle.trace_text.proofs.LineTexts.{rest_behind}
 use Rattle.run_reasons.proofs.LinesRead.{ends_more}
 use Rattle.run_reasons.proofs.lines.Lines.read.Goals as goal
 
