@@ -104,6 +104,7 @@ td.word { text-align: center; }
   button { min-height: 36px; min-width: 42px; }
   #banks-list { grid-template-columns: repeat(2, minmax(0, 1fr)); max-height: none; }
   #frames .scrolls, #registers-list, .bank-lists { max-height: none; }
+  #frames table { min-width: 770px; }
 }
 @media (max-width: 700px) {
   #banks-list { grid-template-columns: minmax(0, 1fr); }
