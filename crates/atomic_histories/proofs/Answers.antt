@@ -1,14 +1,13 @@
 -- A load is answered.
-use Rattle.std.proofs.Common.{◌≡◌, ℕ, ◌+◌, ◌≤◌, ◌⊎◌, Bool, true, false, ◌&&◌, ◌||◌, not, ◌==◌, List, [], ◌∷◌, ◌++◌, length, drop, filter, Option, Some, None, inl, inr, refl, sym, ap, ◌∙◌, subst, arith}
+use Rattle.std.proofs.Common.{◌≡◌, ℕ, ◌≤◌, Bool, true, false, ◌||◌, not, ◌==◌, List, [], ◌∷◌, ◌++◌, length, drop, filter, Option, Some, None, inl, inr, refl, sym, ap, ◌∙◌, subst}
 use Rattle.std.specs.List.{list_all, list_any}
 use Rattle.std.proofs.lemmas.Bool.{cases_Bool, and_parts, and_from}
-use Rattle.atomic_histories.specs.declared.unit.OpenStore.{OpenStore}
 use Rattle.atomic_histories.specs.declared.unit.WatchedLoad.{WatchedLoad}
 use Rattle.atomic_histories.specs.declared.unit.UnitPlace.{UnitPlace}
-use Rattle.atomic_histories.specs.Words.{written, is_word_of}
-use Rattle.atomic_histories.specs.Law.{OpenLoad, UnitMemory, done_store, is_load, is_got, may_answer_load, without_load}
+use Rattle.atomic_histories.specs.Words.{is_word_of}
+use Rattle.atomic_histories.specs.Law.{OpenLoad, UnitMemory, is_load, is_got, may_answer_load, without_load}
 use Rattle.atomic_histories.specs.Branches.{Branch, effect_of, path_after, kept_path, is_watched, may_have, has_answer, branch_without_load}
-use Rattle.atomic_histories.specs.Stands.{Each, One, MayHaveGot, IsWatched, AreWatched, IsOn, Leads, now, later, IsTimely}
+use Rattle.atomic_histories.specs.Stands.{Each, One, MayHaveGot, AreWatched, IsOn, Leads, now, later, IsTimely}
 
 abbrev Word : Type 0
 Word = List (Option ℕ)

@@ -1,6 +1,5 @@
 -- Enables beyond the 64 that a number has, and steps of the loops over bytes.
-use Rattle.std.proofs.Common.{◌≡◌, ℕ, suc, ◌+◌, ◌/◌, ◌%◌, ◌^◌, ◌<◌, ◌≤◌, Bool, true, false, ◌&&◌, ◌||◌, ◌==◌, List, [], ◌∷◌, ◌++◌, length, take, drop, get_or, set, Option, None, slice_get, if◌then◌else◌, refl, sym, ap, ◌∙◌, append_assoc, add-one, take-suc, drop-cons, take-append-drop, append-nil, drop-set-lt, arith}
-use Rattle.std.specs.Int.{bit_at}
+use Rattle.std.proofs.Common.{◌≡◌, ℕ, suc, ◌+◌, ◌/◌, ◌%◌, ◌^◌, ◌<◌, ◌≤◌, true, ◌&&◌, ◌||◌, ◌==◌, List, [], ◌∷◌, ◌++◌, length, take, drop, get_or, set, Option, None, refl, sym, ◌∙◌, append_assoc, add-one, drop-cons, take-append-drop, append-nil, drop-set-lt, arith}
 use Rattle.std.proofs.lemmas.Nat.Bits.{bit_at_above}
 use Rattle.std.proofs.lemmas.List.{at_drop_more, take_more_set, drop_all}
 use Rattle.memory_histories.specs.Regular.{has_enabled}

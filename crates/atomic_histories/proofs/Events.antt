@@ -1,17 +1,16 @@
 -- An event on a way: it leads to what the law makes of its states with the event, and to nothing else.
-use Rattle.std.proofs.Common.{◌≡◌, ℕ, ◌+◌, ◌≤◌, ◌⊎◌, Bool, true, false, ◌&&◌, ◌||◌, not, ◌==◌, List, [], ◌∷◌, ◌++◌, length, drop, filter, Option, Some, None, inl, inr, refl, sym, ap, ◌∙◌, subst, append_assoc, arith}
-use Rattle.std.specs.List.{list_all, list_any}
-use Rattle.std.proofs.lemmas.Bool.{cases_Bool, and_parts, and_from, false≢true}
+use Rattle.std.proofs.Common.{◌≡◌, ℕ, ◌≤◌, ◌⊎◌, Bool, true, false, ◌&&◌, ◌||◌, not, List, [], ◌∷◌, ◌++◌, length, filter, Option, Some, None, inl, inr, refl, sym, ap, ◌∙◌, subst, append_assoc, arith}
+use Rattle.std.specs.List.{list_all}
+use Rattle.std.proofs.lemmas.Bool.{and_parts, and_from}
 use Rattle.std.proofs.lemmas.List.{drop_all}
 use Rattle.std.proofs.lemmas.List.Elements.{filter-append}
 use Rattle.std.proofs.lemmas.List.Folds.{list_all-append}
 use Rattle.atomic_histories.specs.declared.unit.OpenStore.{OpenStore}
 use Rattle.atomic_histories.specs.declared.unit.WatchedLoad.{WatchedLoad}
-use Rattle.atomic_histories.specs.declared.unit.UnitPlace.{UnitPlace}
-use Rattle.atomic_histories.specs.Words.{written, is_word_of}
-use Rattle.atomic_histories.specs.Law.{OpenLoad, UnitMemory, HiddenStep, done_store, done_load, is_store, is_load, is_got, may_answer_load, may_answer_store, with_load, with_store, without_load, without_store}
-use Rattle.atomic_histories.specs.Branches.{Branch, effect_of, path_after, kept_path, is_watched, may_have, has_answer, has_effect, branch_without_load, branch_without_store, branch_with_load, branch_with_store}
-use Rattle.atomic_histories.specs.Stands.{Each, One, MayHaveGot, IsWatched, AreWatched, IsOn, Leads, now, later, IsTimely}
+use Rattle.atomic_histories.specs.Words.{written}
+use Rattle.atomic_histories.specs.Law.{OpenLoad, UnitMemory, HiddenStep, done_store, done_load, is_store, may_answer_store, with_load, with_store, without_store}
+use Rattle.atomic_histories.specs.Branches.{Branch, effect_of, path_after, has_effect, branch_without_store, branch_with_load, branch_with_store}
+use Rattle.atomic_histories.specs.Stands.{MayHaveGot, IsWatched, AreWatched, IsOn, Leads, now, later, IsTimely}
 use Rattle.atomic_histories.proofs.Lists.{each_append}
 use Rattle.atomic_histories.proofs.Steps.{watched_none}
 

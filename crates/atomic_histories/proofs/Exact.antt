@@ -1,15 +1,14 @@
 -- The ways that are followed are exact: after each event they lead to what the unit may be, and to nothing else.
-use Rattle.std.proofs.Common.{◌≡◌, ℕ, zero, suc, ◌+◌, ◌≤◌, ◌⊎◌, Bool, true, false, if◌then◌else◌, List, [], ◌∷◌, ◌++◌, map, length, Option, Some, None, is_some, fold, append_assoc, append-nil, inl, inr, refl, sym, ap, ◌∙◌, subst}
+use Rattle.std.proofs.Common.{◌≡◌, ℕ, suc, Bool, true, false, if◌then◌else◌, List, [], ◌∷◌, ◌++◌, map, Option, Some, None, is_some, fold, append_assoc, append-nil, inl, refl, sym, ap, ◌∙◌, subst}
 use Rattle.std.specs.List.{list_any}
 use Rattle.memory_histories.specs.declared.events.HistoryEvent.{HistoryEvent}
 use Rattle.memory_histories.specs.declared.events.HistoryEvent.TheVariants.{LoadRequest, LoadResponse, StoreRequest, StoreResponse}
 use Rattle.memory_histories.specs.declared.events.Rest.{Rest}
-use Rattle.atomic_histories.specs.declared.unit.OpenStore.{OpenStore}
 use Rattle.atomic_histories.specs.declared.unit.WatchedLoad.{WatchedLoad}
 use Rattle.atomic_histories.specs.declared.unit.UnitPlace.{UnitPlace}
 use Rattle.atomic_histories.specs.Words.{at_unit, stored_byte, is_at}
 use Rattle.atomic_histories.specs.Law.{OpenLoad, UnitMemory, HiddenStep, MayBe, starts, steps, sees, untouched, seen, with_load, with_store, without_load, without_store, may_answer_load, may_answer_store}
-use Rattle.atomic_histories.specs.Branches.{Branch, first_branch, effect_of, answered, met, rounds, has_answer, has_effect, branch_without_load, branch_without_store, branch_with_load, branch_with_store, branches_after}
+use Rattle.atomic_histories.specs.Branches.{Branch, first_branch, answered, met, rounds, has_answer, has_effect, branch_without_load, branch_without_store, branch_with_load, branch_with_store, branches_after}
 use Rattle.atomic_histories.specs.Stands.{Each, One, AreWatched, IsOn, Leads, now, IsTimely, StandsFor}
 use Rattle.atomic_histories.proofs.Lists.{one_weaker, one_map, one_each, each_weaker, each_map, each_both}
 use Rattle.atomic_histories.proofs.Same.{new_withs, each_withs}
@@ -183,6 +182,30 @@ stands_after start unit es history event s =
       sound = each_weaker (IsSound Q) (λ e. (m : UnitMemory) → IsOn e m → Q m) (λ e h. h.1) ds sound;
       complete = λ m r. later_complete start unit es ds history event timely s.complete (λ k n e o. event_complete unit event k n e es o) (history ++ event ∷ []) m r refl;
     }
+
+-- an event that changes nothing at the unit
+passed_complete : (start : UnitMemory) (unit : UnitPlace) (es : List Branch) (history : List HistoryEvent) (event : HistoryEvent) → Each IsTimely es
+    → ((m : UnitMemory) → MayBe unit start history m → One (λ e. Leads e m) es) → ((m : UnitMemory) → MayBe unit start history m → seen unit m event ≡ Some m)
+    → (xs : List HistoryEvent) (m : UnitMemory) → MayBe unit start xs m → xs ≡ history ++ event ∷ [] → One (λ e. Leads e m) es
+passed_complete start unit es history event timely complete pass xs m starts h = absurd (no_snoc history event (sym h))
+passed_complete start unit es history event timely complete pass xs m (steps hs k n r step) h =
+    one_step es k n timely step (passed_complete start unit es history event timely complete pass hs k r h)
+passed_complete start unit es history event timely complete pass xs m (sees hs ev k n r e) h =
+    let p = snoc_same hs history ev event h in
+    let there : MayBe unit start history k = subst (λ x. MayBe unit start x k) p.0 r in
+    let here : seen unit k event ≡ Some n = subst (λ x. seen unit k x ≡ Some n) p.1 e in
+    let both : Some k ≡ Some n = sym (pass k there) ∙ here in
+    let same : k ≡ n = cc in
+    subst (λ x. One (λ e. Leads e x) es) same (complete k there)
+
+pub stands_passed : (start : UnitMemory) (unit : UnitPlace) (es : List Branch) (history : List HistoryEvent) (event : HistoryEvent)
+    → ((m : UnitMemory) → MayBe unit start history m → seen unit m event ≡ Some m) → StandsFor start unit es history → StandsFor start unit es (history ++ event ∷ [])
+stands_passed start unit es history event pass s = record {
+  timely = s.timely;
+  sound = each_weaker (λ e. (m : UnitMemory) → IsOn e m → MayBe unit start history m) (λ e. (m : UnitMemory) → IsOn e m → MayBe unit start (history ++ event ∷ []) m)
+      (λ e f m o. sees history event m m (f m o) (pass m (f m o))) es s.sound;
+  complete = λ m r. passed_complete start unit es history event s.timely s.complete pass (history ++ event ∷ []) m r refl;
+}
 
 -- The verdict. ----
 

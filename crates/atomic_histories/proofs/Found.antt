@@ -1,11 +1,11 @@
 -- The search for the ways on which a goal is met: what it finds was reached by stores that took effect, and it finds each way there.
-use Rattle.std.proofs.Common.{◌≡◌, ℕ, zero, suc, ◌+◌, ◌<◌, ◌≤◌, ◌⊎◌, Bool, true, false, List, [], ◌∷◌, ◌++◌, length, max, fold, if◌then◌else◌, inl, inr, refl, sym, ap, ◌∙◌, subst, append_assoc, append-nil, arith}
-use Rattle.std.proofs.lemmas.Bool.{cases_Bool, true≢false}
+use Rattle.std.proofs.Common.{◌≡◌, ℕ, zero, suc, ◌+◌, ◌≤◌, ◌⊎◌, Bool, true, false, List, [], ◌∷◌, ◌++◌, length, max, fold, inl, inr, refl, sym, ap, ◌∙◌, subst, append_assoc, append-nil, arith}
+use Rattle.std.proofs.lemmas.Bool.{cases_Bool}
 use Rattle.atomic_histories.specs.declared.unit.OpenStore.{OpenStore}
 use Rattle.atomic_histories.specs.Law.{UnitMemory, done_store}
 use Rattle.atomic_histories.specs.Branches.{Branch, effect_of, cons_effect, effects_from, effects, with_branch, with_branches, out_of, next_of, out_after, next_after, met, rounds}
 use Rattle.atomic_histories.specs.Stands.{Each, One, IsOn, Leads, now, later}
-use Rattle.atomic_histories.proofs.Lists.{one_weaker, one_none, one_or, each_weaker}
+use Rattle.atomic_histories.proofs.Lists.{one_weaker, one_none, one_or}
 use Rattle.atomic_histories.proofs.Same.{one_with, new_with, each_with, one_withs, new_withs, each_withs}
 
 -- The ways on. ----
@@ -45,7 +45,7 @@ one_effect_from Q e past (x ∷ xs) (b ∷ bs) s after split open_ q =
     let q2 : Q (effect_of e ((past ++ x ∷ []) ++ bs) s after) = subst (λ p. Q (effect_of e p s after)) (sym (append_assoc past (x ∷ []) bs)) q1 in
     one_cons Q x.is_done (effect_of e past x xs) (effects_from e (past ++ x ∷ []) xs) (one_effect_from Q e (past ++ x ∷ []) xs bs s after rest open_ q2)
 
-one_effect : (Q : Branch → Type 0) (e : Branch) (before : List OpenStore) (s : OpenStore) (after : List OpenStore) → e.stores ≡ before ++ s ∷ after → s.is_done ≡ false
+pub one_effect : (Q : Branch → Type 0) (e : Branch) (before : List OpenStore) (s : OpenStore) (after : List OpenStore) → e.stores ≡ before ++ s ∷ after → s.is_done ≡ false
     → Q (effect_of e before s after) → One Q (effects e)
 one_effect Q e before s after split open_ q = one_effect_from Q e [] e.stores before s after split open_ q
 
@@ -86,7 +86,7 @@ next_keeps P goal next (e ∷ es) h = elim (cases_Bool (goal e)) [
   | inr f ↦ rw f (next_keeps P goal (with_branches next (effects e)) es (one_withs P next (effects e) h))
 ]
 
-next_finds : (P : Branch → Type 0) (goal : Branch → Bool) (next es : List Branch) → One (λ e. (goal e ≡ false) × One P (effects e)) es → One P (fold (next_of goal) next es)
+pub next_finds : (P : Branch → Type 0) (goal : Branch → Bool) (next es : List Branch) → One (λ e. (goal e ≡ false) × One P (effects e)) es → One P (fold (next_of goal) next es)
 next_finds P goal next [] h = absurd h
 next_finds P goal next (e ∷ es) (inl p) = rw p.0 (next_keeps P goal (with_branches next (effects e)) es (new_withs P next (effects e) p.1))
 next_finds P goal next (e ∷ es) (inr h) = next_finds P goal (next_of goal next e) es h
@@ -98,7 +98,7 @@ out_sound S goal out (e ∷ es) a b = elim (cases_Bool (goal e)) [
   | inr f ↦ rw f (out_sound S goal out es a b.1)
 ]
 
-next_sound : (S : Branch → Type 0) → IsKept S → (goal : Branch → Bool) (next es : List Branch) → Each S next → Each S es → Each S (fold (next_of goal) next es)
+pub next_sound : (S : Branch → Type 0) → IsKept S → (goal : Branch → Bool) (next es : List Branch) → Each S next → Each S es → Each S (fold (next_of goal) next es)
 next_sound S kept goal next [] a b = a
 next_sound S kept goal next (e ∷ es) a b = elim (cases_Bool (goal e)) [
   | inl t ↦ rw t (next_sound S kept goal next es a b.1)
@@ -139,7 +139,7 @@ abbrev undone_of : Bool → ℕ
 undone_of true = 0
 undone_of false = 1
 
-abbrev undone : List OpenStore → ℕ
+abbrev pub undone : List OpenStore → ℕ
 undone [] = 0
 undone (s ∷ ss) = undone_of s.is_done + undone ss
 
@@ -151,7 +151,7 @@ undone_length : (ss : List OpenStore) → undone ss ≤ length ss
 undone_length [] = omega arith
 undone_length (s ∷ ss) = omega (arith, undone_most s.is_done, undone_length ss)
 
-undone_less : (before : List OpenStore) (s : OpenStore) (after : List OpenStore) → s.is_done ≡ false → undone (before ++ s ∷ after) ≡ suc (undone (before ++ done_store s ∷ after))
+pub undone_less : (before : List OpenStore) (s : OpenStore) (after : List OpenStore) → s.is_done ≡ false → undone (before ++ s ∷ after) ≡ suc (undone (before ++ done_store s ∷ after))
 undone_less [] s after o = rw o (omega arith)
 undone_less (b ∷ bs) s after o = omega (arith, undone_less bs s after o)
 
@@ -171,7 +171,7 @@ more_rounds : (n : ℕ) (es : List Branch) → n ≤ fold (λ k e. max k (length
 more_rounds n [] = omega arith
 more_rounds n (e ∷ es) = let h = more_rounds (max n (length e.stores)) es in omega arith
 
-one_rounds : (P : Branch → Type 0) (n : ℕ) (es : List Branch) → One P es → One (λ e. P e × (undone e.stores ≤ fold (λ k x. max k (length x.stores)) n es)) es
+pub one_rounds : (P : Branch → Type 0) (n : ℕ) (es : List Branch) → One P es → One (λ e. P e × (undone e.stores ≤ fold (λ k x. max k (length x.stores)) n es)) es
 one_rounds P n [] h = absurd h
 one_rounds P n (e ∷ es) (inl p) = let h = more_rounds (max n (length e.stores)) es in let l = undone_length e.stores in inl (p, omega arith)
 one_rounds P n (e ∷ es) (inr h) = inr (one_rounds P (max n (length e.stores)) es h)

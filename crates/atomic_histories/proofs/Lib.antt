@@ -9,7 +9,8 @@ pub mod Exact
 pub mod Bits
 pub mod Loops
 pub mod Worked
+pub mod Links
 pub mod Whole
-pub mod Fresh
-pub mod Ranges
 pub mod Verdict
+pub mod Returns
+pub mod Ranges

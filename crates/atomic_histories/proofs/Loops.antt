@@ -8,6 +8,8 @@ use Rattle.atomic_histories.specs.declared.unit.WatchedLoad.{WatchedLoad}
 use Rattle.atomic_histories.specs.declared.ways.Way.{Way}
 use Rattle.atomic_histories.specs.Law.{done_store}
 use Rattle.atomic_histories.specs.Branches.{Branch, is_same, with_branch, with_branches, is_over, out_after, next_after, cons_effect, effect_of, effects_from, path_after, kept_path, rounds}
+use Rattle.memory_histories.specs.declared.sets.ByteSet.{ByteSet}
+use Rattle.atomic_histories.specs.May.{never, with_ways_bytes, reached_bytes, is_reach_over}
 use Rattle.atomic_histories.specs.Shown.{shown, shown_all}
 
 pub shown_push : (ws : List Way) (w : Way) → shown_all (ws ++ w ∷ []) ≡ shown_all ws ++ shown w ∷ []
@@ -108,3 +110,37 @@ over_go limit n goal found frontier h p =
     let same : (nat_lt limit (length (shown_all frontier)) || nat_lt limit (length (shown_all found))) ≡ false =
     ap₂ (λ a b. nat_lt limit a || nat_lt limit b) (shown_length frontier) (shown_length found) ∙ h in
     over_false limit n goal (shown_all found) (shown_all frontier) same p
+
+pub fold_shown : {X : Type 0} (f : X → Branch → X) (x : X) (ws : List Way) → fold f x (shown_all ws) ≡ fold (λ y w. f y (shown w)) x ws
+fold_shown f x ws = fold-map f shown x ws
+
+reach_true : (limit n : ℕ) (es : List Branch) → nat_lt limit (length (next_after never es)) ≡ true → 0 < n → is_reach_over limit n es ≡ true
+reach_true limit zero es h p = absurd (omega arith)
+reach_true limit (suc n) es h p = or_left (nat_lt limit (length (next_after never es))) (is_reach_over limit n (next_after never es)) h
+  where
+    or_left : (a b : Bool) → a ≡ true → (a || b) ≡ true
+    or_left true b t = refl
+    or_left false b t = cc
+
+reach_false : (limit n : ℕ) (es : List Branch) → nat_lt limit (length (next_after never es)) ≡ false → 0 < n → is_reach_over limit n es ≡ is_reach_over limit (n - 1) (next_after never es)
+reach_false limit zero es h p = absurd (omega arith)
+reach_false limit (suc n) es h p = let e : suc n - 1 ≡ n = omega arith in rw e (or_right (nat_lt limit (length (next_after never es))) (is_reach_over limit n (next_after never es)) h)
+  where
+    or_right : (a b : Bool) → a ≡ false → (a || b) ≡ b
+    or_right true b t = cc
+    or_right false b t = refl
+
+-- the ways that are followed to see what a load may get
+pub reach_stop : (limit n : ℕ) (es : List Branch) (next : List Way) → shown_all next ≡ next_after never es → nat_lt limit (length next) ≡ true → 0 < n → is_reach_over limit n es ≡ true
+reach_stop limit n es next e h p = reach_true limit n es (ap (λ k. nat_lt limit k) (ap length (sym e) ∙ shown_length next) ∙ h) p
+
+pub reach_go : (limit n : ℕ) (es : List Branch) (next : List Way) → shown_all next ≡ next_after never es → nat_lt limit (length next) ≡ false → 0 < n
+    → is_reach_over limit n es ≡ is_reach_over limit (n - 1) (shown_all next)
+reach_go limit n es next e h p =
+    reach_false limit n es (ap (λ k. nat_lt limit k) (ap length (sym e) ∙ shown_length next) ∙ h) p ∙ ap (is_reach_over limit (n - 1)) (sym e)
+
+pub bytes_go : (number k n : ℕ) (set : ByteSet) (es : List Branch) (next : List Branch) → next ≡ next_after never es → 0 < n
+    → reached_bytes number k n set es ≡ reached_bytes number k (n - 1) (with_ways_bytes number k set next) next
+bytes_go number k zero set es next e p = absurd (omega arith)
+bytes_go number k (suc n) set es next e p =
+    let m : suc n - 1 ≡ n = omega arith in rw m (ap (λ x. reached_bytes number k n (with_ways_bytes number k set x) x) (sym e))

@@ -1,34 +1,31 @@
 -- The units that bytes lie in, and steps of the loops over units.
-use Rattle.std.proofs.Common.{◌≡◌, ℕ, zero, suc, ◌+◌, ◌-◌, ◌*◌, ◌/◌, ◌^◌, ◌<◌, ◌≤◌, Bool, true, false, ◌&&◌, ◌||◌, not, ◌==◌, nat_le, List, [], ◌∷◌, ◌++◌, map, length, get_or, Result, Ok, Err, IfErr, IsErrAnd, refl, sym, ap, ◌∙◌, subst, leb-true, ne_eqb, append_assoc, append-nil, mul-le-mul_right, mul-le-mul_left, suc-mul, add-one, arith}
-use Rattle.std.specs.List.{list_any}
-use Rattle.std.proofs.lemmas.Bool.{and_parts}
+use Rattle.std.proofs.Common.{◌≡◌, ℕ, zero, suc, ◌+◌, ◌-◌, ◌*◌, ◌/◌, ◌%◌, ◌<◌, ◌≤◌, Bool, true, false, ◌&&◌, ◌||◌, not, ◌==◌, if◌then◌else◌, nat_lt, nat_le, List, [], ◌∷◌, ◌++◌, map, length, Option, Some, Result, Ok, Err, IfErr, IsErrAnd, inl, inr, refl, sym, ap, ◌∙◌, subst, ne_eqb, eq-eqb, append_assoc, mul-le-mul_right, mul-le-mul_left, suc-mul, arith}
+use Rattle.std.proofs.Math.Path.{fun_ext}
+use Rattle.std.proofs.lemmas.Bool.{cases_Bool, cases_eq, cases_lt, and_from, lt-ltb, le-ltb, lt-leb, le-leb}
 use Rattle.std.proofs.lemmas.List.{map-append}
-use Rattle.std.proofs.lemmas.List.Folds.{list_any-append}
 use Rattle.memory_histories.specs.declared.events.HistoryEvent.{HistoryEvent}
 use Rattle.memory_histories.specs.declared.events.Rest.{Rest}
-use Rattle.atomic_histories.specs.declared.search.Stop.{Stop}
-use Rattle.atomic_histories.specs.declared.search.Stop.TheVariants.{TooManyWays, NoMemory}
-use Rattle.memory_histories.specs.Regular.{is_inside}
 use Rattle.atomic_histories.specs.declared.ways.Way.{Way}
 use Rattle.atomic_histories.specs.declared.memory.KeptUnit.{KeptUnit}
 use Rattle.atomic_histories.specs.declared.memory.UnitSize.{UnitSize}
 use Rattle.atomic_histories.specs.declared.memory.UnitSize.TheVariants.{One, Two, Four, Eight}
+use Rattle.atomic_histories.specs.declared.memory.AtomicFault.{AtomicFault}
+use Rattle.atomic_histories.specs.declared.memory.AtomicFault.TheVariants.{Refused, Undecided, OutOfMemory}
 use Rattle.atomic_histories.specs.Law.{unit_at}
-use Rattle.atomic_histories.specs.Held.{HeldUnit, has_way, is_wide_at, is_wide, is_listed, units_of, fresh_unit, fresh_from, cons_unless}
-use Rattle.atomic_histories.specs.Shown.{shown_all, StopIs}
-use Rattle.atomic_histories.specs.Judge.{bytes_of, shown_unit, shown_units, fault_of, IsNoVerdict}
+use Rattle.atomic_histories.specs.Branches.{Branch, is_too_wide}
+use Rattle.atomic_histories.specs.Held.{Held, first_ways, has_way, covered, unit_after, units_of, ways_after, ways_from, is_stuck, stuck_from, wide_from}
+use Rattle.atomic_histories.specs.Shown.{shown_all}
+use Rattle.memory_histories.specs.declared.sets.ByteSet.{ByteSet}
+use Rattle.memory_histories.specs.Sets.{no_bytes}
+use Rattle.atomic_histories.specs.declared.unit.UnitPlace.{UnitPlace}
+use Rattle.atomic_histories.specs.May.{address_of, ways_set, set_at, sets_from, is_reach_wide, are_wide_from, IsNoVerdict}
+use Rattle.atomic_histories.specs.Judge.{bytes_of, shown_unit, kept_or, kept_at, put_from, UnitFaultIs, ChangeFaultIs}
 
-inside : (a n : ℕ) → is_inside a n ≡ true → (1 ≤ n) × (a + n ≤ 18446744073709551616)
-inside a n h =
-    let p = and_parts (nat_le 1 n) (nat_le n 64 && nat_le (a + n) 18446744073709551616) h in
-    let q = and_parts (nat_le n 64) (nat_le (a + n) 18446744073709551616) p.1 in
-    (leb-true 1 n p.0, leb-true (a + n) 18446744073709551616 q.1)
-
-pub units_fit : (size : UnitSize) (a n : ℕ) → is_inside a n ≡ true → (a / bytes_of size + units_of (bytes_of size) a n) * bytes_of size ≤ 18446744073709551616
-units_fit One a n h = let i = inside a n h in let o : 1 ≤ n = i.0 in let p : a + n ≤ 18446744073709551616 = i.1 in omega arith
-units_fit Two a n h = let i = inside a n h in let o : 1 ≤ n = i.0 in let p : a + n ≤ 18446744073709551616 = i.1 in omega arith
-units_fit Four a n h = let i = inside a n h in let o : 1 ≤ n = i.0 in let p : a + n ≤ 18446744073709551616 = i.1 in omega arith
-units_fit Eight a n h = let i = inside a n h in let o : 1 ≤ n = i.0 in let p : a + n ≤ 18446744073709551616 = i.1 in omega arith
+pub units_fit : (size : UnitSize) (a n : ℕ) → a < 18446744073709551616 → (a / bytes_of size + units_of (bytes_of size) a n) * bytes_of size ≤ 18446744073709551616
+units_fit One a n h = omega arith
+units_fit Two a n h = omega arith
+units_fit Four a n h = omega arith
+units_fit Eight a n h = omega arith
 
 pub sized : (size : UnitSize) → 1 ≤ bytes_of size
 sized One = omega arith
@@ -48,87 +45,173 @@ number_below from count size j h l pos =
     let least : (from + j) * 1 ≤ (from + j) * size = mul-le-mul_left (from + j) pos in
     omega arith
 
-pub listed_shown : (first : ℕ) (us : List KeptUnit) → is_listed first (shown_units us) ≡ list_any (λ u. u.first == first) us
-listed_shown first [] = refl
-listed_shown first (u ∷ us) = ap (λ b. (u.first == first) || b) (listed_shown first us)
-
 pub way_shown : (ws : List Way) → has_way (shown_all ws) ≡ not (length ws == 0)
 way_shown [] = refl
 way_shown (w ∷ ws) =
     let some : suc (length ws) ≡ 0 → ⊥ = λ e. omega arith in sym (ap not (ne_eqb (suc (length ws)) 0 some))
 
-pub fresh_step : (image : List ℕ) (rest : Rest) (size : ℕ) (us : List HeldUnit) (from count j : ℕ) → j < count → fresh_from image rest size us (from + j) (count - j)
-    ≡ cons_unless (is_listed ((from + j) * size) us) (fresh_unit image rest (unit_at size (from + j))) (fresh_from image rest size us (from + (j + 1)) (count - (j + 1)))
-fresh_step image rest size us from count j h =
+-- Loops over units. ----
+
+pub ways_step : (h : Held) (event : HistoryEvent) (from count j : ℕ) → j < count
+    → ways_from h event (from + j) (count - j) ≡ ways_after h event (from + j) ∷ ways_from h event (from + (j + 1)) (count - (j + 1))
+ways_step h event from count j l =
     let left : count - j ≡ suc (count - (j + 1)) = omega arith in
     let next : from + j + 1 ≡ from + (j + 1) = omega arith in
     rw (left, ← next) refl
 
-cons_more : (ds : List HeldUnit) (b : Bool) (u : HeldUnit) (us : List HeldUnit) → (ds ++ cons_unless b u []) ++ us ≡ ds ++ cons_unless b u us
-cons_more ds true u us = append_assoc ds [] us
-cons_more ds false u us = append_assoc ds (u ∷ []) us
+-- one more unit of those that are changed one by one
+pub ways_more : (h : Held) (event : HistoryEvent) (us : List KeptUnit) (u : KeptUnit) (from count j : ℕ) → j < count → shown_unit u ≡ ways_after h event (from + j)
+    → map shown_unit (us ++ u ∷ []) ++ ways_from h event (from + (j + 1)) (count - (j + 1)) ≡ map shown_unit us ++ ways_from h event (from + j) (count - j)
+ways_more h event us u from count j l e =
+    let tail : List (List Branch) = ways_from h event (from + (j + 1)) (count - (j + 1)) in
+    ap (λ t. t ++ tail) (map-append shown_unit us (u ∷ [])) ∙ (append_assoc (map shown_unit us) (shown_unit u ∷ []) tail
+    ∙ (ap (λ x. map shown_unit us ++ x ∷ tail) e ∙ ap (λ t. map shown_unit us ++ t) (sym (ways_step h event from count j l))))
 
--- one more unit that may be fresh
-pub fresh_more : (ds : List HeldUnit) (image : List ℕ) (rest : Rest) (size : ℕ) (us : List HeldUnit) (from count j : ℕ) → j < count
-    → (ds ++ cons_unless (is_listed ((from + j) * size) us) (fresh_unit image rest (record { first = (from + j) * size; size = size })) []) ++ fresh_from image rest size us (from + (j + 1)) (count - (j + 1))
-    ≡ ds ++ fresh_from image rest size us (from + j) (count - j)
-fresh_more ds image rest size us from count j h =
-    cons_more ds (is_listed ((from + j) * size) us) (fresh_unit image rest (unit_at size (from + j))) (fresh_from image rest size us (from + (j + 1)) (count - (j + 1)))
-    ∙ ap (λ t. ds ++ t) (sym (fresh_step image rest size us from count j h))
+pub stuck_step : (h : Held) (event : HistoryEvent) (from count j : ℕ) → j < count → is_stuck h event (from + j) ≡ false
+    → stuck_from h event (from + (j + 1)) (count - (j + 1)) ≡ stuck_from h event (from + j) (count - j)
+stuck_step h event from count j l f =
+    let left : count - j ≡ suc (count - (j + 1)) = omega arith in
+    let next : from + j + 1 ≡ from + (j + 1) = omega arith in
+    rw (left, f, ← next) refl
 
-pub pushed : (fs us items : List KeptUnit) (unit : KeptUnit) (u : HeldUnit) (first : ℕ) → items ≡ fs ++ unit ∷ [] → shown_unit unit ≡ u → list_any (λ x. x.first == first) us ≡ false
-    → shown_units items ≡ shown_units fs ++ cons_unless (is_listed first (shown_units us)) u []
-pushed fs us items unit u first e s n =
-    let none : is_listed first (shown_units us) ≡ false = listed_shown first us ∙ n in
-    ap shown_units e ∙ (map-append shown_unit fs (unit ∷ []) ∙ (ap (λ x. shown_units fs ++ x ∷ []) s ∙ rw none refl))
+stuck_here : (h : Held) (event : HistoryEvent) (k n : ℕ) → 0 < n → is_stuck h event k ≡ true → stuck_from h event k n ≡ Some k
+stuck_here h event k zero l t = absurd (omega arith)
+stuck_here h event k (suc n) l t = rw t refl
 
-pub not_pushed : (fs us : List KeptUnit) (u : HeldUnit) (first : ℕ) → list_any (λ x. x.first == first) us ≡ true
-    → shown_units fs ≡ shown_units fs ++ cons_unless (is_listed first (shown_units us)) u []
-not_pushed fs us u first n =
-    let some : is_listed first (shown_units us) ≡ true = listed_shown first us ∙ n in
-    rw some (sym (append-nil (shown_units fs)))
+or_left : (a b : Bool) → a ≡ true → (a || b) ≡ true
+or_left true b h = refl
+or_left false b h = cc
 
--- a unit that needs more ways makes it so for all
-pub wide_at : (limit size : ℕ) (event : HistoryEvent) (us : List KeptUnit) (i : ℕ) (u : KeptUnit) → i < length us → u ≡ get_or us i u → is_wide_at limit size event (shown_unit u) ≡ true → is_wide limit size event (shown_units us) ≡ true
-wide_at limit size event [] i u h e w = absurd (omega arith)
-wide_at limit size event (x ∷ xs) zero u h e w = let t : is_wide_at limit size event (shown_unit x) ≡ true = ap (λ y. is_wide_at limit size event (shown_unit y)) (sym e) ∙ w in rw t refl
-wide_at limit size event (x ∷ xs) (suc i) u h e w = or_true (is_wide_at limit size event (shown_unit x)) (is_wide limit size event (shown_units xs)) (wide_at limit size event xs i u (omega arith) e w)
-  where
-    or_true : (a b : Bool) → b ≡ true → (a || b) ≡ true
-    or_true true b t = refl
-    or_true false b t = t
+or_right : (a b : Bool) → b ≡ true → (a || b) ≡ true
+or_right true b h = refl
+or_right false b h = h
 
-pub stop_at : (s : Stop) (limit size : ℕ) (event : HistoryEvent) (us : List KeptUnit) (i : ℕ) (u : KeptUnit) → i < length us → u ≡ get_or us i u → StopIs (is_wide_at limit size event (shown_unit u)) s → StopIs (is_wide limit size event (shown_units us)) s
-stop_at TooManyWays limit size event us i u h e t = wide_at limit size event us i u h e t
-stop_at NoMemory limit size event us i u h e t = tt
+wide_at : (limit : ℕ) (h : Held) (event : HistoryEvent) (k n j : ℕ) → j < n → is_too_wide limit (unit_at h.size (k + j)) (h.units (k + j)) event ≡ true → wide_from limit h event k n ≡ true
+wide_at limit h event k zero j l t = absurd (omega arith)
+wide_at limit h event k (suc n) zero l t =
+    let here : k + 0 ≡ k = omega arith in
+    or_left (is_too_wide limit (unit_at h.size k) (h.units k) event) (wide_from limit h event (k + 1) n) (subst (λ i. is_too_wide limit (unit_at h.size i) (h.units i) event ≡ true) here t)
+wide_at limit h event k (suc n) (suc j) l t =
+    let next : k + suc j ≡ k + 1 + j = omega arith in
+    or_right (is_too_wide limit (unit_at h.size k) (h.units k) event) (wide_from limit h event (k + 1) n)
+    (wide_at limit h event (k + 1) n j (omega arith) (subst (λ i. is_too_wide limit (unit_at h.size i) (h.units i) event ≡ true) next t))
 
-wide_append : (limit size : ℕ) (event : HistoryEvent) (us vs : List HeldUnit) → is_wide limit size event (us ++ vs) ≡ (is_wide limit size event us || is_wide limit size event vs)
-wide_append limit size event us vs = list_any-append (is_wide_at limit size event) us vs
+-- what is said of one unit is said of all of them, if those before it have ways
+pub fault_at : (fault : AtomicFault) (limit : ℕ) (h : Held) (event : HistoryEvent) (from count j : ℕ) → j < count
+    → stuck_from h event (from + j) (count - j) ≡ stuck_from h event from count → UnitFaultIs limit h event (from + j) fault → ChangeFaultIs limit h event from count fault
+fault_at (Refused cause) limit h event from count j l same f = (from + j, sym same ∙ stuck_here h event (from + j) (count - j) (omega arith) f.0, f.1)
+fault_at Undecided limit h event from count j l same f = wide_at limit h event from count j l f
+fault_at OutOfMemory limit h event from count j l same f = tt
 
-no_verdict_left : (a b : Bool) (s : Stop) → StopIs a s → IsNoVerdict (a || b) (fault_of s)
-no_verdict_left a b TooManyWays t = or_left a b t
-  where
-    or_left : (x y : Bool) → x ≡ true → (x || y) ≡ true
-    or_left true y h = refl
-    or_left false y h = cc
-no_verdict_left a b NoMemory t = tt
+-- Units that are put one by one, the last first. ----
 
-no_verdict_right : (a b : Bool) (s : Stop) → StopIs b s → IsNoVerdict (a || b) (fault_of s)
-no_verdict_right a b TooManyWays t = or_right a b t
-  where
-    or_right : (x y : Bool) → y ≡ true → (x || y) ≡ true
-    or_right true y h = refl
-    or_right false y h = h
-no_verdict_right a b NoMemory t = tt
+pub put_last : (f g : ℕ → Option KeptUnit) (us : List KeptUnit) (u : KeptUnit) (from k : ℕ) → ((j : ℕ) → g j ≡ put_from f (from + length us) (u ∷ []) j)
+    → put_from g from us k ≡ put_from f from (us ++ u ∷ []) k
+put_last f g [] u from k e =
+    let here : from + 0 ≡ from = omega arith in e k ∙ ap (λ i. put_from f i (u ∷ []) k) here
+put_last f g (x ∷ xs) u from k e =
+    let next : from + suc (length xs) ≡ from + 1 + length xs = omega arith in
+    let rest : put_from g (from + 1) xs k ≡ put_from f (from + 1) (xs ++ u ∷ []) k =
+    put_last f g xs u (from + 1) k (λ j. e j ∙ ap (λ i. put_from f i (u ∷ []) j) next) in
+    ap (λ r. if from == k then Some x else r) rest
 
--- of two lists of units that follow one another
-pub stop_first : (limit size : ℕ) (event : HistoryEvent) (us vs : List HeldUnit) (s : Stop) → StopIs (is_wide limit size event us) s → IsNoVerdict (is_wide limit size event (us ++ vs)) (fault_of s)
-stop_first limit size event us vs s t = subst (λ b. IsNoVerdict b (fault_of s)) (sym (wide_append limit size event us vs)) (no_verdict_left (is_wide limit size event us) (is_wide limit size event vs) s t)
+-- what is shown of units that were put
+pub put_shown : (h : Held) (event : HistoryEvent) (f : ℕ → Option KeptUnit) (d : List Branch) (n from : ℕ) (us : List KeptUnit) → map shown_unit us ≡ ways_from h event from n → (k : ℕ)
+    → kept_or (put_from f from us k) d ≡ (if nat_le from k && nat_lt k (from + n) then ways_after h event k else kept_or (f k) d)
+put_shown h event f d zero from [] e k = elim (cases_lt k from) [
+  | inl below ↦ rw (lt-leb from k below) refl
+  | inr above ↦ rw (le-leb from k above, le-ltb k (from + 0) (omega arith)) refl
+]
+put_shown h event f d zero from (u ∷ us) e k = cc
+put_shown h event f d (suc n) from [] e k = cc
+put_shown h event f d (suc n) from (u ∷ us) e k =
+    let first : shown_unit u ≡ ways_after h event from = cc in
+    let others : map shown_unit us ≡ ways_from h event (from + 1) n = cc in
+    elim (cases_eq from k) [
+      | inl same ↦
+          let in_ : (nat_le from k && nat_lt k (from + suc n)) ≡ true = and_from (nat_le from k) (nat_lt k (from + suc n)) (le-leb from k (omega arith)) (lt-ltb k (from + suc n) (omega arith)) in
+          rw (eq-eqb from k same, in_) (first ∙ ap (ways_after h event) same)
+      | inr other ↦
+          let none : (from == k) ≡ false = ne_eqb from k other in
+          let r = put_shown h event f d n (from + 1) us others k in
+          let more : (nat_le (from + 1) k && nat_lt k (from + 1 + n)) ≡ (nat_le from k && nat_lt k (from + suc n)) = elim (cases_lt k from) [
+            | inl below ↦ rw (lt-leb from k below, lt-leb (from + 1) k (omega arith)) refl
+            | inr above ↦
+                let end : from + 1 + n ≡ from + suc n = omega arith in
+                rw (le-leb from k above, le-leb (from + 1) k (omega arith), end) refl
+          ] in
+          rw none (r ∙ ap (λ b. if b then ways_after h event k else kept_or (f k) d) more)
+    ]
 
-pub stop_second : (limit size : ℕ) (event : HistoryEvent) (us vs : List HeldUnit) (s : Stop) → StopIs (is_wide limit size event vs) s → IsNoVerdict (is_wide limit size event (us ++ vs)) (fault_of s)
-stop_second limit size event us vs s t = subst (λ b. IsNoVerdict b (fault_of s)) (sym (wide_append limit size event us vs)) (no_verdict_right (is_wide limit size event us) (is_wide limit size event vs) s t)
+length_from : (h : Held) (event : HistoryEvent) (k n : ℕ) → length (ways_from h event k n) ≡ n
+length_from h event k zero = refl
+length_from h event k (suc n) = ap suc (length_from h event (k + 1) n)
+
+-- there are numbers for so many units
+pub numbers_fit : (from count size : ℕ) → (from + count) * size ≤ 18446744073709551616 → 1 ≤ size → from + count ≤ 18446744073709551616
+numbers_fit from count size h pos = let least : (from + count) * 1 ≤ (from + count) * size = mul-le-mul_left (from + count) pos in omega arith
+
+pub step_fits : (a b m n l : ℕ) → b ≡ a → n ≡ m → a / m + l ≤ 18446744073709551616 → b / n + l ≤ 18446744073709551616
+step_fits a b m n l e f h = subst (λ x. x / n + l ≤ 18446744073709551616) (sym e) (subst (λ x. a / x + l ≤ 18446744073709551616) (sym f) h)
+
+-- what is shown of a unit after an event, once the units are put that it touches
+pub taken_unit : (h : Held) (event : HistoryEvent) (f g : ℕ → Option KeptUnit) (d : List Branch) (from : ℕ) (us : List KeptUnit) (k : ℕ) → g k ≡ put_from f from us k
+    → from ≡ (covered h.opened event).0 / h.size
+    → map shown_unit us ≡ ways_from h event ((covered h.opened event).0 / h.size) (units_of h.size (covered h.opened event).0 (covered h.opened event).1)
+    → kept_or (f k) d ≡ h.units k → kept_or (g k) d ≡ unit_after h event k
+taken_unit h event f g d from us k put same e kept =
+    let first : ℕ = (covered h.opened event).0 / h.size in
+    let count : ℕ = units_of h.size (covered h.opened event).0 (covered h.opened event).1 in
+    ap (λ x. kept_or x d) put
+    ∙ (ap (λ i. kept_or (put_from f i us k) d) same
+    ∙ (put_shown h event f d count first us e k ∙ ap (λ x. if nat_le first k && nat_lt k (first + count) then ways_after h event k else x) kept))
+
+pub forgotten_unit : (f : ℕ → Option KeptUnit) (d : List Branch) (number k : ℕ) (u : KeptUnit) → shown_unit u ≡ [] → kept_or (put_from f number (u ∷ []) k) d ≡ (if number == k then [] else kept_or (f k) d)
+forgotten_unit f d number k u e = elim (cases_Bool (number == k)) [
+  | inl t ↦ rw t e
+  | inr n ↦ rw n refl
+]
+
+-- a map that has the same at each key shows the same units
+pub same_units : (image : List ℕ) (rest : Rest) (size : ℕ) (f g : ℕ → Option KeptUnit) → ((k : ℕ) → g k ≡ f k) → kept_at image rest size g ≡ kept_at image rest size f
+same_units image rest size f g e = fun_ext (λ k. ap (λ x. kept_or x (first_ways image rest (unit_at size k))) (e k))
 
 -- what is said of an error that is passed on
 pub pass_on : {A E : Type 0} (r : Result A E) (e : E) (P : E → Type 0) → IsErrAnd r (λ f. f ≡ e) → P e → IfErr r P
 pass_on (Ok x) e P h p = tt
 pass_on (Err f) e P h p = subst P (sym h) p
+
+pub lane_below : (size : UnitSize) (a : ℕ) → a % bytes_of size < 8
+lane_below One a = omega arith
+lane_below Two a = omega arith
+lane_below Four a = omega arith
+lane_below Eight a = omega arith
+
+-- no load is open at a unit that no operation has touched
+pub untouched_set : (image : List ℕ) (rest : Rest) (unit : UnitPlace) (number k : ℕ) → no_bytes ≡ ways_set number k (first_ways image rest unit)
+untouched_set image rest unit number k = refl
+
+sets_step : (h : Held) (number a count i : ℕ) → i < count → sets_from h number a i (count - i) ≡ set_at h number (address_of a i) ∷ sets_from h number a (i + 1) (count - (i + 1))
+sets_step h number a count i l = let left : count - i ≡ suc (count - (i + 1)) = omega arith in rw left refl
+
+pub sets_more : (h : Held) (number a count i : ℕ) (sets : List ByteSet) (set : ByteSet) → i < count → set ≡ set_at h number (address_of a i)
+    → (sets ++ set ∷ []) ++ sets_from h number a (i + 1) (count - (i + 1)) ≡ sets ++ sets_from h number a i (count - i)
+sets_more h number a count i sets set l e =
+    append_assoc sets (set ∷ []) (sets_from h number a (i + 1) (count - (i + 1)))
+    ∙ (ap (λ x. sets ++ x ∷ sets_from h number a (i + 1) (count - (i + 1))) e ∙ ap (λ t. sets ++ t) (sym (sets_step h number a count i l)))
+
+wide_set : (limit : ℕ) (h : Held) (a n from j : ℕ) → j < n → is_reach_wide limit (h.units (address_of a (from + j) / h.size)) ≡ true → are_wide_from limit h a from n ≡ true
+wide_set limit h a zero from j l t = absurd (omega arith)
+wide_set limit h a (suc n) from zero l t =
+    let here : from + 0 ≡ from = omega arith in
+    or_left (is_reach_wide limit (h.units (address_of a from / h.size))) (are_wide_from limit h a (from + 1) n)
+    (subst (λ i. is_reach_wide limit (h.units (address_of a i / h.size)) ≡ true) here t)
+wide_set limit h a (suc n) from (suc j) l t =
+    let next : from + suc j ≡ from + 1 + j = omega arith in
+    or_right (is_reach_wide limit (h.units (address_of a from / h.size))) (are_wide_from limit h a (from + 1) n)
+    (wide_set limit h a n (from + 1) j (omega arith) (subst (λ i. is_reach_wide limit (h.units (address_of a i / h.size)) ≡ true) next t))
+
+pub no_set : (fault : AtomicFault) (limit : ℕ) (h : Held) (a n i : ℕ) → i < n → IsNoVerdict (is_reach_wide limit (h.units (address_of a i / h.size))) fault → IsNoVerdict (are_wide_from limit h a 0 n) fault
+no_set (Refused cause) limit h a n i l f = f
+no_set Undecided limit h a n i l f = let here : i ≡ 0 + i = omega arith in wide_set limit h a n 0 i l (subst (λ j. is_reach_wide limit (h.units (address_of a j / h.size)) ≡ true) here f)
+no_set OutOfMemory limit h a n i l f = tt

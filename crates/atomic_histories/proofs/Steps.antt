@@ -1,12 +1,12 @@
 -- Hidden steps on a way: it still leads to what they make, and it leads to nothing that they don't make.
-use Rattle.std.proofs.Common.{◌≡◌, ℕ, ◌+◌, ◌≤◌, ◌⊎◌, Bool, true, false, List, [], ◌∷◌, ◌++◌, length, drop, Option, Some, None, inl, inr, refl, sym, ap, ◌∙◌, subst, length-append, arith}
+use Rattle.std.proofs.Common.{◌≡◌, ℕ, ◌≤◌, ◌⊎◌, false, List, [], ◌∷◌, ◌++◌, length, drop, Option, Some, None, inl, inr, refl, sym, ap, ◌∙◌, subst, length-append, arith}
 use Rattle.std.proofs.lemmas.List.{drop-append-le}
 use Rattle.atomic_histories.specs.declared.unit.OpenStore.{OpenStore}
 use Rattle.atomic_histories.specs.declared.unit.WatchedLoad.{WatchedLoad}
 use Rattle.atomic_histories.specs.Words.{written}
 use Rattle.atomic_histories.specs.Law.{OpenLoad, UnitMemory, HiddenStep, done_store, done_load}
 use Rattle.atomic_histories.specs.Branches.{Branch, effect_of, path_after}
-use Rattle.atomic_histories.specs.Stands.{Each, One, MayHaveGot, IsWatched, AreWatched, IsOn, Leads, now, later, IsTimely}
+use Rattle.atomic_histories.specs.Stands.{Each, MayHaveGot, IsWatched, AreWatched, IsOn, Leads, now, later, IsTimely}
 use Rattle.atomic_histories.proofs.Lists.{one_left, one_last, one_split, each_weaker}
 
 abbrev Word : Type 0

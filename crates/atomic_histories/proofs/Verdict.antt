@@ -1,28 +1,24 @@
 -- What a step says: an event that leaves each unit a way is of the law, and another is none.
-use Rattle.std.proofs.Common.{◌≡◌, ℕ, ◌+◌, ◌-◌, ◌*◌, ◌<◌, ◌≤◌, Bool, true, false, ◌&&◌, ◌==◌, if◌then◌else◌, List, [], ◌∷◌, ◌++◌, length, fold, Option, Some, None, is_none, Result, Ok, Err, IfErr, OnOk, OnErr, inl, inr, refl, sym, ap, ◌∙◌, subst, arith}
+use Rattle.std.proofs.Common.{◌≡◌, ℕ, ◌-◌, ◌*◌, ◌≤◌, Bool, true, false, ◌==◌, if◌then◌else◌, List, [], ◌∷◌, ◌++◌, length, fold, Option, Some, None, is_none, Result, Ok, Err, IfOk, IfErr, OnOk, OnErr, inl, inr, refl, sym, ap, ◌∙◌, subst}
 use Rattle.std.specs.List.{list_any, find}
-use Rattle.std.proofs.lemmas.Bool.{cases_Bool, and_parts}
+use Rattle.std.proofs.lemmas.Bool.{and_parts}
 use Rattle.memory_histories.specs.declared.events.HistoryEvent.{HistoryEvent}
 use Rattle.memory_histories.specs.declared.events.HistoryEvent.TheVariants.{LoadRequest, LoadResponse, StoreRequest, StoreResponse}
 use Rattle.memory_histories.specs.declared.events.HistoryFault.{HistoryFault}
 use Rattle.memory_histories.specs.declared.events.HistoryFault.TheVariants.{OutOfRange, NoByteEnabled, NumberInUse, NotOpen, WrongLength, WrongByte}
+use Rattle.memory_histories.specs.declared.events.Rest.{Rest}
 use Rattle.memory_histories.specs.Regular.{is_inside, has_enabled, load_request_fault, store_request_fault, store_response_fault}
 use Rattle.atomic_histories.specs.declared.unit.Operation.{Operation}
 use Rattle.atomic_histories.specs.Operations.{Opened, none_opened, opened_after, opened_by, has_number, answer_fault, form_fault}
-use Rattle.atomic_histories.specs.Law.{is_formed, unit_at, IsAtomicAt, IsAtomic, IsWrongPlace, FaultIs}
-use Rattle.atomic_histories.specs.Held.{HeldUnit, Held, units_after, lowest, held_after, with_fresh, StandsForAll}
+use Rattle.atomic_histories.specs.Law.{is_formed, IsAtomic, IsWrongPlace, FaultIs}
+use Rattle.atomic_histories.specs.Lost.{IsAtomicBut, IsWrongPlaceBut, FaultIsBut}
+use Rattle.atomic_histories.specs.Held.{Held, nothing_held, first_stuck, StandsBut}
 use Rattle.atomic_histories.specs.declared.memory.AtomicFault.{AtomicFault}
+use Rattle.atomic_histories.specs.declared.memory.AtomicMemory.{AtomicMemory}
 use Rattle.atomic_histories.specs.declared.memory.AtomicFault.TheVariants.{Refused, Undecided, OutOfMemory}
-use Rattle.atomic_histories.specs.Judge.{place_from, place_in, after, IsTaken, KeptFaultIs, StepFaultIs}
-use Rattle.atomic_histories.proofs.Whole.{AreListed, IsNoAnswer, stands_all_after, atomic_held, refused_at, only_answers}
-use Rattle.atomic_histories.proofs.Fresh.{stands_with_fresh, all_listed}
-
-pub accepted : (h : Held) (event : HistoryEvent) → form_fault h.opened event ≡ None → lowest (units_after h.size event (with_fresh h event).units) ≡ None → (history : List HistoryEvent) → StandsForAll h history
-    → IsAtomic h.image h.rest h.size (history ++ event ∷ []) × StandsForAll (after h event) (history ++ event ∷ [])
-accepted h event f none history s =
-    let fresh : StandsForAll (with_fresh h event) history = stands_with_fresh h history event s in
-    let more : StandsForAll (after h event) (history ++ event ∷ []) = stands_all_after (with_fresh h event) history event fresh (all_listed h event s.sized) f none in
-    (atomic_held (after h event) (history ++ event ∷ []) more, more)
+use Rattle.atomic_histories.specs.Judge.{held, place_from, place_in, HasSameMemory, IsTaken, IsForgotten, KeptFaultIs, StepFaultIs, StepFaultIsBut}
+use Rattle.atomic_histories.proofs.Links.{open_load}
+use Rattle.atomic_histories.proofs.Whole.{stands_all_first, stands_all_after, atomic_after, refused_at, only_answers}
 
 -- Malformed events. ----
 
@@ -63,71 +59,113 @@ never_wrong o (LoadResponse number bytes) place h = answer_never (find (has_numb
 never_wrong o (StoreRequest number address bytes enables) place h = store_never (is_inside address (length bytes.now)) (has_enabled bytes.now enables) (list_any (has_number number) o.stores) place h
 never_wrong o (StoreResponse number) place h = response_never (list_any (has_number number) o.stores) place h
 
-fault_is : (h : Held) (history : List HistoryEvent) (event : HistoryEvent) (cause : HistoryFault) → form_fault (opened_by history) event ≡ Some cause → FaultIs h.image h.rest h.size history event cause
-fault_is h history event OutOfRange f = f
-fault_is h history event NoByteEnabled f = f
-fault_is h history event NumberInUse f = f
-fault_is h history event NotOpen f = f
-fault_is h history event WrongLength f = f
-fault_is h history event (WrongByte place) f = absurd (never_wrong (opened_by history) event place f)
+fault_is : (lost : List ℕ) (h : Held) (history : List HistoryEvent) (event : HistoryEvent) (cause : HistoryFault) → form_fault (opened_by history) event ≡ Some cause → FaultIsBut lost h.image h.rest h.size history event cause
+fault_is lost h history event OutOfRange f = f
+fault_is lost h history event NoByteEnabled f = f
+fault_is lost h history event NumberInUse f = f
+fault_is lost h history event NotOpen f = f
+fault_is lost h history event WrongLength f = f
+fault_is lost h history event (WrongByte place) f = absurd (never_wrong (opened_by history) event place f)
 
-pub malformed : (h : Held) (event : HistoryEvent) (cause : HistoryFault) → form_fault h.opened event ≡ Some cause → (history : List HistoryEvent) → StandsForAll h history
-    → FaultIs h.image h.rest h.size history event cause × ¬ (IsAtomic h.image h.rest h.size (history ++ event ∷ []))
-malformed h event cause f history s =
+malformed : (lost : List ℕ) (h : Held) (event : HistoryEvent) (cause : HistoryFault) → form_fault h.opened event ≡ Some cause → (history : List HistoryEvent) → StandsBut h lost history
+    → FaultIsBut lost h.image h.rest h.size history event cause × ¬ (IsAtomicBut lost h.image h.rest h.size (history ++ event ∷ []))
+malformed lost h event cause f history s =
     let g : form_fault (opened_by history) event ≡ Some cause = ap (λ o. form_fault o event) (sym s.opened) ∙ f in
-    (fault_is h history event cause g, λ a. let none : form_fault (opened_by history) event ≡ None = formed_last none_opened history event a.formed in let x : None ≡ Some cause = sym none ∙ g in cc)
+    (fault_is lost h history event cause g, λ a. let none : form_fault (opened_by history) event ≡ None = formed_last none_opened history event a.formed in let x : None ≡ Some cause = sym none ∙ g in cc)
 
 -- Wrong bytes. ----
 
-length_some : (b : Bool) → (if b then None else Some WrongLength) ≡ None → b ≡ true
-length_some true h = refl
-length_some false h = cc
-
-open_load : (o : Option Operation) (n : ℕ) → answer_fault o n ≡ None → (x : Operation) × (o ≡ Some x)
-open_load None n h = cc
-open_load (Some x) n h = (x, refl)
-
-never : (h : Held) (event : HistoryEvent) (first : ℕ) → lowest (units_after h.size event (with_fresh h event).units) ≡ Some first → (history : List HistoryEvent) → StandsForAll h history → IsNoAnswer event → ⊥
-never h event first e history s other =
-    let fresh : StandsForAll (with_fresh h event) history = stands_with_fresh h history event s in
-    let none : lowest (units_after h.size event (with_fresh h event).units) ≡ None = only_answers (with_fresh h event) history event fresh (all_listed h event s.sized) other in
-    let x : None ≡ Some first = sym none ∙ e in cc
-
-pub wrong : (h : Held) (event : HistoryEvent) (first : ℕ) → form_fault h.opened event ≡ None → lowest (units_after h.size event (with_fresh h event).units) ≡ Some first → (history : List HistoryEvent) → StandsForAll h history
-    → FaultIs h.image h.rest h.size history event (WrongByte (place_in h.opened.loads event first)) × ¬ (IsAtomic h.image h.rest h.size (history ++ event ∷ []))
-wrong h (LoadResponse number bytes) first f e history s =
+wrong : (lost : List ℕ) (h : Held) (event : HistoryEvent) (k : ℕ) → form_fault h.opened event ≡ None → first_stuck h event ≡ Some k → (history : List HistoryEvent) → StandsBut h lost history
+    → FaultIsBut lost h.image h.rest h.size history event (WrongByte (place_in h.opened.loads event (k * h.size))) × ¬ (IsAtomicBut lost h.image h.rest h.size (history ++ event ∷ []))
+wrong lost h (LoadResponse number bytes) k f e history s =
     let event : HistoryEvent = LoadResponse number bytes in
-    let fresh : StandsForAll (with_fresh h event) history = stands_with_fresh h history event s in
-    let r = refused_at (with_fresh h event) history event fresh (all_listed h event s.sized) first e in
+    let r = refused_at h lost history event s f k e in
     let same : form_fault (opened_by history) event ≡ None = ap (λ o. form_fault o event) (sym s.opened) ∙ f in
     let o = open_load (find (has_number number) h.opened.loads) (length bytes.now) f in
     let found : find (has_number number) (opened_by history).loads ≡ Some o.0 = ap (λ x. find (has_number number) x.loads) (sym s.opened) ∙ o.1 in
-    let place : place_in h.opened.loads event first ≡ r.0 * h.size - o.0.address = ap (λ x. place_from x first) o.1 ∙ ap (λ x. x - o.0.address) r.1 in
-    ((same, (r.0, o.0, found, place, r.2, r.3)), λ a. r.2 (a.moments r.0))
-wrong h (LoadRequest number address n) first f e history s = absurd (never h (LoadRequest number address n) first e history s tt)
-wrong h (StoreRequest number address bytes enables) first f e history s = absurd (never h (StoreRequest number address bytes enables) first e history s tt)
-wrong h (StoreResponse number) first f e history s = absurd (never h (StoreResponse number) first e history s tt)
+    let place : place_in h.opened.loads event (k * h.size) ≡ k * h.size - o.0.address = ap (λ x. place_from x (k * h.size)) o.1 in
+    ((same, (k, o.0, found, place, r.0, r.1, r.2)), λ a. r.1 (a.moments k r.0))
+wrong lost h (LoadRequest number address n) k f e history s = absurd (only_answers h lost history (LoadRequest number address n) s f tt k e)
+wrong lost h (StoreRequest number address bytes enables) k f e history s = absurd (only_answers h lost history (StoreRequest number address bytes enables) s f tt k e)
+wrong lost h (StoreResponse number) k f e history s = absurd (only_answers h lost history (StoreResponse number) s f tt k e)
 
--- Answers. ----
+-- Answers, once units were forgotten. ----
 
-pub accepted_law : (r : Result (Unit {0}) AtomicFault) (h next : Held) (event : HistoryEvent) → OnOk r (IsTaken h event next) → (history : List HistoryEvent) → StandsForAll h history
-    → OnOk r (IsAtomic h.image h.rest h.size (history ++ event ∷ []) × StandsForAll next (history ++ event ∷ []))
+pub fault_law_but : (limit : ℕ) (h : Held) (event : HistoryEvent) (e : AtomicFault) → KeptFaultIs limit h event e → (lost : List ℕ) (history : List HistoryEvent) → StandsBut h lost history
+    → StepFaultIsBut lost limit h history event e
+fault_law_but limit h event (Refused cause) (inl f) lost history s = malformed lost h event cause f history s
+fault_law_but limit h event (Refused cause) (inr p) lost history s =
+    subst (λ c. StepFaultIsBut lost limit h history event (Refused c)) (sym p.1.2) (wrong lost h event p.1.0 p.0 p.1.1 history s)
+fault_law_but limit h event Undecided f lost history s = (ap (λ o. form_fault o event) (sym s.opened) ∙ f.0, f.1)
+fault_law_but limit h event OutOfMemory f lost history s = ap (λ o. form_fault o event) (sym s.opened) ∙ f
+
+pub accepted_but : (r : Result (Unit {0}) AtomicFault) (h next : Held) (event : HistoryEvent) → OnOk r (IsTaken h event next) → (lost : List ℕ) (history : List HistoryEvent) → StandsBut h lost history
+    → OnOk r (IsAtomicBut lost h.image h.rest h.size (history ++ event ∷ []) × StandsBut next lost (history ++ event ∷ []))
+accepted_but (Ok u) h next event t lost history s = (atomic_after h lost history event s t.formed t.ways, stands_all_after h lost history event s t.formed next t)
+accepted_but (Err e) h next event t lost history s = tt
+
+pub refused_but : (r : Result (Unit {0}) AtomicFault) (limit : ℕ) (h : Held) (event : HistoryEvent) → IfErr r (KeptFaultIs limit h event) → (lost : List ℕ) (history : List HistoryEvent) → StandsBut h lost history
+    → IfErr r (StepFaultIsBut lost limit h history event)
+refused_but (Ok u) limit h event f lost history s = tt
+refused_but (Err e) limit h event f lost history s = fault_law_but limit h event e f lost history s
+
+-- Where no unit was forgotten. ----
+
+pub to_atomic : (image : List ℕ) (rest : Rest) (size : ℕ) (history : List HistoryEvent) → IsAtomicBut [] image rest size history → IsAtomic image rest size history
+to_atomic image rest size history a = record { formed = a.formed; moments = λ k. a.moments k refl }
+
+from_atomic : (image : List ℕ) (rest : Rest) (size : ℕ) (history : List HistoryEvent) → IsAtomic image rest size history → IsAtomicBut [] image rest size history
+from_atomic image rest size history a = record { formed = a.formed; moments = λ k there. a.moments k }
+
+place_all : (image : List ℕ) (rest : Rest) (size : ℕ) (history : List HistoryEvent) (event : HistoryEvent) (place : ℕ) → IsWrongPlaceBut [] image rest size history event place
+    → IsWrongPlace image rest size history event place
+place_all image rest size history (LoadRequest number address n) place p = p
+place_all image rest size history (LoadResponse number bytes) place p = (p.0, p.1, p.2, p.3, p.5, λ j l. p.6 j l refl)
+place_all image rest size history (StoreRequest number address bytes enables) place p = p
+place_all image rest size history (StoreResponse number) place p = p
+
+fault_all : (image : List ℕ) (rest : Rest) (size : ℕ) (history : List HistoryEvent) (event : HistoryEvent) (cause : HistoryFault) → FaultIsBut [] image rest size history event cause
+    → FaultIs image rest size history event cause
+fault_all image rest size history event OutOfRange p = p
+fault_all image rest size history event NoByteEnabled p = p
+fault_all image rest size history event NumberInUse p = p
+fault_all image rest size history event NotOpen p = p
+fault_all image rest size history event WrongLength p = p
+fault_all image rest size history event (WrongByte place) p = (p.0, place_all image rest size history event place p.1)
+
+step_fault_all : (limit : ℕ) (h : Held) (history : List HistoryEvent) (event : HistoryEvent) (e : AtomicFault) → StepFaultIsBut [] limit h history event e → StepFaultIs limit h history event e
+step_fault_all limit h history event (Refused cause) p =
+    (fault_all h.image h.rest h.size history event cause p.0, λ a. p.1 (from_atomic h.image h.rest h.size (history ++ event ∷ []) a))
+step_fault_all limit h history event Undecided p = p
+step_fault_all limit h history event OutOfMemory p = p
+
+pub fault_law : (limit : ℕ) (h : Held) (event : HistoryEvent) (e : AtomicFault) → KeptFaultIs limit h event e → (history : List HistoryEvent) → StandsBut h [] history → StepFaultIs limit h history event e
+fault_law limit h event e f history s = step_fault_all limit h history event e (fault_law_but limit h event e f [] history s)
+
+pub accepted_law : (r : Result (Unit {0}) AtomicFault) (h next : Held) (event : HistoryEvent) → OnOk r (IsTaken h event next) → (history : List HistoryEvent) → StandsBut h [] history
+    → OnOk r (IsAtomic h.image h.rest h.size (history ++ event ∷ []) × StandsBut next [] (history ++ event ∷ []))
 accepted_law (Ok u) h next event t history s =
-    let a = accepted h event t.formed t.ways history s in (a.0, subst (λ x. StandsForAll x (history ++ event ∷ [])) (sym t.kept) a.1)
+    let a = accepted_but (Ok u) h next event t [] history s in (to_atomic h.image h.rest h.size (history ++ event ∷ []) a.0, a.1)
 accepted_law (Err e) h next event t history s = tt
 
-refused : (limit : ℕ) (h : Held) (event : HistoryEvent) (cause : HistoryFault) → KeptFaultIs limit h event (Refused cause) → (history : List HistoryEvent) → StandsForAll h history
-    → StepFaultIs limit h history event (Refused cause)
-refused limit h event cause (inl f) history s = malformed h event cause f history s
-refused limit h event cause (inr p) history s =
-    let w = wrong h event p.1.0 p.0 p.1.1 history s in subst (λ c. StepFaultIs limit h history event (Refused c)) (sym p.1.2) w
-
-fault_law : (limit : ℕ) (h : Held) (event : HistoryEvent) (e : AtomicFault) → KeptFaultIs limit h event e → (history : List HistoryEvent) → StandsForAll h history → StepFaultIs limit h history event e
-fault_law limit h event (Refused cause) f history s = refused limit h event cause f history s
-fault_law limit h event Undecided f history s = (ap (λ o. form_fault o event) (sym s.opened) ∙ f.0, f.1)
-fault_law limit h event OutOfMemory f history s = ap (λ o. form_fault o event) (sym s.opened) ∙ f
-
-pub refused_law : (r : Result (Unit {0}) AtomicFault) (limit : ℕ) (h : Held) (event : HistoryEvent) → IfErr r (KeptFaultIs limit h event) → (history : List HistoryEvent) → StandsForAll h history
+pub refused_law : (r : Result (Unit {0}) AtomicFault) (limit : ℕ) (h : Held) (event : HistoryEvent) → IfErr r (KeptFaultIs limit h event) → (history : List HistoryEvent) → StandsBut h [] history
     → IfErr r (StepFaultIs limit h history event)
 refused_law (Ok u) limit h event f history s = tt
 refused_law (Err e) limit h event f history s = fault_law limit h event e f history s
+
+-- The first memory. ----
+
+pub first_law : {E : Type 0} (r : Result AtomicMemory E) (image : List ℕ) (rest : Rest) (size : ℕ) → 1 ≤ size → IfOk r (λ m. held m ≡ nothing_held image rest size)
+    → IfOk r (λ m. StandsBut (held m) [] [])
+first_law (Ok m) image rest size pos e = subst (λ h. StandsBut h [] []) (sym e) (stands_all_first image rest size pos)
+first_law (Err e) image rest size pos h = tt
+
+-- Memory before the first event stays what it was. ----
+
+pub same_memory : (r : Result (Unit {0}) AtomicFault) (h next : Held) (event : HistoryEvent) → OnOk r (IsTaken h event next) → OnErr r (next ≡ h) → HasSameMemory next h
+same_memory (Ok u) h next event t same = (t.image, t.rest, t.size)
+same_memory (Err e) h next event t same = (ap (λ (x : Held). x.image) same, ap (λ (x : Held). x.rest) same, ap (λ (x : Held). x.size) same)
+
+pub same_forgotten : {E : Type 0} (r : Result (Unit {0}) E) (h next : Held) (number : ℕ) → OnOk r (IsForgotten h number next) → OnErr r (next ≡ h) → HasSameMemory next h
+same_forgotten (Ok u) h next number t same = (t.image, t.rest, t.size)
+same_forgotten (Err e) h next number t same = (ap (λ (x : Held). x.image) same, ap (λ (x : Held). x.rest) same, ap (λ (x : Held). x.size) same)

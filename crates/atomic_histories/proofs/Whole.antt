@@ -1,22 +1,23 @@
 -- All units together: what is kept after an event is of the history with it, and an event is refused exactly if it is none of the law.
-use Rattle.std.proofs.Common.{◌≡◌, ℕ, zero, suc, ◌+◌, ◌-◌, ◌*◌, ◌<◌, ◌≤◌, ◌⊎◌, min, Bool, true, false, ◌&&◌, ◌||◌, not, ◌==◌, if◌then◌else◌, List, [], ◌∷◌, ◌++◌, map, fold, Option, Some, None, is_none, inl, inr, refl, sym, ap, ◌∙◌, subst, append_assoc, append-nil, eqb-true, mul-lt-mul_of_pos_right, arith}
-use Rattle.std.specs.List.{list_any, list_all, find}
+use Rattle.std.proofs.Common.{◌≡◌, ℕ, zero, suc, ◌+◌, ◌/◌, ◌<◌, ◌≤◌, Bool, true, false, ◌&&◌, ◌||◌, not, ◌==◌, if◌then◌else◌, nat_lt, nat_le, List, [], ◌∷◌, ◌++◌, map, fold, Option, Some, None, is_none, is_some, Result, Ok, Err, OnOk, inl, inr, refl, sym, ap, ◌∙◌, subst, append_assoc, append-nil, leb-true, ltb-true, arith}
+use Rattle.std.specs.List.{list_any, list_all}
 use Rattle.std.proofs.lemmas.Bool.{cases_Bool, cases_lt, and_parts, and_from}
 use Rattle.std.proofs.lemmas.List.Folds.{list_all-append}
 use Rattle.memory_histories.specs.declared.events.HistoryEvent.{HistoryEvent}
 use Rattle.memory_histories.specs.declared.events.HistoryEvent.TheVariants.{LoadRequest, LoadResponse, StoreRequest, StoreResponse}
-use Rattle.memory_histories.specs.declared.events.HistoryFault.{HistoryFault}
 use Rattle.memory_histories.specs.declared.events.Rest.{Rest}
 use Rattle.atomic_histories.specs.declared.unit.OpenStore.{OpenStore}
 use Rattle.atomic_histories.specs.declared.unit.UnitPlace.{UnitPlace}
 use Rattle.atomic_histories.specs.Words.{written, at_unit, stored_byte, is_at}
 use Rattle.atomic_histories.specs.Operations.{Opened, none_opened, opened_after, opened_by, form_fault}
-use Rattle.atomic_histories.specs.Law.{OpenLoad, UnitMemory, HiddenStep, MayBe, starts, steps, sees, untouched, done_store, is_store, may_answer_store, without_store, seen, unit_at, is_formed, IsAtomicAt, HasMoments, IsAtomic}
-use Rattle.atomic_histories.specs.Branches.{Branch, first_branch, branches_after, branch_with_load, branch_with_store, answered}
-use Rattle.atomic_histories.specs.Stands.{Each, One, Leads, StandsFor}
-use Rattle.atomic_histories.specs.Held.{HeldUnit, Held, nothing_held, has_way, place_of, IsAligned, is_unit, is_listed, is_touched, unit_after, units_after, lower, lowest_of, lowest, held_after, Stands, first_ways, StandsForAll}
-use Rattle.atomic_histories.proofs.Lists.{one_weaker, one_each, each_weaker, each_map, each_both, each_append}
-use Rattle.atomic_histories.proofs.Exact.{stands_first, stands_after, some_state, no_state}
+use Rattle.atomic_histories.specs.Law.{OpenLoad, UnitMemory, HiddenStep, MayBe, steps, sees, untouched, done_store, is_store, may_answer_store, without_store, unit_at, is_formed, IsAtomicAt}
+use Rattle.atomic_histories.specs.Branches.{Branch, branches_after, branch_with_load, branch_with_store, answered}
+use Rattle.atomic_histories.specs.Stands.{One, Leads, StandsFor}
+use Rattle.atomic_histories.specs.Held.{Held, nothing_held, has_way, covered, units_of, is_among, ways_after, unit_after, is_without, is_stuck, stuck_from, first_stuck, Stands, is_lost, StandsBut}
+use Rattle.atomic_histories.specs.Lost.{IsAtomicBut}
+use Rattle.atomic_histories.specs.Judge.{IsTaken, IsForgotten}
+use Rattle.atomic_histories.proofs.Exact.{stands_first, stands_after, stands_passed, some_state, no_state}
+use Rattle.atomic_histories.proofs.Links.{fit_by, linked, opened_more, passes}
 
 -- Ways that are left. ----
 
@@ -32,11 +33,11 @@ way_if : (b : Bool) (f : Branch → Branch) (es : List Branch) → has_way es �
 way_if true f es h = way_map f es h
 way_if false f es h = h
 
-state_from : (start : UnitMemory) (unit : UnitPlace) (history : List HistoryEvent) (es : List Branch) → StandsFor start unit es history → has_way es ≡ true → (m : UnitMemory) × MayBe unit start history m
+pub state_from : (start : UnitMemory) (unit : UnitPlace) (history : List HistoryEvent) (es : List Branch) → StandsFor start unit es history → has_way es ≡ true → (m : UnitMemory) × MayBe unit start history m
 state_from start unit history [] s h = cc
 state_from start unit history (e ∷ es) s h = some_state start unit e es history s
 
-none_from : (start : UnitMemory) (unit : UnitPlace) (history : List HistoryEvent) (es : List Branch) → StandsFor start unit es history → has_way es ≡ false → ¬ ((m : UnitMemory) × MayBe unit start history m)
+pub none_from : (start : UnitMemory) (unit : UnitPlace) (history : List HistoryEvent) (es : List Branch) → StandsFor start unit es history → has_way es ≡ false → ¬ ((m : UnitMemory) × MayBe unit start history m)
 none_from start unit history [] s h = no_state start unit history s
 none_from start unit history (e ∷ es) s h = cc
 
@@ -92,203 +93,222 @@ IsNoAnswer (LoadResponse number bytes) = ⊥
 IsNoAnswer event = Unit {0}
 
 -- what is no load's answer leaves a way
-way_left : (start : UnitMemory) (unit : UnitPlace) (history : List HistoryEvent) (event : HistoryEvent) → IsNoAnswer event → (es : List Branch) → StandsFor start unit es history → has_way es ≡ true
+pub way_left : (start : UnitMemory) (unit : UnitPlace) (history : List HistoryEvent) (event : HistoryEvent) → IsNoAnswer event → (es : List Branch) → StandsFor start unit es history → has_way es ≡ true
     → has_way (branches_after unit es event) ≡ true
 way_left start unit history (LoadRequest number address n) a es s h = way_if (is_at unit address n) (branch_with_load number address) es h
 way_left start unit history (LoadResponse number bytes) a es s h = absurd a
 way_left start unit history (StoreRequest number address bytes enables) a es s h =
-    let stored : List (Option ℕ) = at_unit unit (stored_byte address bytes.now enables) in way_if (is_touched unit (StoreRequest number address bytes enables)) (branch_with_store number stored) es h
+    let stored : List (Option ℕ) = at_unit unit (stored_byte address bytes.now enables) in way_if (list_any is_some stored) (branch_with_store number stored) es h
 way_left start unit history (StoreResponse number) a es s h =
     let n = store_answered start unit history number (state_from start unit history es s h) in
     let after = stands_after start unit es history (StoreResponse number) s in
     way_from_one (λ e. Leads e n.0) (branches_after unit es (StoreResponse number)) (after.complete n.0 n.1)
 
--- The lowest unit without a way. ----
+-- The first unit that is stuck. ----
 
-lowest_none : (o : Option ℕ) (us : List HeldUnit) → fold lowest_of o us ≡ None → (o ≡ None) × Each (λ u. has_way u.branches ≡ true) us
-lowest_none o [] h = (h, tt)
-lowest_none o (u ∷ us) h =
-    let r = lowest_none (lowest_of o u) us h in
-    elim (cases_Bool (has_way u.branches)) [
-      | inl t ↦ (rw t at r.0, (t, r.1))
-      | inr f ↦ let e : Some (lower o u.first) ≡ None = rw f at r.0 in cc
-    ]
-
-lower_index : (o : Option ℕ) (k : ℕ) → lower o k ≤ k
-lower_index None k = omega arith
-lower_index (Some j) k = omega arith
-
-lower_before : (o : Option ℕ) (k j : ℕ) → o ≡ Some j → lower o k ≤ j
-lower_before None k j e = cc
-lower_before (Some i) k j e = let s : i ≡ j = cc in omega arith
-
-lower_which : (o : Option ℕ) (i k : ℕ) → lower o i ≡ k → (o ≡ Some k) ⊎ (i ≡ k)
-lower_which None i k e = inr e
-lower_which (Some j) i k e = elim (cases_lt i j) [
-  | inl l ↦ let s : i ≡ k = omega arith in inr s
-  | inr l ↦ let s : j ≡ k = omega arith in inl (ap Some s)
+pub stuck_none : (h : Held) (event : HistoryEvent) (k n : ℕ) → stuck_from h event k n ≡ None → (j : ℕ) → k ≤ j → j < k + n → is_stuck h event j ≡ false
+stuck_none h event k zero e j l m = absurd (omega arith)
+stuck_none h event k (suc n) e j l m = elim (cases_Bool (is_stuck h event k)) [
+  | inl t ↦ let x : Some k ≡ None = rw t at e in cc
+  | inr f ↦ elim (cases_lt k j) [
+    | inl more ↦ stuck_none h event (k + 1) n (rw f at e) j (omega arith) (omega arith)
+    | inr same ↦ let i : k ≡ j = omega arith in subst (λ x. is_stuck h event x ≡ false) i f
+  ]
 ]
 
-lowest_some : (o : Option ℕ) (us : List HeldUnit) (k : ℕ) → fold lowest_of o us ≡ Some k
-    → ((o ≡ Some k) ⊎ One (λ u. (u.first ≡ k) × (has_way u.branches ≡ false)) us) × ((j : ℕ) → o ≡ Some j → k ≤ j) × Each (λ u. has_way u.branches ≡ false → k ≤ u.first) us
-lowest_some o [] k h = (inl h, λ j e. (let s : k ≡ j = cc in omega arith), tt)
-lowest_some o (u ∷ us) k h = elim (cases_Bool (has_way u.branches)) [
+pub stuck_some : (h : Held) (event : HistoryEvent) (k n i : ℕ) → stuck_from h event k n ≡ Some i
+    → (is_stuck h event i ≡ true) × ((j : ℕ) → k ≤ j → j < i → is_stuck h event j ≡ false)
+stuck_some h event k zero i e = cc
+stuck_some h event k (suc n) i e = elim (cases_Bool (is_stuck h event k)) [
   | inl t ↦
-      let r = lowest_some o us k (rw t at h) in
-      let which : (o ≡ Some k) ⊎ One (λ x. (x.first ≡ k) × (has_way x.branches ≡ false)) (u ∷ us) = elim r.0 [ inl e ↦ inl e | inr a ↦ inr (inr a) ] in
-      (which, r.1, ((λ f. let e : true ≡ false = sym t ∙ f in cc), r.2))
+      let x : Some k ≡ Some i = rw t at e in
+      let same : k ≡ i = cc in
+      (subst (λ y. is_stuck h event y ≡ true) same t, λ j l m. absurd (omega arith))
   | inr f ↦
-      let r = lowest_some (Some (lower o u.first)) us k (rw f at h) in
-      let least : k ≤ lower o u.first = r.1 (lower o u.first) refl in
-      let which : (o ≡ Some k) ⊎ One (λ x. (x.first ≡ k) × (has_way x.branches ≡ false)) (u ∷ us) = elim r.0 [
-        | inl e ↦ let s : lower o u.first ≡ k = cc in elim (lower_which o u.first k s) [ inl a ↦ inl a | inr a ↦ inr (inl (a, f)) ]
-        | inr a ↦ inr (inr a)
-      ] in
-      (which, (λ j e. let l = lower_before o u.first j e in omega arith), ((λ g. let l = lower_index o u.first in omega arith), r.2))
+      let r = stuck_some h event (k + 1) n i (rw f at e) in (
+        r.0,
+        λ j l m. elim (cases_lt k j) [
+          | inl more ↦ r.1 j (omega arith) m
+          | inr same ↦ let s : k ≡ j = omega arith in subst (λ x. is_stuck h event x ≡ false) s f
+        ],
+      )
 ]
 
--- Units that are kept, and the others. ----
+way_stays : (before after : List Branch) → is_without before after ≡ false → has_way before ≡ true → has_way after ≡ true
+way_stays [] after h w = cc
+way_stays (e ∷ es) [] h w = cc
+way_stays (e ∷ es) (d ∷ ds) h w = refl
 
-listed_after : (size : ℕ) (event : HistoryEvent) (k : ℕ) (us : List HeldUnit) → is_listed k (units_after size event us) ≡ is_listed k us
-listed_after size event k [] = refl
-listed_after size event k (u ∷ us) = ap (λ b. (u.first == k) || b) (listed_after size event k us)
+way_lost : (before after : List Branch) → is_without before after ≡ true → (has_way before ≡ true) × (has_way after ≡ false)
+way_lost [] after h = cc
+way_lost (e ∷ es) [] h = (refl, refl)
+way_lost (e ∷ es) (d ∷ ds) h = cc
 
-one_listed : (k : ℕ) (us : List HeldUnit) → is_listed k us ≡ true → One (λ u. u.first ≡ k) us
-one_listed k [] h = cc
-one_listed k (u ∷ us) h = elim (cases_Bool (u.first == k)) [
-  | inl t ↦ inl (eqb-true u.first k t)
-  | inr f ↦ inr (one_listed k us (rw f at h))
-]
-
-else_same : {X : Type 0} (b : Bool) (x y : X) → b ≡ false → (if b then x else y) ≡ y
-else_same true x y h = cc
-else_same false x y h = refl
-
--- an event that doesn't touch a unit leaves it as it was before the first
-untouched_stays : (image : List ℕ) (rest : Rest) (unit : UnitPlace) (event : HistoryEvent) → is_touched unit event ≡ false → branches_after unit (first_branch image rest unit ∷ []) event ≡ first_branch image rest unit ∷ []
+none_after : (unit : UnitPlace) (event : HistoryEvent) → branches_after unit [] event ≡ []
 unfolding answered
-untouched_stays image rest unit (LoadRequest number address n) h = else_same (is_at unit address n) _ (first_branch image rest unit ∷ []) h
-untouched_stays image rest unit (LoadResponse number bytes) h = refl
-untouched_stays image rest unit (StoreRequest number address bytes enables) h = else_same (is_touched unit (StoreRequest number address bytes enables)) _ (first_branch image rest unit ∷ []) h
-untouched_stays image rest unit (StoreResponse number) h = refl
+none_after unit (LoadRequest number address n) = none_if (is_at unit address n) (branch_with_load number address)
+  where
+    none_if : (b : Bool) (f : Branch → Branch) → (if b then map f [] else []) ≡ []
+    none_if true f = refl
+    none_if false f = refl
+none_after unit (LoadResponse number bytes) = refl
+none_after unit (StoreRequest number address bytes enables) = none_if (list_any is_some (at_unit unit (stored_byte address bytes.now enables))) (branch_with_store number (at_unit unit (stored_byte address bytes.now enables)))
+  where
+    none_if : (b : Bool) (f : Branch → Branch) → (if b then map f [] else []) ≡ []
+    none_if true f = refl
+    none_if false f = refl
+none_after unit (StoreResponse number) = refl
 
 -- Events. ----
 
-formed_more : (o : Opened) (history : List HistoryEvent) (event : HistoryEvent) → is_formed o history ≡ true → form_fault (fold opened_after o history) event ≡ None → is_formed o (history ++ event ∷ []) ≡ true
+formed_more : (o : Opened) (history : List HistoryEvent) (event : HistoryEvent) → is_formed o history ≡ true → form_fault (fold opened_after o history) event ≡ None
+    → is_formed o (history ++ event ∷ []) ≡ true
 formed_more o [] event h f = rw f refl
 formed_more o (x ∷ xs) event h f =
     let p = and_parts (is_none (form_fault o x)) (is_formed (opened_after o x) xs) h in
     and_from (is_none (form_fault o x)) (is_formed (opened_after o x) (xs ++ event ∷ [])) p.0 (formed_more (opened_after o x) xs event p.1 f)
 
-opened_more : (o : Opened) (history : List HistoryEvent) (event : HistoryEvent) → fold opened_after o (history ++ event ∷ []) ≡ opened_after (fold opened_after o history) event
-opened_more o [] event = refl
-opened_more o (x ∷ xs) event = opened_more (opened_after o x) xs event
+pub stands_all_first : (image : List ℕ) (rest : Rest) (size : ℕ) → 1 ≤ size → StandsBut (nothing_held image rest size) [] []
+stands_all_first image rest size l =
+    record { sized = l; formed = refl; opened = refl; units = λ k. inr (refl, (stands_first image rest (unit_at size k), refl)) }
 
--- the units that an event touches are kept
-abbrev pub AreListed : Held → HistoryEvent → Type 0
-AreListed h event = (k : ℕ) → is_touched (unit_at h.size k) event ≡ true → is_listed (k * h.size) h.units ≡ true
+module _ (h : Held) (lost : List ℕ) (history : List HistoryEvent) (event : HistoryEvent) (s : StandsBut h lost history) (formed : form_fault h.opened event ≡ None) where
+  abbrev Now : ℕ → List Branch → Type 0
+  Now k es = Stands h.image h.rest (history ++ event ∷ []) (unit_at h.size k) es
 
-not_true : (b c : Bool) → (b ≡ true → c ≡ true) → c ≡ false → b ≡ false
-not_true true c f h = let e : true ≡ false = sym (f refl) ∙ h in cc
-not_true false c f h = refl
+  abbrev first : ℕ
+  first = (covered h.opened event).0 / h.size
 
-each_after : (h : Held) (history : List HistoryEvent) (event : HistoryEvent) → StandsForAll h history
-    → Each (λ u. Stands h.image h.rest (history ++ event ∷ []) (place_of h.size u) u.branches) (units_after h.size event h.units)
-each_after h history event s =
-    each_map (unit_after h.size event) (λ u. Stands h.image h.rest (history ++ event ∷ []) (place_of h.size u) u.branches) h.units
-    (each_weaker (λ u. Stands h.image h.rest history (place_of h.size u) u.branches × (has_way u.branches ≡ true)) (λ u. Stands h.image h.rest (history ++ event ∷ []) (place_of h.size u) (branches_after (place_of h.size u) u.branches event))
-    (λ u p. stands_after (untouched h.image h.rest (place_of h.size u)) (place_of h.size u) u.branches history event p.0) h.units s.listed)
+  abbrev count : ℕ
+  count = units_of h.size (covered h.opened event).0 (covered h.opened event).1
 
-other_after : (h : Held) (history : List HistoryEvent) (event : HistoryEvent) → StandsForAll h history → AreListed h event → (k : ℕ) → is_listed (k * h.size) h.units ≡ false
-    → Stands h.image h.rest (history ++ event ∷ []) (unit_at h.size k) (first_ways h.image h.rest (unit_at h.size k))
-other_after h history event s listed k n =
-    let unit : UnitPlace = unit_at h.size k in
-    let start : UnitMemory = untouched h.image h.rest unit in
-    subst (λ es. StandsFor start unit es (history ++ event ∷ [])) (untouched_stays h.image h.rest unit event (not_true (is_touched unit event) (is_listed (k * h.size) h.units) (listed k) n))
-    (stands_after start unit (first_ways h.image h.rest (unit_at h.size k)) history event (s.others k n))
+  formless : form_fault (opened_by history) event ≡ None
+  formless = ap (λ o. form_fault o event) (sym s.opened) ∙ formed
 
-pub stands_all_first : (image : List ℕ) (rest : Rest) (size : ℕ) → 1 ≤ size → StandsForAll (nothing_held image rest size) []
-stands_all_first image rest size l = record { sized = l; aligned = tt; formed = refl; opened = refl; listed = tt; others = λ k n. stands_first image rest (unit_at size k) }
+  -- what is kept of a unit that the event passes
+  passed : (k : ℕ) → is_among h.size (covered h.opened event) k ≡ false → Stands h.image h.rest history (unit_at h.size k) (h.units k) → Now k (h.units k)
+  passed k out a =
+      stands_passed (untouched h.image h.rest (unit_at h.size k)) (unit_at h.size k) (h.units k) history event
+      (λ m r. passes h.size k m (opened_by history) event s.sized (fit_by history s.formed) (linked h.image h.rest (unit_at h.size k) r) formless
+      (subst (λ o. is_among h.size (covered o event) k ≡ false) s.opened out)) a
 
--- an event that leaves each unit a way
-pub stands_all_after : (h : Held) (history : List HistoryEvent) (event : HistoryEvent) → StandsForAll h history → AreListed h event → form_fault h.opened event ≡ None
-    → lowest (units_after h.size event h.units) ≡ None → StandsForAll (held_after h event) (history ++ event ∷ [])
-stands_all_after h history event s listed f none =
-    let us : List HeldUnit = units_after h.size event h.units in
-    let formless : form_fault (opened_by history) event ≡ None = ap (λ o. form_fault o event) (sym s.opened) ∙ f in
-    record {
-      sized = s.sized;
-      aligned = each_map (unit_after h.size event) (IsAligned h.size) h.units s.aligned;
-      formed = formed_more none_opened history event s.formed formless;
-      opened = ap (λ o. opened_after o event) s.opened ∙ sym (opened_more none_opened history event);
-      listed = each_both (λ u. Stands h.image h.rest (history ++ event ∷ []) (place_of h.size u) u.branches) (λ u. has_way u.branches ≡ true) us (each_after h history event s) (lowest_none None us none).1;
-      others = λ k n. other_after h history event s listed k (sym (listed_after h.size event (k * h.size) h.units) ∙ n);
-    }
+  touched : (k : ℕ) → Stands h.image h.rest history (unit_at h.size k) (h.units k) → Now k (ways_after h event k)
+  touched k a = stands_after (untouched h.image h.rest (unit_at h.size k)) (unit_at h.size k) (h.units k) history event a
 
--- what is kept is of a history of the law
-pub atomic_held : (h : Held) (history : List HistoryEvent) → StandsForAll h history → IsAtomic h.image h.rest h.size history
-atomic_held h history s = record {
-  formed = s.formed;
-  moments = λ k. elim (cases_Bool (is_listed (k * h.size) h.units)) [
-    | inl t ↦ found k h.units s.listed (one_listed (k * h.size) h.units t)
-    | inr n ↦ state_from (untouched h.image h.rest (unit_at h.size k)) (unit_at h.size k) history (first_ways h.image h.rest (unit_at h.size k)) (s.others k n) refl
-  ];
-}
-  where
-    found : (k : ℕ) (us : List HeldUnit) → Each (λ u. Stands h.image h.rest history (place_of h.size u) u.branches × (has_way u.branches ≡ true)) us → One (λ u. u.first ≡ k * h.size) us → IsAtomicAt h.image h.rest (unit_at h.size k) history
-    found k [] a o = absurd o
-    found k (u ∷ us) a (inl e) = subst (λ i. IsAtomicAt h.image h.rest (record { first = i; size = h.size }) history) e (state_from (untouched h.image h.rest (place_of h.size u)) (place_of h.size u) history u.branches a.0.0 a.0.1)
-    found k (u ∷ us) a (inr o) = found k us a.1 o
+  range : (k : ℕ) → is_among h.size (covered h.opened event) k ≡ true → (first ≤ k) × (k < first + count)
+  range k t = let p = and_parts (nat_le first k) (nat_lt k (first + count)) t in (leb-true first k p.0, ltb-true k (first + count) p.1)
 
-module _ (h : Held) (history : List HistoryEvent) (event : HistoryEvent) (s : StandsForAll h history) (listed : AreListed h event) where
-  abbrev IsAfter : HeldUnit → Type 0
-  IsAfter u = Stands h.image h.rest (history ++ event ∷ []) (place_of h.size u) u.branches
-
-  -- there are moments at the unit that begins there
-  abbrev AtomicAt : ℕ → Type 0
-  AtomicAt first = IsAtomicAt h.image h.rest (record { first = first; size = h.size }) (history ++ event ∷ [])
-
-  not_at : (first : ℕ) (us : List HeldUnit) → Each IsAfter us → Each (IsAligned h.size) us → One (λ u. (u.first ≡ first) × (has_way u.branches ≡ false)) us → (k : ℕ) × (first ≡ k * h.size) × ¬ (AtomicAt first)
-  not_at first [] a b o = absurd o
-  not_at first (u ∷ us) a b (inl p) =
-      (b.0.0, sym p.0 ∙ b.0.1, subst (λ i. ¬ (AtomicAt i)) p.0 (none_from (untouched h.image h.rest (place_of h.size u)) (place_of h.size u) (history ++ event ∷ []) u.branches a.0 p.1))
-  not_at first (u ∷ us) a b (inr o) = not_at first us a.1 b.1 o
-
-  at_below : (first lower_first : ℕ) → lower_first < first → (us : List HeldUnit) → Each IsAfter us → Each (λ u. has_way u.branches ≡ false → first ≤ u.first) us → One (λ u. u.first ≡ lower_first) us → AtomicAt lower_first
-  at_below first j l [] a b o = absurd o
-  at_below first j l (u ∷ us) a b (inl e) = elim (cases_Bool (has_way u.branches)) [
-    | inl t ↦ subst AtomicAt e (state_from (untouched h.image h.rest (place_of h.size u)) (place_of h.size u) (history ++ event ∷ []) u.branches a.0 t)
-    | inr f ↦ let m : first ≤ u.first = b.0 f in absurd (omega arith)
+  -- the ways of each unit after an event that leaves them some
+  after_at : first_stuck h event ≡ None → (k : ℕ) → (is_lost k lost ≡ false) × (Stands h.image h.rest history (unit_at h.size k) (h.units k) × (has_way (h.units k) ≡ true))
+      → Now k (unit_after h event k) × (has_way (unit_after h event k) ≡ true)
+  after_at none k a = elim (cases_Bool (is_among h.size (covered h.opened event) k)) [
+    | inl t ↦
+        let r = range k t in
+        let w : has_way (ways_after h event k) ≡ true = way_stays (h.units k) (ways_after h event k) (stuck_none h event first count none k r.0 r.1) a.1.1 in
+        rw t (touched k a.1.0, w)
+    | inr f ↦ rw f (passed k f a.1.0, a.1.1)
   ]
-  at_below first j l (u ∷ us) a b (inr o) = at_below first j l us a.1 b.1 o
+
+  lost_after : (k : ℕ) → h.units k ≡ [] → unit_after h event k ≡ []
+  lost_after k e = elim (cases_Bool (is_among h.size (covered h.opened event) k)) [
+    | inl t ↦ rw t (ap (λ es. branches_after (unit_at h.size k) es event) e ∙ none_after (unit_at h.size k) event)
+    | inr f ↦ rw f e
+  ]
+
+  pub formed_after : is_formed none_opened (history ++ event ∷ []) ≡ true
+  formed_after = formed_more none_opened history event s.formed formless
+
+  -- an event that leaves each unit a way
+  pub stands_all_after : (next : Held) → IsTaken h event next → StandsBut next lost (history ++ event ∷ [])
+  stands_all_after next t = record {
+    sized = subst (λ n. 1 ≤ n) (sym t.size) s.sized;
+    formed = formed_after;
+    opened = t.opened ∙ (ap (λ o. opened_after o event) s.opened ∙ sym (opened_more none_opened history event));
+    units = λ k. elim (s.units k) [
+      | inl a ↦ inl (a.0, t.units k ∙ lost_after k a.1)
+      | inr a ↦
+          let r = after_at t.ways k a in
+          inr (a.0, (same next t k (subst (λ es. Now k es) (sym (t.units k)) r.0), subst (λ es. has_way es ≡ true) (sym (t.units k)) r.1))
+    ];
+  }
+    where
+      same : (next : Held) → IsTaken h event next → (k : ℕ) → Now k (next.units k) → Stands next.image next.rest (history ++ event ∷ []) (unit_at next.size k) (next.units k)
+      same next t k a =
+          subst (λ i. Stands i next.rest (history ++ event ∷ []) (unit_at next.size k) (next.units k)) (sym t.image)
+          (subst (λ i. Stands h.image i (history ++ event ∷ []) (unit_at next.size k) (next.units k)) (sym t.rest)
+          (subst (λ i. Stands h.image h.rest (history ++ event ∷ []) (unit_at i k) (next.units k)) (sym t.size) a))
+
+  pub atomic_after : first_stuck h event ≡ None → IsAtomicBut lost h.image h.rest h.size (history ++ event ∷ [])
+  atomic_after none = record {
+    formed = formed_after;
+    moments = λ k there. elim (s.units k) [
+      | inl a ↦ let y : true ≡ false = sym a.0 ∙ there in cc
+      | inr a ↦ let r = after_at none k a in state_from (untouched h.image h.rest (unit_at h.size k)) (unit_at h.size k) (history ++ event ∷ []) (unit_after h event k) r.0 r.1
+    ];
+  }
 
   -- an event that leaves a unit no way
-  pub refused_at : (first : ℕ) → lowest (units_after h.size event h.units) ≡ Some first → (k : ℕ) × (first ≡ k * h.size) × (¬ (AtomicAt (k * h.size))) × ((j : ℕ) → j < k → AtomicAt (j * h.size))
-  refused_at first e =
-      let us : List HeldUnit = units_after h.size event h.units in
-      let after : Each IsAfter us = each_after h history event s in
-      let aligned : Each (IsAligned h.size) us = each_map (unit_after h.size event) (IsAligned h.size) h.units s.aligned in
-      let r = lowest_some None us first e in
-      let one : One (λ u. (u.first ≡ first) × (has_way u.branches ≡ false)) us = elim r.0 [ inl never ↦ let x : None ≡ Some first = never in cc | inr o ↦ o ] in
-      let n = not_at first us after aligned one in (
-        n.0,
-        n.1,
-        subst (λ i. ¬ (AtomicAt i)) n.1 n.2,
-        λ j l. let below : j * h.size < first = subst (λ i. j * h.size < i) (sym n.1) (mul-lt-mul_of_pos_right l s.sized) in
-            elim (cases_Bool (is_listed (j * h.size) us)) [
-              | inl t ↦ at_below first (j * h.size) below us after r.2 (one_listed (j * h.size) us t)
-              | inr m ↦ state_from (untouched h.image h.rest (unit_at h.size j)) (unit_at h.size j) (history ++ event ∷ []) (first_ways h.image h.rest (unit_at h.size j))
-                  (other_after h history event s listed j (sym (listed_after h.size event (j * h.size) h.units) ∙ m)) refl
-            ],
+  pub refused_at : (k : ℕ) → first_stuck h event ≡ Some k
+      → (is_lost k lost ≡ false) × (¬ (IsAtomicAt h.image h.rest (unit_at h.size k) (history ++ event ∷ [])))
+      × ((j : ℕ) → j < k → is_lost j lost ≡ false → IsAtomicAt h.image h.rest (unit_at h.size j) (history ++ event ∷ []))
+  refused_at k e =
+      let r = stuck_some h event first count k e in
+      let w = way_lost (h.units k) (ways_after h event k) r.0 in
+      let here : (is_lost k lost ≡ false) × (Stands h.image h.rest history (unit_at h.size k) (h.units k) × (has_way (h.units k) ≡ true)) = elim (s.units k) [
+        | inl a ↦ let y : has_way (h.units k) ≡ false = ap has_way a.1 in let z : true ≡ false = sym w.0 ∙ y in cc
+        | inr a ↦ a
+      ] in (
+        here.0,
+        none_from (untouched h.image h.rest (unit_at h.size k)) (unit_at h.size k) (history ++ event ∷ []) (ways_after h event k) (touched k here.1.0) w.1,
+        λ j l there. elim (s.units j) [
+          | inl a ↦ let y : true ≡ false = sym a.0 ∙ there in cc
+          | inr a ↦ elim (cases_Bool (is_among h.size (covered h.opened event) j)) [
+            | inl t ↦
+                let way : has_way (ways_after h event j) ≡ true = way_stays (h.units j) (ways_after h event j) (r.1 j (range j t).0 l) a.1.1 in
+                state_from (untouched h.image h.rest (unit_at h.size j)) (unit_at h.size j) (history ++ event ∷ []) (ways_after h event j) (touched j a.1.0) way
+            | inr f ↦ state_from (untouched h.image h.rest (unit_at h.size j)) (unit_at h.size j) (history ++ event ∷ []) (h.units j) (passed j f a.1.0) a.1.1
+          ]
+        ],
       )
 
   -- only a load's answer does
-  pub only_answers : IsNoAnswer event → lowest (units_after h.size event h.units) ≡ None
-  only_answers other = all_ways None (units_after h.size event h.units) refl
-      (each_map (unit_after h.size event) (λ u. has_way u.branches ≡ true) h.units
-      (each_weaker (λ u. Stands h.image h.rest history (place_of h.size u) u.branches × (has_way u.branches ≡ true)) (λ u. has_way (branches_after (place_of h.size u) u.branches event) ≡ true)
-      (λ u p. way_left (untouched h.image h.rest (place_of h.size u)) (place_of h.size u) history event other u.branches p.0 p.1) h.units s.listed))
-    where
-      all_ways : (o : Option ℕ) (us : List HeldUnit) → o ≡ None → Each (λ u. has_way u.branches ≡ true) us → fold lowest_of o us ≡ None
-      all_ways o [] e a = e
-      all_ways o (u ∷ us) e a = rw a.0 (all_ways o us e a.1)
+  pub only_answers : IsNoAnswer event → (k : ℕ) → first_stuck h event ≡ Some k → ⊥
+  only_answers other k e =
+      let r = stuck_some h event first count k e in
+      let w = way_lost (h.units k) (ways_after h event k) r.0 in
+      elim (s.units k) [
+        | inl a ↦ let y : has_way (h.units k) ≡ false = ap has_way a.1 in let z : true ≡ false = sym w.0 ∙ y in cc
+        | inr a ↦
+            let left : has_way (ways_after h event k) ≡ true =
+            way_left (untouched h.image h.rest (unit_at h.size k)) (unit_at h.size k) history event other (h.units k) a.1.0 a.1.1 in
+            let z : true ≡ false = sym left ∙ w.1 in cc
+      ]
+
+-- A unit is forgotten. ----
+
+pub stands_forgotten : (h next : Held) (number : ℕ) → IsForgotten h number next → (lost : List ℕ) (history : List HistoryEvent) → StandsBut h lost history → StandsBut next (number ∷ lost) history
+stands_forgotten h next number t lost history s = record {
+  sized = subst (λ n. 1 ≤ n) (sym t.size) s.sized;
+  formed = s.formed;
+  opened = t.opened ∙ s.opened;
+  units = λ k. elim (cases_Bool (number == k)) [
+    | inl e ↦ inl (rw e refl, t.units k ∙ rw e refl)
+    | inr f ↦
+        let kept : next.units k ≡ h.units k = t.units k ∙ rw f refl in
+        elim (s.units k) [
+          | inl a ↦ inl (rw f a.0, kept ∙ a.1)
+          | inr a ↦ inr (rw f a.0, (same k (subst (λ es. Stands h.image h.rest history (unit_at h.size k) es) (sym kept) a.1.0), subst (λ es. has_way es ≡ true) (sym kept) a.1.1))
+        ]
+  ];
+}
+  where
+    same : (k : ℕ) → Stands h.image h.rest history (unit_at h.size k) (next.units k) → Stands next.image next.rest history (unit_at next.size k) (next.units k)
+    same k a =
+        subst (λ i. Stands i next.rest history (unit_at next.size k) (next.units k)) (sym t.image)
+        (subst (λ i. Stands h.image i history (unit_at next.size k) (next.units k)) (sym t.rest)
+        (subst (λ i. Stands h.image h.rest history (unit_at i k) (next.units k)) (sym t.size) a))
+
+pub forgotten_law : {E : Type 0} (r : Result (Unit {0}) E) (h next : Held) (number : ℕ) → OnOk r (IsForgotten h number next) → (lost : List ℕ) (history : List HistoryEvent) → StandsBut h lost history
+    → OnOk r (StandsBut next (number ∷ lost) history)
+forgotten_law (Ok u) h next number t lost history s = stands_forgotten h next number t lost history s
+forgotten_law (Err e) h next number t lost history s = tt

@@ -1,6 +1,6 @@
 -- How the judge follows a unit: the ways that it may have gone, each with the word that stands there now, the open stores that have
 -- taken effect, and the words that stood there before. Stores take effect only when an answer needs them to.
-use Rattle.std.specs.Prelude.{ℕ, ◌≡◌, ◌+◌, ◌-◌, ◌≤◌, Bool, true, false, ◌&&◌, ◌||◌, not, if◌then◌else◌, ◌==◌, nat_lt, List, [], ◌∷◌, ◌++◌, map, drop, length, Option, Some, None, is_some, max, zero, suc}
+use Rattle.std.specs.Prelude.{ℕ, Bool, true, false, ◌&&◌, ◌||◌, not, if◌then◌else◌, ◌==◌, nat_lt, List, [], ◌∷◌, ◌++◌, map, drop, length, Option, is_some, max, zero, suc}
 use Rattle.std.specs.List.{filter, list_all, list_any, fold}
 use Rattle.std.specs.Option.{option_eq}
 use Rattle.std.specs.Cmp.Lexicographic.{pointwise}

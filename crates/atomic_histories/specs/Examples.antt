@@ -1,13 +1,12 @@
 -- Worked histories of the atomic law: hidden steps that explain them.
-use Rattle.std.specs.Prelude.{ℕ, ◌≡◌, Bool, true, false, ◌⊎◌, List, [], ◌∷◌, ◌++◌, Option, Some, None, refl}
+use Rattle.std.specs.Prelude.{ℕ, List, [], ◌∷◌, refl}
 use Rattle.std.proofs.Common.{inl, inr}
 use Rattle.std.specs.Borrow.{Bor}
-use Rattle.memory_histories.specs.declared.events.HistoryEvent.{HistoryEvent}
 use Rattle.memory_histories.specs.declared.events.HistoryEvent.TheVariants.{LoadRequest, LoadResponse, StoreRequest, StoreResponse}
-use Rattle.memory_histories.specs.declared.events.Rest.TheVariants.{Zeros, Unknown}
+use Rattle.memory_histories.specs.declared.events.Rest.TheVariants.{Zeros}
 use Rattle.atomic_histories.specs.declared.unit.UnitPlace.{UnitPlace}
 use Rattle.atomic_histories.specs.Words.{written, is_word_of}
-use Rattle.atomic_histories.specs.Law.{UnitMemory, MayBe, IsAtomicAt, starts, steps, sees}
+use Rattle.atomic_histories.specs.Law.{IsAtomicAt, starts, steps, sees}
 
 abbrev bytes : List ℕ → Bor (List ℕ)
 bytes xs = record { ref_ptr = (0, 0); now = xs }

@@ -1,123 +1,119 @@
 -- What the judge keeps of all units, and of which histories that is kept.
-use Rattle.std.specs.Prelude.{ℕ, zero, suc, ◌≡◌, ◌+◌, ◌-◌, ◌*◌, ◌/◌, ◌<◌, ◌≤◌, length, Bool, true, false, ◌&&◌, not, if◌then◌else◌, ◌==◌, List, [], ◌∷◌, ◌++◌, map, min, Option, Some, None, is_some}
-use Rattle.std.specs.List.{list_any, list_all, fold, find}
+use Rattle.std.specs.Prelude.{ℕ, zero, suc, ◌≡◌, ◌+◌, ◌-◌, ◌/◌, ◌≤◌, ◌⊎◌, length, Bool, true, false, ◌&&◌, ◌||◌, not, if◌then◌else◌, ◌==◌, nat_lt, nat_le, List, [], ◌∷◌, min, Option, Some, None}
+use Rattle.std.specs.List.{list_any, find}
 use Rattle.memory_histories.specs.declared.events.HistoryEvent.{HistoryEvent}
 use Rattle.memory_histories.specs.declared.events.HistoryEvent.TheVariants.{LoadRequest, LoadResponse, StoreRequest, StoreResponse}
 use Rattle.memory_histories.specs.declared.events.Rest.{Rest}
+use Rattle.atomic_histories.specs.declared.unit.Operation.{Operation}
 use Rattle.atomic_histories.specs.declared.unit.UnitPlace.{UnitPlace}
-use Rattle.atomic_histories.specs.Words.{at_unit, stored_byte, is_at}
-use Rattle.atomic_histories.specs.Operations.{Opened, none_opened, opened_after, opened_by, form_fault, has_number}
+use Rattle.atomic_histories.specs.Operations.{Opened, none_opened, opened_by, has_number}
 use Rattle.atomic_histories.specs.Law.{untouched, unit_at, is_formed}
 use Rattle.atomic_histories.specs.Branches.{Branch, first_branch, branches_after, is_too_wide}
-use Rattle.atomic_histories.specs.Stands.{Each, StandsFor}
+use Rattle.atomic_histories.specs.Stands.{StandsFor}
 
--- a unit by the address of its first byte, and the ways that it may have gone
-pub record HeldUnit : Type 0 where
-  pub first : ℕ
-  pub branches : List Branch
-
+-- of each unit, by its number, the ways that it may have gone; a unit that was forgotten has none
 pub record Held : Type 0 where
   pub image : List ℕ
   pub rest : Rest
   pub size : ℕ
   pub opened : Opened
-  pub units : List HeldUnit
+  pub units : ℕ → List Branch
+
+-- the ways of a unit that no operation has touched
+abbrev pub first_ways : List ℕ → Rest → UnitPlace → List Branch
+first_ways image rest unit = first_branch image rest unit ∷ []
 
 abbrev pub nothing_held : List ℕ → Rest → ℕ → Held
-nothing_held image rest size = record { image = image; rest = rest; size = size; opened = none_opened; units = [] }
+nothing_held image rest size = record { image = image; rest = rest; size = size; opened = none_opened; units = λ k. first_ways image rest (unit_at size k) }
 
 abbrev pub has_way : List Branch → Bool
 has_way [] = false
 has_way (e ∷ es) = true
 
-abbrev pub place_of : ℕ → HeldUnit → UnitPlace
-place_of size u = record { first = u.first; size = size }
+-- The units that an event touches. ----
 
-abbrev pub is_unit : ℕ → HeldUnit → Bool
-is_unit first u = u.first == first
+-- the first address of an operation, and how many bytes it has
+abbrev pub bytes_of_open : Option Operation → ℕ × ℕ
+bytes_of_open None = (0, 0)
+bytes_of_open (Some o) = (o.address, o.length)
 
--- whether the unit that begins there is kept
-abbrev pub is_listed : ℕ → List HeldUnit → Bool
-is_listed first us = list_any (is_unit first) us
+-- those of the operation that an event requests or answers
+abbrev pub covered : Opened → HistoryEvent → ℕ × ℕ
+covered o (LoadRequest number address n) = (address, n)
+covered o (LoadResponse number bytes) = bytes_of_open (find (has_number number) o.loads)
+covered o (StoreRequest number address bytes enables) = (address, length bytes.now)
+covered o (StoreResponse number) = bytes_of_open (find (has_number number) o.stores)
 
--- whether an event changes what is kept of a unit that no operation has touched
-abbrev pub is_touched : UnitPlace → HistoryEvent → Bool
-is_touched unit (LoadRequest number address n) = is_at unit address n
-is_touched unit (StoreRequest number address bytes enables) = list_any is_some (at_unit unit (stored_byte address bytes.now enables))
-is_touched unit event = false
+-- how many units bytes lie in
+abbrev pub units_of : ℕ → ℕ → ℕ → ℕ
+units_of size address length = (min (address + length) 18446744073709551616 - 1) / size - address / size + 1
 
-abbrev pub unit_after : ℕ → HistoryEvent → HeldUnit → HeldUnit
-unit_after size event u = record { first = u.first; branches = branches_after (place_of size u) u.branches event }
+-- whether bytes lie in unit k
+abbrev pub is_among : ℕ → ℕ × ℕ → ℕ → Bool
+is_among size p k = nat_le (p.0 / size) k && nat_lt k (p.0 / size + units_of size p.0 p.1)
 
-abbrev pub units_after : ℕ → HistoryEvent → List HeldUnit → List HeldUnit
-units_after size event us = map (unit_after size event) us
+-- An event. ----
 
--- whether an event needs more ways than the limit at one of these units
-abbrev pub is_wide_at : ℕ → ℕ → HistoryEvent → HeldUnit → Bool
-is_wide_at limit size event u = is_too_wide limit (place_of size u) u.branches event
+abbrev pub ways_after : Held → HistoryEvent → ℕ → List Branch
+ways_after h event k = branches_after (unit_at h.size k) (h.units k) event
 
-abbrev pub is_wide : ℕ → ℕ → HistoryEvent → List HeldUnit → Bool
-is_wide limit size event us = list_any (is_wide_at limit size event) us
+-- what is kept of unit k after an event
+abbrev pub unit_after : Held → HistoryEvent → ℕ → List Branch
+unit_after h event k = if is_among h.size (covered h.opened event) k then ways_after h event k else h.units k
 
--- the lowest unit that has no way left
-abbrev pub lower : Option ℕ → ℕ → ℕ
-lower None k = k
-lower (Some j) k = min j k
+-- whether no way is left, where there was one
+abbrev pub is_without : List Branch → List Branch → Bool
+is_without before after = has_way before && not (has_way after)
 
-abbrev pub lowest_of : Option ℕ → HeldUnit → Option ℕ
-lowest_of o u = if has_way u.branches then o else Some (lower o u.first)
+-- whether an event leaves a unit no way, which had one
+abbrev pub is_stuck : Held → HistoryEvent → ℕ → Bool
+is_stuck h event k = is_without (h.units k) (ways_after h event k)
 
-abbrev pub lowest : List HeldUnit → Option ℕ
-lowest us = fold lowest_of None us
+-- what is kept after an event of n units from number k on
+abbrev pub ways_from : Held → HistoryEvent → ℕ → ℕ → List (List Branch)
+ways_from h event k zero = []
+ways_from h event k (suc n) = ways_after h event k ∷ ways_from h event (k + 1) n
 
--- what is kept after an event of the law
-abbrev pub held_after : Held → HistoryEvent → Held
-held_after h event = record { image = h.image; rest = h.rest; size = h.size; opened = opened_after h.opened event; units = units_after h.size event h.units }
+-- the first of n units from number k on that an event leaves no way
+abbrev pub stuck_from : Held → HistoryEvent → ℕ → ℕ → Option ℕ
+stuck_from h event k zero = None
+stuck_from h event k (suc n) = if is_stuck h event k then Some k else stuck_from h event (k + 1) n
+
+abbrev pub first_stuck : Held → HistoryEvent → Option ℕ
+first_stuck h event =
+    let p = covered h.opened event in stuck_from h event (p.0 / h.size) (units_of h.size p.0 p.1)
+
+-- whether an event needs more ways than the limit at one of n units from number k on
+abbrev pub wide_from : ℕ → Held → HistoryEvent → ℕ → ℕ → Bool
+wide_from limit h event k zero = false
+wide_from limit h event k (suc n) = is_too_wide limit (unit_at h.size k) (h.units k) event || wide_from limit h event (k + 1) n
+
+abbrev pub is_wide : ℕ → Held → HistoryEvent → Bool
+is_wide limit h event = let p = covered h.opened event in wide_from limit h event (p.0 / h.size) (units_of h.size p.0 p.1)
+
+-- Of which histories it is kept. ----
 
 -- the ways of this unit are those of the history
 abbrev pub Stands : List ℕ → Rest → List HistoryEvent → UnitPlace → List Branch → Type 0
 Stands image rest history unit es = StandsFor (untouched image rest unit) unit es history
 
-abbrev pub first_ways : List ℕ → Rest → UnitPlace → List Branch
-first_ways image rest unit = first_branch image rest unit ∷ []
+-- whether unit k is among those that were forgotten
+abbrev pub is_lost : ℕ → List ℕ → Bool
+is_lost k lost = list_any (λ j. j == k) lost
 
--- a unit that is kept is one of memory's
-abbrev pub IsAligned : ℕ → HeldUnit → Type 0
-IsAligned size u = (k : ℕ) × (u.first ≡ k * size)
+-- nothing is kept of a forgotten unit, and of another the ways that are the history's
+abbrev pub StandsAt : Held → List ℕ → List HistoryEvent → ℕ → Type 0
+StandsAt h lost history k =
+    ((is_lost k lost ≡ true) × (h.units k ≡ []))
+    ⊎ ((is_lost k lost ≡ false) × (Stands h.image h.rest history (unit_at h.size k) (h.units k) × (has_way (h.units k) ≡ true)))
 
--- what is kept is of this history
-pub record StandsForAll (h : Held) (history : List HistoryEvent) : Type 0 where
+-- what is kept is of this history, once these units were forgotten
+pub record StandsBut (h : Held) (lost : List ℕ) (history : List HistoryEvent) : Type 0 where
   pub sized : 1 ≤ h.size
   pub formed : is_formed none_opened history ≡ true
   pub opened : h.opened ≡ opened_by history
-  pub aligned : Each (IsAligned h.size) h.units
-  pub listed : Each (λ u. Stands h.image h.rest history (place_of h.size u) u.branches × (has_way u.branches ≡ true)) h.units
-  pub others : (k : ℕ) → is_listed (k * h.size) h.units ≡ false → Stands h.image h.rest history (unit_at h.size k) (first_ways h.image h.rest (unit_at h.size k))
+  pub units : (k : ℕ) → StandsAt h lost history k
 
--- Units that an event touches first. ----
-
-abbrev pub fresh_unit : List ℕ → Rest → UnitPlace → HeldUnit
-fresh_unit image rest unit = record { first = unit.first; branches = first_ways image rest unit }
-
-abbrev pub cons_unless : Bool → HeldUnit → List HeldUnit → List HeldUnit
-cons_unless true u us = us
-cons_unless false u us = u ∷ us
-
--- of so many units from number k on, those that aren't kept
-abbrev pub fresh_from : List ℕ → Rest → ℕ → List HeldUnit → ℕ → ℕ → List HeldUnit
-fresh_from image rest size us k zero = []
-fresh_from image rest size us k (suc n) = cons_unless (is_listed (k * size) us) (fresh_unit image rest (unit_at size k)) (fresh_from image rest size us (k + 1) n)
-
--- how many units bytes lie in
-abbrev pub units_of : ℕ → ℕ → ℕ → ℕ
-units_of size address length = (address + length - 1) / size - address / size + 1
-
--- those that an event touches first
-abbrev pub fresh : List ℕ → Rest → ℕ → List HeldUnit → HistoryEvent → List HeldUnit
-fresh image rest size us (LoadRequest number address n) = fresh_from image rest size us (address / size) (units_of size address n)
-fresh image rest size us (StoreRequest number address bytes enables) = fresh_from image rest size us (address / size) (units_of size address (length bytes.now))
-fresh image rest size us event = []
-
--- what is kept, with those
-abbrev pub with_fresh : Held → HistoryEvent → Held
-with_fresh h event = record { image = h.image; rest = h.rest; size = h.size; opened = h.opened; units = h.units ++ fresh h.image h.rest h.size h.units event }
+-- what is kept is of this history, and no unit was forgotten
+abbrev pub StandsForAll : Held → List HistoryEvent → Type 0
+StandsForAll h history = StandsBut h [] history

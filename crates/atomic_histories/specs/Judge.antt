@@ -1,21 +1,26 @@
 -- What an `AtomicMemory` keeps, and what the answers of its calls say.
-use Rattle.std.specs.Prelude.{ℕ, ◌≡◌, ◌-◌, ◌⊎◌, Bool, true, false, List, [], ◌∷◌, ◌++◌, map, Option, Some, None}
+use Rattle.std.specs.Prelude.{ℕ, ◌≡◌, ◌+◌, ◌-◌, ◌*◌, ◌/◌, ◌⊎◌, ◌==◌, if◌then◌else◌, nat_eq, true, List, [], ◌∷◌, ◌++◌, Option, Some, None}
 use Rattle.std.specs.List.{find}
+use Rattle.std.specs.HashMap.{get}
 use Rattle.memory_histories.specs.declared.events.HistoryEvent.{HistoryEvent}
-use Rattle.memory_histories.specs.declared.events.HistoryEvent.TheVariants.{LoadRequest, LoadResponse, StoreRequest, StoreResponse}
+use Rattle.memory_histories.specs.declared.events.HistoryEvent.TheVariants.{LoadResponse}
 use Rattle.memory_histories.specs.declared.events.HistoryFault.TheVariants.{WrongByte}
+use Rattle.memory_histories.specs.declared.events.Rest.{Rest}
 use Rattle.atomic_histories.specs.declared.unit.Operation.{Operation}
+use Rattle.atomic_histories.specs.declared.unit.UnitPlace.{UnitPlace}
+use Rattle.atomic_histories.specs.declared.memory.KeptUnit.{KeptUnit}
 use Rattle.atomic_histories.specs.declared.search.Stop.{Stop}
 use Rattle.atomic_histories.specs.declared.search.Stop.TheVariants.{TooManyWays, NoMemory}
 use Rattle.atomic_histories.specs.declared.memory.UnitSize.{UnitSize}
 use Rattle.atomic_histories.specs.declared.memory.UnitSize.TheVariants.{One, Two, Four, Eight}
-use Rattle.atomic_histories.specs.declared.memory.KeptUnit.{KeptUnit}
 use Rattle.atomic_histories.specs.declared.memory.AtomicFault.{AtomicFault}
 use Rattle.atomic_histories.specs.declared.memory.AtomicFault.TheVariants.{Refused, Undecided, OutOfMemory}
 use Rattle.atomic_histories.specs.declared.memory.AtomicMemory.{AtomicMemory}
-use Rattle.atomic_histories.specs.Operations.{Opened, opened_by, has_number, form_fault}
-use Rattle.atomic_histories.specs.Law.{IsAtomic, FaultIs}
-use Rattle.atomic_histories.specs.Held.{HeldUnit, Held, lowest, is_wide, held_after, with_fresh}
+use Rattle.atomic_histories.specs.Operations.{opened_by, opened_after, has_number, form_fault}
+use Rattle.atomic_histories.specs.Branches.{Branch, branches_after, is_too_wide}
+use Rattle.atomic_histories.specs.Law.{IsAtomic, FaultIs, unit_at}
+use Rattle.atomic_histories.specs.Lost.{IsAtomicBut, FaultIsBut}
+use Rattle.atomic_histories.specs.Held.{Held, first_ways, covered, units_of, is_without, ways_from, stuck_from, wide_from, unit_after, first_stuck, is_wide}
 use Rattle.atomic_histories.specs.Shown.{shown_all}
 
 abbrev pub bytes_of : UnitSize → ℕ
@@ -24,11 +29,16 @@ bytes_of Two = 2
 bytes_of Four = 4
 bytes_of Eight = 8
 
-abbrev pub shown_unit : KeptUnit → HeldUnit
-shown_unit u = record { first = u.first; branches = shown_all u.ways.items }
+-- the ways of a unit: those that are kept, or those before the first operation
+abbrev pub shown_unit : KeptUnit → List Branch
+shown_unit u = shown_all u.ways.items
 
-abbrev pub shown_units : List KeptUnit → List HeldUnit
-shown_units us = map shown_unit us
+abbrev pub kept_or : Option KeptUnit → List Branch → List Branch
+kept_or (Some u) first = shown_unit u
+kept_or None first = first
+
+abbrev pub kept_at : List ℕ → Rest → ℕ → (ℕ → Option KeptUnit) → ℕ → List Branch
+kept_at image rest size kept k = kept_or (kept k) (first_ways image rest (unit_at size k))
 
 -- what it keeps
 abbrev pub held : AtomicMemory → Held
@@ -37,8 +47,12 @@ held m = record {
   rest = m.rest;
   size = bytes_of m.size;
   opened = record { loads = m.loads.items; stores = m.stores.items };
-  units = shown_units m.units.items;
+  units = kept_at m.image.items m.rest (bytes_of m.size) (get nat_eq m.units);
 }
+
+-- what memory had before the first event, and the size of its units
+abbrev pub HasSameMemory : Held → Held → Type 0
+HasSameMemory h g = (h.image ≡ g.image) × (h.rest ≡ g.rest) × (h.size ≡ g.size)
 
 -- how many ways are followed at a time
 abbrev pub limit_of : AtomicMemory → ℕ
@@ -58,31 +72,66 @@ abbrev pub place_in : List Operation → HistoryEvent → ℕ → ℕ
 place_in loads (LoadResponse number bytes) first = place_from (find (has_number number) loads) first
 place_in loads event first = 0
 
--- there is no verdict: more ways than the limit were needed, or there was too little memory
-abbrev pub IsNoVerdict : Bool → AtomicFault → Type 0
-IsNoVerdict wide (Refused cause) = ⊥
-IsNoVerdict wide Undecided = wide ≡ true
-IsNoVerdict wide OutOfMemory = Unit {0}
+-- units with these put at number k and those behind it
+abbrev pub put_from : (ℕ → Option KeptUnit) → ℕ → List KeptUnit → ℕ → Option KeptUnit
+put_from f k [] j = f j
+put_from f k (u ∷ us) j = if k == j then Some u else put_from f (k + 1) us j
 
--- what is kept after an event of the law
-abbrev pub after : Held → HistoryEvent → Held
-after h event = held_after (with_fresh h event) event
+-- why a unit has no ways after an event
+abbrev pub ChangedFaultIs : ℕ → UnitPlace → List Branch → HistoryEvent → List Operation → AtomicFault → Type 0
+ChangedFaultIs limit unit es event loads (Refused cause) = (is_without es (branches_after unit es event) ≡ true) × (cause ≡ WrongByte (place_in loads event unit.first))
+ChangedFaultIs limit unit es event loads Undecided = is_too_wide limit unit es event ≡ true
+ChangedFaultIs limit unit es event loads OutOfMemory = Unit {0}
+
+abbrev pub UnitFaultIs : ℕ → Held → HistoryEvent → ℕ → AtomicFault → Type 0
+UnitFaultIs limit h event k fault = ChangedFaultIs limit (unit_at h.size k) (h.units k) event h.opened.loads fault
+
+-- why n units from number k on have none
+abbrev pub ChangeFaultIs : ℕ → Held → HistoryEvent → ℕ → ℕ → AtomicFault → Type 0
+ChangeFaultIs limit h event k n (Refused cause) = (j : ℕ) × (stuck_from h event k n ≡ Some j) × (cause ≡ WrongByte (place_in h.opened.loads event (j * h.size)))
+ChangeFaultIs limit h event k n Undecided = wide_from limit h event k n ≡ true
+ChangeFaultIs limit h event k n OutOfMemory = Unit {0}
+
+-- what the units that an event touches have after it, if it is of the law
+pub record IsLeft (h : Held) (event : HistoryEvent) (found : List (List Branch)) : Type 0 where
+  pub formed : form_fault h.opened event ≡ None
+  pub left : first_stuck h event ≡ None
+  pub ways : found ≡ (let p = covered h.opened event in ways_from h event (p.0 / h.size) (units_of h.size p.0 p.1))
 
 -- an event that is not malformed and leaves each unit a way
 pub record IsTaken (h : Held) (event : HistoryEvent) (next : Held) : Type 0 where
   pub formed : form_fault h.opened event ≡ None
-  pub ways : lowest (after h event).units ≡ None
-  pub kept : next ≡ after h event
+  pub ways : first_stuck h event ≡ None
+  pub image : next.image ≡ h.image
+  pub rest : next.rest ≡ h.rest
+  pub size : next.size ≡ h.size
+  pub opened : next.opened ≡ opened_after h.opened event
+  pub units : (k : ℕ) → next.units k ≡ unit_after h event k
+
+-- one unit is forgotten
+pub record IsForgotten (h : Held) (number : ℕ) (next : Held) : Type 0 where
+  pub image : next.image ≡ h.image
+  pub rest : next.rest ≡ h.rest
+  pub size : next.size ≡ h.size
+  pub opened : next.opened ≡ h.opened
+  pub units : (k : ℕ) → next.units k ≡ (if number == k then [] else h.units k)
 
 -- what each fault of a step says of the event, over what is kept and over the history
 abbrev pub KeptFaultIs : ℕ → Held → HistoryEvent → AtomicFault → Type 0
 KeptFaultIs limit h event (Refused cause) =
     (form_fault h.opened event ≡ Some cause)
-    ⊎ ((form_fault h.opened event ≡ None) × ((first : ℕ) × (lowest (after h event).units ≡ Some first) × (cause ≡ WrongByte (place_in h.opened.loads event first))))
-KeptFaultIs limit h event Undecided = (form_fault h.opened event ≡ None) × (is_wide limit h.size event (with_fresh h event).units ≡ true)
+    ⊎ ((form_fault h.opened event ≡ None) × ((k : ℕ) × (first_stuck h event ≡ Some k) × (cause ≡ WrongByte (place_in h.opened.loads event (k * h.size)))))
+KeptFaultIs limit h event Undecided = (form_fault h.opened event ≡ None) × (is_wide limit h event ≡ true)
 KeptFaultIs limit h event OutOfMemory = form_fault h.opened event ≡ None
 
 abbrev pub StepFaultIs : ℕ → Held → List HistoryEvent → HistoryEvent → AtomicFault → Type 0
 StepFaultIs limit h history event (Refused cause) = FaultIs h.image h.rest h.size history event cause × ¬ (IsAtomic h.image h.rest h.size (history ++ event ∷ []))
-StepFaultIs limit h history event Undecided = (form_fault (opened_by history) event ≡ None) × (is_wide limit h.size event (with_fresh h event).units ≡ true)
+StepFaultIs limit h history event Undecided = (form_fault (opened_by history) event ≡ None) × (is_wide limit h event ≡ true)
 StepFaultIs limit h history event OutOfMemory = form_fault (opened_by history) event ≡ None
+
+-- the same once units were forgotten
+abbrev pub StepFaultIsBut : List ℕ → ℕ → Held → List HistoryEvent → HistoryEvent → AtomicFault → Type 0
+StepFaultIsBut lost limit h history event (Refused cause) =
+    FaultIsBut lost h.image h.rest h.size history event cause × ¬ (IsAtomicBut lost h.image h.rest h.size (history ++ event ∷ []))
+StepFaultIsBut lost limit h history event Undecided = (form_fault (opened_by history) event ≡ None) × (is_wide limit h event ≡ true)
+StepFaultIsBut lost limit h history event OutOfMemory = form_fault (opened_by history) event ≡ None

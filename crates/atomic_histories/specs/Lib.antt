@@ -5,5 +5,7 @@ pub mod Branches
 pub mod Stands
 pub mod Shown
 pub mod Held
+pub mod Lost
+pub mod May
 pub mod Judge
 pub mod Examples

@@ -1,11 +1,10 @@
 -- Of which histories the ways that are followed at a unit are all that there may be.
-use Rattle.std.specs.Prelude.{ℕ, ◌≡◌, ◌≤◌, ◌⊎◌, Bool, true, false, List, [], ◌∷◌, ◌++◌, drop, length, Option, Some, None}
+use Rattle.std.specs.Prelude.{ℕ, ◌≡◌, ◌≤◌, ◌⊎◌, false, List, [], ◌∷◌, ◌++◌, drop, length, Option, Some, None}
 use Rattle.memory_histories.specs.declared.events.HistoryEvent.{HistoryEvent}
-use Rattle.memory_histories.specs.declared.events.Rest.{Rest}
 use Rattle.atomic_histories.specs.declared.unit.OpenStore.{OpenStore}
 use Rattle.atomic_histories.specs.declared.unit.WatchedLoad.{WatchedLoad}
 use Rattle.atomic_histories.specs.declared.unit.UnitPlace.{UnitPlace}
-use Rattle.atomic_histories.specs.Law.{OpenLoad, UnitMemory, MayBe, untouched}
+use Rattle.atomic_histories.specs.Law.{OpenLoad, UnitMemory, MayBe}
 use Rattle.atomic_histories.specs.Branches.{Branch, effect_of}
 
 -- of each, of one of them

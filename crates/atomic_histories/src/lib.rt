@@ -5,9 +5,11 @@
 #![tactic(auto)]
 
 mod forms;
+mod may;
 mod memory;
 mod search;
 mod unit;
+mod units;
 mod ways;
 mod words;
 

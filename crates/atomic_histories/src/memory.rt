@@ -1,22 +1,27 @@
 //! The judge of the atomic law.
 
-ghost use Rattle.std.specs.Prelude.{◌≡◌, ◌+◌, ◌-◌, ◌*◌, ◌/◌, ◌^◌, ◌<◌, ◌≤◌, List, ◌++◌, ◌∷◌, [], ◌==◌, true, length, None, Some, map, IfOk, IfErr, OnOk, OnErr};
-ghost use Rattle.std.specs.List.{filter, find, list_any};
+ghost use Rattle.std.specs.Prelude.{◌≡◌, ◌+◌, ◌*◌, ◌/◌, ◌^◌, ◌<◌, ◌≤◌, List, ◌++◌, ◌∷◌, [], ℕ, false, map, length, None, IfOk, IfErr, IfSome, IfNone, OnOk, OnErr};
+ghost use Rattle.std.specs.HashMap.{spare};
+ghost use Rattle.std.specs.List.{find};
 ghost use Rattle.memory_histories.specs.declared.events.HistoryEvent.{HistoryEvent};
-ghost use Rattle.memory_histories.specs.Regular.{is_inside};
-ghost use Rattle.atomic_histories.specs.Operations.{opened_after, form_fault};
+ghost use Rattle.atomic_histories.specs.Operations.{opened_after, form_fault, has_number};
 ghost use Rattle.atomic_histories.specs.Law.{IsAtomic};
-ghost use Rattle.atomic_histories.specs.Held.{nothing_held, is_wide, units_after, lowest, lower, is_listed, cons_unless, fresh_unit, fresh_from, fresh, units_of, with_fresh, StandsForAll};
-ghost use Rattle.atomic_histories.specs.Shown.{StopIs};
-ghost use Rattle.atomic_histories.specs.Judge.{bytes_of, held, limit_of, shown_unit, shown_units, place_from, place_in, IsNoVerdict, IsTaken, KeptFaultIs, StepFaultIs};
+ghost use Rattle.atomic_histories.specs.Lost.{IsAtomicBut};
+ghost use Rattle.atomic_histories.specs.Held.{nothing_held, covered, ways_after, ways_from, is_stuck, stuck_from, StandsForAll, StandsBut};
+ghost use Rattle.atomic_histories.specs.May.{AreSetsOf, HasSets, address_of, LoadFaultIs, IsNoVerdict, set_at, sets_from, are_wide_from, is_reach_wide};
+ghost use Rattle.atomic_histories.specs.Judge.{bytes_of, held, limit_of, shown_unit, HasSameMemory, IsTaken, IsForgotten, IsLeft, UnitFaultIs, ChangeFaultIs, KeptFaultIs, StepFaultIs, StepFaultIsBut};
 
 use crate::forms::{close, form_fault, open_under};
-use crate::search::{Stop, ways_after};
+use crate::may::ways_set;
+use crate::search::Stop;
 use crate::unit::{Operation, UnitPlace};
+use crate::units::{
+    add_unit, changed_unit, covered, put_unit, put_units, units_of, untouched_unit,
+};
 use crate::ways::Way;
-use crate::words::initial_word;
-use memory_histories::{HistoryEvent, HistoryFault, Rest};
+use memory_histories::{ByteSet, HistoryEvent, HistoryFault, Rest};
 use std::alloc::{AllocError, Global};
+use std::collections::HashMap;
 use thiserror::Error;
 
 /// How many ways are followed at a unit, unless the caller says otherwise.
@@ -45,11 +50,10 @@ impl UnitSize {
     }
 }
 
-/// A unit that an operation has touched, and the ways that it may have gone.
+/// The ways that a unit may have gone which an operation has touched: none once it was forgotten.
 #[derive(Drop)]
 pub struct KeptUnit {
-    first: u64,
-    ways: Vec<Way>,
+    pub(crate) ways: Vec<Way>,
 }
 
 /// Why an event was not taken. After each of these what is kept stands for the same histories as before.
@@ -101,133 +105,7 @@ pub struct AtomicMemory {
     limit: usize,
     loads: Vec<Operation>,
     stores: Vec<Operation>,
-    units: Vec<KeptUnit>,
-}
-
-// Whether the unit that begins there is kept.
-fn is_listed(units: &[KeptUnit], first: u64) -> bool
-    ensures { result ≡ list_any (λ u. u.first == first) units.now }
-{
-    units.iter().any(|unit| unit.first == first)
-}
-
-// The lowest unit that has no way left.
-#[tactic(auto, using(crate::proofs::Ranges::way_shown))]
-fn lowest(units: &[KeptUnit]) -> Option<u64>
-    ensures { result ≡ lowest (shown_units units.now) }
-{
-    let mut lowest = None;
-    for unit in units {
-        if unit.ways.is_empty() {
-            lowest = Some(lower(lowest, unit.first));
-        }
-    }
-    lowest
-}
-
-fn lower(lowest: Option<u64>, first: u64) -> u64
-    ensures { result ≡ lower lowest first }
-{
-    match lowest {
-        None => first,
-        Some(other) => other.min(first),
-    }
-}
-
-fn add_unit(units: &mut Vec<KeptUnit>, unit: KeptUnit) -> Result<(), AllocError>
-    ensures { OnOk result (units.new.items ≡ units.old.items ++ unit ∷ []) }
-{
-    units.push(unit)?;
-    Ok(())
-}
-
-// The units after an event.
-#[tactic(auto, using(crate::proofs::Ranges::stop_at))]
-fn units_after(
-    alloc: Global,
-    size: u64,
-    units: &[KeptUnit],
-    event: HistoryEvent,
-    limit: usize,
-) -> Result<Vec<KeptUnit>, Stop>
-    ensures after { IfOk result (λ after. shown_units after.items ≡ units_after size event.entry (shown_units units.now)) }
-    ensures stop { IfErr result (StopIs (is_wide limit size event.entry (shown_units units.now))) }
-{
-    let mut after = Vec::new(alloc);
-    for unit in units {
-        let first = unit.first;
-        let place = UnitPlace { first, size };
-        let ways = ways_after(alloc, place, unit.ways.as_slice(), event, limit)?;
-        add_unit(&mut after, KeptUnit { first, ways })?;
-    }
-    Ok(after)
-}
-
-// The unit that begins there, unless it is kept.
-fn add_fresh(
-    fresh: &mut Vec<KeptUnit>,
-    alloc: Global,
-    memory: (&[u8], Rest, u64),
-    units: &[KeptUnit],
-    first: u64,
-) -> Result<(), AllocError>
-    ensures { OnOk result (shown_units fresh.new.items ≡ shown_units fresh.old.items ++ cons_unless (is_listed first (shown_units units.now)) (fresh_unit memory.entry.0.now memory.entry.1 (record { first = first; size = memory.entry.2 })) []) }
-{
-    if is_listed(units, first) {
-        return Ok(());
-    }
-    let (image, rest, size) = memory;
-    let unit = untouched_unit(alloc, UnitPlace { first, size }, image, rest)?;
-    fresh.push(unit)?;
-    Ok(())
-}
-
-#[tactic(auto, using(crate::proofs::Ranges::unit_below, crate::proofs::Ranges::number_below, crate::proofs::Ranges::fresh_more))]
-// Those of so many units from number `from` on that aren't kept, as no operation has touched them.
-fn fresh_from(
-    alloc: Global,
-    memory: (&[u8], Rest, u64),
-    units: &[KeptUnit],
-    from: u64,
-    count: u64,
-) -> Result<Vec<KeptUnit>, AllocError>
-    requires sized { 1 ≤ memory.2 }
-    requires fits { (from + count) * memory.2 ≤ 2 ^ 64 }
-    ensures { IfOk result (λ fresh. shown_units fresh.items ≡ fresh_from memory.entry.0.now memory.entry.1 memory.entry.2 (shown_units units.now) from count) }
-{
-    let mut fresh = Vec::new(alloc);
-    for j in 0..count {
-        add_fresh(&mut fresh, alloc, memory, units, (from + j) * memory.2)?;
-    }
-    Ok(fresh)
-}
-
-// A unit that no operation has touched.
-fn untouched_unit(
-    alloc: Global,
-    place: UnitPlace,
-    image: &[u8],
-    rest: Rest,
-) -> Result<KeptUnit, AllocError>
-    ensures { IfOk result (λ u. shown_unit u ≡ fresh_unit image.now rest place) }
-{
-    let mut ways = Vec::new(alloc);
-    ways.push(Way::untouched(alloc, initial_word(place, image, rest)))?;
-    Ok(KeptUnit {
-        first: place.first,
-        ways,
-    })
-}
-
-// How many units bytes lie in.
-#[tactic(auto, using(crate::proofs::Ranges::units_fit))]
-fn units_of(size: UnitSize, address: u64, length: usize) -> u64
-    requires { is_inside address length ≡ true }
-    ensures counts { result ≡ units_of (bytes_of size) address length }
-    ensures fits { (address / bytes_of size + result) * bytes_of size ≤ 2 ^ 64 }
-{
-    let last = address + (length as u64 - 1);
-    last / size.bytes() - address / size.bytes() + 1
+    units: HashMap<u64, KeptUnit>,
 }
 
 #[tactic(auto)]
@@ -246,6 +124,19 @@ impl AtomicMemory {
         ensures stands { IfOk result (λ m. StandsForAll (held m) []) }
         ensures limit { IfOk result (λ m. limit_of m ≡ limit) }
     {
+        AtomicMemory::untouched(alloc, size, limit, image, rest)
+    }
+
+    fn untouched(
+        alloc: Global,
+        size: UnitSize,
+        limit: usize,
+        image: &[u8],
+        rest: Rest,
+    ) -> Result<AtomicMemory, AllocError>
+        ensures held { IfOk result (λ m. held m ≡ nothing_held image.now rest (bytes_of size)) }
+        ensures limit { IfOk result (λ m. limit_of m ≡ limit) }
+    {
         let image = Vec::from_slice(alloc, image)?;
         Ok(AtomicMemory {
             alloc,
@@ -255,7 +146,7 @@ impl AtomicMemory {
             limit,
             loads: Vec::new(alloc),
             stores: Vec::new(alloc),
-            units: Vec::new(alloc),
+            units: HashMap::new(alloc),
         })
     }
 
@@ -265,33 +156,156 @@ impl AtomicMemory {
     /// the history with the event. After each fault everything is as it was. A refusal says that the
     /// history with the event is none of the law, and names the first fault in the order of
     /// [`HistoryFault`]; its `WrongByte` has the place of the answer's first byte in the lowest unit at
-    /// which there are no moments.
+    /// which there are no moments. What is seen of a unit that was forgotten counts for nothing.
     pub fn step(&mut self, event: HistoryEvent) -> Result<(), AtomicFault>
         ensures ok { (history : List HistoryEvent) → StandsForAll (held self.old) history → OnOk result (IsAtomic (held self.old).image (held self.old).rest (held self.old).size (history ++ event.entry ∷ []) × StandsForAll (held self.new) (history ++ event.entry ∷ [])) }
         ensures fault { (history : List HistoryEvent) → StandsForAll (held self.old) history → IfErr result (StepFaultIs (limit_of self.old) (held self.old) history event.entry) }
+        ensures ok_but { (lost : List ℕ) → (history : List HistoryEvent) → StandsBut (held self.old) lost history → OnOk result (IsAtomicBut lost (held self.old).image (held self.old).rest (held self.old).size (history ++ event.entry ∷ []) × StandsBut (held self.new) lost (history ++ event.entry ∷ [])) }
+        ensures fault_but { (lost : List ℕ) → (history : List HistoryEvent) → StandsBut (held self.old) lost history → IfErr result (StepFaultIsBut lost (limit_of self.old) (held self.old) history event.entry) }
         ensures unchanged { OnErr result (held self.new ≡ held self.old) }
+        ensures memory { HasSameMemory (held self.new) (held self.old) }
         ensures limit { limit_of self.new ≡ limit_of self.old }
     {
         self.kept_step(event)
     }
 
+    /// What [`step`](AtomicMemory::step) would answer, with nothing changed: `None` if it would take the
+    /// event.
+    pub fn fault(&self, event: HistoryEvent) -> Option<AtomicFault>
+        ensures none { (history : List HistoryEvent) → StandsForAll (held self.now) history → IfNone result (IsAtomic (held self.now).image (held self.now).rest (held self.now).size (history ++ event.entry ∷ [])) }
+        ensures some { (history : List HistoryEvent) → StandsForAll (held self.now) history → IfSome result (StepFaultIs (limit_of self.now) (held self.now) history event.entry) }
+        ensures none_but { (lost : List ℕ) → (history : List HistoryEvent) → StandsBut (held self.now) lost history → IfNone result (IsAtomicBut lost (held self.now).image (held self.now).rest (held self.now).size (history ++ event.entry ∷ [])) }
+        ensures some_but { (lost : List ℕ) → (history : List HistoryEvent) → StandsBut (held self.now) lost history → IfSome result (StepFaultIsBut lost (limit_of self.now) (held self.now) history event.entry) }
+    {
+        match self.changes(event) {
+            Ok(_changes) => None,
+            Err(fault) => Some(fault),
+        }
+    }
+
+    /// What the load that is open under this number may return if it ended now: for each of its bytes, in
+    /// the order of its answer, the set of all. Each set is of its byte alone: that one byte may be
+    /// returned and another may be returned doesn't say that they may be returned together.
+    ///
+    /// `Refused` has the cause `NotOpen`: no load is open under the number. `Undecided`: the ways lead to
+    /// more ways than the limit at a time, and nothing is known of the sets.
+    pub fn may_return(&self, number: u64) -> Result<Vec<ByteSet>, AtomicFault>
+        ensures ok { (lost : List ℕ) → (history : List HistoryEvent) → StandsBut (held self.now) lost history → IfOk result (λ sets. AreSetsOf lost (held self.now).image (held self.now).rest (held self.now).size history number sets.items) }
+        ensures fault { IfErr result (LoadFaultIs (limit_of self.now) (held self.now) (find (has_number number) (held self.now).opened.loads)) }
+    {
+        self.kept_sets(number)
+    }
+
+    fn kept_sets(&self, number: u64) -> Result<Vec<ByteSet>, AtomicFault>
+        ensures ok { IfOk result (λ sets. HasSets (held self.now) number sets.items) }
+        ensures fault { IfErr result (LoadFaultIs (limit_of self.now) (held self.now) (find (has_number number) (held self.now).opened.loads)) }
+    {
+        match open_under(self.loads.as_slice(), number) {
+            None => Err(AtomicFault::Refused(HistoryFault::NotOpen)),
+            Some(load) => self.sets_from(number, load.address, load.length),
+        }
+    }
+
+    // What the load under this number may return, of so many bytes from an address on.
+    #[tactic(auto, using(crate::proofs::Ranges::sets_more))]
+    fn sets_from(
+        &self,
+        number: u64,
+        address: u64,
+        length: usize,
+    ) -> Result<Vec<ByteSet>, AtomicFault>
+        ensures sets { IfOk result (λ sets. sets.items ≡ sets_from (held self.now) number address 0 length) }
+        ensures fault { IfErr result (IsNoVerdict (are_wide_from (limit_of self.now) (held self.now) address 0 length)) }
+    {
+        let mut sets = Vec::new(self.alloc);
+        for i in 0..length {
+            let set = self.set_at(number, byte_address(address, i))?;
+            push_set(&mut sets, set)?;
+        }
+        Ok(sets)
+    }
+
+    // Of the byte at an address.
+    #[tactic(auto, using(crate::proofs::Ranges::lane_below, crate::proofs::Ranges::untouched_set))]
+    fn set_at(&self, number: u64, address: u64) -> Result<ByteSet, AtomicFault>
+        ensures set { IfOk result (λ set. set ≡ set_at (held self.now) number address) }
+        ensures fault { IfErr result (IsNoVerdict (is_reach_wide (limit_of self.now) ((held self.now).units (address / (held self.now).size)))) }
+    {
+        let lane = (address % self.size.bytes()) as usize;
+        match self.units.get(&(address / self.size.bytes())) {
+            Some(unit) => {
+                let set = ways_set(self.alloc, unit.ways.as_slice(), number, lane, self.limit)?;
+                Ok(set)
+            }
+            None => Ok(ByteSet::none()),
+        }
+    }
+
+    /// Forgets the unit in which the byte at this address lies. From there on its bytes are unknown:
+    /// whatever a load returns there is allowed, what stores write there is not followed, and no event
+    /// is `Undecided` for its sake. The other units are judged on: an event is of the law if there are
+    /// moments at each unit that wasn't forgotten. `AllocError` says that there was too little memory:
+    /// everything is as it was.
+    pub fn forget(&mut self, address: u64) -> Result<(), AllocError>
+        ensures ok { (lost : List ℕ) → (history : List HistoryEvent) → StandsBut (held self.old) lost history → OnOk result (StandsBut (held self.new) (address / (held self.old).size ∷ lost) history) }
+        ensures unchanged { OnErr result (held self.new ≡ held self.old) }
+        ensures memory { HasSameMemory (held self.new) (held self.old) }
+        ensures limit { limit_of self.new ≡ limit_of self.old }
+    {
+        self.kept_forget(address / self.size.bytes())
+    }
+
+    // The unit of this number is forgotten.
+    fn kept_forget(&mut self, number: u64) -> Result<(), AllocError>
+        ensures ok { OnOk result (IsForgotten (held self.old) number (held self.new)) }
+        ensures unchanged { OnErr result (held self.new ≡ held self.old) }
+        ensures limit { limit_of self.new ≡ limit_of self.old }
+    {
+        self.reserve(1)?;
+        let ways = Vec::new(self.alloc);
+        put_unit(&mut self.units, number, KeptUnit { ways });
+        Ok(())
+    }
+
+    // The step over what is kept.
     fn kept_step(&mut self, event: HistoryEvent) -> Result<(), AtomicFault>
         ensures ok { OnOk result (IsTaken (held self.old) event.entry (held self.new)) }
         ensures fault { IfErr result (KeptFaultIs (limit_of self.old) (held self.old) event.entry) }
         ensures unchanged { OnErr result (held self.new ≡ held self.old) }
         ensures limit { limit_of self.new ≡ limit_of self.old }
     {
+        let changes = self.changes(event)?;
+        let (address, _length) = self.covered(event);
+        self.reserve(changes.len())?;
+        self.open_or_close(event)?;
+        put_units(&mut self.units, address / self.size.bytes(), changes);
+        Ok(())
+    }
+
+    // There is room for so many more units.
+    #[tactic(auto, using(crate::proofs::Ranges::same_units))]
+    fn reserve(&mut self, count: usize) -> Result<(), AllocError>
+        ensures held { held self.new ≡ held self.old }
+        ensures room { OnOk result (count ≤ spare self.new.units) }
+        ensures limit { limit_of self.new ≡ limit_of self.old }
+        ensures size { self.new.size ≡ self.old.size }
+    {
+        self.units.reserve(count)?;
+        Ok(())
+    }
+
+    // The ways of the units that an event touches, once it has come.
+    fn changes(&self, event: HistoryEvent) -> Result<Vec<KeptUnit>, AtomicFault>
+        ensures ok { IfOk result (λ us. IsLeft (held self.now) event.entry (map shown_unit us.items)) }
+        ensures fits { IfOk result (λ us. (covered (held self.now).opened event.entry).0 / (held self.now).size + length us.items ≤ 2 ^ 64) }
+        ensures fault { IfErr result (KeptFaultIs (limit_of self.now) (held self.now) event.entry) }
+    {
         if let Some(fault) = self.form_fault(event) {
             return Err(AtomicFault::Refused(fault));
         }
-        let after = self.units_with(event)?;
-        if let Some(first) = lowest(after.as_slice()) {
-            let place = place_in(self.loads.as_slice(), event, first);
-            return Err(AtomicFault::Refused(HistoryFault::WrongByte { place }));
-        }
-        self.open_or_close(event)?;
-        self.units = after;
-        Ok(())
+        let (address, length) = self.covered(event);
+        let count = units_of(self.size, address, length);
+        self.changes_from(event, address / self.size.bytes(), count)
     }
 
     // Why an event is malformed.
@@ -301,65 +315,54 @@ impl AtomicMemory {
         form_fault(self.loads.as_slice(), self.stores.as_slice(), event)
     }
 
-    // The units that an event touches first.
-    #[tactic(auto, using(crate::proofs::Ranges::sized))]
-    fn fresh(&self, event: HistoryEvent) -> Result<Vec<KeptUnit>, AllocError>
-        requires { form_fault (held self.now).opened event ≡ None }
-        ensures { IfOk result (λ f. shown_units f.items ≡ fresh (held self.now).image (held self.now).rest (held self.now).size (held self.now).units event.entry) }
+    // The first address of an event's operation, and how many bytes it has.
+    fn covered(&self, event: HistoryEvent) -> (u64, usize)
+        ensures { result ≡ covered (held self.now).opened event.entry }
     {
-        let memory = (self.image.as_slice(), self.rest, self.size.bytes());
-        let units = self.units.as_slice();
-        match event {
-            HistoryEvent::LoadRequest {
-                number: _,
-                address,
-                length,
-            } => {
-                let count = units_of(self.size, address, length);
-                fresh_from(
-                    self.alloc,
-                    memory,
-                    units,
-                    address / self.size.bytes(),
-                    count,
-                )
-            }
-            HistoryEvent::StoreRequest {
-                number: _,
-                address,
-                bytes,
-                enables: _,
-            } => {
-                let count = units_of(self.size, address, bytes.len());
-                fresh_from(
-                    self.alloc,
-                    memory,
-                    units,
-                    address / self.size.bytes(),
-                    count,
-                )
-            }
-            HistoryEvent::LoadResponse {
-                number: _,
-                bytes: _,
-            } => Ok(Vec::new(self.alloc)),
-            HistoryEvent::StoreResponse { number: _ } => Ok(Vec::new(self.alloc)),
-        }
+        covered(self.loads.as_slice(), self.stores.as_slice(), event)
     }
 
-    // All units after an event, with those that it touches first.
-    #[tactic(auto, using(crate::proofs::Ranges::stop_first, crate::proofs::Ranges::stop_second))]
-    fn units_with(&self, event: HistoryEvent) -> Result<Vec<KeptUnit>, AtomicFault>
-        requires { form_fault (held self.now).opened event ≡ None }
-        ensures ok { IfOk result (λ after. shown_units after.items ≡ units_after (held self.now).size event.entry (with_fresh (held self.now) event.entry).units) }
-        ensures fault { IfErr result (IsNoVerdict (is_wide (limit_of self.now) (held self.now).size event.entry (with_fresh (held self.now) event.entry).units)) }
+    // Of so many units from number `from` on.
+    #[tactic(auto, using(crate::proofs::Ranges::unit_below, crate::proofs::Ranges::number_below, crate::proofs::Ranges::sized, crate::proofs::Ranges::numbers_fit, crate::proofs::Ranges::ways_more, crate::proofs::Ranges::stuck_step))]
+    fn changes_from(
+        &self,
+        event: HistoryEvent,
+        from: u64,
+        count: u64,
+    ) -> Result<Vec<KeptUnit>, AtomicFault>
+        requires fits { (from + count) * bytes_of self.now.size ≤ 2 ^ 64 }
+        ensures units { IfOk result (λ us. map shown_unit us.items ≡ ways_from (held self.now) event.entry from count) }
+        ensures left { OnOk result (stuck_from (held self.now) event.entry from count ≡ None) }
+        ensures fits { IfOk result (λ us. from + length us.items ≤ 2 ^ 64) }
+        ensures fault { IfErr result (ChangeFaultIs (limit_of self.now) (held self.now) event.entry from count) }
     {
-        let fresh = self.fresh(event)?;
-        let size = self.size.bytes();
-        let mut after = units_after(self.alloc, size, self.units.as_slice(), event, self.limit)?;
-        let mut more = units_after(self.alloc, size, fresh.as_slice(), event, self.limit)?;
-        after.append(&mut more)?;
-        Ok(after)
+        let mut changes = Vec::new(self.alloc);
+        for j in 0..count {
+            let unit = self.changed(event, from + j)?;
+            add_unit(&mut changes, unit)?;
+        }
+        Ok(changes)
+    }
+
+    // The ways of one unit, once an event has come.
+    fn changed(&self, event: HistoryEvent, number: u64) -> Result<KeptUnit, AtomicFault>
+        requires fits { number * bytes_of self.now.size < 2 ^ 64 }
+        ensures unit { IfOk result (λ u. shown_unit u ≡ ways_after (held self.now) event.entry number) }
+        ensures left { OnOk result (is_stuck (held self.now) event.entry number ≡ false) }
+        ensures fault { IfErr result (UnitFaultIs (limit_of self.now) (held self.now) event.entry number) }
+    {
+        let place = UnitPlace {
+            first: number * self.size.bytes(),
+            size: self.size.bytes(),
+        };
+        let loads = self.loads.as_slice();
+        match self.units.get(&number) {
+            Some(unit) => changed_unit(self.alloc, place, unit, event, self.limit, loads),
+            None => {
+                let unit = untouched_unit(self.alloc, place, self.image.as_slice(), self.rest)?;
+                changed_unit(self.alloc, place, &unit, event, self.limit, loads)
+            }
+        }
     }
 
     // The operation of an event is open from now on, or it is answered.
@@ -367,6 +370,7 @@ impl AtomicMemory {
         ensures ok { OnOk result (held self.new ≡ record { image = (held self.old).image; rest = (held self.old).rest; size = (held self.old).size; opened = opened_after (held self.old).opened event.entry; units = (held self.old).units }) }
         ensures err { OnErr result (held self.new ≡ held self.old) }
         ensures limit { limit_of self.new ≡ limit_of self.old }
+        ensures kept { self.new.units ≡ self.old.units }
     {
         match event {
             HistoryEvent::LoadRequest {
@@ -400,23 +404,16 @@ impl AtomicMemory {
     }
 }
 
-// The place in an answer of the first byte that lies in the unit which begins there.
-fn place_in(loads: &[Operation], event: HistoryEvent, first: u64) -> usize
-    ensures { result ≡ place_in loads.now event.entry first }
+fn push_set(sets: &mut Vec<ByteSet>, set: ByteSet) -> Result<(), AllocError>
+    ensures { OnOk result (sets.new.items ≡ sets.old.items ++ set ∷ []) }
 {
-    match event {
-        HistoryEvent::LoadResponse { number, bytes: _ } => {
-            place_from(open_under(loads, number), first)
-        }
-        _ => 0,
-    }
+    sets.push(set)?;
+    Ok(())
 }
 
-fn place_from(load: Option<Operation>, first: u64) -> usize
-    ensures { result ≡ place_from load first }
+// The address of byte `i`.
+fn byte_address(address: u64, i: usize) -> u64
+    ensures { result ≡ address_of address i }
 {
-    match load {
-        None => 0,
-        Some(load) => first.saturating_sub(load.address) as usize,
-    }
+    address.saturating_add(i as u64)
 }

@@ -64,7 +64,7 @@ fn add_effects(alloc: Global, ways: &mut Vec<Way>, way: &Way) -> Result<(), Allo
 
 // One round of the search: those of the ways that are wanted are put out, and from the others stores
 // take effect.
-fn round(
+pub(crate) fn round(
     alloc: Global,
     ways: &[Way],
     wanted: Wanted,
@@ -87,7 +87,7 @@ fn round(
 
 // How many rounds the search takes at most, but for the first.
 #[tactic(auto, using(crate::proofs::Loops::rounds_shown))]
-fn rounds(ways: &[Way]) -> usize
+pub(crate) fn rounds(ways: &[Way]) -> usize
     ensures { result ≡ rounds (shown_all ways.now) }
 {
     ways.iter().fold(0, |most, way| most.max(way.stores.len()))
@@ -169,7 +169,7 @@ fn with_store(alloc: Global, ways: &[Way], number: u64, bytes: Word) -> Result<V
 }
 
 // The same ways.
-fn copied(alloc: Global, ways: &[Way]) -> Result<Vec<Way>, AllocError>
+pub(crate) fn copied(alloc: Global, ways: &[Way]) -> Result<Vec<Way>, AllocError>
     ensures { IfOk result (λ after. shown_all after.items ≡ shown_all ways.now) }
 {
     let mut after = Vec::new(alloc);

@@ -21,8 +21,10 @@ pub struct Way {
 }
 
 /// What an answer needs of a way: that a store has taken effect, or that a load may have got these bytes.
+/// There may be nothing that is enough.
 #[derive(Clone, Copy)]
 pub enum Wanted<'a> {
+    Never,
     Effect {
         number: u64,
     },
@@ -41,7 +43,7 @@ fn is_store(store: &OpenStore, number: u64) -> bool
 }
 
 // Whether a load has this number.
-fn is_watched(load: &WatchedLoad, number: u64) -> bool
+pub(crate) fn is_watched(load: &WatchedLoad, number: u64) -> bool
     ensures { result ≡ is_watched number load.now }
 {
     load.number == number
@@ -49,7 +51,7 @@ fn is_watched(load: &WatchedLoad, number: u64) -> bool
 
 // The words from one on.
 #[tactic(auto, using(crate::proofs::Loops::none_passed))]
-fn words_from(path: &[Word], since: usize) -> &[Word]
+pub(crate) fn words_from(path: &[Word], since: usize) -> &[Word]
     ensures { result.now ≡ drop since path.entry.now }
 {
     if since <= path.len() {
@@ -203,6 +205,7 @@ impl Way {
         ensures { result ≡ goal_of wanted.entry (shown self.now) }
     {
         match wanted {
+            Wanted::Never => false,
             Wanted::Effect { number } => self.has_effect(number),
             Wanted::Answer {
                 unit,
@@ -230,6 +233,7 @@ impl Way {
         ensures { shown self.new ≡ without_of wanted.entry (shown self.old) }
     {
         match wanted {
+            Wanted::Never => {}
             Wanted::Effect { number } => self.remove_store(number),
             Wanted::Answer {
                 unit: _,

@@ -1,0 +1,26 @@
+use Rattle.std.proofs.Common.{◌+◌, ◌-◌, ◌++◌, ◌∷◌, [], map, length, ap, ◌∙◌, length-append, arith}
+use Rattle.atomic_histories.specs.Held.{ways_from}
+use Rattle.atomic_histories.specs.Judge.{held, limit_of, shown_unit, ChangeFaultIs}
+use Rattle.atomic_histories.proofs.Ranges.{ways_more, stuck_step, fault_at, pass_on}
+use Rattle.atomic_histories.proofs.memory.AtomicMemory.changes_from.Goals as goal
+
+pub loop-j-preserved : goal.loop-j-preserved
+loop-j-preserved c =
+    let h = held c.args.self.now in
+    let items = c.in_ok-add_unit.ensures in
+    let many = ap length items in
+    let sum = length-append c.loop-j.changes.items (c.in_ok-unit.unit ∷ []) in
+    let before = c.loop-j.invariant.many in
+    let rest = ways_from h c.args.event (c.args.from + (c.loop-j.j + 1)) (c.args.count - (c.loop-j.j + 1)) in
+    record {
+      ways = ap (λ us. map shown_unit us ++ rest) items
+          ∙ (ways_more h c.args.event c.loop-j.changes.items c.in_ok-unit.unit c.args.from c.args.count c.loop-j.j c.loop-j-test.true c.in_ok-unit.ensures.unit ∙ c.loop-j.invariant.ways);
+      left = stuck_step h c.args.event c.args.from c.args.count c.loop-j.j c.loop-j-test.true c.in_ok-unit.ensures.left ∙ c.loop-j.invariant.left;
+      many = many ∙ (sum ∙ ap (λ n. n + 1) before);
+    }
+
+pub returns-in_err-unit-clause-fault : goal.returns-in_err-unit-clause-fault
+returns-in_err-unit-clause-fault c =
+    let m = c.args.self.now in
+    pass_on c.from_residual.result c.in_err-unit.field-0.0 (ChangeFaultIs (limit_of m) (held m) c.args.event c.args.from c.args.count) c.from_residual.ensures.1
+    (fault_at c.in_err-unit.field-0.0 (limit_of m) (held m) c.args.event c.args.from c.args.count c.loop-j.j (omega arith) c.loop-j.invariant.left c.in_err-unit.ensures.fault)
