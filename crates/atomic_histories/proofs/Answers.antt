@@ -20,21 +20,25 @@ keeps number m = not (is_load number m)
 
 -- The way without the load. ----
 
-watched_filter : (number : ℕ) (w : Word) (path : List Word) (ls : List WatchedLoad) (ms : List OpenLoad) → AreWatched w path ls ms → AreWatched w path (filter (stays number) ls) (filter (keeps number) ms)
+watched_filter : (number : ℕ) (w : Word) (path : List Word) (ls : List WatchedLoad) (ms : List OpenLoad) → AreWatched w path ls ms
+    → AreWatched w path (filter (stays number) ls) (filter (keeps number) ms)
 watched_filter number w path [] [] h = tt
 watched_filter number w path [] (m ∷ ms) h = absurd h
 watched_filter number w path (l ∷ ls) [] h = absurd h
 watched_filter number w path (l ∷ ls) (m ∷ ms) h = elim (cases_Bool (is_watched number l)) [
   | inl t ↦ let u : is_load number m ≡ true = ap (λ n. n == number) (sym h.0.0) ∙ t in rw (t, u) (watched_filter number w path ls ms h.1)
-  | inr f ↦ let u : is_load number m ≡ false = ap (λ n. n == number) (sym h.0.0) ∙ f in rw (f, u) (h.0, watched_filter number w path ls ms h.1)
+  | inr f ↦ let u : is_load number m ≡ false =
+      ap (λ n. n == number) (sym h.0.0) ∙ f in rw (f, u) (h.0, watched_filter number w path ls ms h.1)
 ]
 
-to_kept : (w : Word) (path : List Word) (ls : List WatchedLoad) (ms : List OpenLoad) → AreWatched w path ls ms → AreWatched w (kept_path ls path) ls ms
+to_kept : (w : Word) (path : List Word) (ls : List WatchedLoad) (ms : List OpenLoad) → AreWatched w path ls ms
+    → AreWatched w (kept_path ls path) ls ms
 to_kept w path [] [] h = tt
 to_kept w path [] (m ∷ ms) h = absurd h
 to_kept w path (l ∷ ls) ms h = h
 
-from_kept : (w : Word) (path : List Word) (ls : List WatchedLoad) (ms : List OpenLoad) → AreWatched w (kept_path ls path) ls ms → AreWatched w path ls ms
+from_kept : (w : Word) (path : List Word) (ls : List WatchedLoad) (ms : List OpenLoad) → AreWatched w (kept_path ls path) ls ms
+    → AreWatched w path ls ms
 from_kept w path [] [] h = tt
 from_kept w path [] (m ∷ ms) h = absurd h
 from_kept w path (l ∷ ls) ms h = h
@@ -44,18 +48,27 @@ kept_on [] path w = refl
 kept_on (l ∷ ls) path w = refl
 
 kept_after : (number : ℕ) (ls : List WatchedLoad) (path : List Word) (w : Word)
-    → kept_path (filter (stays number) ls) (path_after ls path w) ≡ path_after (filter (stays number) ls) (kept_path (filter (stays number) ls) path) w
+    → kept_path (filter (stays number) ls) (path_after ls path w) ≡ path_after (filter (stays number) ls)
+    (kept_path (filter (stays number) ls) path) w
 kept_after number [] path w = refl
 kept_after number (l ∷ ls) path w = kept_on (filter (stays number) (l ∷ ls)) path w
 
-pub leads_without_load : (number : ℕ) {e : Branch} {m : UnitMemory} → Leads e m → Leads (branch_without_load number e) (without_load number m)
+pub leads_without_load : (number : ℕ) {e : Branch} {m : UnitMemory} → Leads e m
+    → Leads (branch_without_load number e) (without_load number m)
 leads_without_load number {e} {m} (now o) =
-    now (record { word = o.word; stores = o.stores; loads = to_kept e.word e.path (filter (stays number) e.loads) (filter (keeps number) m.loads) (watched_filter number e.word e.path e.loads m.loads o.loads) })
+    now (record {
+      word = o.word;
+      stores = o.stores;
+      loads =
+          to_kept e.word e.path (filter (stays number) e.loads) (filter (keeps number) m.loads)
+          (watched_filter number e.word e.path e.loads m.loads o.loads);
+    })
 leads_without_load number {e} {m} (later before s after split open_ r) =
     let d : Branch = effect_of e before s after in
     let rest : Leads (branch_without_load number d) (without_load number m) = leads_without_load number r in
     later before s after split open_
-    (subst (λ p. Leads (record { word = d.word; stores = d.stores; loads = filter (stays number) e.loads; path = p }) (without_load number m)) (kept_after number e.loads e.path e.word) rest)
+    (subst (λ p. Leads (record { word = d.word; stores = d.stores; loads = filter (stays number) e.loads; path = p })
+    (without_load number m)) (kept_after number e.loads e.path e.word) rest)
 
 each_filter : (P : WatchedLoad → Type 0) (keep : WatchedLoad → Bool) (ls : List WatchedLoad) → Each P ls → Each P (filter keep ls)
 each_filter P keep [] a = tt
@@ -64,12 +77,14 @@ each_filter P keep (l ∷ ls) a = elim (cases_Bool (keep l)) [
   | inr f ↦ rw f (each_filter P keep ls a.1)
 ]
 
-timely_kept : (ls : List WatchedLoad) (path : List Word) → Each (λ l. l.since ≤ length path) ls → Each (λ l. l.since ≤ length (kept_path ls path)) ls
+timely_kept : (ls : List WatchedLoad) (path : List Word) → Each (λ l. l.since ≤ length path) ls
+    → Each (λ l. l.since ≤ length (kept_path ls path)) ls
 timely_kept [] path a = tt
 timely_kept (l ∷ ls) path a = a
 
 pub timely_without_load : (number : ℕ) (e : Branch) → IsTimely e → IsTimely (branch_without_load number e)
-timely_without_load number e a = timely_kept (filter (stays number) e.loads) e.path (each_filter (λ l. l.since ≤ length e.path) (stays number) e.loads a)
+timely_without_load number e a =
+    timely_kept (filter (stays number) e.loads) e.path (each_filter (λ l. l.since ≤ length e.path) (stays number) e.loads a)
 
 -- What the load may have got. ----
 
@@ -104,12 +119,14 @@ have_word unit bytes e l h = elim (cases_Bool (is_word_of unit.first e.word l.ad
   | inr f ↦ let r = any_found (λ w. is_word_of unit.first w l.address bytes) (drop l.since e.path) (rw f at h) in (r.0, r.1, inr r.2)
 ]
 
-got_have : (unit : UnitPlace) (bytes : List ℕ) (e : Branch) (l : WatchedLoad) (g : Option Word) → is_got unit l.address bytes g ≡ true → MayHaveGot e.word (drop l.since e.path) g → may_have unit bytes e l ≡ true
+got_have : (unit : UnitPlace) (bytes : List ℕ) (e : Branch) (l : WatchedLoad) (g : Option Word) → is_got unit l.address bytes g ≡ true
+    → MayHaveGot e.word (drop l.since e.path) g → may_have unit bytes e l ≡ true
 got_have unit bytes e l None t h = cc
 got_have unit bytes e l (Some v) t (inl same) =
     or_left_true (is_word_of unit.first e.word l.address bytes) _ (ap (λ w. is_word_of unit.first w l.address bytes) (sym same) ∙ t)
 got_have unit bytes e l (Some v) t (inr past) =
-    or_right_true (is_word_of unit.first e.word l.address bytes) _ (any_true (λ w. is_word_of unit.first w l.address bytes) v (drop l.since e.path) t past)
+    or_right_true (is_word_of unit.first e.word l.address bytes) _
+    (any_true (λ w. is_word_of unit.first w l.address bytes) v (drop l.since e.path) t past)
 
 -- whether one load stands in the way of an answer
 abbrev law : UnitPlace → ℕ → List ℕ → OpenLoad → Bool
@@ -118,7 +135,8 @@ law unit number bytes m = not (is_load number m) || is_got unit m.address bytes 
 abbrev judge : UnitPlace → ℕ → List ℕ → Branch → WatchedLoad → Bool
 judge unit number bytes e l = not (is_watched number l) || may_have unit bytes e l
 
-from_law : (unit : UnitPlace) (number : ℕ) (bytes : List ℕ) (e : Branch) (ls : List WatchedLoad) (ms : List OpenLoad) → AreWatched e.word e.path ls ms
+from_law : (unit : UnitPlace) (number : ℕ) (bytes : List ℕ) (e : Branch) (ls : List WatchedLoad) (ms : List OpenLoad)
+    → AreWatched e.word e.path ls ms
     → list_all (law unit number bytes) ms ≡ true → list_all (judge unit number bytes e) ls ≡ true
 from_law unit number bytes e [] [] h t = refl
 from_law unit number bytes e [] (m ∷ ms) h t = absurd h
@@ -131,18 +149,23 @@ from_law unit number bytes e (l ∷ ls) (m ∷ ms) h t =
       | inl u ↦
           let v : is_load number m ≡ true = ap (λ n. n == number) (sym h.0.0) ∙ u in
           let got : is_got unit m.address bytes m.got ≡ true = rw v at p.0 in
-          let have : may_have unit bytes e l ≡ true = got_have unit bytes e l m.got (ap (λ a. is_got unit a bytes m.got) h.0.1 ∙ got) h.0.2 in
-          and_from (judge unit number bytes e l) (list_all (judge unit number bytes e) ls) (or_right_true (not (is_watched number l)) (may_have unit bytes e l) have) rest
+          let have : may_have unit bytes e l ≡ true =
+          got_have unit bytes e l m.got (ap (λ a. is_got unit a bytes m.got) h.0.1 ∙ got) h.0.2 in
+          and_from (judge unit number bytes e l) (list_all (judge unit number bytes e) ls)
+          (or_right_true (not (is_watched number l)) (may_have unit bytes e l) have) rest
     ]
 
-pub answer_on : (unit : UnitPlace) (number : ℕ) (bytes : List ℕ) (m : UnitMemory) → may_answer_load unit number bytes m.loads ≡ true → (e : Branch) → IsOn e m → has_answer unit number bytes e ≡ true
+pub answer_on : (unit : UnitPlace) (number : ℕ) (bytes : List ℕ) (m : UnitMemory) → may_answer_load unit number bytes m.loads ≡ true
+    → (e : Branch) → IsOn e m → has_answer unit number bytes e ≡ true
 answer_on unit number bytes m t e o = from_law unit number bytes e e.loads m.loads o.loads t
 
-filter_drops : (number : ℕ) (m : OpenLoad) (ms ns : List OpenLoad) → is_load number m ≡ true → filter (keeps number) ms ≡ ns → filter (keeps number) (m ∷ ms) ≡ ns
+filter_drops : (number : ℕ) (m : OpenLoad) (ms ns : List OpenLoad) → is_load number m ≡ true → filter (keeps number) ms ≡ ns
+    → filter (keeps number) (m ∷ ms) ≡ ns
 filter_drops number m ms ns u h = rw u h
 
 -- the loads of a state on a way, with those that are answered
-with_answers : (unit : UnitPlace) (number : ℕ) (bytes : List ℕ) (e : Branch) (ls : List WatchedLoad) (ns : List OpenLoad) → list_all (judge unit number bytes e) ls ≡ true
+with_answers : (unit : UnitPlace) (number : ℕ) (bytes : List ℕ) (e : Branch) (ls : List WatchedLoad) (ns : List OpenLoad)
+    → list_all (judge unit number bytes e) ls ≡ true
     → AreWatched e.word e.path (filter (stays number) ls) ns
     → (ms : List OpenLoad) × AreWatched e.word e.path ls ms × (list_all (law unit number bytes) ms ≡ true) × (filter (keeps number) ms ≡ ns)
 with_answers unit number bytes e [] [] t h = ([], tt, refl, refl)
@@ -154,25 +177,37 @@ with_answers unit number bytes e (l ∷ ls) ns t h =
           let have : may_have unit bytes e l ≡ true = rw u at p.0 in
           let v = have_word unit bytes e l have in
           let r = with_answers unit number bytes e ls ns p.1 (rw u at h) in
-          let m : OpenLoad = record { number = l.number; address = l.address; got = Some v.0 } in
-          (m ∷ r.0, ((refl, refl, v.2), r.1), and_from (law unit number bytes m) (list_all (law unit number bytes) r.0) (or_right_true (not (is_load number m)) (is_word_of unit.first v.0 l.address bytes) v.1) r.2, filter_drops number m r.0 ns u r.3)
+          let m : OpenLoad = record { number = l.number; address = l.address; got = Some v.0 } in (
+            m ∷ r.0,
+            ((refl, refl, v.2), r.1),
+            and_from (law unit number bytes m) (list_all (law unit number bytes) r.0)
+                (or_right_true (not (is_load number m)) (is_word_of unit.first v.0 l.address bytes) v.1) r.2,
+            filter_drops number m r.0 ns u r.3,
+          )
       | inr f ↦ other unit number bytes e l ls ns f (rw f at h) (λ ks k. with_answers unit number bytes e ls ks p.1 k)
     ]
   where
-    other : (unit : UnitPlace) (number : ℕ) (bytes : List ℕ) (e : Branch) (l : WatchedLoad) (ls : List WatchedLoad) (ns : List OpenLoad) → is_watched number l ≡ false
+    other : (unit : UnitPlace) (number : ℕ) (bytes : List ℕ) (e : Branch) (l : WatchedLoad) (ls : List WatchedLoad) (ns : List OpenLoad)
+        → is_watched number l ≡ false
         → AreWatched e.word e.path (l ∷ filter (stays number) ls) ns
-        → ((ks : List OpenLoad) → AreWatched e.word e.path (filter (stays number) ls) ks → (ms : List OpenLoad) × AreWatched e.word e.path ls ms × (list_all (law unit number bytes) ms ≡ true) × (filter (keeps number) ms ≡ ks))
-        → (ms : List OpenLoad) × AreWatched e.word e.path (l ∷ ls) ms × (list_all (law unit number bytes) ms ≡ true) × (filter (keeps number) ms ≡ ns)
+        → ((ks : List OpenLoad) → AreWatched e.word e.path (filter (stays number) ls) ks
+        → (ms : List OpenLoad) × AreWatched e.word e.path ls ms × (list_all (law unit number bytes) ms ≡ true)
+        × (filter (keeps number) ms ≡ ks))
+        → (ms : List OpenLoad) × AreWatched e.word e.path (l ∷ ls) ms × (list_all (law unit number bytes) ms ≡ true)
+        × (filter (keeps number) ms ≡ ns)
     other unit number bytes e l ls [] f h rest = absurd h
     other unit number bytes e l ls (n ∷ ns) f h rest =
         let r = rest ns h.1 in
         let g : is_load number n ≡ false = ap (λ k. k == number) (sym h.0.0) ∙ f in
         (n ∷ r.0, (h.0, r.1), rw g r.2, rw (g, r.3) refl)
 
-pub sound_without_load : (unit : UnitPlace) (number : ℕ) (bytes : List ℕ) (P Q : UnitMemory → Type 0) → ((m : UnitMemory) → P m → may_answer_load unit number bytes m.loads ≡ true → Q (without_load number m)) → (e : Branch)
-    → has_answer unit number bytes e ≡ true → ((m : UnitMemory) → IsOn e m → P m) → (n : UnitMemory) → IsOn (branch_without_load number e) n → Q n
+pub sound_without_load : (unit : UnitPlace) (number : ℕ) (bytes : List ℕ) (P Q : UnitMemory → Type 0)
+    → ((m : UnitMemory) → P m → may_answer_load unit number bytes m.loads ≡ true → Q (without_load number m)) → (e : Branch)
+    → has_answer unit number bytes e ≡ true → ((m : UnitMemory) → IsOn e m → P m) → (n : UnitMemory) → IsOn (branch_without_load number e) n
+    → Q n
 sound_without_load unit number bytes P Q seen e g sound n o =
-    let watched : AreWatched e.word e.path (filter (stays number) e.loads) n.loads = from_kept e.word e.path (filter (stays number) e.loads) n.loads o.loads in
+    let watched : AreWatched e.word e.path (filter (stays number) e.loads) n.loads =
+    from_kept e.word e.path (filter (stays number) e.loads) n.loads o.loads in
     let r = with_answers unit number bytes e e.loads n.loads g watched in
     let m0 : UnitMemory = record { word = n.word; stores = n.stores; loads = r.0 } in
     let q : Q (without_load number m0) = seen m0 (sound m0 (record { word = o.word; stores = o.stores; loads = r.1 })) r.2 in

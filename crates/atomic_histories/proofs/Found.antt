@@ -28,7 +28,8 @@ head_same x y xs ys e = cc
 tail_same : {X : Type 0} (x y : X) (xs ys : List X) → x ∷ xs ≡ y ∷ ys → xs ≡ ys
 tail_same x y xs ys e = cc
 
-one_effect_from : (Q : Branch → Type 0) (e : Branch) (past ss before : List OpenStore) (s : OpenStore) (after : List OpenStore) → ss ≡ before ++ s ∷ after → s.is_done ≡ false
+one_effect_from : (Q : Branch → Type 0) (e : Branch) (past ss before : List OpenStore) (s : OpenStore) (after : List OpenStore)
+    → ss ≡ before ++ s ∷ after → s.is_done ≡ false
     → Q (effect_of e (past ++ before) s after) → One Q (effects_from e past ss)
 one_effect_from Q e past [] [] s after split open_ q = cc
 one_effect_from Q e past [] (b ∷ bs) s after split open_ q = cc
@@ -36,20 +37,25 @@ one_effect_from Q e past (x ∷ xs) [] s after split open_ q =
     let x_s : x ≡ s = head_same x s xs after split in
     let xs_after : xs ≡ after = tail_same x s xs after split in
     let q1 : Q (effect_of e past s after) = subst (λ p. Q (effect_of e p s after)) (append-nil past) q in
-    let q2 : Q (effect_of e past x xs) = subst (λ y. Q (effect_of e past y xs)) (sym x_s) (subst (λ ys. Q (effect_of e past s ys)) (sym xs_after) q1) in
+    let q2 : Q (effect_of e past x xs) =
+    subst (λ y. Q (effect_of e past y xs)) (sym x_s) (subst (λ ys. Q (effect_of e past s ys)) (sym xs_after) q1) in
     new_cons Q x.is_done (effect_of e past x xs) (effects_from e (past ++ x ∷ []) xs) (ap (λ y. y.is_done) x_s ∙ open_) q2
 one_effect_from Q e past (x ∷ xs) (b ∷ bs) s after split open_ q =
     let x_b : x ≡ b = head_same x b xs (bs ++ s ∷ after) split in
     let rest : xs ≡ bs ++ s ∷ after = tail_same x b xs (bs ++ s ∷ after) split in
     let q1 : Q (effect_of e (past ++ x ∷ bs) s after) = subst (λ y. Q (effect_of e (past ++ y ∷ bs) s after)) (sym x_b) q in
-    let q2 : Q (effect_of e ((past ++ x ∷ []) ++ bs) s after) = subst (λ p. Q (effect_of e p s after)) (sym (append_assoc past (x ∷ []) bs)) q1 in
-    one_cons Q x.is_done (effect_of e past x xs) (effects_from e (past ++ x ∷ []) xs) (one_effect_from Q e (past ++ x ∷ []) xs bs s after rest open_ q2)
+    let q2 : Q (effect_of e ((past ++ x ∷ []) ++ bs) s after) =
+    subst (λ p. Q (effect_of e p s after)) (sym (append_assoc past (x ∷ []) bs)) q1 in
+    one_cons Q x.is_done (effect_of e past x xs) (effects_from e (past ++ x ∷ []) xs)
+    (one_effect_from Q e (past ++ x ∷ []) xs bs s after rest open_ q2)
 
-pub one_effect : (Q : Branch → Type 0) (e : Branch) (before : List OpenStore) (s : OpenStore) (after : List OpenStore) → e.stores ≡ before ++ s ∷ after → s.is_done ≡ false
+pub one_effect : (Q : Branch → Type 0) (e : Branch) (before : List OpenStore) (s : OpenStore) (after : List OpenStore)
+    → e.stores ≡ before ++ s ∷ after → s.is_done ≡ false
     → Q (effect_of e before s after) → One Q (effects e)
 one_effect Q e before s after split open_ q = one_effect_from Q e [] e.stores before s after split open_ q
 
-each_effect_from : (Q : Branch → Type 0) (e : Branch) (past ss : List OpenStore) → ((before : List OpenStore) (s : OpenStore) (after : List OpenStore) → ss ≡ before ++ s ∷ after → s.is_done ≡ false
+each_effect_from : (Q : Branch → Type 0) (e : Branch) (past ss : List OpenStore)
+    → ((before : List OpenStore) (s : OpenStore) (after : List OpenStore) → ss ≡ before ++ s ∷ after → s.is_done ≡ false
     → Q (effect_of e (past ++ before) s after)) → Each Q (effects_from e past ss)
 each_effect_from Q e past [] f = tt
 each_effect_from Q e past (x ∷ xs) f =
@@ -60,7 +66,8 @@ each_effect_from Q e past (x ∷ xs) f =
 
 -- what holds of the ways on, if it is kept when a store takes effect
 abbrev pub IsKept : (Branch → Type 0) → Type 0
-IsKept S = (e : Branch) (before : List OpenStore) (s : OpenStore) (after : List OpenStore) → S e → e.stores ≡ before ++ s ∷ after → s.is_done ≡ false → S (effect_of e before s after)
+IsKept S = (e : Branch) (before : List OpenStore) (s : OpenStore) (after : List OpenStore) → S e → e.stores ≡ before ++ s ∷ after
+    → s.is_done ≡ false → S (effect_of e before s after)
 
 each_effect : (S : Branch → Type 0) → IsKept S → (e : Branch) → S e → Each S (effects e)
 each_effect S kept e h = each_effect_from S e [] e.stores (λ before s after split o. kept e before s after h split o)
@@ -74,9 +81,11 @@ out_keeps P goal out (e ∷ es) h = elim (cases_Bool (goal e)) [
   | inr f ↦ rw f (out_keeps P goal out es h)
 ]
 
-out_finds : (P : Branch → Type 0) (goal : Branch → Bool) (out es : List Branch) → One (λ e. (goal e ≡ true) × P e) es → One (λ e. (goal e ≡ true) × P e) (out_after goal out es)
+out_finds : (P : Branch → Type 0) (goal : Branch → Bool) (out es : List Branch) → One (λ e. (goal e ≡ true) × P e) es
+    → One (λ e. (goal e ≡ true) × P e) (out_after goal out es)
 out_finds P goal out [] h = absurd h
-out_finds P goal out (e ∷ es) (inl p) = rw p.0 (out_keeps (λ x. (goal x ≡ true) × P x) goal (with_branch out e) es (new_with (λ x. (goal x ≡ true) × P x) out e p))
+out_finds P goal out (e ∷ es) (inl p) =
+    rw p.0 (out_keeps (λ x. (goal x ≡ true) × P x) goal (with_branch out e) es (new_with (λ x. (goal x ≡ true) × P x) out e p))
 out_finds P goal out (e ∷ es) (inr h) = out_finds P goal (out_of goal out e) es h
 
 next_keeps : (P : Branch → Type 0) (goal : Branch → Bool) (next es : List Branch) → One P next → One P (fold (next_of goal) next es)
@@ -86,42 +95,52 @@ next_keeps P goal next (e ∷ es) h = elim (cases_Bool (goal e)) [
   | inr f ↦ rw f (next_keeps P goal (with_branches next (effects e)) es (one_withs P next (effects e) h))
 ]
 
-pub next_finds : (P : Branch → Type 0) (goal : Branch → Bool) (next es : List Branch) → One (λ e. (goal e ≡ false) × One P (effects e)) es → One P (fold (next_of goal) next es)
+pub next_finds : (P : Branch → Type 0) (goal : Branch → Bool) (next es : List Branch) → One (λ e. (goal e ≡ false) × One P (effects e)) es
+    → One P (fold (next_of goal) next es)
 next_finds P goal next [] h = absurd h
 next_finds P goal next (e ∷ es) (inl p) = rw p.0 (next_keeps P goal (with_branches next (effects e)) es (new_withs P next (effects e) p.1))
 next_finds P goal next (e ∷ es) (inr h) = next_finds P goal (next_of goal next e) es h
 
-out_sound : (S : Branch → Type 0) (goal : Branch → Bool) (out es : List Branch) → Each (λ e. S e × (goal e ≡ true)) out → Each S es → Each (λ e. S e × (goal e ≡ true)) (out_after goal out es)
+out_sound : (S : Branch → Type 0) (goal : Branch → Bool) (out es : List Branch) → Each (λ e. S e × (goal e ≡ true)) out → Each S es
+    → Each (λ e. S e × (goal e ≡ true)) (out_after goal out es)
 out_sound S goal out [] a b = a
 out_sound S goal out (e ∷ es) a b = elim (cases_Bool (goal e)) [
   | inl t ↦ rw t (out_sound S goal (with_branch out e) es (each_with (λ x. S x × (goal x ≡ true)) out e a (b.0, t)) b.1)
   | inr f ↦ rw f (out_sound S goal out es a b.1)
 ]
 
-pub next_sound : (S : Branch → Type 0) → IsKept S → (goal : Branch → Bool) (next es : List Branch) → Each S next → Each S es → Each S (fold (next_of goal) next es)
+pub next_sound : (S : Branch → Type 0) → IsKept S → (goal : Branch → Bool) (next es : List Branch) → Each S next → Each S es
+    → Each S (fold (next_of goal) next es)
 next_sound S kept goal next [] a b = a
 next_sound S kept goal next (e ∷ es) a b = elim (cases_Bool (goal e)) [
   | inl t ↦ rw t (next_sound S kept goal next es a b.1)
-  | inr f ↦ rw f (next_sound S kept goal (with_branches next (effects e)) es (each_withs S next (effects e) a (each_effect S kept e b.0)) b.1)
+  | inr f ↦ rw f (next_sound S kept goal (with_branches next (effects e)) es
+      (each_withs S next (effects e) a (each_effect S kept e b.0)) b.1)
 ]
 
 -- All rounds. ----
 
-pub met_sound : (S : Branch → Type 0) → IsKept S → (n : ℕ) (goal : Branch → Bool) (out es : List Branch) → Each (λ e. S e × (goal e ≡ true)) out → Each S es
+pub met_sound : (S : Branch → Type 0) → IsKept S → (n : ℕ) (goal : Branch → Bool) (out es : List Branch)
+    → Each (λ e. S e × (goal e ≡ true)) out → Each S es
     → Each (λ e. S e × (goal e ≡ true)) (met n goal out es)
 met_sound S kept zero goal out es a b = a
-met_sound S kept (suc n) goal out es a b = met_sound S kept n goal (out_after goal out es) (next_after goal es) (out_sound S goal out es a b) (next_sound S kept goal [] es tt b)
+met_sound S kept (suc n) goal out es a b =
+    met_sound S kept n goal (out_after goal out es) (next_after goal es) (out_sound S goal out es a b) (next_sound S kept goal [] es tt b)
 
 -- within so many steps a way comes to one that meets the goal
 abbrev HasWay : (Branch → Bool) → (Branch → Type 0) → ℕ → Branch → Type 0
 HasWay goal Q zero e = ⊥
 HasWay goal Q (suc n) e = ((goal e ≡ true) × Q e)
-    ⊎ ((goal e ≡ false) × ((before : List OpenStore) × (s : OpenStore) × (after : List OpenStore) × (e.stores ≡ before ++ s ∷ after) × (s.is_done ≡ false) × HasWay goal Q n (effect_of e before s after)))
+    ⊎ ((goal e ≡ false) ×
+    ((before : List OpenStore) × (s : OpenStore) × (after : List OpenStore) × (e.stores ≡ before ++ s ∷ after) × (s.is_done ≡ false)
+    × HasWay goal Q n (effect_of e before s after)))
 
-met_finds : (goal : Branch → Bool) (Q : Branch → Type 0) (n : ℕ) (out es : List Branch) → One (λ e. (goal e ≡ true) × Q e) out ⊎ One (HasWay goal Q n) es → One (λ e. (goal e ≡ true) × Q e) (met n goal out es)
+met_finds : (goal : Branch → Bool) (Q : Branch → Type 0) (n : ℕ) (out es : List Branch)
+    → One (λ e. (goal e ≡ true) × Q e) out ⊎ One (HasWay goal Q n) es → One (λ e. (goal e ≡ true) × Q e) (met n goal out es)
 met_finds goal Q zero out es (inl h) = h
 met_finds goal Q zero out es (inr h) = absurd (one_none es h)
-met_finds goal Q (suc n) out es (inl h) = met_finds goal Q n (out_after goal out es) (next_after goal es) (inl (out_keeps (λ e. (goal e ≡ true) × Q e) goal out es h))
+met_finds goal Q (suc n) out es (inl h) =
+    met_finds goal Q n (out_after goal out es) (next_after goal es) (inl (out_keeps (λ e. (goal e ≡ true) × Q e) goal out es h))
 met_finds goal Q (suc n) out es (inr h) =
     let R : Branch → Type 0 = HasWay goal Q n in
     let split : One (λ e. (goal e ≡ true) × Q e) es ⊎ One (λ e. (goal e ≡ false) × One R (effects e)) es =
@@ -151,14 +170,17 @@ undone_length : (ss : List OpenStore) → undone ss ≤ length ss
 undone_length [] = omega arith
 undone_length (s ∷ ss) = omega (arith, undone_most s.is_done, undone_length ss)
 
-pub undone_less : (before : List OpenStore) (s : OpenStore) (after : List OpenStore) → s.is_done ≡ false → undone (before ++ s ∷ after) ≡ suc (undone (before ++ done_store s ∷ after))
+pub undone_less : (before : List OpenStore) (s : OpenStore) (after : List OpenStore) → s.is_done ≡ false
+    → undone (before ++ s ∷ after) ≡ suc (undone (before ++ done_store s ∷ after))
 undone_less [] s after o = rw o (omega arith)
 undone_less (b ∷ bs) s after o = omega (arith, undone_less bs s after o)
 
-way_of : (goal : Branch → Bool) {e : Branch} {m : UnitMemory} → Leads e m → ((x : Branch) → IsOn x m → goal x ≡ true) → (n : ℕ) → undone e.stores ≤ n → HasWay goal (λ x. Leads x m) (suc n) e
+way_of : (goal : Branch → Bool) {e : Branch} {m : UnitMemory} → Leads e m → ((x : Branch) → IsOn x m → goal x ≡ true) → (n : ℕ)
+    → undone e.stores ≤ n → HasWay goal (λ x. Leads x m) (suc n) e
 way_of goal {e} {m} (now o) g n l = inl (g e o, now o)
 way_of goal {e} {m} (later before s after split open_ r) g zero l =
-    let less : undone e.stores ≡ suc (undone (before ++ done_store s ∷ after)) = ap undone split ∙ undone_less before s after open_ in absurd (omega arith)
+    let less : undone e.stores ≡ suc (undone (before ++ done_store s ∷ after)) =
+    ap undone split ∙ undone_less before s after open_ in absurd (omega arith)
 way_of goal {e} {m} (later before s after split open_ r) g (suc n) l =
     let less : undone e.stores ≡ suc (undone (before ++ done_store s ∷ after)) = ap undone split ∙ undone_less before s after open_ in
     let room : undone (before ++ done_store s ∷ after) ≤ n = omega arith in
@@ -171,16 +193,19 @@ more_rounds : (n : ℕ) (es : List Branch) → n ≤ fold (λ k e. max k (length
 more_rounds n [] = omega arith
 more_rounds n (e ∷ es) = let h = more_rounds (max n (length e.stores)) es in omega arith
 
-pub one_rounds : (P : Branch → Type 0) (n : ℕ) (es : List Branch) → One P es → One (λ e. P e × (undone e.stores ≤ fold (λ k x. max k (length x.stores)) n es)) es
+pub one_rounds : (P : Branch → Type 0) (n : ℕ) (es : List Branch) → One P es
+    → One (λ e. P e × (undone e.stores ≤ fold (λ k x. max k (length x.stores)) n es)) es
 one_rounds P n [] h = absurd h
 one_rounds P n (e ∷ es) (inl p) = let h = more_rounds (max n (length e.stores)) es in let l = undone_length e.stores in inl (p, omega arith)
 one_rounds P n (e ∷ es) (inr h) = inr (one_rounds P (max n (length e.stores)) es h)
 
 -- a way that leads to a state at which the goal is met is found at the first place where it is
-pub met_complete : (goal : Branch → Bool) (m : UnitMemory) → ((x : Branch) → IsOn x m → goal x ≡ true) → (es : List Branch) → One (λ e. Leads e m) es
+pub met_complete : (goal : Branch → Bool) (m : UnitMemory) → ((x : Branch) → IsOn x m → goal x ≡ true) → (es : List Branch)
+    → One (λ e. Leads e m) es
     → One (λ e. (goal e ≡ true) × Leads e m) (met (suc (rounds es)) goal [] es)
 met_complete goal m g es h =
     let n : ℕ = rounds es in
     let ways : One (HasWay goal (λ x. Leads x m) (suc n)) es =
-    one_weaker (λ e. Leads e m × (undone e.stores ≤ n)) (HasWay goal (λ x. Leads x m) (suc n)) (λ e p. way_of goal p.0 g n p.1) es (one_rounds (λ e. Leads e m) 0 es h) in
+    one_weaker (λ e. Leads e m × (undone e.stores ≤ n)) (HasWay goal (λ x. Leads x m) (suc n)) (λ e p. way_of goal p.0 g n p.1) es
+    (one_rounds (λ e. Leads e m) 0 es h) in
     met_finds goal (λ x. Leads x m) (suc n) [] es (inr ways)

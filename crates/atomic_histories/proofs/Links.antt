@@ -24,23 +24,28 @@ use Rattle.atomic_histories.proofs.Lists.{one_left, one_last, each_weaker, each_
 -- What a store touches. ----
 
 -- a store writes in a unit only where it has bytes there
-lane_inside : (unit : UnitPlace) (address : ℕ) (bytes : List ℕ) (enables k : ℕ) → is_some (at_lane unit (stored_byte address bytes enables) k) ≡ true
+lane_inside : (unit : UnitPlace) (address : ℕ) (bytes : List ℕ) (enables k : ℕ)
+    → is_some (at_lane unit (stored_byte address bytes enables) k) ≡ true
     → is_at unit address (length bytes) ≡ true
 lane_inside unit address bytes enables k h = elim (cases_lt k unit.size) [
   | inr past ↦
-      let x : is_some (at_lane unit (stored_byte address bytes enables) k) ≡ false = rw (le-ltb k unit.size past) refl in let e : true ≡ false = sym h ∙ x in cc
+      let x : is_some (at_lane unit (stored_byte address bytes enables) k) ≡ false =
+      rw (le-ltb k unit.size past) refl in let e : true ≡ false = sym h ∙ x in cc
   | inl within ↦ elim (cases_lt (unit.first + k) address) [
     | inl below ↦
-        let x : is_some (at_lane unit (stored_byte address bytes enables) k) ≡ false = rw (lt-ltb k unit.size within, lt-leb address (unit.first + k) below) refl in
+        let x : is_some (at_lane unit (stored_byte address bytes enables) k) ≡ false =
+        rw (lt-ltb k unit.size within, lt-leb address (unit.first + k) below) refl in
         let e : true ≡ false = sym h ∙ x in cc
     | inr above ↦ elim (cases_lt (unit.first + k - address) (length bytes)) [
       | inl inside ↦
-          and_from (nat_lt address (unit.first + unit.size)) (nat_lt unit.first (address + length bytes)) (lt-ltb address (unit.first + unit.size) (omega arith))
+          and_from (nat_lt address (unit.first + unit.size)) (nat_lt unit.first (address + length bytes))
+          (lt-ltb address (unit.first + unit.size) (omega arith))
           (lt-ltb unit.first (address + length bytes) (omega arith))
       | inr outside ↦
           let none : slice_get bytes (unit.first + k - address) ≡ None = slice_get_past bytes (unit.first + k - address) outside in
           let x : is_some (at_lane unit (stored_byte address bytes enables) k) ≡ false =
-          rw (lt-ltb k unit.size within, le-leb address (unit.first + k) above, none) (nothing (bit_at enables (unit.first + k - address) == 1) None refl) in
+          rw (lt-ltb k unit.size within, le-leb address (unit.first + k) above, none)
+          (nothing (bit_at enables (unit.first + k - address) == 1) None refl) in
           let e : true ≡ false = sym h ∙ x in cc
     ]
   ]
@@ -89,7 +94,8 @@ eq_false_sym a b h = elim (cases_Bool (b == a)) [
   | inr f ↦ f
 ]
 
-distinct_push : (os : List Operation) (o : Operation) → AreDistinct os → list_any (has_number o.number) os ≡ false → AreDistinct (os ++ o ∷ [])
+distinct_push : (os : List Operation) (o : Operation) → AreDistinct os → list_any (has_number o.number) os ≡ false
+    → AreDistinct (os ++ o ∷ [])
 distinct_push [] o d n = (refl, tt)
 distinct_push (x ∷ xs) o d n =
     let p = or_parts (x.number == o.number) (list_any (has_number o.number) xs) n in
@@ -98,7 +104,8 @@ distinct_push (x ∷ xs) o d n =
     (or_false (o.number == x.number) false (eq_false_sym x.number o.number p.0) refl) in
     (first, distinct_push xs o d.1 p.1)
 
-none_filtered : (number m : ℕ) (os : List Operation) → list_any (has_number m) os ≡ false → list_any (has_number m) (without_number number os) ≡ false
+none_filtered : (number m : ℕ) (os : List Operation) → list_any (has_number m) os ≡ false
+    → list_any (has_number m) (without_number number os) ≡ false
 none_filtered number m [] h = refl
 none_filtered number m (x ∷ xs) h =
     let p = or_parts (x.number == m) (list_any (has_number m) xs) h in
@@ -132,18 +139,26 @@ store_allowed true false used h = cc
 store_allowed true true true h = cc
 store_allowed true true false h = (refl, refl)
 
-fit_push : (os : List Operation) (o : Operation) → AreFit os → IsInside o → list_any (has_number o.number) os ≡ false → AreFit (os ++ o ∷ [])
+fit_push : (os : List Operation) (o : Operation) → AreFit os → IsInside o → list_any (has_number o.number) os ≡ false
+    → AreFit (os ++ o ∷ [])
 fit_push os o a i n = (distinct_push os o a.0 n, each_append IsInside os (o ∷ []) a.1 (i, tt))
 
 fit_after : (o : Opened) (event : HistoryEvent) → IsFit o → form_fault o event ≡ None → IsFit (opened_after o event)
 fit_after o (LoadRequest number address n) a f =
     let p = load_allowed (is_inside address n) (list_any (has_number number) o.loads) f in
     record { loads = fit_push o.loads (record { number = number; address = address; length = n }) a.loads p.0 p.1; stores = a.stores }
-fit_after o (LoadResponse number bytes) a f = record { loads = (distinct_filtered number o.loads a.loads.0, inside_filtered number o.loads a.loads.1); stores = a.stores }
+fit_after o (LoadResponse number bytes) a f =
+    record { loads = (distinct_filtered number o.loads a.loads.0, inside_filtered number o.loads a.loads.1); stores = a.stores }
 fit_after o (StoreRequest number address bytes enables) a f =
-    let p = store_allowed (is_inside address (length bytes.now)) (has_enabled bytes.now enables) (list_any (has_number number) o.stores) f in
-    record { loads = a.loads; stores = fit_push o.stores (record { number = number; address = address; length = length bytes.now }) a.stores p.0 p.1 }
-fit_after o (StoreResponse number) a f = record { loads = a.loads; stores = (distinct_filtered number o.stores a.stores.0, inside_filtered number o.stores a.stores.1) }
+    let p = store_allowed (is_inside address (length bytes.now)) (has_enabled bytes.now enables)
+    (list_any (has_number number) o.stores) f in
+    record {
+      loads = a.loads;
+      stores =
+          fit_push o.stores (record { number = number; address = address; length = length bytes.now }) a.stores p.0 p.1;
+    }
+fit_after o (StoreResponse number) a f =
+    record { loads = a.loads; stores = (distinct_filtered number o.stores a.stores.0, inside_filtered number o.stores a.stores.1) }
 
 none_is : {X : Type 0} (o : Option X) → is_none o ≡ true → o ≡ None
 none_is None h = refl
@@ -152,7 +167,8 @@ none_is (Some x) h = cc
 fit_from : (o : Opened) (history : List HistoryEvent) → IsFit o → is_formed o history ≡ true → IsFit (fold opened_after o history)
 fit_from o [] a h = a
 fit_from o (x ∷ xs) a h =
-    let p = and_parts (is_none (form_fault o x)) (is_formed (opened_after o x) xs) h in fit_from (opened_after o x) xs (fit_after o x a (none_is (form_fault o x) p.0)) p.1
+    let p = and_parts (is_none (form_fault o x)) (is_formed (opened_after o x) xs) h in fit_from (opened_after o x) xs
+    (fit_after o x a (none_is (form_fault o x) p.0)) p.1
 
 pub fit_by : (history : List HistoryEvent) → is_formed none_opened history ≡ true → IsFit (opened_by history)
 fit_by history h = fit_from none_opened history (record { loads = (tt, tt); stores = (tt, tt) }) h
@@ -168,7 +184,8 @@ found_fit number (x ∷ xs) o a e = elim (cases_Bool (has_number number x)) [
     some_same x o e = cc
 
 -- of the operations under a number there is one
-pub only : (P : Operation → Type 0) (number : ℕ) (os : List Operation) (o : Operation) → AreDistinct os → find (has_number number) os ≡ Some o
+pub only : (P : Operation → Type 0) (number : ℕ) (os : List Operation) (o : Operation) → AreDistinct os
+    → find (has_number number) os ≡ Some o
     → One (λ x. (x.number ≡ number) × P x) os → P o
 only P number [] o d e h = absurd h
 only P number (x ∷ xs) o d e h = elim (cases_Bool (has_number number x)) [
@@ -178,7 +195,8 @@ only P number (x ∷ xs) o d e h = elim (cases_Bool (has_number number x)) [
         | inl p ↦ subst P same p.1
         | inr r ↦
             let n : x.number ≡ number = eqb-true x.number number t in
-            let none : list_any (has_number number) xs ≡ false = subst (λ i. list_any (has_number i) xs ≡ false) n d.0 in absurd (no_one xs none r)
+            let none : list_any (has_number number) xs ≡ false =
+            subst (λ i. list_any (has_number i) xs ≡ false) n d.0 in absurd (no_one xs none r)
       ]
   | inr f ↦ elim h [
     | inl p ↦ let t : (x.number == number) ≡ true = eq-eqb x.number number p.0 in let y : true ≡ false = sym t ∙ f in cc
@@ -213,30 +231,35 @@ pub record IsLinked (unit : UnitPlace) (m : UnitMemory) (o : Opened) : Type 0 wh
   pub loads : map load_key m.loads ≡ map key (filter (is_of unit) o.loads)
   pub stores : Each (λ s. One (λ x. (x.number ≡ s.number) × (is_of unit x ≡ true)) o.stores) m.stores
 
-keys_push : (unit : UnitPlace) (ms : List OpenLoad) (os : List Operation) (m : OpenLoad) (o : Operation) → map load_key ms ≡ map key (filter (is_of unit) os) → load_key m ≡ key o → is_of unit o ≡ true
+keys_push : (unit : UnitPlace) (ms : List OpenLoad) (os : List Operation) (m : OpenLoad) (o : Operation)
+    → map load_key ms ≡ map key (filter (is_of unit) os) → load_key m ≡ key o → is_of unit o ≡ true
     → map load_key (ms ++ m ∷ []) ≡ map key (filter (is_of unit) (os ++ o ∷ []))
 keys_push unit ms os m o h e t =
     let last : filter (is_of unit) (o ∷ []) ≡ o ∷ [] = rw t refl in
     map-append load_key ms (m ∷ []) ∙ (ap₂ (λ a b. a ++ b ∷ []) h e ∙ (sym (map-append key (filter (is_of unit) os) (o ∷ []))
     ∙ ap (map key) (ap (λ l. filter (is_of unit) os ++ l) (sym last) ∙ sym (filter-append (is_of unit) os (o ∷ [])))))
 
-keys_pass : (unit : UnitPlace) (ms : List OpenLoad) (os : List Operation) (o : Operation) → map load_key ms ≡ map key (filter (is_of unit) os) → is_of unit o ≡ false
+keys_pass : (unit : UnitPlace) (ms : List OpenLoad) (os : List Operation) (o : Operation)
+    → map load_key ms ≡ map key (filter (is_of unit) os) → is_of unit o ≡ false
     → map load_key ms ≡ map key (filter (is_of unit) (os ++ o ∷ []))
 keys_pass unit ms os o h f =
     let last : filter (is_of unit) (o ∷ []) ≡ [] = rw f refl in
-    h ∙ ap (map key) (sym (filter-append (is_of unit) os (o ∷ []) ∙ (ap (λ l. filter (is_of unit) os ++ l) last ∙ append-nil (filter (is_of unit) os))))
+    h ∙ ap (map key) (sym
+    (filter-append (is_of unit) os (o ∷ []) ∙ (ap (λ l. filter (is_of unit) os ++ l) last ∙ append-nil (filter (is_of unit) os))))
 
 abbrev other : ℕ → ℕ × ℕ → Bool
 other number p = not (p.0 == number)
 
-load_keys : (number : ℕ) (ms : List OpenLoad) → map load_key (filter (λ l. not (is_load number l)) ms) ≡ filter (other number) (map load_key ms)
+load_keys : (number : ℕ) (ms : List OpenLoad)
+    → map load_key (filter (λ l. not (is_load number l)) ms) ≡ filter (other number) (map load_key ms)
 load_keys number [] = refl
 load_keys number (m ∷ ms) = elim (cases_Bool (is_load number m)) [
   | inl t ↦ rw t (load_keys number ms)
   | inr f ↦ rw f (ap (λ l. load_key m ∷ l) (load_keys number ms))
 ]
 
-open_keys : (unit : UnitPlace) (number : ℕ) (os : List Operation) → map key (filter (is_of unit) (without_number number os)) ≡ filter (other number) (map key (filter (is_of unit) os))
+open_keys : (unit : UnitPlace) (number : ℕ) (os : List Operation)
+    → map key (filter (is_of unit) (without_number number os)) ≡ filter (other number) (map key (filter (is_of unit) os))
 open_keys unit number [] = refl
 open_keys unit number (o ∷ os) = elim (cases_Bool (has_number number o)) [
   | inl t ↦ elim (cases_Bool (is_of unit o)) [
@@ -256,7 +279,8 @@ keys_left unit number ms os h = load_keys number ms ∙ (ap (filter (other numbe
 abbrev HasStore : UnitPlace → List Operation → OpenStore → Type 0
 HasStore unit os s = One (λ x. (x.number ≡ s.number) × (is_of unit x ≡ true)) os
 
-store_stays : (unit : UnitPlace) (number : ℕ) (s : OpenStore) → is_store number s ≡ false → (xs : List Operation) → HasStore unit xs s → HasStore unit (without_number number xs) s
+store_stays : (unit : UnitPlace) (number : ℕ) (s : OpenStore) → is_store number s ≡ false → (xs : List Operation) → HasStore unit xs s
+    → HasStore unit (without_number number xs) s
 store_stays unit number s f [] h = h
 store_stays unit number s f (x ∷ xs) (inl p) = let g : has_number number x ≡ false = ap (λ i. i == number) p.0 ∙ f in rw g (inl p)
 store_stays unit number s f (x ∷ xs) (inr h) = elim (cases_Bool (has_number number x)) [
@@ -276,23 +300,34 @@ some_if : {X : Type 0} (b : Bool) (x n : X) → (if b then Some x else None) ≡
 some_if true x n h = cc
 some_if false x n h = cc
 
-load_requested : (unit : UnitPlace) (m n : UnitMemory) (o : Opened) (number address k : ℕ) → IsLinked unit m o → (b : Bool) → is_at unit address k ≡ b
+load_requested : (unit : UnitPlace) (m n : UnitMemory) (o : Opened) (number address k : ℕ) → IsLinked unit m o → (b : Bool)
+    → is_at unit address k ≡ b
     → Some (if b then with_load number address m else m) ≡ Some n → IsLinked unit n (opened_after o (LoadRequest number address k))
 load_requested unit m n o number address k h true t e =
     let same : with_load number address m ≡ n = cc in
     let x : Operation = record { number = number; address = address; length = k } in
     subst (λ y. IsLinked unit y (opened_after o (LoadRequest number address k))) same
-    (record { loads = keys_push unit m.loads o.loads (record { number = number; address = address; got = None }) x h.loads refl t; stores = h.stores })
+    (record {
+      loads = keys_push unit m.loads o.loads (record { number = number; address = address; got = None }) x h.loads refl t;
+      stores =
+          h.stores;
+    })
 load_requested unit m n o number address k h false t e =
     let same : m ≡ n = cc in
     let x : Operation = record { number = number; address = address; length = k } in
-    subst (λ y. IsLinked unit y (opened_after o (LoadRequest number address k))) same (record { loads = keys_pass unit m.loads o.loads x h.loads t; stores = h.stores })
+    subst (λ y. IsLinked unit y (opened_after o (LoadRequest number address k))) same
+    (record { loads = keys_pass unit m.loads o.loads x h.loads t; stores = h.stores })
 
-stores_more : (unit : UnitPlace) (os : List Operation) (o : Operation) (ss : List OpenStore) → Each (HasStore unit os) ss → Each (HasStore unit (os ++ o ∷ [])) ss
-stores_more unit os o ss a = each_weaker (HasStore unit os) (HasStore unit (os ++ o ∷ [])) (λ s h. one_left (λ x. (x.number ≡ s.number) × (is_of unit x ≡ true)) os (o ∷ []) h) ss a
+stores_more : (unit : UnitPlace) (os : List Operation) (o : Operation) (ss : List OpenStore) → Each (HasStore unit os) ss
+    → Each (HasStore unit (os ++ o ∷ [])) ss
+stores_more unit os o ss a =
+    each_weaker (HasStore unit os) (HasStore unit (os ++ o ∷ []))
+    (λ s h. one_left (λ x. (x.number ≡ s.number) × (is_of unit x ≡ true)) os (o ∷ []) h) ss a
 
-store_requested : (unit : UnitPlace) (m n : UnitMemory) (o : Opened) (x : Operation) (stored : List (Option ℕ)) → IsLinked unit m o → (b : Bool) → (b ≡ true → is_of unit x ≡ true)
-    → Some (if b then with_store x.number stored m else m) ≡ Some n → IsLinked unit n (record { loads = o.loads; stores = o.stores ++ x ∷ [] })
+store_requested : (unit : UnitPlace) (m n : UnitMemory) (o : Opened) (x : Operation) (stored : List (Option ℕ)) → IsLinked unit m o
+    → (b : Bool) → (b ≡ true → is_of unit x ≡ true)
+    → Some (if b then with_store x.number stored m else m) ≡ Some n
+    → IsLinked unit n (record { loads = o.loads; stores = o.stores ++ x ∷ [] })
 store_requested unit m n o x stored h true t e =
     let same : with_store x.number stored m ≡ n = cc in
     let s : OpenStore = record { number = x.number; bytes = stored; is_done = false } in
@@ -304,27 +339,32 @@ store_requested unit m n o x stored h true t e =
     })
 store_requested unit m n o x stored h false t e =
     let same : m ≡ n = cc in
-    subst (λ y. IsLinked unit y (record { loads = o.loads; stores = o.stores ++ x ∷ [] })) same (record { loads = h.loads; stores = stores_more unit o.stores x m.stores h.stores })
+    subst (λ y. IsLinked unit y (record { loads = o.loads; stores = o.stores ++ x ∷ [] })) same
+    (record { loads = h.loads; stores = stores_more unit o.stores x m.stores h.stores })
 
-linked_after : (unit : UnitPlace) (m n : UnitMemory) (o : Opened) (event : HistoryEvent) → IsLinked unit m o → seen unit m event ≡ Some n → IsLinked unit n (opened_after o event)
+linked_after : (unit : UnitPlace) (m n : UnitMemory) (o : Opened) (event : HistoryEvent) → IsLinked unit m o → seen unit m event ≡ Some n
+    → IsLinked unit n (opened_after o event)
 linked_after unit m n o (LoadRequest number address k) h e = load_requested unit m n o number address k h (is_at unit address k) refl e
 linked_after unit m n o (LoadResponse number bytes) h e =
     let same : without_load number m ≡ n = some_if (may_answer_load unit number bytes.now m.loads) (without_load number m) n e in
-    subst (λ y. IsLinked unit y (opened_after o (LoadResponse number bytes))) same (record { loads = keys_left unit number m.loads o.loads h.loads; stores = h.stores })
+    subst (λ y. IsLinked unit y (opened_after o (LoadResponse number bytes))) same
+    (record { loads = keys_left unit number m.loads o.loads h.loads; stores = h.stores })
 linked_after unit m n o (StoreRequest number address bytes enables) h e =
     let stored : List (Option ℕ) = at_unit unit (stored_byte address bytes.now enables) in
     store_requested unit m n o (record { number = number; address = address; length = length bytes.now }) stored h (list_any is_some stored)
     (λ t. any_lane unit address bytes.now enables (range_with_len 0 8) t) e
 linked_after unit m n o (StoreResponse number) h e =
     let same : without_store number m ≡ n = some_if (may_answer_store number m.stores) (without_store number m) n e in
-    subst (λ y. IsLinked unit y (opened_after o (StoreResponse number))) same (record { loads = h.loads; stores = stores_left unit number o.stores m.stores h.stores })
+    subst (λ y. IsLinked unit y (opened_after o (StoreResponse number))) same
+    (record { loads = h.loads; stores = stores_left unit number o.stores m.stores h.stores })
 
 linked_step : (unit : UnitPlace) (m n : UnitMemory) (o : Opened) → IsLinked unit m o → HiddenStep m n → IsLinked unit n o
 linked_step unit m n o h (inl (before, s, after, split, undone, made)) =
     let a : Each (HasStore unit o.stores) (before ++ s ∷ after) = subst (Each (HasStore unit o.stores)) split h.stores in
     subst (λ y. IsLinked unit y o) (sym made) (record { loads = h.loads; stores = done before a })
   where
-    done : (xs : List OpenStore) → Each (HasStore unit o.stores) (xs ++ s ∷ after) → Each (HasStore unit o.stores) (xs ++ done_store s ∷ after)
+    done : (xs : List OpenStore) → Each (HasStore unit o.stores) (xs ++ s ∷ after)
+        → Each (HasStore unit o.stores) (xs ++ done_store s ∷ after)
     done [] a = (a.0, a.1)
     done (x ∷ xs) a = (a.0, done xs a.1)
 linked_step unit m n o h (inr (before, l, after, split, undone, made)) =
@@ -332,29 +372,35 @@ linked_step unit m n o h (inr (before, l, after, split, undone, made)) =
     map-append load_key before (done_load m.word l ∷ after) ∙ sym (map-append load_key before (l ∷ after)) in
     subst (λ y. IsLinked unit y o) (sym made) (record { loads = same ∙ (ap (map load_key) (sym split) ∙ h.loads); stores = h.stores })
 
-pub opened_more : (o : Opened) (history : List HistoryEvent) (event : HistoryEvent) → fold opened_after o (history ++ event ∷ []) ≡ opened_after (fold opened_after o history) event
+pub opened_more : (o : Opened) (history : List HistoryEvent) (event : HistoryEvent)
+    → fold opened_after o (history ++ event ∷ []) ≡ opened_after (fold opened_after o history) event
 opened_more o [] event = refl
 opened_more o (x ∷ xs) event = opened_more (opened_after o x) xs event
 
-pub linked : (image : List ℕ) (rest : Rest) (unit : UnitPlace) {history : List HistoryEvent} {m : UnitMemory} → MayBe unit (untouched image rest unit) history m → IsLinked unit m (opened_by history)
+pub linked : (image : List ℕ) (rest : Rest) (unit : UnitPlace) {history : List HistoryEvent} {m : UnitMemory}
+    → MayBe unit (untouched image rest unit) history m → IsLinked unit m (opened_by history)
 linked image rest unit starts = record { loads = refl; stores = tt }
 linked image rest unit (steps history m n r step) = linked_step unit m n (opened_by history) (linked image rest unit r) step
 linked image rest unit (sees history event m n r e) =
-    subst (λ o. IsLinked unit n o) (sym (opened_more none_opened history event)) (linked_after unit m n (opened_by history) event (linked image rest unit r) e)
+    subst (λ o. IsLinked unit n o) (sym (opened_more none_opened history event))
+    (linked_after unit m n (opened_by history) event (linked image rest unit r) e)
 
 -- Events that pass a unit. ----
 
 -- no open load at the unit has this number
-no_key : (unit : UnitPlace) (number : ℕ) (os : List Operation) (o : Operation) → AreDistinct os → find (has_number number) os ≡ Some o → is_of unit o ≡ false
+no_key : (unit : UnitPlace) (number : ℕ) (os : List Operation) (o : Operation) → AreDistinct os → find (has_number number) os ≡ Some o
+    → is_of unit o ≡ false
     → (ps : List (ℕ × ℕ)) → ps ≡ map key (filter (is_of unit) os) → list_any (λ p. p.0 == number) ps ≡ false
 no_key unit number os o d e f ps same = elim (cases_Bool (list_any (λ p. p.0 == number) ps)) [
   | inr n ↦ n
   | inl t ↦
-      let there : One (λ x. (x.number ≡ number) × (is_of unit x ≡ true)) os = key_found os (ap (list_any (λ p. p.0 == number)) (sym same) ∙ t) in
+      let there : One (λ x. (x.number ≡ number) × (is_of unit x ≡ true)) os =
+      key_found os (ap (list_any (λ p. p.0 == number)) (sym same) ∙ t) in
       let yes : is_of unit o ≡ true = only (λ x. is_of unit x ≡ true) number os o d e there in let y : true ≡ false = sym yes ∙ f in cc
 ]
   where
-    key_found : (xs : List Operation) → list_any (λ p. p.0 == number) (map key (filter (is_of unit) xs)) ≡ true → One (λ x. (x.number ≡ number) × (is_of unit x ≡ true)) xs
+    key_found : (xs : List Operation) → list_any (λ p. p.0 == number) (map key (filter (is_of unit) xs)) ≡ true
+        → One (λ x. (x.number ≡ number) × (is_of unit x ≡ true)) xs
     key_found [] h = cc
     key_found (x ∷ xs) h = elim (cases_Bool (is_of unit x)) [
       | inr g ↦ inr (key_found xs (rw g at h))
@@ -375,19 +421,23 @@ loads_pass unit number bytes (m ∷ ms) h =
     let p = or_parts (is_load number m) (list_any (is_load number) ms) h in
     let r = loads_pass unit number bytes ms p.1 in (rw p.0 r.0, rw p.0 (ap (λ l. m ∷ l) r.1))
 
-stores_pass : (number : ℕ) (ss : List OpenStore) → list_any (is_store number) ss ≡ false → (may_answer_store number ss ≡ true) × (filter (λ s. not (is_store number s)) ss ≡ ss)
+stores_pass : (number : ℕ) (ss : List OpenStore) → list_any (is_store number) ss ≡ false
+    → (may_answer_store number ss ≡ true) × (filter (λ s. not (is_store number s)) ss ≡ ss)
 stores_pass number [] h = (refl, refl)
 stores_pass number (s ∷ ss) h =
-    let p = or_parts (is_store number s) (list_any (is_store number) ss) h in let r = stores_pass number ss p.1 in (rw p.0 r.0, rw p.0 (ap (λ l. s ∷ l) r.1))
+    let p = or_parts (is_store number s) (list_any (is_store number) ss) h in let r =
+    stores_pass number ss p.1 in (rw p.0 r.0, rw p.0 (ap (λ l. s ∷ l) r.1))
 
-no_store : (unit : UnitPlace) (number : ℕ) (os : List Operation) (o : Operation) → AreDistinct os → find (has_number number) os ≡ Some o → is_of unit o ≡ false
+no_store : (unit : UnitPlace) (number : ℕ) (os : List Operation) (o : Operation) → AreDistinct os → find (has_number number) os ≡ Some o
+    → is_of unit o ≡ false
     → (ss : List OpenStore) → Each (HasStore unit os) ss → list_any (is_store number) ss ≡ false
 no_store unit number os o d e f [] a = refl
 no_store unit number os o d e f (s ∷ ss) a = elim (cases_Bool (is_store number s)) [
   | inr n ↦ rw n (no_store unit number os o d e f ss a.1)
   | inl t ↦
       let n : s.number ≡ number = eqb-true s.number number t in
-      let yes : is_of unit o ≡ true = only (λ x. is_of unit x ≡ true) number os o d e (subst (λ i. One (λ x. (x.number ≡ i) × (is_of unit x ≡ true)) os) n a.0) in
+      let yes : is_of unit o ≡ true =
+      only (λ x. is_of unit x ≡ true) number os o d e (subst (λ i. One (λ x. (x.number ≡ i) × (is_of unit x ≡ true)) os) n a.0) in
       let y : true ≡ false = sym yes ∙ f in cc
 ]
 
@@ -404,13 +454,15 @@ in_range size address n k pos fits h =
     (omega arith, omega arith)
 
 -- what isn't among the units of some bytes has none of them
-not_at : (size address n k : ℕ) → 1 ≤ size → address + n ≤ 18446744073709551616 → is_among size (address, n) k ≡ false → is_at (unit_at size k) address n ≡ false
+not_at : (size address n k : ℕ) → 1 ≤ size → address + n ≤ 18446744073709551616 → is_among size (address, n) k ≡ false
+    → is_at (unit_at size k) address n ≡ false
 not_at size address n k pos fits h = elim (cases_Bool (is_at (unit_at size k) address n)) [
   | inr f ↦ f
   | inl t ↦
       let r = in_range size address n k pos fits t in
       let yes : is_among size (address, n) k ≡ true =
-      and_from (nat_le (address / size) k) (nat_lt k (address / size + units_of size address n)) (le-leb (address / size) k r.0) (lt-ltb k (address / size + units_of size address n) r.1) in
+      and_from (nat_le (address / size) k) (nat_lt k (address / size + units_of size address n)) (le-leb (address / size) k r.0)
+      (lt-ltb k (address / size + units_of size address n) r.1) in
       let y : true ≡ false = sym yes ∙ h in cc
 ]
 
@@ -423,7 +475,8 @@ pub open_load : (o : Option Operation) (n : ℕ) → answer_fault o n ≡ None �
 open_load None n h = cc
 open_load (Some x) n h = (x, refl)
 
-found_one : (number : ℕ) (os : List Operation) → list_any (has_number number) os ≡ true → (x : Operation) × (find (has_number number) os ≡ Some x)
+found_one : (number : ℕ) (os : List Operation) → list_any (has_number number) os ≡ true
+    → (x : Operation) × (find (has_number number) os ≡ Some x)
 found_one number [] h = cc
 found_one number (o ∷ os) h = elim (cases_Bool (has_number number o)) [
   | inl t ↦ (o, rw t refl)
@@ -443,24 +496,32 @@ if_other true x y h = cc
 if_other false x y h = refl
 
 -- an event whose operation has no byte at a unit changes nothing there
-pub passes : (size k : ℕ) (m : UnitMemory) (o : Opened) (event : HistoryEvent) → 1 ≤ size → IsFit o → IsLinked (unit_at size k) m o → form_fault o event ≡ None
+pub passes : (size k : ℕ) (m : UnitMemory) (o : Opened) (event : HistoryEvent) → 1 ≤ size → IsFit o → IsLinked (unit_at size k) m o
+    → form_fault o event ≡ None
     → is_among size (covered o event) k ≡ false → seen (unit_at size k) m event ≡ Some m
 passes size k m o (LoadRequest number address n) pos fit link f out =
     let p = load_allowed (is_inside address n) (list_any (has_number number) o.loads) f in
-    ap Some (if_other (is_at (unit_at size k) address n) (with_load number address m) m (not_at size address n k pos (inside_end address n p.0) out))
+    ap Some (if_other (is_at (unit_at size k) address n) (with_load number address m) m
+    (not_at size address n k pos (inside_end address n p.0) out))
 passes size k m o (LoadResponse number bytes) pos fit link f out =
     let unit : UnitPlace = unit_at size k in
     let r = open_load (find (has_number number) o.loads) (length bytes.now) f in
     let x : Operation = r.0 in
-    let no : is_of unit x ≡ false = not_at size x.address x.length k pos (inside_end x.address x.length (found_fit number o.loads x fit.loads.1 r.1)) (subst (λ y. is_among size (bytes_of_open y) k ≡ false) r.1 out) in
-    let none : list_any (is_load number) m.loads ≡ false = any_key number m.loads ∙ no_key unit number o.loads x fit.loads.0 r.1 no (map load_key m.loads) link.loads in
+    let no : is_of unit x ≡ false =
+    not_at size x.address x.length k pos (inside_end x.address x.length (found_fit number o.loads x fit.loads.1 r.1))
+    (subst (λ y. is_among size (bytes_of_open y) k ≡ false) r.1 out) in
+    let none : list_any (is_load number) m.loads ≡ false =
+    any_key number m.loads ∙ no_key unit number o.loads x fit.loads.0 r.1 no (map load_key m.loads) link.loads in
     let q = loads_pass unit number bytes.now m.loads none in
-    if_some (may_answer_load unit number bytes.now m.loads) (without_load number m) q.0 ∙ ap (λ ls. Some (record { word = m.word; stores = m.stores; loads = ls })) q.1
+    if_some (may_answer_load unit number bytes.now m.loads) (without_load number m) q.0
+    ∙ ap (λ ls. Some (record { word = m.word; stores = m.stores; loads = ls })) q.1
 passes size k m o (StoreRequest number address bytes enables) pos fit link f out =
     let unit : UnitPlace = unit_at size k in
     let stored : List (Option ℕ) = at_unit unit (stored_byte address bytes.now enables) in
-    let p = store_allowed (is_inside address (length bytes.now)) (has_enabled bytes.now enables) (list_any (has_number number) o.stores) f in
-    let no : is_at unit address (length bytes.now) ≡ false = not_at size address (length bytes.now) k pos (inside_end address (length bytes.now) p.0) out in
+    let p = store_allowed (is_inside address (length bytes.now)) (has_enabled bytes.now enables)
+    (list_any (has_number number) o.stores) f in
+    let no : is_at unit address (length bytes.now) ≡ false =
+    not_at size address (length bytes.now) k pos (inside_end address (length bytes.now) p.0) out in
     let none : list_any is_some stored ≡ false = elim (cases_Bool (list_any is_some stored)) [
       | inr n ↦ n
       | inl t ↦ let y : true ≡ false = sym (any_lane unit address bytes.now enables (range_with_len 0 8) t) ∙ no in cc
@@ -470,6 +531,9 @@ passes size k m o (StoreResponse number) pos fit link f out =
     let unit : UnitPlace = unit_at size k in
     let r = found_one number o.stores (is_answered (list_any (has_number number) o.stores) f) in
     let x : Operation = r.0 in
-    let no : is_of unit x ≡ false = not_at size x.address x.length k pos (inside_end x.address x.length (found_fit number o.stores x fit.stores.1 r.1)) (subst (λ y. is_among size (bytes_of_open y) k ≡ false) r.1 out) in
+    let no : is_of unit x ≡ false =
+    not_at size x.address x.length k pos (inside_end x.address x.length (found_fit number o.stores x fit.stores.1 r.1))
+    (subst (λ y. is_among size (bytes_of_open y) k ≡ false) r.1 out) in
     let q = stores_pass number m.stores (no_store unit number o.stores x fit.stores.0 r.1 no m.stores link.stores) in
-    if_some (may_answer_store number m.stores) (without_store number m) q.0 ∙ ap (λ ss. Some (record { word = m.word; stores = ss; loads = m.loads })) q.1
+    if_some (may_answer_store number m.stores) (without_store number m) q.0
+    ∙ ap (λ ss. Some (record { word = m.word; stores = ss; loads = m.loads })) q.1

@@ -21,7 +21,8 @@ use Rattle.atomic_histories.specs.declared.unit.UnitPlace.{UnitPlace}
 use Rattle.atomic_histories.specs.May.{address_of, ways_set, set_at, sets_from, is_reach_wide, are_wide_from, IsNoVerdict}
 use Rattle.atomic_histories.specs.Judge.{bytes_of, shown_unit, kept_or, kept_at, put_from, UnitFaultIs, ChangeFaultIs}
 
-pub units_fit : (size : UnitSize) (a n : ℕ) → a < 18446744073709551616 → (a / bytes_of size + units_of (bytes_of size) a n) * bytes_of size ≤ 18446744073709551616
+pub units_fit : (size : UnitSize) (a n : ℕ) → a < 18446744073709551616
+    → (a / bytes_of size + units_of (bytes_of size) a n) * bytes_of size ≤ 18446744073709551616
 units_fit One a n h = omega arith
 units_fit Two a n h = omega arith
 units_fit Four a n h = omega arith
@@ -33,13 +34,15 @@ sized Two = omega arith
 sized Four = omega arith
 sized Eight = omega arith
 
-pub unit_below : (from count size j : ℕ) → (from + count) * size ≤ 18446744073709551616 → j < count → 1 ≤ size → (from + j) * size < 18446744073709551616
+pub unit_below : (from count size j : ℕ) → (from + count) * size ≤ 18446744073709551616 → j < count → 1 ≤ size
+    → (from + j) * size < 18446744073709551616
 unit_below from count size j h l pos =
     let more : suc (from + j) * size ≤ (from + count) * size = mul-le-mul_right size (omega arith) in
     let split : suc (from + j) * size ≡ (from + j) * size + size = suc-mul (from + j) size in
     omega arith
 
-pub number_below : (from count size j : ℕ) → (from + count) * size ≤ 18446744073709551616 → j < count → 1 ≤ size → from + j < 18446744073709551616
+pub number_below : (from count size j : ℕ) → (from + count) * size ≤ 18446744073709551616 → j < count → 1 ≤ size
+    → from + j < 18446744073709551616
 number_below from count size j h l pos =
     let below : (from + j) * size < 18446744073709551616 = unit_below from count size j h l pos in
     let least : (from + j) * 1 ≤ (from + j) * size = mul-le-mul_left (from + j) pos in
@@ -60,8 +63,10 @@ ways_step h event from count j l =
     rw (left, ← next) refl
 
 -- one more unit of those that are changed one by one
-pub ways_more : (h : Held) (event : HistoryEvent) (us : List KeptUnit) (u : KeptUnit) (from count j : ℕ) → j < count → shown_unit u ≡ ways_after h event (from + j)
-    → map shown_unit (us ++ u ∷ []) ++ ways_from h event (from + (j + 1)) (count - (j + 1)) ≡ map shown_unit us ++ ways_from h event (from + j) (count - j)
+pub ways_more : (h : Held) (event : HistoryEvent) (us : List KeptUnit) (u : KeptUnit) (from count j : ℕ) → j < count
+    → shown_unit u ≡ ways_after h event (from + j)
+    → map shown_unit (us ++ u ∷ []) ++ ways_from h event (from + (j + 1)) (count - (j + 1)) ≡ map shown_unit us ++ ways_from h event
+    (from + j) (count - j)
 ways_more h event us u from count j l e =
     let tail : List (List Branch) = ways_from h event (from + (j + 1)) (count - (j + 1)) in
     ap (λ t. t ++ tail) (map-append shown_unit us (u ∷ [])) ∙ (append_assoc (map shown_unit us) (shown_unit u ∷ []) tail
@@ -86,11 +91,13 @@ or_right : (a b : Bool) → b ≡ true → (a || b) ≡ true
 or_right true b h = refl
 or_right false b h = h
 
-wide_at : (limit : ℕ) (h : Held) (event : HistoryEvent) (k n j : ℕ) → j < n → is_too_wide limit (unit_at h.size (k + j)) (h.units (k + j)) event ≡ true → wide_from limit h event k n ≡ true
+wide_at : (limit : ℕ) (h : Held) (event : HistoryEvent) (k n j : ℕ) → j < n
+    → is_too_wide limit (unit_at h.size (k + j)) (h.units (k + j)) event ≡ true → wide_from limit h event k n ≡ true
 wide_at limit h event k zero j l t = absurd (omega arith)
 wide_at limit h event k (suc n) zero l t =
     let here : k + 0 ≡ k = omega arith in
-    or_left (is_too_wide limit (unit_at h.size k) (h.units k) event) (wide_from limit h event (k + 1) n) (subst (λ i. is_too_wide limit (unit_at h.size i) (h.units i) event ≡ true) here t)
+    or_left (is_too_wide limit (unit_at h.size k) (h.units k) event) (wide_from limit h event (k + 1) n)
+    (subst (λ i. is_too_wide limit (unit_at h.size i) (h.units i) event ≡ true) here t)
 wide_at limit h event k (suc n) (suc j) l t =
     let next : k + suc j ≡ k + 1 + j = omega arith in
     or_right (is_too_wide limit (unit_at h.size k) (h.units k) event) (wide_from limit h event (k + 1) n)
@@ -98,14 +105,17 @@ wide_at limit h event k (suc n) (suc j) l t =
 
 -- what is said of one unit is said of all of them, if those before it have ways
 pub fault_at : (fault : AtomicFault) (limit : ℕ) (h : Held) (event : HistoryEvent) (from count j : ℕ) → j < count
-    → stuck_from h event (from + j) (count - j) ≡ stuck_from h event from count → UnitFaultIs limit h event (from + j) fault → ChangeFaultIs limit h event from count fault
-fault_at (Refused cause) limit h event from count j l same f = (from + j, sym same ∙ stuck_here h event (from + j) (count - j) (omega arith) f.0, f.1)
+    → stuck_from h event (from + j) (count - j) ≡ stuck_from h event from count → UnitFaultIs limit h event (from + j) fault
+    → ChangeFaultIs limit h event from count fault
+fault_at (Refused cause) limit h event from count j l same f =
+    (from + j, sym same ∙ stuck_here h event (from + j) (count - j) (omega arith) f.0, f.1)
 fault_at Undecided limit h event from count j l same f = wide_at limit h event from count j l f
 fault_at OutOfMemory limit h event from count j l same f = tt
 
 -- Units that are put one by one, the last first. ----
 
-pub put_last : (f g : ℕ → Option KeptUnit) (us : List KeptUnit) (u : KeptUnit) (from k : ℕ) → ((j : ℕ) → g j ≡ put_from f (from + length us) (u ∷ []) j)
+pub put_last : (f g : ℕ → Option KeptUnit) (us : List KeptUnit) (u : KeptUnit) (from k : ℕ)
+    → ((j : ℕ) → g j ≡ put_from f (from + length us) (u ∷ []) j)
     → put_from g from us k ≡ put_from f from (us ++ u ∷ []) k
 put_last f g [] u from k e =
     let here : from + 0 ≡ from = omega arith in e k ∙ ap (λ i. put_from f i (u ∷ []) k) here
@@ -116,7 +126,8 @@ put_last f g (x ∷ xs) u from k e =
     ap (λ r. if from == k then Some x else r) rest
 
 -- what is shown of units that were put
-pub put_shown : (h : Held) (event : HistoryEvent) (f : ℕ → Option KeptUnit) (d : List Branch) (n from : ℕ) (us : List KeptUnit) → map shown_unit us ≡ ways_from h event from n → (k : ℕ)
+pub put_shown : (h : Held) (event : HistoryEvent) (f : ℕ → Option KeptUnit) (d : List Branch) (n from : ℕ) (us : List KeptUnit)
+    → map shown_unit us ≡ ways_from h event from n → (k : ℕ)
     → kept_or (put_from f from us k) d ≡ (if nat_le from k && nat_lt k (from + n) then ways_after h event k else kept_or (f k) d)
 put_shown h event f d zero from [] e k = elim (cases_lt k from) [
   | inl below ↦ rw (lt-leb from k below) refl
@@ -129,12 +140,14 @@ put_shown h event f d (suc n) from (u ∷ us) e k =
     let others : map shown_unit us ≡ ways_from h event (from + 1) n = cc in
     elim (cases_eq from k) [
       | inl same ↦
-          let in_ : (nat_le from k && nat_lt k (from + suc n)) ≡ true = and_from (nat_le from k) (nat_lt k (from + suc n)) (le-leb from k (omega arith)) (lt-ltb k (from + suc n) (omega arith)) in
+          let in_ : (nat_le from k && nat_lt k (from + suc n)) ≡ true =
+          and_from (nat_le from k) (nat_lt k (from + suc n)) (le-leb from k (omega arith)) (lt-ltb k (from + suc n) (omega arith)) in
           rw (eq-eqb from k same, in_) (first ∙ ap (ways_after h event) same)
       | inr other ↦
           let none : (from == k) ≡ false = ne_eqb from k other in
           let r = put_shown h event f d n (from + 1) us others k in
-          let more : (nat_le (from + 1) k && nat_lt k (from + 1 + n)) ≡ (nat_le from k && nat_lt k (from + suc n)) = elim (cases_lt k from) [
+          let more : (nat_le (from + 1) k && nat_lt k (from + 1 + n)) ≡ (nat_le from k && nat_lt k (from + suc n)) =
+          elim (cases_lt k from) [
             | inl below ↦ rw (lt-leb from k below, lt-leb (from + 1) k (omega arith)) refl
             | inr above ↦
                 let end : from + 1 + n ≡ from + suc n = omega arith in
@@ -149,31 +162,37 @@ length_from h event k (suc n) = ap suc (length_from h event (k + 1) n)
 
 -- there are numbers for so many units
 pub numbers_fit : (from count size : ℕ) → (from + count) * size ≤ 18446744073709551616 → 1 ≤ size → from + count ≤ 18446744073709551616
-numbers_fit from count size h pos = let least : (from + count) * 1 ≤ (from + count) * size = mul-le-mul_left (from + count) pos in omega arith
+numbers_fit from count size h pos = let least : (from + count) * 1 ≤ (from + count) * size =
+    mul-le-mul_left (from + count) pos in omega arith
 
 pub step_fits : (a b m n l : ℕ) → b ≡ a → n ≡ m → a / m + l ≤ 18446744073709551616 → b / n + l ≤ 18446744073709551616
 step_fits a b m n l e f h = subst (λ x. x / n + l ≤ 18446744073709551616) (sym e) (subst (λ x. a / x + l ≤ 18446744073709551616) (sym f) h)
 
 -- what is shown of a unit after an event, once the units are put that it touches
-pub taken_unit : (h : Held) (event : HistoryEvent) (f g : ℕ → Option KeptUnit) (d : List Branch) (from : ℕ) (us : List KeptUnit) (k : ℕ) → g k ≡ put_from f from us k
+pub taken_unit : (h : Held) (event : HistoryEvent) (f g : ℕ → Option KeptUnit) (d : List Branch) (from : ℕ) (us : List KeptUnit) (k : ℕ)
+    → g k ≡ put_from f from us k
     → from ≡ (covered h.opened event).0 / h.size
-    → map shown_unit us ≡ ways_from h event ((covered h.opened event).0 / h.size) (units_of h.size (covered h.opened event).0 (covered h.opened event).1)
+    → map shown_unit us ≡ ways_from h event ((covered h.opened event).0 / h.size)
+    (units_of h.size (covered h.opened event).0 (covered h.opened event).1)
     → kept_or (f k) d ≡ h.units k → kept_or (g k) d ≡ unit_after h event k
 taken_unit h event f g d from us k put same e kept =
     let first : ℕ = (covered h.opened event).0 / h.size in
     let count : ℕ = units_of h.size (covered h.opened event).0 (covered h.opened event).1 in
     ap (λ x. kept_or x d) put
     ∙ (ap (λ i. kept_or (put_from f i us k) d) same
-    ∙ (put_shown h event f d count first us e k ∙ ap (λ x. if nat_le first k && nat_lt k (first + count) then ways_after h event k else x) kept))
+    ∙ (put_shown h event f d count first us e k
+    ∙ ap (λ x. if nat_le first k && nat_lt k (first + count) then ways_after h event k else x) kept))
 
-pub forgotten_unit : (f : ℕ → Option KeptUnit) (d : List Branch) (number k : ℕ) (u : KeptUnit) → shown_unit u ≡ [] → kept_or (put_from f number (u ∷ []) k) d ≡ (if number == k then [] else kept_or (f k) d)
+pub forgotten_unit : (f : ℕ → Option KeptUnit) (d : List Branch) (number k : ℕ) (u : KeptUnit) → shown_unit u ≡ []
+    → kept_or (put_from f number (u ∷ []) k) d ≡ (if number == k then [] else kept_or (f k) d)
 forgotten_unit f d number k u e = elim (cases_Bool (number == k)) [
   | inl t ↦ rw t e
   | inr n ↦ rw n refl
 ]
 
 -- a map that has the same at each key shows the same units
-pub same_units : (image : List ℕ) (rest : Rest) (size : ℕ) (f g : ℕ → Option KeptUnit) → ((k : ℕ) → g k ≡ f k) → kept_at image rest size g ≡ kept_at image rest size f
+pub same_units : (image : List ℕ) (rest : Rest) (size : ℕ) (f g : ℕ → Option KeptUnit) → ((k : ℕ) → g k ≡ f k)
+    → kept_at image rest size g ≡ kept_at image rest size f
 same_units image rest size f g e = fun_ext (λ k. ap (λ x. kept_or x (first_ways image rest (unit_at size k))) (e k))
 
 -- what is said of an error that is passed on
@@ -188,10 +207,12 @@ lane_below Four a = omega arith
 lane_below Eight a = omega arith
 
 -- no load is open at a unit that no operation has touched
-pub untouched_set : (image : List ℕ) (rest : Rest) (unit : UnitPlace) (number k : ℕ) → no_bytes ≡ ways_set number k (first_ways image rest unit)
+pub untouched_set : (image : List ℕ) (rest : Rest) (unit : UnitPlace) (number k : ℕ)
+    → no_bytes ≡ ways_set number k (first_ways image rest unit)
 untouched_set image rest unit number k = refl
 
-sets_step : (h : Held) (number a count i : ℕ) → i < count → sets_from h number a i (count - i) ≡ set_at h number (address_of a i) ∷ sets_from h number a (i + 1) (count - (i + 1))
+sets_step : (h : Held) (number a count i : ℕ) → i < count
+    → sets_from h number a i (count - i) ≡ set_at h number (address_of a i) ∷ sets_from h number a (i + 1) (count - (i + 1))
 sets_step h number a count i l = let left : count - i ≡ suc (count - (i + 1)) = omega arith in rw left refl
 
 pub sets_more : (h : Held) (number a count i : ℕ) (sets : List ByteSet) (set : ByteSet) → i < count → set ≡ set_at h number (address_of a i)
@@ -200,7 +221,8 @@ sets_more h number a count i sets set l e =
     append_assoc sets (set ∷ []) (sets_from h number a (i + 1) (count - (i + 1)))
     ∙ (ap (λ x. sets ++ x ∷ sets_from h number a (i + 1) (count - (i + 1))) e ∙ ap (λ t. sets ++ t) (sym (sets_step h number a count i l)))
 
-wide_set : (limit : ℕ) (h : Held) (a n from j : ℕ) → j < n → is_reach_wide limit (h.units (address_of a (from + j) / h.size)) ≡ true → are_wide_from limit h a from n ≡ true
+wide_set : (limit : ℕ) (h : Held) (a n from j : ℕ) → j < n → is_reach_wide limit (h.units (address_of a (from + j) / h.size)) ≡ true
+    → are_wide_from limit h a from n ≡ true
 wide_set limit h a zero from j l t = absurd (omega arith)
 wide_set limit h a (suc n) from zero l t =
     let here : from + 0 ≡ from = omega arith in
@@ -211,7 +233,9 @@ wide_set limit h a (suc n) from (suc j) l t =
     or_right (is_reach_wide limit (h.units (address_of a from / h.size))) (are_wide_from limit h a (from + 1) n)
     (wide_set limit h a n (from + 1) j (omega arith) (subst (λ i. is_reach_wide limit (h.units (address_of a i / h.size)) ≡ true) next t))
 
-pub no_set : (fault : AtomicFault) (limit : ℕ) (h : Held) (a n i : ℕ) → i < n → IsNoVerdict (is_reach_wide limit (h.units (address_of a i / h.size))) fault → IsNoVerdict (are_wide_from limit h a 0 n) fault
+pub no_set : (fault : AtomicFault) (limit : ℕ) (h : Held) (a n i : ℕ) → i < n
+    → IsNoVerdict (is_reach_wide limit (h.units (address_of a i / h.size))) fault → IsNoVerdict (are_wide_from limit h a 0 n) fault
 no_set (Refused cause) limit h a n i l f = f
-no_set Undecided limit h a n i l f = let here : i ≡ 0 + i = omega arith in wide_set limit h a n 0 i l (subst (λ j. is_reach_wide limit (h.units (address_of a j / h.size)) ≡ true) here f)
+no_set Undecided limit h a n i l f = let here : i ≡ 0 + i =
+    omega arith in wide_set limit h a n 0 i l (subst (λ j. is_reach_wide limit (h.units (address_of a j / h.size)) ≡ true) here f)
 no_set OutOfMemory limit h a n i l f = tt

@@ -41,7 +41,8 @@ or_assoc false b c = refl
 
 -- whether a load shows this byte
 abbrev shows_load : ℕ → ℕ → ℕ → Branch → WatchedLoad → Bool
-shows_load number k b e l = is_watched number l && (may_show (lane_of k e.word) b || list_any (λ w. may_show (lane_of k w) b) (drop l.since e.path))
+shows_load number k b e l =
+    is_watched number l && (may_show (lane_of k e.word) b || list_any (λ w. may_show (lane_of k w) b) (drop l.since e.path))
 
 abbrev shows : ℕ → ℕ → ℕ → Branch → Bool
 shows number k b e = list_any (shows_load number k b e) e.loads
@@ -50,51 +51,63 @@ has_lane : (set : ByteSet) (x : Option ℕ) (b : ℕ) → b < 256 → has (with_
 has_lane set (Some c) b l = has-with_byte set c b
 has_lane set None b l = has-all_bytes b ∙ (lt-ltb b 256 l ∙ sym (or_true (has set b)))
 
-has_words : (k : ℕ) (set : ByteSet) (ws : List Word) (b : ℕ) → b < 256 → has (with_words k set ws) b ≡ (has set b || list_any (λ w. may_show (lane_of k w) b) ws)
+has_words : (k : ℕ) (set : ByteSet) (ws : List Word) (b : ℕ) → b < 256
+    → has (with_words k set ws) b ≡ (has set b || list_any (λ w. may_show (lane_of k w) b) ws)
 has_words k set [] b l = sym (or_none (has set b))
 has_words k set (w ∷ ws) b l =
     has_words k (with_lane set (lane_of k w)) ws b l
-    ∙ (ap (λ x. x || list_any (λ v. may_show (lane_of k v) b) ws) (has_lane set (lane_of k w) b l) ∙ or_assoc (has set b) (may_show (lane_of k w) b) (list_any (λ v. may_show (lane_of k v) b) ws))
+    ∙ (ap (λ x. x || list_any (λ v. may_show (lane_of k v) b) ws) (has_lane set (lane_of k w) b l)
+    ∙ or_assoc (has set b) (may_show (lane_of k w) b) (list_any (λ v. may_show (lane_of k v) b) ws))
 
-has_load : (number k : ℕ) (e : Branch) (set : ByteSet) (l : WatchedLoad) (b : ℕ) → b < 256 → has (with_load_bytes number k e set l) b ≡ (has set b || shows_load number k b e l)
+has_load : (number k : ℕ) (e : Branch) (set : ByteSet) (l : WatchedLoad) (b : ℕ) → b < 256
+    → has (with_load_bytes number k e set l) b ≡ (has set b || shows_load number k b e l)
 has_load number k e set l b lt = elim (cases_Bool (is_watched number l)) [
   | inr f ↦ rw f (sym (or_none (has set b)))
   | inl t ↦
       let past : Bool = list_any (λ w. may_show (lane_of k w) b) (drop l.since e.path) in
-      let r : has (with_words k (with_lane set (lane_of k e.word)) (drop l.since e.path)) b ≡ (has set b || (may_show (lane_of k e.word) b || past)) =
+      let r : has (with_words k (with_lane set (lane_of k e.word)) (drop l.since e.path)) b ≡
+      (has set b || (may_show (lane_of k e.word) b || past)) =
       has_words k (with_lane set (lane_of k e.word)) (drop l.since e.path) b lt
       ∙ (ap (λ x. x || past) (has_lane set (lane_of k e.word) b lt) ∙ or_assoc (has set b) (may_show (lane_of k e.word) b) past) in
       rw t r
 ]
 
-has_loads : (number k : ℕ) (e : Branch) (set : ByteSet) (ls : List WatchedLoad) (b : ℕ) → b < 256 → has (fold (with_load_bytes number k e) set ls) b ≡ (has set b || list_any (shows_load number k b e) ls)
+has_loads : (number k : ℕ) (e : Branch) (set : ByteSet) (ls : List WatchedLoad) (b : ℕ) → b < 256
+    → has (fold (with_load_bytes number k e) set ls) b ≡ (has set b || list_any (shows_load number k b e) ls)
 has_loads number k e set [] b l = sym (or_none (has set b))
 has_loads number k e set (x ∷ xs) b l =
     has_loads number k e (with_load_bytes number k e set x) xs b l
-    ∙ (ap (λ y. y || list_any (shows_load number k b e) xs) (has_load number k e set x b l) ∙ or_assoc (has set b) (shows_load number k b e x) (list_any (shows_load number k b e) xs))
+    ∙ (ap (λ y. y || list_any (shows_load number k b e) xs) (has_load number k e set x b l)
+    ∙ or_assoc (has set b) (shows_load number k b e x) (list_any (shows_load number k b e) xs))
 
-has_ways : (number k : ℕ) (set : ByteSet) (es : List Branch) (b : ℕ) → b < 256 → has (with_ways_bytes number k set es) b ≡ (has set b || list_any (shows number k b) es)
+has_ways : (number k : ℕ) (set : ByteSet) (es : List Branch) (b : ℕ) → b < 256
+    → has (with_ways_bytes number k set es) b ≡ (has set b || list_any (shows number k b) es)
 has_ways number k set [] b l = sym (or_none (has set b))
 has_ways number k set (e ∷ es) b l =
     has_ways number k (with_way_bytes number k set e) es b l
-    ∙ (ap (λ y. y || list_any (shows number k b) es) (has_loads number k e set e.loads b l) ∙ or_assoc (has set b) (shows number k b e) (list_any (shows number k b) es))
+    ∙ (ap (λ y. y || list_any (shows number k b) es) (has_loads number k e set e.loads b l)
+    ∙ or_assoc (has set b) (shows number k b e) (list_any (shows number k b) es))
 
 -- whether one shows it of those that stores lead to in so many rounds, without these themselves
 abbrev is_reached : (Branch → Bool) → ℕ → List Branch → Bool
 is_reached p zero es = false
 is_reached p (suc n) es = list_any p (next_after never es) || is_reached p n (next_after never es)
 
-has_reached : (number k n : ℕ) (set : ByteSet) (es : List Branch) (b : ℕ) → b < 256 → has (reached_bytes number k n set es) b ≡ (has set b || is_reached (shows number k b) n es)
+has_reached : (number k n : ℕ) (set : ByteSet) (es : List Branch) (b : ℕ) → b < 256
+    → has (reached_bytes number k n set es) b ≡ (has set b || is_reached (shows number k b) n es)
 has_reached number k zero set es b l = sym (or_none (has set b))
 has_reached number k (suc n) set es b l =
     let next : List Branch = next_after never es in
     has_reached number k n (with_ways_bytes number k set next) next b l
-    ∙ (ap (λ y. y || is_reached (shows number k b) n next) (has_ways number k set next b l) ∙ or_assoc (has set b) (list_any (shows number k b) next) (is_reached (shows number k b) n next))
+    ∙ (ap (λ y. y || is_reached (shows number k b) n next) (has_ways number k set next b l)
+    ∙ or_assoc (has set b) (list_any (shows number k b) next) (is_reached (shows number k b) n next))
 
-has_byte_set : (number k : ℕ) (es : List Branch) (b : ℕ) → b < 256 → has (byte_set number k es) b ≡ (list_any (shows number k b) es || is_reached (shows number k b) (rounds es) es)
+has_byte_set : (number k : ℕ) (es : List Branch) (b : ℕ) → b < 256
+    → has (byte_set number k es) b ≡ (list_any (shows number k b) es || is_reached (shows number k b) (rounds es) es)
 has_byte_set number k es b l =
     has_reached number k (rounds es) (with_ways_bytes number k no_bytes es) es b l
-    ∙ ap (λ y. y || is_reached (shows number k b) (rounds es) es) (has_ways number k no_bytes es b l ∙ ap (λ y. y || list_any (shows number k b) es) (has-no_bytes b))
+    ∙ ap (λ y. y || is_reached (shows number k b) (rounds es) es)
+    (has_ways number k no_bytes es b l ∙ ap (λ y. y || list_any (shows number k b) es) (has-no_bytes b))
 
 -- What is shown may be got. ----
 
@@ -115,7 +128,8 @@ past_word p (x ∷ xs) h = elim (cases_Bool (p x)) [
   | inr f ↦ let r = past_word p xs (rw f at h) in (r.0, r.1, inr r.2)
 ]
 
-shown_word : (k b : ℕ) (e : Branch) (l : WatchedLoad) → (may_show (lane_of k e.word) b || list_any (λ w. may_show (lane_of k w) b) (drop l.since e.path)) ≡ true
+shown_word : (k b : ℕ) (e : Branch) (l : WatchedLoad)
+    → (may_show (lane_of k e.word) b || list_any (λ w. may_show (lane_of k w) b) (drop l.since e.path)) ≡ true
     → (v : Word) × (may_show (lane_of k v) b ≡ true) × MayHaveGot e.word (drop l.since e.path) (Some v)
 shown_word k b e l h = elim (cases_Bool (may_show (lane_of k e.word) b)) [
   | inl t ↦ (e.word, t, inl refl)
@@ -135,11 +149,16 @@ with_got : (number k b : ℕ) (e : Branch) (ls : List WatchedLoad) → list_any 
 with_got number k b e [] h = cc
 with_got number k b e (l ∷ ls) h = elim (cases_Bool (shows_load number k b e l)) [
   | inl t ↦
-      let p = and_parts (is_watched number l) (may_show (lane_of k e.word) b || list_any (λ w. may_show (lane_of k w) b) (drop l.since e.path)) t in
+      let p = and_parts (is_watched number l)
+      (may_show (lane_of k e.word) b || list_any (λ w. may_show (lane_of k w) b) (drop l.since e.path)) t in
       let v = shown_word k b e l p.1 in
       let m : OpenLoad = record { number = l.number; address = l.address; got = Some v.0 } in
-      let got : got_byte number k b m ≡ true = and_from (is_load number m) (may_show (lane_of k v.0) b) p.0 v.1 in
-      (m ∷ map not_yet ls, ((refl, refl, v.2), watched_not_yet e.word e.path ls), or_left_true (got_byte number k b m) (list_any (got_byte number k b) (map not_yet ls)) got)
+      let got : got_byte number k b m ≡ true = and_from (is_load number m) (may_show (lane_of k v.0) b) p.0 v.1 in (
+        m ∷ map not_yet ls,
+        ((refl, refl, v.2), watched_not_yet e.word e.path ls),
+        or_left_true (got_byte number k b m)
+            (list_any (got_byte number k b) (map not_yet ls)) got,
+      )
   | inr f ↦
       let r = with_got number k b e ls (rw f at h) in
       (not_yet l ∷ r.0, (first, r.1), or_right_true (got_byte number k b (not_yet l)) (list_any (got_byte number k b) r.0) r.2)
@@ -148,7 +167,8 @@ with_got number k b e (l ∷ ls) h = elim (cases_Bool (shows_load number k b e l
     first : IsWatched e.word e.path l (not_yet l)
     first = (refl, refl, tt)
 
-shown_got : (number k b : ℕ) (P : UnitMemory → Type 0) (e : Branch) → IsSound P e → shows number k b e ≡ true → (m : UnitMemory) × P m × (list_any (got_byte number k b) m.loads ≡ true)
+shown_got : (number k b : ℕ) (P : UnitMemory → Type 0) (e : Branch) → IsSound P e → shows number k b e ≡ true
+    → (m : UnitMemory) × P m × (list_any (got_byte number k b) m.loads ≡ true)
 shown_got number k b P e s h =
     let r = with_got number k b e e.loads h in
     let m : UnitMemory = record { word = e.word; stores = e.stores; loads = r.0 } in
@@ -162,7 +182,8 @@ any_got number k b P (e ∷ es) a h = elim (cases_Bool (shows number k b e)) [
   | inr f ↦ any_got number k b P es a.1 (rw f at h)
 ]
 
-reached_got : (number k b : ℕ) (P : UnitMemory → Type 0) → IsKept (IsSound P) → (n : ℕ) (es : List Branch) → Each (IsSound P) es → is_reached (shows number k b) n es ≡ true
+reached_got : (number k b : ℕ) (P : UnitMemory → Type 0) → IsKept (IsSound P) → (n : ℕ) (es : List Branch) → Each (IsSound P) es
+    → is_reached (shows number k b) n es ≡ true
     → (m : UnitMemory) × P m × (list_any (got_byte number k b) m.loads ≡ true)
 reached_got number k b P kept zero es a h = cc
 reached_got number k b P kept (suc n) es a h =
@@ -184,11 +205,14 @@ got_shown : (k b : ℕ) (e : Branch) (l : WatchedLoad) (g : Option Word) → has
     → (may_show (lane_of k e.word) b || list_any (λ w. may_show (lane_of k w) b) (drop l.since e.path)) ≡ true
 got_shown k b e l None t h = cc
 got_shown k b e l (Some v) t (inl same) =
-    or_left_true (may_show (lane_of k e.word) b) (list_any (λ w. may_show (lane_of k w) b) (drop l.since e.path)) (ap (λ w. may_show (lane_of k w) b) (sym same) ∙ t)
+    or_left_true (may_show (lane_of k e.word) b) (list_any (λ w. may_show (lane_of k w) b) (drop l.since e.path))
+    (ap (λ w. may_show (lane_of k w) b) (sym same) ∙ t)
 got_shown k b e l (Some v) t (inr past) =
-    or_right_true (may_show (lane_of k e.word) b) (list_any (λ w. may_show (lane_of k w) b) (drop l.since e.path)) (past_shown (λ w. may_show (lane_of k w) b) v (drop l.since e.path) t past)
+    or_right_true (may_show (lane_of k e.word) b) (list_any (λ w. may_show (lane_of k w) b) (drop l.since e.path))
+    (past_shown (λ w. may_show (lane_of k w) b) v (drop l.since e.path) t past)
 
-loads_show : (number k b : ℕ) (e : Branch) (ls : List WatchedLoad) (ms : List OpenLoad) → AreWatched e.word e.path ls ms → list_any (got_byte number k b) ms ≡ true
+loads_show : (number k b : ℕ) (e : Branch) (ls : List WatchedLoad) (ms : List OpenLoad) → AreWatched e.word e.path ls ms
+    → list_any (got_byte number k b) ms ≡ true
     → list_any (shows_load number k b e) ls ≡ true
 loads_show number k b e [] [] a h = cc
 loads_show number k b e [] (m ∷ ms) a h = absurd a
@@ -198,21 +222,27 @@ loads_show number k b e (l ∷ ls) (m ∷ ms) a h = elim (cases_Bool (got_byte n
       let p = and_parts (is_load number m) (has_got k b m.got) t in
       let there : is_watched number l ≡ true = ap (λ i. i == number) a.0.0 ∙ p.0 in
       or_left_true (shows_load number k b e l) (list_any (shows_load number k b e) ls)
-      (and_from (is_watched number l) (may_show (lane_of k e.word) b || list_any (λ w. may_show (lane_of k w) b) (drop l.since e.path)) there (got_shown k b e l m.got p.1 a.0.2))
-  | inr f ↦ or_right_true (shows_load number k b e l) (list_any (shows_load number k b e) ls) (loads_show number k b e ls ms a.1 (rw f at h))
+      (and_from (is_watched number l)
+      (may_show (lane_of k e.word) b || list_any (λ w. may_show (lane_of k w) b) (drop l.since e.path)) there
+      (got_shown k b e l m.got p.1 a.0.2))
+  | inr f ↦ or_right_true (shows_load number k b e l) (list_any (shows_load number k b e) ls)
+      (loads_show number k b e ls ms a.1 (rw f at h))
 ]
 
 -- within so many steps a way comes to one that shows it
 abbrev Comes : (Branch → Bool) → ℕ → Branch → Type 0
 Comes p zero e = p e ≡ true
 Comes p (suc n) e = (p e ≡ true)
-    ⊎ ((before : List OpenStore) × (s : OpenStore) × (after : List OpenStore) × (e.stores ≡ before ++ s ∷ after) × (s.is_done ≡ false) × Comes p n (effect_of e before s after))
+    ⊎ ((before : List OpenStore) × (s : OpenStore) × (after : List OpenStore) × (e.stores ≡ before ++ s ∷ after) × (s.is_done ≡ false)
+    × Comes p n (effect_of e before s after))
 
-comes_of : (p : Branch → Bool) {e : Branch} {m : UnitMemory} → Leads e m → ((x : Branch) → IsOn x m → p x ≡ true) → (n : ℕ) → undone e.stores ≤ n → Comes p n e
+comes_of : (p : Branch → Bool) {e : Branch} {m : UnitMemory} → Leads e m → ((x : Branch) → IsOn x m → p x ≡ true) → (n : ℕ)
+    → undone e.stores ≤ n → Comes p n e
 comes_of p {e} {m} (now o) g zero l = g e o
 comes_of p {e} {m} (now o) g (suc n) l = inl (g e o)
 comes_of p {e} {m} (later before s after split open_ r) g zero l =
-    let less : undone e.stores ≡ suc (undone (before ++ done_store s ∷ after)) = ap undone split ∙ undone_less before s after open_ in absurd (omega arith)
+    let less : undone e.stores ≡ suc (undone (before ++ done_store s ∷ after)) =
+    ap undone split ∙ undone_less before s after open_ in absurd (omega arith)
 comes_of p {e} {m} (later before s after split open_ r) g (suc n) l =
     let less : undone e.stores ≡ suc (undone (before ++ done_store s ∷ after)) = ap undone split ∙ undone_less before s after open_ in
     inr (before, s, after, split, open_, comes_of p r g n (omega arith))
@@ -237,19 +267,22 @@ comes_reached p (suc n) es h =
     (λ e c. elim c [ inl t ↦ inl t | inr q ↦ inr (refl, one_effect (Comes p n) e q.0 q.1 q.2 q.3 q.4 q.5) ]) es h) in
     elim split [
       | inl a ↦ or_left_true (list_any p es) (is_reached p (suc n) es) (one_any p es a)
-      | inr b ↦ or_right_true (list_any p es) (is_reached p (suc n) es) (comes_reached p n (next_after never es) (next_finds (Comes p n) never [] es b))
+      | inr b ↦ or_right_true (list_any p es) (is_reached p (suc n) es)
+          (comes_reached p n (next_after never es) (next_finds (Comes p n) never [] es b))
     ]
 
 -- One unit. ----
 
 kept_sound : (P : UnitMemory → Type 0) → ((m n : UnitMemory) → P m → HiddenStep m n → P n) → IsKept (IsSound P)
-kept_sound P closed e before s after h split o = (timely_effect e before s after h.0, sound_effect P closed e before s after h.0 h.1 split o)
+kept_sound P closed e before s after h split o =
+    (timely_effect e before s after h.0, sound_effect P closed e before s after h.0 h.1 split o)
 
 or_either : (a b : Bool) → (a || b) ≡ true → (a ≡ true) ⊎ (b ≡ true)
 or_either true b h = inl refl
 or_either false b h = inr h
 
-unit_set : (image : List ℕ) (rest : Rest) (history : List HistoryEvent) (unit : UnitPlace) (es : List Branch) → StandsFor (untouched image rest unit) unit es history → (number k b : ℕ) → b < 256
+unit_set : (image : List ℕ) (rest : Rest) (history : List HistoryEvent) (unit : UnitPlace) (es : List Branch)
+    → StandsFor (untouched image rest unit) unit es history → (number k b : ℕ) → b < 256
     → (has (byte_set number k es) b ≡ true) ↔ MayGet image rest history unit number k b
 unit_set image rest history unit es s number k b l =
     let P : UnitMemory → Type 0 = MayBe unit (untouched image rest unit) history in
@@ -262,7 +295,8 @@ unit_set image rest history unit es s number k b l =
       ],
       λ g.
           let way : One (λ e. Leads e g.0 × (undone e.stores ≤ rounds es)) es = one_rounds (λ e. Leads e g.0) 0 es (s.complete g.0 g.1) in
-          let comes : One (Comes (shows number k b) (rounds es)) es = one_weaker (λ e. Leads e g.0 × (undone e.stores ≤ rounds es)) (Comes (shows number k b) (rounds es))
+          let comes : One (Comes (shows number k b) (rounds es)) es =
+          one_weaker (λ e. Leads e g.0 × (undone e.stores ≤ rounds es)) (Comes (shows number k b) (rounds es))
           (λ e p. comes_of (shows number k b) p.0 (λ x o. loads_show number k b x x.loads g.0.loads o.loads g.2) (rounds es) p.1) es way in
           same ∙ comes_reached (shows number k b) (rounds es) es comes,
     )
@@ -282,7 +316,8 @@ set_law h lost history s number a b l = elim (s.units (a / h.size)) [
       )
 ]
 
-sets_at : (h : Held) (number a : ℕ) (n from i : ℕ) (set : ByteSet) → slice_get (sets_from h number a from n) i ≡ Some set → (i < n) × (set ≡ set_at h number (address_of a (from + i)))
+sets_at : (h : Held) (number a : ℕ) (n from i : ℕ) (set : ByteSet) → slice_get (sets_from h number a from n) i ≡ Some set
+    → (i < n) × (set ≡ set_at h number (address_of a (from + i)))
 sets_at h number a zero from i set e = let x : None ≡ Some set = e in cc
 sets_at h number a (suc n) from zero set e =
     let same : Some (set_at h number (address_of a from)) ≡ Some set = e in
@@ -297,10 +332,12 @@ sets_length : (h : Held) (number a n from : ℕ) → length (sets_from h number 
 sets_length h number a zero from = refl
 sets_length h number a (suc n) from = ap suc (sets_length h number a n (from + 1))
 
-sets_law : (h : Held) (lost : List ℕ) (history : List HistoryEvent) → StandsBut h lost history → (number : ℕ) (o : Operation) → find (has_number number) h.opened.loads ≡ Some o
+sets_law : (h : Held) (lost : List ℕ) (history : List HistoryEvent) → StandsBut h lost history → (number : ℕ) (o : Operation)
+    → find (has_number number) h.opened.loads ≡ Some o
     → AreSetsOf lost h.image h.rest h.size history number (sets_from h number o.address 0 o.length)
 sets_law h lost history s number o e =
-    let found : find (has_number number) (opened_by history).loads ≡ Some o = ap (λ x. find (has_number number) x.loads) (sym s.opened) ∙ e in
+    let found : find (has_number number) (opened_by history).loads ≡ Some o =
+    ap (λ x. find (has_number number) x.loads) (sym s.opened) ∙ e in
     let end : o.address + o.length ≤ 18446744073709551616 =
     inside_end o.address o.length (found_fit number (opened_by history).loads o (fit_by history s.formed).loads.1 found) in
     record {
@@ -318,6 +355,8 @@ sets_law h lost history s number o e =
 
 -- the answer of a call, over what is kept and over the history
 pub may_law : {X E : Type 0} (r : Result X E) (items : X → List ByteSet) (h : Held) (number : ℕ) → IfOk r (λ x. HasSets h number (items x))
-    → (lost : List ℕ) (history : List HistoryEvent) → StandsBut h lost history → IfOk r (λ x. AreSetsOf lost h.image h.rest h.size history number (items x))
-may_law (Ok x) items h number p lost history s = subst (AreSetsOf lost h.image h.rest h.size history number) (sym p.2) (sets_law h lost history s number p.0 p.1)
+    → (lost : List ℕ) (history : List HistoryEvent) → StandsBut h lost history
+    → IfOk r (λ x. AreSetsOf lost h.image h.rest h.size history number (items x))
+may_law (Ok x) items h number p lost history s =
+    subst (AreSetsOf lost h.image h.rest h.size history number) (sym p.2) (sets_law h lost history s number p.0 p.1)
 may_law (Err e) items h number p lost history s = tt

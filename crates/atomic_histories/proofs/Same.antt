@@ -27,7 +27,8 @@ same_list : {X : Type 0} (eq : X → X → Bool) → ((a b : X) → eq a b ≡ t
 same_list eq f [] [] h = refl
 same_list eq f [] (y ∷ ys) h = cc
 same_list eq f (x ∷ xs) [] h = cc
-same_list eq f (x ∷ xs) (y ∷ ys) h = let p = and_parts (eq x y) (pointwise eq xs ys) h in ap₂ (λ a b. a ∷ b) (f x y p.0) (same_list eq f xs ys p.1)
+same_list eq f (x ∷ xs) (y ∷ ys) h = let p =
+    and_parts (eq x y) (pointwise eq xs ys) h in ap₂ (λ a b. a ∷ b) (f x y p.0) (same_list eq f xs ys p.1)
 
 same_word : (a b : List (Option ℕ)) → is_same_word a b ≡ true → a ≡ b
 same_word a b h = same_list (option_eq ◌==◌) same_byte a b h

@@ -26,9 +26,11 @@ none_is : {X : Type 0} (o : Option X) → is_none o ≡ true → o ≡ None
 none_is None h = refl
 none_is (Some x) h = cc
 
-formed_last : (o : Opened) (history : List HistoryEvent) (event : HistoryEvent) → is_formed o (history ++ event ∷ []) ≡ true → form_fault (fold opened_after o history) event ≡ None
+formed_last : (o : Opened) (history : List HistoryEvent) (event : HistoryEvent) → is_formed o (history ++ event ∷ []) ≡ true
+    → form_fault (fold opened_after o history) event ≡ None
 formed_last o [] event h = none_is (form_fault o event) (and_parts (is_none (form_fault o event)) true h).0
-formed_last o (x ∷ xs) event h = formed_last (opened_after o x) xs event (and_parts (is_none (form_fault o x)) (is_formed (opened_after o x) (xs ++ event ∷ [])) h).1
+formed_last o (x ∷ xs) event h =
+    formed_last (opened_after o x) xs event (and_parts (is_none (form_fault o x)) (is_formed (opened_after o x) (xs ++ event ∷ [])) h).1
 
 load_never : (inside used : Bool) (place : ℕ) → load_request_fault inside used ≡ Some (WrongByte place) → ⊥
 load_never false used place h = cc
@@ -56,10 +58,12 @@ answer_never (Some o) n place h = length_never (o.length == n) place h
 never_wrong : (o : Opened) (event : HistoryEvent) (place : ℕ) → form_fault o event ≡ Some (WrongByte place) → ⊥
 never_wrong o (LoadRequest number address n) place h = load_never (is_inside address n) (list_any (has_number number) o.loads) place h
 never_wrong o (LoadResponse number bytes) place h = answer_never (find (has_number number) o.loads) (length bytes.now) place h
-never_wrong o (StoreRequest number address bytes enables) place h = store_never (is_inside address (length bytes.now)) (has_enabled bytes.now enables) (list_any (has_number number) o.stores) place h
+never_wrong o (StoreRequest number address bytes enables) place h =
+    store_never (is_inside address (length bytes.now)) (has_enabled bytes.now enables) (list_any (has_number number) o.stores) place h
 never_wrong o (StoreResponse number) place h = response_never (list_any (has_number number) o.stores) place h
 
-fault_is : (lost : List ℕ) (h : Held) (history : List HistoryEvent) (event : HistoryEvent) (cause : HistoryFault) → form_fault (opened_by history) event ≡ Some cause → FaultIsBut lost h.image h.rest h.size history event cause
+fault_is : (lost : List ℕ) (h : Held) (history : List HistoryEvent) (event : HistoryEvent) (cause : HistoryFault)
+    → form_fault (opened_by history) event ≡ Some cause → FaultIsBut lost h.image h.rest h.size history event cause
 fault_is lost h history event OutOfRange f = f
 fault_is lost h history event NoByteEnabled f = f
 fault_is lost h history event NumberInUse f = f
@@ -67,31 +71,40 @@ fault_is lost h history event NotOpen f = f
 fault_is lost h history event WrongLength f = f
 fault_is lost h history event (WrongByte place) f = absurd (never_wrong (opened_by history) event place f)
 
-malformed : (lost : List ℕ) (h : Held) (event : HistoryEvent) (cause : HistoryFault) → form_fault h.opened event ≡ Some cause → (history : List HistoryEvent) → StandsBut h lost history
+malformed : (lost : List ℕ) (h : Held) (event : HistoryEvent) (cause : HistoryFault) → form_fault h.opened event ≡ Some cause
+    → (history : List HistoryEvent) → StandsBut h lost history
     → FaultIsBut lost h.image h.rest h.size history event cause × ¬ (IsAtomicBut lost h.image h.rest h.size (history ++ event ∷ []))
 malformed lost h event cause f history s =
-    let g : form_fault (opened_by history) event ≡ Some cause = ap (λ o. form_fault o event) (sym s.opened) ∙ f in
-    (fault_is lost h history event cause g, λ a. let none : form_fault (opened_by history) event ≡ None = formed_last none_opened history event a.formed in let x : None ≡ Some cause = sym none ∙ g in cc)
+    let g : form_fault (opened_by history) event ≡ Some cause = ap (λ o. form_fault o event) (sym s.opened) ∙ f in (
+      fault_is lost h history event cause g,
+      λ a. let none : form_fault (opened_by history) event ≡ None =
+          formed_last none_opened history event a.formed in let x : None ≡ Some cause = sym none ∙ g in cc,
+    )
 
 -- Wrong bytes. ----
 
-wrong : (lost : List ℕ) (h : Held) (event : HistoryEvent) (k : ℕ) → form_fault h.opened event ≡ None → first_stuck h event ≡ Some k → (history : List HistoryEvent) → StandsBut h lost history
-    → FaultIsBut lost h.image h.rest h.size history event (WrongByte (place_in h.opened.loads event (k * h.size))) × ¬ (IsAtomicBut lost h.image h.rest h.size (history ++ event ∷ []))
+wrong : (lost : List ℕ) (h : Held) (event : HistoryEvent) (k : ℕ) → form_fault h.opened event ≡ None → first_stuck h event ≡ Some k
+    → (history : List HistoryEvent) → StandsBut h lost history
+    → FaultIsBut lost h.image h.rest h.size history event (WrongByte (place_in h.opened.loads event (k * h.size)))
+    × ¬ (IsAtomicBut lost h.image h.rest h.size (history ++ event ∷ []))
 wrong lost h (LoadResponse number bytes) k f e history s =
     let event : HistoryEvent = LoadResponse number bytes in
     let r = refused_at h lost history event s f k e in
     let same : form_fault (opened_by history) event ≡ None = ap (λ o. form_fault o event) (sym s.opened) ∙ f in
     let o = open_load (find (has_number number) h.opened.loads) (length bytes.now) f in
-    let found : find (has_number number) (opened_by history).loads ≡ Some o.0 = ap (λ x. find (has_number number) x.loads) (sym s.opened) ∙ o.1 in
+    let found : find (has_number number) (opened_by history).loads ≡ Some o.0 =
+    ap (λ x. find (has_number number) x.loads) (sym s.opened) ∙ o.1 in
     let place : place_in h.opened.loads event (k * h.size) ≡ k * h.size - o.0.address = ap (λ x. place_from x (k * h.size)) o.1 in
     ((same, (k, o.0, found, place, r.0, r.1, r.2)), λ a. r.1 (a.moments k r.0))
 wrong lost h (LoadRequest number address n) k f e history s = absurd (only_answers h lost history (LoadRequest number address n) s f tt k e)
-wrong lost h (StoreRequest number address bytes enables) k f e history s = absurd (only_answers h lost history (StoreRequest number address bytes enables) s f tt k e)
+wrong lost h (StoreRequest number address bytes enables) k f e history s =
+    absurd (only_answers h lost history (StoreRequest number address bytes enables) s f tt k e)
 wrong lost h (StoreResponse number) k f e history s = absurd (only_answers h lost history (StoreResponse number) s f tt k e)
 
 -- Answers, once units were forgotten. ----
 
-pub fault_law_but : (limit : ℕ) (h : Held) (event : HistoryEvent) (e : AtomicFault) → KeptFaultIs limit h event e → (lost : List ℕ) (history : List HistoryEvent) → StandsBut h lost history
+pub fault_law_but : (limit : ℕ) (h : Held) (event : HistoryEvent) (e : AtomicFault) → KeptFaultIs limit h event e
+    → (lost : List ℕ) (history : List HistoryEvent) → StandsBut h lost history
     → StepFaultIsBut lost limit h history event e
 fault_law_but limit h event (Refused cause) (inl f) lost history s = malformed lost h event cause f history s
 fault_law_but limit h event (Refused cause) (inr p) lost history s =
@@ -99,32 +112,39 @@ fault_law_but limit h event (Refused cause) (inr p) lost history s =
 fault_law_but limit h event Undecided f lost history s = (ap (λ o. form_fault o event) (sym s.opened) ∙ f.0, f.1)
 fault_law_but limit h event OutOfMemory f lost history s = ap (λ o. form_fault o event) (sym s.opened) ∙ f
 
-pub accepted_but : (r : Result (Unit {0}) AtomicFault) (h next : Held) (event : HistoryEvent) → OnOk r (IsTaken h event next) → (lost : List ℕ) (history : List HistoryEvent) → StandsBut h lost history
+pub accepted_but : (r : Result (Unit {0}) AtomicFault) (h next : Held) (event : HistoryEvent) → OnOk r (IsTaken h event next)
+    → (lost : List ℕ) (history : List HistoryEvent) → StandsBut h lost history
     → OnOk r (IsAtomicBut lost h.image h.rest h.size (history ++ event ∷ []) × StandsBut next lost (history ++ event ∷ []))
-accepted_but (Ok u) h next event t lost history s = (atomic_after h lost history event s t.formed t.ways, stands_all_after h lost history event s t.formed next t)
+accepted_but (Ok u) h next event t lost history s =
+    (atomic_after h lost history event s t.formed t.ways, stands_all_after h lost history event s t.formed next t)
 accepted_but (Err e) h next event t lost history s = tt
 
-pub refused_but : (r : Result (Unit {0}) AtomicFault) (limit : ℕ) (h : Held) (event : HistoryEvent) → IfErr r (KeptFaultIs limit h event) → (lost : List ℕ) (history : List HistoryEvent) → StandsBut h lost history
+pub refused_but : (r : Result (Unit {0}) AtomicFault) (limit : ℕ) (h : Held) (event : HistoryEvent) → IfErr r (KeptFaultIs limit h event)
+    → (lost : List ℕ) (history : List HistoryEvent) → StandsBut h lost history
     → IfErr r (StepFaultIsBut lost limit h history event)
 refused_but (Ok u) limit h event f lost history s = tt
 refused_but (Err e) limit h event f lost history s = fault_law_but limit h event e f lost history s
 
 -- Where no unit was forgotten. ----
 
-pub to_atomic : (image : List ℕ) (rest : Rest) (size : ℕ) (history : List HistoryEvent) → IsAtomicBut [] image rest size history → IsAtomic image rest size history
+pub to_atomic : (image : List ℕ) (rest : Rest) (size : ℕ) (history : List HistoryEvent) → IsAtomicBut [] image rest size history
+    → IsAtomic image rest size history
 to_atomic image rest size history a = record { formed = a.formed; moments = λ k. a.moments k refl }
 
-from_atomic : (image : List ℕ) (rest : Rest) (size : ℕ) (history : List HistoryEvent) → IsAtomic image rest size history → IsAtomicBut [] image rest size history
+from_atomic : (image : List ℕ) (rest : Rest) (size : ℕ) (history : List HistoryEvent) → IsAtomic image rest size history
+    → IsAtomicBut [] image rest size history
 from_atomic image rest size history a = record { formed = a.formed; moments = λ k there. a.moments k }
 
-place_all : (image : List ℕ) (rest : Rest) (size : ℕ) (history : List HistoryEvent) (event : HistoryEvent) (place : ℕ) → IsWrongPlaceBut [] image rest size history event place
+place_all : (image : List ℕ) (rest : Rest) (size : ℕ) (history : List HistoryEvent) (event : HistoryEvent) (place : ℕ)
+    → IsWrongPlaceBut [] image rest size history event place
     → IsWrongPlace image rest size history event place
 place_all image rest size history (LoadRequest number address n) place p = p
 place_all image rest size history (LoadResponse number bytes) place p = (p.0, p.1, p.2, p.3, p.5, λ j l. p.6 j l refl)
 place_all image rest size history (StoreRequest number address bytes enables) place p = p
 place_all image rest size history (StoreResponse number) place p = p
 
-fault_all : (image : List ℕ) (rest : Rest) (size : ℕ) (history : List HistoryEvent) (event : HistoryEvent) (cause : HistoryFault) → FaultIsBut [] image rest size history event cause
+fault_all : (image : List ℕ) (rest : Rest) (size : ℕ) (history : List HistoryEvent) (event : HistoryEvent) (cause : HistoryFault)
+    → FaultIsBut [] image rest size history event cause
     → FaultIs image rest size history event cause
 fault_all image rest size history event OutOfRange p = p
 fault_all image rest size history event NoByteEnabled p = p
@@ -133,39 +153,47 @@ fault_all image rest size history event NotOpen p = p
 fault_all image rest size history event WrongLength p = p
 fault_all image rest size history event (WrongByte place) p = (p.0, place_all image rest size history event place p.1)
 
-step_fault_all : (limit : ℕ) (h : Held) (history : List HistoryEvent) (event : HistoryEvent) (e : AtomicFault) → StepFaultIsBut [] limit h history event e → StepFaultIs limit h history event e
+step_fault_all : (limit : ℕ) (h : Held) (history : List HistoryEvent) (event : HistoryEvent) (e : AtomicFault)
+    → StepFaultIsBut [] limit h history event e → StepFaultIs limit h history event e
 step_fault_all limit h history event (Refused cause) p =
     (fault_all h.image h.rest h.size history event cause p.0, λ a. p.1 (from_atomic h.image h.rest h.size (history ++ event ∷ []) a))
 step_fault_all limit h history event Undecided p = p
 step_fault_all limit h history event OutOfMemory p = p
 
-pub fault_law : (limit : ℕ) (h : Held) (event : HistoryEvent) (e : AtomicFault) → KeptFaultIs limit h event e → (history : List HistoryEvent) → StandsBut h [] history → StepFaultIs limit h history event e
+pub fault_law : (limit : ℕ) (h : Held) (event : HistoryEvent) (e : AtomicFault) → KeptFaultIs limit h event e
+    → (history : List HistoryEvent) → StandsBut h [] history → StepFaultIs limit h history event e
 fault_law limit h event e f history s = step_fault_all limit h history event e (fault_law_but limit h event e f [] history s)
 
-pub accepted_law : (r : Result (Unit {0}) AtomicFault) (h next : Held) (event : HistoryEvent) → OnOk r (IsTaken h event next) → (history : List HistoryEvent) → StandsBut h [] history
+pub accepted_law : (r : Result (Unit {0}) AtomicFault) (h next : Held) (event : HistoryEvent) → OnOk r (IsTaken h event next)
+    → (history : List HistoryEvent) → StandsBut h [] history
     → OnOk r (IsAtomic h.image h.rest h.size (history ++ event ∷ []) × StandsBut next [] (history ++ event ∷ []))
 accepted_law (Ok u) h next event t history s =
     let a = accepted_but (Ok u) h next event t [] history s in (to_atomic h.image h.rest h.size (history ++ event ∷ []) a.0, a.1)
 accepted_law (Err e) h next event t history s = tt
 
-pub refused_law : (r : Result (Unit {0}) AtomicFault) (limit : ℕ) (h : Held) (event : HistoryEvent) → IfErr r (KeptFaultIs limit h event) → (history : List HistoryEvent) → StandsBut h [] history
+pub refused_law : (r : Result (Unit {0}) AtomicFault) (limit : ℕ) (h : Held) (event : HistoryEvent) → IfErr r (KeptFaultIs limit h event)
+    → (history : List HistoryEvent) → StandsBut h [] history
     → IfErr r (StepFaultIs limit h history event)
 refused_law (Ok u) limit h event f history s = tt
 refused_law (Err e) limit h event f history s = fault_law limit h event e f history s
 
 -- The first memory. ----
 
-pub first_law : {E : Type 0} (r : Result AtomicMemory E) (image : List ℕ) (rest : Rest) (size : ℕ) → 1 ≤ size → IfOk r (λ m. held m ≡ nothing_held image rest size)
+pub first_law : {E : Type 0} (r : Result AtomicMemory E) (image : List ℕ) (rest : Rest) (size : ℕ) → 1 ≤ size
+    → IfOk r (λ m. held m ≡ nothing_held image rest size)
     → IfOk r (λ m. StandsBut (held m) [] [])
 first_law (Ok m) image rest size pos e = subst (λ h. StandsBut h [] []) (sym e) (stands_all_first image rest size pos)
 first_law (Err e) image rest size pos h = tt
 
 -- Memory before the first event stays what it was. ----
 
-pub same_memory : (r : Result (Unit {0}) AtomicFault) (h next : Held) (event : HistoryEvent) → OnOk r (IsTaken h event next) → OnErr r (next ≡ h) → HasSameMemory next h
+pub same_memory : (r : Result (Unit {0}) AtomicFault) (h next : Held) (event : HistoryEvent) → OnOk r (IsTaken h event next)
+    → OnErr r (next ≡ h) → HasSameMemory next h
 same_memory (Ok u) h next event t same = (t.image, t.rest, t.size)
 same_memory (Err e) h next event t same = (ap (λ (x : Held). x.image) same, ap (λ (x : Held). x.rest) same, ap (λ (x : Held). x.size) same)
 
-pub same_forgotten : {E : Type 0} (r : Result (Unit {0}) E) (h next : Held) (number : ℕ) → OnOk r (IsForgotten h number next) → OnErr r (next ≡ h) → HasSameMemory next h
+pub same_forgotten : {E : Type 0} (r : Result (Unit {0}) E) (h next : Held) (number : ℕ) → OnOk r (IsForgotten h number next)
+    → OnErr r (next ≡ h) → HasSameMemory next h
 same_forgotten (Ok u) h next number t same = (t.image, t.rest, t.size)
-same_forgotten (Err e) h next number t same = (ap (λ (x : Held). x.image) same, ap (λ (x : Held). x.rest) same, ap (λ (x : Held). x.size) same)
+same_forgotten (Err e) h next number t same =
+    (ap (λ (x : Held). x.image) same, ap (λ (x : Held). x.rest) same, ap (λ (x : Held). x.size) same)

@@ -33,11 +33,13 @@ way_if : (b : Bool) (f : Branch → Branch) (es : List Branch) → has_way es �
 way_if true f es h = way_map f es h
 way_if false f es h = h
 
-pub state_from : (start : UnitMemory) (unit : UnitPlace) (history : List HistoryEvent) (es : List Branch) → StandsFor start unit es history → has_way es ≡ true → (m : UnitMemory) × MayBe unit start history m
+pub state_from : (start : UnitMemory) (unit : UnitPlace) (history : List HistoryEvent) (es : List Branch) → StandsFor start unit es history
+    → has_way es ≡ true → (m : UnitMemory) × MayBe unit start history m
 state_from start unit history [] s h = cc
 state_from start unit history (e ∷ es) s h = some_state start unit e es history s
 
-pub none_from : (start : UnitMemory) (unit : UnitPlace) (history : List HistoryEvent) (es : List Branch) → StandsFor start unit es history → has_way es ≡ false → ¬ ((m : UnitMemory) × MayBe unit start history m)
+pub none_from : (start : UnitMemory) (unit : UnitPlace) (history : List HistoryEvent) (es : List Branch) → StandsFor start unit es history
+    → has_way es ≡ false → ¬ ((m : UnitMemory) × MayBe unit start history m)
 none_from start unit history [] s h = no_state start unit history s
 none_from start unit history (e ∷ es) s h = cc
 
@@ -48,11 +50,16 @@ all_done ss = list_all (λ s. s.is_done) ss
 
 done_more : (before : List OpenStore) (s : OpenStore) → all_done before ≡ true → s.is_done ≡ true → all_done (before ++ s ∷ []) ≡ true
 unfolding all_done
-done_more before s h d = list_all-append (λ x. x.is_done) before (s ∷ []) ∙ and_from (list_all (λ x. x.is_done) before) (s.is_done && true) h (and_from s.is_done true d refl)
+done_more before s h d =
+    list_all-append (λ x. x.is_done) before (s ∷ [])
+    ∙ and_from (list_all (λ x. x.is_done) before) (s.is_done && true) h (and_from s.is_done true d refl)
 
-finish : (P : UnitMemory → Type 0) → ((m n : UnitMemory) → P m → HiddenStep m n → P n) → (loads : List OpenLoad) (before after : List OpenStore) (w : List (Option ℕ)) → all_done before ≡ true
-    → P (record { word = w; stores = before ++ after; loads = loads }) → (v : List (Option ℕ)) × (ss : List OpenStore) × P (record { word = v; stores = ss; loads = loads }) × (all_done ss ≡ true)
-finish P closed loads before [] w d p = (w, before, subst (λ ss. P (record { word = w; stores = ss; loads = loads })) (append-nil before) p, d)
+finish : (P : UnitMemory → Type 0) → ((m n : UnitMemory) → P m → HiddenStep m n → P n)
+    → (loads : List OpenLoad) (before after : List OpenStore) (w : List (Option ℕ)) → all_done before ≡ true
+    → P (record { word = w; stores = before ++ after; loads = loads })
+    → (v : List (Option ℕ)) × (ss : List OpenStore) × P (record { word = v; stores = ss; loads = loads }) × (all_done ss ≡ true)
+finish P closed loads before [] w d p =
+    (w, before, subst (λ ss. P (record { word = w; stores = ss; loads = loads })) (append-nil before) p, d)
 finish P closed loads before (s ∷ after) w d p = elim (cases_Bool s.is_done) [
   | inl t ↦ finish P closed loads (before ++ s ∷ []) after w (done_more before s d t)
       (subst (λ ss. P (record { word = w; stores = ss; loads = loads })) (sym (append_assoc before (s ∷ []) after)) p)
@@ -60,7 +67,8 @@ finish P closed loads before (s ∷ after) w d p = elim (cases_Bool s.is_done) [
       let q : P (record { word = written s.bytes w; stores = before ++ done_store s ∷ after; loads = loads }) =
       closed (record { word = w; stores = before ++ s ∷ after; loads = loads }) _ p (inl (before, s, after, refl, f, refl)) in
       finish P closed loads (before ++ done_store s ∷ []) after (written s.bytes w) (done_more before (done_store s) d refl)
-      (subst (λ ss. P (record { word = written s.bytes w; stores = ss; loads = loads })) (sym (append_assoc before (done_store s ∷ []) after)) q)
+      (subst (λ ss. P (record { word = written s.bytes w; stores = ss; loads = loads }))
+      (sym (append_assoc before (done_store s ∷ []) after)) q)
 ]
 
 or_true_right : (a b : Bool) → b ≡ true → (a || b) ≡ true
@@ -72,7 +80,8 @@ unfolding all_done
 done_answer number [] h = refl
 done_answer number (s ∷ ss) h =
     let p = and_parts s.is_done (list_all (λ x. x.is_done) ss) h in
-    and_from (not (is_store number s) || s.is_done) (may_answer_store number ss) (or_true_right (not (is_store number s)) s.is_done p.0) (done_answer number ss p.1)
+    and_from (not (is_store number s) || s.is_done) (may_answer_store number ss) (or_true_right (not (is_store number s)) s.is_done p.0)
+    (done_answer number ss p.1)
 
 none_done : all_done [] ≡ true
 unfolding all_done
@@ -82,23 +91,29 @@ then_some : {X : Type 0} (b : Bool) (x : X) → b ≡ true → (if b then Some x
 then_some true x h = refl
 then_some false x h = cc
 
-store_answered : (start : UnitMemory) (unit : UnitPlace) (history : List HistoryEvent) (number : ℕ) → (m : UnitMemory) × MayBe unit start history m → (n : UnitMemory) × MayBe unit start (history ++ StoreResponse number ∷ []) n
+store_answered : (start : UnitMemory) (unit : UnitPlace) (history : List HistoryEvent) (number : ℕ)
+    → (m : UnitMemory) × MayBe unit start history m → (n : UnitMemory) × MayBe unit start (history ++ StoreResponse number ∷ []) n
 store_answered start unit history number h =
     let r = finish (MayBe unit start history) (λ m n x step. steps history m n x step) h.0.loads [] h.0.stores h.0.word none_done h.1 in
-    let m : UnitMemory = record { word = r.0; stores = r.1; loads = h.0.loads } in
-    (without_store number m, sees history (StoreResponse number) m (without_store number m) r.2 (then_some (may_answer_store number r.1) (without_store number m) (done_answer number r.1 r.3)))
+    let m : UnitMemory = record { word = r.0; stores = r.1; loads = h.0.loads } in (
+      without_store number m,
+      sees history (StoreResponse number) m (without_store number m) r.2
+          (then_some (may_answer_store number r.1) (without_store number m) (done_answer number r.1 r.3)),
+    )
 
 abbrev pub IsNoAnswer : HistoryEvent → Type 0
 IsNoAnswer (LoadResponse number bytes) = ⊥
 IsNoAnswer event = Unit {0}
 
 -- what is no load's answer leaves a way
-pub way_left : (start : UnitMemory) (unit : UnitPlace) (history : List HistoryEvent) (event : HistoryEvent) → IsNoAnswer event → (es : List Branch) → StandsFor start unit es history → has_way es ≡ true
+pub way_left : (start : UnitMemory) (unit : UnitPlace) (history : List HistoryEvent) (event : HistoryEvent) → IsNoAnswer event
+    → (es : List Branch) → StandsFor start unit es history → has_way es ≡ true
     → has_way (branches_after unit es event) ≡ true
 way_left start unit history (LoadRequest number address n) a es s h = way_if (is_at unit address n) (branch_with_load number address) es h
 way_left start unit history (LoadResponse number bytes) a es s h = absurd a
 way_left start unit history (StoreRequest number address bytes enables) a es s h =
-    let stored : List (Option ℕ) = at_unit unit (stored_byte address bytes.now enables) in way_if (list_any is_some stored) (branch_with_store number stored) es h
+    let stored : List (Option ℕ) =
+    at_unit unit (stored_byte address bytes.now enables) in way_if (list_any is_some stored) (branch_with_store number stored) es h
 way_left start unit history (StoreResponse number) a es s h =
     let n = store_answered start unit history number (state_from start unit history es s h) in
     let after = stands_after start unit es history (StoreResponse number) s in
@@ -106,7 +121,8 @@ way_left start unit history (StoreResponse number) a es s h =
 
 -- The first unit that is stuck. ----
 
-pub stuck_none : (h : Held) (event : HistoryEvent) (k n : ℕ) → stuck_from h event k n ≡ None → (j : ℕ) → k ≤ j → j < k + n → is_stuck h event j ≡ false
+pub stuck_none : (h : Held) (event : HistoryEvent) (k n : ℕ) → stuck_from h event k n ≡ None → (j : ℕ) → k ≤ j → j < k + n
+    → is_stuck h event j ≡ false
 stuck_none h event k zero e j l m = absurd (omega arith)
 stuck_none h event k (suc n) e j l m = elim (cases_Bool (is_stuck h event k)) [
   | inl t ↦ let x : Some k ≡ None = rw t at e in cc
@@ -152,7 +168,9 @@ none_after unit (LoadRequest number address n) = none_if (is_at unit address n) 
     none_if true f = refl
     none_if false f = refl
 none_after unit (LoadResponse number bytes) = refl
-none_after unit (StoreRequest number address bytes enables) = none_if (list_any is_some (at_unit unit (stored_byte address bytes.now enables))) (branch_with_store number (at_unit unit (stored_byte address bytes.now enables)))
+none_after unit (StoreRequest number address bytes enables) =
+    none_if (list_any is_some (at_unit unit (stored_byte address bytes.now enables)))
+    (branch_with_store number (at_unit unit (stored_byte address bytes.now enables)))
   where
     none_if : (b : Bool) (f : Branch → Branch) → (if b then map f [] else []) ≡ []
     none_if true f = refl
@@ -161,18 +179,21 @@ none_after unit (StoreResponse number) = refl
 
 -- Events. ----
 
-formed_more : (o : Opened) (history : List HistoryEvent) (event : HistoryEvent) → is_formed o history ≡ true → form_fault (fold opened_after o history) event ≡ None
+formed_more : (o : Opened) (history : List HistoryEvent) (event : HistoryEvent) → is_formed o history ≡ true
+    → form_fault (fold opened_after o history) event ≡ None
     → is_formed o (history ++ event ∷ []) ≡ true
 formed_more o [] event h f = rw f refl
 formed_more o (x ∷ xs) event h f =
     let p = and_parts (is_none (form_fault o x)) (is_formed (opened_after o x) xs) h in
-    and_from (is_none (form_fault o x)) (is_formed (opened_after o x) (xs ++ event ∷ [])) p.0 (formed_more (opened_after o x) xs event p.1 f)
+    and_from (is_none (form_fault o x)) (is_formed (opened_after o x) (xs ++ event ∷ [])) p.0
+    (formed_more (opened_after o x) xs event p.1 f)
 
 pub stands_all_first : (image : List ℕ) (rest : Rest) (size : ℕ) → 1 ≤ size → StandsBut (nothing_held image rest size) [] []
 stands_all_first image rest size l =
     record { sized = l; formed = refl; opened = refl; units = λ k. inr (refl, (stands_first image rest (unit_at size k), refl)) }
 
-module _ (h : Held) (lost : List ℕ) (history : List HistoryEvent) (event : HistoryEvent) (s : StandsBut h lost history) (formed : form_fault h.opened event ≡ None) where
+module _ (h : Held) (lost : List ℕ) (history : List HistoryEvent) (event : HistoryEvent) (s : StandsBut h lost history)
+    (formed : form_fault h.opened event ≡ None) where
   abbrev Now : ℕ → List Branch → Type 0
   Now k es = Stands h.image h.rest (history ++ event ∷ []) (unit_at h.size k) es
 
@@ -186,10 +207,12 @@ module _ (h : Held) (lost : List ℕ) (history : List HistoryEvent) (event : His
   formless = ap (λ o. form_fault o event) (sym s.opened) ∙ formed
 
   -- what is kept of a unit that the event passes
-  passed : (k : ℕ) → is_among h.size (covered h.opened event) k ≡ false → Stands h.image h.rest history (unit_at h.size k) (h.units k) → Now k (h.units k)
+  passed : (k : ℕ) → is_among h.size (covered h.opened event) k ≡ false → Stands h.image h.rest history (unit_at h.size k) (h.units k)
+      → Now k (h.units k)
   passed k out a =
       stands_passed (untouched h.image h.rest (unit_at h.size k)) (unit_at h.size k) (h.units k) history event
-      (λ m r. passes h.size k m (opened_by history) event s.sized (fit_by history s.formed) (linked h.image h.rest (unit_at h.size k) r) formless
+      (λ m r. passes h.size k m (opened_by history) event s.sized (fit_by history s.formed)
+      (linked h.image h.rest (unit_at h.size k) r) formless
       (subst (λ o. is_among h.size (covered o event) k ≡ false) s.opened out)) a
 
   touched : (k : ℕ) → Stands h.image h.rest history (unit_at h.size k) (h.units k) → Now k (ways_after h event k)
@@ -199,12 +222,14 @@ module _ (h : Held) (lost : List ℕ) (history : List HistoryEvent) (event : His
   range k t = let p = and_parts (nat_le first k) (nat_lt k (first + count)) t in (leb-true first k p.0, ltb-true k (first + count) p.1)
 
   -- the ways of each unit after an event that leaves them some
-  after_at : first_stuck h event ≡ None → (k : ℕ) → (is_lost k lost ≡ false) × (Stands h.image h.rest history (unit_at h.size k) (h.units k) × (has_way (h.units k) ≡ true))
+  after_at : first_stuck h event ≡ None → (k : ℕ)
+      → (is_lost k lost ≡ false) × (Stands h.image h.rest history (unit_at h.size k) (h.units k) × (has_way (h.units k) ≡ true))
       → Now k (unit_after h event k) × (has_way (unit_after h event k) ≡ true)
   after_at none k a = elim (cases_Bool (is_among h.size (covered h.opened event) k)) [
     | inl t ↦
         let r = range k t in
-        let w : has_way (ways_after h event k) ≡ true = way_stays (h.units k) (ways_after h event k) (stuck_none h event first count none k r.0 r.1) a.1.1 in
+        let w : has_way (ways_after h event k) ≡ true =
+        way_stays (h.units k) (ways_after h event k) (stuck_none h event first count none k r.0 r.1) a.1.1 in
         rw t (touched k a.1.0, w)
     | inr f ↦ rw f (passed k f a.1.0, a.1.1)
   ]
@@ -232,7 +257,8 @@ module _ (h : Held) (lost : List ℕ) (history : List HistoryEvent) (event : His
     ];
   }
     where
-      same : (next : Held) → IsTaken h event next → (k : ℕ) → Now k (next.units k) → Stands next.image next.rest (history ++ event ∷ []) (unit_at next.size k) (next.units k)
+      same : (next : Held) → IsTaken h event next → (k : ℕ) → Now k (next.units k)
+          → Stands next.image next.rest (history ++ event ∷ []) (unit_at next.size k) (next.units k)
       same next t k a =
           subst (λ i. Stands i next.rest (history ++ event ∷ []) (unit_at next.size k) (next.units k)) (sym t.image)
           (subst (λ i. Stands h.image i (history ++ event ∷ []) (unit_at next.size k) (next.units k)) (sym t.rest)
@@ -243,7 +269,8 @@ module _ (h : Held) (lost : List ℕ) (history : List HistoryEvent) (event : His
     formed = formed_after;
     moments = λ k there. elim (s.units k) [
       | inl a ↦ let y : true ≡ false = sym a.0 ∙ there in cc
-      | inr a ↦ let r = after_at none k a in state_from (untouched h.image h.rest (unit_at h.size k)) (unit_at h.size k) (history ++ event ∷ []) (unit_after h event k) r.0 r.1
+      | inr a ↦ let r = after_at none k a in state_from (untouched h.image h.rest (unit_at h.size k)) (unit_at h.size k)
+          (history ++ event ∷ []) (unit_after h event k) r.0 r.1
     ];
   }
 
@@ -254,19 +281,24 @@ module _ (h : Held) (lost : List ℕ) (history : List HistoryEvent) (event : His
   refused_at k e =
       let r = stuck_some h event first count k e in
       let w = way_lost (h.units k) (ways_after h event k) r.0 in
-      let here : (is_lost k lost ≡ false) × (Stands h.image h.rest history (unit_at h.size k) (h.units k) × (has_way (h.units k) ≡ true)) = elim (s.units k) [
+      let here : (is_lost k lost ≡ false) × (Stands h.image h.rest history (unit_at h.size k) (h.units k) × (has_way (h.units k) ≡ true)) =
+      elim (s.units k) [
         | inl a ↦ let y : has_way (h.units k) ≡ false = ap has_way a.1 in let z : true ≡ false = sym w.0 ∙ y in cc
         | inr a ↦ a
       ] in (
         here.0,
-        none_from (untouched h.image h.rest (unit_at h.size k)) (unit_at h.size k) (history ++ event ∷ []) (ways_after h event k) (touched k here.1.0) w.1,
+        none_from (untouched h.image h.rest (unit_at h.size k)) (unit_at h.size k) (history ++ event ∷ []) (ways_after h event k)
+            (touched k here.1.0) w.1,
         λ j l there. elim (s.units j) [
           | inl a ↦ let y : true ≡ false = sym a.0 ∙ there in cc
           | inr a ↦ elim (cases_Bool (is_among h.size (covered h.opened event) j)) [
             | inl t ↦
-                let way : has_way (ways_after h event j) ≡ true = way_stays (h.units j) (ways_after h event j) (r.1 j (range j t).0 l) a.1.1 in
-                state_from (untouched h.image h.rest (unit_at h.size j)) (unit_at h.size j) (history ++ event ∷ []) (ways_after h event j) (touched j a.1.0) way
-            | inr f ↦ state_from (untouched h.image h.rest (unit_at h.size j)) (unit_at h.size j) (history ++ event ∷ []) (h.units j) (passed j f a.1.0) a.1.1
+                let way : has_way (ways_after h event j) ≡ true =
+                way_stays (h.units j) (ways_after h event j) (r.1 j (range j t).0 l) a.1.1 in
+                state_from (untouched h.image h.rest (unit_at h.size j)) (unit_at h.size j) (history ++ event ∷ []) (ways_after h event j)
+                (touched j a.1.0) way
+            | inr f ↦ state_from (untouched h.image h.rest (unit_at h.size j)) (unit_at h.size j) (history ++ event ∷ []) (h.units j)
+                (passed j f a.1.0) a.1.1
           ]
         ],
       )
@@ -286,7 +318,8 @@ module _ (h : Held) (lost : List ℕ) (history : List HistoryEvent) (event : His
 
 -- A unit is forgotten. ----
 
-pub stands_forgotten : (h next : Held) (number : ℕ) → IsForgotten h number next → (lost : List ℕ) (history : List HistoryEvent) → StandsBut h lost history → StandsBut next (number ∷ lost) history
+pub stands_forgotten : (h next : Held) (number : ℕ) → IsForgotten h number next → (lost : List ℕ) (history : List HistoryEvent)
+    → StandsBut h lost history → StandsBut next (number ∷ lost) history
 stands_forgotten h next number t lost history s = record {
   sized = subst (λ n. 1 ≤ n) (sym t.size) s.sized;
   formed = s.formed;
@@ -297,18 +330,27 @@ stands_forgotten h next number t lost history s = record {
         let kept : next.units k ≡ h.units k = t.units k ∙ rw f refl in
         elim (s.units k) [
           | inl a ↦ inl (rw f a.0, kept ∙ a.1)
-          | inr a ↦ inr (rw f a.0, (same k (subst (λ es. Stands h.image h.rest history (unit_at h.size k) es) (sym kept) a.1.0), subst (λ es. has_way es ≡ true) (sym kept) a.1.1))
+          | inr a ↦ inr (
+            rw f a.0,
+            (
+              same k (subst (λ es. Stands h.image h.rest history (unit_at h.size k) es) (sym kept) a.1.0),
+              subst (λ es. has_way es ≡ true)
+                  (sym kept) a.1.1,
+            ),
+          )
         ]
   ];
 }
   where
-    same : (k : ℕ) → Stands h.image h.rest history (unit_at h.size k) (next.units k) → Stands next.image next.rest history (unit_at next.size k) (next.units k)
+    same : (k : ℕ) → Stands h.image h.rest history (unit_at h.size k) (next.units k)
+        → Stands next.image next.rest history (unit_at next.size k) (next.units k)
     same k a =
         subst (λ i. Stands i next.rest history (unit_at next.size k) (next.units k)) (sym t.image)
         (subst (λ i. Stands h.image i history (unit_at next.size k) (next.units k)) (sym t.rest)
         (subst (λ i. Stands h.image h.rest history (unit_at i k) (next.units k)) (sym t.size) a))
 
-pub forgotten_law : {E : Type 0} (r : Result (Unit {0}) E) (h next : Held) (number : ℕ) → OnOk r (IsForgotten h number next) → (lost : List ℕ) (history : List HistoryEvent) → StandsBut h lost history
+pub forgotten_law : {E : Type 0} (r : Result (Unit {0}) E) (h next : Held) (number : ℕ) → OnOk r (IsForgotten h number next)
+    → (lost : List ℕ) (history : List HistoryEvent) → StandsBut h lost history
     → OnOk r (StandsBut next (number ∷ lost) history)
 forgotten_law (Ok u) h next number t lost history s = stands_forgotten h next number t lost history s
 forgotten_law (Err e) h next number t lost history s = tt

@@ -23,11 +23,13 @@ pair = record { first = 4096; size = 2 }
 abbrev ways : Rest → List HistoryEvent → List Branch
 ways rest history = fold (branches_after pair) (first_branch [] rest pair ∷ []) history
 
-from_way : (rest : Rest) (history : List HistoryEvent) (es : List Branch) → StandsFor (untouched [] rest pair) pair es history → has_way es ≡ true → IsAtomicAt [] rest pair history
+from_way : (rest : Rest) (history : List HistoryEvent) (es : List Branch) → StandsFor (untouched [] rest pair) pair es history
+    → has_way es ≡ true → IsAtomicAt [] rest pair history
 from_way rest history [] s h = cc
 from_way rest history (e ∷ es) s h = some_state (untouched [] rest pair) pair e es history s
 
-from_none : (rest : Rest) (history : List HistoryEvent) (es : List Branch) → StandsFor (untouched [] rest pair) pair es history → has_way es ≡ false → ¬ (IsAtomicAt [] rest pair history)
+from_none : (rest : Rest) (history : List HistoryEvent) (es : List Branch) → StandsFor (untouched [] rest pair) pair es history
+    → has_way es ≡ false → ¬ (IsAtomicAt [] rest pair history)
 from_none rest history [] s h = no_state (untouched [] rest pair) pair history s
 from_none rest history (e ∷ es) s h = cc
 
@@ -49,7 +51,8 @@ load number length xs = LoadRequest number 4096 length ∷ LoadResponse number (
 
 -- two stores of a word of two bytes that overlap
 abbrev two_stores : List HistoryEvent
-two_stores = StoreRequest 1 4096 (bytes (17 ∷ 17 ∷ [])) 3 ∷ StoreRequest 2 4096 (bytes (34 ∷ 34 ∷ [])) 3 ∷ StoreResponse 1 ∷ StoreResponse 2 ∷ []
+two_stores = StoreRequest 1 4096 (bytes (17 ∷ 17 ∷ [])) 3 ∷ StoreRequest 2 4096
+    (bytes (34 ∷ 34 ∷ [])) 3 ∷ StoreResponse 1 ∷ StoreResponse 2 ∷ []
 
 -- while a store is open, loads may see what was there before, then what it stores
 pub old_then_new : IsAtomicAt [] Zeros pair (StoreRequest 1 4096 (bytes (90 ∷ [])) 1 ∷ [] ++ load 1 1 (0 ∷ []) ++ load 2 1 (90 ∷ []))
@@ -102,6 +105,13 @@ unfolding written is_word_of answered is_same
 unknown_each_time = unknown_passes (load 1 2 (1 ∷ 2 ∷ []) ++ load 1 2 (3 ∷ 4 ∷ [])) refl
 
 -- a load that is open while a store is answered may have got either word, and which one it got binds the loads behind it
-pub an_open_load_binds : ¬ (IsAtomicAt [] Zeros pair (StoreRequest 1 4096 (bytes (17 ∷ 17 ∷ [])) 3 ∷ StoreRequest 2 4096 (bytes (34 ∷ 34 ∷ [])) 3 ∷ StoreResponse 1 ∷ LoadRequest 1 4096 2 ∷ LoadResponse 1 (bytes (34 ∷ 34 ∷ [])) ∷ LoadRequest 2 4096 2 ∷ LoadResponse 2 (bytes (17 ∷ 17 ∷ [])) ∷ []))
+pub an_open_load_binds : ¬
+    (IsAtomicAt [] Zeros pair
+    (StoreRequest 1 4096 (bytes (17 ∷ 17 ∷ [])) 3 ∷ StoreRequest 2 4096
+    (bytes (34 ∷ 34 ∷ [])) 3 ∷ StoreResponse 1 ∷ LoadRequest 1 4096 2 ∷ LoadResponse 1
+    (bytes (34 ∷ 34 ∷ [])) ∷ LoadRequest 2 4096 2 ∷ LoadResponse 2 (bytes (17 ∷ 17 ∷ [])) ∷ []))
 unfolding written is_word_of answered is_same
-an_open_load_binds = stops (StoreRequest 1 4096 (bytes (17 ∷ 17 ∷ [])) 3 ∷ StoreRequest 2 4096 (bytes (34 ∷ 34 ∷ [])) 3 ∷ StoreResponse 1 ∷ LoadRequest 1 4096 2 ∷ LoadResponse 1 (bytes (34 ∷ 34 ∷ [])) ∷ LoadRequest 2 4096 2 ∷ LoadResponse 2 (bytes (17 ∷ 17 ∷ [])) ∷ []) refl
+an_open_load_binds = stops
+    (StoreRequest 1 4096 (bytes (17 ∷ 17 ∷ [])) 3 ∷ StoreRequest 2 4096
+    (bytes (34 ∷ 34 ∷ [])) 3 ∷ StoreResponse 1 ∷ LoadRequest 1 4096 2 ∷ LoadResponse 1
+    (bytes (34 ∷ 34 ∷ [])) ∷ LoadRequest 2 4096 2 ∷ LoadResponse 2 (bytes (17 ∷ 17 ∷ [])) ∷ []) refl

@@ -35,7 +35,13 @@ path_after (l ∷ ls) path word = path ++ word ∷ []
 -- the way goes on: this store takes effect, which stands between those
 abbrev pub effect_of : Branch → List OpenStore → OpenStore → List OpenStore → Branch
 effect_of e before s after =
-    record { word = written s.bytes e.word; stores = before ++ done_store s ∷ after; loads = e.loads; path = path_after e.loads e.path e.word }
+    record {
+      word = written s.bytes e.word;
+      stores = before ++ done_store s ∷ after;
+      loads = e.loads;
+      path =
+          path_after e.loads e.path e.word;
+    }
 
 abbrev pub cons_effect : Bool → Branch → List Branch → List Branch
 cons_effect true e es = es
@@ -109,7 +115,8 @@ is_watched number l = l.number == number
 
 -- whether a load may have got a word of which these are the bytes
 abbrev pub may_have : UnitPlace → List ℕ → Branch → WatchedLoad → Bool
-may_have unit bytes e l = is_word_of unit.first e.word l.address bytes || list_any (λ w. is_word_of unit.first w l.address bytes) (drop l.since e.path)
+may_have unit bytes e l =
+    is_word_of unit.first e.word l.address bytes || list_any (λ w. is_word_of unit.first w l.address bytes) (drop l.since e.path)
 
 abbrev pub has_answer : UnitPlace → ℕ → List ℕ → Branch → Bool
 has_answer unit number bytes e = list_all (λ l. not (is_watched number l) || may_have unit bytes e l) e.loads
@@ -124,18 +131,32 @@ kept_path (l ∷ ls) path = path
 
 abbrev pub branch_without_load : ℕ → Branch → Branch
 branch_without_load number e =
-    let ls = filter (λ l. not (is_watched number l)) e.loads in record { word = e.word; stores = e.stores; loads = ls; path = kept_path ls e.path }
+    let ls = filter (λ l. not (is_watched number l)) e.loads in record
+    { word = e.word; stores = e.stores; loads = ls; path = kept_path ls e.path }
 
 abbrev pub branch_without_store : ℕ → Branch → Branch
-branch_without_store number e = record { word = e.word; stores = filter (λ s. not (is_store number s)) e.stores; loads = e.loads; path = e.path }
+branch_without_store number e =
+    record { word = e.word; stores = filter (λ s. not (is_store number s)) e.stores; loads = e.loads; path = e.path }
 
 abbrev pub branch_with_load : ℕ → ℕ → Branch → Branch
 branch_with_load number address e =
-    record { word = e.word; stores = e.stores; loads = e.loads ++ record { number = number; address = address; since = length e.path } ∷ []; path = e.path }
+    record {
+      word = e.word;
+      stores = e.stores;
+      loads =
+          e.loads ++ record { number = number; address = address; since = length e.path } ∷ [];
+      path = e.path;
+    }
 
 abbrev pub branch_with_store : ℕ → List (Option ℕ) → Branch → Branch
 branch_with_store number bytes e =
-    record { word = e.word; stores = e.stores ++ record { number = number; bytes = bytes; is_done = false } ∷ []; loads = e.loads; path = e.path }
+    record {
+      word = e.word;
+      stores = e.stores ++ record { number = number; bytes = bytes; is_done = false } ∷ [];
+      loads = e.loads;
+      path =
+          e.path;
+    }
 
 -- the ways after an answer
 unfoldable pub answered : (Branch → Bool) → (Branch → Branch) → List Branch → List Branch
@@ -155,5 +176,6 @@ abbrev pub branches_after : UnitPlace → List Branch → HistoryEvent → List 
 branches_after unit es (LoadRequest number address n) = if is_at unit address n then map (branch_with_load number address) es else es
 branches_after unit es (LoadResponse number bytes) = answered (has_answer unit number bytes.now) (branch_without_load number) es
 branches_after unit es (StoreRequest number address bytes enables) =
-    let stored = at_unit unit (stored_byte address bytes.now enables) in if list_any is_some stored then map (branch_with_store number stored) es else es
+    let stored = at_unit unit (stored_byte address bytes.now enables) in if list_any is_some stored then map
+    (branch_with_store number stored) es else es
 branches_after unit es (StoreResponse number) = answered (has_effect number) (branch_without_store number) es

@@ -16,10 +16,12 @@ pair = record { first = 4096; size = 2 }
 
 -- a store of one byte, and its effect comes behind a load that was requested before it
 pub old_then_new : IsAtomicAt [] Zeros pair
-    (StoreRequest 1 4096 (bytes (90 ∷ [])) 1 ∷ LoadRequest 1 4096 1 ∷ LoadResponse 1 (bytes (0 ∷ [])) ∷ LoadRequest 1 4096 1 ∷ LoadResponse 1 (bytes (90 ∷ [])) ∷ StoreResponse 1 ∷ [])
+    (StoreRequest 1 4096 (bytes (90 ∷ [])) 1 ∷ LoadRequest 1 4096 1 ∷ LoadResponse 1
+    (bytes (0 ∷ [])) ∷ LoadRequest 1 4096 1 ∷ LoadResponse 1 (bytes (90 ∷ [])) ∷ StoreResponse 1 ∷ [])
 unfolding written is_word_of
 old_then_new = (
   _,
-  sees _ _ _ _ (sees _ _ _ _ (steps _ _ _ (steps _ _ _ (sees _ _ _ _ (sees _ _ _ _ (steps _ _ _ (sees _ _ _ _ (sees _ _ _ _ starts refl) refl)
+  sees _ _ _ _ (sees _ _ _ _
+      (steps _ _ _ (steps _ _ _ (sees _ _ _ _ (sees _ _ _ _ (steps _ _ _ (sees _ _ _ _ (sees _ _ _ _ starts refl) refl)
       (inr ([], _, [], refl, refl, refl))) refl) refl) (inl ([], _, [], refl, refl, refl))) (inr ([], _, [], refl, refl, refl))) refl) refl,
 )

@@ -24,7 +24,8 @@ abbrev pub first_ways : List ℕ → Rest → UnitPlace → List Branch
 first_ways image rest unit = first_branch image rest unit ∷ []
 
 abbrev pub nothing_held : List ℕ → Rest → ℕ → Held
-nothing_held image rest size = record { image = image; rest = rest; size = size; opened = none_opened; units = λ k. first_ways image rest (unit_at size k) }
+nothing_held image rest size =
+    record { image = image; rest = rest; size = size; opened = none_opened; units = λ k. first_ways image rest (unit_at size k) }
 
 abbrev pub has_way : List Branch → Bool
 has_way [] = false

@@ -79,7 +79,8 @@ put_from f k (u ∷ us) j = if k == j then Some u else put_from f (k + 1) us j
 
 -- why a unit has no ways after an event
 abbrev pub ChangedFaultIs : ℕ → UnitPlace → List Branch → HistoryEvent → List Operation → AtomicFault → Type 0
-ChangedFaultIs limit unit es event loads (Refused cause) = (is_without es (branches_after unit es event) ≡ true) × (cause ≡ WrongByte (place_in loads event unit.first))
+ChangedFaultIs limit unit es event loads (Refused cause) =
+    (is_without es (branches_after unit es event) ≡ true) × (cause ≡ WrongByte (place_in loads event unit.first))
 ChangedFaultIs limit unit es event loads Undecided = is_too_wide limit unit es event ≡ true
 ChangedFaultIs limit unit es event loads OutOfMemory = Unit {0}
 
@@ -88,7 +89,8 @@ UnitFaultIs limit h event k fault = ChangedFaultIs limit (unit_at h.size k) (h.u
 
 -- why n units from number k on have none
 abbrev pub ChangeFaultIs : ℕ → Held → HistoryEvent → ℕ → ℕ → AtomicFault → Type 0
-ChangeFaultIs limit h event k n (Refused cause) = (j : ℕ) × (stuck_from h event k n ≡ Some j) × (cause ≡ WrongByte (place_in h.opened.loads event (j * h.size)))
+ChangeFaultIs limit h event k n (Refused cause) =
+    (j : ℕ) × (stuck_from h event k n ≡ Some j) × (cause ≡ WrongByte (place_in h.opened.loads event (j * h.size)))
 ChangeFaultIs limit h event k n Undecided = wide_from limit h event k n ≡ true
 ChangeFaultIs limit h event k n OutOfMemory = Unit {0}
 
@@ -120,12 +122,14 @@ pub record IsForgotten (h : Held) (number : ℕ) (next : Held) : Type 0 where
 abbrev pub KeptFaultIs : ℕ → Held → HistoryEvent → AtomicFault → Type 0
 KeptFaultIs limit h event (Refused cause) =
     (form_fault h.opened event ≡ Some cause)
-    ⊎ ((form_fault h.opened event ≡ None) × ((k : ℕ) × (first_stuck h event ≡ Some k) × (cause ≡ WrongByte (place_in h.opened.loads event (k * h.size)))))
+    ⊎ ((form_fault h.opened event ≡ None)
+    × ((k : ℕ) × (first_stuck h event ≡ Some k) × (cause ≡ WrongByte (place_in h.opened.loads event (k * h.size)))))
 KeptFaultIs limit h event Undecided = (form_fault h.opened event ≡ None) × (is_wide limit h event ≡ true)
 KeptFaultIs limit h event OutOfMemory = form_fault h.opened event ≡ None
 
 abbrev pub StepFaultIs : ℕ → Held → List HistoryEvent → HistoryEvent → AtomicFault → Type 0
-StepFaultIs limit h history event (Refused cause) = FaultIs h.image h.rest h.size history event cause × ¬ (IsAtomic h.image h.rest h.size (history ++ event ∷ []))
+StepFaultIs limit h history event (Refused cause) =
+    FaultIs h.image h.rest h.size history event cause × ¬ (IsAtomic h.image h.rest h.size (history ++ event ∷ []))
 StepFaultIs limit h history event Undecided = (form_fault (opened_by history) event ≡ None) × (is_wide limit h event ≡ true)
 StepFaultIs limit h history event OutOfMemory = form_fault (opened_by history) event ≡ None
 

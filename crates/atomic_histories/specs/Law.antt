@@ -77,10 +77,12 @@ may_answer_store number stores = list_all (λ s. not (is_store number s) || s.is
 
 -- a unit once an operation is requested that touches it
 abbrev pub with_load : ℕ → ℕ → UnitMemory → UnitMemory
-with_load number address m = record { word = m.word; stores = m.stores; loads = m.loads ++ record { number = number; address = address; got = None } ∷ [] }
+with_load number address m =
+    record { word = m.word; stores = m.stores; loads = m.loads ++ record { number = number; address = address; got = None } ∷ [] }
 
 abbrev pub with_store : ℕ → List (Option ℕ) → UnitMemory → UnitMemory
-with_store number bytes m = record { word = m.word; stores = m.stores ++ record { number = number; bytes = bytes; is_done = false } ∷ []; loads = m.loads }
+with_store number bytes m =
+    record { word = m.word; stores = m.stores ++ record { number = number; bytes = bytes; is_done = false } ∷ []; loads = m.loads }
 
 -- once an operation is answered
 abbrev pub without_load : ℕ → UnitMemory → UnitMemory
@@ -95,7 +97,8 @@ abbrev pub seen : UnitPlace → UnitMemory → HistoryEvent → Option UnitMemor
 seen unit m (LoadRequest number address n) = Some (if is_at unit address n then with_load number address m else m)
 seen unit m (LoadResponse number bytes) = if may_answer_load unit number bytes.now m.loads then Some (without_load number m) else None
 seen unit m (StoreRequest number address bytes enables) =
-    let stored = at_unit unit (stored_byte address bytes.now enables) in Some (if list_any is_some stored then with_store number stored m else m)
+    let stored = at_unit unit (stored_byte address bytes.now enables) in Some
+    (if list_any is_some stored then with_store number stored m else m)
 seen unit m (StoreResponse number) = if may_answer_store number m.stores then Some (without_store number m) else None
 
 -- The law. ----

@@ -43,14 +43,17 @@ MayGet image rest history unit number k b =
 -- got the byte there
 abbrev pub MayReturn : List ℕ → List ℕ → Rest → ℕ → List HistoryEvent → ℕ → ℕ → ℕ → Type 0
 MayReturn lost image rest size history number a b =
-    (is_lost (a / size) lost ≡ true) ⊎ ((is_lost (a / size) lost ≡ false) × MayGet image rest history (unit_at size (a / size)) number (a % size) b)
+    (is_lost (a / size) lost ≡ true) ⊎
+    ((is_lost (a / size) lost ≡ false) × MayGet image rest history (unit_at size (a / size)) number (a % size) b)
 
 -- for each byte of the load that is open under this number, the set of all that may be returned
-pub record AreSetsOf (lost : List ℕ) (image : List ℕ) (rest : Rest) (size : ℕ) (history : List HistoryEvent) (number : ℕ) (sets : List ByteSet) : Type 0 where
+pub record AreSetsOf (lost : List ℕ) (image : List ℕ) (rest : Rest) (size : ℕ) (history : List HistoryEvent) (number : ℕ)
+    (sets : List ByteSet) : Type 0 where
   pub load : Operation
   pub open_ : find (has_number number) (opened_by history).loads ≡ Some load
   pub length_ : length sets ≡ load.length
-  pub exact : (i : ℕ) → (set : ByteSet) → slice_get sets i ≡ Some set → (b : ℕ) → b < 256 → (has set b ≡ true) ↔ MayReturn lost image rest size history number (load.address + i) b
+  pub exact : (i : ℕ) → (set : ByteSet) → slice_get sets i ≡ Some set → (b : ℕ) → b < 256
+      → (has set b ≡ true) ↔ MayReturn lost image rest size history number (load.address + i) b
 
 -- On the ways that are followed. ----
 
@@ -66,7 +69,8 @@ with_words k set words = fold (λ s w. with_lane s (lane_of k w)) set words
 
 -- what a load may have got on a way
 abbrev pub with_load_bytes : ℕ → ℕ → Branch → ByteSet → WatchedLoad → ByteSet
-with_load_bytes number k e set l = if is_watched number l then with_words k (with_lane set (lane_of k e.word)) (drop l.since e.path) else set
+with_load_bytes number k e set l =
+    if is_watched number l then with_words k (with_lane set (lane_of k e.word)) (drop l.since e.path) else set
 
 abbrev pub with_way_bytes : ℕ → ℕ → ByteSet → Branch → ByteSet
 with_way_bytes number k set e = fold (with_load_bytes number k e) set e.loads
@@ -125,4 +129,5 @@ IsNoVerdict wide OutOfMemory = Unit {0}
 
 -- the sets of the load that is open under this number
 abbrev pub HasSets : Held → ℕ → List ByteSet → Type 0
-HasSets h number sets = (o : Operation) × (find (has_number number) h.opened.loads ≡ Some o) × (sets ≡ sets_from h number o.address 0 o.length)
+HasSets h number sets =
+    (o : Operation) × (find (has_number number) h.opened.loads ≡ Some o) × (sets ≡ sets_from h number o.address 0 o.length)

@@ -39,7 +39,8 @@ pub record IsOn (e : Branch) (m : UnitMemory) : Type 0 where
 -- a state of the unit is one that this way leads to, if some of the open stores take effect
 pub data Leads : Branch → UnitMemory → Type 0 where
   now : {e : Branch} {m : UnitMemory} → IsOn e m → Leads e m
-  later : {e : Branch} {m : UnitMemory} (before : List OpenStore) (s : OpenStore) (after : List OpenStore) → e.stores ≡ before ++ s ∷ after → s.is_done ≡ false
+  later : {e : Branch} {m : UnitMemory} (before : List OpenStore) (s : OpenStore) (after : List OpenStore) → e.stores ≡ before ++ s ∷ after
+      → s.is_done ≡ false
       → Leads (effect_of e before s after) m → Leads e m
 
 -- each load was requested on the path

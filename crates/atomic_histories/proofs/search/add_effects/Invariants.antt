@@ -5,4 +5,6 @@ use Rattle.atomic_histories.proofs.search.add_effects.Given as goal
 
 -- with those that are left it is the whole
 abbrev pub invariant-loop-i : goal.invariant-loop-i
-invariant-loop-i l = with_branches (shown_all l.ways.items) (effects_from (shown l.way) (take l.i l.way.stores.items) (drop l.i l.way.stores.items)) ≡ with_branches (shown_all l.initial.ways.items) (effects (shown l.way))
+invariant-loop-i l = with_branches (shown_all l.ways.items)
+    (effects_from (shown l.way) (take l.i l.way.stores.items) (drop l.i l.way.stores.items)) ≡ with_branches
+    (shown_all l.initial.ways.items) (effects (shown l.way))

@@ -6,6 +6,8 @@ use Rattle.atomic_histories.proofs.search.round.Given as goal
 -- with those that are left it is the whole
 abbrev pub invariant-loop-way : goal.invariant-loop-way
 invariant-loop-way l = record {
-  out : out_after (goal_of l.wanted) (shown_all l.out.items) (shown_all (drop l.way-index l.ways)) ≡ out_after (goal_of l.wanted) (shown_all l.initial.out.items) (shown_all l.ways);
-  next : fold (next_of (goal_of l.wanted)) (shown_all l.next.items) (shown_all (drop l.way-index l.ways)) ≡ next_after (goal_of l.wanted) (shown_all l.ways);
+  out : out_after (goal_of l.wanted) (shown_all l.out.items) (shown_all (drop l.way-index l.ways)) ≡ out_after (goal_of l.wanted)
+      (shown_all l.initial.out.items) (shown_all l.ways);
+  next : fold (next_of (goal_of l.wanted)) (shown_all l.next.items) (shown_all (drop l.way-index l.ways)) ≡ next_after (goal_of l.wanted)
+      (shown_all l.ways);
 }

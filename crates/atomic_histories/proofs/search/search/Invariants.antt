@@ -6,8 +6,10 @@ use Rattle.atomic_histories.proofs.search.search.Given as goal
 -- with the rounds that are left it is the whole
 abbrev pub invariant-loop-left : goal.invariant-loop-left
 invariant-loop-left l = record {
-  found : met l.left (goal_of l.wanted) (shown_all l.found.items) (shown_all l.frontier.items) ≡ met (suc (rounds (shown_all l.ways))) (goal_of l.wanted) [] (shown_all l.ways);
-  over : is_over l.limit l.left (goal_of l.wanted) (shown_all l.found.items) (shown_all l.frontier.items) ≡ needs_more l.limit (goal_of l.wanted) (shown_all l.ways);
+  found : met l.left (goal_of l.wanted) (shown_all l.found.items) (shown_all l.frontier.items) ≡ met (suc (rounds (shown_all l.ways)))
+      (goal_of l.wanted) [] (shown_all l.ways);
+  over : is_over l.limit l.left (goal_of l.wanted) (shown_all l.found.items) (shown_all l.frontier.items) ≡ needs_more l.limit
+      (goal_of l.wanted) (shown_all l.ways);
 }
 
 abbrev pub decreases-loop-left : goal.decreases-loop-left

@@ -5,4 +5,6 @@ use Rattle.atomic_histories.proofs.search.with_store.Given as goal
 
 -- with those that are left it is the whole
 abbrev pub invariant-loop-way : goal.invariant-loop-way
-invariant-loop-way l = shown_all l.after.items ++ map (branch_with_store l.number l.bytes) (shown_all (drop l.way-index l.ways)) ≡ map (branch_with_store l.number l.bytes) (shown_all l.ways)
+invariant-loop-way l =
+    shown_all l.after.items ++ map (branch_with_store l.number l.bytes) (shown_all (drop l.way-index l.ways)) ≡ map
+    (branch_with_store l.number l.bytes) (shown_all l.ways)

@@ -5,4 +5,6 @@ use Rattle.atomic_histories.proofs.search.without.Given as goal
 
 -- with those that are left it is the whole
 abbrev pub invariant-loop-way : goal.invariant-loop-way
-invariant-loop-way l = with_branches (shown_all l.after.items) (map (without_of l.wanted) (shown_all (drop l.way-index l.ways))) ≡ with_branches [] (map (without_of l.wanted) (shown_all l.ways))
+invariant-loop-way l =
+    with_branches (shown_all l.after.items) (map (without_of l.wanted) (shown_all (drop l.way-index l.ways))) ≡ with_branches []
+    (map (without_of l.wanted) (shown_all l.ways))

@@ -6,7 +6,8 @@ use Rattle.atomic_histories.proofs.units.put_units.Given as goal
 -- with those that are left it is the whole, and there is room for them
 abbrev pub invariant-loop-unit : goal.invariant-loop-unit
 invariant-loop-unit l = record {
-  put : (k : ℕ) → put_from (get nat_eq l.units) l.from l.changes.items k ≡ put_from (get nat_eq l.initial.units) l.from l.initial.changes.items k;
+  put : (k : ℕ) → put_from (get nat_eq l.units) l.from l.changes.items k ≡ put_from
+      (get nat_eq l.initial.units) l.from l.initial.changes.items k;
   room : length l.changes.items ≤ spare l.units;
   fits : l.from + length l.changes.items ≤ 18446744073709551616;
 }

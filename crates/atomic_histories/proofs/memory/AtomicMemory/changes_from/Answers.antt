@@ -14,13 +14,17 @@ loop-j-preserved c =
     let rest = ways_from h c.args.event (c.args.from + (c.loop-j.j + 1)) (c.args.count - (c.loop-j.j + 1)) in
     record {
       ways = ap (λ us. map shown_unit us ++ rest) items
-          ∙ (ways_more h c.args.event c.loop-j.changes.items c.in_ok-unit.unit c.args.from c.args.count c.loop-j.j c.loop-j-test.true c.in_ok-unit.ensures.unit ∙ c.loop-j.invariant.ways);
-      left = stuck_step h c.args.event c.args.from c.args.count c.loop-j.j c.loop-j-test.true c.in_ok-unit.ensures.left ∙ c.loop-j.invariant.left;
+          ∙ (ways_more h c.args.event c.loop-j.changes.items c.in_ok-unit.unit c.args.from c.args.count c.loop-j.j c.loop-j-test.true
+          c.in_ok-unit.ensures.unit ∙ c.loop-j.invariant.ways);
+      left = stuck_step h c.args.event c.args.from c.args.count c.loop-j.j c.loop-j-test.true c.in_ok-unit.ensures.left
+          ∙ c.loop-j.invariant.left;
       many = many ∙ (sum ∙ ap (λ n. n + 1) before);
     }
 
 pub returns-in_err-unit-clause-fault : goal.returns-in_err-unit-clause-fault
 returns-in_err-unit-clause-fault c =
     let m = c.args.self.now in
-    pass_on c.from_residual.result c.in_err-unit.field-0.0 (ChangeFaultIs (limit_of m) (held m) c.args.event c.args.from c.args.count) c.from_residual.ensures.1
-    (fault_at c.in_err-unit.field-0.0 (limit_of m) (held m) c.args.event c.args.from c.args.count c.loop-j.j (omega arith) c.loop-j.invariant.left c.in_err-unit.ensures.fault)
+    pass_on c.from_residual.result c.in_err-unit.field-0.0
+    (ChangeFaultIs (limit_of m) (held m) c.args.event c.args.from c.args.count) c.from_residual.ensures.1
+    (fault_at c.in_err-unit.field-0.0 (limit_of m) (held m) c.args.event c.args.from c.args.count c.loop-j.j
+    (omega arith) c.loop-j.invariant.left c.in_err-unit.ensures.fault)

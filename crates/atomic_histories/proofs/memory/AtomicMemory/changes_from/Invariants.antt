@@ -6,7 +6,8 @@ use Rattle.atomic_histories.proofs.memory.AtomicMemory.changes_from.Given as goa
 -- with those that are left it is the whole, and none so far is stuck
 abbrev pub invariant-loop-j : goal.invariant-loop-j
 invariant-loop-j l = record {
-  ways : map shown_unit l.changes.items ++ ways_from (held l.self) l.event (l.from + l.j) (l.count - l.j) ≡ ways_from (held l.self) l.event l.from l.count;
+  ways : map shown_unit l.changes.items ++ ways_from (held l.self) l.event (l.from + l.j) (l.count - l.j) ≡ ways_from
+      (held l.self) l.event l.from l.count;
   left : stuck_from (held l.self) l.event (l.from + l.j) (l.count - l.j) ≡ stuck_from (held l.self) l.event l.from l.count;
   many : length l.changes.items ≡ l.j;
 }

@@ -12,4 +12,6 @@ returns-clause-ok c =
     (subst (λ n. OnOk c.kept_forget.result (IsForgotten h (c.args.address / n) next)) c.bytes.ensures c.kept_forget.ensures.ok)
 
 pub returns-clause-memory : goal.returns-clause-memory
-returns-clause-memory c = same_forgotten c.kept_forget.result (held c.args.self.now) (held c.kept_forget.new.self) (c.args.address / c.bytes.result) c.kept_forget.ensures.ok c.kept_forget.ensures.unchanged
+returns-clause-memory c =
+    same_forgotten c.kept_forget.result (held c.args.self.now) (held c.kept_forget.new.self)
+    (c.args.address / c.bytes.result) c.kept_forget.ensures.ok c.kept_forget.ensures.unchanged

@@ -10,8 +10,10 @@ use Rattle.atomic_histories.proofs.memory.AtomicMemory.kept_step.Goals as goal
 pub put_units-requires-clause-fits : goal.put_units-requires-clause-fits
 put_units-requires-clause-fits c =
     let h = held c.args.self.now in
-    let size = c.bytes.ensures ∙ (ap (λ (x : Held). x.size) c.in_ok-open_or_close.ensures.ok ∙ ap (λ (x : Held). x.size) c.in_ok-reserve.ensures.held) in
-    step_fits (covered h.opened c.args.event).0 c.covered-address.result.0 h.size c.bytes.result (length c.in_ok-changes.changes.items) (ap (λ p. p.0) c.covered-address.ensures) size
+    let size = c.bytes.ensures
+    ∙ (ap (λ (x : Held). x.size) c.in_ok-open_or_close.ensures.ok ∙ ap (λ (x : Held). x.size) c.in_ok-reserve.ensures.held) in
+    step_fits (covered h.opened c.args.event).0 c.covered-address.result.0 h.size c.bytes.result (length c.in_ok-changes.changes.items)
+    (ap (λ p. p.0) c.covered-address.ensures) size
     c.in_ok-changes.ensures.fits
 
 pub returns-clause-ok : goal.returns-clause-ok
@@ -30,7 +32,8 @@ returns-clause-ok c =
       size = ap (λ (x : Held). x.size) opened ∙ ap (λ (x : Held). x.size) same;
       opened = ap (λ (x : Held). x.opened) opened ∙ ap (λ (x : Held). opened_after x.opened c.args.event) same;
       units = λ k.
-          taken_unit h c.args.event (get nat_eq more.units) (get nat_eq c.put_units.new.units) (first_ways more.image.items more.rest (unit_at (bytes_of more.size) k))
+          taken_unit h c.args.event (get nat_eq more.units) (get nat_eq c.put_units.new.units)
+          (first_ways more.image.items more.rest (unit_at (bytes_of more.size) k))
           (c.covered-address.result.0 / c.bytes.result) c.in_ok-changes.changes.items k (c.put_units.ensures k)
           (ap₂ ◌/◌ (ap (λ p. p.0) c.covered-address.ensures) size) left.ways
           (ap (λ (x : Held). x.units k) opened ∙ ap (λ (x : Held). x.units k) same);

@@ -8,6 +8,8 @@ pub returns-in_err-set-clause-fault : goal.returns-in_err-set-clause-fault
 returns-in_err-set-clause-fault c =
     let m = c.args.self.now in
     let fault = c.in_err-set.field-0.0 in
-    let here = subst (λ a. IsNoVerdict (is_reach_wide (limit_of m) ((held m).units (a / (held m).size))) fault) c.byte_address.ensures c.in_err-set.ensures.fault in
-    pass_on c.from_residual.result fault (IsNoVerdict (are_wide_from (limit_of m) (held m) c.args.address 0 c.args.length)) c.from_residual.ensures.1
+    let here = subst (λ a. IsNoVerdict (is_reach_wide (limit_of m) ((held m).units (a / (held m).size))) fault) c.byte_address.ensures
+    c.in_err-set.ensures.fault in
+    pass_on c.from_residual.result fault
+    (IsNoVerdict (are_wide_from (limit_of m) (held m) c.args.address 0 c.args.length)) c.from_residual.ensures.1
     (no_set fault (limit_of m) (held m) c.args.address c.args.length c.loop-i.i (omega arith) here)
