@@ -1,5 +1,5 @@
 -- A judge of the atomic law keeps to it.
-use Rattle.std.proofs.Common.{◌≡◌, ℕ, ◌+◌, Bool, true, false, ◌&&◌, Option, Some, None, Result, Ok, Err, List, [], ◌∷◌, ◌++◌, length, fold, length-append, refl, sym, ◌∙◌, ap, subst, arith}
+use Rattle.std.proofs.Common.{◌≡◌, ℕ, zero, suc, ◌+◌, ◌/◌, Bool, true, false, ◌&&◌, ◌||◌, inl, inr, Option, Some, None, Result, Ok, Err, List, [], ◌∷◌, ◌++◌, length, fold, length-append, refl, sym, ◌∙◌, ap, subst, arith}
 use Rattle.std.specs.Prelude.{is_none}
 use Rattle.std.specs.List.{list_any}
 use Rattle.memory_histories.specs.declared.events.HistoryEvent.{HistoryEvent}
@@ -12,9 +12,9 @@ use Rattle.atomic_histories.specs.declared.memory.AtomicFault.TheVariants as ato
 use Rattle.atomic_histories.specs.declared.unit.UnitPlace.{UnitPlace}
 use Rattle.atomic_histories.specs.Operations.{Opened, none_opened, opened_after, opened_by, form_fault}
 use Rattle.atomic_histories.specs.Law.{UnitMemory, untouched, seen, MayBe, starts, steps, sees, unit_at, is_formed, IsAtomicAt, HasMoments, IsAtomic, IsWrongPlace, FaultIs}
-use Rattle.atomic_histories.specs.Branches.{Branch}
+use Rattle.atomic_histories.specs.Branches.{Branch, is_too_wide}
 use Rattle.atomic_histories.specs.Stands.{Each, IsOn, StandsFor}
-use Rattle.atomic_histories.specs.Held.{Held, HeldUnit, nothing_held, has_way, place_of, is_listed, first_ways, is_wide, with_fresh, StandsForAll}
+use Rattle.atomic_histories.specs.Held.{Held, nothing_held, covered, units_of, wide_from, is_wide, StandsForAll}
 use Rattle.atomic_histories.specs.Judge.{held, limit_of, HasSameMemory, StepFaultIs}
 use Rattle.history_text.specs.Lines.{plain}
 use Rattle.history_text.specs.Laws.{Law}
@@ -102,16 +102,13 @@ all_stand k es e f a b s = record {
   sized = s.sized;
   formed = sym (formed none_opened es e f a) ∙ s.formed;
   opened = s.opened ∙ opened none_opened es e f a;
-  aligned = s.aligned;
-  listed = each_of k.units s.listed;
-  others = λ j none. unit_stands (untouched k.image k.rest (unit_at k.size j)) (unit_at k.size j) (first_ways k.image k.rest (unit_at k.size j)) es e f a b (s.others j none);
+  units = λ j. elim (s.units j) [
+    | inl p ↦ inl p
+    | inr p ↦
+        let unit : UnitPlace = unit_at k.size j in
+        inr (p.0, unit_stands (untouched k.image k.rest unit) unit (k.units j) es e f a b p.1, p.2)
+  ];
 }
-  where
-    each_of : (us : List HeldUnit)
-        → Each (λ u. StandsFor (untouched k.image k.rest (place_of k.size u)) (place_of k.size u) u.branches (es ++ e ∷ []) × (has_way u.branches ≡ true)) us
-        → Each (λ u. StandsFor (untouched k.image k.rest (place_of k.size u)) (place_of k.size u) u.branches (es ++ f ∷ []) × (has_way u.branches ≡ true)) us
-    each_of [] h = tt
-    each_of (u ∷ us) h = ((unit_stands (untouched k.image k.rest (place_of k.size u)) (place_of k.size u) u.branches es e f a b h.0.0, h.0.1), each_of us h.1)
 
 -- ---- faults
 
@@ -139,11 +136,22 @@ fault_too image rest size es e NumberInUse h = (alike_plain e).faulty (opened_by
 fault_too image rest size es e NotOpen h = (alike_plain e).faulty (opened_by es) ∙ h
 fault_too image rest size es e WrongLength h = (alike_plain e).faulty (opened_by es) ∙ h
 
-plain_wide : (limit size : ℕ) (k : Held) (e : HistoryEvent) → is_wide limit size (plain e) (with_fresh k (plain e)).units ≡ is_wide limit size e (with_fresh k e).units
-plain_wide limit size k (LoadRequest number address n) = refl
-plain_wide limit size k (LoadResponse number bytes) = refl
-plain_wide limit size k (StoreRequest number address bytes enables) = refl
-plain_wide limit size k (StoreResponse number) = refl
+wide_same : (limit : ℕ) (h : Held) (e f : HistoryEvent) → ((unit : UnitPlace) (es : List Branch) → is_too_wide limit unit es e ≡ is_too_wide limit unit es f)
+    → (k n : ℕ) → wide_from limit h e k n ≡ wide_from limit h f k n
+wide_same limit h e f same k zero = refl
+wide_same limit h e f same k (suc n) =
+    ap (λ t. t || wide_from limit h e (k + 1) n) (same (unit_at h.size k) (h.units k))
+    ∙ ap (λ t. is_too_wide limit (unit_at h.size k) (h.units k) f || t) (wide_same limit h e f same (k + 1) n)
+
+plain_wide : (limit : ℕ) (h : Held) (e : HistoryEvent) → is_wide limit h (plain e) ≡ is_wide limit h e
+plain_wide limit h (LoadRequest number address n) = refl
+plain_wide limit h (LoadResponse number bytes) =
+    let e : HistoryEvent = LoadResponse number bytes in
+    let p = covered h.opened e in wide_same limit h (plain e) e (λ unit es. refl) (p.0 / h.size) (units_of h.size p.0 p.1)
+plain_wide limit h (StoreRequest number address bytes enables) =
+    let e : HistoryEvent = StoreRequest number address bytes enables in
+    let p = covered h.opened e in wide_same limit h (plain e) e (λ unit es. refl) (p.0 / h.size) (units_of h.size p.0 p.1)
+plain_wide limit h (StoreResponse number) = refl
 
 -- ---- the judge
 
@@ -197,7 +205,7 @@ undecided m n events event t (formed, wide) =
       rest = refl;
       size = refl;
       stands = t.stands;
-      wide = plain_wide (limit_of n) h.size h event ∙ wide;
+      wide = plain_wide (limit_of n) h event ∙ wide;
     } in
     subst (λ l. IsTooWide (began (held m)) l events (plain event)) t.limit
     (subst (λ (b : Began). IsTooWide b (limit_of n) events (plain event)) (same_began h (held m) t.memory) here)

@@ -7,7 +7,7 @@ use Rattle.memory_histories.specs.declared.sets.ByteSet.{ByteSet}
 use Rattle.atomic_histories.specs.declared.memory.AtomicMemory.{AtomicMemory}
 use Rattle.atomic_histories.specs.Operations.{opened_by, form_fault}
 use Rattle.atomic_histories.specs.Law.{IsAtomic, FaultIs}
-use Rattle.atomic_histories.specs.Held.{Held, nothing_held, is_wide, with_fresh, StandsForAll}
+use Rattle.atomic_histories.specs.Held.{Held, nothing_held, is_wide, StandsForAll}
 use Rattle.atomic_histories.specs.Judge.{held, limit_of, HasSameMemory}
 use Rattle.history_text.specs.Laws.{Law}
 
@@ -25,7 +25,7 @@ pub record IsTooWide (b : Began) (limit : ℕ) (events : List HistoryEvent) (eve
   pub rest : kept.rest ≡ b.rest
   pub size : kept.size ≡ b.size
   pub stands : StandsForAll kept events
-  pub wide : is_wide limit b.size event (with_fresh kept event).units ≡ true
+  pub wide : is_wide limit kept event ≡ true
 
 -- the event makes the history none of the law, for this fault
 pub record IsRefused (b : Began) (events : List HistoryEvent) (event : HistoryEvent) (cause : HistoryFault) : Type 0 where
