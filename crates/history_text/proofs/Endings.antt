@@ -14,30 +14,30 @@ use Rattle.history_text.specs.declared.judged.OpenLoad.{OpenLoad}
 use Rattle.history_text.specs.declared.judged.Stop.{Stop}
 use Rattle.history_text.specs.declared.judged.Stop.TheVariants as stop
 
-module _ {R J : Type 0} (gave : R → List ℕ → R → Type 0) (failed : R → R → Type 0) {took : J → List HistoryEvent → J → Type 0} {law : J → Law} {start judge : J} {bytes pending : List ℕ} {counts : Counts} {loads : List OpenLoad} {count : ℕ} {r last : R} where
-  abbrev so_far : Moves (Came gave) r bytes last → (h : HasRead took law start bytes judge counts loads pending count)
-      → ReadSoFar gave (law start) r last h.texts pending
+module _ {R J : Type 0} (gave : R → List ℕ → R → Type 0) (failed : R → R → Type 0) {took : J → List HistoryEvent → J → Type 0} {law : J → Law} {start judge : J} {bytes pending : List ℕ} {texts : List (List ℕ)} {counts : Counts} {loads : List OpenLoad} {count : ℕ} {r last : R} where
+  abbrev so_far : Moves (Came gave) r bytes last → (h : HasRead took law start bytes texts judge counts loads pending count)
+      → ReadSoFar gave (law start) r last texts pending
   so_far moves h = record { bytes = bytes; read = moves; text = h.text }
 
-  pub told_failed : {r' : R} → Moves (Came gave) r bytes last → HasRead took law start bytes judge counts loads pending count
+  pub told_failed : {r' : R} → Moves (Came gave) r bytes last → HasRead took law start bytes texts judge counts loads pending count
       → failed last r' → Judges gave failed (law start) r r' (Err fault.Read)
-  told_failed {r' = r'} moves h fails = (h.texts, pending, last, so_far moves h, fails)
+  told_failed {r' = r'} moves h fails = (texts, pending, last, so_far moves h, fails)
 
   pub told_end : {r' : R} (e : Result HistoryEnd TraceFault) → Moves (Came gave) r bytes last
-      → HasRead took law start bytes judge counts loads pending count → gave last [] r' → EndsWith counts pending count e
+      → HasRead took law start bytes texts judge counts loads pending count → gave last [] r' → EndsWith counts pending count e
       → Judges gave failed (law start) r r' e
   told_end {r' = r'} (Ok x) moves h ends told =
-      let whole : ReadSoFar gave (law start) r last h.texts [] = subst (ReadSoFar gave (law start) r last h.texts) told.0 (so_far moves h) in
+      let whole : ReadSoFar gave (law start) r last texts [] = subst (ReadSoFar gave (law start) r last texts) told.0 (so_far moves h) in
       subst (λ y. Judges gave failed (law start) r r' (Ok y)) (sym told.1)
-      (h.texts, last, whole, ends, ap (λ (c : Counts). c.events) h.stands.count, ap (λ (c : Counts). open_in c) h.stands.count)
+      (texts, last, whole, ends, ap (λ (c : Counts). c.events) h.stands.count, ap (λ (c : Counts). open_in c) h.stands.count)
   told_end {r' = r'} (Err f) moves h ends told =
-      subst (λ y. Judges gave failed (law start) r r' (Err y)) (sym told.1) (h.texts, pending, last, so_far moves h, ends, told.0, ap (λ n. n + 1) h.number)
+      subst (λ y. Judges gave failed (law start) r r' (Err y)) (sym told.1) (texts, pending, last, so_far moves h, ends, told.0, ap (λ n. n + 1) h.number)
 
-  into : {r' : R} (piece : List ℕ) (why : Stop) → Moves (Came gave) r bytes last
-      → HasRead took law start bytes judge counts loads pending count → Came gave last piece r' → EndsIn (law start) (bytes ++ piece) why
+  abbrev pub into : {r' : R} (piece : List ℕ) (why : Stop) → Moves (Came gave) r bytes last
+      → HasRead took law start bytes texts judge counts loads pending count → Came gave last piece r' → EndsIn (law start) (bytes ++ piece) why
       → ReadInto gave (law start) r r' why
   into {r' = r'} piece why moves h gives ends = record {
-    before = h.texts;
+    before = texts;
     pending = pending;
     last = last;
     so_far = so_far moves h;
@@ -60,8 +60,8 @@ told_by gave failed (stop.Fault fault.Read) ends here = absurd ends.ends
 told_by gave failed (stop.Fault fault.Write) ends here = absurd ends.ends
 
 pub told_in : {R J : Type 0} (gave : R → List ℕ → R → Type 0) (failed : R → R → Type 0) {took : J → List HistoryEvent → J → Type 0}
-    {law : J → Law} {start judge : J} {bytes pending : List ℕ} {counts : Counts} {loads : List OpenLoad} {count : ℕ} {r last r' : R}
-    (piece : List ℕ) (why : Stop) (e : Result HistoryEnd TraceFault) → Moves (Came gave) r bytes last → HasRead took law start bytes judge counts loads pending count → Came gave last piece r' → EndsIn (law start) (bytes ++ piece) why
+    {law : J → Law} {start judge : J} {bytes pending : List ℕ} {texts : List (List ℕ)} {counts : Counts} {loads : List OpenLoad} {count : ℕ} {r last r' : R}
+    (piece : List ℕ) (why : Stop) (e : Result HistoryEnd TraceFault) → Moves (Came gave) r bytes last → HasRead took law start bytes texts judge counts loads pending count → Came gave last piece r' → EndsIn (law start) (bytes ++ piece) why
     → e ≡ ended_by why → Judges gave failed (law start) r r' e
 told_in gave failed {law = law} {start = start} {r = r} {r' = r'} piece why e moves h gives ends is =
     subst (Judges gave failed (law start) r r') (sym is) (told_by gave failed why ends (into gave failed piece why moves h gives ends))

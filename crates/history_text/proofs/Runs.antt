@@ -31,7 +31,7 @@ plain_after w (StoreResponse number) = refl
 
 -- ---- runs
 
-through : {A B : Type 0} (o : Option A) (f : A → Option B) (b : B) → option_and_then f o ≡ Some b → (a : A) × (o ≡ Some a) × (f a ≡ Some b)
+pub through : {A B : Type 0} (o : Option A) (f : A → Option B) (b : B) → option_and_then f o ≡ Some b → (a : A) × (o ≡ Some a) × (f a ≡ Some b)
 through None f b e = cc
 through (Some a) f b e = (a, refl, e)
 

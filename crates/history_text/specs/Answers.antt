@@ -10,7 +10,7 @@ use Rattle.history_text.specs.declared.answers.LawName.TheVariants.{Flat, Atomic
 use Rattle.history_text.specs.declared.answers.OperationKind.{OperationKind}
 use Rattle.history_text.specs.declared.answers.OperationKind.TheVariants.{Load, Store}
 use Rattle.history_text.specs.declared.answers.RefusalCause.{RefusalCause}
-use Rattle.history_text.specs.declared.answers.RefusalCause.TheVariants.{OutOfRange, NoByteEnabled, NumberInUse, NotOpen, WrongLength, WrongByte}
+use Rattle.history_text.specs.declared.answers.RefusalCause.TheVariants.{OutOfRange, NoByteEnabled, NumberInUse, NotOpen, WrongLength, WrongByte, NoMoment}
 use Rattle.history_text.specs.declared.answers.Refusal.{Refusal}
 use Rattle.history_text.specs.declared.answers.HistoryEnd.{HistoryEnd}
 use Rattle.history_text.specs.declared.answers.HistoryEnd.TheVariants.{OfLaw, Refused, Undecided}
@@ -50,6 +50,7 @@ cause_text NotOpen = codes "isn't open"
 cause_text (WrongLength requested returned) = codes "returned " ++ (decimal returned ++ (codes " bytes, of " ++ (decimal requested ++ codes " requested")))
 cause_text (WrongByte address returned allowed) =
     codes "returned " ++ (byte_text returned ++ (codes " at " ++ (address_text address ++ (codes ", which may be " ++ joined_bytes (codes " or ") (bytes_in_set allowed)))))
+cause_text (NoMoment address) = codes "returned what stood at no moment in the unit with " ++ address_text address
 
 abbrev pub refusal_text : Refusal → List ℕ
 refusal_text r = codes "line " ++ (decimal r.line ++ (codes ": " ++ (kind_text r.kind ++ (codes " " ++ (decimal r.number ++ (codes " " ++ cause_text r.cause))))))

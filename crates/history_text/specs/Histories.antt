@@ -1,12 +1,12 @@
 -- How a history is read, and judged line by line.
-use Rattle.std.specs.Prelude.{◌≡◌, ℕ, ◌+◌, ◌-◌, ◌*◌, ◌<◌, ◌≤◌, Option, Some, Result, Ok, Err, List, [], ◌∷◌, ◌++◌, length}
+use Rattle.std.specs.Prelude.{◌≡◌, ℕ, ◌+◌, ◌-◌, ◌*◌, ◌<◌, ◌≤◌, ◌==◌, if◌then◌else◌, Option, None, Some, Result, Ok, Err, List, [], ◌∷◌, ◌++◌, length}
 use Rattle.std.specs.Option.{option_to_list}
 use Rattle.memory_histories.specs.declared.events.HistoryEvent.{HistoryEvent}
 use Rattle.trace_text.specs.Codes.{line_feed}
 use Rattle.trace_text.specs.Streams.{HasNoEnd, Came, Moves}
 use Rattle.trace_text.specs.Reading.{IsGood, Good, BeginsFaulty, fault_of}
 use Rattle.trace_text.specs.declared.lines.LineFault.{LineFault}
-use Rattle.trace_text.specs.declared.lines.LineFault.TheVariants.{NotEnded}
+use Rattle.trace_text.specs.declared.lines.LineFault.TheVariants.{TooLong, NotEnded}
 use Rattle.trace_text.specs.declared.fault.TheConstants.{MAX_PAIR}
 use Rattle.trace_text.specs.declared.fault.TraceFault.{TraceFault}
 use Rattle.trace_text.specs.declared.fault.TraceFault.TheVariants as fault
@@ -14,7 +14,7 @@ use Rattle.history_text.specs.Lines.{line_of}
 use Rattle.history_text.specs.Laws.{Law}
 use Rattle.history_text.specs.Operations.{counts_of, open_in}
 use Rattle.history_text.specs.Refusals.{IsRefusal}
-use Rattle.history_text.specs.Judged.{Stands}
+use Rattle.history_text.specs.Judged.{Stands, StepStops}
 use Rattle.history_text.specs.declared.answers.HistoryEnd.{HistoryEnd}
 use Rattle.history_text.specs.declared.answers.HistoryEnd.TheVariants as history
 use Rattle.history_text.specs.declared.judged.Counts.{Counts}
@@ -60,7 +60,8 @@ pub record IsEventLine (found : List ℕ) (event : HistoryEvent) : Type 0 where
 abbrev pub EndsAt : Law → List (List ℕ) → List ℕ → Stop → Type 0
 EndsAt law texts found (stop.Refused refusal) =
     (event : HistoryEvent) × IsEventLine found event × IsRefusal law (events_of texts) (length texts + 1) event refusal
-EndsAt law texts found (stop.Undecided line) = (event : HistoryEvent) × IsEventLine found event × (line ≡ length texts + 1)
+EndsAt law texts found (stop.Undecided line) =
+    (event : HistoryEvent) × IsEventLine found event × law.undecides (events_of texts) event × (line ≡ length texts + 1)
 EndsAt law texts found (stop.Fault (fault.Line n f)) = (n ≡ length texts + 1) × BeginsFaulty history_fault MAX_PAIR found f
 EndsAt law texts found (stop.Fault fault.TooManyLines) = (length texts ≡ most_lines) × (0 < length found)
 EndsAt law texts found (stop.Fault fault.OutOfMemory) = Unit {0}
@@ -121,12 +122,24 @@ ended_by (stop.Fault f) = Err f
 -- ---- in the middle of a reading
 
 -- These bytes were read: the lines of a history of the law, and the start of another line.
-pub record HasRead {J : Type 0} (took : J → List HistoryEvent → J → Type 0) (law : J → Law) (start : J) (bytes : List ℕ) (judge : J) (counts : Counts) (loads : List OpenLoad) (pending : List ℕ) (count : ℕ) : Type 0 where
-  pub texts : List (List ℕ)
+pub record HasRead {J : Type 0} (took : J → List HistoryEvent → J → Type 0) (law : J → Law) (start : J) (bytes : List ℕ) (texts : List (List ℕ)) (judge : J) (counts : Counts) (loads : List OpenLoad) (pending : List ℕ) (count : ℕ) : Type 0 where
   pub text : IsHistory (law start) bytes texts pending
   pub number : count ≡ length texts
   pub room : 0 < length pending → count < most_lines
   pub stands : Stands took start (events_of texts) judge counts loads
+
+-- the lines with one byte more, which may end the pending one
+abbrev pub texts_with : ℕ → List (List ℕ) → List ℕ → List (List ℕ)
+texts_with byte texts pending = if byte == line_feed then texts ++ pending ∷ [] else texts
+
+-- the line that these bytes begin is too long with one byte more
+abbrev pub IsTooLong : ℕ → List ℕ → Stop → Type 0
+IsTooLong number pending why = (why ≡ stop.Fault (fault.Line number TooLong)) × (length pending ≡ MAX_PAIR)
+
+-- why a line that says this isn't taken
+abbrev pub LineStops : Law → List HistoryEvent → ℕ → Option HistoryEvent → Stop → Type 0
+LineStops law events number None why = ⊥
+LineStops law events number (Some event) why = StepStops law events number event why
 
 -- how many bytes more can be read, at most
 abbrev pub bytes_left : ℕ → List ℕ → ℕ

@@ -3,7 +3,11 @@ pub mod Lines
 pub mod Answers
 pub mod Laws
 pub mod RegularLaw
+pub mod FlatLaw
+pub mod AtomicLaw
+pub mod Choice
 pub mod Operations
 pub mod Refusals
 pub mod Judged
 pub mod Histories
+pub mod Values

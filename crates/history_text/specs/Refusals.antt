@@ -8,7 +8,7 @@ use Rattle.memory_histories.specs.declared.sets.ByteSet.{ByteSet}
 use Rattle.history_text.specs.declared.answers.OperationKind.{OperationKind}
 use Rattle.history_text.specs.declared.answers.OperationKind.TheVariants.{Load, Store}
 use Rattle.history_text.specs.declared.answers.RefusalCause.{RefusalCause}
-use Rattle.history_text.specs.declared.answers.RefusalCause.TheVariants.{OutOfRange, NoByteEnabled, NumberInUse, NotOpen, WrongLength, WrongByte}
+use Rattle.history_text.specs.declared.answers.RefusalCause.TheVariants.{OutOfRange, NoByteEnabled, NumberInUse, NotOpen, WrongLength, WrongByte, NoMoment}
 use Rattle.history_text.specs.declared.answers.Refusal.{Refusal}
 use Rattle.history_text.specs.declared.judged.OpenLoad.{OpenLoad}
 use Rattle.history_text.specs.Laws.{Law}
@@ -35,9 +35,11 @@ request_cause address n fault.NotOpen = OutOfRange address n
 request_cause address n fault.WrongLength = OutOfRange address n
 request_cause address n (fault.WrongByte place) = OutOfRange address n
 
+-- a wrong byte, and those that the load may return; if the law tells no set, the load got a word that was never in its unit
 abbrev pub wrong_byte : ℕ → Option ℕ → Option ByteSet → RefusalCause
 wrong_byte address (Some returned) (Some allowed) = WrongByte address returned allowed
-wrong_byte address returned allowed = NotOpen
+wrong_byte address None (Some allowed) = NotOpen
+wrong_byte address returned None = NoMoment address
 
 -- the cause of the refusal of an answer to an open load
 abbrev pub IsAnswerCause : Law → List HistoryEvent → OpenLoad → List ℕ → HistoryFault → RefusalCause → Type 0

@@ -55,6 +55,11 @@ pub enum RefusalCause {
         returned: u8,
         allowed: ByteSet,
     },
+    /// At no moment between the load's request and its response its bytes of the unit that has this
+    /// address stood there.
+    NoMoment {
+        address: u64,
+    },
 }
 
 /// The first line of a history that is none of the law.
@@ -163,30 +168,34 @@ impl fmt::Display for OneOf {
 
     fn fmt<W: fmt::Write>(&self, f: &mut fmt::Formatter<W>) -> fmt::Result {
         let bytes = bytes_in_set(self.0);
-        write_one_of(f, bytes.as_slice())
+        write_joined(f, " or ", bytes.as_slice())
     }
 }
 
-// These bytes, of which one is meant.
-fn write_one_of<W: fmt::Write>(f: &mut fmt::Formatter<W>, bytes: &[u8]) -> fmt::Result
-    ensures { WritesOnOk W.write_str_gives f.old result (joined_bytes (codes " or ") bytes.now) f.new }
+// These bytes, with a text between them.
+pub(crate) fn write_joined<W: fmt::Write>(
+    f: &mut fmt::Formatter<W>,
+    between: &str,
+    bytes: &[u8],
+) -> fmt::Result
+    ensures { WritesOnOk W.write_str_gives f.old result (joined_bytes between.now bytes.now) f.new }
 {
     match bytes {
         [] => Ok(()),
         [first, rest @ ..] => {
             write_byte(f, *first)?;
-            write_more(f, rest)
+            write_more(f, between, rest)
         }
     }
 }
 
 // The bytes behind the first.
-fn write_more<W: fmt::Write>(f: &mut fmt::Formatter<W>, bytes: &[u8]) -> fmt::Result
-    ensures { WritesOnOk W.write_str_gives f.old result (flat_map (λ c. codes " or " ++ byte_text c) bytes.now) f.new }
+fn write_more<W: fmt::Write>(f: &mut fmt::Formatter<W>, between: &str, bytes: &[u8]) -> fmt::Result
+    ensures { WritesOnOk W.write_str_gives f.old result (flat_map (λ c. between.now ++ byte_text c) bytes.now) f.new }
 {
     for byte in bytes {
         let digits = TwoDigits(*byte);
-        write!(f, " or {digits}")?;
+        write!(f, "{between}{digits}")?;
     }
     Ok(())
 }
@@ -258,6 +267,13 @@ impl fmt::Display for RefusalCause {
                 write!(
                     f,
                     "returned {returned} at {address}, which may be {allowed}"
+                )
+            }
+            RefusalCause::NoMoment { address } => {
+                let address = Address(address);
+                write!(
+                    f,
+                    "returned what stood at no moment in the unit with {address}"
                 )
             }
         }

@@ -12,7 +12,7 @@ use trace_text::{BUFFER_LEN, Source, TraceFault};
 
 impl Stop {
     // What a reading gives that ends so.
-    fn ended(self) -> Result<HistoryEnd, TraceFault>
+    pub(crate) fn ended(self) -> Result<HistoryEnd, TraceFault>
         ensures { result ≡ ended_by self }
     {
         match self {
@@ -59,10 +59,10 @@ fn read_through<R: Source, J: HistoryJudge>(
 ) -> Result<HistoryEnd, TraceFault>
     requires room { 0 < length buffer.old }
     requires begun { (start : J)
-        × HasRead J.took J.law start [] lines.old.judged.judge lines.old.judged.counts
+        × HasRead J.took J.law start [] [] lines.old.judged.judge lines.old.judged.counts
         lines.old.judged.loads.items lines.old.pending.items lines.old.count }
     ensures { (start : J)
-        → HasRead J.took J.law start [] lines.old.judged.judge lines.old.judged.counts
+        → HasRead J.took J.law start [] [] lines.old.judged.judge lines.old.judged.counts
         lines.old.judged.loads.items lines.old.pending.items lines.old.count
         → Judges R.gave R.failed (J.law start) reader.old reader.new result }
 {

@@ -5,7 +5,10 @@ ghost use Rattle.memory_histories.specs.declared.events.HistoryEvent.{HistoryEve
 ghost use Rattle.history_text.specs.Lines.{plain};
 ghost use Rattle.history_text.specs.Laws.{Law, JudgeFaultIs};
 
-use memory_histories::{ByteSet, HistoryEvent, HistoryFault, RegularMemory, StepFault};
+use atomic_histories::{AtomicFault, AtomicMemory};
+use memory_histories::{
+    ByteSet, FlatHistory, HistoryEvent, HistoryFault, RegularMemory, StepFault,
+};
 
 /// Why a judge didn't take an event.
 #[derive(Clone, Copy, PartialEq, Eq, Debug)]
@@ -41,7 +44,7 @@ pub trait HistoryJudge {
             → took start events self.old → took start events self.new) };
 
     /// What the load that is open under a number may return for the byte at an address, if it is
-    /// answered now, or `None` if no such load asks for that byte.
+    /// answered now, or `None` if no such load asks for that byte, or the law tells no set of bytes.
     fn allowed(&self, number: u64, address: u64) -> Option<ByteSet>
         ensures { (start : Self) (events : List Event) → took start events self.now
             → (law start).allows events number address result };
@@ -65,5 +68,47 @@ impl HistoryJudge for RegularMemory {
 
     fn allowed(&self, number: u64, address: u64) -> Option<ByteSet> {
         self.may_return(number, address)
+    }
+}
+
+impl HistoryJudge for FlatHistory {
+    ghost use Rattle.history_text.specs.FlatLaw.{law_of, Took};
+
+    ghost law = { law_of };
+
+    ghost took = { Took };
+
+    fn judge(&mut self, event: HistoryEvent) -> Result<(), JudgeFault> {
+        match self.step(event) {
+            Ok(()) => Ok(()),
+            Err(StepFault::Refused(cause)) => Err(JudgeFault::Refused(cause)),
+            Err(StepFault::TooLong) => Err(JudgeFault::TooLong),
+            Err(StepFault::OutOfMemory) => Err(JudgeFault::OutOfMemory),
+        }
+    }
+
+    fn allowed(&self, number: u64, address: u64) -> Option<ByteSet> {
+        self.may_return(number, address)
+    }
+}
+
+impl HistoryJudge for AtomicMemory {
+    ghost use Rattle.history_text.specs.AtomicLaw.{law_of, Took};
+
+    ghost law = { law_of };
+
+    ghost took = { Took };
+
+    fn judge(&mut self, event: HistoryEvent) -> Result<(), JudgeFault> {
+        match self.step(event) {
+            Ok(()) => Ok(()),
+            Err(AtomicFault::Refused(fault)) => Err(JudgeFault::Refused(fault)),
+            Err(AtomicFault::Undecided) => Err(JudgeFault::Undecided),
+            Err(AtomicFault::OutOfMemory) => Err(JudgeFault::OutOfMemory),
+        }
+    }
+
+    fn allowed(&self, _number: u64, _address: u64) -> Option<ByteSet> {
+        None
     }
 }

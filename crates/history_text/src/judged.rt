@@ -160,7 +160,8 @@ fn wrong_byte(address: u64, returned: Option<u8>, allowed: Option<ByteSet>) -> R
             returned,
             allowed,
         },
-        _ => RefusalCause::NotOpen,
+        (None, Some(_)) => RefusalCause::NotOpen,
+        (_, None) => RefusalCause::NoMoment { address },
     }
 }
 

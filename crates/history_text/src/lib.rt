@@ -14,6 +14,7 @@ mod judged;
 mod laws;
 mod lines;
 mod reading;
+mod values;
 
 pub use answers::{
     HistoryEnd, HistoryVerdict, LawName, OperationKind, Refusal, RefusalCause, bytes_in_set,
@@ -22,5 +23,9 @@ pub use events::{OperationBytes, OwnedEvent};
 pub use histories::judge_history;
 pub use judge::{HistoryJudge, JudgeFault};
 pub use judged::{Counts, OpenLoad};
-pub use laws::judge_by_regular_law;
+pub use laws::{
+    HistoryLaw, judge_by_atomic_law, judge_by_flat_law, judge_by_law, judge_by_regular_law,
+    write_values_by_law,
+};
 pub use lines::read_history_line;
+pub use values::write_values;

@@ -1,11 +1,13 @@
 //! The lines of a history, byte by byte.
 
-ghost use Rattle.std.specs.Prelude.{◌≡◌, ◌≤◌, ◌<◌, ◌+◌, ℕ, List, [], ◌∷◌, ◌++◌, length, IfSome, IfNone, IfErr, OnOk};
+ghost use Rattle.std.specs.Prelude.{◌≡◌, ◌≤◌, ◌<◌, ◌+◌, Ok, ℕ, List, [], ◌∷◌, ◌++◌, length, IfSome, IfNone, IfErr, OnOk};
 ghost use Rattle.trace_text.specs.declared.fault.TheConstants.{MAX_PAIR};
+ghost use Rattle.history_text.specs.Lines.{line_of, seen_by};
 ghost use Rattle.history_text.specs.Operations.{no_counts};
-ghost use Rattle.history_text.specs.Histories.{EndsIn, HasRead, bytes_left, EndsWith};
+ghost use Rattle.history_text.specs.Histories.{events_of, EndsAt, EndsIn, HasRead, texts_with, IsTooLong, LineStops, bytes_left, EndsWith};
 
 use crate::answers::HistoryEnd;
+use crate::events::OwnedEvent;
 use crate::judge::HistoryJudge;
 use crate::judged::{Counts, Judged, Stop};
 use crate::lines::read_history_line;
@@ -49,19 +51,19 @@ impl<J: HistoryJudge> Lines<J> {
 
     // Reads these bytes, up to the first line that ends the reading.
     pub(crate) fn read(&mut self, bytes: &[u8]) -> Result<(), Stop>
-        requires { (start : J) × (before : List ℕ)
-            × HasRead J.took J.law start before self.old.judged.judge self.old.judged.counts
+        requires { (start : J) × (before : List ℕ) × (texts : List (List ℕ))
+            × HasRead J.took J.law start before texts self.old.judged.judge self.old.judged.counts
             self.old.judged.loads.items self.old.pending.items self.old.count }
-        ensures ok { OnOk result ((start : J) (before : List ℕ)
-            → HasRead J.took J.law start before self.old.judged.judge self.old.judged.counts
+        ensures ok { OnOk result ((start : J) (before : List ℕ) (texts : List (List ℕ))
+            → HasRead J.took J.law start before texts self.old.judged.judge self.old.judged.counts
             self.old.judged.loads.items self.old.pending.items self.old.count
-            → HasRead J.took J.law start (before ++ bytes.now) self.new.judged.judge
-            self.new.judged.counts self.new.judged.loads.items self.new.pending.items
-            self.new.count) }
+            → (whole : List (List ℕ)) × HasRead J.took J.law start (before ++ bytes.now) whole
+            self.new.judged.judge self.new.judged.counts self.new.judged.loads.items
+            self.new.pending.items self.new.count) }
         ensures progress { OnOk result (bytes_left self.new.count self.new.pending.items
             + length bytes.now ≤ bytes_left self.old.count self.old.pending.items) }
-        ensures stop { IfErr result (λ stop. (start : J) (before : List ℕ)
-            → HasRead J.took J.law start before self.old.judged.judge self.old.judged.counts
+        ensures stop { IfErr result (λ stop. (start : J) (before : List ℕ) (texts : List (List ℕ))
+            → HasRead J.took J.law start before texts self.old.judged.judge self.old.judged.counts
             self.old.judged.loads.items self.old.pending.items self.old.count
             → EndsIn (J.law start) (before ++ bytes.now) stop) }
     {
@@ -73,8 +75,8 @@ impl<J: HistoryJudge> Lines<J> {
 
     // What is told where the input ends behind these lines.
     pub(crate) fn end(&self) -> Result<HistoryEnd, TraceFault>
-        requires { (start : J) × (before : List ℕ)
-            × HasRead J.took J.law start before self.now.judged.judge self.now.judged.counts
+        requires { (start : J) × (before : List ℕ) × (texts : List (List ℕ))
+            × HasRead J.took J.law start before texts self.now.judged.judge self.now.judged.counts
             self.now.judged.loads.items self.now.pending.items self.now.count }
         ensures { EndsWith self.now.judged.counts self.now.pending.items self.now.count result }
     {
@@ -87,30 +89,49 @@ impl<J: HistoryJudge> Lines<J> {
     }
 
     // Reads a byte, which may end a line.
-    fn read_byte(&mut self, byte: u8) -> Result<(), Stop>
-        requires { (start : J) × (before : List ℕ)
-            × HasRead J.took J.law start before self.old.judged.judge self.old.judged.counts
+    pub(crate) fn read_byte(&mut self, byte: u8) -> Result<(), Stop>
+        requires { (start : J) × (before : List ℕ) × (texts : List (List ℕ))
+            × HasRead J.took J.law start before texts self.old.judged.judge self.old.judged.counts
             self.old.judged.loads.items self.old.pending.items self.old.count }
-        ensures ok { OnOk result ((start : J) (before : List ℕ)
-            → HasRead J.took J.law start before self.old.judged.judge self.old.judged.counts
+        ensures ok { OnOk result ((start : J) (before : List ℕ) (texts : List (List ℕ))
+            → HasRead J.took J.law start before texts self.old.judged.judge self.old.judged.counts
             self.old.judged.loads.items self.old.pending.items self.old.count
-            → HasRead J.took J.law start (before ++ byte ∷ []) self.new.judged.judge
+            → HasRead J.took J.law start (before ++ byte ∷ [])
+            (texts_with byte texts self.old.pending.items) self.new.judged.judge
             self.new.judged.counts self.new.judged.loads.items self.new.pending.items
             self.new.count) }
         ensures progress { OnOk result (bytes_left self.new.count self.new.pending.items + 1
             ≤ bytes_left self.old.count self.old.pending.items) }
-        ensures stop { IfErr result (λ stop. (start : J) (before : List ℕ)
-            → HasRead J.took J.law start before self.old.judged.judge self.old.judged.counts
+        ensures stop { IfErr result (λ stop. (start : J) (before : List ℕ) (texts : List (List ℕ))
+            → HasRead J.took J.law start before texts self.old.judged.judge self.old.judged.counts
             self.old.judged.loads.items self.old.pending.items self.old.count
-            → EndsIn (J.law start) (before ++ byte ∷ []) stop) }
+            → EndsAt (J.law start) texts (self.old.pending.items ++ byte ∷ []) stop) }
     {
         if self.count == u64::MAX {
             return Err(Stop::Fault(TraceFault::TooManyLines));
         }
         let number = self.count + 1;
         if byte == b'\n' {
-            return self.end_line(number);
+            let event = match read_history_line(self.pending.as_slice()) {
+                Ok(event) => event,
+                Err(fault) => return Err(Stop::Fault(TraceFault::Line { number, fault })),
+            };
+            return self.end_line(number, &event);
         }
+        self.push(number, byte)
+    }
+
+    // A byte of the line of this number that doesn't end it.
+    pub(crate) fn push(&mut self, number: u64, byte: u8) -> Result<(), Stop>
+        requires short { length self.old.pending.items ≤ MAX_PAIR }
+        ensures ok { OnOk result (self.new.pending.items ≡ self.old.pending.items ++ byte ∷ []) }
+        ensures short { OnOk result (length self.old.pending.items + 1 ≤ MAX_PAIR) }
+        ensures judge { self.new.judged.judge ≡ self.old.judged.judge }
+        ensures counts { self.new.judged.counts ≡ self.old.judged.counts }
+        ensures loads { self.new.judged.loads.items ≡ self.old.judged.loads.items }
+        ensures count { self.new.count ≡ self.old.count }
+        ensures stop { IfErr result (λ stop. IsTooLong number self.old.pending.items stop) }
+    {
         if self.pending.len() == MAX_PAIR {
             let fault = LineFault::TooLong;
             return Err(Stop::Fault(TraceFault::Line { number, fault }));
@@ -119,36 +140,33 @@ impl<J: HistoryJudge> Lines<J> {
         Ok(())
     }
 
-    // Reads the line of this number, which ends here.
-    fn end_line(&mut self, number: u64) -> Result<(), Stop>
-        requires read { (start : J) × (before : List ℕ)
-            × HasRead J.took J.law start before self.old.judged.judge self.old.judged.counts
+    // The line of this number ends here, and this is what it says.
+    pub(crate) fn end_line(&mut self, number: u64, event: &Option<OwnedEvent>) -> Result<(), Stop>
+        requires read { (start : J) × (before : List ℕ) × (texts : List (List ℕ))
+            × HasRead J.took J.law start before texts self.old.judged.judge self.old.judged.counts
             self.old.judged.loads.items self.old.pending.items self.old.count }
         requires number { number ≡ self.old.count + 1 }
-        ensures ok { OnOk result ((start : J) (before : List ℕ)
-            → HasRead J.took J.law start before self.old.judged.judge self.old.judged.counts
+        requires said { line_of self.old.pending.items ≡ Ok (seen_by event.now) }
+        ensures ok { OnOk result ((start : J) (before : List ℕ) (texts : List (List ℕ))
+            → HasRead J.took J.law start before texts self.old.judged.judge self.old.judged.counts
             self.old.judged.loads.items self.old.pending.items self.old.count
-            → HasRead J.took J.law start (before ++ 10 ∷ []) self.new.judged.judge
-            self.new.judged.counts self.new.judged.loads.items self.new.pending.items
-            self.new.count) }
+            → HasRead J.took J.law start (before ++ 10 ∷ []) (texts ++ self.old.pending.items ∷ [])
+            self.new.judged.judge self.new.judged.counts self.new.judged.loads.items
+            self.new.pending.items self.new.count) }
         ensures progress { OnOk result (bytes_left self.new.count self.new.pending.items + 1
             ≤ bytes_left self.old.count self.old.pending.items) }
-        ensures stop { IfErr result (λ stop. (start : J) (before : List ℕ)
-            → HasRead J.took J.law start before self.old.judged.judge self.old.judged.counts
+        ensures stop { IfErr result (λ stop. (start : J) (before : List ℕ) (texts : List (List ℕ))
+            → HasRead J.took J.law start before texts self.old.judged.judge self.old.judged.counts
             self.old.judged.loads.items self.old.pending.items self.old.count
-            → EndsIn (J.law start) (before ++ 10 ∷ []) stop) }
+            → LineStops (J.law start) (events_of texts) number (seen_by event.now) stop) }
     {
-        let event = match read_history_line(self.pending.as_slice()) {
-            Ok(event) => event,
-            Err(fault) => return Err(Stop::Fault(TraceFault::Line { number, fault })),
-        };
         match event {
             None => {
                 self.close(number);
                 Ok(())
             }
             Some(event) => {
-                self.judged.take(number, &event)?;
+                self.judged.take(number, event)?;
                 self.close(number);
                 Ok(())
             }

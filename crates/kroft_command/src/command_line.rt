@@ -7,8 +7,10 @@ ghost use Rattle.kroft_command.specs.Tool.{IsInRange};
 
 use crate::commands::{BUSY, FILE, LATENCY, Subcommand, program, shown};
 use access_logs::MAX_WORDS;
+use atomic_histories::{DEFAULT_LIMIT, UnitSize};
 use clap::error::ErrorKind;
 use clap::{ArgMatches, Error};
+use history_text::HistoryLaw;
 use memory_histories::Rest;
 use round_driver::{MOST_LATENCY, Timing};
 use run_pictures::Form;
@@ -58,12 +60,22 @@ pub(crate) enum Task {
         form: Form,
     },
     /// Judge a history.
-    History {
-        /// What memory has beyond its image.
-        rest: Rest,
-        /// Whether operations that are open at the end are a fault.
-        all_answered: bool,
-    },
+    History(HistoryTask),
+}
+
+/// How a history is judged.
+#[derive(Clone, Copy)]
+pub(crate) struct HistoryTask {
+    /// The law that it is judged by.
+    pub law: HistoryLaw,
+    /// The size of a unit, where one is given: only the atomic law knows units.
+    pub unit: Option<UnitSize>,
+    /// What memory has beyond its image.
+    pub rest: Rest,
+    /// Whether operations that are open at the end are a fault.
+    pub all_answered: bool,
+    /// Whether its lines are written, with what the loads may have returned.
+    pub values: bool,
 }
 
 /// What the words of the command line ask for.
@@ -154,6 +166,19 @@ fn timing_of(task: Task) -> Option<Timing> {
     }
 }
 
+// Why a history can't be judged so, if it can't.
+fn history_conflict(asked: HistoryTask) -> Option<&'static str> {
+    match asked.law {
+        HistoryLaw::Atomic { .. } if asked.values => {
+            Some("the argument '--values' cannot be used with '--law atomic'")
+        }
+        HistoryLaw::Flat | HistoryLaw::Regular if asked.unit.is_some() => {
+            Some("the argument '--unit <N>' needs '--law atomic'")
+        }
+        _ => None,
+    }
+}
+
 // Why what was asked for can't be done with these arguments, if it can't.
 fn conflict(task: Task, before: Option<&str>, behind: Option<&str>) -> Option<&'static str> {
     if before.is_some() && behind.is_some() {
@@ -171,9 +196,10 @@ fn conflict(task: Task, before: Option<&str>, behind: Option<&str>) -> Option<&'
                 "the argument '--shape <FILE>' cannot be used with 'requests': it takes '--words <N>'",
             )
         }
-        Task::History { .. } if before.is_some() => {
+        Task::History(_) if before.is_some() => {
             Some("the argument '--shape <FILE>' cannot be used with 'history'")
         }
+        Task::History(asked) => history_conflict(asked),
         Task::Requests { words, .. } if words % 4 != 0 => {
             Some("invalid value for '--words <N>': it is no multiple of 4")
         }
@@ -195,6 +221,29 @@ fn show_task(rest: &ArgMatches<'_>) -> Task
     Task::Show { form }
 }
 
+// The size of a unit that is asked for, if one is.
+fn unit_of(rest: &ArgMatches<'_>) -> Option<UnitSize> {
+    match rest.get_str("unit") {
+        Some("1") => Some(UnitSize::One),
+        Some("2") => Some(UnitSize::Two),
+        Some("4") => Some(UnitSize::Four),
+        Some("8") => Some(UnitSize::Eight),
+        _ => None,
+    }
+}
+
+// The law that is asked for.
+fn law_of(rest: &ArgMatches<'_>) -> HistoryLaw {
+    match rest.get_str("law") {
+        Some("flat") => HistoryLaw::Flat,
+        Some("atomic") => HistoryLaw::Atomic {
+            unit: unit_of(rest).unwrap_or(UnitSize::Eight),
+            limit: DEFAULT_LIMIT,
+        },
+        _ => HistoryLaw::Regular,
+    }
+}
+
 // What the words behind `history` ask for.
 fn history_task(rest: &ArgMatches<'_>) -> Task
     ensures { IsInRange result }
@@ -204,16 +253,19 @@ fn history_task(rest: &ArgMatches<'_>) -> Task
     } else {
         Rest::Zeros
     };
-    Task::History {
+    Task::History(HistoryTask {
+        law: law_of(rest),
+        unit: unit_of(rest),
         rest: beyond,
         all_answered: rest.get_flag("all-answered"),
-    }
+        values: rest.get_flag("values"),
+    })
 }
 
 // The image that is asked for. Only `history` has one.
 fn image_of<'a>(task: Task, rest: &ArgMatches<'a>) -> Option<&'a str> {
     match task {
-        Task::History { .. } => rest.get_str("image"),
+        Task::History(_) => rest.get_str("image"),
         _ => None,
     }
 }

@@ -264,8 +264,18 @@ fn law_argument<'a>(alloc: Global) -> Arg<'a> {
         .long("law")
         .value_name("LAW")
         .action(ArgAction::Set)
-        .value_parser(["regular"].as_slice())
+        .value_parser(["flat", "atomic", "regular"].as_slice())
         .help("The law that the history is judged by [default: regular]")
+}
+
+// The argument for the size of a unit.
+fn unit_argument<'a>(alloc: Global) -> Arg<'a> {
+    Arg::new(alloc, "unit")
+        .long("unit")
+        .value_name("N")
+        .action(ArgAction::Set)
+        .value_parser(["1", "2", "4", "8"].as_slice())
+        .help("How many bytes take effect at one moment, with --law atomic [default: 8]")
 }
 
 // The argument for what memory had before the first store.
@@ -290,12 +300,18 @@ fn unknown_argument<'a>(alloc: Global) -> Result<Arg<'a>, AllocError> {
 // Adds the options of `history`. It knows no shape.
 fn push_history<'a>(alloc: Global, args: &mut Vec<Arg<'a>>) -> Result<(), AllocError> {
     args.push(law_argument(alloc))?;
+    args.push(unit_argument(alloc))?;
     args.push(image_argument(alloc))?;
     args.push(unknown_argument(alloc)?)?;
     args.push(flag(
         alloc,
         "all-answered",
         "End with status 1 if operations are open at the end",
+    ))?;
+    args.push(flag(
+        alloc,
+        "values",
+        "Write each line, and behind a load's response what it may have returned",
     ))?;
     Ok(())
 }

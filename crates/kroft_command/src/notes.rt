@@ -238,11 +238,19 @@ may have any number of lines.
 
 An operation is open from its request to its response, and took effect somewhere between. Loads and
 stores have numbers of their own, free again after the response.
+  flat      it took effect at its request, so a load is owed what stands there then
+  atomic    there is one moment for it between request and response, in each aligned unit of bytes
+            that it touches, and a load gets what stands there at its moment
   regular   each byte of a load is one that a store left there, and that was not overwritten before
             the load was asked for, or what memory had before the first store
 
-Writes 'history of N events is regular', and ', K operations open' behind it if some are; or
+Writes 'history of N events is ' and the law, and ', K operations open' behind it if some are; or
 'line N: ' and why the event of that line is none of the law. The lines behind it are not judged.
+If more than 4096 ways would have to be followed at a unit, the atomic law can't tell: 'line N:
+undecided: ' and why.
+
+With --values each line is written as well, and behind the response of an open load ' ->' and a space
+and a set for each byte: the bytes that it may be with a | between them, or ?? if it may be any.
 
 Statuses: 0 the history is one of the law, 1 it isn't (or, with --all-answered, operations are
 open), 2 the command line is wrong, 4 a line is faulty, the image can't be read or a stream failed,

@@ -5,11 +5,11 @@ ghost use Rattle.access_logs.specs.declared.writing.TheConstants.{MAX_WORDS};
 ghost use Rattle.round_driver.specs.declared.driving.TheConstants.{MOST_LATENCY};
 ghost use Rattle.kroft_command.specs.Tool.{IsInRange};
 
-use crate::command_line::{CommandLine, LogName, Task, read_words};
+use crate::command_line::{CommandLine, HistoryTask, LogName, Task, read_words};
 use crate::fault::ToolFault;
 use access_logs::{Din, Lackey, write_requests};
 use clap::error::ErrorKind;
-use history_text::{HistoryVerdict, LawName, judge_by_regular_law};
+use history_text::{HistoryEnd, HistoryVerdict, judge_by_law, write_values_by_law};
 use kroft_jobs::{
     JobFault, Verdict, drive_requests, serve, summarize_requests, sweep_in_rounds, sweep_registers,
 };
@@ -110,9 +110,9 @@ fn perform<R: AllocGlobal + Files + Threads + Sync, I: Read, O: Write>(
         }
         Task::Requests { from, words } => requests(rt.alloc(), from, words, input, output)?,
         Task::Show { form } => show(rt.alloc(), &shape, form, input, output)?,
-        Task::History { rest, all_answered } => {
+        Task::History(how) => {
             let image = image_of(rt, asked.image_file)?;
-            history(rt.alloc(), &image, rest, all_answered, input, output)?
+            history(rt.alloc(), how, &image, input, output)?
         }
     };
     Ok(status)
@@ -260,23 +260,39 @@ fn image_of<R: AllocGlobal + Files>(rt: &R, file: Option<&str>) -> Result<Vec<u8
     }
 }
 
-// Judges a history by the regular law.
+// What becomes of a history, whose lines are written if that is asked for. What was written before a
+// fault is seen through to its end.
+fn judged<I: Read, O: Write>(
+    alloc: Global,
+    how: HistoryTask,
+    image: &[u8],
+    input: &mut I,
+    output: &mut O,
+) -> Result<HistoryEnd, JobFault> {
+    if !how.values {
+        return Ok(judge_by_law(alloc, input, how.law, image, how.rest)?);
+    }
+    let end = write_values_by_law(alloc, input, output, how.law, image, how.rest);
+    finish(output)?;
+    Ok(end?)
+}
+
+// Judges a history by a law.
 fn history<I: Read, O: Write>(
     alloc: Global,
+    how: HistoryTask,
     image: &[u8],
-    rest: Rest,
-    all_answered: bool,
     input: &mut I,
     output: &mut O,
 ) -> Result<u8, JobFault>
     ensures { IfOk result (λ status. status ≤ 6) }
 {
-    let end = judge_by_regular_law(alloc, input, image, rest)?;
-    let law = LawName::Regular;
+    let end = judged(alloc, how, image, input, output)?;
+    let law = how.law.name();
     let verdict = HistoryVerdict { law, end };
     put(output, format_args!("{verdict}\n"))?;
     finish(output)?;
-    Ok(verdict.status(all_answered))
+    Ok(verdict.status(how.all_answered))
 }
 
 // Serves the requests with 1, 2, 4 and 8 registers, or drives them in rounds if there are times of memory.

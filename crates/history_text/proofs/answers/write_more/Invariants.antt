@@ -1,5 +1,4 @@
 use Rattle.std.proofs.Common.{take, ◌++◌}
-use Rattle.std.specs.Prelude.{codes}
 use Rattle.std.specs.List.{flat_map}
 use Rattle.std.specs.Fmt.{HasWritten, IsPlainFormatter}
 use Rattle.trace_text.specs.Fields.{byte_text}
@@ -7,4 +6,4 @@ use Rattle.history_text.proofs.answers.write_more.Given as goal
 
 abbrev pub invariant-loop-byte : goal.invariant-loop-byte
 invariant-loop-byte g l =
-    IsPlainFormatter l.initial.f → HasWritten g.W.Write.write_str_gives l.initial.f (flat_map (λ c. codes " or " ++ byte_text c) (take l.byte-index l.bytes)) l.f
+    IsPlainFormatter l.initial.f → HasWritten g.W.Write.write_str_gives l.initial.f (flat_map (λ c. l.between ++ byte_text c) (take l.byte-index l.bytes)) l.f

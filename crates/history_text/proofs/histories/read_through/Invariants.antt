@@ -5,9 +5,9 @@ use Rattle.history_text.proofs.histories.read_through.Given as goal
 
 abbrev pub invariant-pieces : goal.invariant-pieces
 invariant-pieces g l = (start : g.row.J.Denot)
-    → HasRead g.J.HistoryJudge.took g.J.HistoryJudge.law start [] l.fn.lines.judged.judge l.fn.lines.judged.counts l.fn.lines.judged.loads.items l.fn.lines.pending.items l.fn.lines.count
-    → (bytes : List ℕ) × Moves (Came g.R.Source.gave) l.fn.reader bytes l.reader
-    × HasRead g.J.HistoryJudge.took g.J.HistoryJudge.law start bytes l.lines.judged.judge l.lines.judged.counts l.lines.judged.loads.items l.lines.pending.items l.lines.count
+    → HasRead g.J.HistoryJudge.took g.J.HistoryJudge.law start [] [] l.fn.lines.judged.judge l.fn.lines.judged.counts l.fn.lines.judged.loads.items l.fn.lines.pending.items l.fn.lines.count
+    → (bytes : List ℕ) × (texts : List (List ℕ)) × Moves (Came g.R.Source.gave) l.fn.reader bytes l.reader
+    × HasRead g.J.HistoryJudge.took g.J.HistoryJudge.law start bytes texts l.lines.judged.judge l.lines.judged.counts l.lines.judged.loads.items l.lines.pending.items l.lines.count
 
 abbrev pub decreases-pieces : goal.decreases-pieces
 decreases-pieces g l = bytes_left l.lines.count l.lines.pending.items

@@ -1,18 +1,14 @@
-use Rattle.std.proofs.Common.{◌≡◌, ◌++◌, ◌+◌, ◌<◌, ℕ, Result, Ok, Err, IfErr, IsErrAnd, List, length, take, drop, sym, subst, refl, arith}
+use Rattle.std.proofs.Common.{◌++◌, ◌+◌, ◌<◌, ◌≤◌, ℕ, List, length, take, drop, sym, subst, refl, arith}
 use Rattle.history_text.specs.Histories.{EndsIn, HasRead}
 use Rattle.history_text.proofs.LineTexts.{rest_behind}
-use Rattle.history_text.proofs.LinesRead.{ends_more}
+use Rattle.history_text.proofs.LinesRead.{ends_in, ends_more, read_on, read_all, passed_on}
 use Rattle.history_text.proofs.reading.Lines.read.Goals as goal
 
 pub read_byte-requires : goal.read_byte-requires
 read_byte-requires g c =
     let r = c.requires in
-    (r.0, r.1 ++ take c.loop-byte.byte-index c.args.bytes.now, c.loop-byte.invariant.read r.0 r.1 r.2)
-
--- an error that `?` passes on says what it said
-passed_on : {X E : Type 0} (r : Result X E) (e : E) (P : E → Type 0) → IsErrAnd r (λ f. f ≡ e) → P e → IfErr r P
-passed_on (Ok x) e P same p = tt
-passed_on (Err f) e P same p = subst P (sym same) p
+    let so_far = c.loop-byte.invariant.read r.0 r.1 r.2 r.3 in
+    (r.0, r.1 ++ take c.loop-byte.byte-index c.args.bytes.now, so_far.0, so_far.1)
 
 pub returns-in_err-read_byte-clause-stop : goal.returns-in_err-read_byte-clause-stop
 returns-in_err-read_byte-clause-stop g c =
@@ -23,7 +19,26 @@ returns-in_err-read_byte-clause-stop g c =
     let lt : i < length bytes = omega arith in
     let why = c.in_err-read_byte.field-0.0 in
     passed_on c.from_residual.result why
-    (λ s. (start : g.row.J.Denot) (before : List ℕ) → HasRead j.took j.law start before self.judged.judge self.judged.counts self.judged.loads.items self.pending.items self.count → EndsIn (j.law start) (before ++ bytes) s)
+    (λ s. (start : g.row.J.Denot) (before : List ℕ) (texts : List (List ℕ)) → HasRead j.took j.law start before texts self.judged.judge self.judged.counts self.judged.loads.items self.pending.items self.count → EndsIn (j.law start) (before ++ bytes) s)
     c.from_residual.ensures.1
-    (λ start before h. subst (λ l. EndsIn (j.law start) l why) (rest_behind before bytes i _ lt refl)
-    (ends_more why (drop (i + 1) bytes) (c.in_err-read_byte.ensures.stop start (before ++ take i bytes) (c.loop-byte.invariant.read start before h))))
+    (λ start before texts h. (let so_far = c.loop-byte.invariant.read start before texts h in
+    let here = c.in_err-read_byte.ensures.stop start (before ++ take i bytes) so_far.0 so_far.1 in
+    subst (λ l. EndsIn (j.law start) l why) (rest_behind before bytes i _ lt refl) (ends_more why (drop (i + 1) bytes) (ends_in _ why so_far.1 here))))
+
+pub loop-byte-preserved : goal.loop-byte-preserved
+loop-byte-preserved g c =
+    let bytes = c.args.bytes.now in
+    let i = c.loop-byte.byte-index in
+    let lt : i < length bytes = omega arith in
+    record {
+      read = λ start before texts h. (let so_far = c.loop-byte.invariant.read start before texts h in
+          let more = c.in_ok-read_byte.ensures.ok start (before ++ take i bytes) so_far.0 so_far.1 in
+          (_, read_on before bytes i _ lt refl more));
+      progress = omega (arith, c.in_ok-read_byte.ensures.progress, c.loop-byte.invariant.progress);
+    }
+
+pub returns-clause-ok : goal.returns-clause-ok
+returns-clause-ok g c start before texts h =
+    let so_far = c.loop-byte.invariant.read start before texts h in
+    let whole : length c.args.bytes.now ≤ c.loop-byte.byte-index = omega arith in
+    (so_far.0, read_all before c.args.bytes.now c.loop-byte.byte-index whole so_far.1)

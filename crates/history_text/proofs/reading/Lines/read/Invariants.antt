@@ -4,8 +4,8 @@ use Rattle.history_text.proofs.reading.Lines.read.Given as goal
 
 abbrev pub invariant-loop-byte : goal.invariant-loop-byte
 invariant-loop-byte g l = record {
-  read : (start : g.row.J.Denot) (before : List ℕ)
-      → HasRead g.J.HistoryJudge.took g.J.HistoryJudge.law start before l.fn.self.judged.judge l.fn.self.judged.counts l.fn.self.judged.loads.items l.fn.self.pending.items l.fn.self.count
-      → HasRead g.J.HistoryJudge.took g.J.HistoryJudge.law start (before ++ take l.byte-index l.bytes) l.self.judged.judge l.self.judged.counts l.self.judged.loads.items l.self.pending.items l.self.count;
+  read : (start : g.row.J.Denot) (before : List ℕ) (texts : List (List ℕ))
+      → HasRead g.J.HistoryJudge.took g.J.HistoryJudge.law start before texts l.fn.self.judged.judge l.fn.self.judged.counts l.fn.self.judged.loads.items l.fn.self.pending.items l.fn.self.count
+      → (whole : List (List ℕ)) × HasRead g.J.HistoryJudge.took g.J.HistoryJudge.law start (before ++ take l.byte-index l.bytes) whole l.self.judged.judge l.self.judged.counts l.self.judged.loads.items l.self.pending.items l.self.count;
   progress : bytes_left l.self.count l.self.pending.items + l.byte-index ≤ bytes_left l.fn.self.count l.fn.self.pending.items;
 }

@@ -1,0 +1,14 @@
+use Rattle.history_text.specs.Histories.{Judges}
+use Rattle.history_text.proofs.FlatRuns.{began, by_image}
+use Rattle.history_text.proofs.laws.judge_by_flat_law.Goals as goal
+
+pub judge_history-requires-clause-begun : goal.judge_history-requires-clause-begun
+judge_history-requires-clause-begun g c = (began c.in_ok-memory.memory c.args.image.now c.args.rest c.in_ok-memory.ensures).0
+
+pub judge_history-requires-clause-passes : goal.judge_history-requires-clause-passes
+judge_history-requires-clause-passes g c = (began c.in_ok-memory.memory c.args.image.now c.args.rest c.in_ok-memory.ensures).1
+
+pub returns : goal.returns
+returns g c =
+    by_image (λ law. Judges g.R.Source.gave g.R.Source.failed law c.args.reader.now c.judge_history.new.reader c.judge_history.result) c.in_ok-memory.memory c.args.image.now c.args.rest c.in_ok-memory.ensures
+    c.judge_history.ensures

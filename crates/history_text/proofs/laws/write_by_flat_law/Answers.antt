@@ -1,0 +1,16 @@
+use Rattle.history_text.specs.Values.{Writes}
+use Rattle.history_text.proofs.FlatRuns.{began, by_image}
+use Rattle.history_text.proofs.laws.write_by_flat_law.Goals as goal
+
+pub write_values-requires-clause-begun : goal.write_values-requires-clause-begun
+write_values-requires-clause-begun g c = (began c.in_ok-memory.memory c.args.image.now c.args.rest c.in_ok-memory.ensures).0
+
+pub write_values-requires-clause-passes : goal.write_values-requires-clause-passes
+write_values-requires-clause-passes g c = (began c.in_ok-memory.memory c.args.image.now c.args.rest c.in_ok-memory.ensures).1
+
+pub returns : goal.returns
+returns g c =
+    by_image
+    (λ law. Writes g.R.Source.gave g.R.Source.failed g.W.Sink.took g.W.Sink.refused law c.args.reader.now c.write_values.new.reader
+    c.args.writer.now c.write_values.new.writer c.write_values.result)
+    c.in_ok-memory.memory c.args.image.now c.args.rest c.in_ok-memory.ensures c.write_values.ensures

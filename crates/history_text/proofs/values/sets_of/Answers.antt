@@ -1,0 +1,22 @@
+use Rattle.std.proofs.Common.{◌≡◌, ◌+◌, ◌∷◌, [], ℕ, Option, List, length, length-append, sym, subst, ap, arith}
+use Rattle.memory_histories.specs.declared.sets.ByteSet.{ByteSet}
+use Rattle.history_text.specs.Values.{AreSetsFrom}
+use Rattle.history_text.proofs.Written.{sets_more}
+use Rattle.history_text.proofs.values.sets_of.Goals as goal
+
+pub loop-place-preserved : goal.loop-place-preserved
+loop-place-preserved g c =
+    let j = g.J.HistoryJudge in
+    let load = c.args.load in
+    let place = c.loop-place.place in
+    let sets = c.loop-place.sets.items in
+    let set = c.allowed.result in
+    let count = c.loop-place.invariant.count in
+    let pushed = c.in_ok-push.ensures.items in
+    let same : place ≡ 0 + length sets = omega (arith, count) in
+    record {
+      count = omega (arith, ap length pushed, length-append sets (set ∷ []), count);
+      sets = λ start events s. subst (AreSetsFrom (j.law start) events load 0) (sym pushed)
+          (sets_more (j.law start) events load 0 place sets set (c.loop-place.invariant.sets start events s) same
+          (subst (λ a. (j.law start).allows events load.number a set) c.byte_address.ensures (c.allowed.ensures start events s.taken)));
+    }

@@ -1,0 +1,59 @@
+-- The atomic law, and its judge.
+use Rattle.std.specs.Prelude.{◌≡◌, ℕ, true, Option, None, List, ◌++◌, ◌∷◌, []}
+use Rattle.memory_histories.specs.declared.events.HistoryEvent.{HistoryEvent}
+use Rattle.memory_histories.specs.declared.events.HistoryFault.{HistoryFault}
+use Rattle.memory_histories.specs.declared.events.Rest.{Rest}
+use Rattle.memory_histories.specs.declared.sets.ByteSet.{ByteSet}
+use Rattle.atomic_histories.specs.declared.memory.AtomicMemory.{AtomicMemory}
+use Rattle.atomic_histories.specs.Operations.{opened_by, form_fault}
+use Rattle.atomic_histories.specs.Law.{IsAtomic, FaultIs}
+use Rattle.atomic_histories.specs.Held.{Held, nothing_held, is_wide, StandsForAll}
+use Rattle.atomic_histories.specs.Judge.{held, limit_of, HasSameMemory}
+use Rattle.history_text.specs.Laws.{Law}
+
+-- memory before the first event, and the size of its units
+pub record Began : Type 0 where
+  pub image : List ℕ
+  pub rest : Rest
+  pub size : ℕ
+
+-- a unit may have gone more ways than the limit, of which each must be followed to tell what this event makes of the history
+pub record IsTooWide (b : Began) (limit : ℕ) (events : List HistoryEvent) (event : HistoryEvent) : Type 0 where
+  pub formed : form_fault (opened_by events) event ≡ None
+  pub kept : Held
+  pub image : kept.image ≡ b.image
+  pub rest : kept.rest ≡ b.rest
+  pub size : kept.size ≡ b.size
+  pub stands : StandsForAll kept events
+  pub wide : is_wide limit kept event ≡ true
+
+-- the event makes the history none of the law, for this fault
+pub record IsRefused (b : Began) (events : List HistoryEvent) (event : HistoryEvent) (cause : HistoryFault) : Type 0 where
+  pub why : FaultIs b.image b.rest b.size events event cause
+  pub broken : ¬ (IsAtomic b.image b.rest b.size (events ++ event ∷ []))
+
+-- the atomic law of a memory that began so. It says no set of bytes: a load gets a word, and not each byte for itself
+abbrev pub law_from : Began → ℕ → Law
+law_from b limit = record {
+  passes = λ events. IsAtomic b.image b.rest b.size events;
+  refuses = IsRefused b;
+  allows = λ events number address set. set ≡ None;
+  undecides = IsTooWide b limit;
+}
+
+abbrev pub began : Held → Began
+began h = record { image = h.image; rest = h.rest; size = h.size }
+
+-- the law of this judge
+abbrev pub law_of : AtomicMemory → Law
+law_of m = law_from (began (held m)) (limit_of m)
+
+-- from one state to the other, it took these events
+pub record Took (m : AtomicMemory) (events : List HistoryEvent) (n : AtomicMemory) : Type 0 where
+  pub memory : HasSameMemory (held n) (held m)
+  pub limit : limit_of n ≡ limit_of m
+  pub stands : StandsForAll (held n) events
+
+-- the atomic law of a memory that began with an image and has units of this size
+abbrev pub atomic_law : List ℕ → Rest → ℕ → ℕ → Law
+atomic_law image rest size limit = law_from (began (nothing_held image rest size)) limit
