@@ -29,7 +29,10 @@ pub(crate) enum Task {
     /// Serve its lines on a new machine.
     Run,
     /// Judge its lines, as `Run` writes them, against flat memory.
-    Check,
+    Check {
+        /// Whether loads that aren't answered at the end are a fault.
+        all_answered: bool,
+    },
     /// Serve its requests with 1, 2, 4 and 8 registers.
     Sweep {
         /// How long a bank takes for a command, if the requests are driven in rounds; none if they
@@ -38,6 +41,8 @@ pub(crate) enum Task {
     },
     /// Judge its lines up to the first that flat memory doesn't explain, and say why.
     Explain,
+    /// Grade the predictions that stand behind its lines.
+    Grade,
     /// Drive its requests in rounds.
     Drive {
         /// How long a bank takes for a command.
@@ -224,9 +229,12 @@ fn task_of(subcommand: Subcommand, rest: &ArgMatches<'_>) -> Task
 {
     match subcommand {
         Subcommand::Run => Task::Run,
-        Subcommand::Check => Task::Check,
+        Subcommand::Check => Task::Check {
+            all_answered: rest.get_flag("all-answered"),
+        },
         Subcommand::Sweep => sweep_task(rest),
         Subcommand::Explain => Task::Explain,
+        Subcommand::Grade => Task::Grade,
         Subcommand::Drive => drive_task(rest),
         Subcommand::Requests => requests_task(rest),
         Subcommand::Show => show_task(rest),

@@ -1,2 +1,3 @@
 pub mod Driving
+pub mod Checking
 pub mod Sweeping

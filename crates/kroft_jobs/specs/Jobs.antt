@@ -1,7 +1,5 @@
 -- What a job does, and how it ends.
 use Rattle.std.specs.Prelude.{ℕ, Option, Some, None, List, ◌++◌, map, codes, decimal}
-use Rattle.trace_text.specs.declared.check.CheckEnd.{CheckEnd}
-use Rattle.trace_text.specs.declared.check.CheckEnd.TheVariants.{Flat, Mismatch}
 use Rattle.trace_text.specs.declared.fault.TraceFault.{TraceFault}
 use Rattle.trace_text.specs.declared.fault.TraceFault.TheVariants as trace
 use Rattle.shape_files.specs.declared.shape_file.TheConstants.{REGISTER_COUNTS}
@@ -23,16 +21,6 @@ with_registers t regs = record t { regs = regs }
 
 abbrev pub swept : ToolShape → List ToolShape
 swept t = map (with_registers t) REGISTER_COUNTS
-
--- the text of what a check found
-abbrev pub verdict_text : CheckEnd → List ℕ
-verdict_text (Flat steps) = codes "flat run, " ++ decimal steps ++ codes " steps"
-verdict_text (Mismatch line) = codes "mismatch at line " ++ decimal line
-
--- the status of a check that came to its end
-abbrev pub verdict_status : CheckEnd → ℕ
-verdict_status (Flat steps) = 0
-verdict_status (Mismatch line) = 1
 
 -- the status of the program that ends at a fault
 abbrev pub status_of : JobFault → ℕ

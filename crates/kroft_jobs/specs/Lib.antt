@@ -1,3 +1,5 @@
 pub mod Jobs
+pub mod Checking
 pub mod Driving
+pub mod Grading
 pub mod Sweeping

@@ -1,16 +1,15 @@
 //! What is done with a trace, for the shape that was read.
 
-ghost use Rattle.std.specs.Prelude.{⊤, ◌≡◌, ◌≤◌, ℕ, List, None, Some, IfOk, IfErr, map, ◌++◌};
+ghost use Rattle.std.specs.Prelude.{⊤, ◌≡◌, ℕ, List, None, IfOk, IfErr, map};
 ghost use Rattle.machine_core.specs.Machine.{MachineState};
-ghost use Rattle.trace_text.specs.declared.fault.TheConstants.{MAX_LINE, MAX_PAIR};
-ghost use Rattle.trace_text.specs.Reading.{ReadWhole, ReadFails};
+ghost use Rattle.trace_text.specs.declared.fault.TheConstants.{MAX_LINE};
+ghost use Rattle.trace_text.specs.Reading.{ReadWhole};
 ghost use Rattle.trace_text.specs.Serving.{trace_fault, Ends};
-ghost use Rattle.trace_text.specs.Checks.{pair_fault, IsJudged};
 ghost use Rattle.trace_text.specs.Requests.{requests_of};
 ghost use Rattle.run_reasons.specs.Runs.{Explains};
 ghost use Rattle.shape_files.specs.ShapeFile.{bad_field};
 ghost use Rattle.register_sweeps.specs.Sweep.{new_machine, row_of};
-ghost use Rattle.kroft_jobs.specs.Jobs.{swept, verdict_status, verdict_text};
+ghost use Rattle.kroft_jobs.specs.Jobs.{swept};
 ghost use Rattle.kroft_jobs.specs.Sweeping.{SweepFails};
 
 use crate::fault::JobFault;
@@ -19,11 +18,8 @@ use run_pictures::PictureMachine;
 use run_reasons::{Explanation, explain_text};
 use shape_files::{REGISTER_COUNTS, ToolShape};
 use std::alloc::Global;
-use std::fmt;
 use std::thread::Threads;
-use trace_text::{
-    CheckEnd, Counts, Sink, Source, TraceFault, check_text, read_requests, serve_text,
-};
+use trace_text::{Counts, Sink, Source, TraceFault, read_requests, serve_text};
 
 // Turns of each thread of the program's sweep. Its gate is always open, so one is enough.
 pub(crate) const SWEEP_TURNS: u64 = 1_000_000;
@@ -75,21 +71,6 @@ impl<'a, I: Source, O: Sink> MachineJob for ServedTrace<'a, I, O> {
     }
 }
 
-/// Judges what a run wrote, over as many words of zeros as the shape says, as `check_text` does.
-pub fn check<I: Source>(
-    alloc: Global,
-    tool: &ToolShape,
-    input: &mut I,
-) -> Result<CheckEnd, TraceFault>
-    ensures judged { IfOk result
-        (λ end. (texts : List (List ℕ)) × ReadWhole I.gave pair_fault MAX_PAIR input.old input.new texts
-        × IsJudged tool.now.shape.words texts end) }
-    ensures fault { IfErr result
-        (ReadFails I.gave I.failed pair_fault MAX_PAIR input.old input.new) }
-{
-    check_text(alloc, input, tool.shape.words)
-}
-
 /// Says why what a run wrote is none of flat memory, over as many words of zeros as the shape says, as
 /// `explain_text` does.
 pub fn explain<I: Source>(
@@ -100,33 +81,6 @@ pub fn explain<I: Source>(
     ensures { Explains I.gave I.failed tool.now.shape.words input.old input.new result }
 {
     explain_text(alloc, input, tool.shape.words)
-}
-
-/// What a check found, as the program tells it.
-#[derive(Clone, Copy)]
-pub struct Verdict(pub CheckEnd);
-
-impl Verdict {
-    /// The status with which the program ends: 0 for a flat run, 1 for a mismatch.
-    pub fn status(self) -> u8
-        ensures { result ≡ verdict_status self.0 }
-    {
-        match self.0 {
-            CheckEnd::Flat { .. } => 0,
-            CheckEnd::Mismatch { .. } => 1,
-        }
-    }
-}
-
-impl fmt::Display for Verdict {
-    ghost output = { λ verdict. Some (verdict_text verdict.0) };
-
-    fn fmt<W: fmt::Write>(&self, f: &mut fmt::Formatter<W>) -> fmt::Result {
-        match self.0 {
-            CheckEnd::Flat { steps } => write!(f, "flat run, {steps} steps"),
-            CheckEnd::Mismatch { line } => write!(f, "mismatch at line {line}"),
-        }
-    }
 }
 
 /// The rows of the requests of a trace, with 1, 2, 4 and 8 registers and all else as the shape says. Its

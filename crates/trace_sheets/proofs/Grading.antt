@@ -1,0 +1,125 @@
+-- The lines of a sheet, graded one after another.
+use Rattle.std.proofs.Common.{◌≡◌, ℕ, ◌+◌, ◌≤◌, Option, Some, None, Result, Ok, Err, List, [], ◌∷◌, ◌++◌, map, length, length-append, append-nil, append_assoc, refl, sym, ◌∙◌, ap, subst, arith}
+use Rattle.std.specs.List.{flat_map}
+use Rattle.std.proofs.lemmas.Grind.{flat_map-append}
+use Rattle.machine_core.specs.Machine.{MachineState}
+use Rattle.trace_text.specs.Texts.{after_line}
+use Rattle.trace_text.specs.declared.lines.Line.{Line}
+use Rattle.trace_text.specs.declared.lines.LineFault.{LineFault}
+use Rattle.trace_sheets.specs.Sheets.{sheet_line}
+use Rattle.trace_sheets.specs.Grades.{Asked, Graded, GradesOne, came_of, mark, mark_of, told, told_if, correction, after_said, after_texts, asked, asked_in, asked_from, no_score, with_mark, score_of, total}
+use Rattle.trace_sheets.specs.declared.score.Mark.{Mark}
+use Rattle.trace_sheets.specs.declared.score.Mark.TheVariants.{Right, Wrong, Open}
+use Rattle.trace_sheets.specs.declared.score.Score.{Score}
+
+-- ---- one line more
+
+after_more : (m : MachineState) (texts : List (List ℕ)) (text : List ℕ) → after_texts m (texts ++ text ∷ []) ≡ after_said (after_texts m texts) (sheet_line text)
+after_more m [] text = refl
+after_more m (t ∷ ts) text = after_more (after_said m (sheet_line t)) ts text
+
+asked_more : (n : ℕ) (m : MachineState) (texts : List (List ℕ)) (text : List ℕ)
+    → asked_from n m (texts ++ text ∷ []) ≡ asked_from n m texts ++ asked_in (n + length texts) (after_texts m texts) text (sheet_line text)
+asked_more n m [] text = append-nil (asked_in n m text (sheet_line text)) ∙ ap (λ k. asked_in k m text (sheet_line text)) (omega arith)
+asked_more n m (t ∷ ts) text =
+    let next = after_said m (sheet_line t) in
+    let front = asked_in n m t (sheet_line t) in
+    let number : (n + 1) + length ts ≡ n + length (t ∷ ts) = omega arith in
+    ap (λ l. front ++ l) (asked_more (n + 1) next ts text)
+    ∙ sym (append_assoc front (asked_from (n + 1) next ts) (asked_in ((n + 1) + length ts) (after_texts next ts) text (sheet_line text)))
+    ∙ ap (λ k. (front ++ asked_from (n + 1) next ts) ++ asked_in k (after_texts next ts) text (sheet_line text)) number
+
+-- ---- scores
+
+swap : (s : Score) (a b : Mark) → with_mark (with_mark s a) b ≡ with_mark (with_mark s b) a
+swap s Right Right = refl
+swap s Right Wrong = refl
+swap s Right Open = refl
+swap s Wrong Right = refl
+swap s Wrong Wrong = refl
+swap s Wrong Open = refl
+swap s Open Right = refl
+swap s Open Wrong = refl
+swap s Open Open = refl
+
+score_more : (marks : List Mark) (k : Mark) → score_of (marks ++ k ∷ []) ≡ with_mark (score_of marks) k
+score_more [] k = refl
+score_more (m ∷ ms) k = ap (λ s. with_mark s m) (score_more ms k) ∙ swap (score_of ms) k m
+
+map_more : (as : List Asked) (a : Asked) → map mark (as ++ a ∷ []) ≡ map mark as ++ mark a ∷ []
+map_more [] a = refl
+map_more (x ∷ xs) a = ap (λ l. mark x ∷ l) (map_more xs a)
+
+one_more : (s : Score) (k : Mark) → total (with_mark s k) ≡ total s + 1
+one_more s Right = omega arith
+one_more s Wrong = omega arith
+one_more s Open = omega arith
+
+total_is : (marks : List Mark) → total (score_of marks) ≡ length marks
+total_is [] = refl
+total_is (k ∷ ks) = omega (arith, one_more (score_of ks) k, total_is ks)
+
+map_length : (as : List Asked) → length (map mark as) ≡ length as
+map_length [] = refl
+map_length (a ∷ as) = omega (arith, map_length as)
+
+one_at_most : (n : ℕ) (m : MachineState) (text : List ℕ) (said : Result (Line × Option (List ℕ)) LineFault) → length (asked_in n m text said) ≤ 1
+one_at_most n m text (Err fault) = omega arith
+one_at_most n m text (Ok (line, None)) = omega arith
+one_at_most n m text (Ok (line, Some said)) = omega arith
+
+asked_few : (n : ℕ) (m : MachineState) (texts : List (List ℕ)) → length (asked_from n m texts) ≤ length texts
+asked_few n m [] = omega arith
+asked_few n m (t ∷ ts) =
+    let next = after_said m (sheet_line t) in
+    let front = asked_in n m t (sheet_line t) in
+    omega (arith, asked_few (n + 1) next ts, one_at_most n m t (sheet_line t), length-append front (asked_from (n + 1) next ts))
+
+-- no more predictions are counted than there are lines
+pub few_marks : {m m' : MachineState} {texts : List (List ℕ)} {report : List ℕ} {score : Score} → Graded m texts m' report score → total score ≤ length texts
+few_marks {m = m} {texts = texts} g =
+    let all = asked m texts in
+    let counted : total (score_of (map mark all)) ≡ length all = total_is (map mark all) ∙ map_length all in
+    omega (arith, ap total g.marks, counted, asked_few 1 m texts)
+
+-- ---- a sheet with one line more
+
+module _ {m m' : MachineState} {texts : List (List ℕ)} {report : List ℕ} {score : Score} (g : Graded m texts m' report score) (text : List ℕ) where
+  -- what is asked in it
+  last : Result (Line × Option (List ℕ)) LineFault → List Asked
+  last said = asked_in (1 + length texts) m' text said
+
+  behind : asked m (texts ++ text ∷ []) ≡ asked m texts ++ last (sheet_line text)
+  behind = asked_more 1 m texts text ∙ ap (λ s. asked m texts ++ asked_in (1 + length texts) s text (sheet_line text)) (sym g.state)
+
+  reported : flat_map correction (asked m (texts ++ text ∷ [])) ≡ report ++ flat_map correction (last (sheet_line text))
+  reported =
+      ap (flat_map correction) behind
+      ∙ flat_map-append correction (asked m texts) (last (sheet_line text))
+      ∙ ap (λ l. l ++ flat_map correction (last (sheet_line text))) (sym g.told)
+
+  now : after_texts m (texts ++ text ∷ []) ≡ after_said m' (sheet_line text)
+  now = after_more m texts text ∙ ap (λ s. after_said s (sheet_line text)) (sym g.state)
+
+  pub graded_more : (n : ℕ) (line : Line) (said : Option (List ℕ)) (next : MachineState) (report' : List ℕ) (score' : Score)
+      → n ≡ length texts + 1 → sheet_line text ≡ Ok (line, said) → GradesOne n m' text line said report score next report' score' → Graded m (texts ++ text ∷ []) next report' score'
+  graded_more n line None next report' score' number is one = record {
+    state = one.0 ∙ sym (now ∙ ap (after_said m') is);
+    told = one.1 ∙ sym (append-nil report) ∙ sym (reported ∙ ap (λ s. report ++ flat_map correction (last s)) is);
+    marks = one.2 ∙ g.marks ∙ ap (λ as. score_of (map mark as)) (sym (append-nil (asked m texts)) ∙ sym (behind ∙ ap (λ s. asked m texts ++ last s) is));
+  }
+  graded_more n line (Some said) next report' score' number is one =
+      let place : n ≡ 1 + length texts = omega (arith, number) in
+      let a : ℕ → Asked = λ k. record { number = k; text = text; said = said; came = came_of m' line } in
+      let k = mark_of (came_of m' line) said in
+      let said_now : ℕ → List ℕ = λ i. told_if k (told i text (came_of m' line)) in
+      record {
+        state = one.0 ∙ sym (now ∙ ap (after_said m') is);
+        told =
+            one.1 ∙ ap (λ i. report ++ said_now i) place ∙ ap (λ l. report ++ l) (sym (append-nil (said_now (1 + length texts))))
+            ∙ sym (reported ∙ ap (λ s. report ++ flat_map correction (last s)) is);
+        marks =
+            one.2 ∙ ap (λ s. with_mark s k) g.marks ∙ sym (score_more (map mark (asked m texts)) k)
+            ∙ ap score_of (sym (map_more (asked m texts) (a (1 + length texts))))
+            ∙ ap (λ as. score_of (map mark as)) (sym (behind ∙ ap (λ s. asked m texts ++ last s) is));
+      }

@@ -1,0 +1,148 @@
+-- How a sheet is graded: each prediction beside the machine's own answer, by which the machine runs on.
+use Rattle.std.specs.Prelude.{◌≡◌, ℕ, ◌+◌, ◌==◌, Bool, ◌||◌, if◌then◌else◌, Option, Some, None, Result, Ok, Err, List, [], ◌∷◌, ◌++◌, map, length, codes, decimal}
+use Rattle.std.specs.List.{flat_map}
+use Rattle.flat_model.specs.declared.Answer.{Answer}
+use Rattle.flat_model.specs.declared.Answer.TheVariants.{Accepted}
+use Rattle.cache_unit.specs.declared.Lookup.{Lookup}
+use Rattle.machine_core.specs.Machine.{MachineState}
+use Rattle.machine_core.specs.AnyMachine.{answered}
+use Rattle.trace_text.specs.Codes.{line_feed}
+use Rattle.trace_text.specs.Lines.{same}
+use Rattle.trace_text.specs.Texts.{answer_text, reply_text, after_line}
+use Rattle.trace_text.specs.declared.lines.Line.{Line}
+use Rattle.trace_text.specs.declared.lines.Line.TheVariants as line
+use Rattle.trace_text.specs.declared.lines.LineFault.{LineFault}
+use Rattle.round_driver.specs.Rounds.{finding}
+use Rattle.trace_sheets.specs.Sheets.{accepted_text, is_open, sheet_line}
+use Rattle.trace_sheets.specs.Whys.{words_of}
+use Rattle.trace_sheets.specs.declared.came.Came.{Came}
+use Rattle.trace_sheets.specs.declared.came.Came.TheVariants.{Answered, Shown}
+use Rattle.trace_sheets.specs.declared.score.Mark.{Mark}
+use Rattle.trace_sheets.specs.declared.score.Mark.TheVariants.{Right, Wrong, Open}
+use Rattle.trace_sheets.specs.declared.score.Score.{Score}
+
+-- ---- what came
+
+-- what comes of a line: an event's answer, with what a request found before it, or what the machine shows
+abbrev pub came_of : MachineState → Line → Came
+came_of m (line.Event event) = Answered event (answered m event) (finding m event)
+came_of m (line.Register slot) = Shown (reply_text m (line.Register slot))
+came_of m (line.Bank at) = Shown (reply_text m (line.Bank at))
+came_of m line.Settled = Shown (reply_text m line.Settled)
+
+-- an answer, with what the request found if it was accepted
+abbrev pub full_answer : Answer → Option Lookup → List ℕ
+full_answer Accepted (Some lookup) = accepted_text lookup
+full_answer answer found = answer_text answer
+
+abbrev pub full_text : Came → List ℕ
+full_text (Answered event answer found) = full_answer answer found
+full_text (Shown text) = text
+
+-- why, behind it; what is shown has no reason
+abbrev pub why_text : Came → List ℕ
+why_text (Answered event answer found) = codes ": " ++ words_of event found answer
+why_text (Shown text) = []
+
+-- ---- a prediction
+
+-- whether what is predicted is what came, in full or without what the request found
+abbrev pub is_right : Came → List ℕ → Bool
+is_right (Answered event answer found) said = same said (answer_text answer) || same said (full_answer answer found)
+is_right (Shown text) said = same said text
+
+abbrev pub mark_of : Came → List ℕ → Mark
+mark_of came said = if is_open said then Open else if is_right came said then Right else Wrong
+
+-- a prediction: the number of its line, counted from 1, the line as it stands in the sheet, what is predicted, and what came
+pub record Asked : Type 0 where
+  pub number : ℕ
+  pub text : List ℕ
+  pub said : List ℕ
+  pub came : Came
+
+abbrev pub mark : Asked → Mark
+mark a = mark_of a.came a.said
+
+-- the line as it stands in the sheet, and below it what came, and why
+abbrev pub told : ℕ → List ℕ → Came → List ℕ
+told number text came =
+    codes "line " ++ (decimal number ++ (codes ": " ++ (text ++ (codes "\n  is " ++ (full_text came ++ (why_text came ++ line_feed ∷ []))))))
+
+abbrev pub told_if : Mark → List ℕ → List ℕ
+told_if Right text = []
+told_if Wrong text = text
+told_if Open text = []
+
+-- what is told of a prediction: nothing, unless it is wrong
+abbrev pub correction : Asked → List ℕ
+correction a = told_if (mark a) (told a.number a.text a.came)
+
+-- ---- a sheet
+
+abbrev pub asked_in : ℕ → MachineState → List ℕ → Result (Line × Option (List ℕ)) LineFault → List Asked
+asked_in n m text (Err fault) = []
+asked_in n m text (Ok (line, None)) = []
+asked_in n m text (Ok (line, Some said)) = record { number = n; text = text; said = said; came = came_of m line } ∷ []
+
+abbrev pub after_said : MachineState → Result (Line × Option (List ℕ)) LineFault → MachineState
+after_said m (Err fault) = m
+after_said m (Ok said) = after_line m said.0
+
+-- the machine behind these lines: what is predicted doesn't matter to it
+abbrev pub after_texts : MachineState → List (List ℕ) → MachineState
+after_texts m [] = m
+after_texts m (text ∷ texts) = after_texts (after_said m (sheet_line text)) texts
+
+-- the predictions of these lines, of which the first has this number
+abbrev pub asked_from : ℕ → MachineState → List (List ℕ) → List Asked
+asked_from n m [] = []
+asked_from n m (text ∷ texts) = asked_in n m text (sheet_line text) ++ asked_from (n + 1) (after_said m (sheet_line text)) texts
+
+abbrev pub asked : MachineState → List (List ℕ) → List Asked
+asked m texts = asked_from 1 m texts
+
+-- ---- the grade
+
+abbrev pub no_score : Score
+no_score = record { right = 0; wrong = 0; open = 0 }
+
+-- one mark more
+abbrev pub with_mark : Score → Mark → Score
+with_mark s Right = record s { right = s.right + 1 }
+with_mark s Wrong = record s { wrong = s.wrong + 1 }
+with_mark s Open = record s { open = s.open + 1 }
+
+-- each mark counts once
+abbrev pub score_of : List Mark → Score
+score_of [] = no_score
+score_of (mark ∷ marks) = with_mark (score_of marks) mark
+
+abbrev pub total : Score → ℕ
+total s = s.right + s.wrong + s.open
+
+-- what is told of the wrong predictions, and how many are right, wrong and open
+pub record Graded (m : MachineState) (texts : List (List ℕ)) (m' : MachineState) (report : List ℕ) (score : Score) : Type 0 where
+  pub state : m' ≡ after_texts m texts
+  pub told : report ≡ flat_map correction (asked m texts)
+  pub marks : score ≡ score_of (map mark (asked m texts))
+
+-- the last line of a grade: all predictions are counted, the open ones too
+abbrev pub score_text : Score → List ℕ
+score_text s = decimal s.right ++ codes " of " ++ decimal (total s) ++ codes " right, " ++ decimal s.open ++ codes " open"
+
+-- no prediction is wrong: what is open isn't
+abbrev pub score_status : Score → ℕ
+score_status s = if s.wrong == 0 then 0 else 1
+
+-- all that is written of a grade
+abbrev pub grade_text : List ℕ → Score → List ℕ
+grade_text report score = report ++ (score_text score ++ line_feed ∷ [])
+
+-- ---- in the middle of a sheet
+
+-- one line more, of this number, which says this
+abbrev pub GradesOne : ℕ → MachineState → List ℕ → Line → Option (List ℕ) → List ℕ → Score → MachineState → List ℕ → Score → Type 0
+GradesOne number m text line None report score m' report' score' = (m' ≡ after_line m line) × (report' ≡ report) × (score' ≡ score)
+GradesOne number m text line (Some said) report score m' report' score' =
+    (m' ≡ after_line m line) × (report' ≡ report ++ told_if (mark_of (came_of m line) said) (told number text (came_of m line))) × (score' ≡ with_mark score (mark_of (came_of m line) said))

@@ -1,0 +1,3 @@
+pub mod Sheets
+pub mod Whys
+pub mod Grades

@@ -1,0 +1,159 @@
+//! What comes of a line: the machine's answer, and why.
+
+ghost use Rattle.std.specs.Prelude.{◌≡◌, ◌++◌, OnOk};
+ghost use Rattle.trace_text.specs.Texts.{after_line, bank_text, settled_text};
+ghost use Rattle.round_driver.specs.Rounds as rounds;
+ghost use Rattle.trace_sheets.specs.Sheets.{accepted_text as text_of_accepted};
+ghost use Rattle.trace_sheets.specs.Grades as grades;
+
+use crate::score::Mark;
+use crate::sheet::is_open;
+use crate::words::words_of;
+use flat_model::{Answer, Event, Word};
+use machine_core::Lookup;
+use round_driver::RoundMachine;
+use std::alloc::AllocError;
+use trace_text::{Line, LineText, answer_text, register_text};
+
+// What comes of a line. It isn't exported, but `pub`, since definitions name it.
+#[derive(Drop)]
+pub enum Came {
+    // An event's answer, and what a request found before it.
+    Answered {
+        event: Event,
+        answer: Answer,
+        found: Option<Lookup>,
+    },
+    // What the machine shows.
+    Shown(LineText),
+}
+
+impl Came {
+    // Lets a machine answer a line.
+    #[tactic(auto, unfolding(trace_text::specs::Texts::reply_text, trace_text::specs::Texts::after_line))]
+    pub(crate) fn new<M: RoundMachine>(machine: &mut M, line: Line) -> Came
+        ensures came { result ≡ grades.came_of (M.state machine.old) line }
+        ensures after { M.state machine.new ≡ after_line (M.state machine.old) line }
+    {
+        match line {
+            Line::Event(event) => {
+                let found = finding(machine, event);
+                let answer = machine.apply(event);
+                Came::Answered {
+                    event,
+                    answer,
+                    found,
+                }
+            }
+            Line::Register(slot) => Came::Shown(register_text(machine, slot)),
+            Line::Bank(at) => Came::Shown(bank_said(machine.bank_word(at))),
+            Line::Settled => Came::Shown(settled_said(machine.settled())),
+        }
+    }
+
+    // What a prediction of it is.
+    pub(crate) fn mark(&self, said: &[u8]) -> Mark
+        ensures { result ≡ grades.mark_of self.now said.now }
+    {
+        if is_open(said) {
+            Mark::Open
+        } else if self.is_right(said) {
+            Mark::Right
+        } else {
+            Mark::Wrong
+        }
+    }
+
+    // Whether it is what is predicted.
+    fn is_right(&self, said: &[u8]) -> bool
+        ensures { result ≡ grades.is_right self.now said.now }
+    {
+        match self {
+            Came::Answered { answer, found, .. } => {
+                said == answer_text(*answer).as_bytes()
+                    || said == full_answer(*answer, *found).as_bytes()
+            }
+            Came::Shown(text) => said == text.as_bytes(),
+        }
+    }
+
+    // Tells it, and why, behind a text.
+    pub(crate) fn push_to(&self, report: &mut Vec<u8>) -> Result<(), AllocError>
+        ensures { OnOk result (report.new.items
+            ≡ report.old.items ++ (grades.full_text self.now ++ grades.why_text self.now)) }
+    {
+        match self {
+            Came::Answered {
+                event,
+                answer,
+                found,
+            } => {
+                report.extend_from_slice(full_answer(*answer, *found).as_bytes())?;
+                report.extend_from_slice(b": ")?;
+                report.extend_from_slice(words_of(*event, *found, *answer).as_bytes())
+            }
+            Came::Shown(text) => report.extend_from_slice(text.as_bytes()),
+        }
+    }
+}
+
+// What a request finds, if it asks for a word.
+fn finding<M: RoundMachine>(machine: &M, event: Event) -> Option<Lookup>
+    ensures { result ≡ rounds.finding (M.state machine.now) event }
+{
+    match event {
+        Event::Load { at, .. } | Event::Store { at, .. } | Event::Prefetch { at } => {
+            machine.find(at)
+        }
+        _ => None,
+    }
+}
+
+// An answer, with what the request found if it was accepted.
+fn full_answer(answer: Answer, found: Option<Lookup>) -> LineText
+    ensures { result ≡ grades.full_answer answer found }
+{
+    match (answer, found) {
+        (Answer::Accepted, Some(lookup)) => accepted_text(lookup),
+        _ => answer_text(answer),
+    }
+}
+
+fn accepted_text(lookup: Lookup) -> LineText
+    ensures { result ≡ text_of_accepted lookup }
+{
+    let mut text = LineText::new();
+    match lookup {
+        Lookup::Hit => text.push_bytes(b"accepted hit"),
+        Lookup::Join => text.push_bytes(b"accepted join"),
+        Lookup::Miss => text.push_bytes(b"accepted miss"),
+    }
+    text
+}
+
+// A word as it stands in its bank.
+#[tactic(auto, unfolding(trace_text::specs::Texts::bank_text))]
+fn bank_said(word: Option<Word>) -> LineText
+    ensures { result ≡ bank_text word }
+{
+    let mut text = LineText::new();
+    match word {
+        None => text.push_bytes(b"none"),
+        Some(word) => text.push_word(word),
+    }
+    text
+}
+
+// Whether a machine is settled.
+#[tactic(auto, unfolding(trace_text::specs::Texts::settled_text))]
+fn settled_said(is_settled: bool) -> LineText
+    ensures { result ≡ settled_text is_settled }
+{
+    let mut text = LineText::new();
+    if is_settled {
+        text.push_bytes(b"yes");
+    } else {
+        text.push_bytes(b"no");
+    }
+    text
+}

@@ -1,0 +1,16 @@
+//! Sheets: traces with predicted answers, and their grades.
+//!
+//! A line of a sheet is a line of a trace, and may have ` -> ` and a prediction behind it: an answer, as
+//! `refused 7`; `accepted hit`, `accepted join` or `accepted miss`, for what an accepted request found; or
+//! `?`, if nothing is predicted yet. [`grade_sheet`] lets a machine run through the lines, by its own answers,
+//! and gives a [`Grade`]: each wrong prediction with what it is and why, and how many are right, wrong and open.
+#![tactic(auto)]
+
+mod came;
+mod grade;
+mod score;
+mod sheet;
+mod words;
+
+pub use grade::{Grade, grade_sheet};
+pub use score::{Mark, Score};

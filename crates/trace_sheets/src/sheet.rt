@@ -1,0 +1,106 @@
+//! The lines of a sheet.
+
+ghost use Rattle.std.specs.Prelude.{◌≡◌, ◌+◌, ◌≤◌, ℕ, Ok, Err, Some, length, take, drop, IfOk, IfErr, IfSome};
+ghost use Rattle.std.specs.Option.{option_map};
+ghost use Rattle.trace_text.specs.declared.fault.TheConstants.{MAX_PAIR};
+ghost use Rattle.trace_text.specs.Lines.{IsSaid};
+ghost use Rattle.trace_text.specs.Pairs.{arrow_in, pair_of};
+ghost use Rattle.trace_sheets.specs.Sheets as sheets;
+ghost use Rattle.trace_sheets.specs.Sheets.{front_of, is_prediction, sheet_line};
+
+use arrayvec::ArrayVec;
+use trace_text::{Line, LineFault, LineText, MAX_LINE, MAX_PAIR, read_line, read_pair};
+
+// The bytes of a line, with its LF.
+const MAX_ENDED: usize = MAX_PAIR + 1;
+
+// What stands between a line and what is predicted of it.
+const ARROW: &[u8] = b" -> ";
+
+// What a line of a sheet says, without its LF: a line of a trace, and the text that is predicted of it, if one is.
+pub(crate) fn sheet_said(text: &[u8]) -> Result<(Line, Option<&[u8]>), LineFault>
+    requires { length text.now ≤ MAX_PAIR }
+    ensures ok { IfOk result
+        (λ said. sheet_line text.now ≡ Ok (said.0, option_map (λ s. s.now) said.1)) }
+    ensures fault { IfErr result (λ fault. (sheet_line text.now ≡ Err fault) × IsSaid fault) }
+{
+    let Some(at) = arrow(text) else {
+        return Ok((front(text)?, None));
+    };
+    let line = front(&text[..at])?;
+    let said = &text[at + ARROW.len()..];
+    if may_be_predicted(line, text, said) {
+        Ok((line, Some(said)))
+    } else {
+        Err(LineFault::Field)
+    }
+}
+
+// The place at which ` -> ` first stands.
+fn arrow(text: &[u8]) -> Option<usize>
+    ensures value { result ≡ arrow_in text.now }
+    ensures bound { IfSome result (λ at. at + 4 ≤ length text.now) }
+{
+    for at in 0..text.len() {
+        if text[at..].starts_with(b" -> ".as_slice()) {
+            return Some(at);
+        }
+    }
+    None
+}
+
+// What a line of a trace says, without its LF.
+fn front(text: &[u8]) -> Result<Line, LineFault>
+    ensures line { result ≡ front_of text.now }
+    ensures fault { IfErr result IsSaid }
+{
+    if text.len() > MAX_LINE {
+        return Err(LineFault::Field);
+    }
+    let mut ended = LineText::new();
+    ended.push_bytes(text);
+    ended.push(b'\n');
+    read_line(ended.as_bytes())
+}
+
+// Whether a text may be predicted of a line, behind which it stands.
+fn may_be_predicted(line: Line, text: &[u8], said: &[u8]) -> bool
+    requires short { length text.now ≤ MAX_PAIR }
+    requires stands { (at : ℕ) × (arrow_in text.now ≡ Some at) × (front_of (take at text.now) ≡ Ok line)
+        × (said.now ≡ drop (at + 4) text.now) }
+    ensures { result ≡ is_prediction line said.now }
+{
+    match line {
+        Line::Event(_) => is_open(said) || is_finding(said) || is_recorded(text),
+        _ => said.iter().all(|byte| 32 <= *byte && *byte <= 126),
+    }
+}
+
+// Whether nothing is predicted yet.
+pub(crate) fn is_open(said: &[u8]) -> bool
+    ensures { result ≡ sheets.is_open said.now }
+{
+    said == b"?".as_slice()
+}
+
+// Whether it is the answer of a request with what it found.
+fn is_finding(said: &[u8]) -> bool
+    ensures { result ≡ sheets.is_finding said.now }
+{
+    said == b"accepted hit".as_slice()
+        || said == b"accepted join".as_slice()
+        || said == b"accepted miss".as_slice()
+}
+
+// Whether the line is one of a recorded run.
+fn is_recorded(text: &[u8]) -> bool
+    requires { length text.now ≤ MAX_PAIR }
+    ensures { result ≡ is_ok (pair_of text.now) }
+{
+    let mut ended = ArrayVec::<u8, MAX_ENDED>::new();
+    if ended.try_extend_from_slice(text).is_err() {
+        return false;
+    }
+    ended.push(b'\n');
+    read_pair(ended.as_slice()).is_ok()
+}
