@@ -73,9 +73,10 @@ The answers:
 What stands behind the ' -> ' of 'reg', 'bank' and 'settled' is passed over. A line has at
 most 768 bytes.
 Writes 'flat run, N steps', or 'mismatch at line N' for the first line that flat memory
-doesn't explain. It is no grader: of many answers it only tells that some flat memory might give them,
-also of wrong predictions of what a machine does ('kroft grade' compares these). Flat memory is words with no cache: a load is owed the word as it stood when the
+doesn't explain. Flat memory is words with no cache: a load is owed the word as it stood when the
 load was accepted. Memory begins with zeros; of a shape file only the words matter.
+It is no grader: a flat run may be none of this machine, since most answers ('accepted', 'refused 7',
+'moved') are those of some cache. 'kroft grade' compares predictions with the machine's own answers.
 
 With --all-answered a flat run isn't accepted if loads are still owed a value at its end: behind
 'flat run, N steps' stands '; not answered: tags' with their tags.
