@@ -39,8 +39,8 @@ EndsAt start texts (check.Mismatch line) last = (steps : ℕ) × JudgedFrom star
 
 -- what is found of these lines, and the tags that are still owed a word behind them
 abbrev pub IsChecked : Bool → Flat → List (List ℕ) → CheckEnd → List ℕ → Type 0
-IsChecked all_answered start texts end open =
-    (last : Flat) × EndsAt start texts end last × (open ≡ asked_tags all_answered end last)
+IsChecked all_answered start texts end tags =
+    (last : Flat) × EndsAt start texts end last × (tags ≡ asked_tags all_answered end last)
 
 -- ---- in the middle of a run
 
@@ -70,9 +70,9 @@ end_text (check.Flat steps) = codes "flat run, " ++ decimal steps ++ codes " ste
 end_text (check.Mismatch line) = codes "mismatch at line " ++ decimal line
 
 abbrev pub verdict_text : Verdict → List ℕ
-verdict_text v = end_text v.end ++ open_text v.open.items
+verdict_text v = end_text v.end ++ open_text v.unanswered.items
 
 -- a flat run whose loads are all answered, or aren't asked for
 abbrev pub verdict_status : CheckEnd → List ℕ → ℕ
-verdict_status (check.Flat steps) open = if length open == 0 then 0 else 1
-verdict_status (check.Mismatch line) open = 1
+verdict_status (check.Flat steps) tags = if length tags == 0 then 0 else 1
+verdict_status (check.Mismatch line) tags = 1

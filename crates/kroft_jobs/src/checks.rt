@@ -33,17 +33,17 @@ pub struct Verdict {
     /// Whether the run is one of flat memory.
     pub end: CheckEnd,
     /// The tags that are still owed a value at its end, ascending, if all loads have to be answered.
-    pub open: Vec<u16>,
+    pub unanswered: Vec<u16>,
 }
 
 impl Verdict {
     /// The status with which the program ends: 0 for a flat run, in which all loads are answered if they have
     /// to be; else 1.
     pub fn status(&self) -> u8
-        ensures { result ≡ verdict_status self.now.end self.now.open.items }
+        ensures { result ≡ verdict_status self.now.end self.now.unanswered.items }
     {
         match self.end {
-            CheckEnd::Flat { .. } if self.open.is_empty() => 0,
+            CheckEnd::Flat { .. } if self.unanswered.is_empty() => 0,
             _ => 1,
         }
     }
@@ -59,7 +59,7 @@ impl fmt::Display for Verdict {
             CheckEnd::Flat { steps } => write!(f, "flat run, {steps} steps")?,
             CheckEnd::Mismatch { line } => write!(f, "mismatch at line {line}")?,
         }
-        write_open(f, self.open.as_slice())
+        write_open(f, self.unanswered.as_slice())
     }
 }
 
@@ -173,7 +173,7 @@ pub fn check<I: Source>(
 ) -> Result<Verdict, TraceFault>
     ensures judged { IfOk result
         (λ verdict. (texts : List (List ℕ)) × ReadWhole I.gave pair_fault MAX_PAIR input.old input.new texts
-        × IsChecked all_answered (zeros tool.now.shape.words) texts verdict.end verdict.open.items) }
+        × IsChecked all_answered (zeros tool.now.shape.words) texts verdict.end verdict.unanswered.items) }
     ensures fault { IfErr result
         (ReadFails I.gave I.failed pair_fault MAX_PAIR input.old input.new) }
 {
@@ -187,8 +187,8 @@ pub fn check<I: Source>(
         return Err(stop.fault_or(TraceFault::OutOfMemory));
     }
     let end = judging.end();
-    let open = asked_tags(alloc, all_answered, end, &judging.memory)?;
-    Ok(Verdict { end, open })
+    let unanswered = asked_tags(alloc, all_answered, end, &judging.memory)?;
+    Ok(Verdict { end, unanswered })
 }
 
 // The tags that are asked for: none of a run that is none of flat memory.

@@ -82,6 +82,10 @@ few_marks {m = m} {texts = texts} g =
     let counted : total (score_of (map mark all)) ≡ length all = total_is (map mark all) ∙ map_length all in
     omega (arith, ap total g.marks, counted, asked_few 1 m texts)
 
+-- no line yet
+pub graded_none : (m : MachineState) {report : List ℕ} {score : Score} → report ≡ [] → score ≡ no_score → Graded m [] m report score
+graded_none m none zero = record { state = refl; told = none; marks = zero }
+
 -- ---- a sheet with one line more
 
 module _ {m m' : MachineState} {texts : List (List ℕ)} {report : List ℕ} {score : Score} (g : Graded m texts m' report score) (text : List ℕ) where

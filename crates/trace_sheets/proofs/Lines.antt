@@ -1,5 +1,5 @@
 -- What stands in front of an arrow, and behind it.
-use Rattle.std.proofs.Common.{◌≡◌, ℕ, ◌+◌, ◌-◌, ◌<◌, ◌≤◌, Bool, true, false, cond, Option, Some, None, Result, Ok, Err, List, [], ◌∷◌, ◌++◌, length, take, drop, get_or, length-append, refl, sym, ◌∙◌, ap, subst, arith}
+use Rattle.std.proofs.Common.{◌≡◌, ℕ, ◌+◌, ◌-◌, ◌<◌, ◌≤◌, Bool, true, false, cond, Option, Some, None, Result, Ok, Err, IfErr, List, [], ◌∷◌, ◌++◌, length, take, drop, get_or, length-append, refl, sym, ◌∙◌, ap, subst, arith}
 use Rattle.std.specs.Prelude.{◌==◌, ◌&&◌, nat_lt, slice_index, is_ok}
 use Rattle.std.specs.Option.{is_some}
 use Rattle.std.proofs.Math.Seq.{get_or-append_seam, take-append_seam}
@@ -14,7 +14,7 @@ use Rattle.trace_text.specs.declared.lines.Line.TheVariants as line
 use Rattle.trace_text.specs.declared.lines.LineFault.{LineFault}
 use Rattle.trace_text.specs.declared.lines.LineFault.TheVariants.{Unknown, Field, TooLong, NotEnded}
 use Rattle.trace_text.specs.declared.pairs.Pair.{Pair}
-use Rattle.trace_sheets.specs.Sheets.{front_of}
+use Rattle.trace_sheets.specs.Sheets.{front_of, unasked, predicted, sheet_cut, sheet_line, is_prediction}
 
 -- ---- a line with its LF
 
@@ -115,6 +115,11 @@ front_said text f e = go (nat_lt MAX_LINE (length text)) e
     go true h = is_said Field f tt (err_is (Err Field) Field f refl h)
     go false h = line_said text f h
 
+-- what was read is what the line says, or one of its faults
+pub front_is_said : (text : List ℕ) (r : Result Line LineFault) → r ≡ front_of text → IfErr r IsSaid
+front_is_said text (Ok l) e = tt
+front_is_said text (Err f) e = front_said text f (sym e)
+
 front_line : (text : List ℕ) (l : Line) → front_of text ≡ Ok l → line_of text ≡ Ok l
 front_line text l e = go (nat_lt MAX_LINE (length text)) e
   where
@@ -135,3 +140,22 @@ recorded text at event arrow front =
     ap (λ o. is_ok (pair_cut text o)) arrow
     ∙ ap (λ l. is_ok (pair_from l (drop (at + 4) text))) (front_line (take at text) (line.Event event) front)
     ∙ answered (line.Event event) (answer_of (drop (at + 4) text))
+
+-- ---- a line of a sheet
+
+-- a line with no arrow
+pub line_alone : (text : List ℕ) (r : Result Line LineFault) → arrow_in text ≡ None → r ≡ front_of text → sheet_line text ≡ unasked r
+unfolding sheet_line
+line_alone text r none read = ap (sheet_cut text) none ∙ ap unasked (sym read)
+
+-- a line with an arrow at this place
+pub line_predicted : (text : List ℕ) (at : ℕ) (r : Result Line LineFault) → arrow_in text ≡ Some at → r ≡ front_of (take at text) → sheet_line text ≡ predicted r (drop (at + 4) text)
+unfolding sheet_line
+line_predicted text at r arrow read = ap (sheet_cut text) arrow ∙ ap (λ l. predicted l (drop (at + 4) text)) (sym read)
+
+-- and what is predicted there
+pub with_prediction : (l : Line) (said : List ℕ) → is_prediction l said ≡ true → predicted (Ok l) said ≡ Ok (l, Some said)
+with_prediction l said is = ap (λ t. cond t (Ok (l, Some said)) (Err Field)) is
+
+pub without_prediction : (l : Line) (said : List ℕ) → is_prediction l said ≡ false → predicted (Ok l) said ≡ Err Field
+without_prediction l said is = ap (λ t. cond t (Ok (l, Some said)) (Err Field)) is

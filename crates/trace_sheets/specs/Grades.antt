@@ -105,13 +105,13 @@ asked m texts = asked_from 1 m texts
 -- ---- the grade
 
 abbrev pub no_score : Score
-no_score = record { right = 0; wrong = 0; open = 0 }
+no_score = record { right = 0; wrong = 0; left_open = 0 }
 
 -- one mark more
 abbrev pub with_mark : Score → Mark → Score
 with_mark s Right = record s { right = s.right + 1 }
 with_mark s Wrong = record s { wrong = s.wrong + 1 }
-with_mark s Open = record s { open = s.open + 1 }
+with_mark s Open = record s { left_open = s.left_open + 1 }
 
 -- each mark counts once
 abbrev pub score_of : List Mark → Score
@@ -119,7 +119,7 @@ score_of [] = no_score
 score_of (mark ∷ marks) = with_mark (score_of marks) mark
 
 abbrev pub total : Score → ℕ
-total s = s.right + s.wrong + s.open
+total s = s.right + s.wrong + s.left_open
 
 -- what is told of the wrong predictions, and how many are right, wrong and open
 pub record Graded (m : MachineState) (texts : List (List ℕ)) (m' : MachineState) (report : List ℕ) (score : Score) : Type 0 where
@@ -129,7 +129,7 @@ pub record Graded (m : MachineState) (texts : List (List ℕ)) (m' : MachineStat
 
 -- the last line of a grade: all predictions are counted, the open ones too
 abbrev pub score_text : Score → List ℕ
-score_text s = decimal s.right ++ codes " of " ++ decimal (total s) ++ codes " right, " ++ decimal s.open ++ codes " open"
+score_text s = decimal s.right ++ codes " of " ++ decimal (total s) ++ codes " right, " ++ decimal s.left_open ++ codes " open"
 
 -- no prediction is wrong: what is open isn't
 abbrev pub score_status : Score → ℕ

@@ -1,12 +1,10 @@
 //! A sheet is graded.
 
-ghost use Rattle.std.specs.Prelude.{◌≡◌, ℕ, ◌<◌, ◌≤◌, ◌++◌, List, length, Some, OnOk, IfOk, IfErr};
-ghost use Rattle.std.specs.Option.{option_map};
-ghost use Rattle.trace_text.specs.declared.fault.TheConstants.{MAX_LINES, MAX_PAIR};
+ghost use Rattle.std.specs.Prelude.{◌≡◌, ℕ, ◌<◌, ◌≤◌, ◌++◌, [], List, length, OnOk, IfOk, IfErr};
+ghost use Rattle.trace_text.specs.declared.fault.TheConstants.{BUFFER_LEN, MAX_LINES, MAX_PAIR};
 ghost use Rattle.trace_text.specs.Reading.{ReadWhole, ReadFails};
-ghost use Rattle.trace_text.specs.Texts.{after_line};
 ghost use Rattle.trace_sheets.specs.Sheets.{sheet_fault};
-ghost use Rattle.trace_sheets.specs.Grades.{Graded, GradesOne, told, told_if, total};
+ghost use Rattle.trace_sheets.specs.Grades.{Graded, mark_of, no_score, told, told_if, total, with_mark};
 
 use crate::came::Came;
 use crate::score::{Mark, Score};
@@ -14,7 +12,7 @@ use crate::sheet::sheet_said;
 use round_driver::RoundMachine;
 use std::alloc::{AllocError, Global};
 use trace_text::{
-    BUFFER_LEN, Collector, Failed, Line, LineText, MAX_PAIR, Source, TraceFault, Uncollected,
+    BUFFER_LEN, Collector, Failed, LineText, MAX_PAIR, Source, TraceFault, Uncollected,
     read_lines,
 };
 
@@ -58,31 +56,27 @@ fn push_correction(
 }
 
 impl<'a, M: RoundMachine> Grading<'a, M> {
-    // Grades the line of this number, which says this.
-    fn grade(
+    // Marks what is predicted in the line of this number, of which this came.
+    fn mark(
         &mut self,
         number: u64,
         text: &[u8],
-        line: Line,
-        said: Option<&[u8]>,
+        said: &[u8],
+        came: &Came,
     ) -> Result<(), AllocError>
         requires number { number ≤ MAX_LINES }
         requires few { total self.old.score < MAX_LINES }
-        ensures ok { OnOk result (GradesOne number (M.state self.old.machine.now) text.now line
-            (option_map (λ s. s.now) said) self.old.report.items self.old.score
-            (M.state self.new.machine.now) self.new.report.items self.new.score) }
-        ensures same { self.new.machine.ghost_name ≡ self.old.machine.ghost_name }
+        ensures report { OnOk result (self.new.report.items ≡ self.old.report.items
+            ++ told_if (mark_of came.now said.now) (told number text.now came.now)) }
+        ensures score { self.new.score ≡ with_mark self.old.score (mark_of came.now said.now) }
+        ensures machine { self.new.machine ≡ self.old.machine }
     {
-        let came = Came::new(self.machine, line);
-        let Some(said) = said else {
-            return Ok(());
-        };
         let mark = came.mark(said);
         self.score.count(mark);
-        if let Mark::Wrong = mark {
-            push_correction(&mut self.report, number, text, &came)?;
+        match mark {
+            Mark::Wrong => push_correction(&mut self.report, number, text, came),
+            Mark::Right | Mark::Open => Ok(()),
         }
-        Ok(())
     }
 }
 
@@ -102,8 +96,15 @@ impl<'a, M: RoundMachine> Collector for Grading<'a, M> {
     ghost holds_same = { λ s t. t.machine.ghost_name ≡ s.machine.ghost_name };
 
     fn collect(&mut self, number: u64, text: &[u8]) -> Result<(), Uncollected> {
-        let (line, said) = sheet_said(text)?;
-        match self.grade(number, text, line, said) {
+        let (line, said) = match sheet_said(text) {
+            Ok(read) => read,
+            Err(fault) => return Err(Uncollected::Fault(fault)),
+        };
+        let came = Came::new(self.machine, line);
+        let Some(said) = said else {
+            return Ok(());
+        };
+        match self.mark(number, text, said, &came) {
             Ok(()) => Ok(()),
             Err(_) => Err(Uncollected::Halted),
         }
@@ -142,14 +143,41 @@ pub fn grade_sheet<R: Source, M: RoundMachine>(
     let mut grading = Grading {
         machine,
         report: Vec::new(alloc),
-        score: Score::default(),
+        score: Score {
+            right: 0,
+            wrong: 0,
+            left_open: 0,
+        },
     };
     let mut buffer = vec![in alloc; 0u8; BUFFER_LEN]?;
-    match read_lines(reader, &mut grading, MAX_PAIR, &mut buffer) {
+    match grade_through(reader, &mut grading, &mut buffer) {
         Ok(()) => Ok(Grade {
             report: grading.report,
             score: grading.score,
         }),
+        Err(fault) => Err(fault),
+    }
+}
+
+// Grades a sheet to its end, through a buffer.
+fn grade_through<R: Source, M: RoundMachine>(
+    reader: &mut R,
+    grading: &mut Grading<M>,
+    buffer: &mut [u8],
+) -> Result<(), TraceFault>
+    requires room { length buffer.old ≡ BUFFER_LEN }
+    requires report { grading.old.report.items ≡ [] }
+    requires score { grading.old.score ≡ no_score }
+    ensures graded { OnOk result ((texts : List (List ℕ))
+        × ReadWhole R.gave sheet_fault MAX_PAIR reader.old reader.new texts
+        × Graded (M.state grading.old.machine.now) texts (M.state grading.new.machine.now)
+        grading.new.report.items grading.new.score) }
+    ensures fault { IfErr result
+        (ReadFails R.gave R.failed sheet_fault MAX_PAIR reader.old reader.new) }
+    ensures same { grading.new.machine.ghost_name ≡ grading.old.machine.ghost_name }
+{
+    match read_lines(reader, grading, MAX_PAIR, buffer) {
+        Ok(()) => Ok(()),
         Err(stop) => Err(stop.fault_or(TraceFault::OutOfMemory)),
     }
 }

@@ -25,7 +25,7 @@ pub struct Score {
     /// Wrong ones.
     pub wrong: u64,
     /// Lines whose prediction is `?`.
-    pub open: u64,
+    pub left_open: u64,
 }
 
 impl Score {
@@ -37,7 +37,7 @@ impl Score {
         match mark {
             Mark::Right => self.right += 1,
             Mark::Wrong => self.wrong += 1,
-            Mark::Open => self.open += 1,
+            Mark::Open => self.left_open += 1,
         }
     }
 
@@ -55,8 +55,8 @@ impl fmt::Display for Score {
 
     fn fmt<W: fmt::Write>(&self, f: &mut fmt::Formatter<W>) -> fmt::Result {
         let right = self.right;
-        let open = self.open;
-        let asked = u128::from(self.right) + u128::from(self.wrong) + u128::from(self.open);
+        let open = self.left_open;
+        let asked = u128::from(self.right) + u128::from(self.wrong) + u128::from(self.left_open);
         write!(f, "{right} of {asked} right, {open} open")
     }
 }

@@ -1,6 +1,6 @@
 //! The lines of a sheet.
 
-ghost use Rattle.std.specs.Prelude.{◌≡◌, ◌+◌, ◌≤◌, ℕ, Ok, Err, Some, length, take, drop, IfOk, IfErr, IfSome};
+ghost use Rattle.std.specs.Prelude.{◌≡◌, ◌+◌, ◌≤◌, ℕ, Ok, Err, Some, length, take, drop, is_ok, IfOk, IfErr, IfSome};
 ghost use Rattle.std.specs.Option.{option_map};
 ghost use Rattle.trace_text.specs.declared.fault.TheConstants.{MAX_PAIR};
 ghost use Rattle.trace_text.specs.Lines.{IsSaid};
@@ -14,9 +14,6 @@ use trace_text::{Line, LineFault, LineText, MAX_LINE, MAX_PAIR, read_line, read_
 // The bytes of a line, with its LF.
 const MAX_ENDED: usize = MAX_PAIR + 1;
 
-// What stands between a line and what is predicted of it.
-const ARROW: &[u8] = b" -> ";
-
 // What a line of a sheet says, without its LF: a line of a trace, and the text that is predicted of it, if one is.
 pub(crate) fn sheet_said(text: &[u8]) -> Result<(Line, Option<&[u8]>), LineFault>
     requires { length text.now ≤ MAX_PAIR }
@@ -25,10 +22,16 @@ pub(crate) fn sheet_said(text: &[u8]) -> Result<(Line, Option<&[u8]>), LineFault
     ensures fault { IfErr result (λ fault. (sheet_line text.now ≡ Err fault) × IsSaid fault) }
 {
     let Some(at) = arrow(text) else {
-        return Ok((front(text)?, None));
+        return match front(text) {
+            Ok(line) => Ok((line, None)),
+            Err(fault) => Err(fault),
+        };
     };
-    let line = front(&text[..at])?;
-    let said = &text[at + ARROW.len()..];
+    let line = match front(&text[..at]) {
+        Ok(line) => line,
+        Err(fault) => return Err(fault),
+    };
+    let said = &text[at + 4..];
     if may_be_predicted(line, text, said) {
         Ok((line, Some(said)))
     } else {
