@@ -46,7 +46,7 @@ score_more : (marks : List Mark) (k : Mark) → score_of (marks ++ k ∷ []) ≡
 score_more [] k = refl
 score_more (m ∷ ms) k = ap (λ s. with_mark s m) (score_more ms k) ∙ swap (score_of ms) k m
 
-map_more : (as : List Asked) (a : Asked) → map mark (as ++ a ∷ []) ≡ map mark as ++ mark a ∷ []
+map_more : (xs : List Asked) (a : Asked) → map mark (xs ++ a ∷ []) ≡ map mark xs ++ mark a ∷ []
 map_more [] a = refl
 map_more (x ∷ xs) a = ap (λ l. mark x ∷ l) (map_more xs a)
 
@@ -59,9 +59,9 @@ total_is : (marks : List Mark) → total (score_of marks) ≡ length marks
 total_is [] = refl
 total_is (k ∷ ks) = omega (arith, one_more (score_of ks) k, total_is ks)
 
-map_length : (as : List Asked) → length (map mark as) ≡ length as
+map_length : (xs : List Asked) → length (map mark xs) ≡ length xs
 map_length [] = refl
-map_length (a ∷ as) = omega (arith, map_length as)
+map_length (x ∷ xs) = omega (arith, map_length xs)
 
 one_at_most : (n : ℕ) (m : MachineState) (text : List ℕ) (said : Result (Line × Option (List ℕ)) LineFault) → length (asked_in n m text said) ≤ 1
 one_at_most n m text (Err fault) = omega arith
@@ -110,7 +110,7 @@ module _ {m m' : MachineState} {texts : List (List ℕ)} {report : List ℕ} {sc
   graded_more n line None next report' score' number is one = record {
     state = one.0 ∙ sym (now ∙ ap (after_said m') is);
     told = one.1 ∙ sym (append-nil report) ∙ sym (reported ∙ ap (λ s. report ++ flat_map correction (last s)) is);
-    marks = one.2 ∙ g.marks ∙ ap (λ as. score_of (map mark as)) (sym (append-nil (asked m texts)) ∙ sym (behind ∙ ap (λ s. asked m texts ++ last s) is));
+    marks = one.2 ∙ g.marks ∙ ap (λ xs. score_of (map mark xs)) (sym (append-nil (asked m texts)) ∙ sym (behind ∙ ap (λ s. asked m texts ++ last s) is));
   }
   graded_more n line (Some said) next report' score' number is one =
       let place : n ≡ 1 + length texts = omega (arith, number) in
@@ -125,5 +125,5 @@ module _ {m m' : MachineState} {texts : List (List ℕ)} {report : List ℕ} {sc
         marks =
             one.2 ∙ ap (λ s. with_mark s k) g.marks ∙ sym (score_more (map mark (asked m texts)) k)
             ∙ ap score_of (sym (map_more (asked m texts) (a (1 + length texts))))
-            ∙ ap (λ as. score_of (map mark as)) (sym (behind ∙ ap (λ s. asked m texts ++ last s) is));
+            ∙ ap (λ xs. score_of (map mark xs)) (sym (behind ∙ ap (λ s. asked m texts ++ last s) is));
       }

@@ -21,17 +21,11 @@ use Rattle.trace_sheets.specs.Sheets.{front_of, unasked, predicted, sheet_cut, s
 ended_test : (n k : ℕ) → 0 < n → k ≡ 10 → (nat_lt 0 n && (k == 10)) ≡ true
 ended_test n k some is = grind (arith, nat_tests)
 
-not_not_longer_pair : (n : ℕ) → n ≤ MAX_PAIR → nat_lt MAX_PAIR n ≡ false
-not_longer_pair n le = grind (arith, nat_tests)
+not_longer : (n most : ℕ) → n ≤ most → nat_lt most n ≡ false
+not_longer n most le = grind (arith, nat_tests)
 
-longer : (n : ℕ) → n ≤ MAX_LINE → nat_lt MAX_LINE n ≡ false
-not_longer n le = grind (arith, nat_tests)
-
-not_longer_pair : (n : ℕ) → n ≤ MAX_PAIR → nat_lt MAX_PAIR n ≡ false
-not_longer_pair n le = grind (arith, nat_tests)
-
-longer : (n : ℕ) → MAX_LINE < n → nat_lt MAX_LINE n ≡ true
-longer n lt = grind (arith, nat_tests)
+longer : (n most : ℕ) → most < n → nat_lt most n ≡ true
+longer n most lt = grind (arith, nat_tests)
 
 -- a line of at most 64 bytes is read as it is with its LF
 pub ended_front : (text : List ℕ) → length text ≤ MAX_LINE → ended_line_of (text ++ 10 ∷ []) ≡ front_of text
@@ -43,7 +37,7 @@ ended_front text short =
     let is : is_ended b ≡ true = ended_test (length b) (slice_index b (length b - 1)) some last in
     let front : without_end b ≡ text = ap (λ t. cond t (take (length b - 1) b) b) is ∙ ap (λ k. take k b) at ∙ take-append_seam text (10 ∷ []) in
     let whole : List ℕ → Bool → Result Line LineFault = λ w t. cond (nat_lt MAX_LINE (length w)) (Err TooLong) (cond t (line_of w) (Err NotEnded)) in
-    let fits = not_longer (length text) short in
+    let fits = not_longer (length text) MAX_LINE short in
     ap (λ w. whole w (is_ended b)) front
     ∙ ap (λ t. whole text t) is
     ∙ ap (λ t. cond t (Err TooLong) (line_of text)) fits
@@ -59,11 +53,11 @@ ended_pair text short =
     let is : is_ended b ≡ true = ended_test (length b) (slice_index b (length b - 1)) some last in
     let front : without_end b ≡ text = ap (λ t. cond t (take (length b - 1) b) b) is ∙ ap (λ k. take k b) at ∙ take-append_seam text (10 ∷ []) in
     let whole : List ℕ → Bool → Result Pair LineFault = λ w t. cond (nat_lt MAX_PAIR (length w)) (Err TooLong) (cond t (pair_of w) (Err NotEnded)) in
-    ap (λ w. whole w (is_ended b)) front ∙ ap (λ t. whole text t) is ∙ ap (λ t. cond t (Err TooLong) (pair_of text)) (not_longer_pair (length text) short)
+    ap (λ w. whole w (is_ended b)) front ∙ ap (λ t. whole text t) is ∙ ap (λ t. cond t (Err TooLong) (pair_of text)) (not_longer (length text) MAX_PAIR short)
 
 -- a longer one is a bad field
 pub long_front : (text : List ℕ) → MAX_LINE < length text → front_of text ≡ Err Field
-long_front text lt = ap (λ t. cond t (Err Field) (line_of text)) (longer (length text) lt)
+long_front text lt = ap (λ t. cond t (Err Field) (line_of text)) (longer (length text) MAX_LINE lt)
 
 -- ---- the faults of a line that has ended
 

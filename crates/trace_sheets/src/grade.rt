@@ -96,17 +96,17 @@ impl<'a, M: RoundMachine> Collector for Grading<'a, M> {
     ghost holds_same = { λ s t. t.machine.ghost_name ≡ s.machine.ghost_name };
 
     fn collect(&mut self, number: u64, text: &[u8]) -> Result<(), Uncollected> {
-        let (line, said) = match sheet_said(text) {
+        let read = match sheet_said(text) {
             Ok(read) => read,
             Err(fault) => return Err(Uncollected::Fault(fault)),
         };
-        let came = Came::new(self.machine, line);
-        let Some(said) = said else {
-            return Ok(());
-        };
-        match self.mark(number, text, said, &came) {
-            Ok(()) => Ok(()),
-            Err(_) => Err(Uncollected::Halted),
+        let came = Came::new(self.machine, read.0);
+        match read.1 {
+            None => Ok(()),
+            Some(said) => match self.mark(number, text, said, &came) {
+                Ok(()) => Ok(()),
+                Err(_) => Err(Uncollected::Halted),
+            },
         }
     }
 

@@ -1,10 +1,12 @@
 //! The lines of a sheet.
 
-ghost use Rattle.std.specs.Prelude.{◌≡◌, ◌+◌, ◌≤◌, ℕ, Ok, Err, Some, length, take, drop, is_ok, IfOk, IfErr, IfSome};
-ghost use Rattle.std.specs.Option.{option_map};
+ghost use Rattle.std.specs.Prelude.{◌≡◌, ◌+◌, ◌≤◌, ℕ, Ok, Err, Some, length, take, drop, ◌||◌, is_ok, IfOk, IfErr, IfSome};
+ghost use Rattle.std.specs.List.{list_all};
+ghost use Rattle.std.specs.Option.{is_some, option_map};
+ghost use Rattle.flat_model.specs.declared.Event.{Event as EventValue};
 ghost use Rattle.trace_text.specs.declared.fault.TheConstants.{MAX_PAIR};
 ghost use Rattle.trace_text.specs.Lines.{IsSaid};
-ghost use Rattle.trace_text.specs.Pairs.{arrow_in, pair_of};
+ghost use Rattle.trace_text.specs.Pairs.{answer_of, arrow_in, pair_of};
 ghost use Rattle.trace_sheets.specs.Sheets as sheets;
 ghost use Rattle.trace_sheets.specs.Sheets.{front_of, is_prediction, sheet_line};
 
@@ -21,12 +23,24 @@ pub(crate) fn sheet_said(text: &[u8]) -> Result<(Line, Option<&[u8]>), LineFault
         (λ said. sheet_line text.now ≡ Ok (said.0, option_map (λ s. s.now) said.1)) }
     ensures fault { IfErr result (λ fault. (sheet_line text.now ≡ Err fault) × IsSaid fault) }
 {
-    let Some(at) = arrow(text) else {
-        return match front(text) {
+    match arrow(text) {
+        None => match front(text) {
             Ok(line) => Ok((line, None)),
             Err(fault) => Err(fault),
-        };
-    };
+        },
+        Some(at) => predicted(text, at),
+    }
+}
+
+// What a line says whose arrow stands at this place.
+fn predicted(text: &[u8], at: usize) -> Result<(Line, Option<&[u8]>), LineFault>
+    requires short { length text.now ≤ MAX_PAIR }
+    requires arrow { arrow_in text.now ≡ Some at }
+    requires bound { at + 4 ≤ length text.now }
+    ensures ok { IfOk result
+        (λ said. sheet_line text.now ≡ Ok (said.0, option_map (λ s. s.now) said.1)) }
+    ensures fault { IfErr result (λ fault. (sheet_line text.now ≡ Err fault) × IsSaid fault) }
+{
     let line = match front(&text[..at]) {
         Ok(line) => line,
         Err(fault) => return Err(fault),
@@ -74,9 +88,26 @@ fn may_be_predicted(line: Line, text: &[u8], said: &[u8]) -> bool
     ensures { result ≡ is_prediction line said.now }
 {
     match line {
-        Line::Event(_) => is_open(said) || is_finding(said) || is_recorded(text),
-        _ => said.iter().all(|byte| 32 <= *byte && *byte <= 126),
+        Line::Event(_) => is_open(said) || is_answer(text, said),
+        Line::Register(_) | Line::Bank(_) | Line::Settled => is_printable(said),
     }
+}
+
+// Whether an answer, with what the request found or without, stands behind an event.
+fn is_answer(text: &[u8], said: &[u8]) -> bool
+    requires short { length text.now ≤ MAX_PAIR }
+    requires stands { (at : ℕ) × (event : EventValue) × (arrow_in text.now ≡ Some at)
+        × (front_of (take at text.now) ≡ Ok (Line.Event event)) × (said.now ≡ drop (at + 4) text.now) }
+    ensures { result ≡ sheets.is_finding said.now || is_some (answer_of said.now) }
+{
+    is_finding(said) || is_recorded(text)
+}
+
+// Whether all bytes are printable.
+fn is_printable(said: &[u8]) -> bool
+    ensures { result ≡ list_all sheets.is_printable said.now }
+{
+    said.iter().all(|byte| 32 <= *byte && *byte <= 126)
 }
 
 // Whether nothing is predicted yet.

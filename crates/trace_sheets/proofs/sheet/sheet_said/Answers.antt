@@ -1,6 +1,10 @@
-use Rattle.std.proofs.Common.{◌≡◌, ◌+◌, ◌-◌, ◌∙◌, ap, sym, arith, take, drop, length, Option, Some, None, Ok, Err, List, ℕ}
-use Rattle.std.proofs.lemmas.Grind.{common_steps}
-use Rattle.trace_text.specs.declared.lines.LineFault.TheVariants.{Field}
-use Rattle.trace_sheets.specs.Sheets.{sheet_line}
-use Rattle.trace_sheets.proofs.Lines.{line_alone, line_predicted, with_prediction, without_prediction}
+use Rattle.std.proofs.Common.{sym, Ok, Err}
+use Rattle.trace_sheets.proofs.Lines.{line_alone}
 use Rattle.trace_sheets.proofs.sheet.sheet_said.Goals as goal
+
+pub returns-in-Ok-clause-ok : goal.returns-in-Ok-clause-ok
+returns-in-Ok-clause-ok c = line_alone c.args.text.now (Ok c.in-Ok.line) (sym c.in-None.ensures.value) c.in-Ok.ensures.line
+
+pub returns-in-Err-clause-fault : goal.returns-in-Err-clause-fault
+returns-in-Err-clause-fault c =
+    (line_alone c.args.text.now (Err c.in-Err.fault) (sym c.in-None.ensures.value) c.in-Err.ensures.line, c.in-Err.ensures.fault)
