@@ -305,10 +305,7 @@ fn push_history<'a>(alloc: Global, args: &mut Vec<Arg<'a>>) -> Result<(), AllocE
     args.push(law_argument(alloc))?;
     args.push(image_argument(alloc))?;
     args.push(unknown_argument(alloc)?)?;
-    args.push(answered_argument(
-        alloc,
-        "End with status 1 if operations are open at the end",
-    ))?;
+    args.push(answered_argument(alloc, "End with status 1 if operations are open at the end"))?;
     Ok(())
 }
 
@@ -321,7 +318,13 @@ fn push_own_options<'a>(
 ) -> Result<(), AllocError> {
     match subcommand {
         Subcommand::Run | Subcommand::Explain | Subcommand::Grade => Ok(()),
-        Subcommand::Check => push_argument(args, answered_argument(alloc, "End with status 1 if loads aren't answered, and tell their tags")),
+        Subcommand::Check => push_argument(
+            args,
+            answered_argument(
+                alloc,
+                "End with status 1 if loads aren't answered, and tell their tags",
+            ),
+        ),
         Subcommand::Sweep => push_sweep(alloc, args),
         Subcommand::Drive => push_drive(alloc, args),
         Subcommand::Requests => push_requests(alloc, args, takes_file),

@@ -1,6 +1,5 @@
 -- What becomes of a sheet that is graded.
 use Rattle.std.specs.Prelude.{◌≡◌, ◌⊎◌, ℕ, List, [], Result, Ok, Err}
-
 use Rattle.machine_core.specs.Machine.{MachineState}
 use Rattle.trace_text.specs.Streams.{Moves, Stopped}
 use Rattle.trace_text.specs.Reading.{ReadWhole, ReadFails}

@@ -113,7 +113,8 @@ impl Judging {
         ensures { OnOk result (JudgesPair number pair (shown self.old.memory) self.old.steps self.old.mismatch
             (shown self.new.memory) self.new.steps self.new.mismatch) }
     {
-        let (Line::Event(event), Some(answer), None) = (pair.line, pair.answer, self.mismatch) else {
+        let (Line::Event(event), Some(answer), None) = (pair.line, pair.answer, self.mismatch)
+        else {
             return Ok(());
         };
         match self.memory.step(event, answer) {

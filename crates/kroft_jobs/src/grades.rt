@@ -59,11 +59,7 @@ impl<'a, I: Source> MachineJob for GradedSheet<'a, I> {
 }
 
 // Writes a grade, and flushes it.
-fn write_grade<O: Sink>(
-    alloc: Global,
-    grade: Grade,
-    output: &mut O,
-) -> Result<Score, TraceFault>
+fn write_grade<O: Sink>(alloc: Global, grade: Grade, output: &mut O) -> Result<Score, TraceFault>
     ensures written { IsWritten O.took O.refused O.unflushed (grade_text grade.report.items grade.score) output.old
         output.new result }
     ensures score { IfOk result (λ score. score ≡ grade.score) }

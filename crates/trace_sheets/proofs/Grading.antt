@@ -90,7 +90,7 @@ graded_none m none zero = record { state = refl; told = none; marks = zero }
 
 module _ {m m' : MachineState} {texts : List (List ℕ)} {report : List ℕ} {score : Score} (g : Graded m texts m' report score) (text : List ℕ) where
   -- what is asked in it
-  last : Result (Line × Option (List ℕ)) LineFault → List Asked
+  abbrev last : Result (Line × Option (List ℕ)) LineFault → List Asked
   last said = asked_in (1 + length texts) m' text said
 
   behind : asked m (texts ++ text ∷ []) ≡ asked m texts ++ last (sheet_line text)

@@ -13,7 +13,11 @@ use Rattle.trace_text.specs.declared.lines.Line.{Line}
 use Rattle.trace_text.specs.declared.lines.Line.TheVariants as line
 use Rattle.trace_text.specs.declared.lines.LineFault.{LineFault}
 use Rattle.round_driver.specs.Rounds.{finding}
-use Rattle.trace_sheets.specs.Sheets.{accepted_text, is_open, sheet_line}
+use Rattle.trace_text.specs.Reading.{ReadWhole, ReadFails}
+use Rattle.trace_text.specs.declared.fault.TheConstants.{MAX_PAIR}
+use Rattle.trace_text.specs.declared.fault.TraceFault.{TraceFault}
+use Rattle.trace_sheets.specs.Sheets.{accepted_text, is_open, sheet_line, sheet_fault}
+use Rattle.trace_sheets.specs.declared.grade.Grade.{Grade}
 use Rattle.trace_sheets.specs.Whys.{words_of}
 use Rattle.trace_sheets.specs.declared.came.Came.{Came}
 use Rattle.trace_sheets.specs.declared.came.Came.TheVariants.{Answered, Shown}
@@ -126,6 +130,12 @@ pub record Graded (m : MachineState) (texts : List (List ℕ)) (m' : MachineStat
   pub state : m' ≡ after_texts m texts
   pub told : report ≡ flat_map correction (asked m texts)
   pub marks : score ≡ score_of (map mark (asked m texts))
+
+-- what becomes of a sheet: it is read to its end and graded, or it has a fault
+abbrev pub SheetEnds : {R : Type 0} (gave : R → List ℕ → R → Type 0) (failed : R → R → Type 0) (r r' : R) (m m' : MachineState) → Result Grade TraceFault → Type 0
+SheetEnds gave failed r r' m m' (Ok grade) =
+    (texts : List (List ℕ)) × ReadWhole gave sheet_fault MAX_PAIR r r' texts × Graded m texts m' grade.report.items grade.score
+SheetEnds gave failed r r' m m' (Err fault) = ReadFails gave failed sheet_fault MAX_PAIR r r' fault
 
 -- the last line of a grade: all predictions are counted, the open ones too
 abbrev pub score_text : Score → List ℕ

@@ -1,10 +1,9 @@
 //! A sheet is graded.
 
-ghost use Rattle.std.specs.Prelude.{◌≡◌, ℕ, ◌<◌, ◌≤◌, ◌++◌, [], List, length, OnOk, IfOk, IfErr};
+ghost use Rattle.std.specs.Prelude.{◌≡◌, ◌<◌, ◌≤◌, ◌++◌, [], length, OnOk};
 ghost use Rattle.trace_text.specs.declared.fault.TheConstants.{BUFFER_LEN, MAX_LINES, MAX_PAIR};
-ghost use Rattle.trace_text.specs.Reading.{ReadWhole, ReadFails};
 ghost use Rattle.trace_sheets.specs.Sheets.{sheet_fault};
-ghost use Rattle.trace_sheets.specs.Grades.{Graded, mark_of, no_score, told, told_if, total, with_mark};
+ghost use Rattle.trace_sheets.specs.Grades.{Graded, SheetEnds, mark_of, no_score, told, told_if, total, with_mark};
 
 use crate::came::Came;
 use crate::score::{Mark, Score};
@@ -12,8 +11,7 @@ use crate::sheet::sheet_said;
 use round_driver::RoundMachine;
 use std::alloc::{AllocError, Global};
 use trace_text::{
-    BUFFER_LEN, Collector, Failed, LineText, MAX_PAIR, Source, TraceFault, Uncollected,
-    read_lines,
+    BUFFER_LEN, Collector, Failed, LineText, MAX_PAIR, Source, TraceFault, Uncollected, read_lines,
 };
 
 /// What becomes of a sheet.
@@ -29,7 +27,7 @@ pub struct Grade {
 #[derive(Drop)]
 pub(crate) struct Grading<'a, M> {
     pub(crate) machine: &'a mut M,
-    pub(crate) report: Vec<u8>,
+    pub(crate) report: &'a mut Vec<u8>,
     pub(crate) score: Score,
 }
 
@@ -56,25 +54,33 @@ fn push_correction(
 }
 
 impl<'a, M: RoundMachine> Grading<'a, M> {
+    // The grade so far. Its report is taken out.
+    fn finished(&mut self, alloc: Global) -> Grade
+        ensures report { result.report.items ≡ self.old.report.now.items }
+        ensures score { result.score ≡ self.old.score }
+        ensures machine { self.new.machine ≡ self.old.machine }
+        ensures same { self.new.report.ghost_name ≡ self.old.report.ghost_name }
+    {
+        Grade {
+            report: std::mem::replace(self.report, Vec::new(alloc)),
+            score: self.score,
+        }
+    }
+
     // Marks what is predicted in the line of this number, of which this came.
-    fn mark(
-        &mut self,
-        number: u64,
-        text: &[u8],
-        said: &[u8],
-        came: &Came,
-    ) -> Result<(), AllocError>
+    fn mark(&mut self, number: u64, text: &[u8], said: &[u8], came: &Came) -> Result<(), AllocError>
         requires number { number ≤ MAX_LINES }
         requires few { total self.old.score < MAX_LINES }
-        ensures report { OnOk result (self.new.report.items ≡ self.old.report.items
+        ensures report { OnOk result (self.new.report.now.items ≡ self.old.report.now.items
             ++ told_if (mark_of came.now said.now) (told number text.now came.now)) }
         ensures score { self.new.score ≡ with_mark self.old.score (mark_of came.now said.now) }
         ensures machine { self.new.machine ≡ self.old.machine }
+        ensures same { self.new.report.ghost_name ≡ self.old.report.ghost_name }
     {
         let mark = came.mark(said);
         self.score.count(mark);
         match mark {
-            Mark::Wrong => push_correction(&mut self.report, number, text, came),
+            Mark::Wrong => push_correction(self.report, number, text, came),
             Mark::Right | Mark::Open => Ok(()),
         }
     }
@@ -85,7 +91,7 @@ impl<'a, M: RoundMachine> Collector for Grading<'a, M> {
 
     ghost longest = { MAX_PAIR };
 
-    ghost went = { λ s texts t. Graded (M.state s.machine.now) texts (M.state t.machine.now) t.report.items t.score };
+    ghost went = { λ s texts t. Graded (M.state s.machine.now) texts (M.state t.machine.now) t.report.now.items t.score };
 
     ghost stopped = { λ s text t. Unit {0} };
 
@@ -93,7 +99,7 @@ impl<'a, M: RoundMachine> Collector for Grading<'a, M> {
 
     ghost unpaused = { λ s t. ⊥ };
 
-    ghost holds_same = { λ s t. t.machine.ghost_name ≡ s.machine.ghost_name };
+    ghost holds_same = { λ s t. (t.machine.ghost_name ≡ s.machine.ghost_name) × (t.report.ghost_name ≡ s.report.ghost_name) };
 
     fn collect(&mut self, number: u64, text: &[u8]) -> Result<(), Uncollected> {
         let read = match sheet_said(text) {
@@ -133,51 +139,40 @@ pub fn grade_sheet<R: Source, M: RoundMachine>(
     reader: &mut R,
     machine: &mut M,
 ) -> Result<Grade, TraceFault>
-    ensures graded { IfOk result
-        (λ grade. (texts : List (List ℕ))
-        × ReadWhole R.gave sheet_fault MAX_PAIR reader.old reader.new texts
-        × Graded (M.state machine.old) texts (M.state machine.new) grade.report.items grade.score) }
-    ensures fault { IfErr result
-        (ReadFails R.gave R.failed sheet_fault MAX_PAIR reader.old reader.new) }
+    ensures { SheetEnds R.gave R.failed reader.old reader.new (M.state machine.old) (M.state machine.new)
+        result }
 {
+    let mut buffer = vec![in alloc; 0u8; BUFFER_LEN]?;
+    let mut report = Vec::new(alloc);
     let mut grading = Grading {
         machine,
-        report: Vec::new(alloc),
+        report: &mut report,
         score: Score {
             right: 0,
             wrong: 0,
             left_open: 0,
         },
     };
-    let mut buffer = vec![in alloc; 0u8; BUFFER_LEN]?;
-    match grade_through(reader, &mut grading, &mut buffer) {
-        Ok(()) => Ok(Grade {
-            report: grading.report,
-            score: grading.score,
-        }),
-        Err(fault) => Err(fault),
-    }
+    grade_through(alloc, reader, &mut grading, &mut buffer)
 }
 
 // Grades a sheet to its end, through a buffer.
 fn grade_through<R: Source, M: RoundMachine>(
+    alloc: Global,
     reader: &mut R,
     grading: &mut Grading<M>,
     buffer: &mut [u8],
-) -> Result<(), TraceFault>
+) -> Result<Grade, TraceFault>
     requires room { length buffer.old ≡ BUFFER_LEN }
-    requires report { grading.old.report.items ≡ [] }
+    requires report { grading.old.report.now.items ≡ [] }
     requires score { grading.old.score ≡ no_score }
-    ensures graded { OnOk result ((texts : List (List ℕ))
-        × ReadWhole R.gave sheet_fault MAX_PAIR reader.old reader.new texts
-        × Graded (M.state grading.old.machine.now) texts (M.state grading.new.machine.now)
-        grading.new.report.items grading.new.score) }
-    ensures fault { IfErr result
-        (ReadFails R.gave R.failed sheet_fault MAX_PAIR reader.old reader.new) }
-    ensures same { grading.new.machine.ghost_name ≡ grading.old.machine.ghost_name }
+    ensures ends { SheetEnds R.gave R.failed reader.old reader.new (M.state grading.old.machine.now)
+        (M.state grading.new.machine.now) result }
+    ensures same_machine { grading.new.machine.ghost_name ≡ grading.old.machine.ghost_name }
+    ensures same_report { grading.new.report.ghost_name ≡ grading.old.report.ghost_name }
 {
     match read_lines(reader, grading, MAX_PAIR, buffer) {
-        Ok(()) => Ok(()),
+        Ok(()) => Ok(grading.finished(alloc)),
         Err(stop) => Err(stop.fault_or(TraceFault::OutOfMemory)),
     }
 }

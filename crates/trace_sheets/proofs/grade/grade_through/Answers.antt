@@ -1,4 +1,4 @@
-use Rattle.std.proofs.Common.{◌≡◌, sym, subst}
+use Rattle.std.proofs.Common.{◌≡◌, ◌∙◌, ap, sym, subst}
 use Rattle.trace_sheets.specs.Sheets.{sheet_fault}
 use Rattle.trace_sheets.specs.Grades.{Graded}
 use Rattle.trace_text.proofs.Ends.{read_fails}
@@ -8,12 +8,21 @@ use Rattle.trace_sheets.proofs.grade.grade_through.Goals as goal
 pub read_lines-requires-clause-went : goal.read_lines-requires-clause-went
 read_lines-requires-clause-went g c = graded_none (g.M.AnyMachine.state c.args.grading.now.machine.now) c.requires.report c.requires.score
 
-pub returns-in-Ok-clause-graded : goal.returns-in-Ok-clause-graded
-returns-in-Ok-clause-graded g c =
+pub returns-in-Ok-clause-ends : goal.returns-in-Ok-clause-ends
+returns-in-Ok-clause-ends g c =
     let reads = c.in-Ok.ensures.reads in
     let m = g.M.AnyMachine.state c.args.grading.now.machine.now in
-    (reads.0, reads.2, subst (λ t. Graded m reads.0 (g.M.AnyMachine.state t.machine.now) t.report.items t.score) (sym reads.4) reads.3)
+    let graded = subst (λ t. Graded m reads.0 (g.M.AnyMachine.state t.machine.now) t.report.now.items t.score) (sym reads.4) reads.3 in
+    let taken = c.finished.ensures in (
+      reads.0,
+      reads.2,
+      record {
+        state = ap (λ x. g.M.AnyMachine.state x.now) taken.machine ∙ graded.state;
+        told = taken.report ∙ graded.told;
+        marks = taken.score ∙ graded.marks;
+      },
+    )
 
-pub returns-in-Err-clause-fault : goal.returns-in-Err-clause-fault
-returns-in-Err-clause-fault g c =
-    read_fails g.R.Source.gave g.R.Source.failed sheet_fault (λ s texts t. Graded (g.M.AnyMachine.state s.machine.now) texts (g.M.AnyMachine.state t.machine.now) t.report.items t.score) (λ s text t. Unit {0}) (λ s t. t ≡ s) (λ s t. ⊥) 768 c.args.reader.now c.read_lines.new.reader c.args.grading.now c.read_lines.new.collector c.in-Err.stop c.fault_or.result c.in-Err.ensures.reads c.fault_or.ensures.fault c.fault_or.ensures.halted
+pub returns-in-Err-clause-ends : goal.returns-in-Err-clause-ends
+returns-in-Err-clause-ends g c =
+    read_fails g.R.Source.gave g.R.Source.failed sheet_fault (λ s texts t. Graded (g.M.AnyMachine.state s.machine.now) texts (g.M.AnyMachine.state t.machine.now) t.report.now.items t.score) (λ s text t. Unit {0}) (λ s t. t ≡ s) (λ s t. ⊥) 768 c.args.reader.now c.read_lines.new.reader c.args.grading.now c.read_lines.new.collector c.in-Err.stop c.fault_or.result c.in-Err.ensures.reads c.fault_or.ensures.fault c.fault_or.ensures.halted
