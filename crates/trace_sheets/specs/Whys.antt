@@ -1,9 +1,9 @@
 -- Why an event is answered so, in words.
-use Rattle.std.specs.Prelude.{ℕ, Option, Some, None, List, [], codes}
+use Rattle.std.specs.Prelude.{ℕ, Option, Some, None, List, codes}
 use Rattle.flat_model.specs.declared.Cause.{Cause}
 use Rattle.flat_model.specs.declared.Cause.TheVariants.{OutOfRange, NoLanes, TagInUse, RepliesFull, TargetsFull, BlockQueued, NoRegister, SetPending, QueueFull, BankFull, NotPresent, StackFull, StrayWord}
 use Rattle.flat_model.specs.declared.Event.{Event}
-use Rattle.flat_model.specs.declared.Event.TheVariants.{Load, Store, Prefetch, Evict, Drain, Serve, Arrive, Process, Take}
+use Rattle.flat_model.specs.declared.Event.TheVariants.{Load, Store, Drain, Serve, Arrive, Process}
 use Rattle.flat_model.specs.declared.Answer.{Answer}
 use Rattle.flat_model.specs.declared.Answer.TheVariants.{Accepted, Moved, Value, Nothing, Refused}
 use Rattle.cache_unit.specs.declared.Lookup.{Lookup}

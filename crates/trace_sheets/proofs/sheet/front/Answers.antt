@@ -1,6 +1,5 @@
 use Rattle.std.proofs.Common.{◌≡◌, ◌++◌, ◌∷◌, [], ◌∙◌, ap, arith}
 use Rattle.trace_text.specs.Lines.{ended_line_of}
-use Rattle.trace_sheets.specs.Sheets.{front_of}
 use Rattle.trace_sheets.proofs.Lines.{ended_front, front_is_said}
 use Rattle.trace_sheets.proofs.sheet.front.Goals as goal
 

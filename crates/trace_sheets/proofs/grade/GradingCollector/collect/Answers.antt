@@ -1,4 +1,4 @@
-use Rattle.std.proofs.Common.{◌≡◌, ◌∙◌, ◌++◌, ap, refl, arith, Ok, Some, None}
+use Rattle.std.proofs.Common.{◌∙◌, ◌++◌, ap, refl, arith, Ok, Some, None}
 use Rattle.std.specs.Option.{option_map}
 use Rattle.trace_sheets.specs.Grades.{mark_of, told, told_if, with_mark}
 use Rattle.trace_sheets.proofs.Grading.{few_marks, graded_more}
