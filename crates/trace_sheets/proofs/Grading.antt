@@ -13,7 +13,8 @@ use Rattle.trace_sheets.specs.declared.score.Score.{Score}
 
 -- ---- one line more
 
-after_more : (m : MachineState) (texts : List (List ℕ)) (text : List ℕ) → after_texts m (texts ++ text ∷ []) ≡ after_said (after_texts m texts) (sheet_line text)
+after_more : (m : MachineState) (texts : List (List ℕ)) (text : List ℕ)
+    → after_texts m (texts ++ text ∷ []) ≡ after_said (after_texts m texts) (sheet_line text)
 after_more m [] text = refl
 after_more m (t ∷ ts) text = after_more (after_said m (sheet_line t)) ts text
 
@@ -62,7 +63,8 @@ map_length : (xs : List Asked) → length (map mark xs) ≡ length xs
 map_length [] = refl
 map_length (x ∷ xs) = omega (arith, map_length xs)
 
-one_at_most : (n : ℕ) (m : MachineState) (text : List ℕ) (said : Result (Line × Option (List ℕ)) LineFault) → length (asked_in n m text said) ≤ 1
+one_at_most : (n : ℕ) (m : MachineState) (text : List ℕ) (said : Result (Line × Option (List ℕ)) LineFault)
+    → length (asked_in n m text said) ≤ 1
 one_at_most n m text (Err fault) = omega arith
 one_at_most n m text (Ok (line, None)) = omega arith
 one_at_most n m text (Ok (line, Some said)) = omega arith
@@ -75,7 +77,8 @@ asked_few n m (t ∷ ts) =
     omega (arith, asked_few (n + 1) next ts, one_at_most n m t (sheet_line t), length-append front (asked_from (n + 1) next ts))
 
 -- no more predictions are counted than there are lines
-pub few_marks : {m m' : MachineState} {texts : List (List ℕ)} {report : List ℕ} {score : Score} → Graded m texts m' report score → total score ≤ length texts
+pub few_marks : {m m' : MachineState} {texts : List (List ℕ)} {report : List ℕ} {score : Score}
+    → Graded m texts m' report score → total score ≤ length texts
 few_marks {m = m} {texts = texts} g =
     let all = asked m texts in
     let counted : total (score_of (map mark all)) ≡ length all = total_is (map mark all) ∙ map_length all in
@@ -105,11 +108,14 @@ module _ {m m' : MachineState} {texts : List (List ℕ)} {report : List ℕ} {sc
   now = after_more m texts text ∙ ap (λ s. after_said s (sheet_line text)) (sym g.state)
 
   pub graded_more : (n : ℕ) (line : Line) (said : Option (List ℕ)) (next : MachineState) (report' : List ℕ) (score' : Score)
-      → n ≡ length texts + 1 → sheet_line text ≡ Ok (line, said) → GradesOne n m' text line said report score next report' score' → Graded m (texts ++ text ∷ []) next report' score'
+      → n ≡ length texts + 1 → sheet_line text ≡ Ok (line, said) → GradesOne n m' text line said report score next report' score'
+      → Graded m (texts ++ text ∷ []) next report' score'
   graded_more n line None next report' score' number is one = record {
     state = one.0 ∙ sym (now ∙ ap (after_said m') is);
     told = one.1 ∙ sym (append-nil report) ∙ sym (reported ∙ ap (λ s. report ++ flat_map correction (last s)) is);
-    marks = one.2 ∙ g.marks ∙ ap (λ xs. score_of (map mark xs)) (sym (append-nil (asked m texts)) ∙ sym (behind ∙ ap (λ s. asked m texts ++ last s) is));
+    marks =
+        one.2 ∙ g.marks
+        ∙ ap (λ xs. score_of (map mark xs)) (sym (append-nil (asked m texts)) ∙ sym (behind ∙ ap (λ s. asked m texts ++ last s) is));
   }
   graded_more n line (Some said) next report' score' number is one =
       let place : n ≡ 1 + length texts = omega (arith, number) in

@@ -7,13 +7,12 @@ use Rattle.std.proofs.lemmas.Bool.Decides.{nat_tests}
 use Rattle.flat_model.specs.declared.Answer.{Answer}
 use Rattle.flat_model.specs.declared.Event.{Event}
 use Rattle.trace_text.specs.Lines.{IsSaid, cut_of, command_named, is_ended, without_end, said_by, or_field, line_of, line_from, ended_line_of}
-use Rattle.trace_text.specs.Pairs.{pair_of, pair_cut, pair_from, pair_with, answered_pair, ended_pair_of, answer_of, arrow_in}
-use Rattle.trace_text.specs.declared.fault.TheConstants.{MAX_LINE, MAX_PAIR}
+use Rattle.trace_text.specs.Pairs.{pair_of, pair_cut, pair_from, answered_pair, answer_of, arrow_in}
+use Rattle.trace_text.specs.declared.fault.TheConstants.{MAX_LINE}
 use Rattle.trace_text.specs.declared.lines.Line.{Line}
 use Rattle.trace_text.specs.declared.lines.Line.TheVariants as line
 use Rattle.trace_text.specs.declared.lines.LineFault.{LineFault}
 use Rattle.trace_text.specs.declared.lines.LineFault.TheVariants.{Unknown, Field, TooLong, NotEnded}
-use Rattle.trace_text.specs.declared.pairs.Pair.{Pair}
 use Rattle.trace_sheets.specs.Sheets.{front_of, unasked, predicted, sheet_cut, sheet_line, is_prediction}
 
 -- ---- a line with its LF
@@ -24,9 +23,6 @@ ended_test n k some is = grind (arith, nat_tests)
 not_longer : (n most : ℕ) → n ≤ most → nat_lt most n ≡ false
 not_longer n most le = grind (arith, nat_tests)
 
-longer : (n most : ℕ) → most < n → nat_lt most n ≡ true
-longer n most lt = grind (arith, nat_tests)
-
 -- a line of at most 64 bytes is read as it is with its LF
 pub ended_front : (text : List ℕ) → length text ≤ MAX_LINE → ended_line_of (text ++ 10 ∷ []) ≡ front_of text
 ended_front text short =
@@ -35,29 +31,15 @@ ended_front text short =
     let some : 0 < length b = omega (arith, length-append text (10 ∷ [])) in
     let last : slice_index b (length b - 1) ≡ 10 = ap (λ k. get_or b k 0) at ∙ get_or-append_seam text 10 [] 0 in
     let is : is_ended b ≡ true = ended_test (length b) (slice_index b (length b - 1)) some last in
-    let front : without_end b ≡ text = ap (λ t. cond t (take (length b - 1) b) b) is ∙ ap (λ k. take k b) at ∙ take-append_seam text (10 ∷ []) in
-    let whole : List ℕ → Bool → Result Line LineFault = λ w t. cond (nat_lt MAX_LINE (length w)) (Err TooLong) (cond t (line_of w) (Err NotEnded)) in
+    let cut : without_end b ≡ take (length b - 1) b = ap (λ t. cond t (take (length b - 1) b) b) is in
+    let front : without_end b ≡ text = cut ∙ ap (λ k. take k b) at ∙ take-append_seam text (10 ∷ []) in
+    let whole : List ℕ → Bool → Result Line LineFault =
+    λ w t. cond (nat_lt MAX_LINE (length w)) (Err TooLong) (cond t (line_of w) (Err NotEnded)) in
     let fits = not_longer (length text) MAX_LINE short in
     ap (λ w. whole w (is_ended b)) front
     ∙ ap (λ t. whole text t) is
     ∙ ap (λ t. cond t (Err TooLong) (line_of text)) fits
     ∙ sym (ap (λ t. cond t (Err Field) (line_of text)) fits)
-
--- a recorded line is read as it is with its LF
-pub ended_pair : (text : List ℕ) → length text ≤ MAX_PAIR → ended_pair_of (text ++ 10 ∷ []) ≡ pair_of text
-ended_pair text short =
-    let b : List ℕ = text ++ 10 ∷ [] in
-    let at : length b - 1 ≡ length text = omega (arith, length-append text (10 ∷ [])) in
-    let some : 0 < length b = omega (arith, length-append text (10 ∷ [])) in
-    let last : slice_index b (length b - 1) ≡ 10 = ap (λ k. get_or b k 0) at ∙ get_or-append_seam text 10 [] 0 in
-    let is : is_ended b ≡ true = ended_test (length b) (slice_index b (length b - 1)) some last in
-    let front : without_end b ≡ text = ap (λ t. cond t (take (length b - 1) b) b) is ∙ ap (λ k. take k b) at ∙ take-append_seam text (10 ∷ []) in
-    let whole : List ℕ → Bool → Result Pair LineFault = λ w t. cond (nat_lt MAX_PAIR (length w)) (Err TooLong) (cond t (pair_of w) (Err NotEnded)) in
-    ap (λ w. whole w (is_ended b)) front ∙ ap (λ t. whole text t) is ∙ ap (λ t. cond t (Err TooLong) (pair_of text)) (not_longer (length text) MAX_PAIR short)
-
--- a longer one is a bad field
-pub long_front : (text : List ℕ) → MAX_LINE < length text → front_of text ≡ Err Field
-long_front text lt = ap (λ t. cond t (Err Field) (line_of text)) (longer (length text) MAX_LINE lt)
 
 -- ---- the faults of a line that has ended
 
@@ -71,36 +53,16 @@ field_said : (l : Option Line) (f : LineFault) → or_field l ≡ Err f → IsSa
 field_said None f e = is_said Field f tt (err_is (or_field None) Field f refl e)
 field_said (Some l) f e = cc
 
-by_said : {C : Type 0} (said : Option C → Result Line LineFault) (field : C → Option Line) → said None ≡ Err Unknown → ((c : C) → said (Some c) ≡ or_field (field c))
+by_said : {C : Type 0} (said : Option C → Result Line LineFault) (field : C → Option Line)
+    → said None ≡ Err Unknown → ((c : C) → said (Some c) ≡ or_field (field c))
     → (o : Option C) (f : LineFault) → said o ≡ Err f → IsSaid f
 by_said said field none some None f e = is_said Unknown f tt (err_is (said None) Unknown f none e)
 by_said said field none some (Some c) f e = field_said (field c) f (sym (some c) ∙ e)
 
 line_said : (text : List ℕ) (f : LineFault) → line_of text ≡ Err f → IsSaid f
 unfolding line_of
-line_said text f e = by_said (λ o. said_by o (cut_of text).1) (λ c. line_from c (cut_of text).1) refl (λ c. refl) (command_named (cut_of text).0) f e
-
-answered_said : (l : Line) (a : Option Answer) (f : LineFault) → answered_pair l a ≡ Err f → IsSaid f
-answered_said l None f e = is_said Field f tt (err_is (answered_pair l None) Field f refl e)
-answered_said l (Some a) f e = cc
-
-with_said : (l : Line) (answer : List ℕ) (f : LineFault) → pair_with l answer ≡ Err f → IsSaid f
-with_said (line.Event event) answer f e = answered_said (line.Event event) (answer_of answer) f e
-with_said (line.Register slot) answer f e = cc
-with_said (line.Bank at) answer f e = cc
-with_said line.Settled answer f e = cc
-
-from_said : (l : Result Line LineFault) (answer : List ℕ) (f : LineFault) → ((g : LineFault) → l ≡ Err g → IsSaid g) → pair_from l answer ≡ Err f → IsSaid f
-from_said (Ok l) answer f said e = with_said l answer f e
-from_said (Err g) answer f said e = is_said g f (said g refl) (err_is (pair_from (Err g) answer) g f refl e)
-
-cut_said : (text : List ℕ) (o : Option ℕ) (f : LineFault) → pair_cut text o ≡ Err f → IsSaid f
-cut_said text None f e = is_said Field f tt (err_is (pair_cut text None) Field f refl e)
-cut_said text (Some at) f e = from_said (line_of (take at text)) (drop (at + 4) text) f (λ g. line_said (take at text) g) e
-
-pub pair_said : (text : List ℕ) (f : LineFault) → pair_of text ≡ Err f → IsSaid f
-unfolding pair_of
-pair_said text f e = cut_said text (arrow_in text) f e
+line_said text f e =
+    by_said (λ o. said_by o (cut_of text).1) (λ c. line_from c (cut_of text).1) refl (λ c. refl) (command_named (cut_of text).0) f e
 
 pub front_said : (text : List ℕ) (f : LineFault) → front_of text ≡ Err f → IsSaid f
 front_said text f e = go (nat_lt MAX_LINE (length text)) e
@@ -128,7 +90,8 @@ answered l None = refl
 answered l (Some a) = refl
 
 -- an event with this behind its arrow is a recorded line if this is an answer
-pub recorded : (text : List ℕ) (at : ℕ) (event : Event) → arrow_in text ≡ Some at → front_of (take at text) ≡ Ok (line.Event event) → is_ok (pair_of text) ≡ is_some (answer_of (drop (at + 4) text))
+pub recorded : (text : List ℕ) (at : ℕ) (event : Event) → arrow_in text ≡ Some at → front_of (take at text) ≡ Ok (line.Event event)
+    → is_ok (pair_of text) ≡ is_some (answer_of (drop (at + 4) text))
 unfolding pair_of
 recorded text at event arrow front =
     ap (λ o. is_ok (pair_cut text o)) arrow
@@ -143,7 +106,8 @@ unfolding sheet_line
 line_alone text r none read = ap (sheet_cut text) none ∙ ap unasked (sym read)
 
 -- a line with an arrow at this place
-pub line_predicted : (text : List ℕ) (at : ℕ) (r : Result Line LineFault) → arrow_in text ≡ Some at → r ≡ front_of (take at text) → sheet_line text ≡ predicted r (drop (at + 4) text)
+pub line_predicted : (text : List ℕ) (at : ℕ) (r : Result Line LineFault) → arrow_in text ≡ Some at → r ≡ front_of (take at text)
+    → sheet_line text ≡ predicted r (drop (at + 4) text)
 unfolding sheet_line
 line_predicted text at r arrow read = ap (sheet_cut text) arrow ∙ ap (λ l. predicted l (drop (at + 4) text)) (sym read)
 

@@ -71,7 +71,8 @@ mark a = mark_of a.came a.said
 -- the line as it stands in the sheet, and below it what came, and why
 abbrev pub told : ℕ → List ℕ → Came → List ℕ
 told number text came =
-    codes "line " ++ (decimal number ++ (codes ": " ++ (text ++ (codes "\n  is " ++ (full_text came ++ (why_text came ++ line_feed ∷ []))))))
+    codes "line "
+    ++ (decimal number ++ (codes ": " ++ (text ++ (codes "\n  is " ++ (full_text came ++ (why_text came ++ line_feed ∷ []))))))
 
 abbrev pub told_if : Mark → List ℕ → List ℕ
 told_if Right text = []
@@ -155,4 +156,5 @@ grade_text report score = report ++ (score_text score ++ line_feed ∷ [])
 abbrev pub GradesOne : ℕ → MachineState → List ℕ → Line → Option (List ℕ) → List ℕ → Score → MachineState → List ℕ → Score → Type 0
 GradesOne number m text line None report score m' report' score' = (m' ≡ after_line m line) × (report' ≡ report) × (score' ≡ score)
 GradesOne number m text line (Some said) report score m' report' score' =
-    (m' ≡ after_line m line) × (report' ≡ report ++ told_if (mark_of (came_of m line) said) (told number text (came_of m line))) × (score' ≡ with_mark score (mark_of (came_of m line) said))
+    (m' ≡ after_line m line) × (report' ≡ report ++ told_if (mark_of (came_of m line) said) (told number text (came_of m line))) × (score'
+    ≡ with_mark score (mark_of (came_of m line) said))

@@ -7,7 +7,8 @@ pub returns-clause-line : goal.returns-clause-line
 returns-clause-line c =
     let text = c.args.text.now in
     let ended : c.as_bytes.result.now ≡ text ++ 10 ∷ [] =
-    c.as_bytes.ensures.bytes ∙ c.push.ensures.text ∙ ap (λ l. l ++ 10 ∷ []) (c.push_bytes.ensures.text ∙ ap (λ l. l ++ text) c.new-ended.ensures) in
+    c.as_bytes.ensures.bytes ∙ c.push.ensures.text
+    ∙ ap (λ l. l ++ 10 ∷ []) (c.push_bytes.ensures.text ∙ ap (λ l. l ++ text) c.new-ended.ensures) in
     c.read_line.ensures ∙ ap ended_line_of ended ∙ ended_front text (omega (arith, c.if-text-gt-MAX_LINE.false))
 
 pub returns-clause-fault : goal.returns-clause-fault

@@ -14,8 +14,11 @@ returns-then-may_be_predicted-clause-ok c =
     let at = c.args.at in
     let line = c.in-Ok.line in
     let all : take (length text - (at + 4)) (drop (at + 4) text) ≡ drop (at + 4) text = grind (arith, common_steps) in
-    let is : is_prediction line (drop (at + 4) text) ≡ true = ap (is_prediction line) (sym all) ∙ sym c.may_be_predicted.ensures ∙ c.if-may_be_predicted.true in
-    line_predicted text at (Ok line) c.requires.arrow c.in-Ok.ensures.line ∙ with_prediction line (drop (at + 4) text) is ∙ ap (λ s. Ok (line, Some s)) (sym all)
+    let is : is_prediction line (drop (at + 4) text) ≡ true =
+    ap (is_prediction line) (sym all) ∙ sym c.may_be_predicted.ensures ∙ c.if-may_be_predicted.true in
+    line_predicted text at (Ok line) c.requires.arrow c.in-Ok.ensures.line
+    ∙ with_prediction line (drop (at + 4) text) is
+    ∙ ap (λ s. Ok (line, Some s)) (sym all)
 
 pub returns-else-may_be_predicted-clause-fault : goal.returns-else-may_be_predicted-clause-fault
 returns-else-may_be_predicted-clause-fault c =
@@ -23,5 +26,6 @@ returns-else-may_be_predicted-clause-fault c =
     let at = c.args.at in
     let line = c.in-Ok.line in
     let all : take (length text - (at + 4)) (drop (at + 4) text) ≡ drop (at + 4) text = grind (arith, common_steps) in
-    let is : is_prediction line (drop (at + 4) text) ≡ false = ap (is_prediction line) (sym all) ∙ sym c.may_be_predicted.ensures ∙ c.if-may_be_predicted.false in
+    let is : is_prediction line (drop (at + 4) text) ≡ false =
+    ap (is_prediction line) (sym all) ∙ sym c.may_be_predicted.ensures ∙ c.if-may_be_predicted.false in
     (line_predicted text at (Ok line) c.requires.arrow c.in-Ok.ensures.line ∙ without_prediction line (drop (at + 4) text) is, tt)

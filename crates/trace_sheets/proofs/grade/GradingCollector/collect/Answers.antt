@@ -12,7 +12,8 @@ returns-in-None-clause-kept g c start texts number went =
     let old = c.args.self.now in
     let line = c.in-Ok.read.0 in
     let says = c.in-Ok.ensures.ok ∙ ap (λ said. Ok (line, option_map (λ s. s.now) said)) c.in-None.is in
-    graded_more went c.args.text.now c.args.number line None _ old.report.now.items old.score number says (c.new-came.ensures.after, refl, refl)
+    graded_more went c.args.text.now c.args.number line None _ old.report.now.items old.score number says
+    (c.new-came.ensures.after, refl, refl)
 
 pub returns-in-Ok-mark-clause-kept : goal.returns-in-Ok-mark-clause-kept
 returns-in-Ok-mark-clause-kept g c start texts number went =
