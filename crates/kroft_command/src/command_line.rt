@@ -40,6 +40,8 @@ pub(crate) enum Task {
     },
     /// Judge its lines up to the first that flat memory doesn't explain, and say why.
     Explain,
+    /// Grade the predictions that stand behind its lines.
+    Grade,
     /// Drive its requests in rounds.
     Drive {
         /// How long a bank takes for a command.
@@ -279,6 +281,7 @@ fn task_of(subcommand: Subcommand, rest: &ArgMatches<'_>) -> Task
         Subcommand::Check => Task::Check,
         Subcommand::Sweep => sweep_task(rest),
         Subcommand::Explain => Task::Explain,
+        Subcommand::Grade => Task::Grade,
         Subcommand::Drive => drive_task(rest),
         Subcommand::Requests => requests_task(rest),
         Subcommand::Show => show_task(rest),

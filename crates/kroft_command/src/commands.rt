@@ -1,8 +1,8 @@
 //! The program's commands: their words, their options, and what their help says.
 
 use crate::notes::{
-    CHECK_NOTES, DRIVE_NOTES, EXPLAIN_NOTES, HISTORY_NOTES, PROGRAM_NOTES, REQUESTS_NOTES,
-    RUN_NOTES, SHOW_NOTES, SWEEP_NOTES,
+    CHECK_NOTES, DRIVE_NOTES, EXPLAIN_NOTES, GRADE_NOTES, HISTORY_NOTES, PROGRAM_NOTES,
+    REQUESTS_NOTES, RUN_NOTES, SHOW_NOTES, SWEEP_NOTES,
 };
 use access_logs::MAX_WORDS;
 use clap::{Arg, ArgAction, Command};
@@ -28,6 +28,7 @@ pub(crate) enum Subcommand {
     Check,
     Sweep,
     Explain,
+    Grade,
     Drive,
     Requests,
     Show,
@@ -35,11 +36,12 @@ pub(crate) enum Subcommand {
 }
 
 /// The commands, in the order in which help lists them.
-const SUBCOMMANDS: [Subcommand; 8] = [
+const SUBCOMMANDS: [Subcommand; 9] = [
     Subcommand::Run,
     Subcommand::Check,
     Subcommand::Sweep,
     Subcommand::Explain,
+    Subcommand::Grade,
     Subcommand::Drive,
     Subcommand::Requests,
     Subcommand::Show,
@@ -54,6 +56,7 @@ impl Subcommand {
             "check" => Some(Subcommand::Check),
             "sweep" => Some(Subcommand::Sweep),
             "explain" => Some(Subcommand::Explain),
+            "grade" => Some(Subcommand::Grade),
             "drive" => Some(Subcommand::Drive),
             "requests" => Some(Subcommand::Requests),
             "show" => Some(Subcommand::Show),
@@ -69,6 +72,7 @@ impl Subcommand {
             Subcommand::Check => "check",
             Subcommand::Sweep => "sweep",
             Subcommand::Explain => "explain",
+            Subcommand::Grade => "grade",
             Subcommand::Drive => "drive",
             Subcommand::Requests => "requests",
             Subcommand::Show => "show",
@@ -83,6 +87,7 @@ impl Subcommand {
             Subcommand::Check => "kroft check",
             Subcommand::Sweep => "kroft sweep",
             Subcommand::Explain => "kroft explain",
+            Subcommand::Grade => "kroft grade",
             Subcommand::Drive => "kroft drive",
             Subcommand::Requests => "kroft requests",
             Subcommand::Show => "kroft show",
@@ -94,6 +99,7 @@ impl Subcommand {
     pub(crate) fn input(self) -> &'static str {
         match self {
             Subcommand::Check | Subcommand::Explain => "the recorded run",
+            Subcommand::Grade => "the sheet",
             Subcommand::Requests => "the log",
             Subcommand::History => "the history",
             _ => "the trace",
@@ -107,6 +113,7 @@ impl Subcommand {
             Subcommand::Check => "Tell whether a recorded run is one of flat memory",
             Subcommand::Sweep => "Count what requests wait for with 1, 2, 4 and 8 registers",
             Subcommand::Explain => "Say why a recorded run is none of flat memory",
+            Subcommand::Grade => "Grade predicted answers by those of the machine",
             Subcommand::Drive => "Drive requests in rounds, with a latency of memory",
             Subcommand::Requests => "Write the loads and stores of a log of accesses as a trace",
             Subcommand::Show => "Draw the machine at each event of a trace, as a page",
@@ -121,6 +128,7 @@ impl Subcommand {
             Subcommand::Check => CHECK_NOTES,
             Subcommand::Sweep => SWEEP_NOTES,
             Subcommand::Explain => EXPLAIN_NOTES,
+            Subcommand::Grade => GRADE_NOTES,
             Subcommand::Drive => DRIVE_NOTES,
             Subcommand::Requests => REQUESTS_NOTES,
             Subcommand::Show => SHOW_NOTES,
@@ -324,7 +332,7 @@ fn push_own_options<'a>(
     takes_file: bool,
 ) -> Result<(), AllocError> {
     match subcommand {
-        Subcommand::Run | Subcommand::Check | Subcommand::Explain => Ok(()),
+        Subcommand::Run | Subcommand::Check | Subcommand::Explain | Subcommand::Grade => Ok(()),
         Subcommand::Sweep => push_sweep(alloc, args),
         Subcommand::Drive => push_drive(alloc, args),
         Subcommand::Requests => push_requests(alloc, args, takes_file),

@@ -6,8 +6,8 @@ A fault is one line on standard error. `kroft run --help` lists the lines of a t
 
 Statuses:
   0  done, or help was asked for
-  1  check or explain found an answer that flat memory doesn't explain, or history one that its law
-     doesn't allow
+  1  check or explain found an answer that flat memory doesn't explain, grade a wrong prediction, or
+     history an answer that its law doesn't allow
   2  the command line is wrong
   3  the shape file is wrong
   4  the input is wrong, or a stream failed
@@ -75,6 +75,8 @@ most 768 bytes.
 Writes 'flat run, N steps', or 'mismatch at line N' for the first line that flat memory
 doesn't explain. Flat memory is words with no cache: a load is owed the word as it stood when the
 load was accepted. Memory begins with zeros; of a shape file only the words matter.
+It is no grader: a flat run may be none of this machine, since most answers ('accepted', 'refused 7',
+'moved') are those of some cache. 'kroft grade' compares predictions with the machine's own answers.
 
 Statuses: 0 the run is flat, 1 it isn't, 2 the command line is wrong, 3 the shape file is wrong,
 4 a line is faulty or a stream failed, 5 there is too little memory.
@@ -123,6 +125,28 @@ Example:
   $ echo 'take 0 -> value 1 00000000' | kroft explain
   mismatch at line 1: take 0 -> value 1 00000000
   tag 1 is owed nothing: it was never loaded";
+
+pub(crate) const GRADE_NOTES: &str =
+    "Reads a sheet from standard input: a trace ('kroft run --help' lists its lines) whose lines may have
+' -> ' and a predicted answer behind them:
+  accepted, moved, nothing, refused N (1 to 13), value TAG WORD
+  accepted hit, accepted join, accepted miss   the request's word is at hand, is on its way, or no
+                                               frame holds its block
+  ?                                            open: nothing is predicted yet
+Behind 'reg', 'bank' and 'settled' stands what 'run' would show, as any printable text. A line without
+' -> ' is served, and nothing is asked of it. A line has at most 768 bytes, and 64 before its ' -> '.
+The machine runs on by its own answers, whatever was predicted.
+Writes each wrong line with its number, and below it what the answer is, and why; and at the end how
+many of all predictions are right, and how many are open. What is open isn't wrong.
+
+Statuses: 0 no prediction is wrong, 1 some are, 2 the command line is wrong, 3 the shape file is wrong,
+4 a line is faulty or a stream failed, 5 there is too little memory.
+
+Example:
+  $ printf 'load 1 4 -> accepted hit\\nload 2 5 -> accepted join\\n' | kroft grade
+  line 1: load 1 4 -> accepted hit
+    is accepted miss: a register is taken, and the block's words are asked for
+  1 of 2 right, 0 open";
 
 pub(crate) const DRIVE_NOTES: &str =
     "Reads a trace from standard input ('kroft run --help' lists its lines), keeps its

@@ -25,7 +25,7 @@ use std::{fmt, io};
 use trace_text::TraceFault;
 
 /// Does what the words behind the program's name ask for, and gives the status that the program
-/// ends with: 0 done, 1 a mismatch was found, 2 the words were refused, 3 a fault of the shape
+/// ends with: 0 done, 1 a mismatch or a wrong prediction was found, 2 the words were refused, 3 a fault of the shape
 /// file, 4 a fault of the trace or a failed write of the output, 5 want of memory or the turn limit
 /// of a sweep, 6 a history of which it can't be told. A fault is told in one line on `errors`.
 pub fn tool<R: AllocGlobal + Files + Threads + Sync, I: Read, O: Write, E: Write>(
@@ -105,6 +105,7 @@ fn perform<R: AllocGlobal + Files + Threads + Sync, I: Read, O: Write>(
         Task::Check => check(rt.alloc(), &shape, input, output)?,
         Task::Sweep { timing } => sweep(rt, &shape, timing, input, output)?,
         Task::Explain => explain(rt.alloc(), &shape, input, output)?,
+        Task::Grade => grade(rt.alloc(), &shape, input, output)?,
         Task::Drive { timing, summary } => {
             drive(rt.alloc(), &shape, timing, summary, input, output)?
         }
@@ -182,6 +183,22 @@ fn explain<I: Read, O: Write>(
     put(output, format_args!("{explanation}\n"))?;
     finish(output)?;
     Ok(explanation.status())
+}
+
+// Grades a sheet.
+fn grade<I: Read, O: Write>(
+    alloc: Global,
+    tool: &ToolShape,
+    input: &mut I,
+    output: &mut O,
+) -> Result<u8, JobFault>
+    ensures { IfOk result (λ status. status ≤ 1) }
+{
+    if let Some(field) = bad_field(tool) {
+        return Err(JobFault::Shape(ShapeFault::BadShape(field)));
+    }
+    let score = kroft_jobs::grade(alloc, tool, input, output)?;
+    Ok(score.status())
 }
 
 // Drives the requests in rounds, and writes the run or what it counts.

@@ -1,3 +1,4 @@
 pub mod Jobs
 pub mod Driving
+pub mod Grading
 pub mod Sweeping
