@@ -106,7 +106,7 @@ all_stand k es e f a b s = record {
     | inl p ↦ inl p
     | inr p ↦
         let unit : UnitPlace = unit_at k.size j in
-        inr (p.0, unit_stands (untouched k.image k.rest unit) unit (k.units j) es e f a b p.1, p.2)
+        inr (p.0, (unit_stands (untouched k.image k.rest unit) unit (k.units j) es e f a b p.1.0, p.1.1))
   ];
 }
 
