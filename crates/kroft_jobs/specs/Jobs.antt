@@ -1,5 +1,5 @@
 -- What a job does, and how it ends.
-use Rattle.std.specs.Prelude.{ℕ, Option, Some, None, List, ◌++◌, map, codes, decimal}
+use Rattle.std.specs.Prelude.{ℕ, List, ◌++◌, map, codes, decimal}
 use Rattle.trace_text.specs.declared.check.CheckEnd.{CheckEnd}
 use Rattle.trace_text.specs.declared.check.CheckEnd.TheVariants.{Flat, Mismatch}
 use Rattle.trace_text.specs.declared.fault.TraceFault.{TraceFault}
@@ -9,6 +9,7 @@ use Rattle.shape_files.specs.declared.shape_file.ToolShape.{ToolShape}
 use Rattle.shape_files.specs.declared.shape_file.ShapeFault.{ShapeFault}
 use Rattle.shape_files.specs.declared.shape_file.ShapeFault.TheVariants as shape
 use Rattle.shape_files.specs.ShapeFile.{fault_text as shape_text}
+use Rattle.trace_text.specs.Faults.{trace_fault_text}
 use Rattle.register_sweeps.specs.declared.sweeps.SweepFault.{SweepFault}
 use Rattle.register_sweeps.specs.declared.sweeps.SweepFault.TheVariants as sweep
 use Rattle.run_pictures.specs.declared.drawn.TheConstants.{MOST_EVENTS}
@@ -43,14 +44,14 @@ status_of TooManyEvents = 4
 status_of TurnLimit = 5
 status_of OutOfMemory = 5
 
--- what is told of a fault, but for what the fault of a trace says of itself
-abbrev pub fault_text : JobFault → Option (List ℕ)
-fault_text ShapeUnreadable = Some (codes "shape: file not readable")
-fault_text (Shape fault) = Some (shape_text fault)
-fault_text (Trace fault) = None
-fault_text TooManyEvents = Some (codes "too many events: " ++ decimal MOST_EVENTS ++ codes " at most are shown")
-fault_text TurnLimit = Some (codes "turn limit")
-fault_text OutOfMemory = Some (codes "out of memory")
+-- what is told of a fault
+abbrev pub fault_text : JobFault → List ℕ
+fault_text ShapeUnreadable = codes "shape: file not readable"
+fault_text (Shape fault) = shape_text fault
+fault_text (Trace fault) = trace_fault_text fault
+fault_text TooManyEvents = codes "too many events: " ++ decimal MOST_EVENTS ++ codes " at most are shown"
+fault_text TurnLimit = codes "turn limit"
+fault_text OutOfMemory = codes "out of memory"
 
 -- want of memory is told alike, wherever it was found
 abbrev pub of_shape : ShapeFault → JobFault

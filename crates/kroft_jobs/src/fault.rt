@@ -31,9 +31,10 @@ pub enum JobFault {
 impl Error for JobFault {}
 
 impl fmt::Display for JobFault {
+    ghost use Rattle.std.specs.Prelude.{Some};
     ghost use Rattle.kroft_jobs.specs.Jobs.{fault_text};
 
-    ghost output = { fault_text };
+    ghost output = { λ fault. Some (fault_text fault) };
 
     fn fmt<W: fmt::Write>(&self, f: &mut fmt::Formatter<W>) -> fmt::Result {
         match self {
