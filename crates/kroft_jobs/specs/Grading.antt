@@ -31,4 +31,4 @@ abbrev pub GradesAll : {R W : Type 0} (gave : R → List ℕ → R → Type 0) (
 GradesAll gave failed took refused unflushed m input input' output output' (Ok score) =
     (texts : List (List ℕ)) × (after : MachineState) × (report : List ℕ) × ReadWhole gave sheet_fault MAX_PAIR input input' texts × Graded m texts after report score × IsWritten took refused unflushed (grade_text report score) output output' (Ok score)
 GradesAll gave failed took refused unflushed m input input' output output' (Err e) =
-    (ReadFails gave failed sheet_fault MAX_PAIR input input' e × (output' ≡ output)) ⊎ ((texts : List (List ℕ)) × (after : MachineState) × (report : List ℕ) × (score : Score) × ReadWhole gave sheet_fault MAX_PAIR input input' texts × Graded m texts after report score × IsWritten {Score} took refused unflushed (grade_text report score) output output' (Err e))
+    (ReadFails gave failed sheet_fault MAX_PAIR input input' e × (output' ≡ output)) ⊎ ((texts : List (List ℕ)) × (after : MachineState) × (report : List ℕ) × (score : Score) × ReadWhole gave sheet_fault MAX_PAIR input input' texts × Graded m texts after report score × IsWritten {X = Score} took refused unflushed (grade_text report score) output output' (Err e))
