@@ -1,5 +1,5 @@
--- One more run for a port: its list is empty and it hasn't ended well, as those before it.
-use Rattle.std.proofs.Common.{◌≡◌, List, [], ◌∷◌, ◌++◌, suc, zero, arith, IsErr}
+-- One more run for a port: its list is empty, as those before it.
+use Rattle.std.proofs.Common.{◌≡◌, List, [], ◌∷◌, ◌++◌, suc, zero, arith}
 use Rattle.std.specs.List.{All}
 use Rattle.std.proofs.lemmas.List.Elements.{All-append}
 use Rattle.ring_station.specs.declared.crew.PortRun.{PortRun}
@@ -11,7 +11,3 @@ all_of_one P x here (suc k) d less = absurd (omega arith)
 pub still_empty : (runs : List PortRun) (run : PortRun) → All (λ r. r.list.items ≡ []) runs → run.list.items ≡ []
     → All (λ r. r.list.items ≡ []) (runs ++ run ∷ [])
 still_empty runs run before here = All-append (λ r. r.list.items ≡ []) runs (run ∷ []) before (all_of_one (λ r. r.list.items ≡ []) run here)
-
-pub still_not_ended : (runs : List PortRun) (run : PortRun) → All (λ r. IsErr r.end) runs → IsErr run.end
-    → All (λ r. IsErr r.end) (runs ++ run ∷ [])
-still_not_ended runs run before here = All-append (λ r. IsErr r.end) runs (run ∷ []) before (all_of_one (λ r. IsErr r.end) run here)

@@ -1,6 +1,6 @@
 -- From what each thread did to what a run did of the station.
 use Rattle.std.proofs.Common.{◌≡◌, ℕ, ◌<◌, ◌≤◌, List, [], ◌∷◌, ◌++◌, length, map, slice_index_or, refl, sym, ap, ap₂, ◌∙◌, subst, arith, suc, zero}
-use Rattle.std.specs.Prelude.{vec_len, IsOk, OnOk, Result, Ok, Err}
+use Rattle.std.specs.Prelude.{vec_len, Result, Ok, Err, OnErr}
 use Rattle.std.specs.Global.{Vec}
 use Rattle.std.specs.List.{All}
 use Rattle.std.proofs.Math.ListN.{get_or-map}
@@ -18,56 +18,127 @@ use Rattle.station_parts.specs.Runs.{list_in, HaveConversed}
 use Rattle.station_journal.specs.Conversation.{Converses}
 use Rattle.ring_station.specs.declared.crew.PortRun.{PortRun}
 use Rattle.ring_station.specs.declared.crew.BankRun.{BankRun}
-use Rattle.ring_station.specs.declared.fault.RunFault.TheVariants.{TurnLimit}
-use Rattle.ring_station.specs.PortRuns.{HasRun, HaveRun}
-use Rattle.ring_station.specs.Crew.{EachRanScript, EachServed}
+use Rattle.ring_station.specs.declared.thread_end.ThreadEnd.{ThreadEnd}
+use Rattle.ring_station.specs.PortRuns.{HasRun, HaveRun, PortRan, PortsRan}
+use Rattle.ring_station.specs.PartRuns.{BankRan, BanksRan, CacheRan}
+use Rattle.ring_station.specs.Crew.{EachRanScript, EachIsSame, EachServed}
 
 -- lists that agree at each place in what f shows
-map_alike : {X Y Z : Type 0} (f : Y → Z) (g : X → Y) (old new : List X) → length new ≡ length old
-    → ((p : ℕ) (d : X) → p < length old → f (g (slice_index_or new p d)) ≡ f (g (slice_index_or old p d)))
-    → map f (map g new) ≡ map f (map g old)
-map_alike f g [] [] number each = refl
-map_alike f g [] (y ∷ ys) number each = absurd (omega arith)
-map_alike f g (x ∷ xs) [] number each = absurd (omega arith)
-map_alike f g (x ∷ xs) (y ∷ ys) number each =
-    ap₂ (λ a b. a ∷ b) (each 0 x (omega arith)) (map_alike f g xs ys (omega arith) (λ p d less. each (suc p) d (omega arith)))
+pub map_same : {X Y : Type 0} (f : X → Y) (old new : List X) → length new ≡ length old
+    → ((p : ℕ) (d : X) → p < length old → f (slice_index_or new p d) ≡ f (slice_index_or old p d))
+    → map f new ≡ map f old
+map_same f [] [] number each = refl
+map_same f [] (y ∷ ys) number each = absurd (omega arith)
+map_same f (x ∷ xs) [] number each = absurd (omega arith)
+map_same f (x ∷ xs) (y ∷ ys) number each =
+    ap₂ (λ a b. a ∷ b) (each 0 x (omega arith)) (map_same f xs ys (omega arith) (λ p d less. each (suc p) d (omega arith)))
 
-default_of : {X : Type 0} (xs : List X) (p : ℕ) → p < length xs → X
+pub default_of : {X : Type 0} (xs : List X) (p : ℕ) → p < length xs → X
 default_of [] p less = absurd (omega arith)
 default_of (x ∷ xs) p less = x
 
-port_ids_kept : (scripts : List (Vec Ask)) (old new : List PortRun) (ports ports' : List Port) → length scripts ≡ length old
-    → EachRanScript scripts old new → map (λ r. r.port) old ≡ ports → ports' ≡ map (λ r. r.port) new
-    → map port_id ports' ≡ map port_id ports
-port_ids_kept scripts old new ports ports' count ran before after =
-    let each : (p : ℕ) (d : PortRun) → p < length old → port_id (slice_index_or new p d).port ≡ port_id (slice_index_or old p d).port =
-    λ p d less. (ran.each p (default_of scripts p (subst (λ n. p < n) (sym count) less)) d less).same in
-    ap (λ l. map port_id l) after
-    ∙ map_alike port_id (λ (r : PortRun). r.port) old new ran.number each
-    ∙ ap (λ l. map port_id l) before
+-- a list by what f shows of another one
+at_place : {X Y : Type 0} (f : X → Y) (xs : List X) (ys : List Y) → ys ≡ map f xs → (p : ℕ) (d : X)
+    → f (slice_index_or xs p d) ≡ slice_index_or ys p (f d)
+at_place f xs ys e p d = sym (get_or-map f xs p d) ∙ ap (λ l. slice_index_or l p (f d)) (sym e)
 
-bank_ids_kept : (old new : List BankRun) (banks banks' : List BankSide) → EachServed old new → map (λ r. r.bank) old ≡ banks
-    → banks' ≡ map (λ r. r.bank) new → map bank_id banks' ≡ map bank_id banks
-bank_ids_kept old new banks banks' served before after =
-    ap (λ l. map bank_id l) after
-    ∙ map_alike bank_id (λ (r : BankRun). r.bank) old new served.number served.each
-    ∙ ap (λ l. map bank_id l) before
+long_as : {X Y : Type 0} (f : X → Y) (xs : List X) (ys : List Y) → ys ≡ map f xs → length ys ≡ length xs
+long_as f xs ys e = ap length e ∙ length-map xs f
 
--- the ports that come back from their runs are those that went, and so are the banks
-pub ports_back : (scripts : List (Vec Ask)) (ports went back : Vec Port) (runs : Vec PortRun) (new : List PortRun)
-    → length scripts ≡ vec_len ports → went ≡ ports → map (λ r. r.port) runs.items ≡ went.items → EachRanScript scripts runs.items new
-    → back.items ≡ map (λ r. r.port) new → map port_id back.items ≡ map port_id ports.items
-ports_back scripts ports went back runs new count same enlisted ran dismissed =
-    let before : map (λ (r : PortRun). r.port) runs.items ≡ ports.items = enlisted ∙ ap (λ (v : Vec Port). v.items) same in
-    let a : length runs.items ≡ length ports.items = simp length-map at (ap length before) in
-    let b : vec_len ports ≡ length ports.items = ports.ok.0 in
-    port_ids_kept scripts runs.items new ports.items back.items (omega (arith, a, b, count)) ran before dismissed
+-- ---- the ports and banks that come back from their runs
 
-pub banks_back : (banks went back : Vec BankSide) (runs : Vec BankRun) (new : List BankRun) → went ≡ banks
-    → map (λ r. r.bank) runs.items ≡ went.items → EachServed runs.items new → back.items ≡ map (λ r. r.bank) new
-    → map bank_id back.items ≡ map bank_id banks.items
-banks_back banks went back runs new same enlisted served dismissed =
-    bank_ids_kept runs.items new banks.items back.items served (enlisted ∙ ap (λ (v : Vec BankSide). v.items) same) dismissed
+pub ports_back : (scripts : List (Vec Ask)) (turns : ℕ) (runs new : List PortRun) (ports back : List Port) (lists : List (Vec Told))
+    (ends : List ThreadEnd) → ports ≡ map (λ r. r.port) runs → EachRanScript scripts turns runs new → back ≡ map (λ r. r.port) new
+    → lists ≡ map (λ r. r.list) new → ends ≡ map (λ r. r.end) new → PortsRan scripts turns ports back lists ends
+ports_back scripts turns runs new ports back lists ends went ran came took ended =
+    let port : PortRun → Port = λ r. r.port in
+    let list : PortRun → Vec Told = λ r. r.list in
+    let end : PortRun → ThreadEnd = λ r. r.end in
+    let count : length new ≡ length ports = ran.number ∙ sym (long_as port runs ports went) in
+    record {
+      number = long_as port new back came ∙ count;
+      listed = long_as list new lists took ∙ count;
+      ended = long_as end new ends ended ∙ count;
+      each = λ p s d l e less.
+          let run : PortRun = record { port = d; list = l; end = e } in
+          let there : p < length runs = subst (λ n. p < n) (long_as port runs ports went) less in
+          let script = (slice_index_or scripts p s).items in
+          let h = ran.each p s run there in
+          let x = slice_index_or runs p run in
+          let y = slice_index_or new p run in
+          subst (λ a. PortRan script turns a (slice_index_or back p d) (slice_index_or lists p l).items (slice_index_or ends p e))
+          (at_place port runs ports went p run)
+          (subst (λ a. PortRan script turns x.port a (slice_index_or lists p l).items (slice_index_or ends p e))
+          (at_place port new back came p run)
+          (subst (λ (a : Vec Told). PortRan script turns x.port y.port a.items (slice_index_or ends p e))
+          (at_place list new lists took p run)
+          (subst (λ a. PortRan script turns x.port y.port y.list.items a) (at_place end new ends ended p run) h)));
+    }
+
+pub banks_back : (turns : ℕ) (runs new : List BankRun) (banks back : List BankSide) (ends : List ThreadEnd)
+    → banks ≡ map (λ r. r.bank) runs → EachServed turns runs new → back ≡ map (λ r. r.bank) new → ends ≡ map (λ r. r.end) new
+    → BanksRan turns banks back ends
+banks_back turns runs new banks back ends went served came ended =
+    let bank : BankRun → BankSide = λ r. r.bank in
+    let end : BankRun → ThreadEnd = λ r. r.end in
+    let count : length new ≡ length banks = served.number ∙ sym (long_as bank runs banks went) in
+    record {
+      number = long_as bank new back came ∙ count;
+      ended = long_as end new ends ended ∙ count;
+      each = λ b d e less.
+          let run : BankRun = record { bank = d; end = e } in
+          let there : b < length runs = subst (λ n. b < n) (long_as bank runs banks went) less in
+          let h = served.each b run there in
+          let x = slice_index_or runs b run in
+          let y = slice_index_or new b run in
+          subst (λ a. BankRan turns a (slice_index_or back b d) (slice_index_or ends b e)) (at_place bank runs banks went b run)
+          (subst (λ a. BankRan turns x.bank a (slice_index_or ends b e)) (at_place bank new back came b run)
+          (subst (λ a. BankRan turns x.bank y.bank a) (at_place end new ends ended b run) h));
+    }
+
+-- runs that haven't begun give back the ports that they were given
+pub ports_unmoved : (runs new : List PortRun) (ports back : List Port) → ports ≡ map (λ r. r.port) runs → EachIsSame runs new
+    → back ≡ map (λ r. r.port) new → back ≡ ports
+ports_unmoved runs new ports back went same came =
+    came ∙ map_same (λ (r : PortRun). r.port) runs new same.number (λ p d less. (same.each p d less).port) ∙ sym went
+
+pub banks_unmoved : (runs new : Vec BankRun) (banks back : List BankSide) → banks ≡ map (λ r. r.bank) runs.items → new ≡ runs
+    → back ≡ map (λ r. r.bank) new.items → back ≡ banks
+banks_unmoved runs new banks back went same came =
+    came ∙ ap (λ (v : Vec BankRun). map (λ (r : BankRun). r.bank) v.items) same ∙ sym went
+
+pub same_shown : {X Y : Type 0} (f : X → Y) (new old : List X) → new ≡ old → map f new ≡ map f old
+same_shown f new old e = ap (λ l. map f l) e
+
+pub on_err : {A E P : Type 0} (r : Result A E) → P → OnErr r P
+on_err (Ok x) p = tt
+on_err (Err e) p = p
+
+pub same_id : {W B R D : ℕ} (new old : CacheSide W B R D) → new ≡ old → cache_id new ≡ cache_id old
+same_id new old e = ap (λ c. cache_id c) e
+
+-- a thread of as many ports
+pub cache_counted : {W B R D : ℕ} (n m turns : ℕ) (old new : CacheSide W B R D) (end : ThreadEnd) → n ≡ m
+    → CacheRan n turns old new end → CacheRan m turns old new end
+cache_counted n m turns old new end e h = subst (λ x. CacheRan x turns old new end) e h
+
+-- ---- what they keep
+
+pub port_ids : (scripts : List (Vec Ask)) (turns : ℕ) (old new : List Port) (lists : List (Vec Told)) (ends : List ThreadEnd)
+    → length scripts ≡ length old → PortsRan scripts turns old new lists ends → map port_id new ≡ map port_id old
+port_ids scripts turns old new lists ends count ran =
+    map_same port_id old new ran.number
+    (λ p d less.
+    let s = default_of scripts p (subst (λ n. p < n) (sym count) less) in
+    let l = default_of lists p (subst (λ n. p < n) (sym ran.listed) less) in
+    let e = default_of ends p (subst (λ n. p < n) (sym ran.ended) less) in
+    (ran.each p s d l e less).same)
+
+pub bank_ids : (turns : ℕ) (old new : List BankSide) (ends : List ThreadEnd) → BanksRan turns old new ends
+    → map bank_id new ≡ map bank_id old
+bank_ids turns old new ends ran =
+    map_same bank_id old new ran.number
+    (λ b d less. let e = default_of ends b (subst (λ n. b < n) (sym ran.ended) less) in (ran.each b d e less).same)
 
 -- parts that keep what they keep are still those of one station
 pub one_station_kept : {W B R D : ℕ} (cache cache' : CacheSide W B R D) (ports ports' : List Port) (banks banks' : List BankSide)
@@ -77,36 +148,6 @@ one_station_kept cache cache' ports ports' banks banks' c p b h =
     subst (λ x. BelongTogether x (map port_id ports') (map bank_id banks')) (sym c)
     (subst (λ x. BelongTogether (cache_id cache) x (map bank_id banks')) (sym p)
     (subst (λ x. BelongTogether (cache_id cache) (map port_id ports) x) (sym b) h))
-
-ok_then : {A E : Type 0} (r : Result A E) (P : Type 0) → IsOk r → OnOk r P → P
-ok_then (Ok x) P ok h = h
-ok_then (Err e) P ok h = cc
-
-run_at : (script : List Ask) (x x' y y' : Port) (list list' : List Told) → x ≡ x' → y ≡ y' → list ≡ list' → HasRun script x y list
-    → HasRun script x' y' list'
-run_at script x x' y y' list list' a b c h = rw (← a, ← b, ← c) h
-
--- where all runs came to their end, the ports have run
-pub have_run : (scripts : List (Vec Ask)) (old new : List PortRun) (ports ports' : List Port) (lists : List (Vec Told))
-    → map (λ r. r.port) old ≡ ports → EachRanScript scripts old new → All (λ r. IsOk r.end) new → ports' ≡ map (λ r. r.port) new
-    → lists ≡ map (λ r. r.list) new → HaveRun scripts ports ports' lists
-have_run scripts old new ports ports' lists before ran ends after taken = record {
-  number = ap length taken ∙ length-map new (λ (r : PortRun). r.list) ∙ ran.number ∙ sym (length-map old (λ (r : PortRun). r.port))
-      ∙ ap length before;
-  each = λ p s d l less.
-      let run : PortRun = record { port = d; list = l; end = Err TurnLimit } in
-      let there : p < length old = subst (λ n. p < n) (sym (ap length before) ∙ length-map old (λ (r : PortRun). r.port)) less in
-      let still : p < length new = subst (λ n. p < n) (sym ran.number) there in
-      let h = ran.each p s run there in
-      let script = (slice_index_or scripts p s).items in
-      let x = slice_index_or old p run in
-      let y = slice_index_or new p run in
-      run_at script x.port (slice_index_or ports p d) y.port (slice_index_or ports' p d) y.list.items (slice_index_or lists p l).items
-      (sym (get_or-map (λ (r : PortRun). r.port) old p run) ∙ ap (λ ps. slice_index_or ps p d) before)
-      (sym (get_or-map (λ (r : PortRun). r.port) new p run) ∙ ap (λ ps. slice_index_or ps p d) (sym after))
-      (ap (λ (v : Vec Told). v.items) (sym (get_or-map (λ (r : PortRun). r.list) new p run) ∙ ap (λ ps. slice_index_or ps p l) (sym taken)))
-      (ok_then y.end (HasRun script x.port y.port y.list.items) (ends p run still) h.ran);
-}
 
 -- what a row has at a place, by what f shows of it
 shown_at : {X Y : Type 0} (f : X → Y) (e : Y) (xs : List X) (p : ℕ) (d : X) → p < length xs

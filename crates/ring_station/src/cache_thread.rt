@@ -1,19 +1,21 @@
 //! The cache side's thread.
-ghost use Rattle.std.specs.Prelude.{◌≡◌, true, OnOk, IsErr};
+ghost use Rattle.std.specs.Prelude.{◌≡◌, ◌-◌, if◌then◌else◌};
 ghost use Rattle.station_parts.specs.Ids.{cache_id};
-ghost use Rattle.station_parts.specs.Rest.{is_at_rest};
-ghost use Rattle.station_parts.specs.Words.{cache_in};
+ghost use Rattle.ring_station.specs.Turns.{IsTurn, SideSteps};
+ghost use Rattle.station_parts.specs.Words.{journal_of};
+ghost use Rattle.ring_station.specs.PartRuns.{CacheRan, ends_at};
 
-use crate::fault::RunFault;
 use crate::gate::{Actor, Gate};
-use crate::idle::{Idling, Turn};
+use crate::idle::{Idling, turn_of};
 use crate::round::Round;
+use crate::thread_end::{ThreadEnd, ThreadFault};
 use station_parts::{CacheSide, Entry, Source, Stepped};
 use std::rt::Clock;
 use std::sync::atomic::{AtomicBool, Ordering};
 
 /// Goes round the sources, a step a turn, until every port is done and the unit is at rest; then it
-/// sets the flag. It must not set it in another case: banks end by it.
+/// sets the flag. It must not set it in another case: banks end by it. A journal that has no room
+/// has none in a later turn either, so a step that finds it full is the last.
 pub(crate) fn run_cache<
     R: Clock,
     G: Gate,
@@ -29,59 +31,61 @@ pub(crate) fn run_cache<
     turns: u64,
     done: &AtomicBool,
     cache: &mut CacheSide<WAYS, WORDS, REGS, DEPTH>,
-) -> Result<(), RunFault>
-    ensures same { cache_id cache.new ≡ cache_id cache.old }
-    ensures rests { OnOk result (is_at_rest (cache_in cache.new) ≡ true) }
-    ensures no_turn { turns ≡ 0 → IsErr result }
+) -> ThreadEnd
+    ensures { CacheRan ports turns cache.old cache.new result }
 {
     let mut round = Round::new(ports, banks);
     let mut open_ports = ports;
     let mut idling = Idling::of_cache();
-    for _turn in 0..turns {
-        let turn = take_turn(gate, &mut round, &mut open_ports, cache);
+    for turn in 0..turns {
+        let entries = cache.entries();
+        let stepped = take_turn(gate.may(Actor::Cache), round.source(), cache);
+        open_ports = still_open(open_ports, has_ended_port(cache, entries));
         if open_ports == 0 && cache.is_at_rest() {
             done.store(true, Ordering::SeqCst);
-            return Ok(());
+            return ThreadEnd::over(turn + 1);
         }
-        idling.end_turn(rt, turn);
+        if stepped == Some(Stepped::JournalFull) {
+            return ThreadEnd::stopped(turn + 1, ThreadFault::JournalFull);
+        }
+        round.go_on(stepped);
+        idling.end_turn(rt, turn_of(stepped));
     }
-    Err(RunFault::TurnLimit)
+    ThreadEnd::stopped(turns, ThreadFault::TurnLimit)
 }
 
-// Makes a step on the next source, if the gate allows it, and notes whether that ended a port.
-fn take_turn<G: Gate, const WAYS: usize, const WORDS: usize, const REGS: usize, const DEPTH: usize>(
-    gate: &G,
-    round: &mut Round,
-    open_ports: &mut u32,
+// Makes a step at the source, if the gate allows it: what it answered, and `None` if it doesn't.
+fn take_turn<const WAYS: usize, const WORDS: usize, const REGS: usize, const DEPTH: usize>(
+    may: bool,
+    source: Source,
     cache: &mut CacheSide<WAYS, WORDS, REGS, DEPTH>,
-) -> Turn
-    ensures { cache_id cache.new ≡ cache_id cache.old }
+) -> Option<Stepped>
+    ensures same { cache_id cache.new ≡ cache_id cache.old }
+    ensures turn { IsTurn (SideSteps source) may cache.old cache.new result }
 {
-    if !gate.may(Actor::Cache) {
-        return Turn::Held;
+    if !may {
+        return None;
     }
-    let source = round.source();
-    let did = cache.step(source) == Stepped::Did;
-    round.go_on(did);
-    if !did {
-        return Turn::Idle;
-    }
-    if is_ask(source) && has_just_ended(cache) {
-        *open_ports = open_ports.saturating_sub(1);
-    }
-    Turn::Moved
+    Some(cache.step(source))
 }
 
-fn is_ask(source: Source) -> bool {
-    matches!(source, Source::Ask(_))
-}
-
-// Whether the last entry of the journal ends a port.
-fn has_just_ended<const WAYS: usize, const WORDS: usize, const REGS: usize, const DEPTH: usize>(
+// Whether the entry at this place of the journal is there, and ends a port.
+fn has_ended_port<const WAYS: usize, const WORDS: usize, const REGS: usize, const DEPTH: usize>(
     cache: &CacheSide<WAYS, WORDS, REGS, DEPTH>,
-) -> bool {
-    match cache.entries().checked_sub(1) {
-        Some(last) => matches!(cache.entry(last), Some(Entry::Ended { .. })),
-        None => false,
+    place: u32,
+) -> bool
+    ensures { result ≡ ends_at (journal_of cache.now) place }
+{
+    matches!(cache.entry(place), Some(Entry::Ended { .. }))
+}
+
+// How many ports have still to end, if one more has or hasn't.
+fn still_open(ports: u32, has_ended: bool) -> u32
+    ensures { result ≡ (if has_ended then ports - 1 else ports) }
+{
+    if has_ended {
+        ports.saturating_sub(1)
+    } else {
+        ports
     }
 }

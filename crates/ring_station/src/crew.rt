@@ -1,27 +1,30 @@
 //! What each thread of a run has in hand.
-ghost use Rattle.std.specs.Prelude.{◌≡◌, ◌<◌, ◌≤◌, ◌+◌, ◌++◌, ◌∷◌, [], map, vec_len, vec_capacity, IsErr};
+ghost use Rattle.std.specs.Prelude.{◌≡◌, ◌<◌, ◌≤◌, ◌+◌, ◌++◌, ◌∷◌, [], map, vec_len, vec_capacity};
 ghost use Rattle.std.specs.List.{All};
 
-use crate::fault::RunFault;
+use crate::thread_end::{ThreadEnd, ThreadFault};
 use station_parts::{BankSide, Port, Told};
 use std::alloc::Global;
 
 // A run that hasn't begun stands as one that had no turn.
-const NOT_BEGUN: Result<(), RunFault> = Err(RunFault::TurnLimit);
+const NOT_BEGUN: ThreadEnd = ThreadEnd {
+    turns: 0,
+    fault: Some(ThreadFault::TurnLimit),
+};
 
 /// A port, what it took in its run, and how the run ended.
 #[derive(Drop)]
 pub(crate) struct PortRun {
     pub(crate) port: Port,
     pub(crate) list: Vec<Told>,
-    pub(crate) end: Result<(), RunFault>,
+    pub(crate) end: ThreadEnd,
 }
 
 /// A bank, and how its run ended.
 #[derive(Drop)]
 pub(crate) struct BankRun {
     pub(crate) bank: BankSide,
-    pub(crate) end: Result<(), RunFault>,
+    pub(crate) end: ThreadEnd,
 }
 
 /// Gives each port to a run of its own.
@@ -30,7 +33,6 @@ pub(crate) fn enlist_ports(alloc: Global, ports: Vec<Port>, runs: &mut Vec<PortR
     requires room { vec_len ports ≤ vec_capacity runs.old }
     ensures ports { map (λ r. r.port) runs.new.items ≡ ports.items }
     ensures lists { All (λ r. r.list.items ≡ []) runs.new.items }
-    ensures ends { All (λ r. IsErr r.end) runs.new.items }
 {
     for port in ports {
         runs.push_reserved(PortRun {
@@ -41,16 +43,24 @@ pub(crate) fn enlist_ports(alloc: Global, ports: Vec<Port>, runs: &mut Vec<PortR
     }
 }
 
-/// Takes each port back, and what it took.
-pub(crate) fn dismiss_ports(runs: Vec<PortRun>, ports: &mut Vec<Port>, lists: &mut Vec<Vec<Told>>)
-    requires empty { (ports.old.items ≡ []) × (lists.old.items ≡ []) }
-    requires room { (vec_len runs ≤ vec_capacity ports.old) × (vec_len runs ≤ vec_capacity lists.old) }
+/// Takes each port back, what it took, and how its run ended.
+pub(crate) fn dismiss_ports(
+    runs: Vec<PortRun>,
+    ports: &mut Vec<Port>,
+    lists: &mut Vec<Vec<Told>>,
+    ends: &mut Vec<ThreadEnd>,
+)
+    requires empty { (ports.old.items ≡ []) × (lists.old.items ≡ []) × (ends.old.items ≡ []) }
+    requires room { (vec_len runs ≤ vec_capacity ports.old) × (vec_len runs ≤ vec_capacity lists.old)
+        × (vec_len runs ≤ vec_capacity ends.old) }
     ensures ports { ports.new.items ≡ map (λ r. r.port) runs.items }
     ensures lists { lists.new.items ≡ map (λ r. r.list) runs.items }
+    ensures ends { ends.new.items ≡ map (λ r. r.end) runs.items }
 {
     for run in runs {
         ports.push_reserved(run.port);
         lists.push_reserved(run.list);
+        ends.push_reserved(run.end);
     }
 }
 
@@ -68,13 +78,19 @@ pub(crate) fn enlist_banks(banks: Vec<BankSide>, runs: &mut Vec<BankRun>)
     }
 }
 
-/// Takes each bank back.
-pub(crate) fn dismiss_banks(runs: Vec<BankRun>, banks: &mut Vec<BankSide>)
-    requires empty { banks.old.items ≡ [] }
-    requires room { vec_len runs ≤ vec_capacity banks.old }
-    ensures { banks.new.items ≡ map (λ r. r.bank) runs.items }
+/// Takes each bank back, and how its run ended.
+pub(crate) fn dismiss_banks(
+    runs: Vec<BankRun>,
+    banks: &mut Vec<BankSide>,
+    ends: &mut Vec<ThreadEnd>,
+)
+    requires empty { (banks.old.items ≡ []) × (ends.old.items ≡ []) }
+    requires room { (vec_len runs ≤ vec_capacity banks.old) × (vec_len runs ≤ vec_capacity ends.old) }
+    ensures banks { banks.new.items ≡ map (λ r. r.bank) runs.items }
+    ensures ends { ends.new.items ≡ map (λ r. r.end) runs.items }
 {
     for run in runs {
         banks.push_reserved(run.bank);
+        ends.push_reserved(run.end);
     }
 }

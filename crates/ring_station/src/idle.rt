@@ -1,6 +1,7 @@
 //! How a thread spends a turn in which it made no step.
 ghost use Rattle.std.specs.Prelude.{◌<◌};
 
+use station_parts::Stepped;
 use std::rt::Clock;
 use std::time::Duration;
 use std::{hint, thread};
@@ -45,6 +46,15 @@ pub(crate) enum Turn {
     Held,
     /// There was nothing to do.
     Idle,
+}
+
+/// What a turn came to that answered this; `None` if the gate let the part make no step.
+pub(crate) fn turn_of(stepped: Option<Stepped>) -> Turn {
+    match stepped {
+        None => Turn::Held,
+        Some(Stepped::Did) => Turn::Moved,
+        Some(_) => Turn::Idle,
+    }
 }
 
 /// How many turns in a row went by without a step.

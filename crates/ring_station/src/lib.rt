@@ -10,16 +10,20 @@ mod fault;
 mod gate;
 mod idle;
 mod port_thread;
+mod report;
 mod round;
 mod run;
 mod talk;
+mod thread_end;
 mod threads;
 
 pub use fault::RunFault;
 pub use gate::{Actor, Gate};
-pub use run::run_threads;
+pub use report::Run;
+pub use run::{run_and_audit, run_threads};
 pub use station_journal::laws;
 pub use station_parts::{
     Ask, Audit, BankSide, CacheSide, Entry, Port, RawBank, Ring, SideFault, Source, Station,
     Stepped, Told, audit, station,
 };
+pub use thread_end::{ThreadEnd, ThreadFault};

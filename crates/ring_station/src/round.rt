@@ -2,7 +2,7 @@
 ghost use Rattle.std.specs.Prelude.{◌<◌, ◌+◌};
 ghost use Rattle.ring_station.specs.declared.round.TheConstants.{OTHER_SOURCES};
 
-use station_parts::Source;
+use station_parts::{Source, Stepped};
 
 // The stack, the write queue and the replies.
 const OTHER_SOURCES: u64 = 3;
@@ -55,8 +55,15 @@ impl Round {
         }
     }
 
-    /// Goes on behind a step of that source, which did something or found nothing.
-    pub(crate) fn go_on(&mut self, did: bool) {
+    /// Goes on behind a step of that source; if there was none, it stays where it is.
+    pub(crate) fn go_on(&mut self, stepped: Option<Stepped>) {
+        if let Some(stepped) = stepped {
+            self.go_on_behind(stepped == Stepped::Did);
+        }
+    }
+
+    // Goes on behind a step that did something or found nothing.
+    fn go_on_behind(&mut self, did: bool) {
         let ports = u64::from(self.ports);
         let banks = u64::from(self.banks);
         if self.has_word {

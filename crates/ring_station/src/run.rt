@@ -1,23 +1,31 @@
 //! Runs of a station on threads.
-ghost use Rattle.std.specs.Prelude.{◌≡◌, ◌<◌, ◌≤◌, ◌⊎◌, [], true, length, map, vec_len, Err, IfOk, IfErr, OnOk, IsOk, IsErr};
+ghost use Rattle.std.specs.Prelude.{◌≡◌, ◌≢◌, ◌<◌, ◌≤◌, [], true, length, map, vec_len, IsTrue, IfOk, OnErr, OnOk, IsErr};
 ghost use Rattle.std.specs.List.{All};
 ghost use Rattle.station_parts.specs.declared.make.TheConstants.{MAX_PORTS};
 ghost use Rattle.flat_model.specs.declared.limits.TheConstants.{MAX_BANKS};
+ghost use Rattle.cache_unit.specs.Views.{is_clean};
+ghost use Rattle.station_journal.specs.Journal.{IsBankTrue};
+ghost use Rattle.station_parts.specs.declared.parts.Audit.TheVariants.{Clean, Faulted};
+ghost use Rattle.station_parts.specs.Audited.{IsSeen, audit_of};
 ghost use Rattle.station_parts.specs.Ids.{port_id, bank_id, cache_id};
 ghost use Rattle.station_parts.specs.New.{IsNewPort};
+ghost use Rattle.station_parts.specs.Promises.{ArePrefixes, IsFlatRun, AreWhole, PaysLoads, HoldFlat};
 ghost use Rattle.station_parts.specs.Rest.{is_at_rest};
 ghost use Rattle.station_parts.specs.Runs.{HaveConversed};
 ghost use Rattle.station_parts.specs.Station.{AreOneStation};
-ghost use Rattle.station_parts.specs.Words.{cache_in};
-ghost use Rattle.ring_station.specs.declared.fault.RunFault.TheVariants.{OutOfMemory};
-ghost use Rattle.ring_station.specs.PortRuns.{HaveRun};
+ghost use Rattle.station_parts.specs.Words.{cache_in, journal_of, sizes_in};
+ghost use Rattle.ring_station.specs.PartRuns.{BanksRan, CacheRan};
+ghost use Rattle.ring_station.specs.PortRuns.{HaveRun, PortsRan};
 ghost use Rattle.ring_station.specs.Crew.{EachRanScript, EachIsSame, EachServed};
+ghost use Rattle.ring_station.specs.Run.{HaveFinished};
 
 use crate::crew::{BankRun, PortRun, dismiss_banks, dismiss_ports, enlist_banks, enlist_ports};
 use crate::fault::RunFault;
 use crate::gate::Gate;
+use crate::report::Run;
+use crate::thread_end::ThreadEnd;
 use crate::threads::run_all;
-use station_parts::{Ask, CacheSide, Station, Told};
+use station_parts::{Ask, BankSide, CacheSide, Port, Station, Told, audit};
 use std::alloc::{AllocError, Global};
 use std::mem::replace;
 use std::rt::Clock;
@@ -25,7 +33,9 @@ use std::thread::Threads;
 
 /// Runs a new station to the end of its scripts: a thread for each port, which offers its script and
 /// then `Done`; one for the cache side; and one for each bank. All threads have ended when it
-/// returns. The result has a list for each port: what it took in the run, in order.
+/// returns. The result has a list for each port: what it took in the run, in order. It comes only
+/// where an audit behind the threads is `Clean`, and then the journal is a run of flat memory that
+/// has all that was offered and told, and nothing is due.
 ///
 /// A thread has so many turns. In a turn it asks the gate, and makes at most one step of its part;
 /// a turn in which the gate lets it make none counts too. A port offers one ask at a time, and
@@ -34,9 +44,11 @@ use std::thread::Threads;
 /// `Done` and nothing is under way; the banks end after it.
 ///
 /// `OutOfMemory` says that there was too little memory, and then `TurnLimit` that a thread used up
-/// its turns, which stops no other one; without a turn no thread comes to its end. After either the
-/// station stands where the steps left it: it may be audited, and not run again. If a thread can't
-/// be made, the parts run one after another, and that mostly ends with `TurnLimit`.
+/// its turns, which stops no other one, or that the cache side found its journal full; without a turn
+/// no thread comes to its end. After either the station stands where the steps left it: it may be
+/// audited, and not run again. [`run_and_audit`] tells which thread it was, and what each port had
+/// taken. If a thread can't be made, the parts run one after another, and that mostly ends with
+/// `TurnLimit`.
 ///
 /// There is one script for each port. A script with `Done` in it comes to no end.
 pub fn run_threads<
@@ -71,19 +83,155 @@ pub fn run_threads<
         (λ lists. All IsNewPort station.old.ports.items
         → HaveConversed scripts.now station.new.ports.items lists.items) }
 
-    // Then nothing is under way in the unit. A run without a turn comes to no end.
+    // Then nothing is under way in the unit, and each bank's last step found nothing to serve. A run
+    // without a turn comes to no end.
     ensures rests { OnOk result (is_at_rest (cache_in station.new.cache) ≡ true) }
+    ensures banks { OnOk result (HaveFinished station.new.banks.items) }
     ensures no_turn { turns ≡ 0 → IsErr result }
+
+    // And an audit has found that nothing is left or owed.
+    ensures seen { OnOk result (IsSeen station.new.cache station.new.ports.items station.new.banks.items) }
+    ensures clean { OnOk result
+        (audit_of station.new.cache station.new.ports.items station.new.banks.items ≡ Clean) }
+    ensures flat { OnOk result
+        (IsFlatRun (sizes_in station.new.cache) (journal_of station.new.cache)) }
+    ensures whole { OnOk result
+        (AreWhole (journal_of station.new.cache) station.new.ports.items) }
+    ensures paid { OnOk result
+        (PaysLoads (sizes_in station.new.cache) (journal_of station.new.cache)) }
+    ensures settled { OnOk result (IsTrue (is_clean (cache_in station.new.cache))
+        → HoldFlat (sizes_in station.new.cache) (journal_of station.new.cache) station.new.banks.items) }
+{
+    let run = run_and_audit(rt, alloc, station, scripts, turns, gate)?;
+    if let Some(fault) = run.fault() {
+        return Err(fault);
+    }
+    Ok(run.lists)
+}
+
+/// The run of [`run_threads`], told whole: how each thread ended, what each port took however its
+/// thread ended, and what an audit found behind them. It says nothing else of a run that came to no
+/// end, which [`Run::fault`] tells.
+///
+/// Want of memory before the threads begin leaves every part as it was.
+pub fn run_and_audit<
+    R: Clock + Threads + Sync,
+    G: Gate,
+    const WAYS: usize,
+    const WORDS: usize,
+    const REGS: usize,
+    const DEPTH: usize,
+>(
+    rt: &R,
+    alloc: Global,
+    station: &mut Station<WAYS, WORDS, REGS, DEPTH>,
+    scripts: &[Vec<Ask>],
+    turns: u64,
+    gate: &G,
+) -> Result<Run, AllocError>
+    requires one { AreOneStation station.old.cache station.old.ports.items station.old.banks.items }
+    requires scripts { length scripts.now ≡ vec_len station.old.ports }
+
+    // They are the same parts, moved by their own calls.
+    ensures same_cache { cache_id station.new.cache ≡ cache_id station.old.cache }
+    ensures same_ports { map port_id station.new.ports.items ≡ map port_id station.old.ports.items }
+    ensures same_banks { map bank_id station.new.banks.items ≡ map bank_id station.old.banks.items }
+    ensures kept { AreOneStation station.new.cache station.new.ports.items station.new.banks.items }
+    ensures unmoved_cache { OnErr result (station.new.cache ≡ station.old.cache) }
+    ensures unmoved_ports { OnErr result (station.new.ports.items ≡ station.old.ports.items) }
+    ensures unmoved_banks { OnErr result (station.new.banks.items ≡ station.old.banks.items) }
+
+    // What each thread did, how it ended, and after how many turns.
+    ensures ports { IfOk result (λ run. PortsRan scripts.now turns
+        station.old.ports.items station.new.ports.items run.lists.items run.ports.items) }
+    ensures cache { IfOk result (λ run. CacheRan (length station.old.ports.items) turns
+        station.old.cache station.new.cache run.cache) }
+    ensures banks { IfOk result (λ run. BanksRan turns
+        station.old.banks.items station.new.banks.items run.banks.items) }
+
+    // The audit behind them.
+    ensures seen { OnOk result (IsSeen station.new.cache station.new.ports.items station.new.banks.items) }
+    ensures exact { IfOk result (λ run. run.audit
+        ≡ audit_of station.new.cache station.new.ports.items station.new.banks.items) }
+    ensures never { IfOk result (λ run. run.audit ≢ Faulted) }
+    ensures prefixes { OnOk result (ArePrefixes (journal_of station.new.cache) station.new.ports.items) }
+    ensures bank_true { OnOk result
+        (IsBankTrue (sizes_in station.new.cache) (journal_of station.new.cache)) }
+    ensures flat { OnOk result
+        (IsFlatRun (sizes_in station.new.cache) (journal_of station.new.cache)) }
+    ensures whole { IfOk result (λ run. run.audit ≡ Clean
+        → AreWhole (journal_of station.new.cache) station.new.ports.items) }
+    ensures paid { IfOk result (λ run. run.audit ≡ Clean
+        → PaysLoads (sizes_in station.new.cache) (journal_of station.new.cache)) }
+    ensures settled { IfOk result (λ run. run.audit ≡ Clean
+        → IsTrue (is_clean (cache_in station.new.cache))
+        → HoldFlat (sizes_in station.new.cache) (journal_of station.new.cache) station.new.banks.items) }
 {
     let Station {
         cache,
         ports,
         banks,
     } = station;
+    let ends = run_parts(rt, alloc, cache, ports, banks, scripts, turns, gate)?;
+    let found = audit(cache, ports, banks);
+    Ok(Run {
+        lists: ends.lists,
+        ports: ends.ports,
+        cache: ends.cache,
+        banks: ends.banks,
+        audit: found,
+    })
+}
+
+// What the ports took, and how each thread ended.
+#[derive(Drop)]
+struct Ends {
+    lists: Vec<Vec<Told>>,
+    ports: Vec<ThreadEnd>,
+    cache: ThreadEnd,
+    banks: Vec<ThreadEnd>,
+}
+
+// Runs all parts to the end of their threads.
+fn run_parts<
+    R: Clock + Threads + Sync,
+    G: Gate,
+    const WAYS: usize,
+    const WORDS: usize,
+    const REGS: usize,
+    const DEPTH: usize,
+>(
+    rt: &R,
+    alloc: Global,
+    cache: &mut CacheSide<WAYS, WORDS, REGS, DEPTH>,
+    ports: &mut Vec<Port>,
+    banks: &mut Vec<BankSide>,
+    scripts: &[Vec<Ask>],
+    turns: u64,
+    gate: &G,
+) -> Result<Ends, AllocError>
+    requires one { AreOneStation cache.old ports.old.items banks.old.items }
+    requires scripts { length scripts.now ≡ vec_len ports.old }
+    ensures same_cache { cache_id cache.new ≡ cache_id cache.old }
+    ensures same_ports { map port_id ports.new.items ≡ map port_id ports.old.items }
+    ensures same_banks { map bank_id banks.new.items ≡ map bank_id banks.old.items }
+    ensures kept { AreOneStation cache.new ports.new.items banks.new.items }
+    ensures unmoved_cache { OnErr result (cache.new ≡ cache.old) }
+    ensures unmoved_ports { OnErr result (ports.new.items ≡ ports.old.items) }
+    ensures unmoved_banks { OnErr result (banks.new.items ≡ banks.old.items) }
+    ensures ports { IfOk result (λ ends. PortsRan scripts.now turns
+        ports.old.items ports.new.items ends.lists.items ends.ports.items) }
+    ensures cache { IfOk result
+        (λ ends. CacheRan (length ports.old.items) turns cache.old cache.new ends.cache) }
+    ensures banks { IfOk result
+        (λ ends. BanksRan turns banks.old.items banks.new.items ends.banks.items) }
+{
     // All of this memory is found before any part moves.
     let mut port_runs = Vec::with_capacity(alloc, ports.len())?;
     let mut bank_runs = Vec::with_capacity(alloc, banks.len())?;
     let mut lists = Vec::with_capacity(alloc, ports.len())?;
+    let mut port_ends = Vec::with_capacity(alloc, ports.len())?;
+    let mut bank_ends = Vec::with_capacity(alloc, banks.len())?;
     let port_places = Vec::with_capacity(alloc, ports.len())?;
     let bank_places = Vec::with_capacity(alloc, banks.len())?;
     enlist_ports(alloc, replace(ports, port_places), &mut port_runs);
@@ -97,13 +245,19 @@ pub fn run_threads<
         &mut port_runs,
         &mut bank_runs,
     );
-    dismiss_ports(port_runs, ports, &mut lists);
-    dismiss_banks(bank_runs, banks);
-    end?;
-    Ok(lists)
+    dismiss_ports(port_runs, ports, &mut lists, &mut port_ends);
+    dismiss_banks(bank_runs, banks, &mut bank_ends);
+    let cache = end?;
+    Ok(Ends {
+        lists,
+        ports: port_ends,
+        cache,
+        banks: bank_ends,
+    })
 }
 
-// Runs all parts, and says how that ended.
+// Makes room in the ports' lists and runs all parts. The result is how the thread of the cache side
+// ended.
 #[tactic(auto, using(crate::proofs::CrewRunning::reserved_empty))]
 fn run_crew<
     R: Clock + Threads + Sync,
@@ -120,22 +274,22 @@ fn run_crew<
     cache: &mut CacheSide<WAYS, WORDS, REGS, DEPTH>,
     ports: &mut Vec<PortRun>,
     banks: &mut Vec<BankRun>,
-) -> Result<(), RunFault>
+) -> Result<ThreadEnd, AllocError>
     requires scripts { length scripts.now ≡ vec_len ports.old }
     requires few_ports { vec_len ports.old ≤ MAX_PORTS }
     requires few_banks { vec_len banks.old ≤ MAX_BANKS }
     requires lists { All (λ r. r.list.items ≡ []) ports.old.items }
-    requires ends { All (λ r. IsErr r.end) ports.old.items }
-    ensures cache { cache_id cache.new ≡ cache_id cache.old }
-    ensures ports { EachRanScript scripts.now ports.old.items ports.new.items }
-    ensures banks { EachServed banks.old.items banks.new.items }
-    ensures ended { OnOk result (All (λ r. IsOk r.end) ports.new.items) }
-    ensures rests { OnOk result (is_at_rest (cache_in cache.new) ≡ true) }
-    ensures no_turn { turns ≡ 0 → IsErr result }
+    ensures unmoved_cache { OnErr result (cache.new ≡ cache.old) }
+    ensures port_count { length ports.new.items ≡ length ports.old.items }
+    ensures bank_count { length banks.new.items ≡ length banks.old.items }
+    ensures unmoved_ports { OnErr result (EachIsSame ports.old.items ports.new.items) }
+    ensures unmoved_banks { OnErr result (banks.new ≡ banks.old) }
+    ensures cache { IfOk result (λ end. CacheRan (vec_len ports.old) turns cache.old cache.new end) }
+    ensures ports { OnOk result (EachRanScript scripts.now turns ports.old.items ports.new.items) }
+    ensures banks { OnOk result (EachServed turns banks.old.items banks.new.items) }
 {
     reserve_lists(scripts, ports)?;
-    let cache_end = run_all(rt, gate, scripts, turns, cache, ports, banks);
-    worse(cache_end, worse(ports_end(ports), banks_end(banks)))
+    Ok(run_all(rt, gate, scripts, turns, cache, ports, banks))
 }
 
 // Makes room for a verdict on each ask of a script, and as many values. So a port mostly needs no
@@ -148,40 +302,4 @@ fn reserve_lists(scripts: &[Vec<Ask>], ports: &mut Vec<PortRun>) -> Result<(), A
         ports[p].list.reserve(scripts[p].len().saturating_mul(2))?;
     }
     Ok(())
-}
-
-// How the ports' runs ended.
-fn ports_end(ports: &[PortRun]) -> Result<(), RunFault>
-    ensures { OnOk result (All (λ r. IsOk r.end) ports.now) }
-{
-    let mut end = Ok(());
-    for run in ports {
-        end = worse(end, run.end);
-    }
-    end
-}
-
-// How the banks' runs ended.
-fn banks_end(banks: &[BankRun]) -> Result<(), RunFault> {
-    let mut end = Ok(());
-    for run in banks {
-        end = worse(end, run.end);
-    }
-    end
-}
-
-// Want of memory goes before a limit.
-fn worse(a: Result<(), RunFault>, b: Result<(), RunFault>) -> Result<(), RunFault>
-    ensures both { IsOk a → IsOk b → IsOk result }
-    ensures ok { OnOk result (IsOk a × IsOk b) }
-    ensures memory { (a ≡ Err OutOfMemory) ⊎ (b ≡ Err OutOfMemory) → result ≡ Err OutOfMemory }
-    ensures limit { IfErr result (λ fault. fault ≡ OutOfMemory → (a ≡ Err OutOfMemory) ⊎ (b ≡ Err OutOfMemory)) }
-{
-    match (a, b) {
-        (Ok(()), end) | (end, Ok(())) => end,
-        (Err(RunFault::OutOfMemory), _) | (_, Err(RunFault::OutOfMemory)) => {
-            Err(RunFault::OutOfMemory)
-        }
-        _ => Err(RunFault::TurnLimit),
-    }
 }

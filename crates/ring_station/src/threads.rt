@@ -1,22 +1,20 @@
 //! The threads of a run: one for the cache side, one for each port, and one for each bank.
-ghost use Rattle.std.specs.Prelude.{◌≡◌, ◌<◌, ◌≤◌, ◌++◌, ℕ, [], true, length, slice_index_or, vec_len, OnOk, IsErr};
+ghost use Rattle.std.specs.Prelude.{◌≡◌, ◌<◌, ◌≤◌, ℕ, [], length, slice_index_or, vec_len};
 ghost use Rattle.std.specs.List.{All};
 ghost use Rattle.std.specs.Global.{Vec};
 ghost use Rattle.std.specs.Thread.{IsSync};
 ghost use Rattle.station_parts.specs.declared.make.TheConstants.{MAX_PORTS};
 ghost use Rattle.flat_model.specs.declared.limits.TheConstants.{MAX_BANKS};
 ghost use Rattle.station_journal.specs.declared.asks.Ask.{Ask};
-ghost use Rattle.station_parts.specs.Ids.{cache_id, bank_id};
-ghost use Rattle.station_parts.specs.Rest.{is_at_rest};
-ghost use Rattle.station_parts.specs.Words.{cache_in};
+ghost use Rattle.ring_station.specs.PartRuns.{BankRan, CacheRan};
 ghost use Rattle.ring_station.specs.Crew.{RanScript, EachRanScript, EachServed};
 
 use crate::bank_thread::run_bank;
 use crate::cache_thread::run_cache;
 use crate::crew::{BankRun, PortRun};
-use crate::fault::RunFault;
 use crate::gate::Gate;
 use crate::port_thread::run_port;
+use crate::thread_end::ThreadEnd;
 use station_parts::{Ask, CacheSide};
 use std::rt::Clock;
 use std::sync::atomic::AtomicBool;
@@ -39,33 +37,29 @@ pub(crate) fn run_all<
     cache: &mut CacheSide<WAYS, WORDS, REGS, DEPTH>,
     ports: &mut Vec<PortRun>,
     banks: &mut Vec<BankRun>,
-) -> Result<(), RunFault>
+) -> ThreadEnd
     requires scripts { length scripts.now ≡ vec_len ports.old }
     requires few_ports { vec_len ports.old ≤ MAX_PORTS }
     requires few_banks { vec_len banks.old ≤ MAX_BANKS }
     requires lists { All (λ r. r.list.items ≡ []) ports.old.items }
-    ensures cache { cache_id cache.new ≡ cache_id cache.old }
-    ensures ports { EachRanScript scripts.now ports.old.items ports.new.items }
-    ensures banks { EachServed banks.old.items banks.new.items }
-    ensures rests { OnOk result (is_at_rest (cache_in cache.new) ≡ true) }
-    ensures no_turn { turns ≡ 0 → IsErr result }
+    ensures cache { CacheRan (vec_len ports.old) turns cache.old cache.new result }
+    ensures ports { EachRanScript scripts.now turns ports.old.items ports.new.items }
+    ensures banks { EachServed turns banks.old.items banks.new.items }
 {
     let done = AtomicBool::new(false);
     let port_count = ports.len() as u32;
     let bank_count = banks.len() as u32;
     let (cache_end, ()) = join_mut(
         rt,
-        &mut || -> Result<(), RunFault>
-            ensures same { cache_id cache.exit.now ≡ cache_id cache.entry.now }
-            ensures rests { OnOk result (is_at_rest (cache_in cache.exit.now) ≡ true) }
-            ensures no_turn { turns ≡ 0 → IsErr result }
+        &mut || -> ThreadEnd
+            ensures { CacheRan port_count turns cache.entry.now cache.exit.now result }
         { run_cache(rt, gate, port_count, bank_count, turns, &done, cache) },
         &mut ||
             requires { IsSync R.row × (length scripts.now ≡ vec_len ports.now)
                 × (vec_len ports.now ≤ MAX_PORTS) × (vec_len banks.now ≤ MAX_BANKS)
                 × All (λ r. r.list.items ≡ []) ports.now.items }
-            ensures ports { EachRanScript scripts.entry.now ports.entry.now.items ports.exit.now.items }
-            ensures banks { EachServed banks.entry.now.items banks.exit.now.items }
+            ensures ports { EachRanScript scripts.entry.now turns ports.entry.now.items ports.exit.now.items }
+            ensures banks { EachServed turns banks.entry.now.items banks.exit.now.items }
         { run_sides(rt, gate, scripts, turns, &done, ports, banks) },
     );
     cache_end
@@ -85,19 +79,19 @@ fn run_sides<R: Clock + Threads + Sync, G: Gate>(
     requires few_ports { vec_len ports.old ≤ MAX_PORTS }
     requires few_banks { vec_len banks.old ≤ MAX_BANKS }
     requires lists { All (λ r. r.list.items ≡ []) ports.old.items }
-    ensures ports { EachRanScript scripts.now ports.old.items ports.new.items }
-    ensures banks { EachServed banks.old.items banks.new.items }
+    ensures ports { EachRanScript scripts.now turns ports.old.items ports.new.items }
+    ensures banks { EachServed turns banks.old.items banks.new.items }
 {
     join_mut(
         rt,
         &mut ||
             requires { IsSync R.row × (length scripts.now ≡ vec_len ports.now)
                 × (vec_len ports.now ≤ MAX_PORTS) × All (λ r. r.list.items ≡ []) ports.now.items }
-            ensures { EachRanScript scripts.entry.now ports.entry.now.items ports.exit.now.items }
+            ensures { EachRanScript scripts.entry.now turns ports.entry.now.items ports.exit.now.items }
         { run_ports(rt, gate, scripts, turns, ports) },
         &mut ||
             requires { IsSync R.row × (vec_len banks.now ≤ MAX_BANKS) }
-            ensures { EachServed banks.entry.now.items banks.exit.now.items }
+            ensures { EachServed turns banks.entry.now.items banks.exit.now.items }
         { run_banks(rt, gate, turns, done, banks) },
     );
 }
@@ -112,7 +106,7 @@ fn run_ports<R: Clock + Threads + Sync, G: Gate>(
     requires scripts { length scripts.now ≡ length ports.old }
     requires few { length ports.old ≤ MAX_PORTS }
     requires lists { All (λ r. r.list.items ≡ []) ports.old }
-    ensures { EachRanScript scripts.now ports.old ports.new }
+    ensures { EachRanScript scripts.now turns ports.old ports.new }
 {
     let threads = ports.len().max(1);
     for_each_mut(
@@ -123,7 +117,7 @@ fn run_ports<R: Clock + Threads + Sync, G: Gate>(
             requires { (p < length scripts.now) × (length scripts.now ≤ MAX_PORTS)
                 × (run.old.list.items ≡ []) }
             ensures { (s : Vec Ask)
-                → RanScript (slice_index_or scripts.entry.now p s).items run.old run.new }
+                → RanScript (slice_index_or scripts.entry.now p s).items turns run.old run.new }
         { run_one(rt, gate, p as u32, scripts[p].as_slice(), turns, run) },
     );
 }
@@ -137,7 +131,7 @@ fn run_one<R: Clock, G: Gate>(
     run: &mut PortRun,
 )
     requires { run.old.list.items ≡ [] }
-    ensures { RanScript script.now run.old run.new }
+    ensures { RanScript script.now turns run.old run.new }
 {
     run.end = run_port(
         rt,
@@ -158,7 +152,7 @@ fn run_banks<R: Clock + Threads + Sync, G: Gate>(
     banks: &mut [BankRun],
 )
     requires { length banks.old ≤ MAX_BANKS }
-    ensures { EachServed banks.old banks.new }
+    ensures { EachServed turns banks.old banks.new }
 {
     let threads = banks.len().max(1);
     for_each_mut(
@@ -167,7 +161,7 @@ fn run_banks<R: Clock + Threads + Sync, G: Gate>(
         threads,
         &|b: usize, run: &mut BankRun|
             requires { b < MAX_BANKS }
-            ensures { bank_id run.new.bank ≡ bank_id run.old.bank }
+            ensures { BankRan turns run.old.bank run.new.bank run.new.end }
         { run.end = run_bank(rt, gate, b as u32, turns, done, &mut run.bank) },
     );
 }

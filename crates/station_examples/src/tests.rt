@@ -7,6 +7,7 @@ use std::alloc::{AllocError, Global};
 mod audited;
 mod by_hand;
 mod checks;
+mod ends;
 mod gates;
 mod largest;
 mod on_threads;

@@ -5,7 +5,7 @@ ghost use Rattle.station_parts.specs.Ids.{port_id, bank_id, cache_id};
 ghost use Rattle.station_parts.specs.Station.{AreOneStation};
 
 use super::{LOAD_5, SHAPE, SmallCache, SmallStation, VALUE, ZEROS};
-use flat_model::{Cause, Word};
+use flat_model::{Cause, Lanes, Word};
 use memory_banks::{BankAnswer, Command};
 use ring_station::{
     Ask, Audit, BankSide, Port, RawBank, Ring, SideFault, Source, Station, Stepped, Told, audit,
@@ -185,7 +185,7 @@ const FULL_JOURNAL: [Stage; 1] = [Stage {
 // An ask that is refused, as its word is out of memory.
 const OUTSIDE: Ask = Ask::Prefetch { at: 32 };
 
-// A ring of asks has 16 places.
+// A ring of asks has 16 places. One that is served makes room.
 const FULL_ASKS: [Stage; 2] = [
     Stage {
         times: 16,
@@ -193,7 +193,12 @@ const FULL_ASKS: [Stage; 2] = [
         ..ONCE
     },
     Stage {
-        moves: &[Move::Back(OUTSIDE)],
+        moves: &[
+            Move::Back(OUTSIDE),
+            Move::Did(Source::Ask(0)),
+            Move::Offer(OUTSIDE),
+            Move::Back(OUTSIDE),
+        ],
         ..ONCE
     },
 ];
@@ -214,6 +219,82 @@ const FULL_VERDICTS: [Stage; 2] = [
             Move::Did(Source::Ask(0)),
             Move::Offer(Ask::Done),
             Move::Back(Ask::Done),
+        ],
+        ..ONCE
+    },
+];
+
+// A word is stored, comes behind the others of its block, and is queued to go back. Then the bank's ring
+// of commands is full of reads, and it goes where the cache side looks again.
+const FULL_COMMANDS: [Stage; 4] = [
+    Stage {
+        moves: &[
+            Move::Offer(Ask::Store {
+                at: 0,
+                word: WRONG,
+                lanes: Lanes(15),
+            }),
+            Move::Did(Source::Ask(0)),
+            ACCEPTED,
+            Move::Serve(0),
+            Move::Serve(0),
+            Move::Serve(1),
+            Move::Serve(1),
+        ],
+        ..ONCE
+    },
+    Stage {
+        moves: &WORDS_COME,
+        ..ONCE
+    },
+    Stage {
+        moves: &[
+            Move::Offer(Ask::Evict { block: 0 }),
+            Move::Offer(Ask::Prefetch { at: 4 }),
+            Move::Offer(Ask::Prefetch { at: 8 }),
+            Move::Did(Source::Ask(0)),
+            Move::Did(Source::Ask(0)),
+            Move::Did(Source::Ask(0)),
+            ACCEPTED,
+            ACCEPTED,
+            ACCEPTED,
+        ],
+        ..ONCE
+    },
+    Stage {
+        moves: &[
+            Move::DidNot(Source::Drain, Stepped::Idle),
+            Move::Serve(0),
+            Move::Did(Source::Drain),
+        ],
+        ..ONCE
+    },
+];
+
+// A value is ready, and the ring back to its port is full; it goes where the cache side looks again.
+const FULL_TELLINGS: [Stage; 5] = [
+    Stage {
+        moves: &[Move::Offer(LOAD_5), Move::Did(Source::Ask(0)), ACCEPTED],
+        ..ONCE
+    },
+    Stage {
+        moves: &BANKS_SERVE,
+        ..ONCE
+    },
+    Stage {
+        moves: &WORDS_COME,
+        ..ONCE
+    },
+    Stage {
+        times: 64,
+        moves: &[Move::Offer(OUTSIDE), Move::Did(Source::Ask(0))],
+        ..ONCE
+    },
+    Stage {
+        moves: &[
+            Move::DidNot(Source::Reply(0), Stepped::Idle),
+            Move::Take(Some(Told::Refused(Cause::OutOfRange))),
+            Move::Did(Source::Reply(0)),
         ],
         ..ONCE
     },
@@ -329,7 +410,7 @@ const STORY: Story = Story {
     settled: false,
 };
 
-static STORIES: [Story; 8] = [
+static STORIES: [Story; 10] = [
     Story {
         name: "a load, audited at each step",
         stages: &LOAD,
@@ -356,6 +437,16 @@ static STORIES: [Story; 8] = [
     Story {
         name: "a full ring of verdicts",
         stages: &FULL_VERDICTS,
+        ..STORY
+    },
+    Story {
+        name: "a full ring of commands",
+        stages: &FULL_COMMANDS,
+        ..STORY
+    },
+    Story {
+        name: "a full ring of tellings",
+        stages: &FULL_TELLINGS,
         ..STORY
     },
     Story {

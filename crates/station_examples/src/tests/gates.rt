@@ -10,8 +10,8 @@ pub(crate) enum Rule {
     Open,
     /// All, for ever.
     Closed,
-    /// Bank 0, for ever.
-    SilentBank,
+    /// This actor, for ever.
+    Holds(Actor),
     /// Bank 1, which has port 0's word, until port 1 has been served from the other bank meanwhile.
     HeldBank,
     /// Bank 1, until port 0 has been told of [`REFUSALS`] refusals; and then port 0 until the bank has
@@ -19,6 +19,9 @@ pub(crate) enum Rule {
     HeldUntilRefused,
     /// Each actor at its first turn, until all five have come to theirs.
     Meeting,
+    /// The cache side, until bank 0 has begun its first turn; and bank 0 in that turn, until the cache
+    /// side asks for no further one.
+    LateBank,
     /// Port 0, at the first thing that it is told, until each other part has begun [`MORE_TURNS`] turns
     /// more. Port 1 makes no step before.
     Dwelling,
@@ -36,6 +39,9 @@ const MORE_TURNS: u64 = 100;
 
 // So many reads are long enough for every thread to begin, and for those turns.
 const READS: u64 = 200_000_000;
+
+// So many reads without a turn of the cache side say that it has ended.
+const QUIET_READS: u64 = 20_000_000;
 
 /// What a port was told, counted.
 #[derive(Drop)]
@@ -169,6 +175,39 @@ impl RuledGate {
         }
     }
 
+    // Waits until the cache side has begun no turn for a while.
+    fn wait_for_quiet(&self) {
+        let mut last = self.cache.load(Ordering::SeqCst);
+        let mut quiet: u64 = 0;
+        for _ in 0..READS {
+            let begun = self.cache.load(Ordering::SeqCst);
+            quiet = if begun == last {
+                quiet.saturating_add(1)
+            } else {
+                0
+            };
+            last = begun;
+            if begun > 0 && quiet >= QUIET_READS {
+                return;
+            }
+            hint::spin_loop();
+        }
+    }
+
+    // The bank reads no flag in this turn of its own, whatever is set meanwhile.
+    fn late_bank_lets(&self, actor: Actor, turns: u64) -> bool {
+        match actor {
+            Actor::Cache => self.first_bank.load(Ordering::SeqCst) > 0,
+            Actor::Bank(0) => {
+                if turns == 0 {
+                    self.wait_for_quiet();
+                }
+                true
+            }
+            _ => true,
+        }
+    }
+
     fn held_until_refused_lets(&self, actor: Actor) -> bool {
         let is_refused = self.first.refused.load(Ordering::SeqCst) >= REFUSALS;
         match actor {
@@ -193,7 +232,7 @@ impl Gate for RuledGate {
         match self.rule {
             Rule::Open => true,
             Rule::Closed => false,
-            Rule::SilentBank => actor != Actor::Bank(0),
+            Rule::Holds(held) => actor != held,
             Rule::HeldBank => self.held_bank_lets(actor),
             Rule::HeldUntilRefused => self.held_until_refused_lets(actor),
             Rule::Meeting => {
@@ -202,6 +241,7 @@ impl Gate for RuledGate {
                 }
                 true
             }
+            Rule::LateBank => self.late_bank_lets(actor, turns),
             Rule::Dwelling => actor != Actor::Port(1) || self.has_dwelt.load(Ordering::SeqCst),
         }
     }

@@ -7,7 +7,7 @@ use super::gates::{Rule, RuledGate};
 use super::{LOAD_5, SHAPE, SmallCache, SmallStation, TURNS, VALUE, scripts_of};
 use flat_model::{Answer, Cause, Event, Lanes, MakeFault, Word};
 use ring_station::{
-    Ask, Audit, BankSide, Entry, RunFault, Source, Told, audit, run_threads, station,
+    Actor, Ask, Audit, BankSide, Entry, RunFault, Source, Told, audit, run_threads, station,
 };
 use std::alloc::Global;
 use std::process::Abort;
@@ -239,7 +239,7 @@ static RUNS: [Run; 12] = [
     // What a bank was sent that never goes is left.
     Run {
         name: "a silent bank",
-        rule: Rule::SilentBank,
+        rule: Rule::Holds(Actor::Bank(0)),
         turns: 100_000,
         scripts: &[&[Ask::Load { tag: 1, at: 0 }]],
         facts: &[Fact::Left],

@@ -6,6 +6,8 @@ abbrev pub invariant-loop-run : goal.invariant-loop-run
 invariant-loop-run l = record {
   can_next : (goal.iterator-loop-run).can_next l.run-iterator;
   is_finite : (goal.iterator-loop-run).is_finite l.run-iterator;
-  room : vec_len l.banks + into_iter_len l.run-iterator ≤ vec_capacity l.banks;
+  banks_room : vec_len l.banks + into_iter_len l.run-iterator ≤ vec_capacity l.banks;
+  ends_room : vec_len l.ends + into_iter_len l.run-iterator ≤ vec_capacity l.ends;
   banks : l.banks.items ++ map (λ r. r.bank) (into_iter_items l.run-iterator) ≡ map (λ r. r.bank) l.fn.runs.items;
+  ends : l.ends.items ++ map (λ r. r.end) (into_iter_items l.run-iterator) ≡ map (λ r. r.end) l.fn.runs.items;
 }

@@ -1,6 +1,6 @@
 use Rattle.std.proofs.Common.{rules, arith}
 use Rattle.std.proofs.lemmas.Grind.{common_steps}
-use Rattle.ring_station.proofs.Enlisting.{still_empty, still_not_ended}
+use Rattle.ring_station.proofs.Enlisting.{still_empty}
 use Rattle.ring_station.proofs.crew.enlist_ports.Goals as goal
 
 pub loop-port-preserved : goal.loop-port-preserved
@@ -10,5 +10,4 @@ loop-port-preserved c = record {
   room = search rules;
   ports = grind (arith, common_steps);
   lists = rw c.push_reserved.ensures.items (still_empty _ _ c.loop-port.invariant.lists c.new.ensures.items);
-  ends = rw c.push_reserved.ensures.items (still_not_ended _ _ c.loop-port.invariant.ends (search rules));
 }

@@ -1,4 +1,4 @@
-use Rattle.std.proofs.Common.{◌≡◌, ◌+◌, ◌++◌, ◌≤◌, [], map, vec_len, vec_capacity, IsErr}
+use Rattle.std.proofs.Common.{◌≡◌, ◌+◌, ◌++◌, ◌≤◌, [], map, vec_len, vec_capacity}
 use Rattle.std.specs.List.{All}
 use Rattle.std.specs.Vec.Iter.{into_iter_items, into_iter_len}
 use Rattle.ring_station.proofs.crew.enlist_ports.Given as goal
@@ -10,5 +10,4 @@ invariant-loop-port l = record {
   room : vec_len l.runs + into_iter_len l.port-iterator ≤ vec_capacity l.runs;
   ports : map (λ r. r.port) l.runs.items ++ into_iter_items l.port-iterator ≡ l.fn.ports.items;
   lists : All (λ r. r.list.items ≡ []) l.runs.items;
-  ends : All (λ r. IsErr r.end) l.runs.items;
 }

@@ -7,5 +7,5 @@ returns g c = record {
   number = search rules;
   each = λ p s d less.
       let h = (c.for_each_mut.ensures p d less).1 in
-      ran_alike _ _ _ _ _ h.argument_is h.left (h.call s);
+      ran_alike _ _ _ _ _ _ h.argument_is h.left (h.call s);
 }

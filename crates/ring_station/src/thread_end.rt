@@ -1,0 +1,42 @@
+//! How the threads of a run ended.
+
+/// Why a thread stopped before its part was done.
+#[derive(Clone, Copy, PartialEq, Eq, Debug)]
+pub enum ThreadFault {
+    /// It used up its turns.
+    TurnLimit,
+    /// A port found no memory to note what it is told. The telling stands in the ring still.
+    OutOfMemory,
+    /// The cache side's journal had no room for its next step.
+    JournalFull,
+}
+
+/// How a thread of a run ended.
+#[derive(Clone, Copy, PartialEq, Eq, Debug)]
+pub struct ThreadEnd {
+    /// How many turns it began, which are at most as many as each thread was given.
+    pub turns: u64,
+    /// Why it stopped before its part was done; `None` if it came to its end.
+    pub fault: Option<ThreadFault>,
+}
+
+impl ThreadEnd {
+    ghost use Rattle.std.specs.Prelude.{◌≡◌, Some, None};
+
+    /// It came to its end in this turn.
+    pub(crate) fn over(turns: u64) -> ThreadEnd
+        ensures { result ≡ record { turns = turns; fault = None } }
+    {
+        ThreadEnd { turns, fault: None }
+    }
+
+    /// It stopped in this turn.
+    pub(crate) fn stopped(turns: u64, fault: ThreadFault) -> ThreadEnd
+        ensures { result ≡ record { turns = turns; fault = Some fault } }
+    {
+        ThreadEnd {
+            turns,
+            fault: Some(fault),
+        }
+    }
+}

@@ -1,0 +1,208 @@
+//! How the threads of a run end, and what is told of a run that comes to no end. A row has the gate's
+//! rule, and each thread's end.
+use super::gates::{Rule, RuledGate};
+use super::{LOAD_5, SHAPE, SmallStation, TURNS, VALUE, scripts_of};
+use flat_model::MakeFault;
+use ring_station::{
+    Actor, Ask, Audit, Ring, Run, ThreadEnd, ThreadFault, Told, run_and_audit, station,
+};
+use std::alloc::Global;
+use std::process::Abort;
+use std::rt::Clock;
+use std::test::Fail;
+use std::thread::Threads;
+
+/// A run of a new station with two ports, and how its threads end.
+#[derive(Clone, Copy)]
+struct Ending {
+    name: &'static str,
+    rule: Rule,
+    /// Entries that the journal takes.
+    journal: u32,
+    /// Turns of each thread.
+    turns: u64,
+    scripts: [&'static [Ask]; 2],
+    /// What each port took.
+    lists: [&'static [Told]; 2],
+    cache: Option<ThreadFault>,
+    ports: [Option<ThreadFault>; 2],
+    banks: [Option<ThreadFault>; 2],
+    /// What the audit finds, if it is the same in every run.
+    audit: Option<Audit>,
+    /// How many turns bank 0 takes at least.
+    bank_turns: u64,
+}
+
+const LIMIT: Option<ThreadFault> = Some(ThreadFault::TurnLimit);
+
+// So many turns are enough for a thread that isn't held to do what it has to.
+const SOME_TURNS: u64 = 100_000;
+
+// Each row begins with these: no thread comes to its end.
+const ENDING: Ending = Ending {
+    name: "",
+    rule: Rule::Open,
+    journal: 1_000,
+    turns: SOME_TURNS,
+    scripts: [&[], &[]],
+    lists: [&[], &[]],
+    cache: LIMIT,
+    ports: [LIMIT, LIMIT],
+    banks: [LIMIT, LIMIT],
+    audit: None,
+    bank_turns: 0,
+};
+
+const PREFETCH: Ask = Ask::Prefetch { at: 0 };
+
+const LEFT_ASKS: Option<Audit> = Some(Audit::Left {
+    ring: Ring::Asks(0),
+});
+
+static ENDINGS: [Ending; 8] = [
+    Ending {
+        name: "all threads come to their ends",
+        turns: TURNS,
+        scripts: [&[LOAD_5], &[LOAD_5]],
+        lists: [&[Told::Accepted, VALUE], &[Told::Accepted, VALUE]],
+        cache: None,
+        ports: [None, None],
+        banks: [None, None],
+        audit: Some(Audit::Clean),
+        ..ENDING
+    },
+    Ending {
+        name: "no turns",
+        turns: 0,
+        audit: Some(Audit::Clean),
+        ..ENDING
+    },
+    Ending {
+        name: "a held cache side",
+        rule: Rule::Holds(Actor::Cache),
+        turns: 1_000,
+        scripts: [&[PREFETCH], &[]],
+        // A port without asks has ended when it has offered Done.
+        ports: [LIMIT, None],
+        audit: LEFT_ASKS,
+        ..ENDING
+    },
+    Ending {
+        name: "a held port",
+        rule: Rule::Holds(Actor::Port(0)),
+        scripts: [&[PREFETCH], &[PREFETCH]],
+        lists: [&[], &[Told::Accepted]],
+        ports: [LIMIT, None],
+        ..ENDING
+    },
+    Ending {
+        name: "the other held port",
+        rule: Rule::Holds(Actor::Port(1)),
+        scripts: [&[PREFETCH], &[PREFETCH]],
+        lists: [&[Told::Accepted], &[]],
+        ports: [None, LIMIT],
+        ..ENDING
+    },
+    Ending {
+        name: "a held bank",
+        rule: Rule::Holds(Actor::Bank(1)),
+        scripts: [&[LOAD_5], &[]],
+        lists: [&[Told::Accepted], &[]],
+        ports: [LIMIT, None],
+        audit: Some(Audit::Left {
+            ring: Ring::Commands(1),
+        }),
+        ..ENDING
+    },
+    // The prefetch takes the journal's one entry. Its port offers Done, which isn't heard.
+    Ending {
+        name: "a full journal",
+        journal: 1,
+        rule: Rule::Holds(Actor::Port(1)),
+        scripts: [&[PREFETCH], &[]],
+        lists: [&[Told::Accepted], &[]],
+        cache: Some(ThreadFault::JournalFull),
+        ports: [None, LIMIT],
+        audit: LEFT_ASKS,
+        ..ENDING
+    },
+    // The flag is set while the bank is in its first turn. It hasn't read it by then, so it has another.
+    Ending {
+        name: "a bank that hears late of the cache side's end",
+        rule: Rule::LateBank,
+        turns: TURNS,
+        cache: None,
+        ports: [None, None],
+        banks: [None, None],
+        audit: Some(Audit::Clean),
+        bank_turns: 2,
+        ..ENDING
+    },
+];
+
+// Whether these threads ended so, those that had no turn left behind all of them.
+fn have_ended(ends: &[ThreadEnd], faults: [Option<ThreadFault>; 2], turns: u64) -> bool {
+    ends.len() == faults.len()
+        && ends
+            .iter()
+            .zip(&faults)
+            .all(|(end, fault)| has_ended(end, *fault, turns))
+}
+
+fn has_ended(end: &ThreadEnd, fault: Option<ThreadFault>, turns: u64) -> bool {
+    end.fault == fault && (fault != LIMIT || end.turns == turns)
+}
+
+// How many turns each thread says that it began, in the order of the gate's.
+fn turns_of(run: &Run) -> Option<[u64; 5]> {
+    Some([
+        run.cache.turns,
+        run.ports.first()?.turns,
+        run.ports.get(1)?.turns,
+        run.banks.first()?.turns,
+        run.banks.get(1)?.turns,
+    ])
+}
+
+fn are_lists(lists: &[Vec<Told>], wanted: &[&[Told]]) -> bool {
+    lists.len() == wanted.len()
+        && lists
+            .iter()
+            .zip(wanted)
+            .all(|(list, told)| list.as_slice() == *told)
+}
+
+// Whether a run ended as its row says, and each turn that a thread began asked the gate once.
+fn is_as_said(run: &Run, gate: &RuledGate, row: &Ending) -> bool {
+    has_ended(&run.cache, row.cache, row.turns)
+        && have_ended(&run.ports, row.ports, row.turns)
+        && have_ended(&run.banks, row.banks, row.turns)
+        && are_lists(&run.lists, &row.lists)
+        && row.audit.is_none_or(|found| run.audit == found)
+        && turns_of(run) == Some(gate.turns())
+        && run
+            .banks
+            .first()
+            .is_some_and(|end| end.turns >= row.bank_turns)
+}
+
+fn make_run<R: Abort + Clock + Threads + Sync>(
+    rt: &R,
+    alloc: Global,
+    row: &Ending,
+) -> Result<bool, MakeFault> {
+    let scripts = scripts_of(alloc, &row.scripts)?;
+    let mut all: SmallStation = station(alloc, SHAPE, 2, row.journal)?;
+    assert_eq!(rt; scripts.len(), all.ports.len());
+    let gate = RuledGate::new(row.rule);
+    let run = run_and_audit(rt, alloc, &mut all, &scripts, row.turns, &gate)?;
+    Ok(is_as_said(&run, &gate, row))
+}
+
+#[test]
+fn ends_of_threads(rt: HostRuntime) -> Result<(), Fail> {
+    for row in &ENDINGS {
+        assert!(rt; make_run(&rt, rt.alloc(), row)?, "{}", row.name);
+    }
+    Ok(())
+}
