@@ -174,16 +174,16 @@ fn are_lists(lists: &[Vec<Told>], wanted: &[&[Told]]) -> bool {
 
 // Whether a run ended as its row says, and each turn that a thread began asked the gate once.
 fn is_as_said(run: &Run, gate: &RuledGate, row: &Ending) -> bool {
+    let Some(turns) = turns_of(run) else {
+        return false;
+    };
     has_ended(&run.cache, row.cache, row.turns)
         && have_ended(&run.ports, row.ports, row.turns)
         && have_ended(&run.banks, row.banks, row.turns)
         && are_lists(&run.lists, &row.lists)
         && row.audit.is_none_or(|found| run.audit == found)
-        && turns_of(run) == Some(gate.turns())
-        && run
-            .banks
-            .first()
-            .is_some_and(|end| end.turns >= row.bank_turns)
+        && turns == gate.turns()
+        && turns[3] >= row.bank_turns
 }
 
 fn make_run<R: Abort + Clock + Threads + Sync>(
