@@ -1,6 +1,6 @@
 /*
- * Kroft for C and C++: the judge of one step of flat memory; the judge of a history, behind a handle; and
- * the machine, behind another.
+ * Kroft for C and C++: the judge of one step of flat memory; the judge of a history, behind a handle; the
+ * machine, behind another; and traffic for a bench.
  *
  * Link with -lkroft (`./kroft-lib DIR` leaves libkroft.a, libkroft.so and this file in DIR). C99 and
  * later, C++11 and later.
@@ -18,6 +18,9 @@
 
 /* The version of this library, which is also the program's, the Python package's and the one that `pkg-config` tells. */
 #define KROFT_VERSION "0.1.0"
+
+/* A buffer of so many bytes takes each version. */
+#define KROFT_VERSION_TEXT 16
 
 #ifdef __cplusplus
 extern "C" {
@@ -468,6 +471,69 @@ typedef struct {
 uint32_t kroft_unanswered_load(kroft_history *handle, uint64_t n, kroft_operation *operation);
 uint32_t kroft_unanswered_store(kroft_history *handle, uint64_t n, kroft_operation *operation);
 
+/* ---- traffic ----------------------------------------------------------------------------------- */
+
+/*
+ * Random loads and stores that caches find hard, from a seed: bursts to one block, blocks that conflict in a set,
+ * stores that leave bytes out, and blocks that several requesters share. An access depends on the plan, the seed and
+ * its number alone, so that a bench keeps nothing, and can come back to any access of any run.
+ *
+ *     kroft_plan plan = {0x1000, 64, 64, 8, 16, 64, 4, 2, 0, 128, 64};
+ *     kroft_access access;
+ *     uint8_t bytes[64];
+ *     for (uint64_t n = 0; n < 1000000; n++) {
+ *         kroft_traffic(&plan, seed, n, &access, bytes, sizeof bytes);
+ *         ..
+ *     }
+ */
+
+/* What traffic is like. Shares are in 256ths: 0 is never, 256 and more always. */
+typedef struct {
+    uint64_t base;         /* the address of memory's first byte: a multiple of `block_bytes`                       */
+    uint32_t blocks;       /* how many blocks memory has: 1 or more, and none lies past the last 64-bit address     */
+    uint32_t block_bytes;  /* the bytes of a block: a multiple of `widest`                                          */
+    uint32_t widest;       /* the bytes of the widest access: 1, 2, 4, .. 64. Others are an eighth of it at least   */
+    uint32_t sets;         /* the sets of the cache: 1 or more. Blocks a multiple of it apart conflict              */
+    uint32_t conflicts;    /* the share of bursts that go to a block of set 0, where they conflict                  */
+    uint32_t burst;        /* how many accesses, one behind the other, go to one block: 1 or more                   */
+    uint32_t requesters;   /* how many ask, in turn: 1 or more                                                      */
+    uint32_t apart;        /* not 0: each requester has bytes of its own in each block, accesses of one byte,
+                              so that blocks are shared and bytes aren't: of at most `block_bytes` requesters       */
+    uint32_t stores;       /* the share of stores among the accesses                                                */
+    uint32_t partial;      /* the share of stores that may leave bytes out                                          */
+} kroft_plan;
+
+/* An access: a load or a store of some bytes of one block. */
+typedef struct {
+    uint32_t requester; /* who asks: less than the plan's requesters                                                */
+    uint32_t length;    /* how many bytes it has                                                                    */
+    uint64_t turn;      /* how many accesses this requester had before: by it a bench sees who doesn't get on       */
+    uint64_t address;   /* the address of its first byte: a multiple of its length, unless requesters are apart     */
+    uint64_t enables;   /* the bytes that a store writes: bit k is its byte k. 0: a load                            */
+} kroft_access;
+
+/* What a call for traffic says. */
+enum {
+    KROFT_DRAWN = 0,   /* `access` is the access, and if it is a store, `bytes` begins with its bytes               */
+    KROFT_NO_PLAN = 1, /* a number of the plan isn't as its description says                                        */
+    KROFT_NARROW = 2   /* `bytes` has fewer bytes than the widest access                                            */
+};
+
+/*
+ * The access of a number, under a seed. Returns KROFT_DRAWN; or KROFT_NO_PLAN or, behind it, KROFT_NARROW, and then
+ * all is as it was. A store that would leave out all its bytes is a load. It takes no memory.
+ */
+uint32_t kroft_traffic(const kroft_plan *plan, uint64_t seed, uint64_t number, kroft_access *access, uint8_t *bytes,
+                       size_t nbytes);
+
+/* ---- the library ------------------------------------------------------------------------------- */
+
+/*
+ * Writes the library's version and a 0 behind it. Returns the length of the text, without the 0; if the two don't
+ * fit, the buffer is as it was. A client that finds the library at run time compares it with KROFT_VERSION.
+ */
+uint32_t kroft_version(char *text, size_t ntext);
+
 /* ---- the layout that the library was built with ------------------------------------------------ */
 
 #if defined(__cplusplus)
@@ -511,6 +577,12 @@ KROFT_ASSERT(field_held, offsetof(kroft_field_view, held) == 20);
 KROFT_ASSERT(target_size, sizeof(kroft_target_view) == 8);
 KROFT_ASSERT(target_lanes, offsetof(kroft_target_view, lanes) == 2);
 KROFT_ASSERT(target_held, offsetof(kroft_target_view, held) == 3);
+KROFT_ASSERT(plan_size, sizeof(kroft_plan) == 48);
+KROFT_ASSERT(plan_blocks, offsetof(kroft_plan, blocks) == 8);
+KROFT_ASSERT(plan_partial, offsetof(kroft_plan, partial) == 44);
+KROFT_ASSERT(access_size, sizeof(kroft_access) == 32);
+KROFT_ASSERT(access_turn, offsetof(kroft_access, turn) == 8);
+KROFT_ASSERT(access_enables, offsetof(kroft_access, enables) == 24);
 
 #undef KROFT_ASSERT
 

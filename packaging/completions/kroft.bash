@@ -8,12 +8,13 @@ _kroft() {
     --busy) COMPREPLY=($(compgen -W '' -- "$word")); return ;;
     --from) COMPREPLY=($(compgen -W 'lackey din' -- "$word")); return ;;
     --words) COMPREPLY=($(compgen -W '' -- "$word")); return ;;
-    --law) COMPREPLY=($(compgen -W 'regular' -- "$word")); return ;;
+    --law) COMPREPLY=($(compgen -W 'flat atomic regular' -- "$word")); return ;;
+    --unit) COMPREPLY=($(compgen -W '1 2 4 8' -- "$word")); return ;;
     --image) COMPREPLY=($(compgen -f -- "$word")); return ;;
   esac
   for ((k = 1; k < COMP_CWORD; k++)); do
     case ${COMP_WORDS[k]} in
-    run|check|sweep|explain|drive|requests|show|history) command=${COMP_WORDS[k]} ;;
+    run|check|sweep|explain|grade|drive|requests|show|history) command=${COMP_WORDS[k]} ;;
     esac
   done
   case $command in
@@ -21,11 +22,12 @@ _kroft() {
     check) k='--shape -h --help' ;;
     sweep) k='--shape --latency --busy -h --help' ;;
     explain) k='--shape -h --help' ;;
+    grade) k='--shape -h --help' ;;
     drive) k='--shape --latency --busy --summary -h --help' ;;
     requests) k='--from --words -h --help' ;;
     show) k='--shape --text --vcd -h --help' ;;
-    history) k='--law --image --unknown --all-answered -h --help' ;;
-    *) k='run check sweep explain drive requests show history --shape -h --help -V --version' ;;
+    history) k='--law --unit --image --unknown --all-answered --values -h --help' ;;
+    *) k='run check sweep explain grade drive requests show history --shape -h --help -V --version' ;;
   esac
   COMPREPLY=($(compgen -W "$k" -- "$word"))
 }
