@@ -26,18 +26,21 @@ none_is : {X : Type 0} (o : Option X) → is_none o ≡ true → o ≡ None
 none_is None h = refl
 none_is (Some x) h = cc
 
-pub formed_parts : (o : Opened) (history : List HistoryEvent) (event : HistoryEvent) → is_formed o (history ++ event ∷ []) ≡ true → (is_formed o history ≡ true) × (form_fault (fold opened_after o history) event ≡ None)
+pub formed_parts : (o : Opened) (history : List HistoryEvent) (event : HistoryEvent) → is_formed o (history ++ event ∷ []) ≡ true
+    → (is_formed o history ≡ true) × (form_fault (fold opened_after o history) event ≡ None)
 formed_parts o [] event h = (refl, none_is (form_fault o event) (and_parts (is_none (form_fault o event)) true h).0)
 formed_parts o (x ∷ xs) event h =
     let p = and_parts (is_none (form_fault o x)) (is_formed (opened_after o x) (xs ++ event ∷ [])) h in
     let r = formed_parts (opened_after o x) xs event p.1 in
     (and_from (is_none (form_fault o x)) (is_formed (opened_after o x) xs) p.0 r.0, r.1)
 
-pub formed_more : (o : Opened) (history : List HistoryEvent) (event : HistoryEvent) → is_formed o history ≡ true → form_fault (fold opened_after o history) event ≡ None → is_formed o (history ++ event ∷ []) ≡ true
+pub formed_more : (o : Opened) (history : List HistoryEvent) (event : HistoryEvent) → is_formed o history ≡ true
+    → form_fault (fold opened_after o history) event ≡ None → is_formed o (history ++ event ∷ []) ≡ true
 formed_more o [] event h f = rw f refl
 formed_more o (x ∷ xs) event h f =
     let p = and_parts (is_none (form_fault o x)) (is_formed (opened_after o x) xs) h in
-    and_from (is_none (form_fault o x)) (is_formed (opened_after o x) (xs ++ event ∷ [])) p.0 (formed_more (opened_after o x) xs event p.1 f)
+    and_from (is_none (form_fault o x)) (is_formed (opened_after o x) (xs
+        ++ event ∷ [])) p.0 (formed_more (opened_after o x) xs event p.1 f)
 
 -- The open loads and stores of the regular law. ----
 
@@ -59,11 +62,13 @@ or_last true c = refl
 or_last false true = refl
 or_last false false = refl
 
-any_more : (n : ℕ) (os : List Operation) (x : Operation) → list_any (has_number n) (os ++ x ∷ []) ≡ (list_any (has_number n) os || has_number n x)
+any_more : (n : ℕ) (os : List Operation) (x : Operation) → list_any (has_number n) (os
+    ++ x ∷ []) ≡ (list_any (has_number n) os || has_number n x)
 any_more n os x = list_any-append (has_number n) os (x ∷ []) ∙ or_last (list_any (has_number n) os) (has_number n x)
 
 -- once a store is requested
-stores_more : (stores : List StoreByte) (os : List Operation) (n a : ℕ) (bs : List ℕ) (e t : ℕ) (x : Operation) → x.number ≡ n → has_enabled bs e ≡ true → (m : ℕ) → list_any (is_open m) stores ≡ list_any (has_number m) os
+stores_more : (stores : List StoreByte) (os : List Operation) (n a : ℕ) (bs : List ℕ) (e t : ℕ) (x : Operation) → x.number ≡ n
+    → has_enabled bs e ≡ true → (m : ℕ) → list_any (is_open m) stores ≡ list_any (has_number m) os
     → list_any (is_open m) (stores ++ store_bytes n a bs e t) ≡ list_any (has_number m) (os ++ x ∷ [])
 stores_more stores os n a bs e t x same any m h =
     list_any-append (is_open m) stores (store_bytes n a bs e t)
@@ -79,7 +84,8 @@ closed n t s = elim (after_cases n t s) [
 other_open : (n m t : ℕ) (s : StoreByte) → (n == m) ≡ false → is_open m (after_response n t s) ≡ is_open m s
 other_open n m t s h = elim (after_cases n t s) [
   | inl c ↦
-      let f : is_open m s ≡ false = false_if (is_open m s) (λ e. false_true (n == m) h (eq-eqb n m (sym c.1.0 ∙ eqb-true s.number m (and_parts (is_none s.ended) (s.number == m) e).1))) in
+      let f : is_open m s ≡ false = false_if (is_open m s) (λ e.
+          false_true (n == m) h (eq-eqb n m (sym c.1.0 ∙ eqb-true s.number m (and_parts (is_none s.ended) (s.number == m) e).1))) in
       ap (is_open m) c.1.1 ∙ sym f
   | inr c ↦ ap (is_open m) c.1
 ]
@@ -89,34 +95,44 @@ not_itself true = refl
 not_itself false = refl
 
 kept_other : (n m : ℕ) (o : Operation) → (n == m) ≡ false → has_number m o ≡ true → not (has_number n o) ≡ true
-kept_other n m o h e = ap not (false_if (has_number n o) (λ f. false_true (n == m) h (eq-eqb n m (sym (eqb-true o.number n f) ∙ eqb-true o.number m e))))
+kept_other n m o h e = ap not (false_if (has_number n o) (λ f.
+    false_true (n == m) h (eq-eqb n m (sym (eqb-true o.number n f) ∙ eqb-true o.number m e))))
 
-stores_fewer : (stores : List StoreByte) (os : List Operation) (n t : ℕ) → ((m : ℕ) → list_any (is_open m) stores ≡ list_any (has_number m) os)
+stores_fewer : (stores : List StoreByte) (os : List Operation) (n t : ℕ) → ((m : ℕ)
+    → list_any (is_open m) stores ≡ list_any (has_number m) os)
     → (m : ℕ) → list_any (is_open m) (map (after_response n t) stores) ≡ list_any (has_number m) (without_number n os)
 stores_fewer stores os n t h m = elim (cases_Bool (n == m)) [
   | inl e ↦
       let same : n ≡ m = eqb-true n m e in
       subst (λ k. list_any (is_open k) (map (after_response n t) stores) ≡ list_any (has_number k) (without_number n os)) same
       (list_any-map (after_response n t) (is_open n) stores
-      ∙ (any_none (λ s. is_open n (after_response n t s)) stores (each_always (λ s. is_open n (after_response n t s) ≡ false) (closed n t) stores)
-      ∙ sym (list_any-filter (λ o. not (has_number n o)) (has_number n) os ∙ any_none (λ o. not (has_number n o) && has_number n o) os (each_always (λ o. (not (has_number n o) && has_number n o) ≡ false) (λ o. not_itself (has_number n o)) os))))
+      ∙ (any_none (λ s. is_open n (after_response n t s)) stores (each_always (λ s.
+          is_open n (after_response n t s) ≡ false) (closed n t) stores)
+      ∙ sym (list_any-filter (λ o. not (has_number n o)) (has_number n) os ∙ any_none (λ o.
+          not (has_number n o) && has_number n o) os (each_always (λ o. (not (has_number n o) && has_number n o) ≡ false) (λ o.
+          not_itself (has_number n o)) os))))
   | inr e ↦
       list_any-map (after_response n t) (is_open m) stores
       ∙ (any_agree (λ s. is_open m (after_response n t s)) (is_open m) (λ s. other_open n m t s e) stores
       ∙ (h m ∙ sym (list_any-kept (λ o. not (has_number n o)) (has_number m) (λ o f. kept_other n m o e f) os)))
 ]
 
-pub agrees_after : (o : Opened) (w : Windows) (ks : List (Marked ℕ)) (event : HistoryEvent) → Agrees o w ks → form_fault o event ≡ None → Agrees (opened_after o event) (windows_after w event) (marked_after w.moment ks event)
+pub agrees_after : (o : Opened) (w : Windows) (ks : List (Marked ℕ)) (event : HistoryEvent) → Agrees o w ks → form_fault o event ≡ None
+    → Agrees (opened_after o event) (windows_after w event) (marked_after w.moment ks event)
 agrees_after o w ks (LoadRequest n a len) g f =
     let p = load_formed (is_inside a len) (list_any (has_number n) o.loads) f in
     record {
-      loads = loads_more load_byte number_of its_number ks w.loads o.loads g.loads (record { operation = record { number = n; address = a; length = len }; mark = w.moment }) p.1 (inside_some a len p.0);
+      loads = loads_more load_byte number_of its_number ks w.loads o.loads g.loads (record { operation = record { number = n; address = a;
+        length = len }; mark = w.moment }) p.1 (inside_some a len p.0);
       stores = g.stores;
     }
-agrees_after o w ks (LoadResponse n bytes) g f = record { loads = loads_fewer load_byte number_of its_number ks w.loads o.loads g.loads n; stores = g.stores }
+agrees_after o w ks (LoadResponse n bytes) g f = record { loads = loads_fewer load_byte number_of its_number ks w.loads o.loads g.loads n;
+    stores = g.stores }
 agrees_after o w ks (StoreRequest n a bytes e) g f =
     let p = store_formed (is_inside a (length bytes.now)) (has_enabled bytes.now e) (list_any (has_number n) o.stores) f in
-    record { loads = g.loads; stores = λ m. stores_more w.stores o.stores n a bytes.now e w.moment (record { number = n; address = a; length = length bytes.now }) refl p.1.0 m (g.stores m) }
+    record { loads = g.loads; stores = λ m.
+        stores_more w.stores o.stores n a bytes.now e w.moment (record { number = n; address = a; length = length bytes.now }) refl p.1.0 m
+          (g.stores m) }
 agrees_after o w ks (StoreResponse n) g f = record { loads = g.loads; stores = stores_fewer w.stores o.stores n w.moment g.stores }
 
 -- Whole histories. ----
@@ -125,12 +141,15 @@ abbrev pub marks_from : Windows → List (Marked ℕ) → List HistoryEvent → 
 marks_from w ks [] = ks
 marks_from w ks (event ∷ events) = marks_from (windows_after w event) (marked_after w.moment ks event) events
 
-pub marks_more : (w : Windows) (ks : List (Marked ℕ)) (history : List HistoryEvent) (event : HistoryEvent) → marks_from w ks (history ++ event ∷ []) ≡ marked_after (fold windows_after w history).moment (marks_from w ks history) event
+pub marks_more : (w : Windows) (ks : List (Marked ℕ)) (history : List HistoryEvent) (event : HistoryEvent) → marks_from w ks (history
+    ++ event ∷ []) ≡ marked_after (fold windows_after w history).moment (marks_from w ks history) event
 marks_more w ks [] event = refl
 marks_more w ks (x ∷ xs) event = marks_more (windows_after w x) (marked_after w.moment ks x) xs event
 
-pub agrees_from : (o : Opened) (w : Windows) (ks : List (Marked ℕ)) (history : List HistoryEvent) → Agrees o w ks → is_formed o history ≡ true → Agrees (fold opened_after o history) (fold windows_after w history) (marks_from w ks history)
+pub agrees_from : (o : Opened) (w : Windows) (ks : List (Marked ℕ)) (history : List HistoryEvent) → Agrees o w ks
+    → is_formed o history ≡ true → Agrees (fold opened_after o history) (fold windows_after w history) (marks_from w ks history)
 agrees_from o w ks [] g f = g
 agrees_from o w ks (x ∷ xs) g f =
     let p = and_parts (is_none (form_fault o x)) (is_formed (opened_after o x) xs) f in
-    agrees_from (opened_after o x) (windows_after w x) (marked_after w.moment ks x) xs (agrees_after o w ks x g (none_is (form_fault o x) p.0)) p.1
+    agrees_from (opened_after o x) (windows_after w x) (marked_after w.moment ks x) xs (agrees_after o w ks x g (none_is (form_fault o x)
+      p.0)) p.1

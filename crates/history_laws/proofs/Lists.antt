@@ -118,19 +118,22 @@ filter_none p (x ∷ xs) h = rw (h.0, filter_none p xs h.1) refl
 
 -- One element for another. ----
 
-pub one_replace : {X : Type 0} (P Q : X → Type 0) (before : List X) (x y : X) (after : List X) → ((z : X) → P z → Q z) → (P x → Q y) → One P (before ++ x ∷ after) → One Q (before ++ y ∷ after)
+pub one_replace : {X : Type 0} (P Q : X → Type 0) (before : List X) (x y : X) (after : List X) → ((z : X) → P z → Q z) → (P x → Q y)
+    → One P (before ++ x ∷ after) → One Q (before ++ y ∷ after)
 one_replace P Q [] x y after f g (inl p) = inl (g p)
 one_replace P Q [] x y after f g (inr h) = inr (one_weaker P Q f after h)
 one_replace P Q (z ∷ before) x y after f g (inl p) = inl (f z p)
 one_replace P Q (z ∷ before) x y after f g (inr h) = inr (one_replace P Q before x y after f g h)
 
-pub one_replaced : {X : Type 0} (P : X → Type 0) (before : List X) (x y : X) (after : List X) → One P (before ++ y ∷ after) → One P (before ++ x ∷ after) ⊎ P y
+pub one_replaced : {X : Type 0} (P : X → Type 0) (before : List X) (x y : X) (after : List X) → One P (before ++ y ∷ after) → One P (before
+    ++ x ∷ after) ⊎ P y
 one_replaced P [] x y after (inl p) = inr p
 one_replaced P [] x y after (inr h) = inl (inr h)
 one_replaced P (z ∷ before) x y after (inl p) = inl (inl p)
 one_replaced P (z ∷ before) x y after (inr h) = elim (one_replaced P before x y after h) [ inl a ↦ inl (inr a) | inr p ↦ inr p ]
 
-pub each_replace : {X : Type 0} (P : X → Type 0) (before : List X) (x y : X) (after : List X) → (P x → P y) → Each P (before ++ x ∷ after) → Each P (before ++ y ∷ after)
+pub each_replace : {X : Type 0} (P : X → Type 0) (before : List X) (x y : X) (after : List X) → (P x → P y) → Each P (before ++ x ∷ after)
+    → Each P (before ++ y ∷ after)
 each_replace P [] x y after f h = (f h.0, h.1)
 each_replace P (z ∷ before) x y after f h = (h.0, each_replace P before x y after f h.1)
 

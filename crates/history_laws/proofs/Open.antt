@@ -42,7 +42,8 @@ inside_some address n h = leb-true 1 n (and_parts _ _ h).0
 
 -- what is kept of the loads after an event
 abbrev pub marked_after : {X : Type 0} → X → List (Marked X) → HistoryEvent → List (Marked X)
-marked_after x ks (LoadRequest number address n) = ks ++ record { operation = record { number = number; address = address; length = n }; mark = x } ∷ []
+marked_after x ks (LoadRequest number address n) = ks
+    ++ record { operation = record { number = number; address = address; length = n }; mark = x } ∷ []
 marked_after x ks (LoadResponse number bytes) = filter (λ k. not (is_number number k)) ks
 marked_after x ks event = ks
 
@@ -57,14 +58,17 @@ module _ {X L : Type 0} (make : ℕ → ℕ → X → L) (number : L → ℕ) (n
   pub no_loads : Loads [] [] []
   no_loads = record { bytes = refl; operations = refl; each_some = tt; different = tt }
 
-  any_operation : (ks : List (Marked X)) (os : List Operation) (n : ℕ) → os ≡ map operation_of ks → list_any (has_number n) os ≡ list_any (is_number n) ks
+  any_operation : (ks : List (Marked X)) (os : List Operation) (n : ℕ) → os ≡ map operation_of ks
+      → list_any (has_number n) os ≡ list_any (is_number n) ks
   any_operation ks os n h = ap (list_any (has_number n)) h ∙ list_any-map operation_of (has_number n) ks
 
-  pub loads_any : (ks : List (Marked X)) (ls : List L) (os : List Operation) → Loads ks ls os → (n : ℕ) → list_any (λ l. number l == n) ls ≡ list_any (has_number n) os
+  pub loads_any : (ks : List (Marked X)) (ls : List L) (os : List Operation) → Loads ks ls os → (n : ℕ) → list_any (λ l.
+      number l == n) ls ≡ list_any (has_number n) os
   loads_any ks ls os h n =
       ap (list_any (λ l. number l == n)) h.bytes ∙ (any_bytes make number named ks n h.each_some ∙ sym (any_operation ks os n h.operations))
 
-  pub loads_more : (ks : List (Marked X)) (ls : List L) (os : List Operation) → Loads ks ls os → (k : Marked X) → list_any (has_number k.operation.number) os ≡ false → IsSome k
+  pub loads_more : (ks : List (Marked X)) (ls : List L) (os : List Operation) → Loads ks ls os → (k : Marked X)
+      → list_any (has_number k.operation.number) os ≡ false → IsSome k
       → Loads (ks ++ k ∷ []) (ls ++ bytes_of make number named k) (os ++ k.operation ∷ [])
   loads_more ks ls os h k new s = record {
     bytes = ap (λ x. x ++ bytes_of make number named k) h.bytes ∙ sym (bytes_more make number named ks k);
@@ -82,15 +86,19 @@ module _ {X L : Type 0} (make : ℕ → ℕ → X → L) (number : L → ℕ) (n
     different = different_fewer (λ k. not (is_number n k)) ks h.different;
   }
 
-  some_from : (o : Option (Marked X)) (x : Operation) → option_map operation_of o ≡ Some x → (k : Marked X) × ((o ≡ Some k) × (k.operation ≡ x))
+  some_from : (o : Option (Marked X)) (x : Operation) → option_map operation_of o ≡ Some x → (k : Marked X) × ((o ≡ Some k)
+      × (k.operation ≡ x))
   some_from None x h = cc
   some_from (Some k) x h = (k, (refl, cc))
 
   -- the load that is open under a number, and its bytes
-  pub loads_under : (ks : List (Marked X)) (ls : List L) (os : List Operation) → Loads ks ls os → (n : ℕ) (x : Operation) → find (has_number n) os ≡ Some x
-      → (k : Marked X) × ((find (is_number n) ks ≡ Some k) × ((k.operation ≡ x) × (filter (λ l. number l == n) ls ≡ bytes_of make number named k)))
+  pub loads_under : (ks : List (Marked X)) (ls : List L) (os : List Operation) → Loads ks ls os → (n : ℕ) (x : Operation)
+      → find (has_number n) os ≡ Some x
+      → (k : Marked X) × ((find (is_number n) ks ≡ Some k) × ((k.operation ≡ x) × (filter (λ l.
+          number l == n) ls ≡ bytes_of make number named k)))
   loads_under ks ls os h n x e =
-      let s = some_from (find (is_number n) ks) x (sym (find-map operation_of (has_number n) ks) ∙ (ap (find (has_number n)) (sym h.operations) ∙ e)) in
+      let s = some_from (find (is_number n) ks) x (sym (find-map operation_of (has_number n) ks) ∙ (ap (find (has_number n)) (sym
+        h.operations) ∙ e)) in
       (s.0, (s.1.0, (s.1.1, ap (filter (λ l. number l == n)) h.bytes ∙ bytes_under make number named ks n s.0 h.different s.1.0)))
 
   length_range : (n a : ℕ) → length (range_with_len a n) ≡ n
@@ -98,16 +106,21 @@ module _ {X L : Type 0} (make : ℕ → ℕ → X → L) (number : L → ℕ) (n
   length_range (suc n) a = ap suc (length_range n (a + 1))
 
   pub length_bytes : (k : Marked X) → length (bytes_of make number named k) ≡ k.operation.length
-  length_bytes k = length-map (range_with_len k.operation.address k.operation.length) (λ b. make k.operation.number b k.mark) ∙ length_range k.operation.length k.operation.address
+  length_bytes k = length-map (range_with_len k.operation.address k.operation.length) (λ b.
+      make k.operation.number b k.mark) ∙ length_range k.operation.length k.operation.address
 
   -- an answer of which each byte may be returned has no fault
   pub no_fault : (may : L → ℕ → Bool) (k : Marked X) (bs : List ℕ) → IsSome k → length bs ≡ k.operation.length
-      → ((i b : ℕ) → slice_get bs i ≡ Some b → i < k.operation.length → may (make k.operation.number (k.operation.address + i) k.mark) b ≡ true)
+      → ((i b : ℕ) → slice_get bs i ≡ Some b → i < k.operation.length
+          → may (make k.operation.number (k.operation.address + i) k.mark) b ≡ true)
       → load_response_fault may (bytes_of make number named k) bs ≡ None
   no_fault may k bs s e h =
       let len = length_bytes k in
-      let some : (length (bytes_of make number named k) == 0) ≡ false = ne_eqb (length (bytes_of make number named k)) 0 (λ z. absurd (omega arith)) in
-      let same : (length (bytes_of make number named k) == length bs) ≡ true = eq-eqb (length (bytes_of make number named k)) (length bs) (len ∙ sym e) in
+      let some : (length (bytes_of make number named k) == 0) ≡ false = ne_eqb (length (bytes_of make number named k)) 0 (λ z.
+          absurd (omega arith)) in
+      let same : (length (bytes_of make number named k) == length bs) ≡ true = eq-eqb (length (bytes_of make number named k)) (length bs)
+        (len ∙ sym e) in
       let paid = each_paid make number named may k.operation.number k.mark k.operation.length k.operation.address bs h in
-      let right : wrong_place may (bytes_of make number named k) bs ≡ None = no_wrong_place may (zip (bytes_of make number named k) bs) paid in
+      let right : wrong_place may (bytes_of make number named k) bs ≡ None = no_wrong_place may (zip (bytes_of make number named k) bs) paid
+        in
       rw (some, same, right) refl

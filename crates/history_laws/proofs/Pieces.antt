@@ -53,7 +53,8 @@ module _ {X L : Type 0} (make : ℕ → ℕ → X → L) (number : L → ℕ) (n
 
   each_is : (k : Marked X) (n : ℕ) (b : Bool) → is_number n k ≡ b → Each (λ l. is_it n l ≡ b) (bytes_of k)
   each_is k n b h =
-      each_weaker (λ l. number l ≡ k.operation.number) (λ l. is_it n l ≡ b) (λ l e. ap (λ m. m == n) e ∙ h) (bytes_of k) (each_named k.operation.number k.mark k.operation.length k.operation.address)
+      each_weaker (λ l. number l ≡ k.operation.number) (λ l. is_it n l ≡ b) (λ l e. ap (λ m.
+          m == n) e ∙ h) (bytes_of k) (each_named k.operation.number k.mark k.operation.length k.operation.address)
 
   any_first : (m : ℕ) (x : X) (a len n : ℕ) → 1 ≤ len → (m == n) ≡ true → list_any (is_it n) (piece m x a len) ≡ true
   any_first m x a zero n s e = absurd (omega arith)
@@ -75,11 +76,13 @@ module _ {X L : Type 0} (make : ℕ → ℕ → X → L) (number : L → ℕ) (n
   none_of (k ∷ ks) n h = elim (cases_Bool (is_number n k)) [
     | inl e ↦ absurd (false_true (is_number n k || list_any (is_number n) ks) h (rw e refl))
     | inr e ↦ let r : list_any (is_number n) ks ≡ false = (rw e at h) in
-        filter-append (is_it n) (bytes_of k) (all_bytes ks) ∙ rw (filter_none (is_it n) (bytes_of k) (each_is k n false e), none_of ks n r) refl
+        filter-append (is_it n) (bytes_of k) (all_bytes ks) ∙ rw (filter_none (is_it n) (bytes_of k) (each_is k n false e),
+            none_of ks n r) refl
   ]
 
   -- the bytes of the load that is open under a number
-  pub bytes_under : (ks : List (Marked X)) (n : ℕ) (k : Marked X) → AreDifferent ks → find (is_number n) ks ≡ Some k → filter (is_it n) (all_bytes ks) ≡ bytes_of k
+  pub bytes_under : (ks : List (Marked X)) (n : ℕ) (k : Marked X) → AreDifferent ks → find (is_number n) ks ≡ Some k
+      → filter (is_it n) (all_bytes ks) ≡ bytes_of k
   bytes_under [] n k d h = cc
   bytes_under (j ∷ ks) n k d h = elim (cases_Bool (is_number n j)) [
     | inl e ↦
@@ -88,7 +91,8 @@ module _ {X L : Type 0} (make : ℕ → ℕ → X → L) (number : L → ℕ) (n
         let m : j.operation.number ≡ n = eqb-true j.operation.number n e in
         let parts : filter (is_it n) (all_bytes (j ∷ ks)) ≡ bytes_of j =
         filter-append (is_it n) (bytes_of j) (all_bytes ks)
-        ∙ rw (filter_all (is_it n) (bytes_of j) (each_is j n true e), none_of ks n (subst (λ x. list_any (is_number x) ks ≡ false) m d.0)) (append-nil (bytes_of j)) in
+        ∙ rw (filter_all (is_it n) (bytes_of j) (each_is j n true e), none_of ks n (subst (λ x.
+            list_any (is_number x) ks ≡ false) m d.0)) (append-nil (bytes_of j)) in
         parts ∙ ap bytes_of same
     | inr e ↦
         filter-append (is_it n) (bytes_of j) (all_bytes ks)
@@ -96,15 +100,18 @@ module _ {X L : Type 0} (make : ℕ → ℕ → X → L) (number : L → ℕ) (n
   ]
 
   -- the others
-  pub bytes_without : (ks : List (Marked X)) (n : ℕ) → filter (λ l. not (is_it n l)) (all_bytes ks) ≡ all_bytes (filter (λ k. not (is_number n k)) ks)
+  pub bytes_without : (ks : List (Marked X)) (n : ℕ) → filter (λ l. not (is_it n l)) (all_bytes ks) ≡ all_bytes (filter (λ k.
+      not (is_number n k)) ks)
   bytes_without [] n = refl
   bytes_without (k ∷ ks) n = elim (cases_Bool (is_number n k)) [
     | inl e ↦
         filter-append (λ l. not (is_it n l)) (bytes_of k) (all_bytes ks)
-        ∙ rw (e, filter_none (λ l. not (is_it n l)) (bytes_of k) (each_weaker (λ l. is_it n l ≡ true) (λ l. not (is_it n l) ≡ false) (λ l h. ap not h) (bytes_of k) (each_is k n true e))) (bytes_without ks n)
+        ∙ rw (e, filter_none (λ l. not (is_it n l)) (bytes_of k) (each_weaker (λ l. is_it n l ≡ true) (λ l. not (is_it n l) ≡ false) (λ l h.
+            ap not h) (bytes_of k) (each_is k n true e))) (bytes_without ks n)
     | inr e ↦
         filter-append (λ l. not (is_it n l)) (bytes_of k) (all_bytes ks)
-        ∙ rw (e, filter_all (λ l. not (is_it n l)) (bytes_of k) (each_weaker (λ l. is_it n l ≡ false) (λ l. not (is_it n l) ≡ true) (λ l h. ap not h) (bytes_of k) (each_is k n false e)), bytes_without ks n) refl
+        ∙ rw (e, filter_all (λ l. not (is_it n l)) (bytes_of k) (each_weaker (λ l. is_it n l ≡ false) (λ l. not (is_it n l) ≡ true) (λ l h.
+            ap not h) (bytes_of k) (each_is k n false e)), bytes_without ks n) refl
   ]
 
   pub bytes_more : (ks : List (Marked X)) (k : Marked X) → all_bytes (ks ++ k ∷ []) ≡ all_bytes ks ++ bytes_of k
@@ -112,7 +119,8 @@ module _ {X L : Type 0} (make : ℕ → ℕ → X → L) (number : L → ℕ) (n
   bytes_more (j ∷ ks) k = ap (λ x. bytes_of j ++ x) (bytes_more ks k) ∙ sym (append_assoc (bytes_of j) (all_bytes ks) (bytes_of k))
 
   -- an answer that passes at each byte has no wrong place
-  pub each_paid : (may : L → ℕ → Bool) (n : ℕ) (x : X) (len a : ℕ) (bs : List ℕ) → ((i b : ℕ) → slice_get bs i ≡ Some b → i < len → may (make n (a + i) x) b ≡ true)
+  pub each_paid : (may : L → ℕ → Bool) (n : ℕ) (x : X) (len a : ℕ) (bs : List ℕ) → ((i b : ℕ) → slice_get bs i ≡ Some b → i < len
+      → may (make n (a + i) x) b ≡ true)
       → Each (λ p. may p.0 p.1 ≡ true) (zip (piece n x a len) bs)
   each_paid may n x zero a bs h = tt
   each_paid may n x (suc len) a [] h = tt
@@ -127,14 +135,17 @@ or_last : (b : Bool) → (b || false) ≡ b
 or_last true = refl
 or_last false = refl
 
-any_snoc : {X : Type 0} (n : ℕ) (ks : List (Marked X)) (k : Marked X) → list_any (is_number n) (ks ++ k ∷ []) ≡ (list_any (is_number n) ks || is_number n k)
+any_snoc : {X : Type 0} (n : ℕ) (ks : List (Marked X)) (k : Marked X) → list_any (is_number n) (ks
+    ++ k ∷ []) ≡ (list_any (is_number n) ks || is_number n k)
 any_snoc n [] k = or_last (is_number n k)
-any_snoc n (j ∷ ks) k = ap (λ x. is_number n j || x) (any_snoc n ks k) ∙ sym (or_assoc (is_number n j) (list_any (is_number n) ks) (is_number n k))
+any_snoc n (j ∷ ks) k = ap (λ x.
+    is_number n j || x) (any_snoc n ks k) ∙ sym (or_assoc (is_number n j) (list_any (is_number n) ks) (is_number n k))
 
 eqb_flip : (x y : ℕ) → (x == y) ≡ false → (y == x) ≡ false
 eqb_flip x y h = false_if (y == x) (λ e. false_true (x == y) h (eq-eqb x y (sym (eqb-true y x e))))
 
-pub different_more : {X : Type 0} (ks : List (Marked X)) (k : Marked X) → AreDifferent ks → list_any (is_number k.operation.number) ks ≡ false → AreDifferent (ks ++ k ∷ [])
+pub different_more : {X : Type 0} (ks : List (Marked X)) (k : Marked X) → AreDifferent ks
+    → list_any (is_number k.operation.number) ks ≡ false → AreDifferent (ks ++ k ∷ [])
 different_more [] k d h = (refl, tt)
 different_more (j ∷ ks) k d h = elim (cases_Bool (is_number k.operation.number j)) [
   | inl e ↦ absurd (false_true (is_number k.operation.number j || list_any (is_number k.operation.number) ks) h (rw e refl))
@@ -161,9 +172,11 @@ different_fewer q (k ∷ ks) d = elim (cases_Bool (q k)) [
 
 -- Answers. ----
 
-all_long : {L : Type 0} (may : L → ℕ → Bool) (ps : List (L × ℕ)) → Each (λ p. may p.0 p.1 ≡ true) ps → prefix_len (λ p. not (not (may p.0 p.1))) ps ≡ length ps
+all_long : {L : Type 0} (may : L → ℕ → Bool) (ps : List (L × ℕ)) → Each (λ p. may p.0 p.1 ≡ true) ps → prefix_len (λ p.
+    not (not (may p.0 p.1))) ps ≡ length ps
 all_long may [] h = refl
 all_long may (p ∷ ps) h = rw (h.0, all_long may ps h.1) (omega arith)
 
-pub no_wrong_place : {L : Type 0} (may : L → ℕ → Bool) (ps : List (L × ℕ)) → Each (λ p. may p.0 p.1 ≡ true) ps → position (λ p. not (may p.0 p.1)) ps ≡ None
+pub no_wrong_place : {L : Type 0} (may : L → ℕ → Bool) (ps : List (L × ℕ)) → Each (λ p. may p.0 p.1 ≡ true) ps → position (λ p.
+    not (may p.0 p.1)) ps ≡ None
 no_wrong_place may ps h = rw (all_long may ps h, le-ltb (length ps) (length ps) (omega arith)) refl

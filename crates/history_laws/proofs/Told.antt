@@ -93,8 +93,10 @@ some_enabled w m h =
     let b0 : has m Lane0 ≡ (e % 2 == 1) = has_bit m Lane0 ∙ low_bit e in
     let b1 : has m Lane1 ≡ (e / 2 % 2 == 1) = has_bit m Lane1 ∙ (next_bit e 0 ∙ low_bit (e / 2)) in
     let b2 : has m Lane2 ≡ (e / 2 / 2 % 2 == 1) = has_bit m Lane2 ∙ (next_bit e 1 ∙ (next_bit (e / 2) 0 ∙ low_bit (e / 2 / 2))) in
-    let b3 : has m Lane3 ≡ (e / 2 / 2 / 2 % 2 == 1) = has_bit m Lane3 ∙ (next_bit e 2 ∙ (next_bit (e / 2) 1 ∙ (next_bit (e / 2 / 2) 0 ∙ low_bit (e / 2 / 2 / 2)))) in
-    sym (or_end (e % 2 == 1) (e / 2 % 2 == 1) (e / 2 / 2 % 2 == 1) (e / 2 / 2 / 2 % 2 == 1)) ∙ (sym (λ i. b0 i || (b1 i || (b2 i || b3 i))) ∙ h)
+    let b3 : has m Lane3 ≡ (e / 2 / 2 / 2 % 2 == 1) = has_bit m Lane3 ∙ (next_bit e 2 ∙ (next_bit (e / 2) 1 ∙ (next_bit (e / 2 / 2) 0 ∙
+      low_bit (e / 2 / 2 / 2)))) in
+    sym (or_end (e % 2 == 1) (e / 2 % 2 == 1) (e / 2 / 2 % 2 == 1) (e / 2 / 2 / 2 % 2 == 1)) ∙ (sym (λ i.
+        b0 i || (b1 i || (b2 i || b3 i))) ∙ h)
 
 -- The byte of a word that a store leaves. ----
 
@@ -138,7 +140,8 @@ due_none : (o : Option Word) → is_none o ≡ true → due_bytes o ≡ []
 due_none None h = refl
 due_none (Some w) h = cc
 
-due_cases : (c t : Bool) (due : Option Word) (w : Option Word) → due_bytes (if c then w else due) ≡ (if c then due_bytes w else due_bytes due)
+due_cases : (c t : Bool) (due : Option Word) (w : Option Word)
+    → due_bytes (if c then w else due) ≡ (if c then due_bytes w else due_bytes due)
 due_cases true t due w = refl
 due_cases false t due w = refl
 
@@ -152,12 +155,14 @@ knowns_append : (xs ys : List OwedByte) → knowns (xs ++ ys) ≡ knowns xs ++ k
 knowns_append [] ys = refl
 knowns_append (x ∷ xs) ys = ap (λ t. known x.owed ∷ t) (knowns_append xs ys)
 
-append_cases : (o : Option Flat) (es more : List HistoryEvent) (g : Flat) → option_and_then (λ x. flat_run x es) o ≡ Some g → ((x : Flat) → flat_run x es ≡ Some g → flat_run x (es ++ more) ≡ flat_run g more)
+append_cases : (o : Option Flat) (es more : List HistoryEvent) (g : Flat) → option_and_then (λ x. flat_run x es) o ≡ Some g → ((x : Flat)
+    → flat_run x es ≡ Some g → flat_run x (es ++ more) ≡ flat_run g more)
     → option_and_then (λ x. flat_run x (es ++ more)) o ≡ flat_run g more
 append_cases None es more g h f = cc
 append_cases (Some x) es more g h f = f x h
 
-model_parts : (b : Bool) (g : model.Flat) (events : List Event) (answers : List Answer) → IsTrue (is_some (option_and_then (λ x. model.flat_run x events answers) (if b then Some g else None)))
+model_parts : (b : Bool) (g : model.Flat) (events : List Event) (answers : List Answer) → IsTrue (is_some (option_and_then (λ x.
+    model.flat_run x events answers) (if b then Some g else None)))
     → (b ≡ true) × IsTrue (is_some (model.flat_run g events answers))
 model_parts true g events answers t = (refl, t)
 model_parts false g events answers t = cc
@@ -174,22 +179,28 @@ shifted at k = omega arith
 module _ (n : ℕ) (fits : n ≤ 4611686018427387904) where
   -- A load is accepted. ----
 
-  owed_word : (s : model.Flat) (f : Flat) → Tells n s f → (tag at : ℕ) → at < n → knowns (owed_bytes f.memory tag (4 * at) 4) ≡ due_bytes (Some (word_at s.mem at))
+  owed_word : (s : model.Flat) (f : Flat) → Tells n s f → (tag at : ℕ) → at < n
+      → knowns (owed_bytes f.memory tag (4 * at) 4) ≡ due_bytes (Some (word_at s.mem at))
   owed_word s f t tag at l =
       let w = word_at s.mem at in
       let k0 : known (f.memory (4 * at)) ≡ Some w.b0 = subst (λ a. known (f.memory a) ≡ Some w.b0) (omega arith) (t.words at Lane0 l) in
       let k1 : known (f.memory (4 * at + 1)) ≡ Some w.b1 = t.words at Lane1 l in
-      let k2 : known (f.memory (4 * at + 1 + 1)) ≡ Some w.b2 = subst (λ a. known (f.memory a) ≡ Some w.b2) (omega arith) (t.words at Lane2 l) in
-      let k3 : known (f.memory (4 * at + 1 + 1 + 1)) ≡ Some w.b3 = subst (λ a. known (f.memory a) ≡ Some w.b3) (omega arith) (t.words at Lane3 l) in
+      let k2 : known (f.memory (4 * at + 1 + 1)) ≡ Some w.b2 = subst (λ a.
+          known (f.memory a) ≡ Some w.b2) (omega arith) (t.words at Lane2 l) in
+      let k3 : known (f.memory (4 * at + 1 + 1 + 1)) ≡ Some w.b3 = subst (λ a.
+          known (f.memory a) ≡ Some w.b3) (omega arith) (t.words at Lane3 l) in
       λ i. k0 i ∷ k1 i ∷ k2 i ∷ k3 i ∷ []
 
-  its_bytes : (memory : ℕ → Owed) (tag at t : ℕ) → filter (is_of t) (owed_bytes memory tag (4 * at) 4) ≡ (if tag == t then owed_bytes memory tag (4 * at) 4 else [])
+  its_bytes : (memory : ℕ → Owed) (tag at t : ℕ)
+      → filter (is_of t) (owed_bytes memory tag (4 * at) 4) ≡ (if tag == t then owed_bytes memory tag (4 * at) 4 else [])
   its_bytes memory tag at t = elim (cases_Bool (tag == t)) [ inl e ↦ rw e refl | inr e ↦ rw e refl ]
 
   loads_with : (s : model.Flat) (f : Flat) → Tells n s f → (tag at : ℕ) → at < n → is_none (s.due tag) ≡ true → (t : ℕ)
-      → knowns (filter (is_of t) (f.loads ++ owed_bytes f.memory tag (4 * at) 4)) ≡ due_bytes (with_due s.due tag (Some (word_at s.mem at)) t)
+      → knowns (filter (is_of t) (f.loads
+          ++ owed_bytes f.memory tag (4 * at) 4)) ≡ due_bytes (with_due s.due tag (Some (word_at s.mem at)) t)
   loads_with s f h tag at l free t =
-      ap knowns (filter-append (is_of t) f.loads (owed_bytes f.memory tag (4 * at) 4)) ∙ (knowns_append (filter (is_of t) f.loads) (filter (is_of t) (owed_bytes f.memory tag (4 * at) 4))
+      ap knowns (filter-append (is_of t) f.loads (owed_bytes f.memory tag (4 * at) 4)) ∙ (knowns_append (filter (is_of t) f.loads) (filter
+        (is_of t) (owed_bytes f.memory tag (4 * at) 4))
       ∙ elim (cases_Bool (tag == t)) [
         | inl e ↦
             let same : tag ≡ t = eqb-true tag t e in
@@ -202,17 +213,20 @@ module _ (n : ℕ) (fits : n ≤ 4611686018427387904) where
       ])
 
   load_accepted : (s : model.Flat) (f : Flat) → Tells n s f → (tag at : ℕ) → (nat_lt at (length s.mem) && is_none (s.due tag)) ≡ true
-      → (g : Flat) × ((flat_run f (LoadRequest tag (4 * at) 4 ∷ []) ≡ Some g) × Tells n (record { mem = s.mem; due = with_due s.due tag (Some (word_at s.mem at)) }) g)
+      → (g : Flat) × ((flat_run f (LoadRequest tag (4 * at) 4 ∷ []) ≡ Some g)
+          × Tells n (record { mem = s.mem; due = with_due s.due tag (Some (word_at s.mem at)) }) g)
   load_accepted s f h tag at may =
       let p = and_parts (nat_lt at (length s.mem)) (is_none (s.due tag)) may in
       let l : at < n = subst (λ m. at < m) h.size (ltb-true at (length s.mem) p.0) in
       let none : filter (is_of tag) f.loads ≡ [] = none_known (filter (is_of tag) f.loads) (h.due tag ∙ due_none (s.due tag) p.1) in
       let right : flat_fault f (LoadRequest tag (4 * at) 4) ≡ None = rw (inside_word n at fits l, none_of (is_of tag) f.loads none) refl in
-      (flat_after f (LoadRequest tag (4 * at) 4), (rw right refl, record { size = h.size; words = h.words; due = loads_with s f h tag at l p.1; no_stores = h.no_stores }))
+      (flat_after f (LoadRequest tag (4 * at) 4), (rw right refl,
+          record { size = h.size; words = h.words; due = loads_with s f h tag at l p.1; no_stores = h.no_stores }))
 
   -- A store is accepted. ----
 
-  at_lane : (memory : ℕ → Owed) (store : StoreName) (at : ℕ) (word : Word) (m : Lanes) (l : Lane) (old : ℕ) → known (memory (4 * at + place l)) ≡ Some old
+  at_lane : (memory : ℕ → Owed) (store : StoreName) (at : ℕ) (word : Word) (m : Lanes) (l : Lane) (old : ℕ)
+      → known (memory (4 * at + place l)) ≡ Some old
       → known (stored memory store (4 * at) (word_bytes word) m.0 (4 * at + place l)) ≡ Some (cond (has m l) (byte word l) old)
   at_lane memory store at word m l old h =
       ap known (bytes_at (λ b. owed.Stored b store) (word_bytes word) (4 * at) (4 * at + place l) m.0 memory)
@@ -222,7 +236,8 @@ module _ (n : ℕ) (fits : n ≤ 4611686018427387904) where
   not_enabled : (bs : List ℕ) (e k : ℕ) → length bs ≤ k → enabled_byte bs e k ≡ None
   not_enabled bs e k h = elim (cases_Bool (bit_at e k == 1)) [ inl t ↦ rw (t, slice_get_past bs k h) refl | inr t ↦ rw t refl ]
 
-  not_stored : (at other : ℕ) (word : Word) (e : ℕ) (l : Lane) → other ≢ at → stored_byte (4 * at) (word_bytes word) e (4 * other + place l) ≡ None
+  not_stored : (at other : ℕ) (word : Word) (e : ℕ) (l : Lane) → other ≢ at
+      → stored_byte (4 * at) (word_bytes word) e (4 * other + place l) ≡ None
   not_stored at other word e l ne = elim (cases_lt (4 * other + place l) (4 * at)) [
     | inl below ↦ not_below (4 * at) (4 * other + place l) (word_bytes word) e below
     | inr above ↦
@@ -230,26 +245,35 @@ module _ (n : ℕ) (fits : n ≤ 4611686018427387904) where
         let far : 4 ≤ 4 * other + place l - 4 * at = omega arith in
         let whole : 4 * at + (4 * other + place l - 4 * at) ≡ 4 * other + place l = omega arith in
         subst (λ a. stored_byte (4 * at) (word_bytes word) e a ≡ None) whole
-        (stored_inside (4 * at) (word_bytes word) e (4 * other + place l - 4 * at) ∙ not_enabled (word_bytes word) e (4 * other + place l - 4 * at) far)
+        (stored_inside (4 * at) (word_bytes word) e (4 * other + place l - 4 * at) ∙ not_enabled (word_bytes word) e (4 * other + place l -
+          4 * at) far)
   ]
 
-  words_with : (s : model.Flat) (f : Flat) → Tells n s f → (store : StoreName) (at : ℕ) (word : Word) (m : Lanes) → at < n → (other : ℕ) (l : Lane) → other < n
-      → known (stored f.memory store (4 * at) (word_bytes word) m.0 (4 * other + place l)) ≡ Some (byte (word_at (model.stored s.mem at word m) other) l)
+  words_with : (s : model.Flat) (f : Flat) → Tells n s f → (store : StoreName) (at : ℕ) (word : Word) (m : Lanes) → at < n
+      → (other : ℕ) (l : Lane) → other < n
+      → known (stored f.memory store (4 * at) (word_bytes word) m.0 (4 * other + place l)) ≡ Some (byte (word_at (model.stored s.mem at word
+        m) other) l)
   words_with s f h store at word m low other l more = elim (cases_eq other at) [
     | inl e ↦
         let long : at < length s.mem = subst (λ k. at < k) (sym h.size) low in
-        let left : word_at (model.stored s.mem at word m) at ≡ merged (word_at s.mem at) word m = get_or-set_same s.mem at (merged (word_at s.mem at) word m) zero_word long in
-        subst (λ x. known (stored f.memory store (4 * at) (word_bytes word) m.0 (4 * x + place l)) ≡ Some (byte (word_at (model.stored s.mem at word m) x) l)) (sym e)
-        (at_lane f.memory store at word m l (byte (word_at s.mem at) l) (h.words at l low) ∙ sym (ap (λ w. Some (byte w l)) left ∙ ap Some (byte-merged (word_at s.mem at) word m l)))
+        let left : word_at (model.stored s.mem at word m) at ≡ merged (word_at s.mem at) word m = get_or-set_same s.mem at (merged (word_at
+          s.mem at) word m) zero_word long in
+        subst (λ x. known (stored f.memory store (4 * at) (word_bytes word) m.0 (4 * x + place l)) ≡ Some (byte (word_at (model.stored s.mem
+          at word m) x) l)) (sym e)
+        (at_lane f.memory store at word m l (byte (word_at s.mem at) l) (h.words at l low) ∙ sym (ap (λ w.
+            Some (byte w l)) left ∙ ap Some (byte-merged (word_at s.mem at) word m l)))
     | inr ne ↦
-        let same : word_at (model.stored s.mem at word m) other ≡ word_at s.mem other = get_or-set_other s.mem at other (merged (word_at s.mem at) word m) zero_word ne in
+        let same : word_at (model.stored s.mem at word m) other ≡ word_at s.mem other = get_or-set_other s.mem at other (merged (word_at
+          s.mem at) word m) zero_word ne in
         ap known (bytes_at (λ b. owed.Stored b store) (word_bytes word) (4 * at) (4 * other + place l) m.0 f.memory)
         ∙ (ap (λ o. known (chosen (λ b. owed.Stored b store) o (f.memory (4 * other + place l)))) (not_stored at other word m.0 l ne)
         ∙ (h.words other l more ∙ ap (λ w. Some (byte w l)) (sym same)))
   ]
 
-  store_accepted : (s : model.Flat) (f : Flat) → Tells n s f → (at : ℕ) (word : Word) (m : Lanes) → (nat_lt at (length s.mem) && has_any m) ≡ true
-      → (g : Flat) × ((flat_run f (StoreRequest 0 (4 * at) (seen_bytes (word_bytes word)) m.0 ∷ StoreResponse 0 ∷ []) ≡ Some g) × Tells n (record { mem = model.stored s.mem at word m; due = s.due }) g)
+  store_accepted : (s : model.Flat) (f : Flat) → Tells n s f → (at : ℕ) (word : Word) (m : Lanes)
+      → (nat_lt at (length s.mem) && has_any m) ≡ true
+      → (g : Flat) × ((flat_run f (StoreRequest 0 (4 * at) (seen_bytes (word_bytes word)) m.0 ∷ StoreResponse 0 ∷ []) ≡ Some g)
+          × Tells n (record { mem = model.stored s.mem at word m; due = s.due }) g)
   store_accepted s f h at word m may =
       let p = and_parts (nat_lt at (length s.mem)) (has_any m) may in
       let l : at < n = subst (λ k. at < k) h.size (ltb-true at (length s.mem) p.0) in
@@ -278,7 +302,8 @@ module _ (n : ℕ) (fits : n ≤ 4611686018427387904) where
   known_paid (owed.Initial x) b c h e = let same : x ≡ b = cc in subst (λ y. (y == c) ≡ true) (sym same) e
   known_paid (owed.Stored x store) b c h e = let same : x ≡ b = cc in subst (λ y. (y == c) ≡ true) (sym same) e
 
-  paid_word : (ls : List OwedByte) (v word : Word) → knowns ls ≡ due_bytes (Some v) → same_word v word ≡ true → load_response_fault may_return ls (word_bytes word) ≡ None
+  paid_word : (ls : List OwedByte) (v word : Word) → knowns ls ≡ due_bytes (Some v) → same_word v word ≡ true
+      → load_response_fault may_return ls (word_bytes word) ≡ None
   paid_word [] v word h e = cc
   paid_word (a ∷ []) v word h e = cc
   paid_word (a ∷ b ∷ []) v word h e = cc
@@ -293,7 +318,8 @@ module _ (n : ℕ) (fits : n ≤ 4611686018427387904) where
       let kd : known d.owed ≡ Some v.b3 = cc in
       let right : wrong_place may_return (a ∷ b ∷ c ∷ d ∷ []) (word_bytes word) ≡ None =
       no_wrong_place may_return (zip (a ∷ b ∷ c ∷ d ∷ []) (word_bytes word))
-      (known_paid a.owed v.b0 word.b0 ka p.0, (known_paid b.owed v.b1 word.b1 kb q.0, (known_paid c.owed v.b2 word.b2 kc r.0, (known_paid d.owed v.b3 word.b3 kd r.1, tt)))) in
+      (known_paid a.owed v.b0 word.b0 ka p.0, (known_paid b.owed v.b1 word.b1 kb q.0, (known_paid c.owed v.b2 word.b2 kc r.0,
+          (known_paid d.owed v.b3 word.b3 kd r.1, tt)))) in
       rw right refl
   paid_word (a ∷ b ∷ c ∷ d ∷ x ∷ ls) v word h e = cc
 
@@ -301,23 +327,29 @@ module _ (n : ℕ) (fits : n ≤ 4611686018427387904) where
   owed_value None word h = cc
   owed_value (Some v) word h = (v, (refl, h))
 
-  others : (ls : List OwedByte) (tag t : ℕ) → knowns (filter (is_of t) (filter (λ l. not (is_of tag l)) ls)) ≡ (if t == tag then [] else knowns (filter (is_of t) ls))
+  others : (ls : List OwedByte) (tag t : ℕ) → knowns (filter (is_of t) (filter (λ l.
+      not (is_of tag l)) ls)) ≡ (if t == tag then [] else knowns (filter (is_of t) ls))
   others [] tag t = elim (cases_Bool (t == tag)) [ inl e ↦ rw e refl | inr e ↦ rw e refl ]
   others (l ∷ ls) tag t = elim (cases_Bool (l.number == tag)) [
     | inl e ↦ elim (cases_Bool (t == tag)) [
-      | inl k ↦ let more : knowns (filter (is_of t) (filter (λ l. not (is_of tag l)) ls)) ≡ [] = (rw k at (others ls tag t)) in rw (e, k) more
+      | inl k ↦ let more : knowns (filter (is_of t) (filter (λ l. not (is_of tag l)) ls)) ≡ [] = (rw k at (others ls tag t)) in rw (e,
+          k) more
       | inr k ↦
-          let ne : (l.number == t) ≡ false = false_if (l.number == t) (λ q. false_true (t == tag) k (eq-eqb t tag (sym (eqb-true l.number t q) ∙ eqb-true l.number tag e))) in
-          let more : knowns (filter (is_of t) (filter (λ l. not (is_of tag l)) ls)) ≡ knowns (filter (is_of t) ls) = (rw k at (others ls tag t)) in
+          let ne : (l.number == t) ≡ false = false_if (l.number == t) (λ q.
+              false_true (t == tag) k (eq-eqb t tag (sym (eqb-true l.number t q) ∙ eqb-true l.number tag e))) in
+          let more : knowns (filter (is_of t) (filter (λ l.
+              not (is_of tag l)) ls)) ≡ knowns (filter (is_of t) ls) = (rw k at (others ls tag t)) in
           rw (e, k, ne) more
     ]
     | inr e ↦ elim (cases_Bool (t == tag)) [
       | inl k ↦
-          let ne : (l.number == t) ≡ false = false_if (l.number == t) (λ q. false_true (l.number == tag) e (eq-eqb l.number tag (eqb-true l.number t q ∙ eqb-true t tag k))) in
+          let ne : (l.number == t) ≡ false = false_if (l.number == t) (λ q.
+              false_true (l.number == tag) e (eq-eqb l.number tag (eqb-true l.number t q ∙ eqb-true t tag k))) in
           let more : knowns (filter (is_of t) (filter (λ l. not (is_of tag l)) ls)) ≡ [] = (rw k at (others ls tag t)) in
           rw (e, k, ne) more
       | inr k ↦
-          let more : knowns (filter (is_of t) (filter (λ l. not (is_of tag l)) ls)) ≡ knowns (filter (is_of t) ls) = (rw k at (others ls tag t)) in
+          let more : knowns (filter (is_of t) (filter (λ l.
+              not (is_of tag l)) ls)) ≡ knowns (filter (is_of t) ls) = (rw k at (others ls tag t)) in
           elim (cases_Bool (l.number == t)) [
             | inl q ↦ rw (e, k, q) (ap (λ ks. known l.owed ∷ ks) more)
             | inr q ↦ rw (e, k, q) more
@@ -326,17 +358,20 @@ module _ (n : ℕ) (fits : n ≤ 4611686018427387904) where
   ]
 
   value_taken : (s : model.Flat) (f : Flat) → Tells n s f → (tag : ℕ) (word : Word) → is_owed (s.due tag) word ≡ true
-      → (g : Flat) × ((flat_run f (LoadResponse tag (seen_bytes (word_bytes word)) ∷ []) ≡ Some g) × Tells n (record { mem = s.mem; due = with_due s.due tag None }) g)
+      → (g : Flat) × ((flat_run f (LoadResponse tag (seen_bytes (word_bytes word)) ∷ []) ≡ Some g)
+          × Tells n (record { mem = s.mem; due = with_due s.due tag None }) g)
   value_taken s f h tag word may =
       let o = owed_value (s.due tag) word may in
-      let right : flat_fault f (LoadResponse tag (seen_bytes (word_bytes word))) ≡ None = paid_word (filter (is_of tag) f.loads) o.0 word (h.due tag ∙ ap due_bytes o.1.0) o.1.1 in (
+      let right : flat_fault f (LoadResponse tag (seen_bytes (word_bytes word))) ≡ None = paid_word (filter (is_of tag) f.loads) o.0 word
+        (h.due tag ∙ ap due_bytes o.1.0) o.1.1 in (
         flat_after f (LoadResponse tag (seen_bytes (word_bytes word))),
         (
           rw right refl,
           record {
             size = h.size;
             words = h.words;
-            due = λ t. others f.loads tag t ∙ (ap (λ ks. if t == tag then [] else ks) (h.due t) ∙ sym (due_cases (t == tag) true (s.due t) None));
+            due = λ t. others f.loads tag t ∙ (ap (λ ks.
+                if t == tag then [] else ks) (h.due t) ∙ sym (due_cases (t == tag) true (s.due t) None));
             no_stores = h.no_stores;
           },
         ),
@@ -347,7 +382,8 @@ module _ (n : ℕ) (fits : n ≤ 4611686018427387904) where
   nothing_told : (s : model.Flat) (f : Flat) → Tells n s f → (g : Flat) × ((flat_run f [] ≡ Some g) × Tells n s g)
   nothing_told s f h = (f, (refl, h))
 
-  told_step : (s : model.Flat) (f : Flat) (event : Event) (answer : Answer) → Tells n s f → may_answer s event answer ≡ true → (g : Flat) × ((flat_run f (told_events event answer) ≡ Some g) × Tells n (model.flat_after s event answer) g)
+  told_step : (s : model.Flat) (f : Flat) (event : Event) (answer : Answer) → Tells n s f → may_answer s event answer ≡ true → (g : Flat)
+      × ((flat_run f (told_events event answer) ≡ Some g) × Tells n (model.flat_after s event answer) g)
   told_step s f (Load tag at) Accepted h may = load_accepted s f h tag at may
   told_step s f (Load tag at) Moved h may = nothing_told s f h
   told_step s f (Load tag at) (Value t w) h may = nothing_told s f h
@@ -374,20 +410,24 @@ module _ (n : ℕ) (fits : n ≤ 4611686018427387904) where
   run_append [] more f g h = let same : f ≡ g = cc in ap (λ x. flat_run x more) same
   run_append (e ∷ es) more f g h = append_cases (flat_step f e) es more g h (λ x k. run_append es more x g k)
 
-  run_from : (s : model.Flat) (f : Flat) (events : List Event) (answers : List Answer) → Tells n s f → IsTrue (is_some (model.flat_run s events answers)) → IsTrue (is_some (flat_run f (told_history events answers)))
+  run_from : (s : model.Flat) (f : Flat) (events : List Event) (answers : List Answer) → Tells n s f
+      → IsTrue (is_some (model.flat_run s events answers)) → IsTrue (is_some (flat_run f (told_history events answers)))
   run_from s f [] answers h t = refl
   run_from s f (event ∷ events) [] h t = refl
   run_from s f (event ∷ events) (answer ∷ answers) h t =
       let p = model_parts (may_answer s event answer) (model.flat_after s event answer) events answers t in
       let r = told_step s f event answer h p.0 in
-      rw (run_append (told_events event answer) (told_history events answers) f r.0 r.1.0) (run_from (model.flat_after s event answer) r.0 events answers r.1.1 p.1)
+      rw (run_append (told_events event answer) (told_history events answers) f r.0 r.1.0) (run_from (model.flat_after s event answer) r.0
+        events answers r.1.1 p.1)
 
 -- The image. ----
 
-word_in : (ws : List Word) (at : ℕ) (l : Lane) → at < length ws → slice_get (image_bytes ws) (4 * at + place l) ≡ Some (byte (word_at ws at) l)
+word_in : (ws : List Word) (at : ℕ) (l : Lane) → at < length ws
+    → slice_get (image_bytes ws) (4 * at + place l) ≡ Some (byte (word_at ws at) l)
 word_in [] at l h = absurd (omega arith)
 word_in (w ∷ ws) zero l h = first_of w (image_bytes ws) l
-word_in (w ∷ ws) (suc at) l h = subst (λ k. slice_get (image_bytes (w ∷ ws)) k ≡ Some (byte (word_at ws at) l)) (shifted at (place l)) (word_in ws at l (omega arith))
+word_in (w ∷ ws) (suc at) l h = subst (λ k.
+    slice_get (image_bytes (w ∷ ws)) k ≡ Some (byte (word_at ws at) l)) (shifted at (place l)) (word_in ws at l (omega arith))
 
 first_tells : (rest : Rest) (image : List Word) → Tells (length image) (model.opening image) (flat.opening (image_bytes image) rest)
 first_tells rest image = record {
@@ -397,8 +437,10 @@ first_tells rest image = record {
   no_stores = refl;
 }
 
-pub run_is_flat : (rest : Rest) (image : List Word) (events : List Event) (answers : List Answer) → IsAddressable image → IsTrue (is_some (model.flat_run (model.opening image) events answers)) → IsFlat (image_bytes image) rest (told_history events answers)
-run_is_flat rest image events answers fits t = run_from (length image) fits (model.opening image) (flat.opening (image_bytes image) rest) events answers (first_tells rest image) t
+pub run_is_flat : (rest : Rest) (image : List Word) (events : List Event) (answers : List Answer) → IsAddressable image
+    → IsTrue (is_some (model.flat_run (model.opening image) events answers)) → IsFlat (image_bytes image) rest (told_history events answers)
+run_is_flat rest image events answers fits t = run_from (length image) fits (model.opening image) (flat.opening (image_bytes image) rest)
+    events answers (first_tells rest image) t
 
 -- What the machine answers. ----
 

@@ -46,18 +46,22 @@ lane_unit unit f j h l = lane_map (at_lane unit f) 8 0 j l ∙ (ap (at_lane unit
 pub length_unit : (unit : UnitPlace) (f : ℕ → Option ℕ) → length (at_unit unit f) ≡ 8
 length_unit unit f = refl
 
-pub word_lane : (first : ℕ) (ws : List (Option ℕ)) (a : ℕ) (bs : List ℕ) (j : ℕ) → is_word_of first ws a bs ≡ true → is_as_it_stood (lane ws j) (byte_for a bs (first + j)) ≡ true
+pub word_lane : (first : ℕ) (ws : List (Option ℕ)) (a : ℕ) (bs : List ℕ) (j : ℕ) → is_word_of first ws a bs ≡ true
+    → is_as_it_stood (lane ws j) (byte_for a bs (first + j)) ≡ true
 unfolding is_word_of
 word_lane first [] a bs j h = refl
 word_lane first (w ∷ ws) a bs zero h = subst (λ x. is_as_it_stood w (byte_for a bs x) ≡ true) (omega arith) (and_parts _ _ h).0
-word_lane first (w ∷ ws) a bs (suc j) h = subst (λ x. is_as_it_stood (lane ws j) (byte_for a bs x) ≡ true) (omega arith) (word_lane (first + 1) ws a bs j (and_parts _ _ h).1)
+word_lane first (w ∷ ws) a bs (suc j) h = subst (λ x.
+    is_as_it_stood (lane ws j) (byte_for a bs x) ≡ true) (omega arith) (word_lane (first + 1) ws a bs j (and_parts _ _ h).1)
 
-pub lane_word : (first : ℕ) (ws : List (Option ℕ)) (a : ℕ) (bs : List ℕ) → ((j : ℕ) → j < length ws → is_as_it_stood (lane ws j) (byte_for a bs (first + j)) ≡ true) → is_word_of first ws a bs ≡ true
+pub lane_word : (first : ℕ) (ws : List (Option ℕ)) (a : ℕ) (bs : List ℕ) → ((j : ℕ) → j < length ws
+    → is_as_it_stood (lane ws j) (byte_for a bs (first + j)) ≡ true) → is_word_of first ws a bs ≡ true
 unfolding is_word_of
 lane_word first [] a bs h = refl
 lane_word first (w ∷ ws) a bs h =
     and_from _ _ (subst (λ x. is_as_it_stood w (byte_for a bs x) ≡ true) (omega arith) (h 0 (omega arith)))
-    (lane_word (first + 1) ws a bs (λ j l. subst (λ x. is_as_it_stood (lane ws j) (byte_for a bs x) ≡ true) (omega arith) (h (suc j) (omega arith))))
+    (lane_word (first + 1) ws a bs (λ j l. subst (λ x.
+        is_as_it_stood (lane ws j) (byte_for a bs x) ≡ true) (omega arith) (h (suc j) (omega arith))))
 
 -- The bytes of a store. ----
 
@@ -78,7 +82,8 @@ one_cons_if : (P : StoreByte → Type 0) (c : Bool) (s : StoreByte) (ss : List S
 one_cons_if P true s ss h = inr h
 one_cons_if P false s ss h = h
 
-each_cons_if : (P : StoreByte → Type 0) (c : Bool) (s : StoreByte) (ss : List StoreByte) → (c ≡ true → P s) → Each P ss → Each P (cons_if c s ss)
+each_cons_if : (P : StoreByte → Type 0) (c : Bool) (s : StoreByte) (ss : List StoreByte) → (c ≡ true → P s) → Each P ss
+    → Each P (cons_if c s ss)
 each_cons_if P true s ss p h = (p refl, h)
 each_cons_if P false s ss p h = h
 
@@ -86,17 +91,21 @@ chosen : (c : Bool) (x b : ℕ) → (if c then Some x else None) ≡ Some b → 
 chosen true x b h = (refl, cc)
 chosen false x b h = cc
 
-enabled_new : (n a : ℕ) (bs : List ℕ) (e t k b : ℕ) → enabled_byte bs e k ≡ Some b → One (λ s. s ≡ new_byte n (a + k) b t) (store_bytes n a bs e t)
+enabled_new : (n a : ℕ) (bs : List ℕ) (e t k b : ℕ) → enabled_byte bs e k ≡ Some b → One (λ s.
+    s ≡ new_byte n (a + k) b t) (store_bytes n a bs e t)
 enabled_new n a [] e t k b h = let f : None ≡ Some b = sym (enabled_none e k) ∙ h in cc
 enabled_new n a (x ∷ bs) e t zero b h =
     let c = chosen (e % 2 == 1) x b (sym (enabled_first x bs e) ∙ h) in
     rw c.0 (inl (rw c.1 (ap (λ y. new_byte n y b t) (omega arith))))
 enabled_new n a (x ∷ bs) e t (suc k) b h =
     one_cons_if (λ s. s ≡ new_byte n (a + suc k) b t) (e % 2 == 1) (new_byte n a x t) (store_bytes n (a + 1) bs (e / 2) t)
-    (subst (λ y. One (λ s. s ≡ new_byte n y b t) (store_bytes n (a + 1) bs (e / 2) t)) (omega arith) (enabled_new n (a + 1) bs (e / 2) t k b (sym (enabled_next x bs e k) ∙ h)))
+    (subst (λ y. One (λ s.
+        s ≡ new_byte n y b t) (store_bytes n (a + 1) bs (e / 2) t)) (omega arith) (enabled_new n (a + 1) bs (e / 2) t k b (sym (enabled_next
+          x bs e k) ∙ h)))
 
 abbrev IsEnabled : ℕ → ℕ → List ℕ → ℕ → ℕ → StoreByte → Type 0
-IsEnabled n a bs e t s = (s.number ≡ n) × ((s.ended ≡ None) × ((s.began ≡ t) × ((k : ℕ) × ((s.address ≡ a + k) × (enabled_byte bs e k ≡ Some s.byte)))))
+IsEnabled n a bs e t s = (s.number ≡ n) × ((s.ended ≡ None) × ((s.began ≡ t) × ((k : ℕ) × ((s.address ≡ a + k)
+    × (enabled_byte bs e k ≡ Some s.byte)))))
 
 each_enabled : (n a : ℕ) (bs : List ℕ) (e t : ℕ) → Each (IsEnabled n a bs e t) (store_bytes n a bs e t)
 each_enabled n a [] e t = tt
@@ -104,7 +113,8 @@ each_enabled n a (x ∷ bs) e t =
     each_cons_if (IsEnabled n a (x ∷ bs) e t) (e % 2 == 1) (new_byte n a x t) (store_bytes n (a + 1) bs (e / 2) t)
     (λ c. (refl, (refl, (refl, (0, (omega arith, enabled_first x bs e ∙ rw c refl))))))
     (each_weaker (IsEnabled n (a + 1) bs (e / 2) t) (IsEnabled n a (x ∷ bs) e t)
-    (λ s h. let p : s.address ≡ a + 1 + h.1.1.1.0 = h.1.1.1.1.0 in (h.0, (h.1.0, (h.1.1.0, (suc h.1.1.1.0, (omega arith, enabled_next x bs e h.1.1.1.0 ∙ h.1.1.1.1.1)))))) (store_bytes n (a + 1) bs (e / 2) t) (each_enabled n (a + 1) bs (e / 2) t))
+    (λ s h. let p : s.address ≡ a + 1 + h.1.1.1.0 = h.1.1.1.1.0 in (h.0, (h.1.0, (h.1.1.0, (suc h.1.1.1.0, (omega arith,
+        enabled_next x bs e h.1.1.1.0 ∙ h.1.1.1.1.1)))))) (store_bytes n (a + 1) bs (e / 2) t) (each_enabled n (a + 1) bs (e / 2) t))
 
 pub stored_inside : (a : ℕ) (bs : List ℕ) (e k : ℕ) → stored_byte a bs e (a + k) ≡ enabled_byte bs e k
 stored_inside a bs e k =
@@ -117,7 +127,8 @@ below true o b h = (refl, h)
 below false o b h = cc
 
 -- a byte that a store writes at an address is one of its bytes
-pub stored_new : (n a : ℕ) (bs : List ℕ) (e t at b : ℕ) → stored_byte a bs e at ≡ Some b → One (λ s. s ≡ new_byte n at b t) (store_bytes n a bs e t)
+pub stored_new : (n a : ℕ) (bs : List ℕ) (e t at b : ℕ) → stored_byte a bs e at ≡ Some b → One (λ s.
+    s ≡ new_byte n at b t) (store_bytes n a bs e t)
 stored_new n a bs e t at b h =
     let p = below (nat_le a at) (enabled_byte bs e (at - a)) b h in
     let l : a ≤ at = leb-true a at p.0 in
@@ -131,21 +142,25 @@ IsNewByte n a bs e t s = (s.number ≡ n) × ((s.ended ≡ None) × ((s.began �
 pub each_new : (n a : ℕ) (bs : List ℕ) (e t : ℕ) → Each (IsNewByte n a bs e t) (store_bytes n a bs e t)
 each_new n a bs e t =
     each_weaker (IsEnabled n a bs e t) (IsNewByte n a bs e t)
-    (λ s h. (h.0, (h.1.0, (h.1.1.0, ap (stored_byte a bs e) h.1.1.1.1.0 ∙ (stored_inside a bs e h.1.1.1.0 ∙ h.1.1.1.1.1))))) (store_bytes n a bs e t) (each_enabled n a bs e t)
+    (λ s h. (h.0, (h.1.0, (h.1.1.0,
+        ap (stored_byte a bs e) h.1.1.1.1.0 ∙ (stored_inside a bs e h.1.1.1.0 ∙ h.1.1.1.1.1))))) (store_bytes n a bs e t) (each_enabled n a
+          bs e t)
 
 and_false_or : (x y : Bool) → (x || (y && x)) ≡ x
 and_false_or true y = refl
 and_false_or false true = refl
 and_false_or false false = refl
 
-any_new_if : (c r x : Bool) (n m : ℕ) (s : StoreByte) (ss : List StoreByte) → is_open m s ≡ x → list_any (is_open m) ss ≡ (r && x) → list_any (is_open m) (cons_if c s ss) ≡ ((c || r) && x)
+any_new_if : (c r x : Bool) (n m : ℕ) (s : StoreByte) (ss : List StoreByte) → is_open m s ≡ x → list_any (is_open m) ss ≡ (r && x)
+    → list_any (is_open m) (cons_if c s ss) ≡ ((c || r) && x)
 any_new_if true r x n m s ss p h = rw (p, h) (and_false_or x r)
 any_new_if false r x n m s ss p h = h
 
 pub any_new : (n a : ℕ) (bs : List ℕ) (e t m : ℕ) → list_any (is_open m) (store_bytes n a bs e t) ≡ (has_enabled bs e && (n == m))
 any_new n a [] e t m = refl
 any_new n a (x ∷ bs) e t m =
-    any_new_if (e % 2 == 1) (has_enabled bs (e / 2)) (n == m) n m (new_byte n a x t) (store_bytes n (a + 1) bs (e / 2) t) refl (any_new n (a + 1) bs (e / 2) t m)
+    any_new_if (e % 2 == 1) (has_enabled bs (e / 2)) (n == m) n m (new_byte n a x t) (store_bytes n (a + 1) bs (e / 2) t) refl (any_new n (a
+      + 1) bs (e / 2) t m)
 
 pub byte_inside : (a : ℕ) (bs : List ℕ) (i : ℕ) → byte_for a bs (a + i) ≡ slice_get bs i
 byte_inside a bs i =

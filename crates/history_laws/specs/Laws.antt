@@ -33,7 +33,8 @@ IsUnitSize size = (1 ≤ size) × (size ≤ 8)
 
 -- an atomic history, in units of any size, is a regular one
 abbrev pub AtomicIsRegular : List ℕ → Rest → ℕ → List HistoryEvent → Type 0
-AtomicIsRegular image rest size history = IsUnitSize size → All (ReturnsBytes rest) history → IsAtomic image rest size history → IsRegular image rest history
+AtomicIsRegular image rest size history = IsUnitSize size → All (ReturnsBytes rest) history → IsAtomic image rest size history
+    → IsRegular image rest history
 
 -- a flat history is an atomic one, in units of any size
 abbrev pub FlatIsAtomic : List ℕ → Rest → ℕ → List HistoryEvent → Type 0

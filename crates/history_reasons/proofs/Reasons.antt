@@ -29,7 +29,8 @@ found_there p (y ∷ ys) x h = elim (cases_Bool (p y)) [
   | inr e ↦ let r = found_there p ys x (rw e at h) in ((suc r.0.0, (let l = r.0.1 in omega arith), r.0.2), r.1)
 ]
 
-none_past : (p : StoreByte → Bool) (y : StoreByte) (ys : List StoreByte) → p y ≡ false → find p ys ≡ None → (k : ℕ) (d : StoreByte) → k < suc (length ys) → p (get_or (y ∷ ys) k d) ≡ false
+none_past : (p : StoreByte → Bool) (y : StoreByte) (ys : List StoreByte) → p y ≡ false → find p ys ≡ None → (k : ℕ) (d : StoreByte)
+    → k < suc (length ys) → p (get_or (y ∷ ys) k d) ≡ false
 none_past p y ys e h zero d l = e
 none_past p y [] e h (suc k) d l = absurd (omega arith)
 none_past p y (z ∷ zs) e h (suc k) d l = elim (cases_Bool (p z)) [
@@ -37,7 +38,8 @@ none_past p y (z ∷ zs) e h (suc k) d l = elim (cases_Bool (p z)) [
   | inr t ↦ none_past p z zs t (rw t at h) k d (omega arith)
 ]
 
-none_there : (p : StoreByte → Bool) (xs : List StoreByte) → find p xs ≡ None → (k : ℕ) (d : StoreByte) → k < length xs → p (get_or xs k d) ≡ false
+none_there : (p : StoreByte → Bool) (xs : List StoreByte) → find p xs ≡ None → (k : ℕ) (d : StoreByte) → k < length xs
+    → p (get_or xs k d) ≡ false
 none_there p [] h k d l = absurd (omega arith)
 none_there p (y ∷ ys) h k d l = elim (cases_Bool (p y)) [
   | inl e ↦ let s : Some y ≡ None = (rw e at h) in cc
@@ -82,7 +84,8 @@ stores_law : (address b : ℕ) (s : StoreByte) → Decides (stores_byte address 
 stores_law address b s = Decides-and _ _ (Decides-eqb s.address address) (Decides-eqb s.byte b)
 
 overwrites_law : (s by : StoreByte) (moment : ℕ) → Decides (overwrites s moment by) (Overwrote by s moment)
-overwrites_law s by moment = Decides-and _ _ (Decides-eqb by.address s.address) (Decides-and _ _ (before s.ended by.began) (before by.ended moment))
+overwrites_law s by moment = Decides-and _ _ (Decides-eqb by.address s.address) (Decides-and _ _ (before s.ended by.began) (before by.ended
+    moment))
 
 covers_law : (l : LoadByte) (s : StoreByte) → Decides (covers l s) ((s.address ≡ l.address) × IsBefore s.ended l.began)
 covers_law l s = Decides-and _ _ (Decides-eqb s.address l.address) (before s.ended l.began)
@@ -99,43 +102,56 @@ module _ (image : List ℕ) (rest : Rest) (stores : List StoreByte) (l : LoadByt
   not_stored : last_that (stores_byte l.address b) stores ≡ None → ¬ (Any (Stores l.address b) stores)
   not_stored h = λ a. none_passes (stores_byte l.address b) stores h a.1 (a.0, a.2, a.3) ((stores_law l.address b a.1).1 a.4)
 
-  stored_case : (s : StoreByte) → last_that (stores_byte l.address b) stores ≡ Some s → ¬ (MayReturn image rest stores l b) → (o : Option StoreByte) → last_that (overwrites s l.began) stores ≡ o
+  stored_case : (s : StoreByte) → last_that (stores_byte l.address b) stores ≡ Some s → ¬ (MayReturn image rest stores l b)
+      → (o : Option StoreByte) → last_that (overwrites s l.began) stores ≡ o
       → IsExact image rest stores l b (option_map (λ x. StoreOverwritten s x) o)
   stored_case s h never None e =
       let there = last_there (stores_byte l.address b) stores s h in
       let is_it = (stores_law l.address b s).0 there.1 in
-      let left : IsLeft stores l b = (there.0.0, s, there.0.1, there.0.2, (is_it.0, (is_it.1, λ over. none_passes (overwrites s l.began) stores e over.1 (over.0, over.2, over.3) ((overwrites_law s over.1 l.began).1 over.4)))) in
+      let left : IsLeft stores l b = (there.0.0, s, there.0.1, there.0.2, (is_it.0, (is_it.1, λ over.
+          none_passes (overwrites s l.began) stores e over.1 (over.0, over.2, over.3) ((overwrites_law s over.1 l.began).1 over.4)))) in
       absurd (never (inl left))
   stored_case s h never (Some by) e =
       let there = last_there (stores_byte l.address b) stores s h in
       let over = last_there (overwrites s l.began) stores by e in
-      ((λ x. absurd (some_none x), λ may. absurd (never may)), (there.0, ((stores_law l.address b s).0 there.1, (over.0, (overwrites_law s by l.began).0 over.1))))
+      ((λ x. absurd (some_none x), λ may. absurd (never may)), (there.0, ((stores_law l.address b s).0 there.1, (over.0,
+          (overwrites_law s by l.began).0 over.1))))
 
-  initial_case : last_that (stores_byte l.address b) stores ≡ None → ¬ (MayReturn image rest stores l b) → IsInitial (slice_get image l.address) rest b → (o : Option StoreByte) → last_that (covers l) stores ≡ o
+  initial_case : last_that (stores_byte l.address b) stores ≡ None → ¬ (MayReturn image rest stores l b)
+      → IsInitial (slice_get image l.address) rest b → (o : Option StoreByte) → last_that (covers l) stores ≡ o
       → IsExact image rest stores l b (option_map (λ x. InitialOverwritten x) o)
-  initial_case h never first None e = absurd (never (inr (first, λ c. none_passes (covers l) stores e c.1 (c.0, c.2, c.3) ((covers_law l c.1).1 c.4))))
+  initial_case h never first None e = absurd (never (inr (first, λ c. none_passes (covers l) stores e c.1 (c.0, c.2,
+      c.3) ((covers_law l c.1).1 c.4))))
   initial_case h never first (Some by) e =
       let over = last_there (covers l) stores by e in
       ((λ x. absurd (some_none x), λ may. absurd (never may)), (not_stored h, (first, (over.0, (covers_law l by).0 over.1))))
 
-  never_case : last_that (stores_byte l.address b) stores ≡ None → ¬ (MayReturn image rest stores l b) → ¬ (IsInitial (slice_get image l.address) rest b) → IsExact image rest stores l b (Some NeverThere)
+  never_case : last_that (stores_byte l.address b) stores ≡ None → ¬ (MayReturn image rest stores l b)
+      → ¬ (IsInitial (slice_get image l.address) rest b) → IsExact image rest stores l b (Some NeverThere)
   never_case h never first = ((λ x. absurd (some_none x), λ may. absurd (never may)), (not_stored h, first))
 
-  by_stored : ¬ (MayReturn image rest stores l b) → (o : Option StoreByte) → last_that (stores_byte l.address b) stores ≡ o → (first : Bool) → is_initial (slice_get image l.address) rest b ≡ first
+  by_stored : ¬ (MayReturn image rest stores l b) → (o : Option StoreByte) → last_that (stores_byte l.address b) stores ≡ o → (first : Bool)
+      → is_initial (slice_get image l.address) rest b ≡ first
       → IsExact image rest stores l b (reason_by o (λ s. last_that (overwrites s l.began) stores) first (last_that (covers l) stores))
   by_stored never (Some s) h first i = stored_case s h never (last_that (overwrites s l.began) stores) refl
   by_stored never None h true i = initial_case h never ((initial (slice_get image l.address) rest b).0 i) (last_that (covers l) stores) refl
-  by_stored never None h false i = never_case h never (λ p. false_true (is_initial (slice_get image l.address) rest b) i ((initial (slice_get image l.address) rest b).1 p))
+  by_stored never None h false i = never_case h never (λ p.
+      false_true (is_initial (slice_get image l.address) rest b) i ((initial (slice_get image l.address) rest b).1 p))
 
   by_law : (may : Bool) → may_return_byte image rest stores l b ≡ may
-      → IsExact image rest stores l b (if may then None else reason_by (last_that (stores_byte l.address b) stores) (λ s. last_that (overwrites s l.began) stores) (is_initial (slice_get image l.address) rest b) (last_that (covers l) stores))
+      → IsExact image rest stores l b (if may then None else reason_by (last_that (stores_byte l.address b) stores) (λ s.
+          last_that (overwrites s l.began) stores) (is_initial (slice_get image l.address) rest b) (last_that (covers l) stores))
   by_law true e = ((λ x. (may_return_decides image rest stores l b).0 e, λ may. refl), tt)
   by_law false e =
-      by_stored (λ may. false_true (may_return_byte image rest stores l b) e ((may_return_decides image rest stores l b).1 may)) (last_that (stores_byte l.address b) stores) refl (is_initial (slice_get image l.address) rest b) refl
+      by_stored (λ may. false_true (may_return_byte image rest stores l b) e ((may_return_decides image rest stores l b).1 may)) (last_that
+        (stores_byte l.address b) stores) refl (is_initial (slice_get image l.address) rest b) refl
 
-pub reason_law : (image : List ℕ) (rest : Rest) (stores : List StoreByte) (l : LoadByte) (b : ℕ) → IsExact image rest stores l b (last_reason image rest stores l b)
+pub reason_law : (image : List ℕ) (rest : Rest) (stores : List StoreByte) (l : LoadByte) (b : ℕ)
+    → IsExact image rest stores l b (last_reason image rest stores l b)
 reason_law image rest stores l b = by_law image rest stores l b (may_return_byte image rest stores l b) refl
 
-pub allowed_law : (image : List ℕ) (rest : Rest) (stores : List StoreByte) (l : LoadByte) (b : ℕ) (r : Bool) → (r ≡ true) ↔ MayReturn image rest stores l b → r ≡ may_return_byte image rest stores l b
+pub allowed_law : (image : List ℕ) (rest : Rest) (stores : List StoreByte) (l : LoadByte) (b : ℕ) (r : Bool)
+    → (r ≡ true) ↔ MayReturn image rest stores l b → r ≡ may_return_byte image rest stores l b
 allowed_law image rest stores l b true h = sym ((may_return_decides image rest stores l b).1 (h.0 refl))
-allowed_law image rest stores l b false h = sym (false_if (may_return_byte image rest stores l b) (λ e. false_true false refl (h.1 ((may_return_decides image rest stores l b).0 e))))
+allowed_law image rest stores l b false h = sym (false_if (may_return_byte image rest stores l b) (λ e.
+    false_true false refl (h.1 ((may_return_decides image rest stores l b).0 e))))
