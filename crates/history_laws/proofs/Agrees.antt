@@ -40,7 +40,7 @@ formed_more o [] event h f = rw f refl
 formed_more o (x ∷ xs) event h f =
     let p = and_parts (is_none (form_fault o x)) (is_formed (opened_after o x) xs) h in
     and_from (is_none (form_fault o x)) (is_formed (opened_after o x) (xs
-        ++ event ∷ [])) p.0 (formed_more (opened_after o x) xs event p.1 f)
+    ++ event ∷ [])) p.0 (formed_more (opened_after o x) xs event p.1 f)
 
 -- The open loads and stores of the regular law. ----
 
@@ -85,7 +85,7 @@ other_open : (n m t : ℕ) (s : StoreByte) → (n == m) ≡ false → is_open m 
 other_open n m t s h = elim (after_cases n t s) [
   | inl c ↦
       let f : is_open m s ≡ false = false_if (is_open m s) (λ e.
-          false_true (n == m) h (eq-eqb n m (sym c.1.0 ∙ eqb-true s.number m (and_parts (is_none s.ended) (s.number == m) e).1))) in
+      false_true (n == m) h (eq-eqb n m (sym c.1.0 ∙ eqb-true s.number m (and_parts (is_none s.ended) (s.number == m) e).1))) in
       ap (is_open m) c.1.1 ∙ sym f
   | inr c ↦ ap (is_open m) c.1
 ]
@@ -107,10 +107,10 @@ stores_fewer stores os n t h m = elim (cases_Bool (n == m)) [
       subst (λ k. list_any (is_open k) (map (after_response n t) stores) ≡ list_any (has_number k) (without_number n os)) same
       (list_any-map (after_response n t) (is_open n) stores
       ∙ (any_none (λ s. is_open n (after_response n t s)) stores (each_always (λ s.
-          is_open n (after_response n t s) ≡ false) (closed n t) stores)
+      is_open n (after_response n t s) ≡ false) (closed n t) stores)
       ∙ sym (list_any-filter (λ o. not (has_number n o)) (has_number n) os ∙ any_none (λ o.
-          not (has_number n o) && has_number n o) os (each_always (λ o. (not (has_number n o) && has_number n o) ≡ false) (λ o.
-          not_itself (has_number n o)) os))))
+      not (has_number n o) && has_number n o) os (each_always (λ o. (not (has_number n o) && has_number n o) ≡ false) (λ o.
+      not_itself (has_number n o)) os))))
   | inr e ↦
       list_any-map (after_response n t) (is_open m) stores
       ∙ (any_agree (λ s. is_open m (after_response n t s)) (is_open m) (λ s. other_open n m t s e) stores
@@ -122,17 +122,28 @@ pub agrees_after : (o : Opened) (w : Windows) (ks : List (Marked ℕ)) (event : 
 agrees_after o w ks (LoadRequest n a len) g f =
     let p = load_formed (is_inside a len) (list_any (has_number n) o.loads) f in
     record {
-      loads = loads_more load_byte number_of its_number ks w.loads o.loads g.loads (record { operation = record { number = n; address = a;
-        length = len }; mark = w.moment }) p.1 (inside_some a len p.0);
+      loads = loads_more load_byte number_of its_number ks w.loads o.loads g.loads (record {
+        operation = record {
+          number = n;
+          address = a;
+          length = len;
+        };
+        mark = w.moment;
+      }) p.1 (inside_some a len p.0);
       stores = g.stores;
     }
-agrees_after o w ks (LoadResponse n bytes) g f = record { loads = loads_fewer load_byte number_of its_number ks w.loads o.loads g.loads n;
-    stores = g.stores }
+agrees_after o w ks (LoadResponse n bytes) g f = record {
+  loads = loads_fewer load_byte number_of its_number ks w.loads o.loads g.loads n;
+  stores = g.stores;
+}
 agrees_after o w ks (StoreRequest n a bytes e) g f =
     let p = store_formed (is_inside a (length bytes.now)) (has_enabled bytes.now e) (list_any (has_number n) o.stores) f in
-    record { loads = g.loads; stores = λ m.
-        stores_more w.stores o.stores n a bytes.now e w.moment (record { number = n; address = a; length = length bytes.now }) refl p.1.0 m
-          (g.stores m) }
+    record {
+      loads = g.loads;
+      stores = λ m.
+          stores_more w.stores o.stores n a bytes.now e w.moment (record { number = n; address = a; length = length bytes.now }) refl p.1.0 m
+          (g.stores m);
+    }
 agrees_after o w ks (StoreResponse n) g f = record { loads = g.loads; stores = stores_fewer w.stores o.stores n w.moment g.stores }
 
 -- Whole histories. ----
@@ -152,4 +163,4 @@ agrees_from o w ks [] g f = g
 agrees_from o w ks (x ∷ xs) g f =
     let p = and_parts (is_none (form_fault o x)) (is_formed (opened_after o x) xs) f in
     agrees_from (opened_after o x) (windows_after w x) (marked_after w.moment ks x) xs (agrees_after o w ks x g (none_is (form_fault o x)
-      p.0)) p.1
+    p.0)) p.1

@@ -45,7 +45,7 @@ pub moments_before : (image : List ℕ) (rest : Rest) (unit : UnitPlace) (past f
 moments_before image rest unit past [] h = subst (IsAtomicAt image rest unit) (append-nil past) h
 moments_before image rest unit past (event ∷ events) h =
     let more = moments_before image rest unit (past
-        ++ event ∷ []) events (subst (IsAtomicAt image rest unit) (sym (append_assoc past (event ∷ []) events)) h) in
+    ++ event ∷ []) events (subst (IsAtomicAt image rest unit) (sym (append_assoc past (event ∷ []) events)) h) in
     let s = seen_last (untouched image rest unit) unit past event (past ++ event ∷ []) more.0 more.1 refl in
     (s.0, s.1.1.0)
 
@@ -98,26 +98,26 @@ module _ (image : List ℕ) (rest : Rest) (unit : UnitPlace) (j : ℕ) (within :
   fits_event : (o : Opened) (w : Windows) (ks : List (Marked ℕ)) (m n : UnitMemory) (event : HistoryEvent) → Agrees o w ks
       → form_fault o event ≡ None → All (IsTimely w.moment) w.stores
       → Fits image rest unit j w.stores w.moment ks m → seen unit m event ≡ Some n
-          → Fits image rest unit j (windows_after w event).stores (w.moment + 1) (marked_after w.moment ks event) n
+      → Fits image rest unit j (windows_after w event).stores (w.moment + 1) (marked_after w.moment ks event) n
   fits_event o w ks m n (LoadRequest k a len) g f t fits e =
       subst (Fits image rest unit j w.stores (w.moment + 1) (marked_after w.moment ks (LoadRequest k a len))) (some_same (if is_at unit a
-        len then with_load k a m else m) n e)
+      len then with_load k a m else m) n e)
       (fits_requested image rest unit j w.stores w.moment ks m k a len within fits (is_at unit a len) refl)
   fits_event o w ks m n (LoadResponse k bytes) g f t fits e =
       let p = then_parts (may_answer_load unit k bytes.now m.loads) (without_load k m) n e in
       subst (Fits image rest unit j w.stores (w.moment + 1) (marked_after w.moment ks (LoadResponse k bytes))) p.1 (fits_answered image rest
-        unit j w.stores w.moment ks m k fits)
+      unit j w.stores w.moment ks m k fits)
   fits_event o w ks m n (StoreRequest k a bytes es) g f t fits e =
       let p = store_formed (is_inside a (length bytes.now)) (has_enabled bytes.now es) (list_any (has_number k) o.stores) f in
       let word : List (Option ℕ) = at_unit unit (stored_byte a bytes.now es) in
       subst (Fits image rest unit j (windows_after w (StoreRequest k a bytes es)).stores (w.moment + 1) ks) (some_same (if list_any is_some
-        word then with_store k word m else m) n e)
+      word then with_store k word m else m) n e)
       (fits_store_requested image rest unit j w.stores w.moment ks m k a bytes.now es within lane_of (g.stores k ∙ p.1.1) fits (list_any
-        is_some word) refl)
+      is_some word) refl)
   fits_event o w ks m n (StoreResponse k) g f t fits e =
       let p = then_parts (may_answer_store k m.stores) (without_store k m) n e in
       subst (Fits image rest unit j (windows_after w (StoreResponse k)).stores (w.moment + 1) ks) p.1 (fits_store_answered image rest unit j
-        w.stores w.moment ks m k t p.0 fits)
+      w.stores w.moment ks m k t p.0 fits)
 
   fits_hidden : (stores : List StoreByte) (moment : ℕ) (ks : List (Marked ℕ)) (m n : UnitMemory) → Fits image rest unit j stores moment ks m
       → HiddenStep m n → Fits image rest unit j stores moment ks n
@@ -146,11 +146,11 @@ module _ (image : List ℕ) (rest : Rest) (unit : UnitPlace) (j : ℕ) (within :
       let p = formed_parts none_opened hs event f in
       let w = windows_by image rest hs in
       subst (λ v. Fits image rest unit j v.stores v.moment (marks_by image rest (hs
-          ++ event ∷ [])) n) (sym (windows_more (first_windows image rest) hs event))
+      ++ event ∷ [])) n) (sym (windows_more (first_windows image rest) hs event))
       (subst (λ ks. Fits image rest unit j (windows_after w event).stores (w.moment + 1) ks n) (sym (marks_more (first_windows image rest)
-        [] hs event))
+      [] hs event))
       (fits_event (opened_by hs) w (marks_by image rest hs) k n event (agrees_by image rest hs p.0) p.1 (timely_by image rest hs) (fits hs k
-        r p.0) e))
+      r p.0) e))
 
   -- A load may return what it is answered. ----
 
@@ -162,30 +162,36 @@ module _ (image : List ℕ) (rest : Rest) (unit : UnitPlace) (j : ℕ) (within :
   allowed_got : (stores : List StoreByte) (k : Marked ℕ) (got : Option (List (Option ℕ)))
       → IsAllowed image rest unit j stores k.operation.number k.mark got → (word : List (Option ℕ)) → got ≡ Some word
       → (b : ℕ) → IsByte rest b → is_as_it_stood (lane word j) (Some b) ≡ true
-          → may_return_byte image rest stores (record { number = k.operation.number; address = unit.first + j; began = k.mark }) b ≡ true
+      → may_return_byte image rest stores (record { number = k.operation.number; address = unit.first + j; began = k.mark }) b ≡ true
   allowed_got stores k got h word e b small i = subst (IsAllowed image rest unit j stores k.operation.number k.mark) e h b small i
 
   allowed_load : (past : List HistoryEvent) (n : ℕ) (bytes : List ℕ) (k : Marked ℕ) → k.operation.number ≡ n → (b : ℕ) → IsByte rest b
       → byte_for k.operation.address bytes (unit.first + j) ≡ Some b
       → (l : OpenLoad) → IsLoad image rest unit j (windows_by image rest past).stores k l
-          → (not (is_load n l) || is_got unit l.address bytes l.got) ≡ true
-      → may_return_byte image rest (windows_by image rest past).stores (record { number = k.operation.number; address = unit.first + j;
-        began = k.mark }) b ≡ true
+      → (not (is_load n l) || is_got unit l.address bytes l.got) ≡ true
+      → may_return_byte image rest (windows_by image rest past).stores (record {
+        number = k.operation.number;
+        address = unit.first + j;
+        began = k.mark;
+      }) b ≡ true
   allowed_load past n bytes k named b small is_b l q h =
       let it : is_load n l ≡ true = eq-eqb l.number n (q.0 ∙ named) in
       let got : is_got unit l.address bytes l.got ≡ true = (rw it at h) in
       let g = got_word bytes l.address l.got got in
       let stood : is_as_it_stood (lane g.0 j) (Some b) ≡ true = subst (λ x. is_as_it_stood (lane g.0 j) x ≡ true) is_b (subst (λ a.
-          is_as_it_stood (lane g.0 j) (byte_for a bytes (unit.first + j)) ≡ true) q.1.0 g.1.1) in
+      is_as_it_stood (lane g.0 j) (byte_for a bytes (unit.first + j)) ≡ true) q.1.0 g.1.1) in
       allowed_got (windows_by image rest past).stores k l.got q.1.1 g.0 g.1.0 b small stood
 
   allowed_byte : (past : List HistoryEvent) (n : ℕ) (bytes : Bor (List ℕ)) → IsAtomicAt image rest unit (past ++ LoadResponse n bytes ∷ [])
       → is_formed none_opened past ≡ true
       → (k : Marked ℕ) → find (is_number n) (marks_by image rest past) ≡ Some k → k.operation.address ≤ unit.first + j
-          → unit.first + j < k.operation.address + k.operation.length → k.operation.number ≡ n
+      → unit.first + j < k.operation.address + k.operation.length → k.operation.number ≡ n
       → (b : ℕ) → IsByte rest b → byte_for k.operation.address bytes.now (unit.first + j) ≡ Some b
-      → may_return_byte image rest (windows_by image rest past).stores (record { number = k.operation.number; address = unit.first + j;
-        began = k.mark }) b ≡ true
+      → may_return_byte image rest (windows_by image rest past).stores (record {
+        number = k.operation.number;
+        address = unit.first + j;
+        began = k.mark;
+      }) b ≡ true
   allowed_byte past n bytes a f k found low high named b small is_b =
       let w = windows_by image rest past in
       let s = seen_last (untouched image rest unit) unit past (LoadResponse n bytes) (past ++ LoadResponse n bytes ∷ []) a.0 a.1 refl in
@@ -193,11 +199,11 @@ module _ (image : List ℕ) (rest : Rest) (unit : UnitPlace) (j : ℕ) (within :
       let here = fits past m s.1.1.0 f in
       let may = then_parts (may_answer_load unit n bytes.now m.loads) (without_load n m) s.1.0 s.1.1.1 in
       let has = each_find (HasLoad image rest unit j w.stores w.moment m.loads) (is_number n) (marks_by image rest past) k here.has_loads
-        found in
+      found in
       one_elim (λ l. IsLoad image rest unit j w.stores k l
-          × ((not (is_load n l) || is_got unit l.address bytes.now l.got) ≡ true)) _ m.loads
+      × ((not (is_load n l) || is_got unit l.address bytes.now l.got) ≡ true)) _ m.loads
       (one_each (IsLoad image rest unit j w.stores k) (λ l.
-          (not (is_load n l) || is_got unit l.address bytes.now l.got) ≡ true) m.loads (has.1 low high)
+      (not (is_load n l) || is_got unit l.address bytes.now l.got) ≡ true) m.loads (has.1 low high)
       (all_each (λ l. not (is_load n l) || is_got unit l.address bytes.now l.got) m.loads may.0))
       (λ l q. allowed_load past n bytes.now k named b small is_b l q.0 q.1)
 
@@ -220,19 +226,27 @@ module _ (image : List ℕ) (rest : Rest) (size : ℕ) (sized : IsUnitSize size)
   allowed_at : (past : List HistoryEvent) (n : ℕ) (bytes : Bor (List ℕ)) → ((k : ℕ) → IsAtomicAt image rest (unit_at size k) (past
       ++ LoadResponse n bytes ∷ [])) → is_formed none_opened past ≡ true
       → (k : Marked ℕ) → find (is_number n) (marks_by image rest past) ≡ Some k → k.operation.number ≡ n → (i b : ℕ)
-          → slice_get bytes.now i ≡ Some b → i < k.operation.length → IsByte rest b
-      → may_return_byte image rest (windows_by image rest past).stores (record { number = k.operation.number; address = k.operation.address
-        + i; began = k.mark }) b ≡ true
+      → slice_get bytes.now i ≡ Some b → i < k.operation.length → IsByte rest b
+      → may_return_byte image rest (windows_by image rest past).stores (record {
+        number = k.operation.number;
+        address = k.operation.address
+            + i;
+        began = k.mark;
+      }) b ≡ true
   allowed_at past n bytes a f k found named i b e l small =
       let at : ℕ = k.operation.address + i in
       let some : 0 < size = let s = sized.0 in omega arith in
       let within : at % size < size = mod-lt at some in
       let lane_of : at % size < 8 = let s = sized.1 in omega arith in
       let place : at / size * size + at % size ≡ at = div-add-mod' at size in
-      subst (λ x. may_return_byte image rest (windows_by image rest past).stores (record { number = k.operation.number; address = x; began =
-        k.mark }) b ≡ true) place
+      subst (λ x. may_return_byte image rest (windows_by image rest past).stores (record {
+        number = k.operation.number;
+        address = x;
+        began =
+            k.mark;
+      }) b ≡ true) place
       (allowed_byte image rest (unit_at size (at / size)) (at % size) within lane_of past n bytes (a (at / size)) f k found (omega arith)
-        (omega arith) named b small
+      (omega arith) named b small
       (ap (byte_for k.operation.address bytes.now) place ∙ (byte_inside k.operation.address bytes.now i ∙ e)))
 
   no_regular_fault : (past : List HistoryEvent) (event : HistoryEvent) → ((k : ℕ) → IsAtomicAt image rest (unit_at size k) (past
@@ -241,7 +255,7 @@ module _ (image : List ℕ) (rest : Rest) (size : ℕ) (sized : IsUnitSize size)
   no_regular_fault past (LoadRequest n a len) m f g r =
       let w = windows_by image rest past in
       ap (load_request_fault (is_inside a len)) (loads_any load_byte number_of its_number (marks_by image rest past) w.loads (opened_by
-        past).loads (agrees_by image rest past f).loads n) ∙ g
+      past).loads (agrees_by image rest past f).loads n) ∙ g
   no_regular_fault past (StoreRequest n a bytes e) m f g r =
       ap (store_request_fault (is_inside a (length bytes.now)) (has_enabled bytes.now e)) ((agrees_by image rest past f).stores n) ∙ g
   no_regular_fault past (StoreResponse n) m f g r = ap store_response_fault ((agrees_by image rest past f).stores n) ∙ g
@@ -258,9 +272,11 @@ module _ (image : List ℕ) (rest : Rest) (size : ℕ) (sized : IsUnitSize size)
       let same = same_image (first_windows image rest) past in
       ap (λ ls. load_response_fault (may_return w) ls bytes.now) u.1.1.1
       ∙ no_fault load_byte number_of its_number (may_return w) k bytes.now some long
-      (λ i b e l. rw (same.0,
-          same.1) (allowed_at past n bytes m f k u.1.0 named i b e l (each_get (IsByte rest) bytes.now i b (each_all (IsByte rest) bytes.now
-            r) e)))
+      (λ i b e l. rw (
+        same.0,
+        same.1,
+      ) (allowed_at past n bytes m f k u.1.0 named i b e l (each_get (IsByte rest) bytes.now i b (each_all (IsByte rest) bytes.now
+      r) e)))
 
   regular_from : (past future : List HistoryEvent) → ((k : ℕ) → IsAtomicAt image rest (unit_at size k) (past ++ future))
       → is_formed none_opened past ≡ true → is_formed (opened_by past) future ≡ true → Each (ReturnsBytes rest) future
@@ -270,13 +286,13 @@ module _ (image : List ℕ) (rest : Rest) (size : ℕ) (sized : IsUnitSize size)
       let p = and_parts (is_none (form_fault (opened_by past) event)) (is_formed (opened_after (opened_by past) event) events) g in
       let formed : form_fault (opened_by past) event ≡ None = none_is (form_fault (opened_by past) event) p.0 in
       let more : (k : ℕ) → IsAtomicAt image rest (unit_at size k) ((past ++ event ∷ []) ++ events) = λ k.
-          subst (IsAtomicAt image rest (unit_at size k)) (sym (append_assoc past (event ∷ []) events)) (m k) in
+      subst (IsAtomicAt image rest (unit_at size k)) (sym (append_assoc past (event ∷ []) events)) (m k) in
       let none : fault (windows_by image rest past) event ≡ None =
       no_regular_fault past event (λ k. moments_before image rest (unit_at size k) (past ++ event ∷ []) events (more k)) f formed r.0 in
       let next : IsTrue (is_some (regular_run (windows_after (windows_by image rest past) event) events)) =
       subst (λ w. IsTrue (is_some (regular_run w events))) (windows_more (first_windows image rest) past event)
       (regular_from (past ++ event ∷ []) events more (formed_more none_opened past event f formed) (subst (λ o.
-          is_formed o events ≡ true) (sym (fold-append opened_after none_opened past (event ∷ []))) p.1) r.1) in
+      is_formed o events ≡ true) (sym (fold-append opened_after none_opened past (event ∷ []))) p.1) r.1) in
       rw none next
 
 pub atomic_is_regular : (image : List ℕ) (rest : Rest) (size : ℕ) (history : List HistoryEvent) → AtomicIsRegular image rest size history

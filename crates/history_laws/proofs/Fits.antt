@@ -89,7 +89,7 @@ module _ (image : List ℕ) (rest : Rest) (unit : UnitPlace) (j : ℕ) where
   abbrev IsLast : List OpenStore → List StoreByte → Option ℕ → StoreByte → Type 0
   IsLast os stores x s =
       (s.address ≡ here) × ((x ≡ Some s.byte) × (IsDone os s × Each (λ o. o.address ≡ here → IsDone os o
-          → is_before s.ended o.began ≡ false) stores))
+      → is_before s.ended o.began ≡ false) stores))
 
   abbrev Stands : List OpenStore → List StoreByte → Option ℕ → Type 0
   Stands os stores x = IsFirst os stores x ⊎ One (IsLast os stores x) stores
@@ -135,7 +135,7 @@ module _ (image : List ℕ) (rest : Rest) (unit : UnitPlace) (j : ℕ) where
       any_none (λ s. (s.address == here) && is_before s.ended t) stores
       (each_weaker (λ s. s.address ≡ here → IsDone os s → ⊥) (λ s. ((s.address == here) && is_before s.ended t) ≡ false)
       (λ s f. false_if ((s.address == here) && is_before s.ended t) (λ e. let p = and_parts (s.address == here) (is_before s.ended t) e in
-          f (eqb-true s.address here p.0) (inl (before_some s.ended t p.1)))) stores h)
+      f (eqb-true s.address here p.0) (inl (before_some s.ended t p.1)))) stores h)
 
   not_overwritten : (os : List OpenStore) (stores : List StoreByte) (s : StoreByte) (t : ℕ) → s.address ≡ here → Each (λ o. o.address ≡ here
       → IsDone os o → is_before s.ended o.began ≡ false) stores
@@ -152,7 +152,7 @@ module _ (image : List ℕ) (rest : Rest) (unit : UnitPlace) (j : ℕ) where
       → is_as_it_stood x (Some b) ≡ true → may stores n t b ≡ true
   may_now os stores x (inl f) n t b l h =
       right_of (is_left stores (record { number = n; address = here; began = t }) b) (is_initial (slice_get image here) rest b) (is_covered
-        stores (record { number = n; address = here; began = t }))
+      stores (record { number = n; address = here; began = t }))
       (initial_allowed (slice_get image here) rest b l (subst (λ y. is_as_it_stood y (Some b) ≡ true) f.0 h)) (uncovered os stores n t f.1)
   may_now os stores x (inr o) n t b l h =
       let left : is_left stores (record { number = n; address = here; began = t }) b ≡ true =
@@ -160,7 +160,7 @@ module _ (image : List ℕ) (rest : Rest) (unit : UnitPlace) (j : ℕ) where
       (one_weaker (IsLast os stores x) (λ s. ((s.address == here) && ((s.byte == b) && not (is_overwritten stores s t))) ≡ true)
       (λ s p. let same : (s.byte == b) ≡ true = subst (λ y. is_as_it_stood y (Some b) ≡ true) p.1.0 h in
       and_from (s.address == here) _ (eq-eqb s.address here p.0) (and_from (s.byte == b) _ same (ap not (not_overwritten os stores s t p.0
-        p.1.1.1)))) stores o) in
+      p.1.1.1)))) stores o) in
       rw left refl
 
   -- A store takes effect. ----
@@ -169,8 +169,11 @@ module _ (image : List ℕ) (rest : Rest) (unit : UnitPlace) (j : ℕ) where
       → IsDone (before ++ done_store o ∷ after) s
   done_more before o after s (inl e) = inl e
   done_more before o after s (inr p) =
-      inr (p.0, one_replace (λ x. IsOf s x × (x.is_done ≡ true)) (λ x. IsOf s x × (x.is_done ≡ true)) before o (done_store o) after (λ x q.
-          q) (λ q. (q.0, refl)) p.1)
+      inr (
+        p.0,
+        one_replace (λ x. IsOf s x × (x.is_done ≡ true)) (λ x. IsOf s x × (x.is_done ≡ true)) before o (done_store o) after (λ x q.
+            q) (λ q. (q.0, refl)) p.1,
+      )
 
   done_fewer : (before : List OpenStore) (o : OpenStore) (after : List OpenStore) (s : StoreByte) → IsDone (before
       ++ done_store o ∷ after) s → IsDone (before ++ o ∷ after) s ⊎ ((s.ended ≡ None) × IsOf s o)
@@ -194,8 +197,11 @@ module _ (image : List ℕ) (rest : Rest) (unit : UnitPlace) (j : ℕ) where
   stands_fewer : (os ds : List OpenStore) (stores : List StoreByte) (x : Option ℕ) → ((s : StoreByte) → IsDone os s → IsDone ds s)
       → ((s : StoreByte) → IsDone ds s → IsDone os s) → Stands os stores x → Stands ds stores x
   stands_fewer os ds stores x f g (inl p) =
-      inl (p.0, each_weaker (λ s. s.address ≡ here → IsDone os s → ⊥) (λ s. s.address ≡ here → IsDone ds s → ⊥) (λ s h a d.
-          h a (g s d)) stores p.1)
+      inl (
+        p.0,
+        each_weaker (λ s. s.address ≡ here → IsDone os s → ⊥) (λ s. s.address ≡ here → IsDone ds s → ⊥) (λ s h a d.
+            h a (g s d)) stores p.1,
+      )
   stands_fewer os ds stores x f g (inr o) =
       inr (one_weaker (IsLast os stores x) (IsLast ds stores x) (λ s p. (
         p.0,
@@ -214,7 +220,7 @@ module _ (image : List ℕ) (rest : Rest) (unit : UnitPlace) (j : ℕ) where
       → (v : Option ℕ) → lane o.bytes j ≡ v → Stands (before ++ done_store o ∷ after) stores (written_byte v x)
   stands_effect before o after stores x has st None e =
       stands_fewer (before ++ o ∷ after) (before ++ done_store o ∷ after) stores x (λ s d. done_more before o after s d) (λ s d.
-          done_same before o after e s d) st
+      done_same before o after e s d) st
   stands_effect before o after stores x has st (Some b) e =
       let os : List OpenStore = before ++ done_store o ∷ after in
       inr (one_weaker (IsByteOf o.number b) (IsLast os stores (Some b))
@@ -223,8 +229,13 @@ module _ (image : List ℕ) (rest : Rest) (unit : UnitPlace) (j : ℕ) where
         (
           ap Some (sym p.1.1.1),
           (
-            inr (p.1.0, one_at (λ y. IsOf s y × (y.is_done ≡ true)) before (done_store o) after ((sym p.1.1.0, e ∙ ap Some (sym p.1.1.1)),
-                refl)),
+            inr (
+              p.1.0,
+              one_at (λ y. IsOf s y × (y.is_done ≡ true)) before (done_store o) after (
+                (sym p.1.1.0, e ∙ ap Some (sym p.1.1.1)),
+                refl,
+              ),
+            ),
             each_always (λ y. y.address ≡ here → IsDone os y → is_before s.ended y.began ≡ false) (λ y a d.
                 open_before s.ended y.began p.1.0) stores,
           ),
@@ -239,7 +250,7 @@ module _ (image : List ℕ) (rest : Rest) (unit : UnitPlace) (j : ℕ) where
     wide = subst (λ n. j < n) (sym (length_written o.bytes word)) f.wide;
     word = subst (Stands (before ++ done_store o ∷ after) stores) (sym (lane_written o.bytes word j f.wide))
         (stands_effect before o after stores (lane word j) (each_at (HasByte stores) before o after f.has_bytes) f.word (lane o.bytes j)
-          refl);
+        refl);
     has_stores = each_weaker (HasStore (before ++ o ∷ after)) (HasStore (before ++ done_store o ∷ after))
         (λ s h a n. one_replace (IsOf s) (IsOf s) before o (done_store o) after (λ x p. p) (λ p. p) (h a n)) stores f.has_stores;
     has_bytes = each_replace (HasByte stores) before o (done_store o) after (λ h. h) f.has_bytes;
@@ -270,13 +281,16 @@ module _ (image : List ℕ) (rest : Rest) (unit : UnitPlace) (j : ℕ) where
   later : (stores : List StoreByte) (moment : ℕ) (loads more : List OpenLoad) (ks : List (Marked ℕ)) → Each (HasLoad stores moment loads) ks
       → Each (HasLoad stores (moment + 1) (loads ++ more)) ks
   later stores moment loads more ks h =
-      each_weaker (HasLoad stores moment loads) (HasLoad stores (moment + 1) (loads ++ more)) (λ k p. let l = p.0 in (omega arith, λ a b.
-          one_left (IsLoad stores k) loads more (p.1 a b))) ks h
+      each_weaker (HasLoad stores moment loads) (HasLoad stores (moment + 1) (loads ++ more)) (λ k p. let l = p.0 in (
+        omega arith,
+        λ a b.
+            one_left (IsLoad stores k) loads more (p.1 a b),
+      )) ks h
 
   pub fits_requested : (stores : List StoreByte) (moment : ℕ) (ks : List (Marked ℕ)) (m : UnitMemory) (n a len : ℕ) → j < unit.size
       → Fits stores moment ks m → (t : Bool) → is_at unit a len ≡ t
       → Fits stores (moment + 1) (ks
-          ++ record { operation = record { number = n; address = a; length = len }; mark = moment } ∷ []) (if t then with_load n a m else m)
+      ++ record { operation = record { number = n; address = a; length = len }; mark = moment } ∷ []) (if t then with_load n a m else m)
   fits_requested stores moment ks m n a len jl f true e =
       let k : Marked ℕ = record { operation = record { number = n; address = a; length = len }; mark = moment } in
       let o : OpenLoad = record { number = n; address = a; got = None } in
@@ -297,11 +311,18 @@ module _ (image : List ℕ) (rest : Rest) (unit : UnitPlace) (j : ℕ) where
         has_stores = f.has_stores;
         has_bytes = f.has_bytes;
         has_loads = each_append (HasLoad stores (moment + 1) m.loads) ks (k ∷ [])
-            (each_weaker (HasLoad stores moment m.loads) (HasLoad stores (moment + 1) m.loads) (λ k p. let l = p.0 in (omega arith,
-                p.1)) ks f.has_loads)
-            ((omega arith, λ p q.
-                absurd (false_true (is_at unit a len) e (and_from (nat_lt a (unit.first + unit.size)) (nat_lt unit.first (a + len)) (lt-ltb
-                  a (unit.first + unit.size) (omega arith)) (lt-ltb unit.first (a + len) (omega arith))))), tt);
+            (each_weaker (HasLoad stores moment m.loads) (HasLoad stores (moment + 1) m.loads) (λ k p. let l = p.0 in (
+              omega arith,
+              p.1,
+            )) ks f.has_loads) (
+              (
+                omega arith,
+                λ p q.
+                    absurd (false_true (is_at unit a len) e (and_from (nat_lt a (unit.first + unit.size)) (nat_lt unit.first (a + len)) (lt-ltb
+                    a (unit.first + unit.size) (omega arith)) (lt-ltb unit.first (a + len) (omega arith)))),
+              ),
+              tt,
+            );
       }
 
   pub fits_answered : (stores : List StoreByte) (moment : ℕ) (ks : List (Marked ℕ)) (m : UnitMemory) (n : ℕ) → Fits stores moment ks m
@@ -313,12 +334,15 @@ module _ (image : List ℕ) (rest : Rest) (unit : UnitPlace) (j : ℕ) where
     has_bytes = f.has_bytes;
     has_loads = each_passing (HasLoad stores (moment + 1) (without_load n m).loads) (λ k. not (is_number n k)) ks
         (each_weaker (HasLoad stores moment m.loads) (λ k. not (is_number n k) ≡ true
-            → HasLoad stores (moment + 1) (without_load n m).loads k)
+        → HasLoad stores (moment + 1) (without_load n m).loads k)
         (λ k p e. let l = p.0 in (
           omega arith,
           λ a b. one_filter (IsLoad stores k) (λ o. not (is_load n o)) m.loads
-              (one_weaker (IsLoad stores k) (λ o. IsLoad stores k o × (not (is_load n o) ≡ true)) (λ o q. (q, ap (λ x.
-                  not (x == n)) q.0 ∙ e)) m.loads (p.1 a b)),
+              (one_weaker (IsLoad stores k) (λ o. IsLoad stores k o × (not (is_load n o) ≡ true)) (λ o q. (
+                q,
+                ap (λ x.
+                    not (x == n)) q.0 ∙ e,
+              )) m.loads (p.1 a b)),
         )) ks f.has_loads);
   }
 
@@ -331,7 +355,7 @@ module _ (image : List ℕ) (rest : Rest) (unit : UnitPlace) (j : ℕ) where
       let l : LoadByte = record { number = n; address = here; began = u } in
       rw (left_requested t stores added new l b, covered_requested t stores added new l)
       (or_more (is_left stores l b) (list_any (λ s.
-          (s.address == here) && (s.byte == b)) added) (is_initial (slice_get image here) rest b && not (is_covered stores l)) h)
+      (s.address == here) && (s.byte == b)) added) (is_initial (slice_get image here) rest b && not (is_covered stores l)) h)
 
   allowed_at : (stores more : List StoreByte) (n u : ℕ) (got : Option (List (Option ℕ))) → ((b : ℕ) → may stores n u b ≡ true
       → may more n u b ≡ true) → IsAllowed stores n u got → IsAllowed more n u got
@@ -343,8 +367,16 @@ module _ (image : List ℕ) (rest : Rest) (unit : UnitPlace) (j : ℕ) where
       → Each (HasLoad stores moment loads) ks → Each (HasLoad more (moment + 1) loads) ks
   loads_more stores more moment loads ks g h =
       each_weaker (HasLoad stores moment loads) (HasLoad more (moment + 1) loads)
-      (λ k p. let l = p.0 in (omega arith, λ a b. one_weaker (IsLoad stores k) (IsLoad more k) (λ o q. (q.0, (q.1.0,
-          allowed_at stores more k.operation.number k.mark o.got (λ c m. g k p.0 c m) q.1.1))) loads (p.1 a b))) ks h
+      (λ k p. let l = p.0 in (
+        omega arith,
+        λ a b. one_weaker (IsLoad stores k) (IsLoad more k) (λ o q. (
+          q.0,
+          (
+            q.1.0,
+            allowed_at stores more k.operation.number k.mark o.got (λ c m. g k p.0 c m) q.1.1,
+          ),
+        )) loads (p.1 a b),
+      )) ks h
 
   done_old : (os : List OpenStore) (o : OpenStore) (s : StoreByte) → o.is_done ≡ false → IsDone (os ++ o ∷ []) s → IsDone os s
   done_old os o s e (inl d) = inl d
@@ -376,7 +408,7 @@ module _ (image : List ℕ) (rest : Rest) (unit : UnitPlace) (j : ℕ) where
         p.0,
         each_append (λ s. s.address ≡ here → IsDone ds s → ⊥) stores added
             (each_weaker (λ s. s.address ≡ here → IsDone os s → ⊥) (λ s. s.address ≡ here → IsDone ds s → ⊥) (λ s h a d.
-                h a (g s d)) stores p.1)
+            h a (g s d)) stores p.1)
             (each_weaker (λ s. IsDone os s → ⊥) (λ s. s.address ≡ here → IsDone ds s → ⊥) (λ s h a d. h (g s d)) added new),
       )
   stands_requested os ds stores added x f g new (inr o) =
@@ -389,9 +421,9 @@ module _ (image : List ℕ) (rest : Rest) (unit : UnitPlace) (j : ℕ) where
             f s p.1.1.0,
             each_append (λ y. y.address ≡ here → IsDone ds y → is_before s.ended y.began ≡ false) stores added
                 (each_weaker (λ y. y.address ≡ here → IsDone os y → is_before s.ended y.began ≡ false) (λ y. y.address ≡ here → IsDone ds y
-                    → is_before s.ended y.began ≡ false) (λ y h a d. h a (g y d)) stores p.1.1.1)
+                → is_before s.ended y.began ≡ false) (λ y h a d. h a (g y d)) stores p.1.1.1)
                 (each_weaker (λ y. IsDone os y → ⊥) (λ y. y.address ≡ here → IsDone ds y → is_before s.ended y.began ≡ false) (λ y h a d.
-                    absurd (h (g y d))) added new),
+                absurd (h (g y d))) added new),
           ),
         ),
       )) stores o))
@@ -410,17 +442,22 @@ module _ (image : List ℕ) (rest : Rest) (unit : UnitPlace) (j : ℕ) where
         word = stands_requested m.stores (m.stores ++ o ∷ []) stores added (lane m.word j) (λ s d. done_with m.stores (o ∷ []) s d) (λ s d.
             done_old m.stores o s refl d)
             (each_weaker (IsNewByte n a bs e moment) (λ s. IsDone m.stores s → ⊥) (λ s h d.
-                none_under m.stores stores n free f.has_bytes s h.0 h.1.0 d) added (each_new n a bs e moment)) f.word;
+            none_under m.stores stores n free f.has_bytes s h.0 h.1.0 d) added (each_new n a bs e moment)) f.word;
         has_stores = each_append (HasStore (m.stores ++ o ∷ [])) stores added
             (each_weaker (HasStore m.stores) (HasStore (m.stores ++ o ∷ [])) (λ s h p q.
-                one_left (IsOf s) m.stores (o ∷ []) (h p q)) stores f.has_stores)
-            (each_weaker (IsNewByte n a bs e moment) (HasStore (m.stores ++ o ∷ [])) (λ s h p q. one_last (IsOf s) m.stores o (sym h.0,
-                lane_here ∙ (ap (stored_byte a bs e) (sym p) ∙ h.1.1.1))) added (each_new n a bs e moment));
+            one_left (IsOf s) m.stores (o ∷ []) (h p q)) stores f.has_stores)
+            (each_weaker (IsNewByte n a bs e moment) (HasStore (m.stores ++ o ∷ [])) (λ s h p q. one_last (IsOf s) m.stores o (
+              sym h.0,
+              lane_here ∙ (ap (stored_byte a bs e) (sym p) ∙ h.1.1.1),
+            )) added (each_new n a bs e moment));
         has_bytes = each_append (HasByte (stores ++ added)) m.stores (o ∷ [])
             (each_weaker (HasByte stores) (HasByte (stores ++ added)) (λ y h b p.
-                one_left (IsByteOf y.number b) stores added (h b p)) m.stores f.has_bytes) (
-              λ b p. one_right (IsByteOf n b) stores added (one_weaker (λ s. s ≡ new_byte n here b moment) (IsByteOf n b) (λ s q. (ap (λ z.
-                  z.address) q, (ap (λ z. z.ended) q, (ap (λ z. z.number) q, ap (λ z. z.byte) q)))) added
+            one_left (IsByteOf y.number b) stores added (h b p)) m.stores f.has_bytes) (
+              λ b p. one_right (IsByteOf n b) stores added (one_weaker (λ s. s ≡ new_byte n here b moment) (IsByteOf n b) (λ s q. (
+                ap (λ z.
+                    z.address) q,
+                (ap (λ z. z.ended) q, (ap (λ z. z.number) q, ap (λ z. z.byte) q)),
+              )) added
                   (stored_new n a bs e moment here b (sym lane_here ∙ p))),
               tt,
             );
@@ -435,11 +472,11 @@ module _ (image : List ℕ) (rest : Rest) (unit : UnitPlace) (j : ℕ) where
         wide = f.wide;
         word = stands_requested m.stores m.stores stores added (lane m.word j) (λ s d. d) (λ s d. d)
             (each_weaker (IsNewByte n a bs e moment) (λ s. IsDone m.stores s → ⊥) (λ s h d.
-                none_under m.stores stores n free f.has_bytes s h.0 h.1.0 d) added (each_new n a bs e moment)) f.word;
+            none_under m.stores stores n free f.has_bytes s h.0 h.1.0 d) added (each_new n a bs e moment)) f.word;
         has_stores = each_append (HasStore m.stores) stores added f.has_stores
             (each_weaker (IsNewByte n a bs e moment) (HasStore m.stores) (λ s h p q.
-                absurd (false_true (list_any is_some word) c (any_lane word j s.byte (lane_here ∙ (ap (stored_byte a bs e) (sym p) ∙
-                  h.1.1.1))))) added (each_new n a bs e moment));
+            absurd (false_true (list_any is_some word) c (any_lane word j s.byte (lane_here ∙ (ap (stored_byte a bs e) (sym p) ∙
+            h.1.1.1))))) added (each_new n a bs e moment));
         has_bytes = each_weaker (HasByte stores) (HasByte (stores ++ added)) (λ y h b p.
             one_left (IsByteOf y.number b) stores added (h b p)) m.stores f.has_bytes;
         has_loads = loads_more stores (stores ++ added) moment m.loads ks (λ k l b h.
@@ -474,10 +511,12 @@ module _ (image : List ℕ) (rest : Rest) (unit : UnitPlace) (j : ℕ) where
   done_before os n t s m has a d = elim (after_cases n t s) [
     | inl c ↦ inr (
       c.0,
-      one_weaker (λ o. IsOf s o × ((not (is_store n o) || o.is_done) ≡ true)) (λ o. IsOf s o × (o.is_done ≡ true)) (λ o q. (q.0,
-          done_by_answer n o (q.0.0 ∙ c.1.0) q.1)) os
+      one_weaker (λ o. IsOf s o × ((not (is_store n o) || o.is_done) ≡ true)) (λ o. IsOf s o × (o.is_done ≡ true)) (λ o q. (
+        q.0,
+        done_by_answer n o (q.0.0 ∙ c.1.0) q.1,
+      )) os
           (one_each (IsOf s) (λ o. (not (is_store n o) || o.is_done) ≡ true) os (has a c.0) (all_each (λ o.
-              not (is_store n o) || o.is_done) os m)),
+          not (is_store n o) || o.is_done) os m)),
     )
     | inr c ↦ done_unfiltered os n s (subst (IsDone (filter (λ o. not (is_store n o)) os)) c.1 d)
   ]
@@ -511,7 +550,7 @@ module _ (image : List ℕ) (rest : Rest) (unit : UnitPlace) (j : ℕ) where
         p.0,
         each_map (after_response n t) (λ s. s.address ≡ here → IsDone ds s → ⊥) stores
             (each_weaker (λ s. (s.address ≡ here → IsDone os s → ⊥) × HasStore os s) (λ s. (after_response n t s).address ≡ here
-                → IsDone ds (after_response n t s) → ⊥)
+            → IsDone ds (after_response n t s) → ⊥)
             (λ s h a d. let b : s.address ≡ here = sym (after_here n t s).0 ∙ a in h.0 b (done_before os n t s m h.1 b d)) stores
             (each_both (λ s. s.address ≡ here → IsDone os s → ⊥) (HasStore os) stores p.1 has)),
       )
@@ -527,11 +566,11 @@ module _ (image : List ℕ) (rest : Rest) (unit : UnitPlace) (j : ℕ) where
             done_after os n t s p.1.1.0,
             each_map f (λ y. y.address ≡ here → IsDone ds y → is_before (f s).ended y.began ≡ false) stores
                 (each_weaker (λ y. (y.address ≡ here → IsDone os y → is_before s.ended y.began ≡ false) × (HasStore os y
-                    × IsTimely t y)) (λ y. (f y).address ≡ here → IsDone ds (f y) → is_before (f s).ended (f y).began ≡ false)
+                × IsTimely t y)) (λ y. (f y).address ≡ here → IsDone ds (f y) → is_before (f s).ended (f y).began ≡ false)
                 (λ y h a d. let b : y.address ≡ here = sym (after_here n t y).0 ∙ a in
-                    before_same n t s y h.1.1.0 (h.0 b (done_before os n t y m h.1.0 b d))) stores
+                before_same n t s y h.1.1.0 (h.0 b (done_before os n t y m h.1.0 b d))) stores
                 (each_both (λ y. y.address ≡ here → IsDone os y → is_before s.ended y.began ≡ false) (λ y. HasStore os y
-                    × IsTimely t y) stores p.1.1.1 (each_both (HasStore os) (IsTimely t) stores has timely))),
+                × IsTimely t y) stores p.1.1.1 (each_both (HasStore os) (IsTimely t) stores has timely))),
           ),
         ),
       )) stores o))
@@ -551,18 +590,18 @@ module _ (image : List ℕ) (rest : Rest) (unit : UnitPlace) (j : ℕ) where
       record {
         wide = f.wide;
         word = stands_answered m.stores stores n moment (lane m.word j) may_end f.has_stores (each_all (IsTimely moment) stores timely)
-          f.word;
+            f.word;
         has_stores = each_map after (HasStore ds) stores (each_weaker (HasStore m.stores) (λ s. HasStore ds (after s))
             (λ s h a e. elim (after_cases n moment s) [
               | inl c ↦ absurd (some_none (sym (ap (λ y. y.ended) c.1.1) ∙ e))
               | inr c ↦ let e2 : s.ended ≡ None = sym (ap (λ y. y.ended) c.1) ∙ e in
                   subst (λ y. One (IsOf y) ds) (sym c.1) (left_open m.stores n (IsOf s) s c.0 e2 (λ o p.
-                      p.0) (h (sym (after_here n moment s).0 ∙ a) e2))
+                  p.0) (h (sym (after_here n moment s).0 ∙ a) e2))
             ]) stores f.has_stores);
         has_bytes = each_passing (HasByte (map after stores)) (λ o. not (is_store n o)) m.stores (each_weaker (HasByte stores) (λ o.
             not (is_store n o) ≡ true → HasByte (map after stores) o)
             (λ o h other b e. one_map after (IsByteOf o.number b) stores (one_weaker (IsByteOf o.number b) (λ s.
-                IsByteOf o.number b (after s))
+            IsByteOf o.number b (after s))
             (λ s q. elim (after_cases n moment s) [
               | inl c ↦ absurd (not_both (o.number == n) other (eq-eqb o.number n (sym q.1.1.0 ∙ c.1.0)))
               | inr c ↦ subst (IsByteOf o.number b) (sym c.1) q

@@ -87,7 +87,7 @@ nothing_stored a x e = elim (cases_Bool (nat_le a x)) [ inl h ↦ rw h (nothing_
 
 written_at : (value : ℕ → Owed) (a x b : ℕ) (bs : List ℕ) (e : ℕ) (at : ℕ → Owed)
     → chosen value (stored_byte (a + 1) bs (e / 2) x) ((if e % 2 == 1 then with_value at a (value b) else at) x) ≡ chosen value (stored_byte
-      a (b ∷ bs) e x) (at x)
+    a (b ∷ bs) e x) (at x)
 written_at value a x b bs e at = elim (cases_lt x a) [
   | inl l ↦
       let m : x < a + 1 = omega arith in
@@ -97,7 +97,7 @@ written_at value a x b bs e at = elim (cases_lt x a) [
     | inl same ↦
         let m : x < a + 1 = omega arith in
         let at_first : stored_byte a (b ∷ bs) e x ≡ enabled_byte (b ∷ bs) e 0 = subst (λ y.
-            stored_byte a (b ∷ bs) e y ≡ enabled_byte (b ∷ bs) e 0) (zero_behind a ∙ same) (stored_inside a (b ∷ bs) e 0) in
+        stored_byte a (b ∷ bs) e y ≡ enabled_byte (b ∷ bs) e 0) (zero_behind a ∙ same) (stored_inside a (b ∷ bs) e 0) in
         rw (not_below (a + 1) x bs (e / 2) m, at_first, enabled_first b bs e) (first_value (e % 2 == 1) value at a b x (eq-eqb a x same))
     | inr other ↦
         let k : ℕ = x - (a + 1) in
@@ -105,9 +105,9 @@ written_at value a x b bs e at = elim (cases_lt x a) [
         let p : a + 1 + k ≡ x = omega arith in
         let q : a + suc k ≡ x = omega arith in
         let next : stored_byte (a + 1) bs (e / 2) x ≡ enabled_byte bs (e / 2) k = subst (λ y.
-            stored_byte (a + 1) bs (e / 2) y ≡ enabled_byte bs (e / 2) k) p (stored_inside (a + 1) bs (e / 2) k) in
+        stored_byte (a + 1) bs (e / 2) y ≡ enabled_byte bs (e / 2) k) p (stored_inside (a + 1) bs (e / 2) k) in
         let here : stored_byte a (b ∷ bs) e x ≡ enabled_byte bs (e / 2) k = subst (λ y.
-            stored_byte a (b ∷ bs) e y ≡ enabled_byte bs (e / 2) k) q (stored_inside a (b ∷ bs) e (suc k) ∙ enabled_next b bs e k) in
+        stored_byte a (b ∷ bs) e y ≡ enabled_byte bs (e / 2) k) q (stored_inside a (b ∷ bs) e (suc k) ∙ enabled_next b bs e k) in
         rw (next, here) (ap (chosen value (enabled_byte bs (e / 2) k)) (value_at (e % 2 == 1) at a (value b) x (ne_eqb a x other)))
   ]
 ]
@@ -164,7 +164,7 @@ no_place may (p ∷ ps) h = elim (cases_Bool (may p.0 p.1)) [
   )
   | inr e ↦
       let f : nat_lt 0 (suc (length ps)) ≡ false = (rw e at h) in
-          absurd (false_true (nat_lt 0 (suc (length ps))) f (lt-ltb 0 (suc (length ps)) (omega arith)))
+      absurd (false_true (nat_lt 0 (suc (length ps))) f (lt-ltb 0 (suc (length ps)) (omega arith)))
 ]
 
 unconditional : (t : Bool) (k : ℕ) → cond t (Some k) None ≡ None → t ≡ false
@@ -193,7 +193,7 @@ response_parts may ls bs h = elim (cases_Bool (length ls == 0)) [
 paid_at : {X L : Type 0} (make : ℕ → ℕ → X → L) (number : L → ℕ) (named : (n a : ℕ) (x : X) → number (make n a x) ≡ n) (may : L → ℕ
     → Bool) (n : ℕ) (x : X) (len a : ℕ) (bs : List ℕ)
     → Each (λ p. may p.0 p.1 ≡ true) (zip (piece make number named n x a len) bs) → (i b : ℕ) → slice_get bs i ≡ Some b → i < len
-        → may (make n (a + i) x) b ≡ true
+    → may (make n (a + i) x) b ≡ true
 paid_at make number named may n x zero a bs h i b e l = absurd (omega arith)
 paid_at make number named may n x (suc len) a [] h i b e l = cc
 paid_at make number named may n x (suc len) a (c ∷ bs) h zero b e l = let same : c ≡ b = cc in subst (λ y.
@@ -241,7 +241,7 @@ without_one number n m xs = elim (cases_Bool (n == m)) [
       rw e (subst (λ k. list_any (λ x. number x == k) (filter (λ x. not (number x == n)) xs) ≡ false) same
       (list_any-filter (λ x. not (number x == n)) (λ x. number x == n) xs
       ∙ any_none (λ x. not (number x == n) && (number x == n)) xs (each_always (λ x. (not (number x == n) && (number x == n)) ≡ false) (λ x.
-          not_itself (number x == n)) xs)))
+      not_itself (number x == n)) xs)))
   | inr e ↦ rw e (list_any-kept (λ x. not (number x == n)) (λ x. number x == m) (λ x f. kept_other number n m x e f) xs)
 ]
 
@@ -250,12 +250,20 @@ agrees_after : (o : Opened) (f : Flat) (ks : List (Marked (ℕ → Owed))) (even
 agrees_after o f ks (LoadRequest n a len) g h =
     let p = load_formed (is_inside a len) (list_any (has_number n) o.loads) h in
     record {
-      loads = loads_more owed_byte owed_number owed_named ks f.loads o.loads g.loads (record { operation = record { number = n; address = a;
-        length = len }; mark = f.memory }) p.1 (inside_some a len p.0);
+      loads = loads_more owed_byte owed_number owed_named ks f.loads o.loads g.loads (record {
+        operation = record {
+          number = n;
+          address = a;
+          length = len;
+        };
+        mark = f.memory;
+      }) p.1 (inside_some a len p.0);
       stores = g.stores;
     }
-agrees_after o f ks (LoadResponse n bytes) g h = record { loads = loads_fewer owed_byte owed_number owed_named ks f.loads o.loads g.loads n;
-    stores = g.stores }
+agrees_after o f ks (LoadResponse n bytes) g h = record {
+  loads = loads_fewer owed_byte owed_number owed_named ks f.loads o.loads g.loads n;
+  stores = g.stores;
+}
 agrees_after o f ks (StoreRequest n a bytes e) g h =
     let x : Operation = record { number = n; address = a; length = length bytes.now } in
     record {
@@ -298,12 +306,12 @@ answer_of : (o : Opened) (f : Flat) (ks : List (Marked (ℕ → Owed))) (n : ℕ
 answer_of o f ks n bytes g h =
     let r = response_parts may_return (filter (is_of n) f.loads) bytes.now h in
     let any : list_any (has_number n) o.loads ≡ true = sym (loads_any owed_byte owed_number owed_named ks f.loads o.loads g.loads n) ∙
-      some_passes (is_of n) f.loads r.0 in
+    some_passes (is_of n) f.loads r.0 in
     let x = found (has_number n) o.loads any in
     let u = loads_under owed_byte owed_number owed_named ks f.loads o.loads g.loads n x.0 x.1 in
     let k : Marked (ℕ → Owed) = u.0 in
     let right : wrong_place may_return (bytes_of owed_byte owed_number owed_named k) bytes.now ≡ None = ap (λ ls.
-        wrong_place may_return ls bytes.now) (sym u.1.1.1) ∙ r.1.1 in
+    wrong_place may_return ls bytes.now) (sym u.1.1.1) ∙ r.1.1 in
     record {
       operation = x.0;
       found_open = x.1;
@@ -313,7 +321,7 @@ answer_of o f ks n bytes g h =
       long = sym r.1.0 ∙ (ap length u.1.1.1 ∙ length_bytes owed_byte owed_number owed_named k);
       paid = paid_at owed_byte owed_number owed_named may_return k.operation.number k.mark k.operation.length k.operation.address bytes.now
           (no_place may_return (zip (bytes_of owed_byte owed_number owed_named k) bytes.now) (place_none may_return (zip (bytes_of owed_byte
-            owed_number owed_named k) bytes.now) right));
+          owed_number owed_named k) bytes.now) right));
     }
 
 formed_after : (o : Opened) (f : Flat) (ks : List (Marked (ℕ → Owed))) (event : HistoryEvent) → Agrees o f ks → flat_fault f event ≡ None
@@ -323,7 +331,7 @@ formed_after o f ks (LoadRequest n a len) g h = ap (load_request_fault (is_insid
 formed_after o f ks (LoadResponse n bytes) g h =
     let a = answer_of o f ks n bytes g h in
     let same : (a.operation.length == length bytes.now) ≡ true = eq-eqb a.operation.length (length bytes.now) (ap (λ x.
-        x.length) (sym a.same) ∙ sym a.long) in
+    x.length) (sym a.same) ∙ sym a.long) in
     rw (a.found_open, same) refl
 formed_after o f ks (StoreRequest n a bytes e) g h = ap (store_request_fault (is_inside a (length bytes.now)) (has_enabled bytes.now e))
     (sym (g.stores n)) ∙ h
@@ -399,7 +407,7 @@ module _ (unit : UnitPlace) where
   lane_paid : (k : Marked (ℕ → Owed)) (bs : List ℕ) → length bs ≡ k.operation.length → ((i b : ℕ) → slice_get bs i ≡ Some b
       → i < k.operation.length → is_paid_by (k.mark (k.operation.address + i)) b ≡ true)
       → (j : ℕ) (o : Option ℕ) → byte_for k.operation.address bs (unit.first + j) ≡ o → is_as_it_stood (at_lane unit (λ a.
-          known (k.mark a)) j) (byte_for k.operation.address bs (unit.first + j)) ≡ true
+      known (k.mark a)) j) (byte_for k.operation.address bs (unit.first + j)) ≡ true
   lane_paid k bs long paid j None e = rw e (stood_none (at_lane unit (λ a. known (k.mark a)) j))
   lane_paid k bs long paid j (Some b) e =
       let p = below (nat_le k.operation.address (unit.first + j)) (slice_get bs (unit.first + j - k.operation.address)) b e in
@@ -408,7 +416,7 @@ module _ (unit : UnitPlace) where
       let place : k.operation.address + i ≡ unit.first + j = omega arith in
       let short : i < k.operation.length = subst (λ n. i < n) long (get_within bs i b p.1) in
       let stood : is_as_it_stood (known (k.mark (unit.first + j))) (Some b) ≡ true = paid_stood (k.mark (unit.first + j)) b (subst (λ x.
-          is_paid_by (k.mark x) b ≡ true) place (paid i b p.1 short)) in
+      is_paid_by (k.mark x) b ≡ true) place (paid i b p.1 short)) in
       rw e (lane_stood (nat_lt j unit.size) (known (k.mark (unit.first + j))) b stood)
 
   -- what a load got is what it is answered
@@ -419,7 +427,7 @@ module _ (unit : UnitPlace) where
       lane_word unit.first (word_of k.mark) k.operation.address bs
       (λ j l. let l8 : j < 8 = l in
       subst (λ x. is_as_it_stood x (byte_for k.operation.address bs (unit.first + j)) ≡ true) (sym (lane_map (at_lane unit (λ a.
-          known (k.mark a))) 8 0 j l8 ∙ ap (at_lane unit (λ a. known (k.mark a))) (zero_plus j)))
+      known (k.mark a))) 8 0 j l8 ∙ ap (at_lane unit (λ a. known (k.mark a))) (zero_plus j)))
       (lane_paid k bs long paid j (byte_for k.operation.address bs (unit.first + j)) refl))
 
   bound_got : (ks : List (Marked (ℕ → Owed))) (n : ℕ) (bytes : List ℕ) → AreDifferent ks → (k : Marked (ℕ → Owed))
@@ -429,7 +437,7 @@ module _ (unit : UnitPlace) where
     | inl t ↦
         let b = same_load ks n k (λ x. (l.address ≡ x.operation.address) × (l.got ≡ Some (word_of x.mark))) d e
         (one_weaker (IsBound l) (λ x. (x.operation.number ≡ n) × ((l.address ≡ x.operation.address)
-            × (l.got ≡ Some (word_of x.mark)))) (λ x y. (y.0 ∙ eqb-true l.number n t, y.1)) ks q) in
+        × (l.got ≡ Some (word_of x.mark)))) (λ x y. (y.0 ∙ eqb-true l.number n t, y.1)) ks q) in
         rw (t, b.0, b.1) right
     | inr t ↦ rw t refl
   ]
@@ -439,7 +447,7 @@ module _ (unit : UnitPlace) where
   requested : (start : UnitMemory) (past : List HistoryEvent) (f : Flat) (ks : List (Marked (ℕ → Owed))) (m : UnitMemory) (n a len : ℕ)
       → MayBe unit start past m → Holds f ks m → (t : Bool) → is_at unit a len ≡ t
       → (k : UnitMemory) × (MayBe unit start (past ++ LoadRequest n a len ∷ []) k
-          × Holds (flat_after f (LoadRequest n a len)) (marked_after f.memory ks (LoadRequest n a len)) k)
+      × Holds (flat_after f (LoadRequest n a len)) (marked_after f.memory ks (LoadRequest n a len)) k)
   requested start past f ks m n a len r h true e =
       let l : OpenLoad = record { number = n; address = a; got = None } in
       let k : Marked (ℕ → Owed) = record { operation = record { number = n; address = a; length = len }; mark = f.memory } in
@@ -447,13 +455,13 @@ module _ (unit : UnitPlace) where
         after,
         (
           steps (past ++ LoadRequest n a len ∷ []) (with_load n a m) after (sees past (LoadRequest n a len) m (with_load n a m) r (rw e
-            refl)) (inr (m.loads, l, [], refl, refl, refl)),
+              refl)) (inr (m.loads, l, [], refl, refl, refl)),
           record {
             word = h.word;
             done = h.done;
             bound = each_append (λ x. One (IsBound x) (ks ++ k ∷ [])) m.loads (done_load m.word l ∷ [])
                 (each_weaker (λ x. One (IsBound x) ks) (λ x. One (IsBound x) (ks ++ k ∷ [])) (λ x q.
-                    one_left (IsBound x) ks (k ∷ []) q) m.loads h.bound)
+                one_left (IsBound x) ks (k ∷ []) q) m.loads h.bound)
                 (one_last (IsBound (done_load m.word l)) ks k (refl, (refl, ap Some h.word)), tt);
           },
         ),
@@ -463,8 +471,12 @@ module _ (unit : UnitPlace) where
         m,
         (
           sees past (LoadRequest n a len) m m r (rw e refl),
-          record { word = h.word; done = h.done; bound = each_weaker (λ x. One (IsBound x) ks) (λ x. One (IsBound x) (ks ++ k ∷ [])) (λ x q.
-              one_left (IsBound x) ks (k ∷ []) q) m.loads h.bound },
+          record {
+            word = h.word;
+            done = h.done;
+            bound = each_weaker (λ x. One (IsBound x) ks) (λ x. One (IsBound x) (ks ++ k ∷ [])) (λ x q.
+                one_left (IsBound x) ks (k ∷ []) q) m.loads h.bound;
+          },
         ),
       )
 
@@ -472,12 +484,12 @@ module _ (unit : UnitPlace) where
       → Owed))) (m : UnitMemory) (n : ℕ) (bytes : Bor (List ℕ)) → MayBe unit start past m → Holds f ks m → AreDifferent ks
       → IsAnswer o ks n bytes.now
       → (k : UnitMemory) × (MayBe unit start (past ++ LoadResponse n bytes ∷ []) k
-          × Holds (flat_after f (LoadResponse n bytes)) (marked_after f.memory ks (LoadResponse n bytes)) k)
+      × Holds (flat_after f (LoadResponse n bytes)) (marked_after f.memory ks (LoadResponse n bytes)) k)
   answered start past o f ks m n bytes r h d a =
       let may : may_answer_load unit n bytes.now m.loads ≡ true =
       each_passes (λ l. not (is_load n l) || is_got unit l.address bytes.now l.got) m.loads
       (each_weaker (λ l. One (IsBound l) ks) (λ l. (not (is_load n l) || is_got unit l.address bytes.now l.got) ≡ true) (λ l q.
-          bound_got ks n bytes.now d a.load a.found_load (got_paid a.load bytes.now a.long a.paid) l q) m.loads h.bound) in (
+      bound_got ks n bytes.now d a.load a.found_load (got_paid a.load bytes.now a.long a.paid) l q) m.loads h.bound) in (
         without_load n m,
         (
           sees past (LoadResponse n bytes) m (without_load n m) r (rw may refl),
@@ -486,9 +498,9 @@ module _ (unit : UnitPlace) where
             done = h.done;
             bound = each_passing (λ l. One (IsBound l) (filter (λ k. not (is_number n k)) ks)) (λ l. not (is_load n l)) m.loads
                 (each_weaker (λ l. One (IsBound l) ks) (λ l. not (is_load n l) ≡ true → One (IsBound l) (filter (λ k.
-                    not (is_number n k)) ks))
+                not (is_number n k)) ks))
                 (λ l q other. one_filter (IsBound l) (λ k. not (is_number n k)) ks (one_weaker (IsBound l) (λ k. IsBound l k
-                    × (not (is_number n k) ≡ true)) (λ k b. (b, ap (λ x. not (x == n)) b.0 ∙ other)) ks q)) m.loads h.bound);
+                × (not (is_number n k) ≡ true)) (λ k b. (b, ap (λ x. not (x == n)) b.0 ∙ other)) ks q)) m.loads h.bound);
           },
         ),
       )
@@ -497,7 +509,7 @@ module _ (unit : UnitPlace) where
       → Owed))) (m : UnitMemory) (n a : ℕ) (bytes : Bor (List ℕ)) (e : ℕ) → MayBe unit start past m → Holds f ks m
       → (t : Bool) → list_any is_some (at_unit unit (stored_byte a bytes.now e)) ≡ t
       → (k : UnitMemory) × (MayBe unit start (past ++ StoreRequest n a bytes e ∷ []) k
-          × Holds (flat_after f (StoreRequest n a bytes e)) ks k)
+      × Holds (flat_after f (StoreRequest n a bytes e)) ks k)
   store_requested start past f ks m n a bytes e r h true c =
       let word : List (Option ℕ) = at_unit unit (stored_byte a bytes.now e) in
       let s : OpenStore = record { number = n; bytes = word; is_done = false } in
@@ -506,7 +518,7 @@ module _ (unit : UnitPlace) where
         after,
         (
           steps (past ++ StoreRequest n a bytes e ∷ []) (with_store n word m) after (sees past (StoreRequest n a bytes e) m (with_store n
-            word m) r (rw c refl)) (inl (m.stores, s, [], refl, refl, refl)),
+              word m) r (rw c refl)) (inl (m.stores, s, [], refl, refl, refl)),
           record {
             word = ap (written word) h.word ∙ word_stored f.memory store a bytes.now e;
             done = each_append (λ x. x.is_done ≡ true) m.stores (done_store s ∷ []) h.done (refl, tt);
@@ -534,7 +546,7 @@ module _ (unit : UnitPlace) where
   store_answered start past f ks m n r h =
       let may : may_answer_store n m.stores ≡ true =
       each_passes (λ s. not (is_store n s) || s.is_done) m.stores (each_weaker (λ s. s.is_done ≡ true) (λ s.
-          (not (is_store n s) || s.is_done) ≡ true) (λ s q. rw q (or_true (not (is_store n s)))) m.stores h.done) in (
+      (not (is_store n s) || s.is_done) ≡ true) (λ s q. rw q (or_true (not (is_store n s)))) m.stores h.done) in (
         without_store n m,
         (
           sees past (StoreResponse n) m (without_store n m) r (rw may refl),
@@ -560,7 +572,7 @@ module _ (unit : UnitPlace) where
       let p = run_parts f event events t in
       let s = next start past o f ks m event r h g p.0 in
       let v = moments_from start (past
-          ++ event ∷ []) events (opened_after o event) (flat_after f event) (marked_after f.memory ks event) s.0 s.1.0 s.1.1
+      ++ event ∷ []) events (opened_after o event) (flat_after f event) (marked_after f.memory ks event) s.0 s.1.0 s.1.1
       (agrees_after o f ks event g (formed_after o f ks event g p.0)) p.1 in
       (v.0, subst (λ x. MayBe unit start x v.0) (append_assoc past (event ∷ []) events) v.1)
 
@@ -571,7 +583,7 @@ formed_from o f ks (event ∷ events) g t =
     let p = run_parts f event events t in
     let e : form_fault o event ≡ None = formed_after o f ks event g p.0 in
     rw e (formed_from (opened_after o event) (flat_after f event) (marked_after f.memory ks event) events (agrees_after o f ks event g e)
-      p.1)
+    p.1)
 
 first_agrees : (image : List ℕ) (rest : Rest) → Agrees none_opened (flat.opening image rest) []
 first_agrees image rest = record { loads = no_loads owed_byte owed_number owed_named; stores = λ n. refl }
@@ -592,5 +604,7 @@ flat_is_atomic image rest size history = λ t. record {
 }
 
 pub flat_is_regular : (image : List ℕ) (rest : Rest) (history : List HistoryEvent) → FlatIsRegular image rest history
-flat_is_regular image rest history = λ returned t. atomic_is_regular image rest 1 history (omega arith,
-    omega arith) returned (flat_is_atomic image rest 1 history t)
+flat_is_regular image rest history = λ returned t. atomic_is_regular image rest 1 history (
+  omega arith,
+  omega arith,
+) returned (flat_is_atomic image rest 1 history t)

@@ -95,10 +95,10 @@ module _ {X L : Type 0} (make : ℕ → ℕ → X → L) (number : L → ℕ) (n
   pub loads_under : (ks : List (Marked X)) (ls : List L) (os : List Operation) → Loads ks ls os → (n : ℕ) (x : Operation)
       → find (has_number n) os ≡ Some x
       → (k : Marked X) × ((find (is_number n) ks ≡ Some k) × ((k.operation ≡ x) × (filter (λ l.
-          number l == n) ls ≡ bytes_of make number named k)))
+      number l == n) ls ≡ bytes_of make number named k)))
   loads_under ks ls os h n x e =
       let s = some_from (find (is_number n) ks) x (sym (find-map operation_of (has_number n) ks) ∙ (ap (find (has_number n)) (sym
-        h.operations) ∙ e)) in
+      h.operations) ∙ e)) in
       (s.0, (s.1.0, (s.1.1, ap (filter (λ l. number l == n)) h.bytes ∙ bytes_under make number named ks n s.0 h.different s.1.0)))
 
   length_range : (n a : ℕ) → length (range_with_len a n) ≡ n
@@ -112,15 +112,15 @@ module _ {X L : Type 0} (make : ℕ → ℕ → X → L) (number : L → ℕ) (n
   -- an answer of which each byte may be returned has no fault
   pub no_fault : (may : L → ℕ → Bool) (k : Marked X) (bs : List ℕ) → IsSome k → length bs ≡ k.operation.length
       → ((i b : ℕ) → slice_get bs i ≡ Some b → i < k.operation.length
-          → may (make k.operation.number (k.operation.address + i) k.mark) b ≡ true)
+      → may (make k.operation.number (k.operation.address + i) k.mark) b ≡ true)
       → load_response_fault may (bytes_of make number named k) bs ≡ None
   no_fault may k bs s e h =
       let len = length_bytes k in
       let some : (length (bytes_of make number named k) == 0) ≡ false = ne_eqb (length (bytes_of make number named k)) 0 (λ z.
-          absurd (omega arith)) in
+      absurd (omega arith)) in
       let same : (length (bytes_of make number named k) == length bs) ≡ true = eq-eqb (length (bytes_of make number named k)) (length bs)
-        (len ∙ sym e) in
+      (len ∙ sym e) in
       let paid = each_paid make number named may k.operation.number k.mark k.operation.length k.operation.address bs h in
       let right : wrong_place may (bytes_of make number named k) bs ≡ None = no_wrong_place may (zip (bytes_of make number named k) bs) paid
-        in
+      in
       rw (some, same, right) refl

@@ -54,7 +54,7 @@ module _ {X L : Type 0} (make : ℕ → ℕ → X → L) (number : L → ℕ) (n
   each_is : (k : Marked X) (n : ℕ) (b : Bool) → is_number n k ≡ b → Each (λ l. is_it n l ≡ b) (bytes_of k)
   each_is k n b h =
       each_weaker (λ l. number l ≡ k.operation.number) (λ l. is_it n l ≡ b) (λ l e. ap (λ m.
-          m == n) e ∙ h) (bytes_of k) (each_named k.operation.number k.mark k.operation.length k.operation.address)
+      m == n) e ∙ h) (bytes_of k) (each_named k.operation.number k.mark k.operation.length k.operation.address)
 
   any_first : (m : ℕ) (x : X) (a len n : ℕ) → 1 ≤ len → (m == n) ≡ true → list_any (is_it n) (piece m x a len) ≡ true
   any_first m x a zero n s e = absurd (omega arith)
@@ -76,8 +76,10 @@ module _ {X L : Type 0} (make : ℕ → ℕ → X → L) (number : L → ℕ) (n
   none_of (k ∷ ks) n h = elim (cases_Bool (is_number n k)) [
     | inl e ↦ absurd (false_true (is_number n k || list_any (is_number n) ks) h (rw e refl))
     | inr e ↦ let r : list_any (is_number n) ks ≡ false = (rw e at h) in
-        filter-append (is_it n) (bytes_of k) (all_bytes ks) ∙ rw (filter_none (is_it n) (bytes_of k) (each_is k n false e),
-            none_of ks n r) refl
+        filter-append (is_it n) (bytes_of k) (all_bytes ks) ∙ rw (
+          filter_none (is_it n) (bytes_of k) (each_is k n false e),
+          none_of ks n r,
+        ) refl
   ]
 
   -- the bytes of the load that is open under a number
@@ -91,8 +93,11 @@ module _ {X L : Type 0} (make : ℕ → ℕ → X → L) (number : L → ℕ) (n
         let m : j.operation.number ≡ n = eqb-true j.operation.number n e in
         let parts : filter (is_it n) (all_bytes (j ∷ ks)) ≡ bytes_of j =
         filter-append (is_it n) (bytes_of j) (all_bytes ks)
-        ∙ rw (filter_all (is_it n) (bytes_of j) (each_is j n true e), none_of ks n (subst (λ x.
-            list_any (is_number x) ks ≡ false) m d.0)) (append-nil (bytes_of j)) in
+        ∙ rw (
+          filter_all (is_it n) (bytes_of j) (each_is j n true e),
+          none_of ks n (subst (λ x.
+              list_any (is_number x) ks ≡ false) m d.0),
+        ) (append-nil (bytes_of j)) in
         parts ∙ ap bytes_of same
     | inr e ↦
         filter-append (is_it n) (bytes_of j) (all_bytes ks)
@@ -106,12 +111,19 @@ module _ {X L : Type 0} (make : ℕ → ℕ → X → L) (number : L → ℕ) (n
   bytes_without (k ∷ ks) n = elim (cases_Bool (is_number n k)) [
     | inl e ↦
         filter-append (λ l. not (is_it n l)) (bytes_of k) (all_bytes ks)
-        ∙ rw (e, filter_none (λ l. not (is_it n l)) (bytes_of k) (each_weaker (λ l. is_it n l ≡ true) (λ l. not (is_it n l) ≡ false) (λ l h.
-            ap not h) (bytes_of k) (each_is k n true e))) (bytes_without ks n)
+        ∙ rw (
+          e,
+          filter_none (λ l. not (is_it n l)) (bytes_of k) (each_weaker (λ l. is_it n l ≡ true) (λ l. not (is_it n l) ≡ false) (λ l h.
+              ap not h) (bytes_of k) (each_is k n true e)),
+        ) (bytes_without ks n)
     | inr e ↦
         filter-append (λ l. not (is_it n l)) (bytes_of k) (all_bytes ks)
-        ∙ rw (e, filter_all (λ l. not (is_it n l)) (bytes_of k) (each_weaker (λ l. is_it n l ≡ false) (λ l. not (is_it n l) ≡ true) (λ l h.
-            ap not h) (bytes_of k) (each_is k n false e)), bytes_without ks n) refl
+        ∙ rw (
+          e,
+          filter_all (λ l. not (is_it n l)) (bytes_of k) (each_weaker (λ l. is_it n l ≡ false) (λ l. not (is_it n l) ≡ true) (λ l h.
+              ap not h) (bytes_of k) (each_is k n false e)),
+          bytes_without ks n,
+        ) refl
   ]
 
   pub bytes_more : (ks : List (Marked X)) (k : Marked X) → all_bytes (ks ++ k ∷ []) ≡ all_bytes ks ++ bytes_of k

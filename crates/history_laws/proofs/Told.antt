@@ -94,9 +94,9 @@ some_enabled w m h =
     let b1 : has m Lane1 ≡ (e / 2 % 2 == 1) = has_bit m Lane1 ∙ (next_bit e 0 ∙ low_bit (e / 2)) in
     let b2 : has m Lane2 ≡ (e / 2 / 2 % 2 == 1) = has_bit m Lane2 ∙ (next_bit e 1 ∙ (next_bit (e / 2) 0 ∙ low_bit (e / 2 / 2))) in
     let b3 : has m Lane3 ≡ (e / 2 / 2 / 2 % 2 == 1) = has_bit m Lane3 ∙ (next_bit e 2 ∙ (next_bit (e / 2) 1 ∙ (next_bit (e / 2 / 2) 0 ∙
-      low_bit (e / 2 / 2 / 2)))) in
+    low_bit (e / 2 / 2 / 2)))) in
     sym (or_end (e % 2 == 1) (e / 2 % 2 == 1) (e / 2 / 2 % 2 == 1) (e / 2 / 2 / 2 % 2 == 1)) ∙ (sym (λ i.
-        b0 i || (b1 i || (b2 i || b3 i))) ∙ h)
+    b0 i || (b1 i || (b2 i || b3 i))) ∙ h)
 
 -- The byte of a word that a store leaves. ----
 
@@ -186,9 +186,9 @@ module _ (n : ℕ) (fits : n ≤ 4611686018427387904) where
       let k0 : known (f.memory (4 * at)) ≡ Some w.b0 = subst (λ a. known (f.memory a) ≡ Some w.b0) (omega arith) (t.words at Lane0 l) in
       let k1 : known (f.memory (4 * at + 1)) ≡ Some w.b1 = t.words at Lane1 l in
       let k2 : known (f.memory (4 * at + 1 + 1)) ≡ Some w.b2 = subst (λ a.
-          known (f.memory a) ≡ Some w.b2) (omega arith) (t.words at Lane2 l) in
+      known (f.memory a) ≡ Some w.b2) (omega arith) (t.words at Lane2 l) in
       let k3 : known (f.memory (4 * at + 1 + 1 + 1)) ≡ Some w.b3 = subst (λ a.
-          known (f.memory a) ≡ Some w.b3) (omega arith) (t.words at Lane3 l) in
+      known (f.memory a) ≡ Some w.b3) (omega arith) (t.words at Lane3 l) in
       λ i. k0 i ∷ k1 i ∷ k2 i ∷ k3 i ∷ []
 
   its_bytes : (memory : ℕ → Owed) (tag at t : ℕ)
@@ -197,10 +197,10 @@ module _ (n : ℕ) (fits : n ≤ 4611686018427387904) where
 
   loads_with : (s : model.Flat) (f : Flat) → Tells n s f → (tag at : ℕ) → at < n → is_none (s.due tag) ≡ true → (t : ℕ)
       → knowns (filter (is_of t) (f.loads
-          ++ owed_bytes f.memory tag (4 * at) 4)) ≡ due_bytes (with_due s.due tag (Some (word_at s.mem at)) t)
+      ++ owed_bytes f.memory tag (4 * at) 4)) ≡ due_bytes (with_due s.due tag (Some (word_at s.mem at)) t)
   loads_with s f h tag at l free t =
       ap knowns (filter-append (is_of t) f.loads (owed_bytes f.memory tag (4 * at) 4)) ∙ (knowns_append (filter (is_of t) f.loads) (filter
-        (is_of t) (owed_bytes f.memory tag (4 * at) 4))
+      (is_of t) (owed_bytes f.memory tag (4 * at) 4))
       ∙ elim (cases_Bool (tag == t)) [
         | inl e ↦
             let same : tag ≡ t = eqb-true tag t e in
@@ -214,14 +214,18 @@ module _ (n : ℕ) (fits : n ≤ 4611686018427387904) where
 
   load_accepted : (s : model.Flat) (f : Flat) → Tells n s f → (tag at : ℕ) → (nat_lt at (length s.mem) && is_none (s.due tag)) ≡ true
       → (g : Flat) × ((flat_run f (LoadRequest tag (4 * at) 4 ∷ []) ≡ Some g)
-          × Tells n (record { mem = s.mem; due = with_due s.due tag (Some (word_at s.mem at)) }) g)
+      × Tells n (record { mem = s.mem; due = with_due s.due tag (Some (word_at s.mem at)) }) g)
   load_accepted s f h tag at may =
       let p = and_parts (nat_lt at (length s.mem)) (is_none (s.due tag)) may in
       let l : at < n = subst (λ m. at < m) h.size (ltb-true at (length s.mem) p.0) in
       let none : filter (is_of tag) f.loads ≡ [] = none_known (filter (is_of tag) f.loads) (h.due tag ∙ due_none (s.due tag) p.1) in
-      let right : flat_fault f (LoadRequest tag (4 * at) 4) ≡ None = rw (inside_word n at fits l, none_of (is_of tag) f.loads none) refl in
-      (flat_after f (LoadRequest tag (4 * at) 4), (rw right refl,
-          record { size = h.size; words = h.words; due = loads_with s f h tag at l p.1; no_stores = h.no_stores }))
+      let right : flat_fault f (LoadRequest tag (4 * at) 4) ≡ None = rw (inside_word n at fits l, none_of (is_of tag) f.loads none) refl in (
+        flat_after f (LoadRequest tag (4 * at) 4),
+        (
+          rw right refl,
+          record { size = h.size; words = h.words; due = loads_with s f h tag at l p.1; no_stores = h.no_stores },
+        ),
+      )
 
   -- A store is accepted. ----
 
@@ -246,25 +250,25 @@ module _ (n : ℕ) (fits : n ≤ 4611686018427387904) where
         let whole : 4 * at + (4 * other + place l - 4 * at) ≡ 4 * other + place l = omega arith in
         subst (λ a. stored_byte (4 * at) (word_bytes word) e a ≡ None) whole
         (stored_inside (4 * at) (word_bytes word) e (4 * other + place l - 4 * at) ∙ not_enabled (word_bytes word) e (4 * other + place l -
-          4 * at) far)
+        4 * at) far)
   ]
 
   words_with : (s : model.Flat) (f : Flat) → Tells n s f → (store : StoreName) (at : ℕ) (word : Word) (m : Lanes) → at < n
       → (other : ℕ) (l : Lane) → other < n
       → known (stored f.memory store (4 * at) (word_bytes word) m.0 (4 * other + place l)) ≡ Some (byte (word_at (model.stored s.mem at word
-        m) other) l)
+      m) other) l)
   words_with s f h store at word m low other l more = elim (cases_eq other at) [
     | inl e ↦
         let long : at < length s.mem = subst (λ k. at < k) (sym h.size) low in
         let left : word_at (model.stored s.mem at word m) at ≡ merged (word_at s.mem at) word m = get_or-set_same s.mem at (merged (word_at
-          s.mem at) word m) zero_word long in
+        s.mem at) word m) zero_word long in
         subst (λ x. known (stored f.memory store (4 * at) (word_bytes word) m.0 (4 * x + place l)) ≡ Some (byte (word_at (model.stored s.mem
-          at word m) x) l)) (sym e)
+        at word m) x) l)) (sym e)
         (at_lane f.memory store at word m l (byte (word_at s.mem at) l) (h.words at l low) ∙ sym (ap (λ w.
-            Some (byte w l)) left ∙ ap Some (byte-merged (word_at s.mem at) word m l)))
+        Some (byte w l)) left ∙ ap Some (byte-merged (word_at s.mem at) word m l)))
     | inr ne ↦
         let same : word_at (model.stored s.mem at word m) other ≡ word_at s.mem other = get_or-set_other s.mem at other (merged (word_at
-          s.mem at) word m) zero_word ne in
+        s.mem at) word m) zero_word ne in
         ap known (bytes_at (λ b. owed.Stored b store) (word_bytes word) (4 * at) (4 * other + place l) m.0 f.memory)
         ∙ (ap (λ o. known (chosen (λ b. owed.Stored b store) o (f.memory (4 * other + place l)))) (not_stored at other word m.0 l ne)
         ∙ (h.words other l more ∙ ap (λ w. Some (byte w l)) (sym same)))
@@ -273,7 +277,7 @@ module _ (n : ℕ) (fits : n ≤ 4611686018427387904) where
   store_accepted : (s : model.Flat) (f : Flat) → Tells n s f → (at : ℕ) (word : Word) (m : Lanes)
       → (nat_lt at (length s.mem) && has_any m) ≡ true
       → (g : Flat) × ((flat_run f (StoreRequest 0 (4 * at) (seen_bytes (word_bytes word)) m.0 ∷ StoreResponse 0 ∷ []) ≡ Some g)
-          × Tells n (record { mem = model.stored s.mem at word m; due = s.due }) g)
+      × Tells n (record { mem = model.stored s.mem at word m; due = s.due }) g)
   store_accepted s f h at word m may =
       let p = and_parts (nat_lt at (length s.mem)) (has_any m) may in
       let l : at < n = subst (λ k. at < k) h.size (ltb-true at (length s.mem) p.0) in
@@ -317,9 +321,16 @@ module _ (n : ℕ) (fits : n ≤ 4611686018427387904) where
       let kc : known c.owed ≡ Some v.b2 = cc in
       let kd : known d.owed ≡ Some v.b3 = cc in
       let right : wrong_place may_return (a ∷ b ∷ c ∷ d ∷ []) (word_bytes word) ≡ None =
-      no_wrong_place may_return (zip (a ∷ b ∷ c ∷ d ∷ []) (word_bytes word))
-      (known_paid a.owed v.b0 word.b0 ka p.0, (known_paid b.owed v.b1 word.b1 kb q.0, (known_paid c.owed v.b2 word.b2 kc r.0,
-          (known_paid d.owed v.b3 word.b3 kd r.1, tt)))) in
+      no_wrong_place may_return (zip (a ∷ b ∷ c ∷ d ∷ []) (word_bytes word)) (
+        known_paid a.owed v.b0 word.b0 ka p.0,
+        (
+          known_paid b.owed v.b1 word.b1 kb q.0,
+          (
+            known_paid c.owed v.b2 word.b2 kc r.0,
+            (known_paid d.owed v.b3 word.b3 kd r.1, tt),
+          ),
+        ),
+      ) in
       rw right refl
   paid_word (a ∷ b ∷ c ∷ d ∷ x ∷ ls) v word h e = cc
 
@@ -332,24 +343,26 @@ module _ (n : ℕ) (fits : n ≤ 4611686018427387904) where
   others [] tag t = elim (cases_Bool (t == tag)) [ inl e ↦ rw e refl | inr e ↦ rw e refl ]
   others (l ∷ ls) tag t = elim (cases_Bool (l.number == tag)) [
     | inl e ↦ elim (cases_Bool (t == tag)) [
-      | inl k ↦ let more : knowns (filter (is_of t) (filter (λ l. not (is_of tag l)) ls)) ≡ [] = (rw k at (others ls tag t)) in rw (e,
-          k) more
+      | inl k ↦ let more : knowns (filter (is_of t) (filter (λ l. not (is_of tag l)) ls)) ≡ [] = (rw k at (others ls tag t)) in rw (
+        e,
+        k,
+      ) more
       | inr k ↦
           let ne : (l.number == t) ≡ false = false_if (l.number == t) (λ q.
-              false_true (t == tag) k (eq-eqb t tag (sym (eqb-true l.number t q) ∙ eqb-true l.number tag e))) in
+          false_true (t == tag) k (eq-eqb t tag (sym (eqb-true l.number t q) ∙ eqb-true l.number tag e))) in
           let more : knowns (filter (is_of t) (filter (λ l.
-              not (is_of tag l)) ls)) ≡ knowns (filter (is_of t) ls) = (rw k at (others ls tag t)) in
+          not (is_of tag l)) ls)) ≡ knowns (filter (is_of t) ls) = (rw k at (others ls tag t)) in
           rw (e, k, ne) more
     ]
     | inr e ↦ elim (cases_Bool (t == tag)) [
       | inl k ↦
           let ne : (l.number == t) ≡ false = false_if (l.number == t) (λ q.
-              false_true (l.number == tag) e (eq-eqb l.number tag (eqb-true l.number t q ∙ eqb-true t tag k))) in
+          false_true (l.number == tag) e (eq-eqb l.number tag (eqb-true l.number t q ∙ eqb-true t tag k))) in
           let more : knowns (filter (is_of t) (filter (λ l. not (is_of tag l)) ls)) ≡ [] = (rw k at (others ls tag t)) in
           rw (e, k, ne) more
       | inr k ↦
           let more : knowns (filter (is_of t) (filter (λ l.
-              not (is_of tag l)) ls)) ≡ knowns (filter (is_of t) ls) = (rw k at (others ls tag t)) in
+          not (is_of tag l)) ls)) ≡ knowns (filter (is_of t) ls) = (rw k at (others ls tag t)) in
           elim (cases_Bool (l.number == t)) [
             | inl q ↦ rw (e, k, q) (ap (λ ks. known l.owed ∷ ks) more)
             | inr q ↦ rw (e, k, q) more
@@ -359,11 +372,11 @@ module _ (n : ℕ) (fits : n ≤ 4611686018427387904) where
 
   value_taken : (s : model.Flat) (f : Flat) → Tells n s f → (tag : ℕ) (word : Word) → is_owed (s.due tag) word ≡ true
       → (g : Flat) × ((flat_run f (LoadResponse tag (seen_bytes (word_bytes word)) ∷ []) ≡ Some g)
-          × Tells n (record { mem = s.mem; due = with_due s.due tag None }) g)
+      × Tells n (record { mem = s.mem; due = with_due s.due tag None }) g)
   value_taken s f h tag word may =
       let o = owed_value (s.due tag) word may in
       let right : flat_fault f (LoadResponse tag (seen_bytes (word_bytes word))) ≡ None = paid_word (filter (is_of tag) f.loads) o.0 word
-        (h.due tag ∙ ap due_bytes o.1.0) o.1.1 in (
+      (h.due tag ∙ ap due_bytes o.1.0) o.1.1 in (
         flat_after f (LoadResponse tag (seen_bytes (word_bytes word))),
         (
           rw right refl,
@@ -418,7 +431,7 @@ module _ (n : ℕ) (fits : n ≤ 4611686018427387904) where
       let p = model_parts (may_answer s event answer) (model.flat_after s event answer) events answers t in
       let r = told_step s f event answer h p.0 in
       rw (run_append (told_events event answer) (told_history events answers) f r.0 r.1.0) (run_from (model.flat_after s event answer) r.0
-        events answers r.1.1 p.1)
+      events answers r.1.1 p.1)
 
 -- The image. ----
 

@@ -61,7 +61,7 @@ lane_word first [] a bs h = refl
 lane_word first (w ∷ ws) a bs h =
     and_from _ _ (subst (λ x. is_as_it_stood w (byte_for a bs x) ≡ true) (omega arith) (h 0 (omega arith)))
     (lane_word (first + 1) ws a bs (λ j l. subst (λ x.
-        is_as_it_stood (lane ws j) (byte_for a bs x) ≡ true) (omega arith) (h (suc j) (omega arith))))
+    is_as_it_stood (lane ws j) (byte_for a bs x) ≡ true) (omega arith) (h (suc j) (omega arith))))
 
 -- The bytes of a store. ----
 
@@ -100,8 +100,8 @@ enabled_new n a (x ∷ bs) e t zero b h =
 enabled_new n a (x ∷ bs) e t (suc k) b h =
     one_cons_if (λ s. s ≡ new_byte n (a + suc k) b t) (e % 2 == 1) (new_byte n a x t) (store_bytes n (a + 1) bs (e / 2) t)
     (subst (λ y. One (λ s.
-        s ≡ new_byte n y b t) (store_bytes n (a + 1) bs (e / 2) t)) (omega arith) (enabled_new n (a + 1) bs (e / 2) t k b (sym (enabled_next
-          x bs e k) ∙ h)))
+    s ≡ new_byte n y b t) (store_bytes n (a + 1) bs (e / 2) t)) (omega arith) (enabled_new n (a + 1) bs (e / 2) t k b (sym (enabled_next
+    x bs e k) ∙ h)))
 
 abbrev IsEnabled : ℕ → ℕ → List ℕ → ℕ → ℕ → StoreByte → Type 0
 IsEnabled n a bs e t s = (s.number ≡ n) × ((s.ended ≡ None) × ((s.began ≡ t) × ((k : ℕ) × ((s.address ≡ a + k)
@@ -113,8 +113,22 @@ each_enabled n a (x ∷ bs) e t =
     each_cons_if (IsEnabled n a (x ∷ bs) e t) (e % 2 == 1) (new_byte n a x t) (store_bytes n (a + 1) bs (e / 2) t)
     (λ c. (refl, (refl, (refl, (0, (omega arith, enabled_first x bs e ∙ rw c refl))))))
     (each_weaker (IsEnabled n (a + 1) bs (e / 2) t) (IsEnabled n a (x ∷ bs) e t)
-    (λ s h. let p : s.address ≡ a + 1 + h.1.1.1.0 = h.1.1.1.1.0 in (h.0, (h.1.0, (h.1.1.0, (suc h.1.1.1.0, (omega arith,
-        enabled_next x bs e h.1.1.1.0 ∙ h.1.1.1.1.1)))))) (store_bytes n (a + 1) bs (e / 2) t) (each_enabled n (a + 1) bs (e / 2) t))
+    (λ s h. let p : s.address ≡ a + 1 + h.1.1.1.0 = h.1.1.1.1.0 in (
+      h.0,
+      (
+        h.1.0,
+        (
+          h.1.1.0,
+          (
+            suc h.1.1.1.0,
+            (
+              omega arith,
+              enabled_next x bs e h.1.1.1.0 ∙ h.1.1.1.1.1,
+            ),
+          ),
+        ),
+      ),
+    )) (store_bytes n (a + 1) bs (e / 2) t) (each_enabled n (a + 1) bs (e / 2) t))
 
 pub stored_inside : (a : ℕ) (bs : List ℕ) (e k : ℕ) → stored_byte a bs e (a + k) ≡ enabled_byte bs e k
 stored_inside a bs e k =
@@ -142,9 +156,17 @@ IsNewByte n a bs e t s = (s.number ≡ n) × ((s.ended ≡ None) × ((s.began �
 pub each_new : (n a : ℕ) (bs : List ℕ) (e t : ℕ) → Each (IsNewByte n a bs e t) (store_bytes n a bs e t)
 each_new n a bs e t =
     each_weaker (IsEnabled n a bs e t) (IsNewByte n a bs e t)
-    (λ s h. (h.0, (h.1.0, (h.1.1.0,
-        ap (stored_byte a bs e) h.1.1.1.1.0 ∙ (stored_inside a bs e h.1.1.1.0 ∙ h.1.1.1.1.1))))) (store_bytes n a bs e t) (each_enabled n a
-          bs e t)
+    (λ s h. (
+      h.0,
+      (
+        h.1.0,
+        (
+          h.1.1.0,
+          ap (stored_byte a bs e) h.1.1.1.1.0 ∙ (stored_inside a bs e h.1.1.1.0 ∙ h.1.1.1.1.1),
+        ),
+      ),
+    )) (store_bytes n a bs e t) (each_enabled n a
+    bs e t)
 
 and_false_or : (x y : Bool) → (x || (y && x)) ≡ x
 and_false_or true y = refl
@@ -160,7 +182,7 @@ pub any_new : (n a : ℕ) (bs : List ℕ) (e t m : ℕ) → list_any (is_open m)
 any_new n a [] e t m = refl
 any_new n a (x ∷ bs) e t m =
     any_new_if (e % 2 == 1) (has_enabled bs (e / 2)) (n == m) n m (new_byte n a x t) (store_bytes n (a + 1) bs (e / 2) t) refl (any_new n (a
-      + 1) bs (e / 2) t m)
+    + 1) bs (e / 2) t m)
 
 pub byte_inside : (a : ℕ) (bs : List ℕ) (i : ℕ) → byte_for a bs (a + i) ≡ slice_get bs i
 byte_inside a bs i =

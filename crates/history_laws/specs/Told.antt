@@ -54,7 +54,7 @@ pub record IsLawfulHistory (image : List ℕ) (size : ℕ) (history : List Histo
 abbrev pub RunIsLawful : List Word → ℕ → List Event → List Answer → Type 0
 RunIsLawful image size events answers =
     IsAddressable image → IsTrue (is_some (flat_run (opening image) events answers))
-        → IsLawfulHistory (image_bytes image) size (told_history events answers)
+    → IsLawfulHistory (image_bytes image) size (told_history events answers)
 
 -- what the machine answers is a history of all three laws, whatever events come
 abbrev pub MachineIsLawful : Sizes → List Word → ℕ → List Event → Type 0

@@ -108,20 +108,48 @@ module _ (image : List ℕ) (rest : Rest) (stores : List StoreByte) (l : LoadByt
   stored_case s h never None e =
       let there = last_there (stores_byte l.address b) stores s h in
       let is_it = (stores_law l.address b s).0 there.1 in
-      let left : IsLeft stores l b = (there.0.0, s, there.0.1, there.0.2, (is_it.0, (is_it.1, λ over.
-          none_passes (overwrites s l.began) stores e over.1 (over.0, over.2, over.3) ((overwrites_law s over.1 l.began).1 over.4)))) in
+      let left : IsLeft stores l b = (
+        there.0.0,
+        s,
+        there.0.1,
+        there.0.2,
+        (
+          is_it.0,
+          (
+            is_it.1,
+            λ over.
+                none_passes (overwrites s l.began) stores e over.1 (over.0, over.2, over.3) ((overwrites_law s over.1 l.began).1 over.4),
+          ),
+        ),
+      ) in
       absurd (never (inl left))
   stored_case s h never (Some by) e =
       let there = last_there (stores_byte l.address b) stores s h in
-      let over = last_there (overwrites s l.began) stores by e in
-      ((λ x. absurd (some_none x), λ may. absurd (never may)), (there.0, ((stores_law l.address b s).0 there.1, (over.0,
-          (overwrites_law s by l.began).0 over.1))))
+      let over = last_there (overwrites s l.began) stores by e in (
+        (λ x. absurd (some_none x), λ may. absurd (never may)),
+        (
+          there.0,
+          (
+            (stores_law l.address b s).0 there.1,
+            (
+              over.0,
+              (overwrites_law s by l.began).0 over.1,
+            ),
+          ),
+        ),
+      )
 
   initial_case : last_that (stores_byte l.address b) stores ≡ None → ¬ (MayReturn image rest stores l b)
       → IsInitial (slice_get image l.address) rest b → (o : Option StoreByte) → last_that (covers l) stores ≡ o
       → IsExact image rest stores l b (option_map (λ x. InitialOverwritten x) o)
-  initial_case h never first None e = absurd (never (inr (first, λ c. none_passes (covers l) stores e c.1 (c.0, c.2,
-      c.3) ((covers_law l c.1).1 c.4))))
+  initial_case h never first None e = absurd (never (inr (
+    first,
+    λ c. none_passes (covers l) stores e c.1 (
+      c.0,
+      c.2,
+      c.3,
+    ) ((covers_law l c.1).1 c.4),
+  )))
   initial_case h never first (Some by) e =
       let over = last_there (covers l) stores by e in
       ((λ x. absurd (some_none x), λ may. absurd (never may)), (not_stored h, (first, (over.0, (covers_law l by).0 over.1))))
@@ -140,11 +168,11 @@ module _ (image : List ℕ) (rest : Rest) (stores : List StoreByte) (l : LoadByt
 
   by_law : (may : Bool) → may_return_byte image rest stores l b ≡ may
       → IsExact image rest stores l b (if may then None else reason_by (last_that (stores_byte l.address b) stores) (λ s.
-          last_that (overwrites s l.began) stores) (is_initial (slice_get image l.address) rest b) (last_that (covers l) stores))
+      last_that (overwrites s l.began) stores) (is_initial (slice_get image l.address) rest b) (last_that (covers l) stores))
   by_law true e = ((λ x. (may_return_decides image rest stores l b).0 e, λ may. refl), tt)
   by_law false e =
       by_stored (λ may. false_true (may_return_byte image rest stores l b) e ((may_return_decides image rest stores l b).1 may)) (last_that
-        (stores_byte l.address b) stores) refl (is_initial (slice_get image l.address) rest b) refl
+      (stores_byte l.address b) stores) refl (is_initial (slice_get image l.address) rest b) refl
 
 pub reason_law : (image : List ℕ) (rest : Rest) (stores : List StoreByte) (l : LoadByte) (b : ℕ)
     → IsExact image rest stores l b (last_reason image rest stores l b)

@@ -22,7 +22,7 @@ abbrev pub HasReason : List ℕ → Rest → List StoreByte → LoadByte → ℕ
 HasReason image rest stores l b NeverThere = (¬ (Any (Stores l.address b) stores)) × ¬ (IsInitial (slice_get image l.address) rest b)
 HasReason image rest stores l b (InitialOverwritten by) =
     (¬ (Any (Stores l.address b) stores)) × (IsInitial (slice_get image l.address) rest b × (Contains stores by × ((by.address ≡ l.address)
-        × IsBefore by.ended l.began)))
+    × IsBefore by.ended l.began)))
 HasReason image rest stores l b (StoreOverwritten stored by) =
     Contains stores stored × (Stores l.address b stored × (Contains stores by × Overwrote by stored l.began))
 
@@ -48,4 +48,4 @@ abbrev pub last_reason : List ℕ → Rest → List StoreByte → LoadByte → �
 last_reason image rest stores l b =
     if may_return_byte image rest stores l b then None
     else reason_by (last_that (stores_byte l.address b) stores) (λ s.
-        last_that (overwrites s l.began) stores) (is_initial (slice_get image l.address) rest b) (last_that (covers l) stores)
+    last_that (overwrites s l.began) stores) (is_initial (slice_get image l.address) rest b) (last_that (covers l) stores)
