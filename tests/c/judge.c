@@ -1,6 +1,7 @@
 /* The judge of libkroft from C99 and from C++17: layout, every answer, every fault. */
 #include "check.h"
 #include "kroft.h"
+#include "words.h"
 
 #include <string.h>
 
@@ -9,15 +10,6 @@ enum { WORDS = 8 };
 /* One memory and its table, and what they were before a call that must change nothing. */
 static kroft_word words[WORDS], words_before[WORDS];
 static kroft_due due[KROFT_TAGS], due_before[KROFT_TAGS];
-
-static kroft_word word(unsigned b0, unsigned b1, unsigned b2, unsigned b3) {
-    kroft_word w;
-    w.b[0] = (uint8_t)b0;
-    w.b[1] = (uint8_t)b1;
-    w.b[2] = (uint8_t)b2;
-    w.b[3] = (uint8_t)b3;
-    return w;
-}
 
 static kroft_event event(uint32_t kind) {
     kroft_event e;

@@ -1,6 +1,7 @@
 /* The machine of libkroft from C99 and from C++17: every call, every answer, every fault. */
 #include "check.h"
 #include "kroft.h"
+#include "words.h"
 
 #include <stdlib.h>
 #include <string.h>
@@ -16,19 +17,6 @@ static const kroft_handle no_machine = KROFT_NO_MACHINE;
 /* The judge beside the machine. */
 static kroft_word words[WORDS];
 static kroft_due due[KROFT_TAGS];
-
-static kroft_word word(unsigned b0, unsigned b1, unsigned b2, unsigned b3) {
-    kroft_word w;
-    w.b[0] = (uint8_t)b0;
-    w.b[1] = (uint8_t)b1;
-    w.b[2] = (uint8_t)b2;
-    w.b[3] = (uint8_t)b3;
-    return w;
-}
-
-static int is_word(kroft_word w, unsigned b0, unsigned b1, unsigned b2, unsigned b3) {
-    return w.b[0] == b0 && w.b[1] == b1 && w.b[2] == b2 && w.b[3] == b3;
-}
 
 static kroft_event event(uint32_t kind, uint32_t at, uint32_t place) {
     kroft_event e;

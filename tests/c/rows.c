@@ -2,6 +2,7 @@
    all differ, so that two members that changed places would be seen. */
 #include "check.h"
 #include "kroft.h"
+#include "words.h"
 
 #include <string.h>
 
@@ -10,19 +11,6 @@ enum { WORDS = 48 };
 /* 4 sets, and 5 banks; all numbers but those of the list differ. */
 static const kroft_shape shape = {2, 4, 8, 4, WORDS, 4, 5, 7, 9, 11};
 static kroft_word image[WORDS];
-
-static kroft_word word(unsigned b0, unsigned b1, unsigned b2, unsigned b3) {
-    kroft_word w;
-    w.b[0] = (uint8_t)b0;
-    w.b[1] = (uint8_t)b1;
-    w.b[2] = (uint8_t)b2;
-    w.b[3] = (uint8_t)b3;
-    return w;
-}
-
-static int same(kroft_word w, unsigned b0, unsigned b1, unsigned b2, unsigned b3) {
-    return w.b[0] == b0 && w.b[1] == b1 && w.b[2] == b2 && w.b[3] == b3;
-}
 
 /* An event in whose row the members that its kind doesn't read hold something, too. */
 static kroft_event event(uint32_t kind, uint16_t tag, uint8_t lanes, uint32_t at, uint32_t place, kroft_word w) {
@@ -95,7 +83,7 @@ static void shapes(void) {
         CHECK(kroft_open(&handle, &s, image, WORDS) == KROFT_BAD_WORDS + n);
     }
     handle = opened();
-    CHECK(kroft_bank_word(&handle, WORDS - 1, &w) == KROFT_FOUND && same(w, 47, 97, 147, 197));
+    CHECK(kroft_bank_word(&handle, WORDS - 1, &w) == KROFT_FOUND && is_word(w, 47, 97, 147, 197));
     CHECK(kroft_bank_word(&handle, WORDS, &w) == KROFT_NONE);
     CHECK(kroft_free(&handle) == KROFT_DONE);
 }
@@ -142,7 +130,7 @@ static void answers(void) {
     kroft_answer a;
     CHECK(kind_of(&handle, load(258, 29)) == KROFT_ACCEPTED);
     a = answer_to(&handle, load(258, 30));
-    CHECK(a.kind == KROFT_REFUSED && a.cause == KROFT_TAG_IN_USE && a.tag == 0 && same(a.word, 0, 0, 0, 0));
+    CHECK(a.kind == KROFT_REFUSED && a.cause == KROFT_TAG_IN_USE && a.tag == 0 && is_word(a.word, 0, 0, 0, 0));
     /* word 29 lies in bank 4, whose answer comes to the first place of the stack */
     CHECK(kind_of(&handle, move(KROFT_SERVE, 4, 1)) == KROFT_MOVED);
     CHECK(kind_of(&handle, move(KROFT_ARRIVE, 0, 4)) == KROFT_NOTHING);
@@ -151,7 +139,7 @@ static void answers(void) {
     CHECK(kind_of(&handle, move(KROFT_PROCESS, 1, 0)) == KROFT_MOVED);
     CHECK(kind_of(&handle, move(KROFT_TAKE, 0, 1)) == KROFT_NOTHING);
     a = answer_to(&handle, move(KROFT_TAKE, 1, 0));
-    CHECK(a.kind == KROFT_VALUE && a.cause == 0 && a.tag == 258 && same(a.word, 29, 79, 129, 179));
+    CHECK(a.kind == KROFT_VALUE && a.cause == 0 && a.tag == 258 && is_word(a.word, 29, 79, 129, 179));
     CHECK(kroft_free(&handle) == KROFT_DONE);
 }
 
@@ -163,7 +151,7 @@ static void pumped(void) {
     CHECK(kind_of(&handle, load(258, 18)) == KROFT_ACCEPTED);
     CHECK(kroft_pump(&handle, &e, &a) == KROFT_FOUND && a.kind == KROFT_MOVED);
     /* block 4 begins with word 16, in bank 1; the lowest bank with a command is bank 1 */
-    CHECK(e.kind == KROFT_SERVE && e.at == 1 && e.place == 0 && e.tag == 0 && e.lanes == 0 && same(e.word, 0, 0, 0, 0));
+    CHECK(e.kind == KROFT_SERVE && e.at == 1 && e.place == 0 && e.tag == 0 && e.lanes == 0 && is_word(e.word, 0, 0, 0, 0));
     CHECK(kroft_free(&handle) == KROFT_DONE);
 }
 
@@ -175,14 +163,14 @@ static void judged(void) {
     kroft_answer a = {KROFT_ACCEPTED, 11, 503, {{41, 42, 43, 44}}};
     uint16_t tag = 0;
     CHECK(kroft_flat_step(words, 3, due, KROFT_TAGS, &e, &a) == KROFT_FLAT);
-    CHECK(due[258].owed == 1 && same(due[258].word, 9, 10, 11, 12));
+    CHECK(due[258].owed == 1 && is_word(due[258].word, 9, 10, 11, 12));
     CHECK(kroft_flat_open(due, KROFT_TAGS, 0, &tag) == 1 && tag == 258);
     e = store(2, 6, word(31, 32, 33, 34));
-    CHECK(kroft_flat_step(words, 3, due, KROFT_TAGS, &e, &a) == KROFT_FLAT && same(words[2], 9, 32, 33, 12));
+    CHECK(kroft_flat_step(words, 3, due, KROFT_TAGS, &e, &a) == KROFT_FLAT && is_word(words[2], 9, 32, 33, 12));
     e = move(KROFT_TAKE, 5, 6);
     a.kind = KROFT_VALUE;
     a.tag = 258;
-    CHECK(kroft_flat_why(words, 3, due, KROFT_TAGS, &e, &a, &owed) == KROFT_WHY_WRONG_WORD && same(owed, 9, 10, 11, 12));
+    CHECK(kroft_flat_why(words, 3, due, KROFT_TAGS, &e, &a, &owed) == KROFT_WHY_WRONG_WORD && is_word(owed, 9, 10, 11, 12));
     a.word = owed;
     CHECK(kroft_flat_step(words, 3, due, KROFT_TAGS, &e, &a) == KROFT_FLAT && due[258].owed == 0);
 }
