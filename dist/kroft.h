@@ -195,7 +195,7 @@ uint32_t kroft_flat_open(const kroft_due *due, size_t ndue, uint32_t n, uint16_t
  *     kroft_handle handle = KROFT_NO_MACHINE;
  *
  * kroft_open puts a machine behind it, the calls work on that machine, and kroft_free gives it up with all
- * its memory. No other call allocates.
+ * its memory. No other call allocates but kroft_drive, which gives back what it took.
  */
 typedef struct {
     uint32_t open; /* 0: closed. Written by the library alone, once it was zeroed */
@@ -339,6 +339,141 @@ typedef struct {
 /* The load at `place` among those that wait for word `i` of the block of the register `slot`, in the order
    in which they were accepted. KROFT_NONE: there is none. */
 uint32_t kroft_target(kroft_handle *handle, uint32_t slot, uint32_t i, uint32_t place, kroft_target_view *view);
+
+/* What a frame of the cache shows of itself. */
+typedef struct {
+    uint32_t valid; /* 1: it holds a block; 0: it is free */
+    uint32_t block; /* the block; 0 if it is free         */
+} kroft_frame_view;
+
+/* The frame `frame`: set s has the frames s * ways to s * ways + ways - 1. KROFT_NONE: `frame` isn't below sets * ways. */
+uint32_t kroft_frame(kroft_handle *handle, uint32_t frame, kroft_frame_view *view);
+
+/* A word of the block that a frame holds. */
+typedef struct {
+    kroft_word word; /* the bytes in the buffer. Of a word that is still on its way, those in the lanes of its
+                        register's `code` alone are there                                                      */
+    uint8_t dirty;   /* the lanes that were stored since the frame took the block, and that memory hasn't yet  */
+} kroft_frame_word_view;
+
+/* Word `i` of the block that the frame `frame` holds. KROFT_NONE: there is no such frame or word, or the frame is free. */
+uint32_t kroft_frame_word(kroft_handle *handle, uint32_t frame, uint32_t i, kroft_frame_word_view *view);
+
+/* A word on its way from its bank to a register. */
+typedef struct {
+    uint32_t slot;   /* the register                                           */
+    uint32_t i;      /* the number of the word in the register's block         */
+    kroft_word word; /* the word, as its bank had it when it served the command */
+} kroft_arrival_view;
+
+/* The word at `place` of the input stack, which an event KROFT_PROCESS with this place processes: the one that came first
+   at 0. KROFT_NONE: there is none. */
+uint32_t kroft_stack_entry(kroft_handle *handle, uint32_t place, kroft_arrival_view *view);
+
+/* A word that waits in the write queue. */
+typedef struct {
+    uint32_t block;  /* the block that was given up                              */
+    uint32_t at;     /* the word's address                                       */
+    kroft_word word; /* the bytes to be written: only those in the lanes count   */
+    uint8_t lanes;
+} kroft_queued_view;
+
+/* The word at `place` of the write queue: the one that an event KROFT_DRAIN takes next at 0. KROFT_NONE: there is none. */
+uint32_t kroft_queue_entry(kroft_handle *handle, uint32_t place, kroft_queued_view *view);
+
+/* What a command of a bank is. */
+enum {
+    KROFT_READ = 0, /* the word is read for a register */
+    KROFT_WRITE = 1 /* bytes are written               */
+};
+
+/* A command that waits at a bank. What doesn't apply to its kind is 0. */
+typedef struct {
+    uint32_t kind;
+    uint32_t slot;   /* read: the register that asks                                   */
+    uint32_t i;      /* read: the number of the word in the register's block           */
+    uint32_t place;  /* where the word lies in the bank: word `at` of memory lies in bank
+                        at % banks, at place at / banks                                */
+    kroft_word word; /* write: the bytes: only those in the lanes count                */
+    uint8_t lanes;   /* write                                                          */
+} kroft_command_view;
+
+/* The command at `place` among those that wait at a bank: the one that an event KROFT_SERVE takes next at 0. KROFT_NONE:
+   there is no such bank or command. */
+uint32_t kroft_bank_command(kroft_handle *handle, uint32_t bank, uint32_t place, kroft_command_view *view);
+
+/* The answer at `place` of a bank, which an event KROFT_ARRIVE with this place brings: the oldest one at 0. KROFT_NONE:
+   there is no such bank or answer. */
+uint32_t kroft_bank_answer(kroft_handle *handle, uint32_t bank, uint32_t place, kroft_arrival_view *view);
+
+/* The answer that an event KROFT_TAKE with this place would get, which is a value. KROFT_NONE: no reply stands ready there. */
+uint32_t kroft_reply(kroft_handle *handle, uint32_t place, kroft_answer *answer);
+
+/* What a request for a word finds. */
+enum {
+    KROFT_HIT = 0,  /* the word is at hand, in the buffer or in the input stack: a load's reply stands ready at once  */
+    KROFT_JOIN = 1, /* a register waits for the word: a load waits with it, and a store's bytes stay when it comes   */
+    KROFT_MISS = 2  /* no frame holds the block: it would be asked for, under a register of its own                 */
+};
+
+/* What a request for the word at `at` would find now, whether or not it would be accepted. KROFT_NONE: memory has no such
+   word. Nothing is asked. */
+uint32_t kroft_find(kroft_handle *handle, uint32_t at, uint32_t *lookup);
+
+/* ---- the machine in rounds ----------------------------------------------------------------------- */
+
+/*
+ * A machine has no clock, but its events can be made in rounds. A round makes, in this order: each bank, by number,
+ * begins a command if one waits that it hasn't begun and it isn't busy, and serves its first one if it began that
+ * `latency` rounds before; one answer arrives, from the next bank with one behind the bank that was last, if the input
+ * stack has room; the stack's first word is processed, the first reply taken and the write queue's front drained, each
+ * if possible; and the request at hand is asked once. If it was accepted, or refused with KROFT_OUT_OF_RANGE,
+ * KROFT_NO_LANES or KROFT_NOT_PRESENT, the next one follows; otherwise it is asked again in the next round. The run ends
+ * once the requests are used up and nothing is on its way. `./kroft drive` makes the same rounds.
+ *
+ * Rounds are a schedule, and tell nothing of any hardware's time.
+ */
+
+/* What a run in rounds counted. */
+typedef struct {
+    uint64_t rounds;            /* rounds, the last one counted, in which nothing moves                             */
+    uint64_t accepted;          /* requests that were accepted                                                      */
+    uint64_t denied;            /* requests that were refused for what no move changes                              */
+    uint64_t hits;              /* accepted loads, stores and prefetches, by what they found                        */
+    uint64_t joins;
+    uint64_t misses;
+    uint64_t stalled;           /* requests that were refused with KROFT_TAG_IN_USE to KROFT_BANK_FULL at first     */
+    uint64_t lost_tag_in_use;   /* rounds in which the request at hand was refused with KROFT_TAG_IN_USE            */
+    uint64_t lost_replies_full; /* with KROFT_REPLIES_FULL, and so on                                               */
+    uint64_t lost_targets_full;
+    uint64_t lost_no_register;
+    uint64_t lost_set_pending;
+    uint64_t lost_queue_full;
+    uint64_t lost_bank_full;
+    uint64_t values;            /* loads that were answered                                                         */
+    uint64_t waited;            /* rounds from each such load's acceptance to its answer, in all; 2^64 - 1 if more  */
+    uint64_t longest;           /* the most of these for one load                                                   */
+    uint64_t written;           /* words that were written back                                                     */
+    uint32_t registers;         /* the most registers in use at once                                                */
+} kroft_counts;
+
+/* Why requests aren't driven, beside KROFT_CLOSED, KROFT_NO_EVENT and KROFT_OUT_OF_MEMORY. */
+enum {
+    KROFT_TOO_MANY = 104,   /* there are more than 16777216 requests */
+    KROFT_BAD_LATENCY = 105 /* `latency` is more than 1000           */
+};
+
+/*
+ * Drives these requests, which are loads, stores, prefetches and evictions, through the machine in rounds. With `busy`
+ * below `latency` a bank is a pipeline: it begins a command each `busy` rounds at most (0 is as 1), while others are on
+ * their way through it; otherwise it has one command at a time.
+ *
+ * Returns KROFT_DONE: the requests are used up, nothing is on its way, and `counts` is what was counted. Or, and then the
+ * machine and `counts` are as they were, the first that holds of KROFT_CLOSED; KROFT_BAD_LATENCY; KROFT_TOO_MANY;
+ * KROFT_NO_EVENT, a row is no such request; KROFT_OUT_OF_MEMORY. It allocates, and gives all of it back.
+ */
+uint32_t kroft_drive(kroft_handle *handle, uint32_t latency, uint32_t busy, const kroft_event *requests, size_t nrequests,
+                     kroft_counts *counts);
 
 /* ---- histories --------------------------------------------------------------------------------- */
 
@@ -577,6 +712,21 @@ KROFT_ASSERT(field_held, offsetof(kroft_field_view, held) == 20);
 KROFT_ASSERT(target_size, sizeof(kroft_target_view) == 8);
 KROFT_ASSERT(target_lanes, offsetof(kroft_target_view, lanes) == 2);
 KROFT_ASSERT(target_held, offsetof(kroft_target_view, held) == 3);
+KROFT_ASSERT(frame_size, sizeof(kroft_frame_view) == 8);
+KROFT_ASSERT(frame_word_size, sizeof(kroft_frame_word_view) == 5);
+KROFT_ASSERT(frame_word_dirty, offsetof(kroft_frame_word_view, dirty) == 4);
+KROFT_ASSERT(arrival_size, sizeof(kroft_arrival_view) == 12);
+KROFT_ASSERT(arrival_word, offsetof(kroft_arrival_view, word) == 8);
+KROFT_ASSERT(queued_size, sizeof(kroft_queued_view) == 16);
+KROFT_ASSERT(queued_word, offsetof(kroft_queued_view, word) == 8);
+KROFT_ASSERT(queued_lanes, offsetof(kroft_queued_view, lanes) == 12);
+KROFT_ASSERT(command_size, sizeof(kroft_command_view) == 24);
+KROFT_ASSERT(command_word, offsetof(kroft_command_view, word) == 16);
+KROFT_ASSERT(command_lanes, offsetof(kroft_command_view, lanes) == 20);
+KROFT_ASSERT(counts_size, sizeof(kroft_counts) == 152);
+KROFT_ASSERT(counts_lost_tag_in_use, offsetof(kroft_counts, lost_tag_in_use) == 56);
+KROFT_ASSERT(counts_values, offsetof(kroft_counts, values) == 112);
+KROFT_ASSERT(counts_registers, offsetof(kroft_counts, registers) == 144);
 KROFT_ASSERT(plan_size, sizeof(kroft_plan) == 48);
 KROFT_ASSERT(plan_blocks, offsetof(kroft_plan, blocks) == 8);
 KROFT_ASSERT(plan_partial, offsetof(kroft_plan, partial) == 44);

@@ -17,7 +17,7 @@ class Picture {
     this.drawn = new Map();
     this.marked = [];
     this.used = new Set();
-    for (const [, , , changes] of run.steps) for (const [k, text] of changes) if (text !== '') this.used.add(places[k]);
+    for (const [, , , , changes] of run.steps) for (const [k, text] of changes) if (text !== '') this.used.add(places[k]);
     this.makeFrames();
     this.makeRegisters();
     for (const [letter, id] of [['s', 'stack'], ['q', 'queue'], ['v', 'ready']]) this.makeList(letter, find(`${id}-list`));

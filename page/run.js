@@ -1,7 +1,8 @@
 'use strict';
 
 // The run: which text stands at each place behind a step, forwards and backwards.
-// A step is [event, answer, words, changes], a change [place, text].
+// A step is [event, answer, words, recorded, changes]: the recorded answer if it isn't the machine's, and '' if not; a change is
+// [place, text].
 class Run {
   constructor(all) {
     this.steps = all;
@@ -15,7 +16,7 @@ class Run {
 
   forward() {
     this.now += 1;
-    const changes = this.steps[this.now][3];
+    const changes = this.steps[this.now][4];
     this.stood[this.now] = changes.map(([k]) => [k, this.texts[k]]);
     for (const [k, text] of changes) this.texts[k] = text;
   }
@@ -45,7 +46,7 @@ class Run {
 
   // The places that the step at hand changed, which the first picture hasn't.
   changed() {
-    return this.now > 0 ? this.steps[this.now][3].map(([k]) => k) : [];
+    return this.now > 0 ? this.steps[this.now][4].map(([k]) => k) : [];
   }
 
   // The address of the word that an entry is for.
@@ -147,7 +148,7 @@ class Story {
 
   note(run, step) {
     const touched = new Set();
-    run.steps[step][3].forEach(([k, text], n) => this.noteChange(k, run.stood[step][n][1], text, touched));
+    run.steps[step][4].forEach(([k, text], n) => this.noteChange(k, run.stood[step][n][1], text, touched));
     for (const bank of touched) this.noteBank(run, bank);
     for (const slot of range(sizes.registers)) this.blocks[slot][step] = run.text(`r${slot}`);
     this.stack[step] = this.counts.s;

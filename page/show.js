@@ -8,9 +8,10 @@ const arrows = new Arrows(find('arrows'));
 let timer = 0;
 
 function draw() {
-  const [event, answer, words] = run.steps[run.now];
+  const [event, answer, words, recorded] = run.steps[run.now];
   find('number').textContent = run.now;
   find('event').textContent = run.now > 0 ? `${event} -> ${answer}` : 'start';
+  find('recorded').textContent = recorded && `recorded: ${recorded}`;
   find('words').textContent = words;
   find('slider').value = run.now;
   picture.draw();

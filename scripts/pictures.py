@@ -4,12 +4,21 @@ import dataclasses
 import re
 
 
+# After how many events `show --text` has the whole machine again.
+WHOLE_EVERY = 100
+
+
+class BadScreens(Exception):
+    """Lines of `show --text` that don't fit one another."""
+
+
 @dataclasses.dataclass
 class Step:
     """A step of `show --text`: texts by the names of their places, and the names of those that it changed."""
 
     event: str = ""
     answer: str = ""
+    recorded: str = ""
     words: str = "the machine before the first event"
     texts: dict = dataclasses.field(default_factory=dict)
     changed: set = dataclasses.field(default_factory=set)
@@ -27,34 +36,61 @@ def whole_name(label, over):
     return label if depth == 0 else f"{over[0]} {label}"
 
 
+def owner_of(name):
+    """The register or frame that a place belongs to, or the place itself."""
+    found = re.match(r"(register|frame) \d+", name)
+    return found[0] if found else name
+
+
+def read_lines(lines):
+    """The lines of a step's places: their texts, in order, and the names of those that are marked."""
+    over, texts, changed = {}, {}, set()
+    for line in lines:
+        name = whole_name(line[2:20].rstrip(), over)
+        texts[name] = "" if line[21:] == "-" else line[21:]
+        if line[0] == "*":
+            changed.add(name)
+    return texts, changed
+
+
+def followed(before, texts, changed, is_whole):
+    """The texts behind a step: those before it, with what it changed. A register or frame has all of its lines, and if all of the
+    machine has, nothing else may stand there."""
+    # (of a register that is free only the step that freed it has a line)
+    before = {name: text for name, text in before.items() if text != "free"}
+    owners = {owner_of(name) for name in texts}
+    kept = {name: text for name, text in before.items() if owner_of(name) not in owners}
+    after = {**kept, **{name: text for name, text in texts.items() if text or name.startswith("memory ")}}
+    is_memory = lambda name: name.startswith("memory ")
+    if is_whole and {it for it in kept if not is_memory(it)}:
+        raise BadScreens(f"lines that a whole step lacks: {sorted(kept)}")
+    for name in {*before, *after} - changed:
+        if before.get(name, "") != after.get(name, "") and not is_memory(name):
+            raise BadScreens(f"{name} changed without a mark")
+    return after
+
+
 def read_screens(text):
-    """The steps of `show --text`."""
+    """The steps of `show --text`: each is followed from the one before it."""
     steps = []
-    over = {}
-    memory = {}
-    for line in text.splitlines():
-        head = re.match(r"step \d+: (.*?)(?: -> (.*))?$", line)
-        if head:
-            steps.append(Step() if not steps else Step(head[1], head[2], None))
-            over = {}
-        elif steps[-1].words is None:
-            steps[-1].words = line[2:]
-        elif line:
-            name = whole_name(line[2:20].rstrip(), over)
-            shown = "" if line[21:] == "-" else line[21:]
-            if name.startswith("memory "):
-                memory[name] = shown
-            elif shown:
-                steps[-1].texts[name] = shown
-            if line[0] == "*":
-                steps[-1].changed.add(name)
-        if line and not head:
-            steps[-1].texts.update(memory)
-    # (of memory only what a step changed has a line)
-    memory = {}
-    for step in steps:
-        memory = {**memory, **{name: text for name, text in step.texts.items() if name.startswith("memory ")}}
-        step.texts.update(memory)
+    parts = re.split(r"^(?=step \d+: )", text, flags=re.MULTILINE)[1:]
+    for number, part in enumerate(parts):
+        head, *lines = [line for line in part.splitlines() if line]
+        named = re.fullmatch(rf"step {number}: (.*?)(?: -> (.*))?", head)
+        if not named:
+            raise BadScreens(f"step {number} begins with {head}")
+        step = Step(named[1], named[2], "", None) if number else Step()
+        if number and lines[0].startswith("  recorded: "):
+            step.recorded = lines.pop(0).removeprefix("  recorded: ")
+        if number:
+            step.words = lines.pop(0)[2:]
+        texts, step.changed = read_lines(lines)
+        is_whole = number % WHOLE_EVERY == 0 or number == len(parts) - 1
+        try:
+            step.texts = followed(steps[-1].texts, texts, step.changed, is_whole) if steps else {it: of for it, of in texts.items() if of}
+        except BadScreens as fault:
+            raise BadScreens(f"step {number}: {fault}") from None
+        steps.append(step)
     return steps
 
 

@@ -22,6 +22,13 @@
 //     for (const kroft_operation &lost : history.open_loads()) ..
 //
 // kroft::Traffic makes the accesses of a bench, from a seed: kroft::Traffic(plan, seed)(number).
+//
+// kroft::Machine is a lockup-free cache over banks of memory, whose loads get what flat memory held when they were
+// accepted: a reference to drive, and to look into:
+//
+//     kroft::Machine machine;
+//     machine.load(7, 5);
+//     while (std::optional<kroft::Step> step = machine.pump()) ..  // step->answer: the value of load 7 comes
 #pragma once
 
 #include "kroft.h"
@@ -579,6 +586,156 @@ public:
 private:
     kroft_plan plan;
     uint64_t seed;
+};
+
+// ---- the machine
+
+/// The numbers of a machine that is asked for nothing else. kroft.h says which there may be.
+inline constexpr kroft_shape USUAL_SHAPE = {2, 4, 8, 4, 1024, 4, 4, 8, 8, 8};
+
+/// No machine has these numbers, or its image hasn't as many words as memory.
+class BadShape : public std::invalid_argument {
+public:
+    explicit BadShape(uint32_t number) : std::invalid_argument("no machine has these numbers"), fault(number) {}
+
+    uint32_t fault; ///< KROFT_BAD_WORDS to KROFT_NOT_LISTED
+};
+
+/// What a request for a word finds.
+enum class Lookup : uint32_t { Hit = KROFT_HIT, Join = KROFT_JOIN, Miss = KROFT_MISS };
+
+/// An event of a machine, and its answer.
+struct Step {
+    kroft_event event;
+    kroft_answer answer;
+};
+
+/// An event that reads only some of its row's members; the others are 0.
+inline kroft_event event_of(uint32_t kind, uint32_t at, uint16_t tag = 0) {
+    kroft_event event{};
+    event.kind = kind;
+    event.at = at;
+    event.tag = tag;
+    return event;
+}
+
+inline kroft_event load_of(uint16_t tag, uint32_t at) { return event_of(KROFT_LOAD, at, tag); }
+inline kroft_event prefetch_of(uint32_t at) { return event_of(KROFT_PREFETCH, at); }
+inline kroft_event evict_of(uint32_t block) { return event_of(KROFT_EVICT, block); }
+inline kroft_event store_of(uint32_t at, kroft_word word, uint8_t lanes = 15) {
+    kroft_event event = event_of(KROFT_STORE, at);
+    event.word = word;
+    event.lanes = lanes;
+    return event;
+}
+
+/// A lockup-free cache over banks of memory. The caller makes its events, in any order; every load gets the word that
+/// flat memory held when it was accepted. It is moved, not copied, and used by one thread at a time; std::logic_error
+/// from a call of one that was moved from. What there isn't (a register, a place, a bank) is no value.
+class Machine {
+public:
+    /// A machine over the words of an image, or over zeros. BadShape, or std::bad_alloc.
+    explicit Machine(const kroft_shape &shape = USUAL_SHAPE, const std::vector<kroft_word> &image = {}) {
+        // (a memory larger than there may be is refused by its number alone)
+        const std::vector<kroft_word> zeros(image.empty() && shape.words <= MOST_WORDS ? shape.words : 1);
+        const std::vector<kroft_word> &words = image.empty() ? zeros : image;
+        uint32_t status = kroft_open(&handle, &shape, words.data(), words.size());
+        if (status == KROFT_OUT_OF_MEMORY) throw std::bad_alloc();
+        if (status != KROFT_DONE) throw BadShape(status);
+    }
+    ~Machine() { kroft_free(&handle); }
+    Machine(Machine &&other) noexcept : handle(std::exchange(other.handle, kroft_handle KROFT_NO_MACHINE)) {}
+    Machine &operator=(Machine &&other) noexcept {
+        std::swap(handle, other.handle);
+        return *this;
+    }
+    Machine(const Machine &) = delete;
+    Machine &operator=(const Machine &) = delete;
+
+    /// Makes one event. A refusal is an answer as any other: it changes nothing. std::invalid_argument: the row is none.
+    kroft_answer apply(const kroft_event &event) {
+        kroft_answer answer{};
+        if (told(kroft_apply(&handle, &event, &answer)) == KROFT_NO_EVENT) throw std::invalid_argument("no event");
+        return answer;
+    }
+    kroft_answer load(uint16_t tag, uint32_t at) { return apply(load_of(tag, at)); }
+    kroft_answer store(uint32_t at, kroft_word word, uint8_t lanes = 15) { return apply(store_of(at, word, lanes)); }
+    kroft_answer prefetch(uint32_t at) { return apply(prefetch_of(at)); }
+    kroft_answer evict(uint32_t block) { return apply(evict_of(block)); }
+
+    /// The driver's event, made, with its answer: the first that is possible of a take, a process, an arrival, a service
+    /// and a drain. None if nothing is on its way.
+    std::optional<Step> pump() {
+        Step made{};
+        if (told(kroft_pump(&handle, &made.event, &made.answer)) != KROFT_FOUND) return std::nullopt;
+        return made;
+    }
+
+    /// What is on its way, weighed: each event of `pump` lowers it, and at 0 there is none.
+    uint64_t weight() {
+        uint64_t weight = 0;
+        told(kroft_weight(&handle, &weight));
+        return weight;
+    }
+
+    /// Whether memory has everything: nothing waits, and no word is dirty.
+    bool settled() { return told(kroft_settled(&handle)) == KROFT_FOUND; }
+
+    /// Drives these requests in rounds until nothing is on its way (kroft.h says what a round is). With `busy` below
+    /// `latency` banks are pipelines. std::invalid_argument, with nothing asked: the latency is more than 1000, there are
+    /// more than 16777216 requests, or one is no load, store, prefetch or eviction. Or std::bad_alloc.
+    kroft_counts drive(const std::vector<kroft_event> &requests, uint32_t latency, uint32_t busy) {
+        kroft_counts counts{};
+        const kroft_event none{};
+        const kroft_event *rows = requests.empty() ? &none : requests.data();
+        uint32_t status = told(kroft_drive(&handle, latency, busy, rows, requests.size(), &counts));
+        if (status == KROFT_OUT_OF_MEMORY) throw std::bad_alloc();
+        if (status != KROFT_DONE) throw std::invalid_argument("requests that can't be driven");
+        return counts;
+    }
+    kroft_counts drive(const std::vector<kroft_event> &requests, uint32_t latency = 10) { return drive(requests, latency, latency); }
+
+    /// What a request for a word would find now. Nothing is asked.
+    std::optional<Lookup> find(uint32_t at) {
+        std::optional<uint32_t> found = view<uint32_t>(kroft_find, at);
+        return found ? std::optional<Lookup>(static_cast<Lookup>(*found)) : std::nullopt;
+    }
+
+    // ---- what is in it; kroft.h describes the rows
+    std::optional<kroft_word> bank_word(uint32_t at) { return view<kroft_word>(kroft_bank_word, at); }
+    std::optional<kroft_register_view> miss_register(uint32_t slot) { return view<kroft_register_view>(kroft_register, slot); }
+    std::optional<kroft_field_view> field(uint32_t slot, uint32_t i) { return view<kroft_field_view>(kroft_field, slot, i); }
+    std::optional<kroft_target_view> target(uint32_t slot, uint32_t i, uint32_t place) {
+        return view<kroft_target_view>(kroft_target, slot, i, place);
+    }
+    std::optional<kroft_frame_view> frame(uint32_t frame) { return view<kroft_frame_view>(kroft_frame, frame); }
+    std::optional<kroft_frame_word_view> frame_word(uint32_t frame, uint32_t i) {
+        return view<kroft_frame_word_view>(kroft_frame_word, frame, i);
+    }
+    std::optional<kroft_arrival_view> stack_entry(uint32_t place) { return view<kroft_arrival_view>(kroft_stack_entry, place); }
+    std::optional<kroft_queued_view> queue_entry(uint32_t place) { return view<kroft_queued_view>(kroft_queue_entry, place); }
+    std::optional<kroft_command_view> bank_command(uint32_t bank, uint32_t place) {
+        return view<kroft_command_view>(kroft_bank_command, bank, place);
+    }
+    std::optional<kroft_arrival_view> bank_answer(uint32_t bank, uint32_t place) {
+        return view<kroft_arrival_view>(kroft_bank_answer, bank, place);
+    }
+    std::optional<kroft_answer> reply(uint32_t place) { return view<kroft_answer>(kroft_reply, place); }
+
+private:
+    static constexpr uint32_t MOST_WORDS = 1048576;
+    kroft_handle handle = KROFT_NO_MACHINE;
+
+    static uint32_t told(uint32_t status) {
+        if (status == KROFT_CLOSED) throw std::logic_error("a machine that was moved from");
+        return status;
+    }
+
+    template <class Row, class Ask, class... Places> std::optional<Row> view(Ask ask, Places... places) {
+        Row row{};
+        if (told(ask(&handle, places..., &row)) != KROFT_FOUND) return std::nullopt;
+        return row;
+    }
 };
 
 } // namespace kroft

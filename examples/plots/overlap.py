@@ -6,14 +6,12 @@
 Counted are the rounds in which a request is asked. With --counts it writes the numbers. To draw, it needs matplotlib (Debian:
 python3-matplotlib)."""
 
-import sys
-
 import rounds
 
 
-def main(words):
+def main(counts):
     rows = {registers: rounds.busy_rounds(registers) for registers in rounds.REGISTERS}
-    if words == ["--counts"]:
+    if counts:
         for registers, busy in rows.items():
             print(f"{registers} registers:", ", ".join(f"{count} rounds with {used} in use" for used, count in sorted(busy.items())))
         return
@@ -33,4 +31,4 @@ def main(words):
     rounds.write(plot)
 
 
-main(sys.argv[1:])
+main(rounds.wants_counts(__doc__))

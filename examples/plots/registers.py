@@ -1,20 +1,21 @@
 #!/usr/bin/env python3
-"""Draws how many rounds 64 misses take, by the number of miss registers: a line for each latency of memory.
+"""Draws how many rounds 64 misses take, or the requests of a trace, by the number of miss registers: a line for each
+latency of memory.
 
-    examples/plots/registers.py [LATENCY..] > registers.svg
+    examples/plots/registers.py [--trace FILE [--shape FILE]] [LATENCY..] > registers.svg
 
 The latencies are 5, 20 and 80 rounds if none are given, and each bank begins a command every round. The numbers are
 those that `./kroft sweep` counts; both axes are logarithmic, so where twice as many registers take half of the rounds
 a line falls by one step for each step to the right. Needs nothing beside Python.
 """
 
+import argparse
 import math
 import pathlib
 import subprocess
-import sys
 
 TOP = pathlib.Path(__file__).resolve().parent.parent.parent
-SWEEP = [TOP / "kroft", "sweep", "--busy", "1", "--shape", TOP / "examples/misses.toml"]
+SWEEP = [TOP / "kroft", "sweep", "--busy", "1"]
 MISSES = "".join(f"load {block} {4 * block}\n" for block in range(64))
 
 # Units of the picture: its size, and where the axes are.
@@ -23,10 +24,10 @@ LEFT, RIGHT, TOP_EDGE, BOTTOM = 70, 440, 40, 340
 COLOURS = ["#1b6ca8", "#c8553d", "#3a7d44", "#7b4b94", "#8a6d00"]
 
 
-def rounds_by_registers(latency):
-    """The rounds that a sweep counts, by the number of registers."""
-    words = [*SWEEP, "--latency", str(latency)]
-    told = subprocess.run(words, input=MISSES, capture_output=True, text=True, check=True).stdout
+def rounds_by_registers(trace, shape, latency):
+    """The rounds that a sweep of the trace counts, by the number of registers."""
+    words = [*SWEEP, "--latency", str(latency), *shape]
+    told = subprocess.run(words, input=trace, stdout=subprocess.PIPE, text=True, check=True).stdout
     rows = (line.split() for line in told.splitlines())
     return {int(row[1]): int(row[3]) for row in rows}
 
@@ -56,7 +57,7 @@ def text(x, y, words, anchor="middle", colour="#222"):
     return f'<text x="{x:.1f}" y="{y:.1f}" text-anchor="{anchor}" fill="{colour}">{words}</text>'
 
 
-def grid(axes):
+def grid(axes, counted):
     """The lines and numbers behind the curves."""
     for rounds in axes.ticks:
         y = axes.y(rounds)
@@ -67,7 +68,7 @@ def grid(axes):
         yield f'<path d="M{x:.1f} {TOP_EDGE}V{BOTTOM}" stroke="#ddd"/>'
         yield text(x, BOTTOM + 20, registers)
     yield text((LEFT + RIGHT) / 2, BOTTOM + 44, "miss registers")
-    yield text(LEFT, TOP_EDGE - 16, "rounds for 64 misses", "start")
+    yield text(LEFT, TOP_EDGE - 16, f"rounds for {counted}", "start")
 
 
 def curve(axes, latency, line, colour):
@@ -80,16 +81,30 @@ def curve(axes, latency, line, colour):
     yield text(points[0][0] + 12, points[0][1] - 2, f"latency {latency}", "start", colour)
 
 
-def main(words):
-    lines = {latency: rounds_by_registers(latency) for latency in map(int, words or (5, 20, 80))}
+def asked():
+    """What the words ask for: a trace, how it is called, the words that name its shape, and the latencies."""
+    parser = argparse.ArgumentParser(description="Draws rounds by miss registers: an SVG picture on standard output.")
+    parser.add_argument("--trace", type=pathlib.Path, help="the requests that are counted, in place of 64 misses")
+    parser.add_argument("--shape", type=pathlib.Path, help="the TOML file with the numbers of the machine for the trace")
+    parser.add_argument("latency", type=int, nargs="*", default=[5, 20, 80], help="rounds of memory, 1 to 1000")
+    words = parser.parse_args()
+    if words.trace is None:
+        return MISSES, "64 misses", ["--shape", TOP / "examples/misses.toml"], words.latency
+    shape = ["--shape", words.shape] if words.shape else []
+    return words.trace.read_text(), words.trace.name, shape, words.latency
+
+
+def main():
+    trace, counted, shape, latencies = asked()
+    lines = {latency: rounds_by_registers(trace, shape, latency) for latency in latencies}
     axes = Axes(lines)
     print(f'<svg xmlns="http://www.w3.org/2000/svg" viewBox="0 0 {WIDTH} {HEIGHT}" font-family="sans-serif" font-size="13">')
     print(f'<rect width="{WIDTH}" height="{HEIGHT}" fill="white"/>')
-    print(*grid(axes), sep="\n")
+    print(*grid(axes, counted), sep="\n")
     for colour, (latency, line) in zip(COLOURS * len(lines), lines.items()):
         print(*curve(axes, latency, line, colour), sep="\n")
     print("</svg>")
 
 
 if __name__ == "__main__":
-    main(sys.argv[1:])
+    main()

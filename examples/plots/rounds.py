@@ -1,6 +1,7 @@
 """What the requests of a real program (examples/true.requests) wait for, by the number of miss registers: counts that
 `./kroft` tells. waits.py and overlap.py draw them."""
 
+import argparse
 import collections
 import pathlib
 import re
@@ -17,6 +18,13 @@ REGISTERS = [1, 2, 4, 8]
 # The causes for which a round may be lost.
 CAUSES = {3: "tag in use", 4: "too many loads are owed", 5: "four loads wait for the word", 7: "no register is free",
           8: "all ways wait for words", 9: "write queue too full", 10: "bank queue too full"}
+
+
+def wants_counts(description):
+    """Whether the numbers are asked for in place of the picture."""
+    parser = argparse.ArgumentParser(description=description, formatter_class=argparse.RawDescriptionHelpFormatter)
+    parser.add_argument("--counts", action="store_true", help="write the numbers")
+    return parser.parse_args().counts
 
 
 def kroft(*words, given, shape=SHAPE):

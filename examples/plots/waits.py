@@ -5,14 +5,12 @@
 
 With --counts it writes the numbers. To draw, it needs matplotlib (Debian: python3-matplotlib)."""
 
-import sys
-
 import rounds
 
 
-def main(words):
+def main(counts):
     rows = rounds.lost_by_registers()
-    if words == ["--counts"]:
+    if counts:
         for registers, (whole, lost) in rows.items():
             told = " ".join(f"{count} {rounds.CAUSES[cause]}," for cause, count in lost.items() if count)
             print(f"{registers} registers: {told} {whole - sum(lost.values())} others")
@@ -37,4 +35,4 @@ def main(words):
     rounds.write(plot)
 
 
-main(sys.argv[1:])
+main(rounds.wants_counts(__doc__))

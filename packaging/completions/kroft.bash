@@ -4,13 +4,14 @@ _kroft() {
   COMPREPLY=()
   case $before in
     --shape) COMPREPLY=($(compgen -f -- "$word")); return ;;
+    --image) COMPREPLY=($(compgen -f -- "$word")); return ;;
+    --format) COMPREPLY=($(compgen -W 'text csv json' -- "$word")); return ;;
     --latency) COMPREPLY=($(compgen -W '' -- "$word")); return ;;
     --busy) COMPREPLY=($(compgen -W '' -- "$word")); return ;;
     --from) COMPREPLY=($(compgen -W 'lackey din' -- "$word")); return ;;
     --words) COMPREPLY=($(compgen -W '' -- "$word")); return ;;
     --law) COMPREPLY=($(compgen -W 'flat atomic regular' -- "$word")); return ;;
     --unit) COMPREPLY=($(compgen -W '1 2 4 8' -- "$word")); return ;;
-    --image) COMPREPLY=($(compgen -f -- "$word")); return ;;
   esac
   for ((k = 1; k < COMP_CWORD; k++)); do
     case ${COMP_WORDS[k]} in
@@ -18,15 +19,15 @@ _kroft() {
     esac
   done
   case $command in
-    run) k='--shape -h --help' ;;
-    check) k='--shape -h --help' ;;
-    sweep) k='--shape --latency --busy -h --help' ;;
-    explain) k='--shape -h --help' ;;
-    grade) k='--shape -h --help' ;;
-    drive) k='--shape --latency --busy --summary -h --help' ;;
+    run) k='--shape --image -h --help' ;;
+    check) k='--shape --image --all-answered --format -h --help' ;;
+    sweep) k='--shape --latency --busy --format --svg -h --help' ;;
+    explain) k='--shape --image --format -h --help' ;;
+    grade) k='--shape --image --format -h --help' ;;
+    drive) k='--shape --image --latency --busy --summary --all --format --svg -h --help' ;;
     requests) k='--from --words -h --help' ;;
-    show) k='--shape --text --vcd -h --help' ;;
-    history) k='--law --unit --image --unknown --all-answered --values -h --help' ;;
+    show) k='--shape --image --text --vcd -h --help' ;;
+    history) k='--law --unit --image --unknown --all-answered --values --format -h --help' ;;
     *) k='run check sweep explain grade drive requests show history --shape -h --help -V --version' ;;
   esac
   COMPREPLY=($(compgen -W "$k" -- "$word"))

@@ -4,7 +4,7 @@ window.onerror = (told) => { document.body.dataset.fault = String(told); };
 // ---- a trace, a machine and a view in an address
 
 // Behind '#': the trace, with ~ for the end of a line and _ for a space; then each number that isn't the default, and what is
-// looked at: `tab`, `latency` and `busy`.
+// looked at: `tab`, `latency`, `busy`, and the `line` of the cursor.
 function fragmentOf(trace, shape, view) {
   const text = encodeURIComponent(trace).replace(/[~_]/g, (it) => (it === '~' ? '%7E' : '%5F')).replace(/%0A/g, '~').replace(/%20/g, '_');
   const more = Object.entries({ ...shape, ...view }).map(([key, value]) => `&${key}=${value}`);
@@ -17,7 +17,7 @@ function readFragment(fragment) {
     const isNumber = /^\d{1,10}$/.test(value ?? '');
     if (key === 'trace' && value !== undefined) found.trace = decoded(value);
     else if (key === 'tab') found.view.tab = value;
-    else if (isNumber && (key === 'latency' || key === 'busy')) found.view[key] = Number(value);
+    else if (isNumber && ['latency', 'busy', 'line'].includes(key)) found.view[key] = Number(value);
     else if (isNumber && KEYS.some(([name]) => name === key)) found.shape[key] = Number(value);
   }
   return found;
@@ -46,7 +46,7 @@ function faultOf(answer) {
   const fault = /^line (\d+): (.*)/.exec(answer.told);
   if (fault) return { line: Number(fault[1]), text: fault[2] };
   const mismatch = /^mismatch at line (\d+)/.exec(answer.said);
-  return mismatch ? { line: Number(mismatch[1]), text: 'flat memory never answers so' } : null;
+  return mismatch ? { line: Number(mismatch[1]), text: 'flat memory never answers so', isRead: true } : null;
 }
 
 // ---- lines that are written by a button

@@ -15,6 +15,7 @@ let reasons = new Map();
 // The number of the last edit: what answers an earlier one comes too late.
 let edits = 0;
 let timer = 0;
+// the line that can't be read, if there is one
 let faultLine = 0;
 
 // ---- the machine's numbers
@@ -41,7 +42,7 @@ function putShape(shape) {
   for (const [key, number] of KEYS) find(`shape-${key}`).value = shape[key] ?? number;
 }
 
-// ---- what is looked at: the numbers of memory's rounds, and the tab
+// ---- what is looked at: the numbers of memory's rounds, the tab, and the cursor's line where it isn't the last one
 
 const numberIn = (id, least) => {
   const value = Math.floor(Number(find(id).value));
@@ -54,12 +55,23 @@ function viewOf() {
   if (pane !== 'picture') view.tab = pane;
   if (latencyOf() !== LATENCY) view.latency = latencyOf();
   if (busyOf() !== null) view.busy = busyOf();
+  const after = find('trace').value.slice(find('trace').selectionStart);
+  if (after.trim() !== '') view.line = lineAtCursor();
   return view;
 }
 function putView(view) {
   find('latency').value = view.latency ?? LATENCY;
   find('busy').value = view.busy ?? '';
   showPane(panes().includes(view.tab) ? view.tab : 'picture');
+}
+// The cursor at the end of a line; with none of this number, at the end of all.
+function putCursor(line) {
+  const lines = find('trace').value.split('\n');
+  const at = line >= 1 && line <= lines.length ? lines.slice(0, line).join('\n').length : find('trace').value.length;
+  find('trace').setSelectionRange(at, at);
+}
+function putAddress() {
+  history.replaceState(null, '', fragmentOf(find('trace').value, shapeOf(), viewOf()));
 }
 const panes = () => PANES.filter((name) => canGrade || name !== 'grade');
 
@@ -86,7 +98,7 @@ function putAnswers(answers, fault) {
   const box = find('answers');
   box.textContent = answers.join('\n');
   beside = answers;
-  faultLine = fault ? fault.line : 0;
+  faultLine = fault && !fault.isRead ? fault.line : 0;
   if (fault) {
     const before = answers.slice(0, fault.line - 1);
     const line = document.createElement('span');
@@ -142,11 +154,7 @@ async function answerTrace(edit, text) {
 const shown = {
   async picture(edit, text) {
     const kind = kindOf(text, canGrade);
-    if (kind === 'recorded') {
-      putTexts('picture', 'A recorded run has no machine to draw: see check and explain.');
-      return;
-    }
-    // (up to the line that has a fault, if one has)
+    // (up to the line that can't be read, if there is one)
     const drawn = faultLine > 0 ? linesOf(text).slice(0, faultLine - 1).join('\n') : text;
     const answer = await ask('show', kind === 'sheet' ? traceOfSheet(drawn) : drawn);
     if (edit === edits && answer.picture) putPicture(answer.picture);
@@ -232,7 +240,7 @@ async function update() {
   const edit = edits;
   const text = find('trace').value;
   delete document.body.dataset.done;
-  history.replaceState(null, '', fragmentOf(text, shapeOf(), viewOf()));
+  putAddress();
   await answerTrace(edit, text);
   if (edit === edits) await shown[pane](edit, text);
   if (edit === edits) document.body.dataset.done = edit;
@@ -275,7 +283,12 @@ document.querySelector('.tabs').addEventListener('keydown', (event) => {
 });
 find('trace').addEventListener('input', later);
 find('trace').addEventListener('scroll', scrolled);
-for (const kind of ['keyup', 'click']) find('trace').addEventListener(kind, followCursor);
+for (const kind of ['keyup', 'click']) {
+  find('trace').addEventListener(kind, () => {
+    followCursor();
+    putAddress();
+  });
+}
 find('shape').addEventListener('input', later);
 find('shape').addEventListener('submit', (event) => event.preventDefault());
 find('timing').addEventListener('input', later);
@@ -312,6 +325,7 @@ function follow() {
   putShape(shape);
   putView(view);
   find('trace').value = trace ?? 'load 1 4\n';
+  putCursor(view.line);
   update();
 }
 window.addEventListener('hashchange', follow);

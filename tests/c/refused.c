@@ -1,5 +1,5 @@
-/* Each allocation of kroft_open, and of a history, refused in turn: it says so, keeps no memory, and what is behind the
-   handle is as it was. Linked with the C library's calls wrapped (-Wl,--wrap=malloc and so on). */
+/* Each allocation of kroft_open, of kroft_drive and of a history, refused in turn: it says so, keeps no memory, and what
+   is behind the handle is as it was. Linked with the C library's calls wrapped (-Wl,--wrap=malloc and so on). */
 #include "check.h"
 #include "kroft.h"
 
@@ -88,7 +88,20 @@ int main(void) {
         if (status == KROFT_OUT_OF_MEMORY) CHECK(held == 0 && handle.open == 0 && kroft_free(&handle) == KROFT_CLOSED);
     }
     CHECK(status == KROFT_DONE && refused > 2 && held > 0);
-    granted = 0; /* no call but kroft_open allocates */
+    status = KROFT_OUT_OF_MEMORY;
+    for (refused = 0; refused < 1000 && status == KROFT_OUT_OF_MEMORY; refused++) {
+        kroft_counts c;
+        long before = held;
+        uint64_t weight = 0;
+        c.rounds = 77;
+        granted = refused;
+        status = kroft_drive(&handle, 1, 1, &e, 1, &c);
+        if (status == KROFT_OUT_OF_MEMORY) CHECK(c.rounds == 77 && kroft_weight(&handle, &weight) == KROFT_DONE && weight == 0);
+        CHECK(held == before);
+    }
+    CHECK(status == KROFT_DONE && refused > 2);
+    e.at = 17;
+    granted = 0; /* no other call allocates */
     CHECK(kroft_apply(&handle, &e, &a) == KROFT_DONE && a.kind == KROFT_ACCEPTED);
     while (kroft_pump(&handle, &e, &a) == KROFT_FOUND) {}
     CHECK(kroft_settled(&handle) == KROFT_FOUND);

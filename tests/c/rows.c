@@ -124,6 +124,53 @@ static void views(void) {
     CHECK(kroft_free(&handle) == KROFT_DONE);
 }
 
+/* Two blocks on their way: block 7 as above, under register 0, and block 4, which lies in set 0 and begins with word 16, in
+   bank 1, under register 1. Word `at` lies at place at / 5 of its bank. */
+static void parts(void) {
+    kroft_handle handle = opened();
+    kroft_frame_view frame;
+    kroft_frame_word_view w;
+    kroft_arrival_view arrival;
+    kroft_command_view command;
+    kroft_queued_view queued;
+    kroft_answer a;
+    uint32_t lookup = 77;
+    CHECK(kind_of(&handle, load(258, 29)) == KROFT_ACCEPTED);
+    CHECK(kind_of(&handle, load(259, 18)) == KROFT_ACCEPTED);
+    CHECK(kind_of(&handle, store(29, 5, word(61, 62, 63, 64))) == KROFT_ACCEPTED);
+    CHECK(kroft_frame(&handle, 6, &frame) == KROFT_FOUND && frame.valid == 1 && frame.block == 7);
+    CHECK(kroft_frame(&handle, 0, &frame) == KROFT_FOUND && frame.valid == 1 && frame.block == 4);
+    CHECK(kroft_frame_word(&handle, 6, 1, &w) == KROFT_FOUND && w.dirty == 5 && w.word.b[0] == 61 && w.word.b[2] == 63);
+    CHECK(kroft_frame_word(&handle, 6, 0, &w) == KROFT_FOUND && w.dirty == 0);
+    CHECK(kroft_find(&handle, 18, &lookup) == KROFT_FOUND && lookup == KROFT_JOIN);
+    CHECK(kroft_find(&handle, 40, &lookup) == KROFT_FOUND && lookup == KROFT_MISS);
+    /* words 28 and 18 lie in bank 3, words 29 and 19 in bank 4 */
+    CHECK(kroft_bank_command(&handle, 3, 1, &command) == KROFT_FOUND);
+    CHECK(command.kind == KROFT_READ && command.slot == 1 && command.i == 2 && command.place == 3);
+    CHECK(command.lanes == 0 && is_word(command.word, 0, 0, 0, 0));
+    CHECK(kind_of(&handle, move(KROFT_SERVE, 3, 0)) == KROFT_MOVED && kind_of(&handle, move(KROFT_SERVE, 3, 0)) == KROFT_MOVED);
+    CHECK(kroft_bank_answer(&handle, 3, 1, &arrival) == KROFT_FOUND);
+    CHECK(arrival.slot == 1 && arrival.i == 2 && is_word(arrival.word, 18, 68, 118, 168));
+    CHECK(kind_of(&handle, move(KROFT_ARRIVE, 3, 1)) == KROFT_MOVED && kind_of(&handle, move(KROFT_ARRIVE, 3, 0)) == KROFT_MOVED);
+    CHECK(kroft_stack_entry(&handle, 0, &arrival) == KROFT_FOUND);
+    CHECK(arrival.slot == 1 && arrival.i == 2 && is_word(arrival.word, 18, 68, 118, 168));
+    CHECK(kroft_stack_entry(&handle, 1, &arrival) == KROFT_FOUND);
+    CHECK(arrival.slot == 0 && arrival.i == 0 && is_word(arrival.word, 28, 78, 128, 178));
+    CHECK(kroft_find(&handle, 18, &lookup) == KROFT_FOUND && lookup == KROFT_HIT); /* also from the stack */
+    CHECK(kind_of(&handle, move(KROFT_PROCESS, 1, 0)) == KROFT_MOVED);
+    CHECK(kroft_reply(&handle, 0, &a) == KROFT_FOUND);
+    CHECK(a.kind == KROFT_VALUE && a.cause == 0 && a.tag == 259 && is_word(a.word, 18, 68, 118, 168));
+    /* given up: the dirty bytes go to the write queue, and from there behind the two reads of bank 4 */
+    CHECK(kind_of(&handle, move(KROFT_EVICT, 7, 1)) == KROFT_ACCEPTED);
+    CHECK(kroft_queue_entry(&handle, 0, &queued) == KROFT_FOUND && queued.block == 7 && queued.at == 29 && queued.lanes == 5);
+    CHECK(queued.word.b[0] == 61 && queued.word.b[2] == 63);
+    CHECK(kind_of(&handle, move(KROFT_DRAIN, 1, 2)) == KROFT_MOVED);
+    CHECK(kroft_bank_command(&handle, 4, 2, &command) == KROFT_FOUND);
+    CHECK(command.kind == KROFT_WRITE && command.slot == 0 && command.i == 0 && command.place == 5);
+    CHECK(command.lanes == 5 && command.word.b[0] == 61 && command.word.b[2] == 63);
+    CHECK(kroft_free(&handle) == KROFT_DONE);
+}
+
 /* A value has its tag and its word, a refusal its cause; what an answer of its kind doesn't name is 0. */
 static void answers(void) {
     kroft_handle handle = opened();
@@ -190,6 +237,7 @@ static void operations(void) {
 int main(void) {
     shapes();
     views();
+    parts();
     answers();
     pumped();
     judged();

@@ -66,6 +66,7 @@
     return {
       entries: seen,
       event: document.getElementById('event').textContent,
+      recorded: document.getElementById('recorded').innerText,
       words: document.getElementById('words').textContent,
       request: document.getElementById('request').innerText.replace(/\s+/g, ' ').trim(),
       step: [document.getElementById('number').textContent, document.getElementById('slider').value, document.body.dataset.step].join(' '),

@@ -39,7 +39,22 @@ from .events import (
 )
 from .history import History, HistoryFault, Law, NotLawful, Operation
 from .judge import FlatJudge, StepJudge
-from .machine import SHAPES, Field, Machine, Register, Shape, Target
+from .machine import (
+    SHAPES,
+    Arrival,
+    Command,
+    Counts,
+    Field,
+    FrameWord,
+    Lookup,
+    Machine,
+    Queued,
+    Read,
+    Register,
+    Shape,
+    Target,
+    Write,
+)
 from .traffic import Traffic, TrafficAccess
 
 __version__ = "0.1.0"
@@ -48,21 +63,26 @@ __all__ = [
     "Accepted",
     "Access",
     "Answer",
+    "Arrival",
     "Arrive",
     "BadShape",
     "Cause",
     "Closed",
+    "Command",
+    "Counts",
     "Drain",
     "Event",
     "Evict",
     "Field",
     "FlatJudge",
+    "FrameWord",
     "History",
     "HistoryFault",
     "KroftError",
     "Law",
     "LibraryMissing",
     "Load",
+    "Lookup",
     "Machine",
     "Moved",
     "NotFlat",
@@ -71,6 +91,8 @@ __all__ = [
     "Operation",
     "Prefetch",
     "Process",
+    "Queued",
+    "Read",
     "Reason",
     "Refusal",
     "Refused",
@@ -87,4 +109,5 @@ __all__ = [
     "TrafficAccess",
     "Unanswered",
     "Value",
+    "Write",
 ]

@@ -62,6 +62,55 @@ class TargetRow(c.Structure):
     _fields_ = [("tag", u16), ("lanes", u8), ("held", Word)]
 
 
+class FrameRow(c.Structure):
+    _fields_ = [("valid", u32), ("block", u32)]
+
+
+class FrameWordRow(c.Structure):
+    _fields_ = [("word", Word), ("dirty", u8)]
+
+
+class ArrivalRow(c.Structure):
+    _fields_ = [("slot", u32), ("i", u32), ("word", Word)]
+
+
+class QueuedRow(c.Structure):
+    _fields_ = [("block", u32), ("at", u32), ("word", Word), ("lanes", u8)]
+
+
+class CommandRow(c.Structure):
+    _fields_ = [("kind", u32), ("slot", u32), ("i", u32), ("place", u32), ("word", Word), ("lanes", u8)]
+
+
+class CountsRow(c.Structure):
+    _fields_ = [
+        *(
+            (name, u64)
+            for name in (
+                "rounds",
+                "accepted",
+                "denied",
+                "hits",
+                "joins",
+                "misses",
+                "stalled",
+                "lost_tag_in_use",
+                "lost_replies_full",
+                "lost_targets_full",
+                "lost_no_register",
+                "lost_set_pending",
+                "lost_queue_full",
+                "lost_bank_full",
+                "values",
+                "waited",
+                "longest",
+                "written",
+            )
+        ),
+        ("registers", u32),
+    ]
+
+
 class OperationRow(c.Structure):
     _fields_ = [("number", u64), ("address", u64), ("length", u64)]
 
@@ -126,6 +175,15 @@ def declare(library: c.CDLL) -> c.CDLL:
         "kroft_register": [handle, u32, out],
         "kroft_field": [handle, u32, u32, out],
         "kroft_target": [handle, u32, u32, u32, out],
+        "kroft_frame": [handle, u32, out],
+        "kroft_frame_word": [handle, u32, u32, out],
+        "kroft_stack_entry": [handle, u32, out],
+        "kroft_queue_entry": [handle, u32, out],
+        "kroft_bank_command": [handle, u32, u32, out],
+        "kroft_bank_answer": [handle, u32, u32, out],
+        "kroft_reply": [handle, u32, out],
+        "kroft_find": [handle, u32, out],
+        "kroft_drive": [handle, u32, u32, out, c.c_size_t, out],
         "kroft_traffic": [out, u64, u64, out, out, c.c_size_t],
         "kroft_version": [out, c.c_size_t],
     }

@@ -1,10 +1,11 @@
 """The machine of the library: a non-blocking, write-back cache over banks of memory, with no clock."""
 
 import ctypes as c
+import enum
 from types import TracebackType
-from typing import Iterator, List, NamedTuple, Optional, Tuple, Type
+from typing import Dict, Iterable, Iterator, List, NamedTuple, Optional, Tuple, Type, TypeVar, Union
 
-from .errors import BadShape, Closed, KroftError, Refused, ShapeFault
+from .errors import BadShape, Cause, Closed, KroftError, Refused, ShapeFault
 from .events import (
     Accepted,
     Answer,
@@ -19,10 +20,41 @@ from .events import (
     event_of,
     event_row,
 )
-from .library import FieldRow, HandleRow, RegisterRow, ShapeRow, TargetRow, Word, library
+from .library import (
+    ArrivalRow,
+    CommandRow,
+    CountsRow,
+    FieldRow,
+    FrameRow,
+    FrameWordRow,
+    HandleRow,
+    QueuedRow,
+    RegisterRow,
+    ShapeRow,
+    TargetRow,
+    Word,
+    library,
+)
+
+_Row = TypeVar("_Row", bound=c.Structure)
 
 _DONE, _NONE, _FOUND, _CLOSED = 0, 0, 1, 3
 _EVENT_BYTES, _ANSWER_BYTES = 20, 16
+_OUT_OF_MEMORY = 101
+_NOT_DRIVEN = {
+    2: "a request is a load, a store, a prefetch or an eviction",
+    104: "more than 16777216 requests",
+    105: "a latency is at most 1000 rounds",
+}
+_LOST = (
+    Cause.TAG_IN_USE,
+    Cause.REPLIES_FULL,
+    Cause.TARGETS_FULL,
+    Cause.NO_REGISTER,
+    Cause.SET_PENDING,
+    Cause.QUEUE_FULL,
+    Cause.BANK_FULL,
+)
 
 #: The rows of (ways, block_words, regs, depth) that a machine may have.
 SHAPES = (
@@ -85,6 +117,78 @@ class Target(NamedTuple):
     tag: int
     lanes: int  #: the lanes whose bytes it has already
     held: bytes  #: those bytes: only those in the lanes count
+
+
+class FrameWord(NamedTuple):
+    """A word of the block that a frame holds."""
+
+    word: bytes  #: the bytes in the buffer; of a word on its way only those in the lanes of its register's code are there
+    dirty: int  #: the lanes that were stored since the frame took the block, and that memory hasn't yet
+
+
+class Arrival(NamedTuple):
+    """A word on its way from its bank to a register."""
+
+    slot: int  #: the register
+    i: int  #: the number of the word in the register's block
+    word: bytes
+
+
+class Queued(NamedTuple):
+    """A word that waits in the write queue."""
+
+    block: int  #: the block that was given up
+    at: int
+    word: bytes  #: only the bytes in the lanes count
+    lanes: int
+
+
+class Read(NamedTuple):
+    """A command of a bank: a word is read for a register."""
+
+    slot: int
+    i: int  #: the number of the word in the register's block
+    place: int  #: where the word lies in the bank
+
+
+class Write(NamedTuple):
+    """A command of a bank: bytes are written."""
+
+    place: int  #: where the word lies in the bank
+    word: bytes  #: only the bytes in the lanes count
+    lanes: int
+
+
+Command = Union[Read, Write]
+
+
+Request = Union[Load, Store, Prefetch, Evict]
+
+
+class Counts(NamedTuple):
+    """What a run in rounds counted. A round is a step of a schedule, and no time of any hardware."""
+
+    rounds: int  #: rounds, the last one counted, in which nothing moves
+    accepted: int
+    denied: int  #: requests that were refused for what no move changes
+    hits: int  #: accepted loads, stores and prefetches, by what they found
+    joins: int
+    misses: int
+    stalled: int  #: requests that were refused at first, and asked again
+    lost: Dict[Cause, int]  #: rounds in which the request at hand was refused and asked again in the next, by the cause
+    values: int  #: loads that were answered
+    waited: int  #: rounds from each such load's acceptance to its answer, in all
+    longest: int  #: the most of these for one load
+    written: int  #: words that were written back
+    registers: int  #: the most registers in use at once
+
+
+class Lookup(enum.IntEnum):
+    """What a request for a word finds."""
+
+    HIT = 0  #: the word is at hand
+    JOIN = 1  #: a register waits for the word, and the request would join it
+    MISS = 2  #: no frame holds the block: it would be asked for, under a register of its own
 
 
 class Machine:
@@ -150,6 +254,28 @@ class Machine:
             if isinstance(answer, Value):
                 yield answer
 
+    def drive(self, requests: Iterable[Request], latency: int = 10, busy: Optional[int] = None) -> Counts:
+        """Drives requests through the machine in rounds, as the command `drive` does, until nothing is on its way.
+
+        In a round each bank begins a command if it isn't busy, and serves one that it began `latency` rounds before; one
+        answer arrives, one word is processed, one reply taken and one word written back; and the request at hand is
+        asked, again and again until it is accepted or denied. With `busy` below `latency` a bank begins a command each
+        `busy` rounds at most; otherwise it has one at a time. ValueError if the latency isn't 0 to 1000, if there are
+        more than 16777216 requests, or if one is no load, store, prefetch or eviction; nothing was asked then."""
+        rows = b"".join(map(event_row, requests))
+        busy = latency if busy is None else busy
+        if not (0 <= latency < 2**32 and 0 <= busy < 2**32):
+            raise ValueError("a number of rounds is out of its range")
+        row = CountsRow()
+        status = self._call("kroft_drive", latency, busy, rows, len(rows) // _EVENT_BYTES, c.byref(row))
+        if status == _OUT_OF_MEMORY:
+            raise MemoryError("too little memory to drive these requests")
+        if status != _DONE:
+            raise ValueError(_NOT_DRIVEN[status])
+        lost = {cause: getattr(row, f"lost_{cause.name.lower()}") for cause in _LOST}
+        first = (row.rounds, row.accepted, row.denied, row.hits, row.joins, row.misses, row.stalled)
+        return Counts(*first, lost, row.values, row.waited, row.longest, row.written, row.registers)
+
     @property
     def weight(self) -> int:
         """What is on its way, weighed: each event of `pump` lowers it, and at 0 there is none."""
@@ -198,6 +324,56 @@ class Machine:
             targets.append(Target(row.tag, row.lanes, bytes(row.held)))
         return targets
 
+    def find(self, at: int) -> Lookup:
+        """What a request for the word at `at` would find now. Nothing is asked. IndexError if there is no such word."""
+        lookup = c.c_uint32()
+        self._find("kroft_find", at, c.byref(lookup))
+        return Lookup(lookup.value)
+
+    def frame(self, frame: int) -> Optional[int]:
+        """The block that a frame holds, None if it is free. Set `s` has the frames from `s * ways` on. IndexError if there
+        is no such frame."""
+        row = FrameRow()
+        self._find("kroft_frame", frame, c.byref(row))
+        return row.block if row.valid else None
+
+    def frames(self) -> List[Optional[int]]:
+        """The blocks of all frames, set by set."""
+        return [self.frame(frame) for frame in range(self.shape.sets * self.shape.ways)]
+
+    def frame_word(self, frame: int, i: int) -> FrameWord:
+        """Word `i` of the block that a frame holds. IndexError if there is no such frame or word, or the frame is free."""
+        row = FrameWordRow()
+        self._find("kroft_frame_word", frame, i, c.byref(row))
+        return FrameWord(bytes(row.word), row.dirty)
+
+    def stack(self) -> List[Arrival]:
+        """The words of the input stack, the one that came first at 0."""
+        return [_arrival(row) for row in self._places(ArrivalRow, "kroft_stack_entry")]
+
+    def queue(self) -> List[Queued]:
+        """The words of the write queue, the one that is drained next at 0."""
+        rows = self._places(QueuedRow, "kroft_queue_entry")
+        return [Queued(row.block, row.at, bytes(row.word), row.lanes) for row in rows]
+
+    def bank_commands(self, bank: int) -> List[Command]:
+        """The commands that wait at a bank, the one that is served next at 0. IndexError if there is no such bank."""
+        return [_command(row) for row in self._places(CommandRow, "kroft_bank_command", self._bank(bank))]
+
+    def bank_answers(self, bank: int) -> List[Arrival]:
+        """The answers that stand in a bank, the oldest one at 0. IndexError if there is no such bank."""
+        return [_arrival(row) for row in self._places(ArrivalRow, "kroft_bank_answer", self._bank(bank))]
+
+    def replies(self) -> List[Value]:
+        """The values that stand ready to be taken, in the order of their places."""
+        answers: List[Value] = []
+        answer = c.create_string_buffer(_ANSWER_BYTES)
+        while self._call("kroft_reply", len(answers), answer) == _FOUND:
+            value = answer_of(answer.raw)
+            assert isinstance(value, Value)
+            answers.append(value)
+        return answers
+
     @property
     def closed(self) -> bool:
         return not self._handle.open
@@ -223,6 +399,18 @@ class Machine:
         if not isinstance(answer, Accepted):
             raise KroftError(f"{event} was answered by {answer}")
 
+    def _bank(self, bank: int) -> int:
+        if not 0 <= bank < self.shape.banks:
+            raise IndexError("there is none")
+        return bank
+
+    def _places(self, row: Type[_Row], name: str, *arguments: int) -> Iterator[_Row]:
+        """What a view shows at place 0, 1 and so on, until there is nothing."""
+        place, shown = 0, row()
+        while self._call(name, *arguments, place, c.byref(shown)) == _FOUND:
+            yield shown
+            place, shown = place + 1, row()
+
     def _call(self, name: str, *arguments: object) -> int:
         status: int = getattr(self._library, name)(c.byref(self._handle), *arguments)
         if status == _CLOSED:
@@ -234,3 +422,13 @@ class Machine:
             raise IndexError("there is none")
         if self._call(name, *arguments) == _NONE:
             raise IndexError("there is none")
+
+
+def _arrival(row: ArrivalRow) -> Arrival:
+    return Arrival(row.slot, row.i, bytes(row.word))
+
+
+def _command(row: CommandRow) -> Command:
+    if row.kind == 0:
+        return Read(row.slot, row.i, row.place)
+    return Write(row.place, bytes(row.word), row.lanes)

@@ -6,7 +6,29 @@ import unittest
 from typing import List
 
 import kroft
-from kroft import Accepted, Cause, Evict, Load, Machine, Prefetch, Refused, Shape, StepJudge, Store, Value
+from kroft import (
+    Accepted,
+    Arrival,
+    Arrive,
+    Cause,
+    Drain,
+    Evict,
+    FrameWord,
+    Load,
+    Lookup,
+    Machine,
+    Prefetch,
+    Process,
+    Queued,
+    Read,
+    Refused,
+    Serve,
+    Shape,
+    StepJudge,
+    Store,
+    Value,
+    Write,
+)
 
 SMALL = Shape(ways=2, block_words=4, regs=8, depth=4, words=64, sets=4, banks=4, bank_queue=8, write_queue=8, replies=8)
 
@@ -50,6 +72,64 @@ class Machines(unittest.TestCase):
                     machine.field(*wrong)
             with self.assertRaises(IndexError):
                 machine.bank_word(64)
+
+    def test_what_the_parts_show(self) -> None:
+        image = bytes(range(256))
+        with Machine(SMALL, image) as machine:
+            self.assertEqual(machine.frames(), [None] * 8)
+            self.assertEqual((machine.stack(), machine.queue(), machine.replies()), ([], [], []))
+            self.assertEqual(machine.find(5), Lookup.MISS)
+            machine.load(7, 5)  # block 1, in set 1; its words 4 to 7 lie at place 1 of the banks 0 to 3
+            self.assertEqual(machine.frames(), [None, None, 1, None, None, None, None, None])
+            self.assertEqual(machine.find(5), Lookup.JOIN)
+            self.assertEqual([machine.bank_commands(bank) for bank in range(4)], [[Read(0, i, 1)] for i in range(4)])
+            machine.apply(Serve(1))
+            self.assertEqual(machine.bank_answers(1), [Arrival(0, 1, image[20:24])])
+            machine.apply(Arrive(1, 0))
+            self.assertEqual((machine.bank_answers(1), machine.stack()), ([], [Arrival(0, 1, image[20:24])]))
+            machine.apply(Process(0))
+            self.assertEqual((machine.stack(), machine.replies()), ([], [Value(7, image[20:24])]))
+            self.assertEqual(machine.find(5), Lookup.HIT)
+            machine.store(5, b"\xaa\xbb\xcc\xdd", 0b0110)
+            self.assertEqual(machine.frame_word(2, 1), FrameWord(b"\x14\xbb\xcc\x17", 0b0110))
+            list(machine.pump())
+            machine.evict(1)
+            self.assertEqual(machine.frame(2), None)
+            (queued,) = machine.queue()
+            self.assertEqual(queued, Queued(1, 5, queued.word, 0b0110))
+            self.assertEqual(queued.word[1:3], b"\xbb\xcc")
+            machine.apply(Drain())
+            self.assertEqual(machine.bank_commands(1), [Write(1, queued.word, 0b0110)])
+            with self.assertRaises(IndexError):
+                machine.find(64)
+            with self.assertRaises(IndexError):
+                machine.frame(8)
+            with self.assertRaises(IndexError):
+                machine.frame_word(2, 0)
+            for bank in (-1, 4):
+                with self.assertRaises(IndexError):
+                    machine.bank_commands(bank)
+                with self.assertRaises(IndexError):
+                    machine.bank_answers(bank)
+
+    def test_rounds(self) -> None:
+        """As `./kroft drive --summary` counts them (examples/README.md, tests/runs/drive)."""
+        usual = Shape(2, 4, 4, 4, 64, 4, 4, 8, 8, 8)
+        with Machine(usual) as machine:
+            counts = machine.drive([Load(1, 0), Load(2, 4), Load(3, 8)])
+            self.assertEqual((counts.rounds, counts.accepted, counts.misses, counts.registers), (38, 3, 3, 3))
+            self.assertEqual((counts.values, counts.waited, counts.longest), (3, 63, 31))
+            self.assertEqual(sum(counts.lost.values()), 0)
+            counts = machine.drive([Load(1, 0), Load(1, 16), Load(1, 16), Load(1, 64)])
+            self.assertEqual((counts.hits, counts.misses, counts.denied), (2, 1, 1))
+            self.assertEqual(counts.lost[Cause.TAG_IN_USE], 10)
+            self.assertEqual(machine.weight, 0)
+            for requests, latency in [([Drain()], 10), ([Load(1, 0)], 1001), ([Load(1, 0)], -1)]:
+                with self.assertRaises(ValueError):
+                    machine.drive(requests, latency)  # type: ignore[arg-type]
+        for latency, busy, rounds in [(5, 1, 11), (5, 2, 14), (5, None, 26), (9, 2, 18)]:
+            with Machine(usual._replace(banks=1)) as machine:
+                self.assertEqual(machine.drive([Load(1, 0)], latency, busy).rounds, rounds)
 
     def test_shapes(self) -> None:
         faults = kroft.ShapeFault

@@ -1,90 +1,17 @@
 -- A load is answered.
-use Rattle.std.proofs.Common.{◌≡◌, ℕ, ◌≤◌, Bool, true, false, ◌||◌, not, ◌==◌, List, [], ◌∷◌, ◌++◌, length, drop, filter, Option, Some, None, inl, inr, refl, sym, ap, ◌∙◌, subst}
+use Rattle.std.proofs.Common.{◌≡◌, ℕ, Bool, true, false, ◌||◌, not, ◌==◌, List, [], ◌∷◌, drop, filter, Option, Some, None, inl, inr, refl, sym, ap, ◌∙◌, subst}
 use Rattle.std.specs.List.{list_all, list_any}
 use Rattle.std.proofs.lemmas.Bool.{cases_Bool, and_parts, and_from}
 use Rattle.atomic_histories.specs.declared.unit.WatchedLoad.{WatchedLoad}
 use Rattle.atomic_histories.specs.declared.unit.UnitPlace.{UnitPlace}
 use Rattle.atomic_histories.specs.Words.{is_word_of}
 use Rattle.atomic_histories.specs.Law.{OpenLoad, UnitMemory, is_load, is_got, may_answer_load, without_load}
-use Rattle.atomic_histories.specs.Branches.{Branch, effect_of, path_after, kept_path, is_watched, may_have, has_answer, branch_without_load}
-use Rattle.atomic_histories.specs.Stands.{Each, One, MayHaveGot, AreWatched, IsOn, Leads, now, later, IsTimely}
+use Rattle.atomic_histories.specs.Branches.{Branch, is_watched, may_have, has_answer, branch_without_load}
+use Rattle.atomic_histories.specs.Stands.{One, MayHaveGot, AreWatched, IsOn}
+use Rattle.atomic_histories.proofs.Covered.{stays, keeps, watched_before_cut}
 
 abbrev Word : Type 0
 Word = List (Option ℕ)
-
-abbrev stays : ℕ → WatchedLoad → Bool
-stays number l = not (is_watched number l)
-
-abbrev keeps : ℕ → OpenLoad → Bool
-keeps number m = not (is_load number m)
-
--- The way without the load. ----
-
-watched_filter : (number : ℕ) (w : Word) (path : List Word) (ls : List WatchedLoad) (ms : List OpenLoad) → AreWatched w path ls ms
-    → AreWatched w path (filter (stays number) ls) (filter (keeps number) ms)
-watched_filter number w path [] [] h = tt
-watched_filter number w path [] (m ∷ ms) h = absurd h
-watched_filter number w path (l ∷ ls) [] h = absurd h
-watched_filter number w path (l ∷ ls) (m ∷ ms) h = elim (cases_Bool (is_watched number l)) [
-  | inl t ↦ let u : is_load number m ≡ true = ap (λ n. n == number) (sym h.0.0) ∙ t in rw (t, u) (watched_filter number w path ls ms h.1)
-  | inr f ↦ let u : is_load number m ≡ false =
-      ap (λ n. n == number) (sym h.0.0) ∙ f in rw (f, u) (h.0, watched_filter number w path ls ms h.1)
-]
-
-to_kept : (w : Word) (path : List Word) (ls : List WatchedLoad) (ms : List OpenLoad) → AreWatched w path ls ms
-    → AreWatched w (kept_path ls path) ls ms
-to_kept w path [] [] h = tt
-to_kept w path [] (m ∷ ms) h = absurd h
-to_kept w path (l ∷ ls) ms h = h
-
-from_kept : (w : Word) (path : List Word) (ls : List WatchedLoad) (ms : List OpenLoad) → AreWatched w (kept_path ls path) ls ms
-    → AreWatched w path ls ms
-from_kept w path [] [] h = tt
-from_kept w path [] (m ∷ ms) h = absurd h
-from_kept w path (l ∷ ls) ms h = h
-
-kept_on : (ls : List WatchedLoad) (path : List Word) (w : Word) → kept_path ls (path ++ w ∷ []) ≡ path_after ls (kept_path ls path) w
-kept_on [] path w = refl
-kept_on (l ∷ ls) path w = refl
-
-kept_after : (number : ℕ) (ls : List WatchedLoad) (path : List Word) (w : Word)
-    → kept_path (filter (stays number) ls) (path_after ls path w) ≡ path_after (filter (stays number) ls)
-    (kept_path (filter (stays number) ls) path) w
-kept_after number [] path w = refl
-kept_after number (l ∷ ls) path w = kept_on (filter (stays number) (l ∷ ls)) path w
-
-pub leads_without_load : (number : ℕ) {e : Branch} {m : UnitMemory} → Leads e m
-    → Leads (branch_without_load number e) (without_load number m)
-leads_without_load number {e} {m} (now o) =
-    now (record {
-      word = o.word;
-      stores = o.stores;
-      loads =
-          to_kept e.word e.path (filter (stays number) e.loads) (filter (keeps number) m.loads)
-          (watched_filter number e.word e.path e.loads m.loads o.loads);
-    })
-leads_without_load number {e} {m} (later before s after split open_ r) =
-    let d : Branch = effect_of e before s after in
-    let rest : Leads (branch_without_load number d) (without_load number m) = leads_without_load number r in
-    later before s after split open_
-    (subst (λ p. Leads (record { word = d.word; stores = d.stores; loads = filter (stays number) e.loads; path = p })
-    (without_load number m)) (kept_after number e.loads e.path e.word) rest)
-
-each_filter : (P : WatchedLoad → Type 0) (keep : WatchedLoad → Bool) (ls : List WatchedLoad) → Each P ls → Each P (filter keep ls)
-each_filter P keep [] a = tt
-each_filter P keep (l ∷ ls) a = elim (cases_Bool (keep l)) [
-  | inl t ↦ rw t (a.0, each_filter P keep ls a.1)
-  | inr f ↦ rw f (each_filter P keep ls a.1)
-]
-
-timely_kept : (ls : List WatchedLoad) (path : List Word) → Each (λ l. l.since ≤ length path) ls
-    → Each (λ l. l.since ≤ length (kept_path ls path)) ls
-timely_kept [] path a = tt
-timely_kept (l ∷ ls) path a = a
-
-pub timely_without_load : (number : ℕ) (e : Branch) → IsTimely e → IsTimely (branch_without_load number e)
-timely_without_load number e a =
-    timely_kept (filter (stays number) e.loads) e.path (each_filter (λ l. l.since ≤ length e.path) (stays number) e.loads a)
 
 -- What the load may have got. ----
 
@@ -207,7 +134,7 @@ pub sound_without_load : (unit : UnitPlace) (number : ℕ) (bytes : List ℕ) (P
     → Q n
 sound_without_load unit number bytes P Q seen e g sound n o =
     let watched : AreWatched e.word e.path (filter (stays number) e.loads) n.loads =
-    from_kept e.word e.path (filter (stays number) e.loads) n.loads o.loads in
+    watched_before_cut (filter (stays number) e.loads) e n.loads o.loads in
     let r = with_answers unit number bytes e e.loads n.loads g watched in
     let m0 : UnitMemory = record { word = n.word; stores = n.stores; loads = r.0 } in
     let q : Q (without_load number m0) = seen m0 (sound m0 (record { word = o.word; stores = o.stores; loads = r.1 })) r.2 in

@@ -11,11 +11,12 @@ use Rattle.atomic_histories.specs.Law.{OpenLoad, UnitMemory, HiddenStep, MayBe, 
 use Rattle.atomic_histories.specs.Branches.{Branch, first_branch, answered, met, rounds, has_answer, has_effect, branch_without_load, branch_without_store, branch_with_load, branch_with_store, branches_after}
 use Rattle.atomic_histories.specs.Stands.{Each, One, AreWatched, IsOn, Leads, now, IsTimely, StandsFor}
 use Rattle.atomic_histories.proofs.Lists.{one_weaker, one_map, one_each, each_weaker, each_map, each_both}
-use Rattle.atomic_histories.proofs.Same.{new_withs, each_withs}
+use Rattle.atomic_histories.proofs.Same.{covers_shows, new_withs, each_withs}
 use Rattle.atomic_histories.proofs.Steps.{leads_on, timely_effect, sound_effect}
-use Rattle.atomic_histories.proofs.Found.{IsKept, met_sound, met_complete}
+use Rattle.atomic_histories.proofs.Found.{IsKept, kept_timely, met_sound, met_complete}
 use Rattle.atomic_histories.proofs.Events.{leads_with_load, sound_with_load, timely_with_load, leads_with_store, sound_with_store, leads_without_store, sound_without_store}
-use Rattle.atomic_histories.proofs.Answers.{leads_without_load, timely_without_load, answer_on, sound_without_load}
+use Rattle.atomic_histories.proofs.Answers.{answer_on, sound_without_load}
+use Rattle.atomic_histories.proofs.Covered.{leads_shown, leads_without_load, timely_without_load}
 
 abbrev IsSound : (UnitMemory → Type 0) → Branch → Type 0
 IsSound P e = IsTimely e × ((m : UnitMemory) → IsOn e m → P m)
@@ -50,14 +51,21 @@ answered_sound P Q closed goal without f es a =
     each_withs (IsSound Q) [] (map without found) tt (each_map without (IsSound Q) found each)
 
 answered_complete : (goal : Branch → Bool) (without : Branch → Branch) (m n : UnitMemory) → ((x : Branch) → IsOn x m → goal x ≡ true)
-    → ((e : Branch) → goal e ≡ true → Leads e m → Leads (without e) n)
-    → (es : List Branch) → One (λ e. Leads e m) es → One (λ e. Leads e n) (answered goal without es)
+    → ((e : Branch) → IsTimely e → IsTimely (without e))
+    → ((e : Branch) → IsTimely e → goal e ≡ true → Leads e m → Leads (without e) n)
+    → (es : List Branch) → Each IsTimely es → One (λ e. Leads e m) es → One (λ e. Leads e n) (answered goal without es)
 unfolding answered
-answered_complete goal without m n g f es h =
+answered_complete goal without m n g k f es t h =
     let found : List Branch = met (suc (rounds es)) goal [] es in
+    let all : Each (λ e. IsTimely e × (goal e ≡ true)) found = met_sound IsTimely kept_timely (suc (rounds es)) goal [] es tt t in
+    let both : One (λ e. Leads e m × (IsTimely e × (goal e ≡ true))) found =
+    one_each (λ e. Leads e m) (λ e. IsTimely e × (goal e ≡ true)) found (met_complete goal m g es t h) all in
     let one : One (λ e. Leads (without e) n) found =
-    one_weaker (λ e. (goal e ≡ true) × Leads e m) (λ e. Leads (without e) n) (λ e p. f e p.0 p.1) found (met_complete goal m g es h) in
-    new_withs (λ e. Leads e n) [] (map without found) (one_map without (λ e. Leads e n) found one)
+    one_weaker (λ e. Leads e m × (IsTimely e × (goal e ≡ true))) (λ e. Leads (without e) n) (λ e p. f e p.1.0 p.1.1 p.0) found both in
+    let timely : Each IsTimely (map without found) =
+    each_map without IsTimely found (each_weaker (λ e. IsTimely e × (goal e ≡ true)) (λ e. IsTimely (without e)) (λ e p. k e p.0) found all) in
+    new_withs (λ e. Leads e n) (λ x e u c l. leads_shown x u (covers_shows x e c) l) [] (map without found) tt timely
+    (one_map without (λ e. Leads e n) found one)
 
 -- Requests. ----
 
@@ -125,19 +133,19 @@ event_sound unit P Q closed_p closed_q (StoreResponse number) f es a =
     (λ e t g s. (t, sound_without_store number P Q made e g s)) es a
 
 pub event_complete : (unit : UnitPlace) (event : HistoryEvent) (m n : UnitMemory) → seen unit m event ≡ Some n → (es : List Branch)
-    → One (λ e. Leads e m) es → One (λ e. Leads e n) (branches_after unit es event)
-event_complete unit (LoadRequest number address k) m n h es o = requested_load_complete number address (is_at unit address k) m n h es o
-event_complete unit (LoadResponse number bytes) m n h es o =
+    → Each IsTimely es → One (λ e. Leads e m) es → One (λ e. Leads e n) (branches_after unit es event)
+event_complete unit (LoadRequest number address k) m n h es t o = requested_load_complete number address (is_at unit address k) m n h es o
+event_complete unit (LoadResponse number bytes) m n h es t o =
     let p = some_if (may_answer_load unit number bytes.now m.loads) (without_load number m) n h in
     answered_complete (has_answer unit number bytes.now) (branch_without_load number) m n (answer_on unit number bytes.now m p.0)
-    (λ e g l. subst (λ x. Leads (branch_without_load number e) x) p.1 (leads_without_load number l)) es o
-event_complete unit (StoreRequest number address bytes enables) m n h es o =
+    (timely_without_load number) (λ e u g l. subst (λ x. Leads (branch_without_load number e) x) p.1 (leads_without_load number u l)) es t o
+event_complete unit (StoreRequest number address bytes enables) m n h es t o =
     let stored : List (Option ℕ) =
     at_unit unit (stored_byte address bytes.now enables) in requested_store_complete number stored (list_any is_some stored) m n h es o
-event_complete unit (StoreResponse number) m n h es o =
+event_complete unit (StoreResponse number) m n h es t o =
     let p = some_if (may_answer_store number m.stores) (without_store number m) n h in
     answered_complete (has_effect number) (branch_without_store number) m n (λ x on. ap (may_answer_store number) on.stores ∙ p.0)
-    (λ e g l. subst (λ x. Leads (branch_without_store number e) x) p.1 (leads_without_store number e m g l)) es o
+    (λ e u. u) (λ e u g l. subst (λ x. Leads (branch_without_store number e) x) p.1 (leads_without_store number e m g l)) es t o
 
 -- Histories. ----
 
@@ -217,7 +225,7 @@ stands_after start unit es history event s =
     record {
       timely = timely;
       sound = each_weaker (IsSound Q) (λ e. (m : UnitMemory) → IsOn e m → Q m) (λ e h. h.1) ds sound;
-      complete = λ m r. later_complete start unit es ds history event timely s.complete (λ k n e o. event_complete unit event k n e es o)
+      complete = λ m r. later_complete start unit es ds history event timely s.complete (λ k n e o. event_complete unit event k n e es s.timely o)
           (history ++ event ∷ []) m r refl;
     }
 

@@ -1,12 +1,14 @@
 -- The search for the ways on which a goal is met: what it finds was reached by stores that took effect, and it finds each way there.
-use Rattle.std.proofs.Common.{◌≡◌, ℕ, zero, suc, ◌+◌, ◌≤◌, ◌⊎◌, Bool, true, false, List, [], ◌∷◌, ◌++◌, length, max, fold, inl, inr, refl, sym, ap, ◌∙◌, subst, append_assoc, append-nil, arith}
+use Rattle.std.proofs.Common.{◌≡◌, ℕ, zero, suc, ◌+◌, ◌<◌, ◌≤◌, ◌⊎◌, Bool, true, false, List, [], ◌∷◌, ◌++◌, length, max, fold, inl, inr, refl, sym, ap, ◌∙◌, subst, append_assoc, append-nil, arith}
 use Rattle.std.proofs.lemmas.Bool.{cases_Bool}
 use Rattle.atomic_histories.specs.declared.unit.OpenStore.{OpenStore}
 use Rattle.atomic_histories.specs.Law.{UnitMemory, done_store}
 use Rattle.atomic_histories.specs.Branches.{Branch, effect_of, cons_effect, effects_from, effects, with_branch, with_branches, out_of, next_of, out_after, next_after, met, rounds}
-use Rattle.atomic_histories.specs.Stands.{Each, One, IsOn, Leads, now, later}
+use Rattle.atomic_histories.specs.Stands.{Each, One, IsOn, Leads, now, later, IsTimely}
 use Rattle.atomic_histories.proofs.Lists.{one_weaker, one_none, one_or}
-use Rattle.atomic_histories.proofs.Same.{one_with, new_with, each_with, one_withs, new_withs, each_withs}
+use Rattle.atomic_histories.proofs.Steps.{timely_effect}
+use Rattle.atomic_histories.proofs.Covered.{leads_shown}
+use Rattle.atomic_histories.proofs.Same.{IsCarried, covers_shows, one_with, new_with, each_with, one_withs, new_withs, each_withs}
 
 -- The ways on. ----
 
@@ -72,34 +74,54 @@ IsKept S = (e : Branch) (before : List OpenStore) (s : OpenStore) (after : List 
 each_effect : (S : Branch → Type 0) → IsKept S → (e : Branch) → S e → Each S (effects e)
 each_effect S kept e h = each_effect_from S e [] e.stores (λ before s after split o. kept e before s after h split o)
 
+pub kept_timely : IsKept IsTimely
+kept_timely e before s after t split o = timely_effect e before s after t
+
+timely_effects : (e : Branch) → IsTimely e → Each IsTimely (effects e)
+timely_effects e t = each_effect IsTimely kept_timely e t
+
 -- One round. ----
 
-out_keeps : (P : Branch → Type 0) (goal : Branch → Bool) (out es : List Branch) → One P out → One P (out_after goal out es)
-out_keeps P goal out [] h = h
-out_keeps P goal out (e ∷ es) h = elim (cases_Bool (goal e)) [
-  | inl t ↦ rw t (out_keeps P goal (with_branch out e) es (one_with P out e h))
-  | inr f ↦ rw f (out_keeps P goal out es h)
+out_keeps : (P : Branch → Type 0) → IsCarried P → (goal : Branch → Bool) (out es : List Branch) → Each IsTimely es → One P out
+    → One P (out_after goal out es)
+out_keeps P c goal out [] t h = h
+out_keeps P c goal out (e ∷ es) t h = elim (cases_Bool (goal e)) [
+  | inl u ↦ rw u (out_keeps P c goal (with_branch out e) es t.1 (one_with P c out e t.0 h))
+  | inr f ↦ rw f (out_keeps P c goal out es t.1 h)
 ]
 
-out_finds : (P : Branch → Type 0) (goal : Branch → Bool) (out es : List Branch) → One (λ e. (goal e ≡ true) × P e) es
-    → One (λ e. (goal e ≡ true) × P e) (out_after goal out es)
-out_finds P goal out [] h = absurd h
-out_finds P goal out (e ∷ es) (inl p) =
-    rw p.0 (out_keeps (λ x. (goal x ≡ true) × P x) goal (with_branch out e) es (new_with (λ x. (goal x ≡ true) × P x) out e p))
-out_finds P goal out (e ∷ es) (inr h) = out_finds P goal (out_of goal out e) es h
-
-next_keeps : (P : Branch → Type 0) (goal : Branch → Bool) (next es : List Branch) → One P next → One P (fold (next_of goal) next es)
-next_keeps P goal next [] h = h
-next_keeps P goal next (e ∷ es) h = elim (cases_Bool (goal e)) [
-  | inl t ↦ rw t (next_keeps P goal next es h)
-  | inr f ↦ rw f (next_keeps P goal (with_branches next (effects e)) es (one_withs P next (effects e) h))
+timely_out : (goal : Branch → Bool) (out : List Branch) (e : Branch) → Each IsTimely out → IsTimely e → Each IsTimely (out_of goal out e)
+timely_out goal out e t u = elim (cases_Bool (goal e)) [
+  | inl g ↦ rw g (each_with IsTimely out e t u)
+  | inr f ↦ rw f t
 ]
 
-pub next_finds : (P : Branch → Type 0) (goal : Branch → Bool) (next es : List Branch) → One (λ e. (goal e ≡ false) × One P (effects e)) es
+out_finds : (P : Branch → Type 0) → IsCarried P → (goal : Branch → Bool) (out es : List Branch) → Each IsTimely out → Each IsTimely es
+    → One (λ e. (goal e ≡ true) × P e) es → One P (out_after goal out es)
+out_finds P c goal out [] t u h = absurd h
+out_finds P c goal out (e ∷ es) t u (inl p) = rw p.0 (out_keeps P c goal (with_branch out e) es u.1 (new_with P c out e t p.1))
+out_finds P c goal out (e ∷ es) t u (inr h) = out_finds P c goal (out_of goal out e) es (timely_out goal out e t u.0) u.1 h
+
+next_keeps : (P : Branch → Type 0) → IsCarried P → (goal : Branch → Bool) (next es : List Branch) → Each IsTimely es → One P next
     → One P (fold (next_of goal) next es)
-next_finds P goal next [] h = absurd h
-next_finds P goal next (e ∷ es) (inl p) = rw p.0 (next_keeps P goal (with_branches next (effects e)) es (new_withs P next (effects e) p.1))
-next_finds P goal next (e ∷ es) (inr h) = next_finds P goal (next_of goal next e) es h
+next_keeps P c goal next [] t h = h
+next_keeps P c goal next (e ∷ es) t h = elim (cases_Bool (goal e)) [
+  | inl u ↦ rw u (next_keeps P c goal next es t.1 h)
+  | inr f ↦ rw f (next_keeps P c goal (with_branches next (effects e)) es t.1 (one_withs P c next (effects e) (timely_effects e t.0) h))
+]
+
+timely_next : (goal : Branch → Bool) (next : List Branch) (e : Branch) → Each IsTimely next → IsTimely e → Each IsTimely (next_of goal next e)
+timely_next goal next e t u = elim (cases_Bool (goal e)) [
+  | inl g ↦ rw g t
+  | inr f ↦ rw f (each_withs IsTimely next (effects e) t (timely_effects e u))
+]
+
+pub next_finds : (P : Branch → Type 0) → IsCarried P → (goal : Branch → Bool) (next es : List Branch) → Each IsTimely next
+    → Each IsTimely es → One (λ e. (goal e ≡ false) × One P (effects e)) es → One P (fold (next_of goal) next es)
+next_finds P c goal next [] t u h = absurd h
+next_finds P c goal next (e ∷ es) t u (inl p) =
+    rw p.0 (next_keeps P c goal (with_branches next (effects e)) es u.1 (new_withs P c next (effects e) t (timely_effects e u.0) p.1))
+next_finds P c goal next (e ∷ es) t u (inr h) = next_finds P c goal (next_of goal next e) es (timely_next goal next e t u.0) u.1 h
 
 out_sound : (S : Branch → Type 0) (goal : Branch → Bool) (out es : List Branch) → Each (λ e. S e × (goal e ≡ true)) out → Each S es
     → Each (λ e. S e × (goal e ≡ true)) (out_after goal out es)
@@ -127,31 +149,6 @@ met_sound S kept zero goal out es a b = a
 met_sound S kept (suc n) goal out es a b =
     met_sound S kept n goal (out_after goal out es) (next_after goal es) (out_sound S goal out es a b) (next_sound S kept goal [] es tt b)
 
--- within so many steps a way comes to one that meets the goal
-abbrev HasWay : (Branch → Bool) → (Branch → Type 0) → ℕ → Branch → Type 0
-HasWay goal Q zero e = ⊥
-HasWay goal Q (suc n) e = ((goal e ≡ true) × Q e)
-    ⊎ ((goal e ≡ false) ×
-    ((before : List OpenStore) × (s : OpenStore) × (after : List OpenStore) × (e.stores ≡ before ++ s ∷ after) × (s.is_done ≡ false)
-    × HasWay goal Q n (effect_of e before s after)))
-
-met_finds : (goal : Branch → Bool) (Q : Branch → Type 0) (n : ℕ) (out es : List Branch)
-    → One (λ e. (goal e ≡ true) × Q e) out ⊎ One (HasWay goal Q n) es → One (λ e. (goal e ≡ true) × Q e) (met n goal out es)
-met_finds goal Q zero out es (inl h) = h
-met_finds goal Q zero out es (inr h) = absurd (one_none es h)
-met_finds goal Q (suc n) out es (inl h) =
-    met_finds goal Q n (out_after goal out es) (next_after goal es) (inl (out_keeps (λ e. (goal e ≡ true) × Q e) goal out es h))
-met_finds goal Q (suc n) out es (inr h) =
-    let R : Branch → Type 0 = HasWay goal Q n in
-    let split : One (λ e. (goal e ≡ true) × Q e) es ⊎ One (λ e. (goal e ≡ false) × One R (effects e)) es =
-    one_or (λ e. (goal e ≡ true) × Q e) (λ e. (goal e ≡ false) × One R (effects e)) es
-    (one_weaker (HasWay goal Q (suc n)) (λ e. ((goal e ≡ true) × Q e) ⊎ ((goal e ≡ false) × One R (effects e)))
-    (λ e w. elim w [ inl p ↦ inl p | inr p ↦ inr (p.0, one_effect R e p.1.0 p.1.1 p.1.2 p.1.3 p.1.4 p.1.5) ]) es h) in
-    elim split [
-      | inl a ↦ met_finds goal Q n (out_after goal out es) (next_after goal es) (inl (out_finds Q goal out es a))
-      | inr a ↦ met_finds goal Q n (out_after goal out es) (next_after goal es) (inr (next_finds R goal [] es a))
-    ]
-
 -- How many steps. ----
 
 abbrev undone_of : Bool → ℕ
@@ -175,20 +172,6 @@ pub undone_less : (before : List OpenStore) (s : OpenStore) (after : List OpenSt
 undone_less [] s after o = rw o (omega arith)
 undone_less (b ∷ bs) s after o = omega (arith, undone_less bs s after o)
 
-way_of : (goal : Branch → Bool) {e : Branch} {m : UnitMemory} → Leads e m → ((x : Branch) → IsOn x m → goal x ≡ true) → (n : ℕ)
-    → undone e.stores ≤ n → HasWay goal (λ x. Leads x m) (suc n) e
-way_of goal {e} {m} (now o) g n l = inl (g e o, now o)
-way_of goal {e} {m} (later before s after split open_ r) g zero l =
-    let less : undone e.stores ≡ suc (undone (before ++ done_store s ∷ after)) =
-    ap undone split ∙ undone_less before s after open_ in absurd (omega arith)
-way_of goal {e} {m} (later before s after split open_ r) g (suc n) l =
-    let less : undone e.stores ≡ suc (undone (before ++ done_store s ∷ after)) = ap undone split ∙ undone_less before s after open_ in
-    let room : undone (before ++ done_store s ∷ after) ≤ n = omega arith in
-    elim (cases_Bool (goal e)) [
-      | inl t ↦ inl (t, later before s after split open_ r)
-      | inr f ↦ inr (f, (before, s, after, split, open_, way_of goal r g n room))
-    ]
-
 more_rounds : (n : ℕ) (es : List Branch) → n ≤ fold (λ k e. max k (length e.stores)) n es
 more_rounds n [] = omega arith
 more_rounds n (e ∷ es) = let h = more_rounds (max n (length e.stores)) es in omega arith
@@ -199,13 +182,74 @@ one_rounds P n [] h = absurd h
 one_rounds P n (e ∷ es) (inl p) = let h = more_rounds (max n (length e.stores)) es in let l = undone_length e.stores in inl (p, omega arith)
 one_rounds P n (e ∷ es) (inr h) = inr (one_rounds P (max n (length e.stores)) es h)
 
+-- a way that leads to a state, within fewer than so many steps
+abbrev pub LeadsWithin : UnitMemory → ℕ → Branch → Type 0
+LeadsWithin m n e = Leads e m × (undone e.stores < n)
+
+pub carried_within : (m : UnitMemory) (n : ℕ) → IsCarried (LeadsWithin m n)
+carried_within m n f e t h p =
+    let s = covers_shows f e h in
+    (leads_shown f t s p.0, subst (λ ss. undone ss < n) (sym s.stores) p.1)
+
+-- it leads there now, or once a store has taken effect
+pub leads_split : (m : UnitMemory) (n : ℕ) (e : Branch) → LeadsWithin m (suc n) e → IsOn e m ⊎ One (LeadsWithin m n) (effects e)
+leads_split m n e p = split p.0 p.1
+  where
+    split : Leads e m → undone e.stores < suc n → IsOn e m ⊎ One (LeadsWithin m n) (effects e)
+    split (now o) l = inl o
+    split (later before s after is open_ r) l =
+        let less : undone e.stores ≡ suc (undone (before ++ done_store s ∷ after)) = ap undone is ∙ undone_less before s after open_ in
+        inr (one_effect (LeadsWithin m n) e before s after is open_ (r, omega arith))
+
+pub none_within : (m : UnitMemory) (e : Branch) → LeadsWithin m zero e → ⊥
+none_within m e p = let l = p.1 in absurd (omega arith)
+
 -- a way that leads to a state at which the goal is met is found at the first place where it is
+met_finds : (m : UnitMemory) (goal : Branch → Bool) → ((x : Branch) → IsOn x m → goal x ≡ true) → (n : ℕ)
+    → (out es : List Branch) → Each IsTimely out → Each IsTimely es
+    → One (λ e. Leads e m) out ⊎ One (LeadsWithin m n) es → One (λ e. Leads e m) (met n goal out es)
+met_finds m goal g zero out es t u (inl h) = h
+met_finds m goal g zero out es t u (inr h) =
+    absurd (one_none es (one_weaker (LeadsWithin m zero) (λ e. ⊥) (none_within m) es h))
+met_finds m goal g (suc n) out es t u h =
+    let after : Each IsTimely (out_after goal out es) = timely_outs out es t u in
+    let next : Each IsTimely (next_after goal es) = next_sound IsTimely kept_timely goal [] es tt u in
+    let c : IsCarried (λ e. Leads e m) = λ f e v x l. leads_shown f v (covers_shows f e x) l in
+    elim h [
+      | inl o ↦ met_finds m goal g n (out_after goal out es) (next_after goal es) after next
+          (inl (out_keeps (λ e. Leads e m) c goal out es u o))
+      | inr o ↦ elim (one_or (λ e. (goal e ≡ true) × Leads e m) (λ e. (goal e ≡ false) × One (LeadsWithin m n) (effects e)) es
+          (one_weaker (LeadsWithin m (suc n))
+          (λ e. ((goal e ≡ true) × Leads e m) ⊎ ((goal e ≡ false) × One (LeadsWithin m n) (effects e))) either es o)) [
+            | inl a ↦ met_finds m goal g n (out_after goal out es) (next_after goal es) after next
+                (inl (out_finds (λ e. Leads e m) c goal out es t u a))
+            | inr a ↦ met_finds m goal g n (out_after goal out es) (next_after goal es) after next
+                (inr (next_finds (LeadsWithin m n) (carried_within m n) goal [] es tt u a))
+          ]
+    ]
+  where
+    timely_outs : (out es : List Branch) → Each IsTimely out → Each IsTimely es → Each IsTimely (out_after goal out es)
+    timely_outs out [] t u = t
+    timely_outs out (e ∷ es) t u = timely_outs (out_of goal out e) es (timely_out goal out e t u.0) u.1
+
+    either : (e : Branch) → LeadsWithin m (suc n) e
+        → ((goal e ≡ true) × Leads e m) ⊎ ((goal e ≡ false) × One (LeadsWithin m n) (effects e))
+    either e p = elim (cases_Bool (goal e)) [
+      | inl y ↦ inl (y, p.0)
+      | inr f ↦ elim (leads_split m n e p) [
+        | inl o ↦ let x : true ≡ false = sym (g e o) ∙ f in cc
+        | inr o ↦ inr (f, o)
+      ]
+    ]
+
 pub met_complete : (goal : Branch → Bool) (m : UnitMemory) → ((x : Branch) → IsOn x m → goal x ≡ true) → (es : List Branch)
-    → One (λ e. Leads e m) es
-    → One (λ e. (goal e ≡ true) × Leads e m) (met (suc (rounds es)) goal [] es)
-met_complete goal m g es h =
+    → Each IsTimely es → One (λ e. Leads e m) es → One (λ e. Leads e m) (met (suc (rounds es)) goal [] es)
+met_complete goal m g es t h =
     let n : ℕ = rounds es in
-    let ways : One (HasWay goal (λ x. Leads x m) (suc n)) es =
-    one_weaker (λ e. Leads e m × (undone e.stores ≤ n)) (HasWay goal (λ x. Leads x m) (suc n)) (λ e p. way_of goal p.0 g n p.1) es
+    let ways : One (LeadsWithin m (suc n)) es =
+    one_weaker (λ e. Leads e m × (undone e.stores ≤ n)) (LeadsWithin m (suc n)) (λ e p. (p.0, within e p.1)) es
     (one_rounds (λ e. Leads e m) 0 es h) in
-    met_finds goal (λ x. Leads x m) (suc n) [] es (inr ways)
+    met_finds m goal g (suc n) [] es tt t (inr ways)
+  where
+    within : (e : Branch) → undone e.stores ≤ rounds es → undone e.stores < suc (rounds es)
+    within e l = omega arith

@@ -1,7 +1,8 @@
--- lists, ways that are alike, hidden steps on a way, the search for a goal, events, and that the ways are exact
+-- lists, hidden steps on a way, ways that cover others, the search for a goal, events, and that the ways are exact
 pub mod Lists
-pub mod Same
 pub mod Steps
+pub mod Covered
+pub mod Same
 pub mod Found
 pub mod Events
 pub mod Answers

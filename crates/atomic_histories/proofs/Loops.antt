@@ -1,13 +1,15 @@
 -- Steps of the loops over ways.
-use Rattle.std.proofs.Common.{◌≡◌, ℕ, zero, suc, ◌+◌, ◌-◌, ◌<◌, ◌≤◌, nat_lt, Bool, true, false, ◌||◌, ◌==◌, List, [], ◌∷◌, ◌++◌, map, fold, length, take, drop, get_or, set, max, Option, refl, sym, ap, ap₂, ◌∙◌, add-one, take-suc, drop-cons, eqb-true, append_assoc, arith}
+use Rattle.std.proofs.Common.{◌≡◌, ℕ, zero, suc, ◌+◌, ◌-◌, ◌<◌, ◌≤◌, nat_lt, Bool, true, false, ◌&&◌, ◌||◌, ◌==◌, if◌then◌else◌, List, [], ◌∷◌, ◌++◌, map, fold, length, take, drop, get_or, set, max, Option, refl, sym, ap, ◌∙◌, add-one, take-suc, drop-cons, eqb-true, eq-eqb, append_assoc, filter, inl, inr, arith}
 use Rattle.std.specs.List.{list_any}
+use Rattle.std.specs.Cmp.Lexicographic.{pointwise}
+use Rattle.std.proofs.lemmas.Bool.{cases_Bool, lt-ltb, le-ltb}
 use Rattle.std.proofs.lemmas.List.{map-append, set_split, drop_all}
 use Rattle.std.proofs.lemmas.List.Folds.{fold-map}
 use Rattle.atomic_histories.specs.declared.unit.OpenStore.{OpenStore}
 use Rattle.atomic_histories.specs.declared.unit.WatchedLoad.{WatchedLoad}
 use Rattle.atomic_histories.specs.declared.ways.Way.{Way}
 use Rattle.atomic_histories.specs.Law.{done_store}
-use Rattle.atomic_histories.specs.Branches.{Branch, is_same, with_branch, with_branches, is_over, out_after, next_after, cons_effect, effect_of, effects_from, path_after, kept_path, rounds}
+use Rattle.atomic_histories.specs.Branches.{Branch, is_same_pair, covers, with_branch, with_branches, pairs, has_more_words, are_too_many, is_over, out_after, next_after, cons_effect, effect_of, effects_from, path_after, rounds}
 use Rattle.memory_histories.specs.declared.sets.ByteSet.{ByteSet}
 use Rattle.atomic_histories.specs.May.{never, with_ways_bytes, reached_bytes, is_reach_over}
 use Rattle.atomic_histories.specs.Shown.{shown, shown_all}
@@ -19,9 +21,93 @@ pub shown_drop : (ws : List Way) (i : ℕ) (d : Way) → i < length ws
     → shown_all (drop i ws) ≡ shown (get_or ws i d) ∷ shown_all (drop (i + 1) ws)
 shown_drop ws i d h = rw (add-one, drop-cons ws i d h) refl
 
-pub any_shown : (e : Branch) (ws : List Way) → list_any (is_same e) (shown_all ws) ≡ list_any (λ w. is_same e (shown w)) ws
-any_shown e [] = refl
-any_shown e (w ∷ ws) = ap (λ b. is_same e (shown w) || b) (any_shown e ws)
+pub any_shown : (p : Branch → Bool) (ws : List Way) → list_any p (shown_all ws) ≡ list_any (λ w. p (shown w)) ws
+any_shown p [] = refl
+any_shown p (w ∷ ws) = ap (λ b. p (shown w) || b) (any_shown p ws)
+
+pub covered_shown : (e : Branch) (ws : List Way)
+    → list_any (λ f. covers f e) (shown_all ws) ≡ list_any (λ w. covers (shown w) e) ws
+covered_shown e ws = any_shown (λ f. covers f e) ws
+
+pub filter_shown : (p : Branch → Bool) (ws : List Way) → shown_all (filter (λ w. p (shown w)) ws) ≡ filter p (shown_all ws)
+filter_shown p [] = refl
+filter_shown p (w ∷ ws) = elim (cases_Bool (p (shown w))) [
+  | inl t ↦ rw t (ap (λ es. shown w ∷ es) (filter_shown p ws))
+  | inr f ↦ rw f (filter_shown p ws)
+]
+
+-- two lists of one length, element by element
+pub pointwise_more : {X : Type 0} (p : X → X → Bool) (xs ys : List X) (i : ℕ) (d e : X) → i < length xs → length xs ≡ length ys
+    → pointwise p (drop i xs) (drop i ys) ≡ (p (get_or xs i d) (get_or ys i e) && pointwise p (drop (i + 1) xs) (drop (i + 1) ys))
+pointwise_more p xs ys i d e h l =
+    let k : i < length ys = omega arith in rw (add-one, drop-cons xs i d h, drop-cons ys i e k) refl
+
+pub pointwise_all : {X : Type 0} (p : X → X → Bool) (xs ys : List X) (i : ℕ) → length xs ≤ i → length xs ≡ length ys
+    → pointwise p (drop i xs) (drop i ys) ≡ true
+pointwise_all p xs ys i h l = rw (drop_all i xs h, drop_all i ys (omega arith)) refl
+
+pub pointwise_other : {X : Type 0} (p : X → X → Bool) (xs ys : List X) → (length xs == length ys) ≡ false → pointwise p xs ys ≡ false
+pointwise_other p [] [] h = cc
+pointwise_other p [] (y ∷ ys) h = refl
+pointwise_other p (x ∷ xs) [] h = refl
+pointwise_other p (x ∷ xs) (y ∷ ys) h = and_false (p x y) (pointwise p xs ys) (pointwise_other p xs ys (shorter (length xs) (length ys) h))
+  where
+    and_false : (a b : Bool) → b ≡ false → (a && b) ≡ false
+    and_false true b e = e
+    and_false false b e = refl
+
+    shorter : (a b : ℕ) → (suc a == suc b) ≡ false → (a == b) ≡ false
+    shorter a b e = elim (cases_Bool (a == b)) [
+      | inl t ↦ let u : (suc a == suc b) ≡ true = eq-eqb (suc a) (suc b) (ap suc (eqb-true a b t)) in let x : true ≡ false = sym u ∙ e in cc
+      | inr f ↦ f
+    ]
+
+-- the pairs of ways, one way after the other
+pairs_same : (ws : List Way) (w : Way) (i : ℕ) → i < length ws → w ≡ get_or ws i w
+    → list_any (λ v. is_same_pair (shown w) (shown v)) (drop (i + 1) ws) ≡ true
+    → pairs (shown_all (drop i ws)) ≡ pairs (shown_all (drop (i + 1) ws))
+pairs_same ws w i h e t =
+    let same : list_any (is_same_pair (shown w)) (shown_all (drop (i + 1) ws)) ≡ true =
+    any_shown (is_same_pair (shown w)) (drop (i + 1) ws) ∙ t in
+    rw (shown_drop ws i w h, ← e, same) refl
+
+pairs_new : (ws : List Way) (w : Way) (i : ℕ) → i < length ws → w ≡ get_or ws i w
+    → list_any (λ v. is_same_pair (shown w) (shown v)) (drop (i + 1) ws) ≡ false
+    → pairs (shown_all (drop i ws)) ≡ pairs (shown_all (drop (i + 1) ws)) + 1
+pairs_new ws w i h e f =
+    let other : list_any (is_same_pair (shown w)) (shown_all (drop (i + 1) ws)) ≡ false =
+    any_shown (is_same_pair (shown w)) (drop (i + 1) ws) ∙ f in
+    rw (shown_drop ws i w h, ← e, other) refl
+
+-- one more way is counted
+pub pairs_counted : (ws : List Way) (w : Way) (i count next total : ℕ) (among : Bool) → i < length ws → w ≡ get_or ws i w
+    → among ≡ list_any (λ v. is_same_pair (shown w) (shown v)) (drop (i + 1) ws) → next ≡ (if among then count else count + 1)
+    → count + pairs (shown_all (drop i ws)) ≡ total → next + pairs (shown_all (drop (i + 1) ws)) ≡ total
+pairs_counted ws w i count next total true h e a n s = omega (arith, n, s, pairs_same ws w i h e (sym a))
+pairs_counted ws w i count next total false h e a n s = omega (arith, n, s, pairs_new ws w i h e (sym a))
+
+pub count_most : (count next i : ℕ) (among : Bool) → count ≤ i → next ≡ (if among then count else count + 1) → next ≤ i + 1
+count_most count next i true h n = omega (arith, n)
+count_most count next i false h n = omega (arith, n)
+
+pub pairs_all : (ws : List Way) (i : ℕ) → length ws ≤ i → pairs (shown_all (drop i ws)) ≡ 0
+pairs_all ws i h = rw (drop_all i ws h) refl
+
+-- the words before, one way after the other
+pub words_over : (most : ℕ) (ws : List Way) (w : Way) (i : ℕ) → i < length ws → w ≡ get_or ws i w → most < length w.path.items
+    → has_more_words most (shown_all (drop i ws)) ≡ true
+words_over most ws w i h e l =
+    let over : nat_lt most (length w.path.items) ≡ true = lt-ltb most (length w.path.items) l in
+    rw (shown_drop ws i w h, ← e, over) refl
+
+pub words_step : (most : ℕ) (ws : List Way) (w : Way) (i : ℕ) → i < length ws → w ≡ get_or ws i w → length w.path.items ≤ most
+    → has_more_words most (shown_all (drop i ws)) ≡ has_more_words (most - length w.path.items) (shown_all (drop (i + 1) ws))
+words_step most ws w i h e l =
+    let within : nat_lt most (length w.path.items) ≡ false = le-ltb most (length w.path.items) l in
+    rw (shown_drop ws i w h, ← e, within) refl
+
+pub words_all : (most : ℕ) (ws : List Way) (i : ℕ) → length ws ≤ i → has_more_words most (shown_all (drop i ws)) ≡ false
+words_all most ws i h = rw (drop_all i ws h) refl
 
 pub rounds_shown : (ws : List Way) → rounds (shown_all ws) ≡ fold (λ n w. max n (length w.stores.items)) 0 ws
 rounds_shown ws = fold-map (λ n (e : Branch). max n (length e.stores)) shown 0 ws
@@ -47,16 +133,11 @@ pub path_more : (ls : List WatchedLoad) (path : List (List (Option ℕ))) (w : L
 path_more [] path w h = cc
 path_more (l ∷ ls) path w h = refl
 
-pub kept_empty : (ls : List WatchedLoad) (path : List (List (Option ℕ))) → (length ls == 0) ≡ true → kept_path ls path ≡ []
-kept_empty [] path h = refl
-kept_empty (l ∷ ls) path h = absurd (omega (arith, eqb-true (length (l ∷ ls)) 0 h))
-
-pub kept_more : (ls : List WatchedLoad) (path : List (List (Option ℕ))) → (length ls == 0) ≡ false → kept_path ls path ≡ path
-kept_more [] path h = cc
-kept_more (l ∷ ls) path h = refl
-
 pub none_passed : (path : List (List (Option ℕ))) (n : ℕ) → length path ≤ n → drop n path ≡ drop (length path) path
 none_passed path n h = drop_all n path h ∙ sym (drop_all (length path) path (omega arith))
+
+pub ways_passed : (ws : List Way) (n : ℕ) → length ws ≤ n → drop n ws ≡ drop (length ws) ws
+ways_passed ws n h = drop_all n ws h ∙ sym (drop_all (length ws) ws (omega arith))
 
 -- one more way of those that are changed one by one
 pub map_more : (f : Branch → Branch) (after ws : List Way) (w more : Way) (i : ℕ) → i < length ws → w ≡ get_or ws i w
@@ -84,81 +165,46 @@ pub finished : (ss : List OpenStore) (i : ℕ) (d e : OpenStore) → i < length 
 finished ss i d e h =
     set_store ss i (done_store (get_or ss i e)) h ∙ ap (λ s. take i ss ++ done_store s ∷ drop (i + 1) ss) (same_default ss i e d h)
 
-pub shown_length : (ws : List Way) → length (shown_all ws) ≡ length ws
-shown_length [] = refl
-shown_length (w ∷ ws) = ap suc (shown_length ws)
+or_left : (a b : Bool) → a ≡ true → (a || b) ≡ true
+or_left true b h = refl
+or_left false b h = cc
 
-over_true : (limit n : ℕ) (goal : Branch → Bool) (out es : List Branch) → (nat_lt limit (length es) || nat_lt limit (length out)) ≡ true
+or_right : (a b : Bool) → a ≡ false → (a || b) ≡ b
+or_right true b h = cc
+or_right false b h = refl
+
+-- the rounds of a search
+pub over_stop : (limit n : ℕ) (goal : Branch → Bool) (out es : List Branch) → (are_too_many limit es || are_too_many limit out) ≡ true
     → 0 < n → is_over limit n goal out es ≡ true
-over_true limit zero goal out es h p = absurd (omega arith)
-over_true limit (suc n) goal out es h p =
-    or_left (nat_lt limit (length es) || nat_lt limit (length out)) (is_over limit n goal (out_after goal out es) (next_after goal es)) h
-  where
-    or_left : (a b : Bool) → a ≡ true → (a || b) ≡ true
-    or_left true b t = refl
-    or_left false b t = cc
+over_stop limit zero goal out es h p = absurd (omega arith)
+over_stop limit (suc n) goal out es h p =
+    or_left (are_too_many limit es || are_too_many limit out) (is_over limit n goal (out_after goal out es) (next_after goal es)) h
 
-over_false : (limit n : ℕ) (goal : Branch → Bool) (out es : List Branch) → (nat_lt limit (length es) || nat_lt limit (length out)) ≡ false
+pub over_go : (limit n : ℕ) (goal : Branch → Bool) (out es : List Branch) → (are_too_many limit es || are_too_many limit out) ≡ false
     → 0 < n
     → is_over limit n goal out es ≡ is_over limit (n - 1) goal (out_after goal out es) (next_after goal es)
-over_false limit zero goal out es h p = absurd (omega arith)
-over_false limit (suc n) goal out es h p = let e : suc n - 1 ≡ n =
-    omega arith in rw e (or_right (nat_lt limit (length es) || nat_lt limit (length out))
+over_go limit zero goal out es h p = absurd (omega arith)
+over_go limit (suc n) goal out es h p = let e : suc n - 1 ≡ n =
+    omega arith in rw e (or_right (are_too_many limit es || are_too_many limit out)
     (is_over limit n goal (out_after goal out es) (next_after goal es)) h)
-  where
-    or_right : (a b : Bool) → a ≡ false → (a || b) ≡ b
-    or_right true b t = cc
-    or_right false b t = refl
-
-pub over_stop : (limit n : ℕ) (goal : Branch → Bool) (found frontier : List Way)
-    → (nat_lt limit (length frontier) || nat_lt limit (length found)) ≡ true → 0 < n
-    → is_over limit n goal (shown_all found) (shown_all frontier) ≡ true
-over_stop limit n goal found frontier h p =
-    let same : (nat_lt limit (length (shown_all frontier)) || nat_lt limit (length (shown_all found))) ≡ true =
-    ap₂ (λ a b. nat_lt limit a || nat_lt limit b) (shown_length frontier) (shown_length found) ∙ h in
-    over_true limit n goal (shown_all found) (shown_all frontier) same p
-
-pub over_go : (limit n : ℕ) (goal : Branch → Bool) (found frontier : List Way)
-    → (nat_lt limit (length frontier) || nat_lt limit (length found)) ≡ false → 0 < n
-    → is_over limit n goal (shown_all found) (shown_all frontier) ≡ is_over limit (n - 1) goal
-    (out_after goal (shown_all found) (shown_all frontier)) (next_after goal (shown_all frontier))
-over_go limit n goal found frontier h p =
-    let same : (nat_lt limit (length (shown_all frontier)) || nat_lt limit (length (shown_all found))) ≡ false =
-    ap₂ (λ a b. nat_lt limit a || nat_lt limit b) (shown_length frontier) (shown_length found) ∙ h in
-    over_false limit n goal (shown_all found) (shown_all frontier) same p
 
 pub fold_shown : {X : Type 0} (f : X → Branch → X) (x : X) (ws : List Way) → fold f x (shown_all ws) ≡ fold (λ y w. f y (shown w)) x ws
 fold_shown f x ws = fold-map f shown x ws
 
-reach_true : (limit n : ℕ) (es : List Branch) → nat_lt limit (length (next_after never es)) ≡ true → 0 < n → is_reach_over limit n es ≡ true
-reach_true limit zero es h p = absurd (omega arith)
-reach_true limit (suc n) es h p = or_left (nat_lt limit (length (next_after never es))) (is_reach_over limit n (next_after never es)) h
-  where
-    or_left : (a b : Bool) → a ≡ true → (a || b) ≡ true
-    or_left true b t = refl
-    or_left false b t = cc
-
-reach_false : (limit n : ℕ) (es : List Branch) → nat_lt limit (length (next_after never es)) ≡ false → 0 < n
-    → is_reach_over limit n es ≡ is_reach_over limit (n - 1) (next_after never es)
-reach_false limit zero es h p = absurd (omega arith)
-reach_false limit (suc n) es h p = let e : suc n - 1 ≡ n =
-    omega arith in rw e (or_right (nat_lt limit (length (next_after never es))) (is_reach_over limit n (next_after never es)) h)
-  where
-    or_right : (a b : Bool) → a ≡ false → (a || b) ≡ b
-    or_right true b t = cc
-    or_right false b t = refl
-
 -- the ways that are followed to see what a load may get
-pub reach_stop : (limit n : ℕ) (es : List Branch) (next : List Way) → shown_all next ≡ next_after never es
-    → nat_lt limit (length next) ≡ true → 0 < n → is_reach_over limit n es ≡ true
-reach_stop limit n es next e h p = reach_true limit n es (ap (λ k. nat_lt limit k) (ap length (sym e) ∙ shown_length next) ∙ h) p
+pub reach_stop : (limit n : ℕ) (es next : List Branch) → next ≡ next_after never es → are_too_many limit next ≡ true → 0 < n
+    → is_reach_over limit n es ≡ true
+reach_stop limit zero es next e h p = absurd (omega arith)
+reach_stop limit (suc n) es next e h p =
+    or_left (are_too_many limit (next_after never es)) (is_reach_over limit n (next_after never es)) (ap (are_too_many limit) (sym e) ∙ h)
 
-pub reach_go : (limit n : ℕ) (es : List Branch) (next : List Way) → shown_all next ≡ next_after never es
-    → nat_lt limit (length next) ≡ false → 0 < n
-    → is_reach_over limit n es ≡ is_reach_over limit (n - 1) (shown_all next)
-reach_go limit n es next e h p =
-    reach_false limit n es (ap (λ k. nat_lt limit k) (ap length (sym e) ∙ shown_length next) ∙ h) p
-    ∙ ap (is_reach_over limit (n - 1)) (sym e)
+pub reach_go : (limit n : ℕ) (es next : List Branch) → next ≡ next_after never es → are_too_many limit next ≡ false → 0 < n
+    → is_reach_over limit n es ≡ is_reach_over limit (n - 1) next
+reach_go limit zero es next e h p = absurd (omega arith)
+reach_go limit (suc n) es next e h p =
+    let m : suc n - 1 ≡ n = omega arith in
+    rw m (or_right (are_too_many limit (next_after never es)) (is_reach_over limit n (next_after never es))
+    (ap (are_too_many limit) (sym e) ∙ h) ∙ ap (is_reach_over limit n) (sym e))
 
 pub bytes_go : (number k n : ℕ) (set : ByteSet) (es : List Branch) (next : List Branch) → next ≡ next_after never es → 0 < n
     → reached_bytes number k n set es ≡ reached_bytes number k (n - 1) (with_ways_bytes number k set next) next

@@ -1,8 +1,9 @@
 -- The units that bytes lie in, and steps of the loops over units.
-use Rattle.std.proofs.Common.{◌≡◌, ℕ, zero, suc, ◌+◌, ◌-◌, ◌*◌, ◌/◌, ◌%◌, ◌<◌, ◌≤◌, Bool, true, false, ◌&&◌, ◌||◌, not, ◌==◌, if◌then◌else◌, nat_lt, nat_le, List, [], ◌∷◌, ◌++◌, map, length, Option, Some, Result, Ok, Err, IfErr, IsErrAnd, inl, inr, refl, sym, ap, ◌∙◌, subst, ne_eqb, eq-eqb, append_assoc, mul-le-mul_right, mul-le-mul_left, suc-mul, arith}
+use Rattle.std.proofs.Common.{◌≡◌, ℕ, zero, suc, ◌+◌, ◌-◌, ◌*◌, ◌/◌, ◌%◌, ◌<◌, ◌≤◌, true, false, ◌&&◌, not, ◌==◌, if◌then◌else◌, nat_lt, nat_le, List, [], ◌∷◌, ◌++◌, map, length, Option, Some, Result, Ok, Err, IfErr, IsErrAnd, inl, inr, refl, sym, ap, ◌∙◌, subst, ne_eqb, eq-eqb, append_assoc, mul-le-mul_right, mul-le-mul_left, suc-mul, arith}
 use Rattle.std.proofs.Math.Path.{fun_ext}
 use Rattle.std.proofs.lemmas.Bool.{cases_Bool, cases_eq, cases_lt, and_from, lt-ltb, le-ltb, lt-leb, le-leb}
 use Rattle.std.proofs.lemmas.List.{map-append}
+use Rattle.std.proofs.lemmas.Nat.{div-add-mod'}
 use Rattle.memory_histories.specs.declared.events.HistoryEvent.{HistoryEvent}
 use Rattle.memory_histories.specs.declared.events.Rest.{Rest}
 use Rattle.atomic_histories.specs.declared.ways.Way.{Way}
@@ -13,13 +14,16 @@ use Rattle.atomic_histories.specs.declared.memory.AtomicFault.{AtomicFault}
 use Rattle.atomic_histories.specs.declared.memory.AtomicFault.TheVariants.{Refused, Undecided, OutOfMemory}
 use Rattle.atomic_histories.specs.Law.{unit_at}
 use Rattle.atomic_histories.specs.Branches.{Branch, is_too_wide}
-use Rattle.atomic_histories.specs.Held.{Held, first_ways, has_way, covered, unit_after, units_of, ways_after, ways_from, is_stuck, stuck_from, wide_from}
-use Rattle.atomic_histories.specs.Shown.{shown_all}
+use Rattle.atomic_histories.specs.Held.{Held, first_ways, has_way, covered, unit_after, units_of, ways_after, ways_from, is_stuck, stuck_from}
 use Rattle.memory_histories.specs.declared.sets.ByteSet.{ByteSet}
 use Rattle.memory_histories.specs.Sets.{no_bytes}
 use Rattle.atomic_histories.specs.declared.unit.UnitPlace.{UnitPlace}
-use Rattle.atomic_histories.specs.May.{address_of, ways_set, set_at, sets_from, is_reach_wide, are_wide_from, IsNoVerdict}
-use Rattle.atomic_histories.specs.Judge.{bytes_of, shown_unit, kept_or, kept_at, put_from, UnitFaultIs, ChangeFaultIs}
+use Rattle.atomic_histories.specs.May.{address_of, ways_set, set_at, sets_from, is_reach_wide, IsWideByte, IsWideLoad, IsNoVerdict}
+use Rattle.atomic_histories.specs.Shown.{shown_all, StopIs}
+use Rattle.atomic_histories.specs.declared.search.Stop.{Stop}
+use Rattle.atomic_histories.specs.declared.search.Stop.TheVariants.{TooManyWays, NoMemory}
+use Rattle.atomic_histories.specs.declared.unit.Operation.{Operation}
+use Rattle.atomic_histories.specs.Judge.{bytes_of, fault_of, ChangedFaultIs, shown_unit, kept_or, kept_at, put_from, UnitFaultIs, ChangeFaultIs}
 
 pub units_fit : (size : UnitSize) (a n : ℕ) → a < 18446744073709551616
     → (a / bytes_of size + units_of (bytes_of size) a n) * bytes_of size ≤ 18446744073709551616
@@ -83,33 +87,13 @@ stuck_here : (h : Held) (event : HistoryEvent) (k n : ℕ) → 0 < n → is_stuc
 stuck_here h event k zero l t = absurd (omega arith)
 stuck_here h event k (suc n) l t = rw t refl
 
-or_left : (a b : Bool) → a ≡ true → (a || b) ≡ true
-or_left true b h = refl
-or_left false b h = cc
-
-or_right : (a b : Bool) → b ≡ true → (a || b) ≡ true
-or_right true b h = refl
-or_right false b h = h
-
-wide_at : (limit : ℕ) (h : Held) (event : HistoryEvent) (k n j : ℕ) → j < n
-    → is_too_wide limit (unit_at h.size (k + j)) (h.units (k + j)) event ≡ true → wide_from limit h event k n ≡ true
-wide_at limit h event k zero j l t = absurd (omega arith)
-wide_at limit h event k (suc n) zero l t =
-    let here : k + 0 ≡ k = omega arith in
-    or_left (is_too_wide limit (unit_at h.size k) (h.units k) event) (wide_from limit h event (k + 1) n)
-    (subst (λ i. is_too_wide limit (unit_at h.size i) (h.units i) event ≡ true) here t)
-wide_at limit h event k (suc n) (suc j) l t =
-    let next : k + suc j ≡ k + 1 + j = omega arith in
-    or_right (is_too_wide limit (unit_at h.size k) (h.units k) event) (wide_from limit h event (k + 1) n)
-    (wide_at limit h event (k + 1) n j (omega arith) (subst (λ i. is_too_wide limit (unit_at h.size i) (h.units i) event ≡ true) next t))
-
 -- what is said of one unit is said of all of them, if those before it have ways
 pub fault_at : (fault : AtomicFault) (limit : ℕ) (h : Held) (event : HistoryEvent) (from count j : ℕ) → j < count
     → stuck_from h event (from + j) (count - j) ≡ stuck_from h event from count → UnitFaultIs limit h event (from + j) fault
     → ChangeFaultIs limit h event from count fault
 fault_at (Refused cause) limit h event from count j l same f =
     (from + j, sym same ∙ stuck_here h event (from + j) (count - j) (omega arith) f.0, f.1)
-fault_at Undecided limit h event from count j l same f = wide_at limit h event from count j l f
+fault_at (Undecided address) limit h event from count j l same f = (from + j, omega arith, omega arith, f.0, f.1)
 fault_at OutOfMemory limit h event from count j l same f = tt
 
 -- Units that are put one by one, the last first. ----
@@ -221,21 +205,26 @@ sets_more h number a count i sets set l e =
     append_assoc sets (set ∷ []) (sets_from h number a (i + 1) (count - (i + 1)))
     ∙ (ap (λ x. sets ++ x ∷ sets_from h number a (i + 1) (count - (i + 1))) e ∙ ap (λ t. sets ++ t) (sym (sets_step h number a count i l)))
 
-wide_set : (limit : ℕ) (h : Held) (a n from j : ℕ) → j < n → is_reach_wide limit (h.units (address_of a (from + j) / h.size)) ≡ true
-    → are_wide_from limit h a from n ≡ true
-wide_set limit h a zero from j l t = absurd (omega arith)
-wide_set limit h a (suc n) from zero l t =
-    let here : from + 0 ≡ from = omega arith in
-    or_left (is_reach_wide limit (h.units (address_of a from / h.size))) (are_wide_from limit h a (from + 1) n)
-    (subst (λ i. is_reach_wide limit (h.units (address_of a i / h.size)) ≡ true) here t)
-wide_set limit h a (suc n) from (suc j) l t =
-    let next : from + suc j ≡ from + 1 + j = omega arith in
-    or_right (is_reach_wide limit (h.units (address_of a from / h.size))) (are_wide_from limit h a (from + 1) n)
-    (wide_set limit h a n (from + 1) j (omega arith) (subst (λ i. is_reach_wide limit (h.units (address_of a i / h.size)) ≡ true) next t))
+unit_start : (a m : ℕ) → a - a % m ≡ a / m * m
+unit_start a m = minus (a / m * m) (a % m) a (div-add-mod' a m)
+  where
+    minus : (x y a : ℕ) → x + y ≡ a → a - y ≡ x
+    minus x y a e = omega arith
+
+-- a search that was stopped at the unit in which a byte lies
+pub stopped_set : (limit : ℕ) (h : Held) (a : ℕ) (stop : Stop) → StopIs (is_reach_wide limit (h.units (a / h.size))) stop
+    → IsNoVerdict (IsWideByte limit h a) (fault_of stop (a - a % h.size))
+stopped_set limit h a TooManyWays w = (unit_start a h.size, w)
+stopped_set limit h a NoMemory w = tt
+
+-- at the unit that an event touches
+pub stopped_unit : (limit : ℕ) (place : UnitPlace) (es : List Branch) (event : HistoryEvent) (loads : List Operation) (stop : Stop)
+    → StopIs (is_too_wide limit place es event) stop → ChangedFaultIs limit place es event loads (fault_of stop place.first)
+stopped_unit limit place es event loads TooManyWays w = (refl, w)
+stopped_unit limit place es event loads NoMemory w = tt
 
 pub no_set : (fault : AtomicFault) (limit : ℕ) (h : Held) (a n i : ℕ) → i < n
-    → IsNoVerdict (is_reach_wide limit (h.units (address_of a i / h.size))) fault → IsNoVerdict (are_wide_from limit h a 0 n) fault
+    → IsNoVerdict (IsWideByte limit h (address_of a i)) fault → IsNoVerdict (IsWideLoad limit h a n) fault
 no_set (Refused cause) limit h a n i l f = f
-no_set Undecided limit h a n i l f = let here : i ≡ 0 + i =
-    omega arith in wide_set limit h a n 0 i l (subst (λ j. is_reach_wide limit (h.units (address_of a j / h.size)) ≡ true) here f)
+no_set (Undecided address) limit h a n i l f = (i, l, f)
 no_set OutOfMemory limit h a n i l f = tt

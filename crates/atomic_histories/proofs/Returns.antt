@@ -1,5 +1,5 @@
 -- What an open load may return is what the ways show that are followed.
-use Rattle.std.proofs.Common.{◌≡◌, ℕ, zero, suc, ◌+◌, ◌/◌, ◌%◌, ◌<◌, ◌≤◌, ◌⊎◌, ◌↔◌, Bool, true, false, ◌&&◌, ◌||◌, ◌==◌, List, [], ◌∷◌, ◌++◌, map, fold, drop, length, slice_get, Option, Some, None, Result, Ok, Err, IfOk, inl, inr, refl, sym, ap, ◌∙◌, subst, arith}
+use Rattle.std.proofs.Common.{◌≡◌, ℕ, zero, suc, ◌+◌, ◌/◌, ◌%◌, ◌<◌, ◌≤◌, ◌⊎◌, ◌↔◌, Bool, true, false, ◌&&◌, ◌||◌, ◌==◌, List, [], ◌∷◌, map, fold, drop, length, slice_get, Option, Some, None, Result, Ok, Err, IfOk, inl, inr, refl, sym, ap, ◌∙◌, subst, arith}
 use Rattle.std.specs.List.{list_any, find}
 use Rattle.std.proofs.lemmas.Bool.{cases_Bool, and_parts, and_from, lt-ltb}
 use Rattle.memory_histories.specs.declared.events.HistoryEvent.{HistoryEvent}
@@ -7,19 +7,18 @@ use Rattle.memory_histories.specs.declared.events.Rest.{Rest}
 use Rattle.memory_histories.specs.declared.sets.ByteSet.{ByteSet}
 use Rattle.memory_histories.specs.Sets.{has, no_bytes}
 use Rattle.memory_histories.proofs.ByteSets.{has-with_byte, has-no_bytes, has-all_bytes}
-use Rattle.atomic_histories.specs.declared.unit.OpenStore.{OpenStore}
 use Rattle.atomic_histories.specs.declared.unit.Operation.{Operation}
 use Rattle.atomic_histories.specs.declared.unit.WatchedLoad.{WatchedLoad}
 use Rattle.atomic_histories.specs.declared.unit.UnitPlace.{UnitPlace}
 use Rattle.atomic_histories.specs.Operations.{opened_by, has_number}
-use Rattle.atomic_histories.specs.Law.{OpenLoad, UnitMemory, HiddenStep, MayBe, steps, untouched, unit_at, is_load, done_store}
-use Rattle.atomic_histories.specs.Branches.{Branch, effect_of, effects, is_watched, next_after, rounds}
-use Rattle.atomic_histories.specs.Stands.{Each, One, MayHaveGot, IsWatched, AreWatched, IsOn, Leads, now, later, IsTimely, StandsFor}
+use Rattle.atomic_histories.specs.Law.{OpenLoad, UnitMemory, HiddenStep, MayBe, steps, untouched, unit_at, is_load}
+use Rattle.atomic_histories.specs.Branches.{Branch, effects, is_watched, next_after, rounds}
+use Rattle.atomic_histories.specs.Stands.{Each, One, MayHaveGot, IsWatched, AreWatched, IsOn, Leads, IsTimely, StandsFor}
 use Rattle.atomic_histories.specs.Held.{Held, has_way, StandsBut}
-use Rattle.atomic_histories.specs.May.{lane_of, may_show, has_got, got_byte, MayGet, MayReturn, AreSetsOf, never, with_lane, with_words, with_load_bytes, with_way_bytes, with_ways_bytes, reached_bytes, byte_set, set_at, sets_from, address_of, HasSets}
-use Rattle.atomic_histories.proofs.Lists.{one_weaker, each_both}
+use Rattle.atomic_histories.specs.May.{lane_of, may_show, has_got, got_byte, MayGet, MayReturn, AreSetsOf, never, with_lane, with_words, with_load_bytes, with_way_bytes, with_ways_bytes, reached_bytes, byte_set, set_at, sets_from, address_of, HasSets, asks, IsSetOf, byte_of}
+use Rattle.atomic_histories.proofs.Lists.{one_weaker, one_none, one_or, each_both}
 use Rattle.atomic_histories.proofs.Steps.{timely_effect, sound_effect}
-use Rattle.atomic_histories.proofs.Found.{IsKept, next_sound, next_finds, one_effect, undone, undone_less, one_rounds}
+use Rattle.atomic_histories.proofs.Found.{IsKept, kept_timely, next_sound, next_finds, undone, one_rounds, LeadsWithin, carried_within, leads_split, none_within}
 use Rattle.atomic_histories.proofs.Links.{fit_by, found_fit, inside_end}
 
 abbrev Word : Type 0
@@ -229,46 +228,30 @@ loads_show number k b e (l ∷ ls) (m ∷ ms) a h = elim (cases_Bool (got_byte n
       (loads_show number k b e ls ms a.1 (rw f at h))
 ]
 
--- within so many steps a way comes to one that shows it
-abbrev Comes : (Branch → Bool) → ℕ → Branch → Type 0
-Comes p zero e = p e ≡ true
-Comes p (suc n) e = (p e ≡ true)
-    ⊎ ((before : List OpenStore) × (s : OpenStore) × (after : List OpenStore) × (e.stores ≡ before ++ s ∷ after) × (s.is_done ≡ false)
-    × Comes p n (effect_of e before s after))
-
-comes_of : (p : Branch → Bool) {e : Branch} {m : UnitMemory} → Leads e m → ((x : Branch) → IsOn x m → p x ≡ true) → (n : ℕ)
-    → undone e.stores ≤ n → Comes p n e
-comes_of p {e} {m} (now o) g zero l = g e o
-comes_of p {e} {m} (now o) g (suc n) l = inl (g e o)
-comes_of p {e} {m} (later before s after split open_ r) g zero l =
-    let less : undone e.stores ≡ suc (undone (before ++ done_store s ∷ after)) =
-    ap undone split ∙ undone_less before s after open_ in absurd (omega arith)
-comes_of p {e} {m} (later before s after split open_ r) g (suc n) l =
-    let less : undone e.stores ≡ suc (undone (before ++ done_store s ∷ after)) = ap undone split ∙ undone_less before s after open_ in
-    inr (before, s, after, split, open_, comes_of p r g n (omega arith))
-
 one_any : (p : Branch → Bool) (es : List Branch) → One (λ e. p e ≡ true) es → list_any p es ≡ true
 one_any p [] h = absurd h
 one_any p (e ∷ es) (inl t) = or_left_true (p e) (list_any p es) t
 one_any p (e ∷ es) (inr h) = or_right_true (p e) (list_any p es) (one_any p es h)
 
-or_swap : (p : Branch → Bool) (n : ℕ) (es : List Branch) → One (λ e. (p e ≡ true) ⊎ ((never e ≡ false) × One (Comes p n) (effects e))) es
-    → One (λ e. p e ≡ true) es ⊎ One (λ e. (never e ≡ false) × One (Comes p n) (effects e)) es
-or_swap p n [] h = absurd h
-or_swap p n (e ∷ es) (inl (inl a)) = inl (inl a)
-or_swap p n (e ∷ es) (inl (inr b)) = inr (inl b)
-or_swap p n (e ∷ es) (inr h) = elim (or_swap p n es h) [ inl a ↦ inl (inr a) | inr b ↦ inr (inr b) ]
-
-comes_reached : (p : Branch → Bool) (n : ℕ) (es : List Branch) → One (Comes p n) es → (list_any p es || is_reached p n es) ≡ true
-comes_reached p zero es h = or_left_true (list_any p es) false (one_any p es h)
-comes_reached p (suc n) es h =
-    let split : One (λ e. p e ≡ true) es ⊎ One (λ e. (never e ≡ false) × One (Comes p n) (effects e)) es =
-    or_swap p n es (one_weaker (Comes p (suc n)) (λ e. (p e ≡ true) ⊎ ((never e ≡ false) × One (Comes p n) (effects e)))
-    (λ e c. elim c [ inl t ↦ inl t | inr q ↦ inr (refl, one_effect (Comes p n) e q.0 q.1 q.2 q.3 q.4 q.5) ]) es h) in
-    elim split [
+-- a way that leads to a state at which it is shown comes to one that shows it
+leads_reached : (p : Branch → Bool) (m : UnitMemory) → ((x : Branch) → IsOn x m → p x ≡ true) → (n : ℕ) (es : List Branch)
+    → Each IsTimely es → One (LeadsWithin m (suc n)) es → (list_any p es || is_reached p n es) ≡ true
+leads_reached p m g zero es t h =
+    or_left_true (list_any p es) false
+    (one_any p es (one_weaker (LeadsWithin m 1) (λ e. p e ≡ true)
+    (λ e l. elim (leads_split m zero e l) [
+      | inl o ↦ g e o
+      | inr o ↦ absurd (one_none (effects e) (one_weaker (LeadsWithin m zero) (λ x. ⊥) (none_within m) (effects e) o))
+    ]) es h))
+leads_reached p m g (suc n) es t h =
+    let either : One (λ e. (p e ≡ true) ⊎ ((never e ≡ false) × One (LeadsWithin m (suc n)) (effects e))) es =
+    one_weaker (LeadsWithin m (suc (suc n))) (λ e. (p e ≡ true) ⊎ ((never e ≡ false) × One (LeadsWithin m (suc n)) (effects e)))
+    (λ e l. elim (leads_split m (suc n) e l) [ inl o ↦ inl (g e o) | inr o ↦ inr (refl, o) ]) es h in
+    elim (one_or (λ e. p e ≡ true) (λ e. (never e ≡ false) × One (LeadsWithin m (suc n)) (effects e)) es either) [
       | inl a ↦ or_left_true (list_any p es) (is_reached p (suc n) es) (one_any p es a)
       | inr b ↦ or_right_true (list_any p es) (is_reached p (suc n) es)
-          (comes_reached p n (next_after never es) (next_finds (Comes p n) never [] es b))
+          (leads_reached p m g n (next_after never es) (next_sound IsTimely kept_timely never [] es tt t)
+          (next_finds (LeadsWithin m (suc n)) (carried_within m (suc n)) never [] es tt t b))
     ]
 
 -- One unit. ----
@@ -280,6 +263,9 @@ kept_sound P closed e before s after h split o =
 or_either : (a b : Bool) → (a || b) ≡ true → (a ≡ true) ⊎ (b ≡ true)
 or_either true b h = inl refl
 or_either false b h = inr h
+
+within : (a n : ℕ) → a ≤ n → a < suc n
+within a n l = omega arith
 
 unit_set : (image : List ℕ) (rest : Rest) (history : List HistoryEvent) (unit : UnitPlace) (es : List Branch)
     → StandsFor (untouched image rest unit) unit es history → (number k b : ℕ) → b < 256
@@ -294,11 +280,11 @@ unit_set image rest history unit es s number k b l =
         | inr t ↦ reached_got number k b P (kept_sound P closed) (rounds es) es sound t
       ],
       λ g.
-          let way : One (λ e. Leads e g.0 × (undone e.stores ≤ rounds es)) es = one_rounds (λ e. Leads e g.0) 0 es (s.complete g.0 g.1) in
-          let comes : One (Comes (shows number k b) (rounds es)) es =
-          one_weaker (λ e. Leads e g.0 × (undone e.stores ≤ rounds es)) (Comes (shows number k b) (rounds es))
-          (λ e p. comes_of (shows number k b) p.0 (λ x o. loads_show number k b x x.loads g.0.loads o.loads g.2) (rounds es) p.1) es way in
-          same ∙ comes_reached (shows number k b) (rounds es) es comes,
+          let way : One (LeadsWithin g.0 (suc (rounds es))) es =
+          one_weaker (λ e. Leads e g.0 × (undone e.stores ≤ rounds es)) (LeadsWithin g.0 (suc (rounds es)))
+          (λ e p. (p.0, within (undone e.stores) (rounds es) p.1)) es (one_rounds (λ e. Leads e g.0) 0 es (s.complete g.0 g.1)) in
+          same
+          ∙ leads_reached (shows number k b) g.0 (λ x o. loads_show number k b x x.loads g.0.loads o.loads g.2) (rounds es) es s.timely way,
     )
 
 -- All bytes of a load. ----
@@ -315,6 +301,22 @@ set_law h lost history s number a b l = elim (s.units (a / h.size)) [
         λ r. elim r [ inl y ↦ let z : true ≡ false = sym y ∙ p.0 in cc | inr g ↦ rw p.1.1 (u.1 g.1) ],
       )
 ]
+
+-- the answer of a call for one byte, over what is kept and over the history
+pub byte_law : {E : Type 0} (r : Result (Option ByteSet) E) (h : Held) (number a : ℕ) → IfOk r (λ set. set ≡ byte_of h number a)
+    → (lost : List ℕ) (history : List HistoryEvent) → StandsBut h lost history
+    → IfOk r (IsSetOf lost h.image h.rest h.size history number a)
+byte_law (Err e) h number a p lost history s = tt
+byte_law (Ok x) h number a p lost history s = subst (IsSetOf lost h.image h.rest h.size history number a) (sym p) law
+  where
+    opened : find (has_number number) h.opened.loads ≡ find (has_number number) (opened_by history).loads
+    opened = ap (λ o. find (has_number number) o.loads) s.opened
+
+    law : IsSetOf lost h.image h.rest h.size history number a (byte_of h number a)
+    law = elim (cases_Bool (asks (find (has_number number) h.opened.loads) a)) [
+      | inl t ↦ rw t (ap (λ o. asks o a) (sym opened) ∙ t, λ b l. set_law h lost history s number a b l)
+      | inr f ↦ rw f (ap (λ o. asks o a) (sym opened) ∙ f)
+    ]
 
 sets_at : (h : Held) (number a : ℕ) (n from i : ℕ) (set : ByteSet) → slice_get (sets_from h number a from n) i ≡ Some set
     → (i < n) × (set ≡ set_at h number (address_of a (from + i)))

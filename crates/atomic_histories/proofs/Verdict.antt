@@ -109,7 +109,7 @@ pub fault_law_but : (limit : ℕ) (h : Held) (event : HistoryEvent) (e : AtomicF
 fault_law_but limit h event (Refused cause) (inl f) lost history s = malformed lost h event cause f history s
 fault_law_but limit h event (Refused cause) (inr p) lost history s =
     subst (λ c. StepFaultIsBut lost limit h history event (Refused c)) (sym p.1.2) (wrong lost h event p.1.0 p.0 p.1.1 history s)
-fault_law_but limit h event Undecided f lost history s = (ap (λ o. form_fault o event) (sym s.opened) ∙ f.0, f.1)
+fault_law_but limit h event (Undecided address) f lost history s = (ap (λ o. form_fault o event) (sym s.opened) ∙ f.0, f.1)
 fault_law_but limit h event OutOfMemory f lost history s = ap (λ o. form_fault o event) (sym s.opened) ∙ f
 
 pub accepted_but : (r : Result (Unit {0}) AtomicFault) (h next : Held) (event : HistoryEvent) → OnOk r (IsTaken h event next)
@@ -157,7 +157,7 @@ step_fault_all : (limit : ℕ) (h : Held) (history : List HistoryEvent) (event :
     → StepFaultIsBut [] limit h history event e → StepFaultIs limit h history event e
 step_fault_all limit h history event (Refused cause) p =
     (fault_all h.image h.rest h.size history event cause p.0, λ a. p.1 (from_atomic h.image h.rest h.size (history ++ event ∷ []) a))
-step_fault_all limit h history event Undecided p = p
+step_fault_all limit h history event (Undecided address) p = p
 step_fault_all limit h history event OutOfMemory p = p
 
 pub fault_law : (limit : ℕ) (h : Held) (event : HistoryEvent) (e : AtomicFault) → KeptFaultIs limit h event e

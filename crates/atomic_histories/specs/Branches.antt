@@ -1,6 +1,6 @@
 -- How the judge follows a unit: the ways that it may have gone, each with the word that stands there now, the open stores that have
 -- taken effect, and the words that stood there before. Stores take effect only when an answer needs them to.
-use Rattle.std.specs.Prelude.{ℕ, Bool, true, false, ◌&&◌, ◌||◌, not, if◌then◌else◌, ◌==◌, nat_lt, List, [], ◌∷◌, ◌++◌, map, drop, length, Option, is_some, max, zero, suc}
+use Rattle.std.specs.Prelude.{ℕ, Bool, true, false, ◌&&◌, ◌||◌, not, if◌then◌else◌, ◌==◌, nat_lt, ◌+◌, List, [], ◌∷◌, ◌++◌, map, drop, length, Option, is_some, max, min, ◌-◌, zero, suc}
 use Rattle.std.specs.List.{filter, list_all, list_any, fold}
 use Rattle.std.specs.Option.{option_eq}
 use Rattle.std.specs.Cmp.Lexicographic.{pointwise}
@@ -11,6 +11,7 @@ use Rattle.memory_histories.specs.declared.events.Rest.{Rest}
 use Rattle.atomic_histories.specs.declared.unit.OpenStore.{OpenStore}
 use Rattle.atomic_histories.specs.declared.unit.WatchedLoad.{WatchedLoad}
 use Rattle.atomic_histories.specs.declared.unit.UnitPlace.{UnitPlace}
+use Rattle.atomic_histories.specs.declared.search.TheConstants.{MOST_WORDS}
 use Rattle.atomic_histories.specs.Words.{at_unit, initial_byte, stored_byte, is_at, written, is_word_of}
 use Rattle.atomic_histories.specs.Law.{done_store, is_store, may_answer_store}
 
@@ -55,7 +56,7 @@ effects_from e before (s ∷ after) = cons_effect s.is_done (effect_of e before 
 abbrev pub effects : Branch → List Branch
 effects e = effects_from e [] e.stores
 
--- Ways that are alike are followed once. ----
+-- Of two ways one may be enough. ----
 
 abbrev pub is_same_word : List (Option ℕ) → List (Option ℕ) → Bool
 is_same_word a b = pointwise (option_eq ◌==◌) a b
@@ -63,17 +64,27 @@ is_same_word a b = pointwise (option_eq ◌==◌) a b
 abbrev pub is_same_store : OpenStore → OpenStore → Bool
 is_same_store a b = (a.number == b.number) && (is_same_word a.bytes b.bytes && beq a.is_done b.is_done)
 
-abbrev pub is_same_load : WatchedLoad → WatchedLoad → Bool
-is_same_load a b = (a.number == b.number) && ((a.address == b.address) && (a.since == b.since))
+-- whether two ways have come to one pair: the word that stands there, and the open stores, of which the same have taken effect
+abbrev pub is_same_pair : Branch → Branch → Bool
+is_same_pair a b = is_same_word a.word b.word && pointwise is_same_store a.stores b.stores
 
-unfoldable pub is_same : Branch → Branch → Bool
-is_same a b =
-    is_same_word a.word b.word && (pointwise is_same_store a.stores b.stores
-    && (pointwise is_same_load a.loads b.loads && pointwise is_same_word a.path b.path))
+-- whether a word is the one of now or one of those before
+abbrev pub has_stood : List (Option ℕ) → List (List (Option ℕ)) → List (Option ℕ) → Bool
+has_stood word past w = is_same_word word w || list_any (λ v. is_same_word v w) past
 
--- the ways with one more
+-- whether a load is the same, and may have got on one way each word that it may have got on another
+abbrev pub covers_load : Branch → Branch → WatchedLoad → WatchedLoad → Bool
+covers_load f e k l =
+    (k.number == l.number)
+    && ((k.address == l.address) && list_all (λ w. has_stood f.word (drop k.since f.path) w) (drop l.since e.path))
+
+-- whether a way leads wherever another leads, so that nobody has to follow the other
+unfoldable pub covers : Branch → Branch → Bool
+covers f e = is_same_pair f e && pointwise (covers_load f e) f.loads e.loads
+
+-- the ways with one more, without those that are not to be followed
 abbrev pub with_branch : List Branch → Branch → List Branch
-with_branch es e = if list_any (is_same e) es then es else es ++ e ∷ []
+with_branch es e = if list_any (λ f. covers f e) es then es else filter (λ f. not (covers e f)) es ++ e ∷ []
 
 abbrev pub with_branches : List Branch → List Branch → List Branch
 with_branches es more = fold with_branch es more
@@ -98,11 +109,24 @@ abbrev pub met : ℕ → (Branch → Bool) → List Branch → List Branch → L
 met zero goal out es = out
 met (suc n) goal out es = met n goal (out_after goal out es) (next_after goal es)
 
--- whether more ways than the limit have to be followed at a time
+-- how many pairs these ways have come to
+abbrev pub pairs : List Branch → ℕ
+pairs [] = 0
+pairs (e ∷ es) = if list_any (is_same_pair e) es then pairs es else pairs es + 1
+
+-- whether they have more words before than so many, all ways together
+abbrev pub has_more_words : ℕ → List Branch → Bool
+has_more_words most [] = false
+has_more_words most (e ∷ es) = nat_lt most (length e.path) || has_more_words (most - length e.path) es
+
+-- whether these are too many ways to be followed at a time: they have come to more pairs than the limit, or have too many words
+abbrev pub are_too_many : ℕ → List Branch → Bool
+are_too_many limit es = has_more_words MOST_WORDS es || nat_lt limit (pairs es)
+
 abbrev pub is_over : ℕ → ℕ → (Branch → Bool) → List Branch → List Branch → Bool
 is_over limit zero goal out es = false
 is_over limit (suc n) goal out es =
-    (nat_lt limit (length es) || nat_lt limit (length out)) || is_over limit n goal (out_after goal out es) (next_after goal es)
+    (are_too_many limit es || are_too_many limit out) || is_over limit n goal (out_after goal out es) (next_after goal es)
 
 -- how many rounds that takes at most
 abbrev pub rounds : List Branch → ℕ
@@ -124,15 +148,22 @@ has_answer unit number bytes e = list_all (λ l. not (is_watched number l) || ma
 abbrev pub has_effect : ℕ → Branch → Bool
 has_effect number e = may_answer_store number e.stores
 
--- the words that are kept while these loads are open
-abbrev pub kept_path : List WatchedLoad → List (List (Option ℕ)) → List (List (Option ℕ))
-kept_path [] path = []
-kept_path (l ∷ ls) path = path
+-- how many words stood before those that one of these loads may have got, of so many at most
+abbrev pub unseen : ℕ → List WatchedLoad → ℕ
+unseen most ls = fold (λ n l. min n l.since) most ls
+
+-- a load, once the first n words are forgotten
+abbrev pub load_after : ℕ → WatchedLoad → WatchedLoad
+load_after n l = record { number = l.number; address = l.address; since = l.since - n }
+
+-- a way on which these loads are open, without the words that none of them may have got
+abbrev pub cut_to : List WatchedLoad → Branch → Branch
+cut_to ls e =
+    let n = unseen (length e.path) ls in record
+    { word = e.word; stores = e.stores; loads = map (load_after n) ls; path = drop n e.path }
 
 abbrev pub branch_without_load : ℕ → Branch → Branch
-branch_without_load number e =
-    let ls = filter (λ l. not (is_watched number l)) e.loads in record
-    { word = e.word; stores = e.stores; loads = ls; path = kept_path ls e.path }
+branch_without_load number e = cut_to (filter (λ l. not (is_watched number l)) e.loads) e
 
 abbrev pub branch_without_store : ℕ → Branch → Branch
 branch_without_store number e =
@@ -162,7 +193,7 @@ branch_with_store number bytes e =
 unfoldable pub answered : (Branch → Bool) → (Branch → Branch) → List Branch → List Branch
 answered goal without es = with_branches [] (map without (met (suc (rounds es)) goal [] es))
 
--- whether an event needs more ways of a unit than the limit
+-- whether an event needs too many ways of a unit
 abbrev pub needs_more : ℕ → (Branch → Bool) → List Branch → Bool
 needs_more limit goal es = is_over limit (rounds es) goal (out_after goal [] es) (next_after goal es)
 

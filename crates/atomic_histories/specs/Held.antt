@@ -1,5 +1,5 @@
 -- What the judge keeps of all units, and of which histories that is kept.
-use Rattle.std.specs.Prelude.{ℕ, zero, suc, ◌≡◌, ◌+◌, ◌-◌, ◌/◌, ◌≤◌, ◌⊎◌, length, Bool, true, false, ◌&&◌, ◌||◌, not, if◌then◌else◌, ◌==◌, nat_lt, nat_le, List, [], ◌∷◌, min, Option, Some, None}
+use Rattle.std.specs.Prelude.{ℕ, zero, suc, ◌≡◌, ◌+◌, ◌-◌, ◌*◌, ◌/◌, ◌<◌, ◌≤◌, ◌⊎◌, length, Bool, true, false, ◌&&◌, not, if◌then◌else◌, ◌==◌, nat_lt, nat_le, List, [], ◌∷◌, min, Option, Some, None}
 use Rattle.std.specs.List.{list_any, find}
 use Rattle.memory_histories.specs.declared.events.HistoryEvent.{HistoryEvent}
 use Rattle.memory_histories.specs.declared.events.HistoryEvent.TheVariants.{LoadRequest, LoadResponse, StoreRequest, StoreResponse}
@@ -84,13 +84,15 @@ abbrev pub first_stuck : Held → HistoryEvent → Option ℕ
 first_stuck h event =
     let p = covered h.opened event in stuck_from h event (p.0 / h.size) (units_of h.size p.0 p.1)
 
--- whether an event needs more ways than the limit at one of n units from number k on
-abbrev pub wide_from : ℕ → Held → HistoryEvent → ℕ → ℕ → Bool
-wide_from limit h event k zero = false
-wide_from limit h event k (suc n) = is_too_wide limit (unit_at h.size k) (h.units k) event || wide_from limit h event (k + 1) n
+-- an event needs too many ways at the unit that begins at an address, one of n units from number k on
+abbrev pub IsWideFrom : ℕ → Held → HistoryEvent → ℕ → ℕ → ℕ → Type 0
+IsWideFrom limit h event k n address =
+    (j : ℕ) × (k ≤ j) × (j < k + n) × (address ≡ j * h.size) × (is_too_wide limit (unit_at h.size j) (h.units j) event ≡ true)
 
-abbrev pub is_wide : ℕ → Held → HistoryEvent → Bool
-is_wide limit h event = let p = covered h.opened event in wide_from limit h event (p.0 / h.size) (units_of h.size p.0 p.1)
+-- one of those that it touches
+abbrev pub IsWide : ℕ → Held → HistoryEvent → ℕ → Type 0
+IsWide limit h event address =
+    let p = covered h.opened event in IsWideFrom limit h event (p.0 / h.size) (units_of h.size p.0 p.1) address
 
 -- Of which histories it is kept. ----
 

@@ -20,7 +20,7 @@ use Rattle.atomic_histories.specs.Operations.{opened_by, opened_after, has_numbe
 use Rattle.atomic_histories.specs.Branches.{Branch, branches_after, is_too_wide}
 use Rattle.atomic_histories.specs.Law.{IsAtomic, FaultIs, unit_at}
 use Rattle.atomic_histories.specs.Lost.{IsAtomicBut, FaultIsBut}
-use Rattle.atomic_histories.specs.Held.{Held, first_ways, covered, units_of, is_without, ways_from, stuck_from, wide_from, unit_after, first_stuck, is_wide}
+use Rattle.atomic_histories.specs.Held.{Held, first_ways, covered, units_of, is_without, ways_from, stuck_from, IsWideFrom, unit_after, first_stuck, IsWide}
 use Rattle.atomic_histories.specs.Shown.{shown_all}
 
 abbrev pub bytes_of : UnitSize → ℕ
@@ -58,10 +58,10 @@ HasSameMemory h g = (h.image ≡ g.image) × (h.rest ≡ g.rest) × (h.size ≡ 
 abbrev pub limit_of : AtomicMemory → ℕ
 limit_of m = m.limit
 
--- a search that was stopped gives no verdict
-abbrev pub fault_of : Stop → AtomicFault
-fault_of TooManyWays = Undecided
-fault_of NoMemory = OutOfMemory
+-- a search at the unit that begins at an address was stopped: there is no verdict
+abbrev pub fault_of : Stop → ℕ → AtomicFault
+fault_of TooManyWays first = Undecided first
+fault_of NoMemory first = OutOfMemory
 
 -- the place in an answer of the first byte that lies in the unit which begins at an address
 abbrev pub place_from : Option Operation → ℕ → ℕ
@@ -81,7 +81,7 @@ put_from f k (u ∷ us) j = if k == j then Some u else put_from f (k + 1) us j
 abbrev pub ChangedFaultIs : ℕ → UnitPlace → List Branch → HistoryEvent → List Operation → AtomicFault → Type 0
 ChangedFaultIs limit unit es event loads (Refused cause) =
     (is_without es (branches_after unit es event) ≡ true) × (cause ≡ WrongByte (place_in loads event unit.first))
-ChangedFaultIs limit unit es event loads Undecided = is_too_wide limit unit es event ≡ true
+ChangedFaultIs limit unit es event loads (Undecided address) = (address ≡ unit.first) × (is_too_wide limit unit es event ≡ true)
 ChangedFaultIs limit unit es event loads OutOfMemory = Unit {0}
 
 abbrev pub UnitFaultIs : ℕ → Held → HistoryEvent → ℕ → AtomicFault → Type 0
@@ -91,7 +91,7 @@ UnitFaultIs limit h event k fault = ChangedFaultIs limit (unit_at h.size k) (h.u
 abbrev pub ChangeFaultIs : ℕ → Held → HistoryEvent → ℕ → ℕ → AtomicFault → Type 0
 ChangeFaultIs limit h event k n (Refused cause) =
     (j : ℕ) × (stuck_from h event k n ≡ Some j) × (cause ≡ WrongByte (place_in h.opened.loads event (j * h.size)))
-ChangeFaultIs limit h event k n Undecided = wide_from limit h event k n ≡ true
+ChangeFaultIs limit h event k n (Undecided address) = IsWideFrom limit h event k n address
 ChangeFaultIs limit h event k n OutOfMemory = Unit {0}
 
 -- what the units that an event touches have after it, if it is of the law
@@ -124,18 +124,19 @@ KeptFaultIs limit h event (Refused cause) =
     (form_fault h.opened event ≡ Some cause)
     ⊎ ((form_fault h.opened event ≡ None)
     × ((k : ℕ) × (first_stuck h event ≡ Some k) × (cause ≡ WrongByte (place_in h.opened.loads event (k * h.size)))))
-KeptFaultIs limit h event Undecided = (form_fault h.opened event ≡ None) × (is_wide limit h event ≡ true)
+KeptFaultIs limit h event (Undecided address) = (form_fault h.opened event ≡ None) × IsWide limit h event address
 KeptFaultIs limit h event OutOfMemory = form_fault h.opened event ≡ None
 
 abbrev pub StepFaultIs : ℕ → Held → List HistoryEvent → HistoryEvent → AtomicFault → Type 0
 StepFaultIs limit h history event (Refused cause) =
     FaultIs h.image h.rest h.size history event cause × ¬ (IsAtomic h.image h.rest h.size (history ++ event ∷ []))
-StepFaultIs limit h history event Undecided = (form_fault (opened_by history) event ≡ None) × (is_wide limit h event ≡ true)
+StepFaultIs limit h history event (Undecided address) = (form_fault (opened_by history) event ≡ None) × IsWide limit h event address
 StepFaultIs limit h history event OutOfMemory = form_fault (opened_by history) event ≡ None
 
 -- the same once units were forgotten
 abbrev pub StepFaultIsBut : List ℕ → ℕ → Held → List HistoryEvent → HistoryEvent → AtomicFault → Type 0
 StepFaultIsBut lost limit h history event (Refused cause) =
     FaultIsBut lost h.image h.rest h.size history event cause × ¬ (IsAtomicBut lost h.image h.rest h.size (history ++ event ∷ []))
-StepFaultIsBut lost limit h history event Undecided = (form_fault (opened_by history) event ≡ None) × (is_wide limit h event ≡ true)
+StepFaultIsBut lost limit h history event (Undecided address) =
+    (form_fault (opened_by history) event ≡ None) × IsWide limit h event address
 StepFaultIsBut lost limit h history event OutOfMemory = form_fault (opened_by history) event ≡ None

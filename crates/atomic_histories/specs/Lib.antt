@@ -8,4 +8,5 @@ pub mod Held
 pub mod Lost
 pub mod May
 pub mod Judge
+pub mod Faults
 pub mod Examples

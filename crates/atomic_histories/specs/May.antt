@@ -1,5 +1,5 @@
 -- What an open load may return: of each byte for itself.
-use Rattle.std.specs.Prelude.{ℕ, zero, suc, ◌≡◌, ◌+◌, ◌/◌, ◌%◌, ◌<◌, ◌⊎◌, ◌↔◌, min, Bool, true, false, ◌&&◌, ◌||◌, if◌then◌else◌, ◌==◌, nat_lt, List, [], ◌∷◌, drop, length, get_or, Option, Some, None, slice_get}
+use Rattle.std.specs.Prelude.{ℕ, zero, suc, ◌≡◌, ◌+◌, ◌*◌, ◌/◌, ◌%◌, ◌<◌, ◌⊎◌, ◌↔◌, min, Bool, true, false, ◌&&◌, ◌||◌, if◌then◌else◌, ◌==◌, nat_lt, nat_le, List, [], ◌∷◌, drop, length, get_or, Option, Some, None, slice_get}
 use Rattle.std.specs.List.{list_any, fold, find}
 use Rattle.memory_histories.specs.declared.events.HistoryEvent.{HistoryEvent}
 use Rattle.memory_histories.specs.declared.events.HistoryFault.TheVariants.{NotOpen}
@@ -13,7 +13,7 @@ use Rattle.atomic_histories.specs.declared.memory.AtomicFault.{AtomicFault}
 use Rattle.atomic_histories.specs.declared.memory.AtomicFault.TheVariants.{Refused, Undecided, OutOfMemory}
 use Rattle.atomic_histories.specs.Operations.{opened_by, has_number}
 use Rattle.atomic_histories.specs.Law.{OpenLoad, UnitMemory, MayBe, untouched, unit_at, is_load}
-use Rattle.atomic_histories.specs.Branches.{Branch, is_watched, next_after, rounds}
+use Rattle.atomic_histories.specs.Branches.{Branch, is_watched, next_after, rounds, are_too_many}
 use Rattle.atomic_histories.specs.Held.{Held, has_way, is_lost}
 
 -- In the law's words. ----
@@ -55,6 +55,18 @@ pub record AreSetsOf (lost : List ℕ) (image : List ℕ) (rest : Rest) (size : 
   pub exact : (i : ℕ) → (set : ByteSet) → slice_get sets i ≡ Some set → (b : ℕ) → b < 256
       → (has set b ≡ true) ↔ MayReturn lost image rest size history number (load.address + i) b
 
+-- whether a load asks for the byte at an address
+abbrev pub asks : Option Operation → ℕ → Bool
+asks None a = false
+asks (Some o) a = nat_le o.address a && nat_lt a (o.address + o.length)
+
+-- the set of all that may be returned of an address, if the load that is open under this number asks for it
+abbrev pub IsSetOf : List ℕ → List ℕ → Rest → ℕ → List HistoryEvent → ℕ → ℕ → Option ByteSet → Type 0
+IsSetOf lost image rest size history number a None = asks (find (has_number number) (opened_by history).loads) a ≡ false
+IsSetOf lost image rest size history number a (Some set) =
+    (asks (find (has_number number) (opened_by history).loads) a ≡ true)
+    × ((b : ℕ) → b < 256 → (has set b ≡ true) ↔ MayReturn lost image rest size history number a b)
+
 -- On the ways that are followed. ----
 
 abbrev pub never : Branch → Bool
@@ -86,10 +98,10 @@ reached_bytes number k (suc n) set es = let next = next_after never es in reache
 abbrev pub byte_set : ℕ → ℕ → List Branch → ByteSet
 byte_set number k es = reached_bytes number k (rounds es) (with_ways_bytes number k no_bytes es) es
 
--- whether there are more ways than the limit among those that as many stores lead to
+-- whether there are too many ways among those that as many stores lead to
 abbrev pub is_reach_over : ℕ → ℕ → List Branch → Bool
 is_reach_over limit zero es = false
-is_reach_over limit (suc n) es = let next = next_after never es in nat_lt limit (length next) || is_reach_over limit n next
+is_reach_over limit (suc n) es = let next = next_after never es in are_too_many limit next || is_reach_over limit n next
 
 abbrev pub is_reach_wide : ℕ → List Branch → Bool
 is_reach_wide limit es = is_reach_over limit (rounds es) es
@@ -110,22 +122,29 @@ abbrev pub sets_from : Held → ℕ → ℕ → ℕ → ℕ → List ByteSet
 sets_from h number a i zero = []
 sets_from h number a i (suc n) = set_at h number (address_of a i) ∷ sets_from h number a (i + 1) n
 
--- whether the ways of one of its units lead to more than the limit
-abbrev pub are_wide_from : ℕ → Held → ℕ → ℕ → ℕ → Bool
-are_wide_from limit h a i zero = false
-are_wide_from limit h a i (suc n) = is_reach_wide limit (h.units (address_of a i / h.size)) || are_wide_from limit h a (i + 1) n
+-- the ways lead to too many at the unit that begins at an address, in which byte a lies
+abbrev pub IsWideByte : ℕ → Held → ℕ → ℕ → Type 0
+IsWideByte limit h a address = (address ≡ a / h.size * h.size) × (is_reach_wide limit (h.units (a / h.size)) ≡ true)
+
+-- in which one of n bytes from a on lies
+abbrev pub IsWideLoad : ℕ → Held → ℕ → ℕ → ℕ → Type 0
+IsWideLoad limit h a n address = (i : ℕ) × (i < n) × IsWideByte limit h (address_of a i) address
 
 -- why there are no sets
 abbrev pub LoadFaultIs : ℕ → Held → Option Operation → AtomicFault → Type 0
 LoadFaultIs limit h load (Refused cause) = (load ≡ None) × (cause ≡ NotOpen)
-LoadFaultIs limit h load Undecided = (o : Operation) × (load ≡ Some o) × (are_wide_from limit h o.address 0 o.length ≡ true)
+LoadFaultIs limit h load (Undecided address) = (o : Operation) × (load ≡ Some o) × IsWideLoad limit h o.address o.length address
 LoadFaultIs limit h load OutOfMemory = (o : Operation) × (load ≡ Some o)
 
--- there is no verdict: more ways than the limit were needed, or there was too little memory
-abbrev pub IsNoVerdict : Bool → AtomicFault → Type 0
-IsNoVerdict wide (Refused cause) = ⊥
-IsNoVerdict wide Undecided = wide ≡ true
-IsNoVerdict wide OutOfMemory = Unit {0}
+-- there is no verdict: too many ways were needed at a unit, or there was too little memory
+abbrev pub IsNoVerdict : (ℕ → Type 0) → AtomicFault → Type 0
+IsNoVerdict IsWideAt (Refused cause) = ⊥
+IsNoVerdict IsWideAt (Undecided address) = IsWideAt address
+IsNoVerdict IsWideAt OutOfMemory = Unit {0}
+
+-- the set of the byte at an address, if the load that is open under this number asks for it
+abbrev pub byte_of : Held → ℕ → ℕ → Option ByteSet
+byte_of h number a = if asks (find (has_number number) h.opened.loads) a then Some (set_at h number a) else None
 
 -- the sets of the load that is open under this number
 abbrev pub HasSets : Held → ℕ → List ByteSet → Type 0

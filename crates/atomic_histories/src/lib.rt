@@ -4,6 +4,7 @@
 //! operations take effect, come between the events.
 #![tactic(auto)]
 
+mod faults;
 mod forms;
 mod may;
 mod memory;
@@ -14,6 +15,6 @@ mod ways;
 mod words;
 
 pub use memory::{AtomicFault, AtomicMemory, DEFAULT_LIMIT, KeptUnit, UnitSize};
-pub use search::Stop;
+pub use search::{MOST_WORDS, Stop};
 pub use unit::{OpenStore, Operation, UnitPlace, WatchedLoad, Word};
 pub use ways::{Wanted, Way};

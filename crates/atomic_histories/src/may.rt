@@ -7,7 +7,7 @@ ghost use Rattle.atomic_histories.specs.Branches.{next_after, rounds};
 ghost use Rattle.atomic_histories.specs.May.{never, with_lane, with_words, with_load_bytes, with_way_bytes, with_ways_bytes, reached_bytes, byte_set, is_reach_over, is_reach_wide, ways_set, lane_of};
 ghost use Rattle.atomic_histories.specs.Shown.{shown, shown_all, StopIs};
 
-use crate::search::{Stop, copied, round, rounds};
+use crate::search::{Stop, are_too_many, copied, round, rounds};
 use crate::unit::{WatchedLoad, Word};
 use crate::ways::{Wanted, Way, is_watched, words_from};
 use memory_histories::ByteSet;
@@ -74,8 +74,8 @@ fn ways_on(alloc: Global, ways: &[Way]) -> Result<Vec<Way>, AllocError>
     round(alloc, ways, Wanted::Never, &mut out)
 }
 
-// What the load under this number may get in a lane, on these ways and on those that stores lead to: no
-// more than `limit` ways are followed at a time.
+// What the load under this number may get in a lane, on these ways and on those that stores lead to: not
+// too many ways are followed at a time.
 #[tactic(auto, using(crate::proofs::Loops::reach_stop, crate::proofs::Loops::reach_go, crate::proofs::Loops::bytes_go))]
 fn byte_set(
     alloc: Global,
@@ -93,7 +93,7 @@ fn byte_set(
     let mut frontier = copied(alloc, ways)?;
     while left > 0 {
         let next = ways_on(alloc, frontier.as_slice())?;
-        if limit < next.len() {
+        if are_too_many(next.as_slice(), limit) {
             return Err(Stop::TooManyWays);
         }
         set = with_ways(set, next.as_slice(), number, lane);

@@ -8,8 +8,8 @@ ghost use Rattle.atomic_histories.specs.Operations.{opened_after, form_fault, ha
 ghost use Rattle.atomic_histories.specs.Law.{IsAtomic};
 ghost use Rattle.atomic_histories.specs.Lost.{IsAtomicBut};
 ghost use Rattle.atomic_histories.specs.Held.{nothing_held, covered, ways_after, ways_from, is_stuck, stuck_from, StandsForAll, StandsBut};
-ghost use Rattle.atomic_histories.specs.May.{AreSetsOf, HasSets, address_of, LoadFaultIs, IsNoVerdict, set_at, sets_from, are_wide_from, is_reach_wide};
-ghost use Rattle.atomic_histories.specs.Judge.{bytes_of, held, limit_of, shown_unit, HasSameMemory, IsTaken, IsForgotten, IsLeft, UnitFaultIs, ChangeFaultIs, KeptFaultIs, StepFaultIs, StepFaultIsBut};
+ghost use Rattle.atomic_histories.specs.May.{asks, AreSetsOf, IsSetOf, HasSets, byte_of, address_of, LoadFaultIs, IsNoVerdict, IsWideByte, IsWideLoad, set_at, sets_from};
+ghost use Rattle.atomic_histories.specs.Judge.{bytes_of, fault_of, held, limit_of, shown_unit, HasSameMemory, IsTaken, IsForgotten, IsLeft, UnitFaultIs, ChangeFaultIs, KeptFaultIs, StepFaultIs, StepFaultIsBut};
 
 use crate::forms::{close, form_fault, open_under};
 use crate::may::ways_set;
@@ -22,9 +22,9 @@ use crate::ways::Way;
 use memory_histories::{ByteSet, HistoryEvent, HistoryFault, Rest};
 use std::alloc::{AllocError, Global};
 use std::collections::HashMap;
-use thiserror::Error;
 
-/// How many ways are followed at a unit, unless the caller says otherwise.
+/// To how many pairs of a word and the stores in effect ways are followed at a unit, unless the caller
+/// says otherwise.
 pub const DEFAULT_LIMIT: usize = 4096;
 
 /// How many bytes a unit of memory has: at each aligned unit an operation takes effect at one moment.
@@ -57,16 +57,15 @@ pub struct KeptUnit {
 }
 
 /// Why an event was not taken. After each of these what is kept stands for the same histories as before.
-#[derive(Clone, Copy, PartialEq, Eq, Debug, Error)]
+#[derive(Clone, Copy, PartialEq, Eq, Debug)]
 pub enum AtomicFault {
     /// The history with this event is none of the law.
-    #[error("the event is none of the law: {0:?}")]
     Refused(HistoryFault),
-    /// More ways would have to be followed at a unit than the limit allows: there is no verdict.
-    #[error("undecided: too many ways")]
-    Undecided,
+    /// Too many ways would have to be followed at the unit that begins at this address: there is no
+    /// verdict. They would come to more pairs of a word and the stores in effect than the limit, or have
+    /// more words before now than [`MOST_WORDS`](crate::MOST_WORDS).
+    Undecided { address: u64 },
     /// There was too little memory.
-    #[error("out of memory")]
     OutOfMemory,
 }
 
@@ -81,17 +80,13 @@ impl From<AllocError> for AtomicFault {
     }
 }
 
-impl From<Stop> for AtomicFault {
-    ghost use Rattle.atomic_histories.specs.Judge.{fault_of};
-    ghost use Rattle.std.specs.Prelude.{◌≡◌};
-
-    ghost from_gives = { λ e f. f ≡ fault_of e };
-
-    fn from(stop: Stop) -> AtomicFault {
-        match stop {
-            Stop::TooManyWays => AtomicFault::Undecided,
-            Stop::NoMemory => AtomicFault::OutOfMemory,
-        }
+// A search at the unit that begins there was stopped.
+pub(crate) fn fault_of(stop: Stop, first: u64) -> AtomicFault
+    ensures { result ≡ fault_of stop first }
+{
+    match stop {
+        Stop::TooManyWays => AtomicFault::Undecided { address: first },
+        Stop::NoMemory => AtomicFault::OutOfMemory,
     }
 }
 
@@ -111,7 +106,8 @@ pub struct AtomicMemory {
 #[tactic(auto)]
 impl AtomicMemory {
     /// Memory before the first event, of units of this size. The image is the bytes from address 0 on,
-    /// and `rest` says what stands beyond it. At most `limit` ways are followed at a unit.
+    /// and `rest` says what stands beyond it. At a unit ways to at most `limit` pairs of a word and the
+    /// stores in effect are followed at a time.
     /// `AllocError` says that there was too little memory: nothing is made.
     pub fn new(
         alloc: Global,
@@ -187,13 +183,34 @@ impl AtomicMemory {
     /// the order of its answer, the set of all. Each set is of its byte alone: that one byte may be
     /// returned and another may be returned doesn't say that they may be returned together.
     ///
-    /// `Refused` has the cause `NotOpen`: no load is open under the number. `Undecided`: the ways lead to
-    /// more ways than the limit at a time, and nothing is known of the sets.
+    /// `Refused` has the cause `NotOpen`: no load is open under the number. `Undecided`: the ways of the
+    /// unit that begins at its address lead to too many at a time, and nothing is known of the sets.
     pub fn may_return(&self, number: u64) -> Result<Vec<ByteSet>, AtomicFault>
         ensures ok { (lost : List ℕ) → (history : List HistoryEvent) → StandsBut (held self.now) lost history → IfOk result (λ sets. AreSetsOf lost (held self.now).image (held self.now).rest (held self.now).size history number sets.items) }
         ensures fault { IfErr result (LoadFaultIs (limit_of self.now) (held self.now) (find (has_number number) (held self.now).opened.loads)) }
     {
         self.kept_sets(number)
+    }
+
+    /// The same of one byte: what the load that is open under this number may return for the byte at an
+    /// address if it ended now, or `None` if no such load asks for that byte. `Undecided` is as there, and
+    /// `Refused` never comes.
+    pub fn byte_may_return(&self, number: u64, address: u64) -> Result<Option<ByteSet>, AtomicFault>
+        ensures ok { (lost : List ℕ) → (history : List HistoryEvent) → StandsBut (held self.now) lost history → IfOk result (IsSetOf lost (held self.now).image (held self.now).rest (held self.now).size history number address) }
+        ensures fault { IfErr result (IsNoVerdict (IsWideByte (limit_of self.now) (held self.now) address)) }
+    {
+        self.kept_byte(number, address)
+    }
+
+    fn kept_byte(&self, number: u64, address: u64) -> Result<Option<ByteSet>, AtomicFault>
+        ensures ok { IfOk result (λ set. set ≡ byte_of (held self.now) number address) }
+        ensures fault { IfErr result (IsNoVerdict (IsWideByte (limit_of self.now) (held self.now) address)) }
+    {
+        if !asks(open_under(self.loads.as_slice(), number), address) {
+            return Ok(None);
+        }
+        let set = self.set_at(number, address)?;
+        Ok(Some(set))
     }
 
     fn kept_sets(&self, number: u64) -> Result<Vec<ByteSet>, AtomicFault>
@@ -215,7 +232,7 @@ impl AtomicMemory {
         length: usize,
     ) -> Result<Vec<ByteSet>, AtomicFault>
         ensures sets { IfOk result (λ sets. sets.items ≡ sets_from (held self.now) number address 0 length) }
-        ensures fault { IfErr result (IsNoVerdict (are_wide_from (limit_of self.now) (held self.now) address 0 length)) }
+        ensures fault { IfErr result (IsNoVerdict (IsWideLoad (limit_of self.now) (held self.now) address length)) }
     {
         let mut sets = Vec::new(self.alloc);
         for i in 0..length {
@@ -226,16 +243,19 @@ impl AtomicMemory {
     }
 
     // Of the byte at an address.
-    #[tactic(auto, using(crate::proofs::Ranges::lane_below, crate::proofs::Ranges::untouched_set))]
+    #[tactic(auto, using(crate::proofs::Ranges::lane_below, crate::proofs::Ranges::untouched_set, crate::proofs::Ranges::stopped_set))]
     fn set_at(&self, number: u64, address: u64) -> Result<ByteSet, AtomicFault>
         ensures set { IfOk result (λ set. set ≡ set_at (held self.now) number address) }
-        ensures fault { IfErr result (IsNoVerdict (is_reach_wide (limit_of self.now) ((held self.now).units (address / (held self.now).size)))) }
+        ensures fault { IfErr result (IsNoVerdict (IsWideByte (limit_of self.now) (held self.now) address)) }
     {
-        let lane = (address % self.size.bytes()) as usize;
+        let place = address % self.size.bytes();
+        let lane = place as usize;
         match self.units.get(&(address / self.size.bytes())) {
             Some(unit) => {
-                let set = ways_set(self.alloc, unit.ways.as_slice(), number, lane, self.limit)?;
-                Ok(set)
+                match ways_set(self.alloc, unit.ways.as_slice(), number, lane, self.limit) {
+                    Ok(set) => Ok(set),
+                    Err(stop) => Err(fault_of(stop, address.saturating_sub(place))),
+                }
             }
             None => Ok(ByteSet::none()),
         }
@@ -401,6 +421,19 @@ impl AtomicMemory {
             HistoryEvent::StoreResponse { number } => close(&mut self.stores, number),
         }
         Ok(())
+    }
+}
+
+// Whether a load asks for the byte at an address.
+fn asks(load: Option<Operation>, address: u64) -> bool
+    ensures { result ≡ asks load address }
+{
+    match load {
+        None => false,
+        Some(load) => {
+            load.address <= address
+                && u128::from(address) < u128::from(load.address) + load.length as u128
+        }
     }
 }
 

@@ -1,8 +1,8 @@
 //! Lists of the ways that a unit may have gone, and what events make of them.
 
-ghost use Rattle.std.specs.Prelude.{◌≡◌, ◌||◌, [], suc, map, length, nat_lt, IfOk, IfErr, OnOk};
-ghost use Rattle.std.specs.List.{list_any};
-ghost use Rattle.atomic_histories.specs.Branches.{with_branch, is_same, with_branches, effects, out_after, next_after, met, rounds, answered, needs_more, is_too_wide, branch_with_load, branch_with_store, branches_after};
+ghost use Rattle.std.specs.Prelude.{◌≡◌, ◌||◌, ◌+◌, ◌<◌, ◌^◌, if◌then◌else◌, [], suc, map, drop, length, not, IfOk, IfErr, OnOk};
+ghost use Rattle.std.specs.List.{filter, list_any};
+ghost use Rattle.atomic_histories.specs.Branches.{with_branch, is_same_pair, covers, pairs, has_more_words, are_too_many, with_branches, effects, out_after, next_after, met, rounds, answered, needs_more, is_too_wide, branch_with_load, branch_with_store, branches_after};
 ghost use Rattle.atomic_histories.specs.Shown.{shown, shown_all, goal_of, without_of, StopIs};
 
 use crate::unit::{UnitPlace, Word};
@@ -11,10 +11,15 @@ use crate::words::{has_byte, is_at, stored_word};
 use memory_histories::HistoryEvent;
 use std::alloc::{AllocError, Global};
 
+/// How many words that stood in a unit before now are kept at a time, on all ways that it may have gone
+/// together. A word is kept while a load is open that may have got it.
+pub const MOST_WORDS: usize = 65_536;
+
 /// Why there is no verdict.
 #[derive(Clone, Copy, PartialEq, Eq, Debug)]
 pub enum Stop {
-    /// More ways would have to be followed than the limit allows.
+    /// More pairs of a word and the stores in effect would have to be followed than the limit allows, or
+    /// more words before now be kept than [`MOST_WORDS`].
     TooManyWays,
     /// There was too little memory.
     NoMemory,
@@ -31,19 +36,27 @@ impl From<AllocError> for Stop {
     }
 }
 
-// Whether one of these ways is the same.
-fn has_same(ways: &[Way], way: &Way) -> bool
-    ensures { result ≡ list_any (λ w. is_same (shown way.now) (shown w)) ways.now }
+// Whether one of these ways leads wherever this one leads.
+fn is_covered(ways: &[Way], way: &Way) -> bool
+    ensures { result ≡ list_any (λ w. covers (shown w) (shown way.now)) ways.now }
 {
-    ways.iter().any(|other| way.is_same(other))
+    ways.iter().any(|other| other.covers(way))
 }
 
-// One more way, unless it is there.
-#[tactic(auto, using(crate::proofs::Loops::any_shown, crate::proofs::Loops::shown_push))]
+// Those of the ways that lead elsewhere than this one.
+fn keep_others(ways: &mut Vec<Way>, way: &Way)
+    ensures { shown_all ways.new.items ≡ filter (λ f. not (covers (shown way.now) f)) (shown_all ways.old.items) }
+{
+    ways.retain(|other| !way.covers(other));
+}
+
+// One more way, if it leads anywhere else, in place of those that lead nowhere else.
+#[tactic(auto, using(crate::proofs::Loops::covered_shown, crate::proofs::Loops::shown_push))]
 fn add_way(ways: &mut Vec<Way>, way: Way) -> Result<(), AllocError>
     ensures { OnOk result (shown_all ways.new.items ≡ with_branch (shown_all ways.old.items) (shown way)) }
 {
-    if !has_same(ways.as_slice(), &way) {
+    if !is_covered(ways.as_slice(), &way) {
+        keep_others(ways, &way);
         ways.push(way)?;
     }
     Ok(())
@@ -93,15 +106,71 @@ pub(crate) fn rounds(ways: &[Way]) -> usize
     ways.iter().fold(0, |most, way| most.max(way.stores.len()))
 }
 
-// Whether more ways than the limit are to be followed.
-fn exceeds(limit: usize, frontier: &[Way], found: &[Way]) -> bool
-    ensures { result ≡ (nat_lt limit (length frontier.now) || nat_lt limit (length found.now)) }
+// Whether one of these ways has come to the same pair as this one.
+fn has_same_pair(ways: &[Way], way: &Way) -> bool
+    ensures { result ≡ list_any (λ w. is_same_pair (shown way.now) (shown w)) ways.now }
 {
-    limit < frontier.len() || limit < found.len()
+    ways.iter().any(|other| way.is_same_pair(other))
 }
 
-// From these ways on stores take effect, until what is wanted is met: no more than `limit` ways are
-// followed at a time.
+// The ways from one on.
+#[tactic(auto, using(crate::proofs::Loops::ways_passed))]
+fn ways_from(ways: &[Way], from: usize) -> &[Way]
+    ensures { result.now ≡ drop from ways.entry.now }
+{
+    if from <= ways.len() {
+        &ways[from..]
+    } else {
+        &ways[ways.len()..]
+    }
+}
+
+// A count with one more, unless it is counted among the others.
+fn count_with(count: usize, is_among: bool) -> usize
+    requires { count + 1 < 2 ^ 64 }
+    ensures { result ≡ (if is_among then count else count + 1) }
+{
+    if is_among { count } else { count + 1 }
+}
+
+// How many pairs these ways have come to.
+#[tactic(auto, using(crate::proofs::Loops::pairs_all))]
+fn pairs(ways: &[Way]) -> usize
+    ensures { result ≡ pairs (shown_all ways.now) }
+{
+    let mut count = 0;
+    for (i, way) in ways.iter().enumerate() {
+        let is_among = has_same_pair(ways_from(ways, i + 1), way);
+        let next = count_with(count, is_among);
+        count = next;
+    }
+    count
+}
+
+// Whether all ways together have more words before than so many.
+#[tactic(auto, using(crate::proofs::Loops::words_over, crate::proofs::Loops::words_step, crate::proofs::Loops::words_all))]
+fn has_more_words(ways: &[Way], most: usize) -> bool
+    ensures { result ≡ has_more_words most (shown_all ways.now) }
+{
+    let mut left = most;
+    for way in ways {
+        if left < way.path.len() {
+            return true;
+        }
+        left -= way.path.len();
+    }
+    false
+}
+
+// Whether these are too many ways to be followed at a time.
+pub(crate) fn are_too_many(ways: &[Way], limit: usize) -> bool
+    ensures { result ≡ are_too_many limit (shown_all ways.now) }
+{
+    has_more_words(ways, MOST_WORDS) || limit < pairs(ways)
+}
+
+// From these ways on stores take effect, until what is wanted is met: not too many ways are followed at
+// a time.
 #[tactic(auto, using(crate::proofs::Loops::over_stop, crate::proofs::Loops::over_go))]
 fn search(alloc: Global, ways: &[Way], wanted: Wanted, limit: usize) -> Result<Vec<Way>, Stop>
     ensures found { IfOk result (λ found. shown_all found.items ≡ met (suc (rounds (shown_all ways.now))) (goal_of wanted.entry) [] (shown_all ways.now)) }
@@ -111,7 +180,7 @@ fn search(alloc: Global, ways: &[Way], wanted: Wanted, limit: usize) -> Result<V
     let mut left = rounds(ways);
     let mut frontier = round(alloc, ways, wanted, &mut found)?;
     while left > 0 {
-        if exceeds(limit, frontier.as_slice(), found.as_slice()) {
+        if are_too_many(frontier.as_slice(), limit) || are_too_many(found.as_slice(), limit) {
             return Err(Stop::TooManyWays);
         }
         let next = round(alloc, frontier.as_slice(), wanted, &mut found)?;

@@ -8,7 +8,7 @@ ghost use Rattle.atomic_histories.specs.Held.{bytes_of_open, covered, units_of, 
 ghost use Rattle.atomic_histories.specs.Judge.{bytes_of, place_from, place_in, put_from, shown_unit, ChangedFaultIs};
 
 use crate::forms::open_under;
-use crate::memory::{AtomicFault, KeptUnit, UnitSize};
+use crate::memory::{AtomicFault, KeptUnit, UnitSize, fault_of};
 use crate::search::ways_after;
 use crate::unit::{Operation, UnitPlace};
 use crate::ways::Way;
@@ -85,6 +85,7 @@ pub(crate) fn add_unit(units: &mut Vec<KeptUnit>, unit: KeptUnit) -> Result<(), 
 }
 
 // The ways of a unit, once an event has come.
+#[tactic(auto, using(crate::proofs::Ranges::stopped_unit))]
 pub(crate) fn changed_unit(
     alloc: Global,
     place: UnitPlace,
@@ -97,7 +98,10 @@ pub(crate) fn changed_unit(
     ensures left { OnOk result (is_without (shown_unit unit.now) (branches_after place (shown_unit unit.now) event.entry) ≡ false) }
     ensures fault { IfErr result (ChangedFaultIs limit place (shown_unit unit.now) event.entry loads.now) }
 {
-    let ways = ways_after(alloc, place, unit.ways.as_slice(), event, limit)?;
+    let ways = match ways_after(alloc, place, unit.ways.as_slice(), event, limit) {
+        Ok(ways) => ways,
+        Err(stop) => return Err(fault_of(stop, place.first)),
+    };
     if ways.is_empty() && !unit.ways.is_empty() {
         let place = place_in(loads, event, place.first);
         return Err(AtomicFault::Refused(HistoryFault::WrongByte { place }));

@@ -2,9 +2,10 @@
 
 ghost use Rattle.std.specs.Prelude.{◌≡◌, ◌<◌, ◌≤◌, ◌+◌, ◌++◌, ◌∷◌, [], true, length, map, take, drop, slice_index_or, not, IfOk, OnOk};
 ghost use Rattle.std.specs.List.{filter, list_all, list_any};
+ghost use Rattle.std.specs.Cmp.Lexicographic.{pointwise};
 ghost use Rattle.atomic_histories.specs.Words.{is_word_of};
 ghost use Rattle.atomic_histories.specs.Law.{is_store, may_answer_store, done_store};
-ghost use Rattle.atomic_histories.specs.Branches.{effect_of, effects, is_same, with_branch, with_branches, is_watched, may_have, has_answer, has_effect, branch_without_load, branch_without_store, branch_with_load, branch_with_store, path_after, kept_path};
+ghost use Rattle.atomic_histories.specs.Branches.{effect_of, effects, is_same_word, is_same_pair, has_stood, covers_load, covers, with_branch, with_branches, is_watched, may_have, has_answer, has_effect, branch_without_load, branch_without_store, branch_with_load, branch_with_store, path_after, unseen, load_after, cut_to};
 ghost use Rattle.atomic_histories.specs.Shown.{shown, shown_all, goal_of, without_of};
 
 use crate::unit::{OpenStore, UnitPlace, WatchedLoad, Word};
@@ -61,6 +62,34 @@ pub(crate) fn words_from(path: &[Word], since: usize) -> &[Word]
     }
 }
 
+// Whether two words are the same.
+fn is_same_word(word: &Word, other: &Word) -> bool
+    ensures { result ≡ is_same_word word.now other.now }
+{
+    *word == *other
+}
+
+// Whether a word is one of these.
+fn is_among(words: &[Word], word: &Word) -> bool
+    ensures { result ≡ list_any (λ v. is_same_word v word.now) words.now }
+{
+    words.iter().any(|other| is_same_word(other, word))
+}
+
+// Whether a word is the one of now or one of those before.
+fn has_stood(now: &Word, before: &[Word], word: &Word) -> bool
+    ensures { result ≡ has_stood now.now before.now word.now }
+{
+    is_same_word(now, word) || is_among(before, word)
+}
+
+// Whether each of these words is.
+fn have_stood(now: &Word, before: &[Word], words: &[Word]) -> bool
+    ensures { result ≡ list_all (λ w. has_stood now.now before.now w) words.now }
+{
+    words.iter().all(|word| has_stood(now, before, word))
+}
+
 // Whether these are the bytes of one of the words.
 fn has_word(words: &[Word], first: u64, address: u64, bytes: &[u8]) -> bool
     ensures { result ≡ list_any (λ w. is_word_of first w address bytes.now) words.now }
@@ -83,14 +112,36 @@ fn keep_word(path: &mut Vec<Word>, loads: &[WatchedLoad], word: Word) -> Result<
     Ok(())
 }
 
-// Nobody asks for the words before if no load is open.
-#[tactic(auto, using(crate::proofs::Loops::kept_empty, crate::proofs::Loops::kept_more))]
-fn forget_words(path: &mut Vec<Word>, loads: &[WatchedLoad])
-    ensures { path.new.items ≡ kept_path loads.now path.old.items }
+// How many words stood before those that one of the loads may have got, of so many at most.
+fn unseen(loads: &[WatchedLoad], most: usize) -> usize
+    ensures { result ≡ unseen most loads.now }
 {
-    if loads.is_empty() {
-        path.clear();
+    loads.iter().fold(most, |least, load| least.min(load.since))
+}
+
+// A load, once the first `count` words are forgotten.
+fn load_after(load: &WatchedLoad, count: usize) -> WatchedLoad
+    ensures { result ≡ load_after count load.now }
+{
+    WatchedLoad {
+        since: load.since.saturating_sub(count),
+        ..*load
     }
+}
+
+// The loads once these words are forgotten.
+fn loads_after(
+    alloc: Global,
+    loads: &[WatchedLoad],
+    count: usize,
+) -> Result<Vec<WatchedLoad>, AllocError>
+    ensures { IfOk result (λ after. after.items ≡ map (load_after count) loads.now) }
+{
+    let mut after = Vec::new(alloc);
+    for load in loads {
+        after.push(load_after(load, count))?;
+    }
+    Ok(after)
 }
 
 fn end_load(loads: &mut Vec<WatchedLoad>, number: u64)
@@ -144,13 +195,48 @@ impl Way {
         })
     }
 
-    #[tactic(auto, unfolding(crate::specs::Branches::is_same))]
-    pub(crate) fn is_same(&self, other: &Way) -> bool
-        ensures { result ≡ is_same (shown self.now) (shown other.now) }
+    // Whether two ways have come to one pair of a word and the stores in effect.
+    pub(crate) fn is_same_pair(&self, other: &Way) -> bool
+        ensures { result ≡ is_same_pair (shown self.now) (shown other.now) }
     {
-        self.word == other.word
-            && (self.stores == other.stores
-                && (self.loads == other.loads && self.path == other.path))
+        self.word == other.word && self.stores == other.stores
+    }
+
+    // Whether load `i` may have got each word that it may have got on the other way.
+    fn covers_load(&self, other: &Way, load: &WatchedLoad, same: &WatchedLoad) -> bool
+        ensures { result ≡ covers_load (shown self.now) (shown other.now) load.now same.now }
+    {
+        load.number == same.number
+            && (load.address == same.address
+                && have_stood(
+                    &self.word,
+                    words_from(self.path.as_slice(), load.since),
+                    words_from(other.path.as_slice(), same.since),
+                ))
+    }
+
+    // Whether each load may have got each word that it may have got on the other way.
+    #[tactic(auto, using(crate::proofs::Loops::pointwise_more, crate::proofs::Loops::pointwise_all, crate::proofs::Loops::pointwise_other))]
+    fn covers_loads(&self, other: &Way) -> bool
+        ensures { result ≡ pointwise (covers_load (shown self.now) (shown other.now)) self.now.loads.items other.now.loads.items }
+    {
+        if self.loads.len() != other.loads.len() {
+            return false;
+        }
+        for i in 0..self.loads.len() {
+            if !self.covers_load(other, &self.loads[i], &other.loads[i]) {
+                return false;
+            }
+        }
+        true
+    }
+
+    // Whether this way leads wherever the other leads.
+    #[tactic(auto, unfolding(crate::specs::Branches::covers))]
+    pub(crate) fn covers(&self, other: &Way) -> bool
+        ensures { result ≡ covers (shown self.now) (shown other.now) }
+    {
+        self.is_same_pair(other) && self.covers_loads(other)
     }
 
     // Store `i` takes effect.
@@ -215,41 +301,53 @@ impl Way {
         }
     }
 
-    fn remove_load(&mut self, number: u64)
-        ensures { shown self.new ≡ branch_without_load number (shown self.old) }
+    // The way with these loads, which are open: the words are forgotten that none of them may have got.
+    fn cut_to(&self, alloc: Global, loads: &[WatchedLoad]) -> Result<Way, AllocError>
+        ensures { IfOk result (λ w. shown w ≡ cut_to loads.now (shown self.now)) }
     {
-        end_load(&mut self.loads, number);
-        forget_words(&mut self.path, self.loads.as_slice());
+        let count = unseen(loads, self.path.len());
+        let stores = Vec::from_slice(alloc, self.stores.as_slice())?;
+        let loads = loads_after(alloc, loads, count)?;
+        let path = Vec::from_slice(alloc, words_from(self.path.as_slice(), count))?;
+        Ok(Way {
+            word: self.word,
+            stores,
+            loads,
+            path,
+        })
     }
 
-    fn remove_store(&mut self, number: u64)
-        ensures { shown self.new ≡ branch_without_store number (shown self.old) }
+    // The way behind a load's answer.
+    fn without_load(&self, alloc: Global, number: u64) -> Result<Way, AllocError>
+        ensures { IfOk result (λ w. shown w ≡ branch_without_load number (shown self.now)) }
     {
-        end_store(&mut self.stores, number);
+        let mut loads = Vec::from_slice(alloc, self.loads.as_slice())?;
+        end_load(&mut loads, number);
+        self.cut_to(alloc, loads.as_slice())
     }
 
-    // The operation that is wanted is answered.
-    fn answer(&mut self, wanted: Wanted)
-        ensures { shown self.new ≡ without_of wanted.entry (shown self.old) }
+    // The way behind a store's answer.
+    fn without_store(&self, alloc: Global, number: u64) -> Result<Way, AllocError>
+        ensures { IfOk result (λ w. shown w ≡ branch_without_store number (shown self.now)) }
+    {
+        let mut left = self.copy(alloc)?;
+        end_store(&mut left.stores, number);
+        Ok(left)
+    }
+
+    // The way behind the answer that is wanted.
+    pub(crate) fn answered(&self, alloc: Global, wanted: Wanted) -> Result<Way, AllocError>
+        ensures { IfOk result (λ w. shown w ≡ without_of wanted.entry (shown self.now)) }
     {
         match wanted {
-            Wanted::Never => {}
-            Wanted::Effect { number } => self.remove_store(number),
+            Wanted::Never => self.copy(alloc),
+            Wanted::Effect { number } => self.without_store(alloc, number),
             Wanted::Answer {
                 unit: _,
                 number,
                 bytes: _,
-            } => self.remove_load(number),
+            } => self.without_load(alloc, number),
         }
-    }
-
-    // The way behind that answer.
-    pub(crate) fn answered(&self, alloc: Global, wanted: Wanted) -> Result<Way, AllocError>
-        ensures { IfOk result (λ w. shown w ≡ without_of wanted.entry (shown self.now)) }
-    {
-        let mut left = self.copy(alloc)?;
-        left.answer(wanted);
-        Ok(left)
     }
 
     // The way once a load is requested.

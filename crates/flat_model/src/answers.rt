@@ -1,8 +1,7 @@
 //! Which answers flat memory may give to an event.
 
 ghost use Rattle.std.specs.Prelude.{◌≡◌};
-ghost use Rattle.flat_model.specs.Flat.{Flat, may_answer, number, load_refusals, store_refusals, prefetch_refusals, is_owed};
-ghost use Rattle.flat_model.specs.Ranges.{is_between};
+ghost use Rattle.flat_model.specs.Flat.{Flat, may_answer, load_refusals, store_refusals, prefetch_refusals, is_owed};
 ghost use Rattle.flat_model.specs.Memory.{Finds, MovesOnly};
 
 use crate::{Answer, Cause, Event, Word};
@@ -50,17 +49,7 @@ fn may_move(event: Event, answer: Answer) -> bool
         Answer::Accepted => matches!(event, Event::Evict { .. }),
         Answer::Moved | Answer::Nothing => !matches!(event, Event::Evict { .. }),
         Answer::Value { .. } => false,
-        Answer::Refused(cause) => match event {
-            Event::Evict { .. } => {
-                matches!(
-                    cause,
-                    Cause::OutOfRange | Cause::QueueFull | Cause::NotPresent
-                )
-            }
-            Event::Drain => matches!(cause, Cause::BankFull),
-            Event::Arrive { .. } => matches!(cause, Cause::StackFull),
-            _ => false,
-        },
+        Answer::Refused(cause) => cause.may_refuse(event),
     }
 }
 
@@ -74,20 +63,6 @@ fn is_owed(owed: Option<Word>, word: Word) -> bool
     }
 }
 
-// Whether this is a cause against bringing a block in.
-fn is_of_a_miss(cause: Cause) -> bool
-    ensures { result ≡ is_between (number cause) 6 10 }
-{
-    matches!(
-        cause,
-        Cause::BlockQueued
-            | Cause::NoRegister
-            | Cause::SetPending
-            | Cause::QueueFull
-            | Cause::BankFull
-    )
-}
-
 // Whether a load may be refused for this cause.
 fn load_refused(inside: bool, owed: bool, cause: Cause) -> bool
     ensures { result ≡ load_refusals inside owed cause }
@@ -95,8 +70,7 @@ fn load_refused(inside: bool, owed: bool, cause: Cause) -> bool
     match cause {
         Cause::OutOfRange => !inside,
         Cause::TagInUse => inside && owed,
-        Cause::RepliesFull | Cause::TargetsFull => inside && !owed,
-        _ => inside && !owed && is_of_a_miss(cause),
+        _ => inside && !owed && cause.is_of_a_load(),
     }
 }
 
@@ -107,7 +81,7 @@ fn store_refused(inside: bool, any_lane: bool, cause: Cause) -> bool
     match cause {
         Cause::OutOfRange => !inside,
         Cause::NoLanes => inside && !any_lane,
-        _ => inside && any_lane && is_of_a_miss(cause),
+        _ => inside && any_lane && cause.is_of_a_miss(),
     }
 }
 
@@ -117,6 +91,6 @@ fn prefetch_refused(inside: bool, cause: Cause) -> bool
 {
     match cause {
         Cause::OutOfRange => !inside,
-        _ => inside && is_of_a_miss(cause),
+        _ => inside && cause.is_of_a_miss(),
     }
 }

@@ -10,7 +10,9 @@ ghost use Rattle.flat_model.specs.Flat.{number, cause_of};
 ghost use Rattle.flat_model.specs.Words.{no_lanes, merged, joined, has_any, has_all};
 
 mod answers;
+mod causes;
 mod display;
+mod faults;
 mod limits;
 mod memory;
 mod operators;
@@ -23,7 +25,6 @@ pub use limits::{
 };
 pub use memory::{FlatMemory, ReplayFault, StepFault};
 use std::alloc::AllocError;
-use thiserror::Error;
 
 /// A word of memory: four bytes in memory order, byte 0 first. C has it as four bytes too.
 #[repr(C)]
@@ -323,13 +324,11 @@ pub enum ShapeField {
 
 /// Why a part can't be made. A bad field is named first, before any memory is asked for, and
 /// after each of these nothing is made.
-#[derive(Clone, Copy, PartialEq, Eq, Debug, Error)]
+#[derive(Clone, Copy, PartialEq, Eq, Debug)]
 pub enum MakeFault {
     /// The first field, in the order of the checks, that is out of its range.
-    #[error("{0:?} is out of range")]
     BadShape(ShapeField),
     /// There was too little memory.
-    #[error("out of memory")]
     OutOfMemory,
 }
 

@@ -12,20 +12,16 @@ use crate::answers::may_answer;
 use crate::{Answer, Event, Lanes, Word, merge};
 use std::alloc::{AllocError, Global};
 use std::collections::HashMap;
-use thiserror::Error;
 
 /// Why a replay failed. After each of these the memory is as it was.
-#[derive(Clone, Copy, PartialEq, Eq, Debug, Error)]
+#[derive(Clone, Copy, PartialEq, Eq, Debug)]
 pub enum ReplayFault {
     /// There are not as many answers as events.
-    #[error("as many answers as events are needed")]
     Lengths,
     /// The answer at this place, counted from 0, is the first that flat memory doesn't give to
     /// its event.
-    #[error("the answer at place {place} is not one of flat memory")]
     Mismatch { place: usize },
     /// There was too little memory.
-    #[error("out of memory")]
     OutOfMemory,
 }
 
@@ -41,13 +37,11 @@ impl From<AllocError> for ReplayFault {
 }
 
 /// Why a step couldn't be made. After each of these the memory is as it was.
-#[derive(Clone, Copy, PartialEq, Eq, Debug, Error)]
+#[derive(Clone, Copy, PartialEq, Eq, Debug)]
 pub enum StepFault {
     /// Flat memory doesn't give this answer to the event.
-    #[error("the answer is not one of flat memory")]
     Mismatch,
     /// There was too little memory for the word that a load is owed.
-    #[error("out of memory")]
     OutOfMemory,
 }
 

@@ -1,7 +1,6 @@
 -- A judge of the atomic law keeps to it.
-use Rattle.std.proofs.Common.{◌≡◌, ℕ, zero, suc, ◌+◌, ◌/◌, Bool, true, false, ◌&&◌, ◌||◌, inl, inr, Option, Some, None, Result, Ok, Err, List, [], ◌∷◌, ◌++◌, length, fold, length-append, refl, sym, ◌∙◌, ap, subst, arith}
+use Rattle.std.proofs.Common.{◌≡◌, ℕ, true, ◌&&◌, inl, inr, Option, Some, None, List, [], ◌∷◌, ◌++◌, fold, refl, sym, ◌∙◌, ap, subst}
 use Rattle.std.specs.Prelude.{is_none}
-use Rattle.std.specs.List.{list_any}
 use Rattle.memory_histories.specs.declared.events.HistoryEvent.{HistoryEvent}
 use Rattle.memory_histories.specs.declared.events.HistoryEvent.TheVariants.{LoadRequest, LoadResponse, StoreRequest, StoreResponse}
 use Rattle.memory_histories.specs.declared.events.HistoryFault.{HistoryFault}
@@ -11,10 +10,10 @@ use Rattle.atomic_histories.specs.declared.memory.AtomicMemory.{AtomicMemory}
 use Rattle.atomic_histories.specs.declared.memory.AtomicFault.TheVariants as atomic
 use Rattle.atomic_histories.specs.declared.unit.UnitPlace.{UnitPlace}
 use Rattle.atomic_histories.specs.Operations.{Opened, none_opened, opened_after, opened_by, form_fault}
-use Rattle.atomic_histories.specs.Law.{UnitMemory, untouched, seen, MayBe, starts, steps, sees, unit_at, is_formed, IsAtomicAt, HasMoments, IsAtomic, IsWrongPlace, FaultIs}
-use Rattle.atomic_histories.specs.Branches.{Branch, is_too_wide}
+use Rattle.atomic_histories.specs.Law.{UnitMemory, untouched, seen, MayBe, starts, steps, sees, unit_at, is_formed, IsAtomicAt, IsAtomic, IsWrongPlace, FaultIs}
+use Rattle.atomic_histories.specs.Branches.{Branch}
 use Rattle.atomic_histories.specs.Stands.{Each, IsOn, StandsFor}
-use Rattle.atomic_histories.specs.Held.{Held, nothing_held, covered, units_of, wide_from, is_wide, StandsForAll}
+use Rattle.atomic_histories.specs.Held.{Held, nothing_held, IsWide, StandsForAll}
 use Rattle.atomic_histories.specs.Judge.{held, limit_of, HasSameMemory, StepFaultIs}
 use Rattle.history_text.specs.Lines.{plain}
 use Rattle.history_text.specs.Laws.{Law}
@@ -136,22 +135,11 @@ fault_too image rest size es e NumberInUse h = (alike_plain e).faulty (opened_by
 fault_too image rest size es e NotOpen h = (alike_plain e).faulty (opened_by es) ∙ h
 fault_too image rest size es e WrongLength h = (alike_plain e).faulty (opened_by es) ∙ h
 
-wide_same : (limit : ℕ) (h : Held) (e f : HistoryEvent) → ((unit : UnitPlace) (es : List Branch) → is_too_wide limit unit es e ≡ is_too_wide limit unit es f)
-    → (k n : ℕ) → wide_from limit h e k n ≡ wide_from limit h f k n
-wide_same limit h e f same k zero = refl
-wide_same limit h e f same k (suc n) =
-    ap (λ t. t || wide_from limit h e (k + 1) n) (same (unit_at h.size k) (h.units k))
-    ∙ ap (λ t. is_too_wide limit (unit_at h.size k) (h.units k) f || t) (wide_same limit h e f same (k + 1) n)
-
-plain_wide : (limit : ℕ) (h : Held) (e : HistoryEvent) → is_wide limit h (plain e) ≡ is_wide limit h e
-plain_wide limit h (LoadRequest number address n) = refl
-plain_wide limit h (LoadResponse number bytes) =
-    let e : HistoryEvent = LoadResponse number bytes in
-    let p = covered h.opened e in wide_same limit h (plain e) e (λ unit es. refl) (p.0 / h.size) (units_of h.size p.0 p.1)
-plain_wide limit h (StoreRequest number address bytes enables) =
-    let e : HistoryEvent = StoreRequest number address bytes enables in
-    let p = covered h.opened e in wide_same limit h (plain e) e (λ unit es. refl) (p.0 / h.size) (units_of h.size p.0 p.1)
-plain_wide limit h (StoreResponse number) = refl
+plain_wide : (limit : ℕ) (h : Held) (e : HistoryEvent) (address : ℕ) → IsWide limit h e address → IsWide limit h (plain e) address
+plain_wide limit h (LoadRequest number at n) address w = w
+plain_wide limit h (LoadResponse number bytes) address w = w
+plain_wide limit h (StoreRequest number at bytes enables) address w = w
+plain_wide limit h (StoreResponse number) address w = w
 
 -- ---- the judge
 
@@ -194,21 +182,21 @@ refused m n events event cause t (why, broken) =
     } in
     subst (λ (b : Began). IsRefused b events (plain event) cause) (same_began h (held m) t.memory) here
 
-pub undecided : (m n : AtomicMemory) (events : List HistoryEvent) (event : HistoryEvent) → Took m events n
-    → StepFaultIs (limit_of n) (held n) events event atomic.Undecided → (law_of m).undecides events (plain event)
-undecided m n events event t (formed, wide) =
+pub undecided : (m n : AtomicMemory) (events : List HistoryEvent) (event : HistoryEvent) (address : ℕ) → Took m events n
+    → StepFaultIs (limit_of n) (held n) events event (atomic.Undecided address) → (law_of m).undecides events (plain event) address
+undecided m n events event address t (formed, wide) =
     let h = held n in
-    let here : IsTooWide (began h) (limit_of n) events (plain event) = record {
+    let here : IsTooWide (began h) (limit_of n) events (plain event) address = record {
       formed = (alike_plain event).faulty (opened_by events) ∙ formed;
       kept = h;
       image = refl;
       rest = refl;
       size = refl;
       stands = t.stands;
-      wide = plain_wide (limit_of n) h event ∙ wide;
+      wide = plain_wide (limit_of n) h event address wide;
     } in
-    subst (λ l. IsTooWide (began (held m)) l events (plain event)) t.limit
-    (subst (λ (b : Began). IsTooWide b (limit_of n) events (plain event)) (same_began h (held m) t.memory) here)
+    subst (λ l. IsTooWide (began (held m)) l events (plain event) address) t.limit
+    (subst (λ (b : Began). IsTooWide b (limit_of n) events (plain event) address) (same_began h (held m) t.memory) here)
 
 -- ---- a new judge
 

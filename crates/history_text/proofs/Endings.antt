@@ -49,7 +49,7 @@ module _ {R J : Type 0} (gave : R → List ℕ → R → Type 0) (failed : R →
 told_by : {R : Type 0} (gave : R → List ℕ → R → Type 0) (failed : R → R → Type 0) {law : Law} {r r' : R} {bytes : List ℕ} (why : Stop)
     → EndsIn law bytes why → ReadInto gave law r r' why → Judges gave failed law r r' (ended_by why)
 told_by gave failed (stop.Refused refusal) ends here = here
-told_by gave failed (stop.Undecided line) ends here = here
+told_by gave failed (stop.Undecided line address) ends here = here
 told_by gave failed (stop.Fault (fault.Line n Unknown)) ends here = here
 told_by gave failed (stop.Fault (fault.Line n Field)) ends here = here
 told_by gave failed (stop.Fault (fault.Line n TooLong)) ends here = here

@@ -1,5 +1,5 @@
 -- What a byte makes of the lines that were read.
-use Rattle.std.proofs.Common.{◌≡◌, ◌≢◌, ℕ, ◌+◌, ◌^◌, ◌<◌, ◌≤◌, ◌==◌, Bool, false, if◌then◌else◌, Option, Some, None, Result, Ok, Err, OnOk, IfErr, IsErrAnd, List, [], ◌∷◌, ◌++◌, length, take, get_or, length-append, append-nil, append_assoc, refl, sym, ◌∙◌, ap, subst, arith}
+use Rattle.std.proofs.Common.{◌≡◌, ◌≢◌, ℕ, ◌+◌, ◌^◌, ◌<◌, ◌≤◌, ◌==◌, false, if◌then◌else◌, Option, Some, None, Result, Ok, Err, OnOk, IfErr, IsErrAnd, List, [], ◌∷◌, ◌++◌, length, take, get_or, length-append, append-nil, append_assoc, refl, sym, ◌∙◌, ap, subst, arith}
 use Rattle.std.proofs.lemmas.Bool.Decides.{nat_tests}
 use Rattle.std.proofs.lemmas.List.{take_all}
 use Rattle.memory_histories.specs.declared.events.HistoryEvent.{HistoryEvent}
@@ -176,7 +176,7 @@ ends_step {law = law} {start = start} {pending = pending} {texts = texts} event 
     let place : number ≡ length texts + 1 = omega (arith, at, h.number) in
     let line = event_line pending event (h.text.short, h.text.unfinished, ap fault_of said) said in
     (event, line, subst (λ n. IsRefusal (law start) (events_of texts) n event refusal) place ends)
-ends_step {pending = pending} {texts = texts} event number (stop.Undecided n) h said at fits ends =
+ends_step {pending = pending} {texts = texts} event number (stop.Undecided n address) h said at fits ends =
     let line = event_line pending event (h.text.short, h.text.unfinished, ap fault_of said) said in
     (event, line, ends.0, omega (arith, at, h.number, ends.1))
 ends_step event number (stop.Fault fault.OutOfMemory) h said at fits ends = tt

@@ -1,5 +1,5 @@
 -- What is written of the lines of a history.
-use Rattle.std.proofs.Common.{◌≡◌, ℕ, ◌+◌, ◌^◌, ◌<◌, Option, Some, None, Result, Ok, Err, IfErr, List, [], ◌∷◌, ◌++◌, length, append_assoc, length-append, refl, sym, ◌∙◌, ap, subst, arith}
+use Rattle.std.proofs.Common.{◌≡◌, ℕ, ◌+◌, ◌^◌, ◌<◌, Option, Some, None, Result, Ok, Err, List, [], ◌∷◌, ◌++◌, length, append_assoc, refl, sym, ap, subst, arith}
 use Rattle.memory_histories.specs.declared.events.HistoryEvent.{HistoryEvent}
 use Rattle.memory_histories.specs.declared.sets.ByteSet.{ByteSet}
 use Rattle.trace_text.specs.Streams.{Came, Moves}
@@ -12,8 +12,8 @@ use Rattle.history_text.specs.Lines.{line_of}
 use Rattle.history_text.specs.Laws.{Law}
 use Rattle.history_text.specs.Operations.{byte_address, open_in}
 use Rattle.history_text.specs.Refusals.{IsRefusal}
-use Rattle.history_text.specs.Histories.{history_fault, events_of, IsEventLine, EndsAt, EndsIn, ReadSoFar, HasRead, LineStops, EndsWith, ended_by}
-use Rattle.history_text.specs.Values.{AreSetsFrom, Told, Breaks, TellStops, ByteStops, BreaksIn, lines_told, ToldIn, Writes}
+use Rattle.history_text.specs.Histories.{history_fault, events_of, IsEventLine, ReadSoFar, HasRead, LineStops, EndsWith, ended_by}
+use Rattle.history_text.specs.Values.{AreSetsFrom, Told, TellStops, ByteStops, ToldIn, Writes}
 use Rattle.history_text.specs.declared.answers.HistoryEnd.{HistoryEnd}
 use Rattle.history_text.specs.declared.judged.Counts.{Counts}
 use Rattle.history_text.specs.declared.judged.OpenLoad.{OpenLoad}
@@ -46,7 +46,7 @@ tell_stops wrote refused law w v u texts pending (stop.Fault (fault.Line n f)) t
 tell_stops wrote refused law w v u texts pending (stop.Fault fault.TooManyLines) told stops = absurd stops
 tell_stops wrote refused law w v u texts pending (stop.Fault fault.Read) told stops = absurd stops
 tell_stops wrote refused law w v u texts pending (stop.Refused refusal) told stops = absurd stops
-tell_stops wrote refused law w v u texts pending (stop.Undecided line) told stops = absurd stops
+tell_stops wrote refused law w v u texts pending (stop.Undecided line address) told stops = absurd stops
 
 module _ {J W : Type 0} {took : J → List HistoryEvent → J → Type 0} {law : J → Law} {start judge : J} {bytes pending : List ℕ} {texts : List (List ℕ)} {counts : Counts} {loads : List OpenLoad} {count : ℕ} (wrote : W → List ℕ → W → Type 0) (refused : W → W → Type 0) (w v : W) where
   -- a line that was written, and isn't taken
@@ -58,7 +58,7 @@ module _ {J W : Type 0} {took : J → List HistoryEvent → J → Type 0} {law :
       let place : number ≡ length texts + 1 = omega (arith, at, h.number) in
       let line : IsEventLine (pending ++ 10 ∷ []) event = record { text = pending; ended = refl; good = (h.text.short, h.text.unfinished, ap fault_of said); said = said } in
       ((event, line, subst (λ n. IsRefusal (law start) (events_of texts) n event refusal) place stops), told)
-  line_stops number (Some event) (stop.Undecided n) h said at fits stops told =
+  line_stops number (Some event) (stop.Undecided n address) h said at fits stops told =
       let line : IsEventLine (pending ++ 10 ∷ []) event = record { text = pending; ended = refl; good = (h.text.short, h.text.unfinished, ap fault_of said); said = said } in
       ((event, line, stops.0, omega (arith, at, h.number, stops.1)), told)
   line_stops number (Some event) (stop.Fault fault.OutOfMemory) h said at fits stops told = tt
@@ -71,7 +71,7 @@ module _ {J W : Type 0} {took : J → List HistoryEvent → J → Type 0} {law :
   pub told_here : (b : ℕ) (why : Stop) (h : HasRead took law start bytes texts judge counts loads pending count)
       → ByteStops wrote refused (law start) w texts (pending ++ b ∷ []) v why → ToldIn wrote refused (law start) w (bytes ++ b ∷ []) v why
   told_here b (stop.Refused refusal) h (e, told) = (ends_in b (stop.Refused refusal) h e, told)
-  told_here b (stop.Undecided line) h (e, told) = (ends_in b (stop.Undecided line) h e, told)
+  told_here b (stop.Undecided line address) h (e, told) = (ends_in b (stop.Undecided line address) h e, told)
   told_here b (stop.Fault (fault.Line n f)) h (e, told) = (ends_in b (stop.Fault (fault.Line n f)) h e, told)
   told_here b (stop.Fault fault.TooManyLines) h (e, told) = (ends_in b (stop.Fault fault.TooManyLines) h e, told)
   told_here b (stop.Fault fault.OutOfMemory) h stops = tt
@@ -89,7 +89,7 @@ module _ {J W : Type 0} {took : J → List HistoryEvent → J → Type 0} {law :
 pub told_more : {W : Type 0} (wrote : W → List ℕ → W → Type 0) (refused : W → W → Type 0) (law : Law) (w v : W) (bytes : List ℕ) (why : Stop) (more : List ℕ)
     → ToldIn wrote refused law w bytes v why → ToldIn wrote refused law w (bytes ++ more) v why
 told_more wrote refused law w v bytes (stop.Refused refusal) more (e, told) = (ends_more (stop.Refused refusal) more e, told)
-told_more wrote refused law w v bytes (stop.Undecided line) more (e, told) = (ends_more (stop.Undecided line) more e, told)
+told_more wrote refused law w v bytes (stop.Undecided line address) more (e, told) = (ends_more (stop.Undecided line address) more e, told)
 told_more wrote refused law w v bytes (stop.Fault (fault.Line n f)) more (e, told) = (ends_more (stop.Fault (fault.Line n f)) more e, told)
 told_more wrote refused law w v bytes (stop.Fault fault.TooManyLines) more (e, told) = (ends_more (stop.Fault fault.TooManyLines) more e, told)
 told_more wrote refused law w v bytes (stop.Fault fault.OutOfMemory) more stops = tt
@@ -129,7 +129,7 @@ module _ {R W J : Type 0} (gave : R → List ℕ → R → Type 0) (failed : R �
       → Came gave last piece r' → ToldIn wrote refused (law start) w (bytes ++ piece) v why
       → Writes gave failed wrote refused (law start) r r' w v (ended_by why)
   wrote_by piece (stop.Refused refusal) moves h gives (e, told) = (into gave failed piece (stop.Refused refusal) moves h gives e, told)
-  wrote_by piece (stop.Undecided line) moves h gives (e, told) = (into gave failed piece (stop.Undecided line) moves h gives e, told)
+  wrote_by piece (stop.Undecided line address) moves h gives (e, told) = (into gave failed piece (stop.Undecided line address) moves h gives e, told)
   wrote_by piece (stop.Fault (fault.Line n Unknown)) moves h gives (e, told) = (into gave failed piece (stop.Fault (fault.Line n Unknown)) moves h gives e, told)
   wrote_by piece (stop.Fault (fault.Line n Field)) moves h gives (e, told) = (into gave failed piece (stop.Fault (fault.Line n Field)) moves h gives e, told)
   wrote_by piece (stop.Fault (fault.Line n TooLong)) moves h gives (e, told) = (into gave failed piece (stop.Fault (fault.Line n TooLong)) moves h gives e, told)

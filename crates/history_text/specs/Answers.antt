@@ -62,7 +62,8 @@ open_text count = if count == 0 then [] else codes ", " ++ (decimal count ++ cod
 abbrev pub end_text : LawName → HistoryEnd → List ℕ
 end_text law (OfLaw events open_count) = codes "history of " ++ (decimal events ++ (codes " events is " ++ (law_text law ++ open_text open_count)))
 end_text law (Refused refusal) = refusal_text refusal
-end_text law (Undecided line) = codes "line " ++ decimal line ++ codes ": undecided: there are too many orders in which the open operations may have taken effect"
+end_text law (Undecided line address) =
+    codes "line " ++ (decimal line ++ (codes ": undecided: there are too many orders in which the open operations may have taken effect in the unit with " ++ address_text address))
 
 abbrev pub verdict_text : HistoryVerdict → List ℕ
 verdict_text v = end_text v.law v.end
@@ -74,4 +75,4 @@ verdict_text v = end_text v.law v.end
 abbrev pub verdict_status : Bool → HistoryEnd → ℕ
 verdict_status all_answered (OfLaw events open_count) = if all_answered && nat_lt 0 open_count then 1 else 0
 verdict_status all_answered (Refused refusal) = 1
-verdict_status all_answered (Undecided line) = 6
+verdict_status all_answered (Undecided line address) = 6

@@ -1,5 +1,5 @@
 -- The atomic law, and its judge.
-use Rattle.std.specs.Prelude.{◌≡◌, ℕ, true, Option, None, List, ◌++◌, ◌∷◌, []}
+use Rattle.std.specs.Prelude.{◌≡◌, ℕ, Option, None, List, ◌++◌, ◌∷◌, []}
 use Rattle.memory_histories.specs.declared.events.HistoryEvent.{HistoryEvent}
 use Rattle.memory_histories.specs.declared.events.HistoryFault.{HistoryFault}
 use Rattle.memory_histories.specs.declared.events.Rest.{Rest}
@@ -7,7 +7,7 @@ use Rattle.memory_histories.specs.declared.sets.ByteSet.{ByteSet}
 use Rattle.atomic_histories.specs.declared.memory.AtomicMemory.{AtomicMemory}
 use Rattle.atomic_histories.specs.Operations.{opened_by, form_fault}
 use Rattle.atomic_histories.specs.Law.{IsAtomic, FaultIs}
-use Rattle.atomic_histories.specs.Held.{Held, nothing_held, is_wide, StandsForAll}
+use Rattle.atomic_histories.specs.Held.{Held, nothing_held, IsWide, StandsForAll}
 use Rattle.atomic_histories.specs.Judge.{held, limit_of, HasSameMemory}
 use Rattle.history_text.specs.Laws.{Law}
 
@@ -17,15 +17,16 @@ pub record Began : Type 0 where
   pub rest : Rest
   pub size : ℕ
 
--- a unit may have gone more ways than the limit, of which each must be followed to tell what this event makes of the history
-pub record IsTooWide (b : Began) (limit : ℕ) (events : List HistoryEvent) (event : HistoryEvent) : Type 0 where
+-- the unit that begins at an address may have gone too many ways, of which each must be followed to tell what this event makes of the
+-- history
+pub record IsTooWide (b : Began) (limit : ℕ) (events : List HistoryEvent) (event : HistoryEvent) (address : ℕ) : Type 0 where
   pub formed : form_fault (opened_by events) event ≡ None
   pub kept : Held
   pub image : kept.image ≡ b.image
   pub rest : kept.rest ≡ b.rest
   pub size : kept.size ≡ b.size
   pub stands : StandsForAll kept events
-  pub wide : is_wide limit kept event ≡ true
+  pub wide : IsWide limit kept event address
 
 -- the event makes the history none of the law, for this fault
 pub record IsRefused (b : Began) (events : List HistoryEvent) (event : HistoryEvent) (cause : HistoryFault) : Type 0 where

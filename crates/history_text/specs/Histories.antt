@@ -60,8 +60,8 @@ pub record IsEventLine (found : List ℕ) (event : HistoryEvent) : Type 0 where
 abbrev pub EndsAt : Law → List (List ℕ) → List ℕ → Stop → Type 0
 EndsAt law texts found (stop.Refused refusal) =
     (event : HistoryEvent) × IsEventLine found event × IsRefusal law (events_of texts) (length texts + 1) event refusal
-EndsAt law texts found (stop.Undecided line) =
-    (event : HistoryEvent) × IsEventLine found event × law.undecides (events_of texts) event × (line ≡ length texts + 1)
+EndsAt law texts found (stop.Undecided line address) =
+    (event : HistoryEvent) × IsEventLine found event × law.undecides (events_of texts) event address × (line ≡ length texts + 1)
 EndsAt law texts found (stop.Fault (fault.Line n f)) = (n ≡ length texts + 1) × BeginsFaulty history_fault MAX_PAIR found f
 EndsAt law texts found (stop.Fault fault.TooManyLines) = (length texts ≡ most_lines) × (0 < length found)
 EndsAt law texts found (stop.Fault fault.OutOfMemory) = Unit {0}
@@ -103,7 +103,7 @@ Judges {R} gave failed law r r' (Ok (history.OfLaw events still_open)) =
     × (events ≡ (counts_of (events_of texts)).events) × (still_open ≡ open_in (counts_of (events_of texts)))
 -- a line makes it none, or can't be decided
 Judges gave failed law r r' (Ok (history.Refused refusal)) = ReadInto gave law r r' (stop.Refused refusal)
-Judges gave failed law r r' (Ok (history.Undecided line)) = ReadInto gave law r r' (stop.Undecided line)
+Judges gave failed law r r' (Ok (history.Undecided line address)) = ReadInto gave law r r' (stop.Undecided line address)
 Judges {R} gave failed law r r' (Err fault.Read) = (texts : List (List ℕ)) × (pending : List ℕ) × (last : R) × ReadSoFar gave law r last texts pending × failed last r'
 -- the input ended within a line
 Judges {R} gave failed law r r' (Err (fault.Line n NotEnded)) =
@@ -116,7 +116,7 @@ Judges gave failed law r r' (Err fault.Write) = ⊥
 -- what a reading gives that ends so
 abbrev pub ended_by : Stop → Result HistoryEnd TraceFault
 ended_by (stop.Refused refusal) = Ok (history.Refused refusal)
-ended_by (stop.Undecided line) = Ok (history.Undecided line)
+ended_by (stop.Undecided line address) = Ok (history.Undecided line address)
 ended_by (stop.Fault f) = Err f
 
 -- ---- in the middle of a reading

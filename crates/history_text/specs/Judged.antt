@@ -19,7 +19,7 @@ pub record Stands {J : Type 0} (took : J → List HistoryEvent → J → Type 0)
 -- why the event of a line isn't taken
 abbrev pub StepStops : Law → List HistoryEvent → ℕ → HistoryEvent → Stop → Type 0
 StepStops law events line event (Refused refusal) = IsRefusal law events line event refusal
-StepStops law events line event (Undecided n) = law.undecides events event × (n ≡ line)
+StepStops law events line event (Undecided n address) = law.undecides events event address × (n ≡ line)
 StepStops law events line event (Fault fault.OutOfMemory) = Unit {0}
 StepStops law events line event (Fault fault.TooManyLines) = length events ≡ 18446744073709551615
 StepStops law events line event (Fault (fault.Line n f)) = ⊥

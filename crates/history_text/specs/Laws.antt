@@ -15,12 +15,13 @@ pub record Law : Type 1 where
   -- behind such a history, the set is what the open load of a number may return for the byte at an address, if it is answered
   -- now; there is none if no such load asks for the byte, or if the law tells no set of bytes
   pub allows : List HistoryEvent → ℕ → ℕ → Option ByteSet → Type 0
-  -- behind such a history, its judge may say that it can't tell whether the history with this event is one of the law
-  pub undecides : List HistoryEvent → HistoryEvent → Type 0
+  -- behind such a history, its judge may say that it can't tell whether the history with this event is one of the law, for the sake
+  -- of the unit that begins at this address
+  pub undecides : List HistoryEvent → HistoryEvent → ℕ → Type 0
 
 -- what each fault of a judge says of the event behind a history
 abbrev pub JudgeFaultIs : Law → List HistoryEvent → HistoryEvent → JudgeFault → Type 0
 JudgeFaultIs law events event (Refused cause) = law.refuses events event cause
-JudgeFaultIs law events event Undecided = law.undecides events event
+JudgeFaultIs law events event (Undecided address) = law.undecides events event address
 JudgeFaultIs law events event TooLong = length events ≡ 18446744073709551615
 JudgeFaultIs law events event OutOfMemory = Unit {0}

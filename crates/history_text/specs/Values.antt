@@ -6,7 +6,7 @@ use Rattle.memory_histories.specs.declared.events.HistoryEvent.TheVariants.{Load
 use Rattle.memory_histories.specs.declared.sets.ByteSet.{ByteSet}
 use Rattle.trace_text.specs.Codes.{line_feed}
 use Rattle.trace_text.specs.Streams.{Came, Moves, Stopped}
-use Rattle.trace_text.specs.Reading.{IsGood, Good}
+use Rattle.trace_text.specs.Reading.{Good}
 use Rattle.trace_text.specs.declared.fault.TheConstants.{MAX_PAIR}
 use Rattle.trace_text.specs.declared.lines.LineFault.TheVariants.{NotEnded}
 use Rattle.trace_text.specs.declared.fault.TraceFault.{TraceFault}
@@ -95,14 +95,14 @@ TellStops took refused law events text w w' (stop.Fault (fault.Line n f)) = ⊥
 TellStops took refused law events text w w' (stop.Fault fault.TooManyLines) = ⊥
 TellStops took refused law events text w w' (stop.Fault fault.Read) = ⊥
 TellStops took refused law events text w w' (stop.Refused refusal) = ⊥
-TellStops took refused law events text w w' (stop.Undecided line) = ⊥
+TellStops took refused law events text w w' (stop.Undecided line address) = ⊥
 
 -- why these bytes behind good lines end a reading, and what was written then
 abbrev pub ByteStops : {W : Type 0} (took : W → List ℕ → W → Type 0) (refused : W → W → Type 0) (law : Law) (w : W) (texts : List (List ℕ)) (found : List ℕ) (w' : W) → Stop → Type 0
 ByteStops took refused law w texts found w' (stop.Refused refusal) =
     (e : EndsAt law texts found (stop.Refused refusal)) × Told took law w (texts ++ e.1.text ∷ []) w'
-ByteStops took refused law w texts found w' (stop.Undecided line) =
-    (e : EndsAt law texts found (stop.Undecided line)) × Told took law w (texts ++ e.1.text ∷ []) w'
+ByteStops took refused law w texts found w' (stop.Undecided line address) =
+    (e : EndsAt law texts found (stop.Undecided line address)) × Told took law w (texts ++ e.1.text ∷ []) w'
 ByteStops took refused law w texts found w' (stop.Fault (fault.Line n f)) = EndsAt law texts found (stop.Fault (fault.Line n f)) × Told took law w texts w'
 ByteStops took refused law w texts found w' (stop.Fault fault.TooManyLines) = EndsAt law texts found (stop.Fault fault.TooManyLines) × Told took law w texts w'
 ByteStops took refused law w texts found w' (stop.Fault fault.OutOfMemory) = Unit {0}
@@ -122,7 +122,7 @@ pub record BreaksIn {W : Type 0} (took : W → List ℕ → W → Type 0) (refus
 -- where a reading ends, the lines that are written: the one that is none of the law or isn't decided, too
 abbrev pub lines_told : (law : Law) (bytes : List ℕ) (why : Stop) → EndsIn law bytes why → List (List ℕ)
 lines_told law bytes (stop.Refused refusal) e = e.texts ++ e.ends.1.text ∷ []
-lines_told law bytes (stop.Undecided line) e = e.texts ++ e.ends.1.text ∷ []
+lines_told law bytes (stop.Undecided line address) e = e.texts ++ e.ends.1.text ∷ []
 lines_told law bytes (stop.Fault f) e = e.texts
 
 abbrev pub ToldBy : {W : Type 0} (took : W → List ℕ → W → Type 0) (law : Law) (w : W) (bytes : List ℕ) (w' : W) → Stop → Type 0
@@ -131,7 +131,7 @@ ToldBy took law w bytes w' why = (e : EndsIn law bytes why) × Told took law w (
 -- what is written where a reading ends
 abbrev pub ToldIn : {W : Type 0} (took : W → List ℕ → W → Type 0) (refused : W → W → Type 0) (law : Law) (w : W) (bytes : List ℕ) (w' : W) → Stop → Type 0
 ToldIn took refused law w bytes w' (stop.Refused refusal) = ToldBy took law w bytes w' (stop.Refused refusal)
-ToldIn took refused law w bytes w' (stop.Undecided line) = ToldBy took law w bytes w' (stop.Undecided line)
+ToldIn took refused law w bytes w' (stop.Undecided line address) = ToldBy took law w bytes w' (stop.Undecided line address)
 ToldIn took refused law w bytes w' (stop.Fault (fault.Line n f)) = ToldBy took law w bytes w' (stop.Fault (fault.Line n f))
 ToldIn took refused law w bytes w' (stop.Fault fault.TooManyLines) = ToldBy took law w bytes w' (stop.Fault fault.TooManyLines)
 ToldIn took refused law w bytes w' (stop.Fault fault.OutOfMemory) = Unit {0}
@@ -154,7 +154,7 @@ abbrev pub Writes : {R W : Type 0} (gave : R → List ℕ → R → Type 0) (fai
 Writes gave failed took refused law r r' w w' (Ok (history.OfLaw events still_open)) =
     (j : Judges gave failed law r r' (Ok (history.OfLaw events still_open))) × Told took law w j.0 w'
 Writes gave failed took refused law r r' w w' (Ok (history.Refused refusal)) = ToldInto gave took law r r' w w' (stop.Refused refusal)
-Writes gave failed took refused law r r' w w' (Ok (history.Undecided line)) = ToldInto gave took law r r' w w' (stop.Undecided line)
+Writes gave failed took refused law r r' w w' (Ok (history.Undecided line address)) = ToldInto gave took law r r' w w' (stop.Undecided line address)
 Writes gave failed took refused law r r' w w' (Err fault.Read) = (j : Judges gave failed law r r' (Err fault.Read)) × Told took law w j.0 w'
 Writes gave failed took refused law r r' w w' (Err (fault.Line n NotEnded)) =
     (j : Judges gave failed law r r' (Err (fault.Line n NotEnded))) × Told took law w j.0 w'

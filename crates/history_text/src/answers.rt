@@ -91,6 +91,8 @@ pub enum HistoryEnd {
     Undecided {
         /// The line's number, counted from 1.
         line: u64,
+        /// The address at which the unit begins of which it doesn't.
+        address: u64,
     },
 }
 
@@ -323,10 +325,13 @@ impl fmt::Display for HistoryVerdict {
                 write!(f, "history of {events} events is {law}{still_open}")
             }
             HistoryEnd::Refused(refusal) => write!(f, "{refusal}"),
-            HistoryEnd::Undecided { line } => write!(
-                f,
-                "line {line}: undecided: there are too many orders in which the open operations may have taken effect"
-            ),
+            HistoryEnd::Undecided { line, address } => {
+                let address = Address(address);
+                write!(
+                    f,
+                    "line {line}: undecided: there are too many orders in which the open operations may have taken effect in the unit with {address}"
+                )
+            }
         }
     }
 }

@@ -17,7 +17,7 @@ impl Stop {
     {
         match self {
             Stop::Refused(refusal) => Ok(HistoryEnd::Refused(refusal)),
-            Stop::Undecided { line } => Ok(HistoryEnd::Undecided { line }),
+            Stop::Undecided { line, address } => Ok(HistoryEnd::Undecided { line, address }),
             Stop::Fault(fault) => Err(fault),
         }
     }

@@ -15,8 +15,8 @@ use memory_histories::{
 pub enum JudgeFault {
     /// The history with this event is none of the law.
     Refused(HistoryFault),
-    /// The judge can't tell: it would have to keep too much.
-    Undecided,
+    /// The judge can't tell: it would have to keep too much of the unit that begins at this address.
+    Undecided { address: u64 },
     /// 2^64 - 1 events were taken.
     TooLong,
     /// There was too little memory.
@@ -103,7 +103,7 @@ impl HistoryJudge for AtomicMemory {
         match self.step(event) {
             Ok(()) => Ok(()),
             Err(AtomicFault::Refused(fault)) => Err(JudgeFault::Refused(fault)),
-            Err(AtomicFault::Undecided) => Err(JudgeFault::Undecided),
+            Err(AtomicFault::Undecided { address }) => Err(JudgeFault::Undecided { address }),
             Err(AtomicFault::OutOfMemory) => Err(JudgeFault::OutOfMemory),
         }
     }

@@ -41,7 +41,7 @@ pub struct OpenLoad {
 #[derive(Clone, Copy)]
 pub(crate) enum Stop {
     Refused(Refusal),
-    Undecided { line: u64 },
+    Undecided { line: u64, address: u64 },
     Fault(TraceFault),
 }
 
@@ -193,7 +193,7 @@ impl<J: HistoryJudge> Judged<J> {
                 Ok(())
             }
             Err(JudgeFault::Refused(fault)) => Err(Stop::Refused(self.refusal(line, event, fault))),
-            Err(JudgeFault::Undecided) => Err(Stop::Undecided { line }),
+            Err(JudgeFault::Undecided { address }) => Err(Stop::Undecided { line, address }),
             Err(JudgeFault::TooLong) => Err(Stop::Fault(TraceFault::TooManyLines)),
             Err(JudgeFault::OutOfMemory) => Err(Stop::Fault(TraceFault::OutOfMemory)),
         }

@@ -53,7 +53,8 @@ pub fn judge_by_flat_law<R: Source>(
 /// between its request and its response, in each aligned unit of this size. Memory began with the bytes of
 /// this image from address 0 on, and `rest` says what stood beyond them.
 ///
-/// [`HistoryEnd::Undecided`] says that more than `limit` ways would have to be followed at a unit. A fault
+/// [`HistoryEnd::Undecided`] names a unit at which too many ways would have to be followed: to more than
+/// `limit` pairs of a word and the stores in effect, or with too many words before now. A fault
 /// is as there, and [`TraceFault::OutOfMemory`] may come before anything is read.
 pub fn judge_by_atomic_law<R: Source>(
     alloc: Global,
@@ -78,7 +79,7 @@ pub enum HistoryLaw {
     Atomic {
         /// The size of a unit.
         unit: UnitSize,
-        /// How many ways are followed at a unit.
+        /// To how many pairs of a word and the stores in effect ways are followed at a unit.
         limit: usize,
     },
     /// So does each of its bytes, and each load for itself.

@@ -9,6 +9,8 @@
 mod history;
 mod judge;
 mod machine;
+mod parts;
+mod rounds;
 mod traffic;
 mod version;
 mod views;
@@ -22,6 +24,11 @@ pub use judge::{
     kroft_flat_open, kroft_flat_owed, kroft_flat_step, kroft_flat_why, kroft_why_text,
 };
 pub use machine::{kroft_apply, kroft_free, kroft_open, kroft_pump, kroft_settled, kroft_weight};
+pub use parts::{
+    kroft_bank_answer, kroft_bank_command, kroft_find, kroft_frame, kroft_frame_word,
+    kroft_queue_entry, kroft_reply, kroft_stack_entry,
+};
+pub use rounds::kroft_drive;
 pub use traffic::kroft_traffic;
 pub use version::kroft_version;
 pub use views::{kroft_bank_word, kroft_field, kroft_register, kroft_target};

@@ -1,2 +1,4 @@
 pub mod Tool
+pub mod Told
+pub mod Program
 pub mod OneTry

@@ -1,21 +1,68 @@
 -- What the program is asked for, and how it ends.
-use Rattle.std.specs.Prelude.{ℕ, ◌≤◌, IfSome}
+use Rattle.std.specs.Prelude.{◌≡◌, ℕ, ◌≤◌, min, Option, Some, None, List, [], ◌∷◌, ◌++◌, take, codes, decimal}
+use Rattle.std.specs.List.{AllByRecursion}
 use Rattle.access_logs.specs.declared.writing.TheConstants.{MAX_WORDS}
 use Rattle.round_driver.specs.declared.driving.TheConstants.{MOST_LATENCY}
+use Rattle.round_driver.specs.Timings.{unpipelined}
+use Rattle.round_driver.specs.declared.timing.Timing.{Timing}
+use Rattle.kroft_command.specs.declared.command_line.TheConstants.{MOST_LATENCIES}
+use Rattle.kroft_command.specs.declared.command_line.Timings.{Timings}
 use Rattle.kroft_command.specs.declared.command_line.Task.{Task}
 use Rattle.kroft_command.specs.declared.command_line.Task.TheVariants.{Sweep, Drive, Requests}
+use Rattle.access_logs.specs.Faults.{no_room_text}
 use Rattle.access_logs.specs.declared.fault.LogFault.{LogFault}
 use Rattle.access_logs.specs.declared.fault.LogFault.TheVariants as log
+use Rattle.run_pictures.specs.declared.show.ShowFault.{ShowFault}
+use Rattle.trace_text.specs.Codes.{line_feed}
+use Rattle.trace_text.specs.declared.fault.TraceFault.{TraceFault}
+use Rattle.trace_text.specs.declared.fault.TraceFault.TheVariants.{Write}
 use Rattle.kroft_jobs.specs.Jobs as jobs
+use Rattle.kroft_jobs.specs.declared.fault.JobFault.TheVariants.{Trace, OutOfMemory}
 use Rattle.kroft_command.specs.declared.fault.ToolFault.{ToolFault}
-use Rattle.kroft_command.specs.declared.fault.ToolFault.TheVariants.{CommandLine, Job, NoRoom, ImageUnreadable}
+use Rattle.kroft_command.specs.declared.fault.LongImage.{LongImage}
+use Rattle.kroft_command.specs.declared.fault.ToolFault.TheVariants.{CommandLine, Job, NoRoom, ImageUnreadable, LongImage as TooLong}
+
+-- times of memory that there may be
+abbrev pub IsTimely : Timing → Type 0
+IsTimely timing = timing.latency ≤ MOST_LATENCY
+
+-- the times of memory that were given to a sweep
+abbrev pub timings_in : Timings → List Timing
+timings_in t = take (min t.given MOST_LATENCIES) t.all
 
 -- the numbers of what is asked for are in their ranges
 abbrev pub IsInRange : Task → Type 0
-IsInRange (Sweep timing) = IfSome timing (λ t. t.latency ≤ MOST_LATENCY)
-IsInRange (Drive timing summary) = timing.latency ≤ MOST_LATENCY
+IsInRange (Sweep timings form) = AllByRecursion IsTimely timings.all
+IsInRange (Drive timing summary all form) = IsTimely timing
 IsInRange (Requests from words) = words ≤ MAX_WORDS
 IsInRange task = Unit {0}
+
+-- ---- numbers that may be left out
+
+-- rounds from a command's begin to its service, ten if none are given
+abbrev pub latency_or_usual : Option ℕ → ℕ
+latency_or_usual None = 10
+latency_or_usual (Some latency) = latency
+
+-- the times of memory: one command at a time, unless the rounds between two begins are given
+abbrev pub timing_with : ℕ → Option ℕ → Timing
+timing_with latency None = unpipelined latency
+timing_with latency (Some busy) = record { latency = latency; busy = busy }
+
+-- the words of memory, as many as there may be if none are given
+abbrev pub words_or_most : Option ℕ → ℕ
+words_or_most None = MAX_WORDS
+words_or_most (Some words) = min words MAX_WORDS
+
+-- ---- faults
+
+-- a write or a flush of the output was refused
+abbrev pub write_fault : ToolFault
+write_fault = Job (Trace Write)
+
+-- memory is missing
+abbrev pub no_memory : ToolFault
+no_memory = Job OutOfMemory
 
 -- the status with which the program ends at a fault
 abbrev pub status_of : ToolFault → ℕ
@@ -23,8 +70,33 @@ status_of (CommandLine error) = 2
 status_of (Job fault) = jobs.status_of fault
 status_of (NoRoom fault) = 4
 status_of ImageUnreadable = 4
+status_of (TooLong image) = 4
 
--- what is told of a log's fault
+-- a text with its LF
+abbrev pub line : List ℕ → List ℕ
+line text = text ++ line_feed ∷ []
+
+-- what is told of an image for which memory has no room
+abbrev pub long_image_text : LongImage → List ℕ
+long_image_text image =
+    codes "image: longer than memory: " ++ (decimal image.bytes ++ (codes " bytes, and memory has " ++ decimal image.memory))
+
+-- The line of a fault, with its LF. What `clap` says of refused words ends its own line, and no contract says it.
+abbrev pub IsLineOf : ToolFault → List ℕ → Type 0
+IsLineOf (CommandLine error) text = Unit {0}
+IsLineOf (Job fault) text = text ≡ line (jobs.fault_text fault)
+IsLineOf (NoRoom fault) text = text ≡ line (no_room_text fault)
+IsLineOf ImageUnreadable text = text ≡ line (codes "image: file not readable")
+IsLineOf (TooLong image) text = text ≡ line (long_image_text image)
+
+-- ---- what is told of a fault below
+
+abbrev pub of_trace : TraceFault → ToolFault
+of_trace fault = Job (jobs.of_trace fault)
+
+abbrev pub of_show : ShowFault → ToolFault
+of_show fault = Job (jobs.of_show fault)
+
 abbrev pub of_log : LogFault → ToolFault
-of_log (log.Trace fault) = Job (jobs.of_trace fault)
+of_log (log.Trace fault) = of_trace fault
 of_log (log.NoRoom fault) = NoRoom fault

@@ -1,17 +1,20 @@
 //! The words of the command line.
 
 ghost use Rattle.std.specs.Prelude.{◌≡◌, ◌≤◌, IfOk, IfSome};
+ghost use Rattle.std.specs.Option.{option_or};
+ghost use Rattle.std.specs.List.{All, AllByRecursion};
 ghost use Rattle.access_logs.specs.declared.writing.TheConstants.{MAX_WORDS};
 ghost use Rattle.round_driver.specs.declared.driving.TheConstants.{MOST_LATENCY};
-ghost use Rattle.kroft_command.specs.Tool.{IsInRange};
+ghost use Rattle.kroft_command.specs.Tool.{IsInRange, IsTimely, latency_or_usual, timing_with, timings_in, words_or_most};
 
-use crate::commands::{BUSY, FILE, LATENCY, Subcommand, program, shown};
+use crate::commands::{BUSY, FILE, LATENCY, SVG, Subcommand, program, shown};
 use access_logs::MAX_WORDS;
 use atomic_histories::{DEFAULT_LIMIT, UnitSize};
 use clap::error::ErrorKind;
 use clap::{ArgMatches, Error};
 use history_text::HistoryLaw;
 use memory_histories::Rest;
+use named_fields::Format;
 use round_driver::{MOST_LATENCY, Timing};
 use run_pictures::Form;
 use std::alloc::{AllocError, Global};
@@ -25,29 +28,112 @@ pub(crate) enum LogName {
     Din,
 }
 
+/// How counts are shown.
+#[derive(Clone, Copy)]
+pub(crate) enum CountForm {
+    /// As lines in a format.
+    Lines(Format),
+    /// As a figure.
+    Figure,
+}
+
+/// How many latencies a sweep takes at most.
+const MOST_LATENCIES: usize = 8;
+
+/// The times of memory of a sweep, in the order in which they are swept: none if it makes no rounds.
+#[derive(Clone, Copy)]
+pub(crate) struct Timings {
+    /// How many were given.
+    given: usize,
+    /// The first eight of them. What stands behind the last one that was given means nothing.
+    all: [Timing; MOST_LATENCIES],
+}
+
+impl Timings {
+    /// The times that were given.
+    #[tactic(auto, using(crate::proofs::Timings::all_taken))]
+    pub(crate) fn as_slice(&self) -> &[Timing]
+        ensures given { result.now ≡ timings_in self.now }
+        ensures timely { AllByRecursion IsTimely self.now.all → All IsTimely result.now }
+    {
+        &self.all[..self.given.min(MOST_LATENCIES)]
+    }
+
+    // The first of them.
+    fn first(&self) -> Option<Timing> {
+        if self.given == 0 {
+            None
+        } else {
+            Some(self.all[0])
+        }
+    }
+
+    // Why they can't be swept, if they can't.
+    fn conflict(&self) -> Option<&'static str> {
+        if self.given > MOST_LATENCIES {
+            Some("too many values for '--latency <L>': at most 8 are swept")
+        } else if is_ascending(self.as_slice()) {
+            None
+        } else {
+            Some(
+                "invalid value for '--latency <L>': each latency has to be more than the one before it",
+            )
+        }
+    }
+}
+
+// Whether each latency is more than the one before it.
+fn is_ascending(timings: &[Timing]) -> bool {
+    let mut least = 0;
+    for timing in timings {
+        if timing.latency < least {
+            return false;
+        }
+        least = timing.latency.saturating_add(1);
+    }
+    true
+}
+
 /// What the program is asked to do with the trace on its input.
 #[derive(Clone, Copy)]
 pub(crate) enum Task {
     /// Serve its lines on a new machine.
     Run,
     /// Judge its lines, as `Run` writes them, against flat memory.
-    Check,
+    Check {
+        /// Whether loads that are open at the end are a fault.
+        all_answered: bool,
+        /// How the verdict is written.
+        format: Format,
+    },
     /// Serve its requests with 1, 2, 4 and 8 registers.
     Sweep {
         /// How long a bank takes for a command, if the requests are driven in rounds; none if they
         /// are served by pumps.
-        timing: Option<Timing>,
+        timings: Timings,
+        /// How the rows are shown.
+        form: CountForm,
     },
     /// Judge its lines up to the first that flat memory doesn't explain, and say why.
-    Explain,
+    Explain {
+        /// How the explanation is written.
+        format: Format,
+    },
     /// Grade the predictions that stand behind its lines.
-    Grade,
+    Grade {
+        /// How the grade is written.
+        format: Format,
+    },
     /// Drive its requests in rounds.
     Drive {
         /// How long a bank takes for a command.
         timing: Timing,
         /// Whether a table of counts is written in place of the run.
         summary: bool,
+        /// Whether the table has all details.
+        all: bool,
+        /// How the table is shown.
+        form: CountForm,
     },
     /// Write the requests of a log of accesses.
     Requests {
@@ -78,6 +164,19 @@ pub(crate) struct HistoryTask {
     pub all_answered: bool,
     /// Whether its lines are written, with what the loads may have returned.
     pub values: bool,
+    /// How the verdict is written.
+    pub format: Format,
+}
+
+/// What memory begins with, as the words name it.
+#[derive(Clone, Copy)]
+pub(crate) enum ImageName<'a> {
+    /// Zeros, where nothing is named.
+    Zeros,
+    /// Each word its own address.
+    Address,
+    /// What the file of this path has.
+    File(&'a str),
 }
 
 /// What the words of the command line ask for.
@@ -87,8 +186,8 @@ pub(crate) struct CommandLine<'a> {
     pub task: Task,
     /// The path of the shape file, where one is given.
     pub shape_file: Option<&'a str>,
-    /// The path of the image of memory, where one is given.
-    pub image_file: Option<&'a str>,
+    /// What memory begins with.
+    pub image: ImageName<'a>,
 }
 
 /// Rounds from a command's begin to its service, where none are given.
@@ -104,23 +203,104 @@ fn latency_of(rest: &ArgMatches<'_>) -> Option<u64>
     }
 }
 
-// The times of memory that are asked for with this latency: one command at a time, unless `busy` is given.
-fn timing_with(rest: &ArgMatches<'_>, latency: u64) -> Timing
-    ensures { result.latency ≡ latency }
+// The latency of a drive.
+fn latency_or_usual(asked: Option<u64>) -> u64
+    ensures { result ≡ latency_or_usual asked }
 {
-    match rest.get_one::<u64>(BUSY) {
+    asked.unwrap_or(USUAL_LATENCY)
+}
+
+// The times of memory with this latency: one command at a time, unless `busy` is given.
+fn timing_with(latency: u64, busy: Option<u64>) -> Timing
+    ensures { result ≡ timing_with latency busy }
+{
+    match busy {
         Some(busy) => Timing { latency, busy },
         None => Timing::unpipelined(latency),
     }
 }
 
-// The words of memory that are asked for. More were refused, as for the latency.
-fn words_of(rest: &ArgMatches<'_>) -> u32
-    ensures { result ≤ MAX_WORDS }
+// The words of memory. More than there may be were refused, as for the latency.
+fn words_or_most(asked: Option<u32>) -> u32
+    ensures { result ≡ words_or_most asked }
 {
-    match rest.get_one::<u32>("words") {
+    match asked {
         Some(words) => words.min(MAX_WORDS),
         None => MAX_WORDS,
+    }
+}
+
+// How what is found is written.
+fn format_of(rest: &ArgMatches<'_>) -> Format {
+    match rest.get_str("format") {
+        Some("csv") => Format::Csv,
+        Some("json") => Format::Json,
+        _ => Format::Text,
+    }
+}
+
+// How counts are shown. A format beside a figure was refused.
+fn count_form_of(rest: &ArgMatches<'_>) -> CountForm {
+    if rest.get_flag(SVG) {
+        CountForm::Figure
+    } else {
+        CountForm::Lines(format_of(rest))
+    }
+}
+
+// The latency of this place among those that are asked for: 0 if there are fewer.
+fn latency_at(rest: &ArgMatches<'_>, place: usize) -> u64 {
+    match rest.get_many::<u64>(LATENCY) {
+        Some(mut given) => match given.nth(place) {
+            Some(Ok(latency)) => latency,
+            _ => 0,
+        },
+        None => 0,
+    }
+}
+
+// The times of memory with this latency. A greater one than there may be was refused.
+fn timing_at(rest: &ArgMatches<'_>, place: usize) -> Timing
+    ensures { result.latency ≤ MOST_LATENCY }
+{
+    let latency = latency_at(rest, place).min(MOST_LATENCY);
+    timing_with(latency, rest.get_one::<u64>(BUSY))
+}
+
+// How many latencies are asked for.
+fn latency_count(rest: &ArgMatches<'_>) -> usize {
+    match rest.get_raw(LATENCY) {
+        Some(given) => given.len(),
+        None => 0,
+    }
+}
+
+// The times of memory of a sweep.
+fn timings_of(rest: &ArgMatches<'_>) -> Timings
+    ensures { AllByRecursion IsTimely result.all }
+{
+    Timings {
+        given: latency_count(rest),
+        all: [
+            timing_at(rest, 0),
+            timing_at(rest, 1),
+            timing_at(rest, 2),
+            timing_at(rest, 3),
+            timing_at(rest, 4),
+            timing_at(rest, 5),
+            timing_at(rest, 6),
+            timing_at(rest, 7),
+        ],
+    }
+}
+
+// What the words behind `check` ask for.
+fn check_task(rest: &ArgMatches<'_>) -> Task
+    ensures { IsInRange result }
+{
+    Task::Check {
+        all_answered: rest.get_flag("all-answered"),
+        format: format_of(rest),
     }
 }
 
@@ -129,10 +309,8 @@ fn sweep_task(rest: &ArgMatches<'_>) -> Task
     ensures { IsInRange result }
 {
     Task::Sweep {
-        timing: match latency_of(rest) {
-            Some(latency) => Some(timing_with(rest, latency)),
-            None => None,
-        },
+        timings: timings_of(rest),
+        form: count_form_of(rest),
     }
 }
 
@@ -141,8 +319,13 @@ fn drive_task(rest: &ArgMatches<'_>) -> Task
     ensures { IsInRange result }
 {
     Task::Drive {
-        timing: timing_with(rest, latency_of(rest).unwrap_or(USUAL_LATENCY)),
+        timing: timing_with(
+            latency_or_usual(latency_of(rest)),
+            rest.get_one::<u64>(BUSY),
+        ),
         summary: rest.get_flag("summary"),
+        all: rest.get_flag("all"),
+        form: count_form_of(rest),
     }
 }
 
@@ -155,21 +338,32 @@ fn requests_task(rest: &ArgMatches<'_>) -> Task
             Some("din") => LogName::Din,
             _ => LogName::Lackey,
         },
-        words: words_of(rest),
+        words: words_or_most(rest.get_one::<u32>("words")),
     }
 }
 
-// The times of memory of a task that makes rounds.
+// The times of memory of a task that makes rounds, with the least latency.
 fn timing_of(task: Task) -> Option<Timing> {
     match task {
         Task::Drive { timing, .. } => Some(timing),
-        Task::Sweep { timing } => timing,
+        Task::Sweep { timings, .. } => timings.first(),
+        _ => None,
+    }
+}
+
+// Why latencies can't be swept, if they can't.
+fn latency_conflict(task: Task) -> Option<&'static str> {
+    match task {
+        Task::Sweep { timings, .. } => timings.conflict(),
         _ => None,
     }
 }
 
 // Why a history can't be judged so, if it can't.
 fn history_conflict(asked: HistoryTask) -> Option<&'static str> {
+    if asked.values && asked.format != Format::Text {
+        return Some("the argument '--values' cannot be used with '--format <FORMAT>'");
+    }
     match asked.law {
         HistoryLaw::Atomic { .. } if asked.values => {
             Some("the argument '--values' cannot be used with '--law atomic'")
@@ -185,6 +379,9 @@ fn history_conflict(asked: HistoryTask) -> Option<&'static str> {
 fn conflict(task: Task, before: Option<&str>, behind: Option<&str>) -> Option<&'static str> {
     if before.is_some() && behind.is_some() {
         return Some("the argument '--shape <FILE>' cannot be used multiple times");
+    }
+    if let Some(why) = latency_conflict(task) {
+        return Some(why);
     }
     match timing_of(task) {
         Some(timing) if timing.busy > timing.latency => {
@@ -261,13 +458,27 @@ fn history_task(rest: &ArgMatches<'_>) -> Task
         rest: beyond,
         all_answered: rest.get_flag("all-answered"),
         values: rest.get_flag("values"),
+        format: format_of(rest),
     })
 }
 
-// The image that is asked for. Only `history` has one.
-fn image_of<'a>(task: Task, rest: &ArgMatches<'a>) -> Option<&'a str> {
-    match task {
-        Task::History(_) => rest.get_str("image"),
+// What memory begins with. Commands that take no image have zeros.
+fn image_of<'a>(rest: &ArgMatches<'a>) -> ImageName<'a> {
+    match rest.get_str("image") {
+        Some("address") => ImageName::Address,
+        Some(path) => ImageName::File(path),
+        None => ImageName::Zeros,
+    }
+}
+
+// Why a task can't begin with this image, if it can't: the memory of a history is bytes, and has no end.
+fn image_conflict(task: Task, image: ImageName<'_>) -> Option<&'static str> {
+    match (task, image) {
+        (Task::History(_), ImageName::Address) => {
+            Some(
+                "invalid value 'address' for '--image <FILE>': the memory of a history has no words (write './address' for a file of this name)",
+            )
+        }
         _ => None,
     }
 }
@@ -278,10 +489,14 @@ fn task_of(subcommand: Subcommand, rest: &ArgMatches<'_>) -> Task
 {
     match subcommand {
         Subcommand::Run => Task::Run,
-        Subcommand::Check => Task::Check,
+        Subcommand::Check => check_task(rest),
         Subcommand::Sweep => sweep_task(rest),
-        Subcommand::Explain => Task::Explain,
-        Subcommand::Grade => Task::Grade,
+        Subcommand::Explain => Task::Explain {
+            format: format_of(rest),
+        },
+        Subcommand::Grade => Task::Grade {
+            format: format_of(rest),
+        },
         Subcommand::Drive => drive_task(rest),
         Subcommand::Requests => requests_task(rest),
         Subcommand::Show => show_task(rest),
@@ -315,7 +530,7 @@ struct Asked<'a> {
     task: Task,
     before: Option<&'a str>,
     behind: Option<&'a str>,
-    image: Option<&'a str>,
+    image: ImageName<'a>,
     file: Option<&'a str>,
 }
 
@@ -331,7 +546,7 @@ fn asked_for<'a>(subcommand: Subcommand, matches: &ArgMatches<'a>) -> Asked<'a>
                 task,
                 before: shape,
                 behind: rest.get_str("shape"),
-                image: image_of(task, rest),
+                image: image_of(rest),
                 file: rest.get_str(FILE),
             }
         }
@@ -339,7 +554,7 @@ fn asked_for<'a>(subcommand: Subcommand, matches: &ArgMatches<'a>) -> Asked<'a>
             task: Task::Run,
             before: shape,
             behind: None,
-            image: None,
+            image: ImageName::Zeros,
             file: None,
         },
     }
@@ -352,14 +567,18 @@ fn allowed<'a>(
     asked: Asked<'a>,
 ) -> Result<CommandLine<'a>, Error>
     requires { IsInRange asked.task }
-    ensures { IfOk result (λ asked. IsInRange asked.task) }
+    ensures range { IfOk result (λ told. IsInRange told.task) }
+    ensures shape { IfOk result
+        (λ told. told.shape_file ≡ option_or asked.entry.before asked.entry.behind) }
+    ensures image { IfOk result (λ told. told.image ≡ asked.entry.image) }
 {
-    match conflict(asked.task, asked.before, asked.behind) {
+    let why = conflict(asked.task, asked.before, asked.behind);
+    match why.or(image_conflict(asked.task, asked.image)) {
         Some(why) => Err(refusal(alloc, subcommand, ErrorKind::ArgumentConflict, why)?),
         None => Ok(CommandLine {
             task: asked.task,
             shape_file: asked.before.or(asked.behind),
-            image_file: asked.image,
+            image: asked.image,
         }),
     }
 }

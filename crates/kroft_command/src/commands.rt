@@ -18,6 +18,9 @@ pub(crate) const LATENCY: &str = "latency";
 /// The name of the argument for the rounds between two begins of a bank.
 pub(crate) const BUSY: &str = "busy";
 
+/// The name of the argument for a figure.
+pub(crate) const SVG: &str = "svg";
+
 /// The name of the argument that stands for files' names.
 pub(crate) const FILE: &str = "file";
 
@@ -146,6 +149,15 @@ fn shape_argument<'a>(alloc: Global) -> Arg<'a> {
         .help("The TOML file with the machine's numbers")
 }
 
+// The argument for what a machine's memory has before the first store.
+fn memory_argument<'a>(alloc: Global) -> Arg<'a> {
+    Arg::new(alloc, "image")
+        .long("image")
+        .value_name("address|FILE")
+        .action(ArgAction::Set)
+        .help("What memory has in place of zeros: each word its own address, or a file's bytes")
+}
+
 // The argument for the latency of rounds.
 fn latency_argument<'a>(alloc: Global, help: &'a str) -> Arg<'a> {
     Arg::new(alloc, LATENCY)
@@ -217,12 +229,13 @@ fn file_argument<'a>(alloc: Global) -> Arg<'a> {
         .hide(true)
 }
 
-// The argument for the latency of a sweep.
+// The argument for the latencies of a sweep.
 fn sweep_latency<'a>(alloc: Global) -> Arg<'a> {
     latency_argument(
         alloc,
-        "Count rounds, with this many from a command's begin to its service, 0 to 1000",
+        "Count rounds, with this many from a command's begin to its service, 0 to 1000, or up to 8 ascending ones: 5,20,80",
     )
+    .value_delimiter(',')
 }
 
 // The argument for the latency of a drive.
@@ -233,11 +246,71 @@ fn drive_latency<'a>(alloc: Global) -> Arg<'a> {
     )
 }
 
+// What the helps say of `--format`.
+const VERDICT_FORMAT: &str = "How the verdict is written [default: text]";
+
+const EXPLANATION_FORMAT: &str = "How the explanation is written [default: text]";
+
+const GRADE_FORMAT: &str = "How the grade is written [default: text]";
+
+// Adds the argument for how what is found is written.
+fn push_format<'a>(
+    alloc: Global,
+    args: &mut Vec<Arg<'a>>,
+    help: &'a str,
+) -> Result<(), AllocError> {
+    args.push(format_argument(alloc, help))?;
+    Ok(())
+}
+
+// Adds the options of `check` alone.
+fn push_check<'a>(alloc: Global, args: &mut Vec<Arg<'a>>) -> Result<(), AllocError> {
+    args.push(flag(
+        alloc,
+        "all-answered",
+        "End with status 1 if loads are open at the end, and tell their tags",
+    ))?;
+    push_format(alloc, args, VERDICT_FORMAT)
+}
+
+// The argument for how what is found is written.
+fn format_argument<'a>(alloc: Global, help: &'a str) -> Arg<'a> {
+    Arg::new(alloc, "format")
+        .long("format")
+        .value_name("FORMAT")
+        .action(ArgAction::Set)
+        .value_parser(["text", "csv", "json"].as_slice())
+        .help(help)
+}
+
+// The argument for a figure. It stands for itself: no format goes with it.
+fn svg_argument<'a>(alloc: Global, help: &'a str) -> Result<Arg<'a>, AllocError> {
+    flag(alloc, SVG, help).conflicts_with("format")
+}
+
 // Adds the options of `sweep` alone. Without a latency it makes no rounds, so no bank is busy.
 fn push_sweep<'a>(alloc: Global, args: &mut Vec<Arg<'a>>) -> Result<(), AllocError> {
     args.push(sweep_latency(alloc))?;
     args.push(busy_argument(alloc).requires_arg(LATENCY)?)?;
+    args.push(counts_format(alloc))?;
+    let figure = "Draw the rounds by the number of registers, a line for each latency";
+    args.push(svg_argument(alloc, figure)?.requires_arg(LATENCY)?)?;
     Ok(())
+}
+
+// The argument for how counts are written.
+fn counts_format<'a>(alloc: Global) -> Arg<'a> {
+    format_argument(alloc, "How the counts are written [default: text]")
+}
+
+// The flag for all details of a drive.
+fn all_argument<'a>(alloc: Global) -> Result<Arg<'a>, AllocError> {
+    let all = flag(
+        alloc,
+        "all",
+        "Count more: by kind and set, rounds by registers in use and loads owed, loads by wait",
+    );
+    all.requires_arg("summary")
 }
 
 // Adds the options of `drive` alone.
@@ -245,6 +318,10 @@ fn push_drive<'a>(alloc: Global, args: &mut Vec<Arg<'a>>) -> Result<(), AllocErr
     args.push(drive_latency(alloc))?;
     args.push(busy_argument(alloc))?;
     args.push(flag(alloc, "summary", "Write counts in place of the run"))?;
+    args.push(all_argument(alloc)?)?;
+    args.push(counts_format(alloc).requires_arg("summary")?)?;
+    let figure = "Draw the rounds that were lost, a bar for each cause";
+    args.push(svg_argument(alloc, figure)?.requires_arg("summary")?)?;
     Ok(())
 }
 
@@ -321,7 +398,7 @@ fn push_history<'a>(alloc: Global, args: &mut Vec<Arg<'a>>) -> Result<(), AllocE
         "values",
         "Write each line, and behind a load's response what it may have returned",
     ))?;
-    Ok(())
+    push_format(alloc, args, VERDICT_FORMAT)
 }
 
 // Adds the options that only one command takes.
@@ -332,7 +409,10 @@ fn push_own_options<'a>(
     takes_file: bool,
 ) -> Result<(), AllocError> {
     match subcommand {
-        Subcommand::Run | Subcommand::Check | Subcommand::Explain | Subcommand::Grade => Ok(()),
+        Subcommand::Run => Ok(()),
+        Subcommand::Explain => push_format(alloc, args, EXPLANATION_FORMAT),
+        Subcommand::Grade => push_format(alloc, args, GRADE_FORMAT),
+        Subcommand::Check => push_check(alloc, args),
         Subcommand::Sweep => push_sweep(alloc, args),
         Subcommand::Drive => push_drive(alloc, args),
         Subcommand::Requests => push_requests(alloc, args, takes_file),
@@ -357,6 +437,19 @@ fn push_shape<'a>(
     }
 }
 
+// Adds the argument for what a machine's memory begins with. A sweep's counts don't depend on it, and a
+// history has one of its own.
+fn push_image<'a>(
+    alloc: Global,
+    args: &mut Vec<Arg<'a>>,
+    subcommand: Subcommand,
+) -> Result<(), AllocError> {
+    match subcommand {
+        Subcommand::Sweep | Subcommand::Requests | Subcommand::History => Ok(()),
+        _ => push_argument(args, memory_argument(alloc)),
+    }
+}
+
 // The options of a command, and the name of a file behind them if one is taken.
 fn arguments_of<'a>(
     alloc: Global,
@@ -365,6 +458,7 @@ fn arguments_of<'a>(
 ) -> Result<Vec<Arg<'a>>, AllocError> {
     let mut args = Vec::new(alloc);
     push_shape(alloc, &mut args, subcommand)?;
+    push_image(alloc, &mut args, subcommand)?;
     push_own_options(alloc, &mut args, subcommand, takes_file)?;
     if takes_file {
         push_argument(&mut args, file_argument(alloc))?;

@@ -1,11 +1,16 @@
 //! Why the program ends without having done what it was asked for.
 
-ghost use Rattle.std.specs.Prelude.{◌≡◌};
-ghost use Rattle.kroft_command.specs.Tool.{status_of};
+ghost use Rattle.std.specs.Prelude.{◌≡◌, Some, IfOk};
+ghost use Rattle.std.specs.String.{string_bytes};
+ghost use Rattle.kroft_command.specs.Tool.{status_of, long_image_text, IsLineOf};
+ghost use Rattle.kroft_command.specs.Told.{TellsFault};
 
 use access_logs::{LogFault, NoRoom};
-use kroft_jobs::JobFault;
-use std::io::Write;
+use kroft_jobs::{JobFault, put_text};
+use run_pictures::ShowFault;
+use std::alloc::{AllocError, Global};
+use std::fmt;
+use trace_text::{Sink, TraceFault};
 
 /// Why the program ends without having done what it was asked for.
 #[derive(Drop)]
@@ -16,8 +21,32 @@ pub enum ToolFault {
     Job(JobFault),
     /// A log touches a page for which there is no room.
     NoRoom(NoRoom),
-    /// The image of a history's memory can't be read.
+    /// The image of memory can't be read.
     ImageUnreadable,
+    /// The image has more bytes than memory.
+    LongImage(LongImage),
+}
+
+/// An image for which memory has no room.
+#[derive(Clone, Copy, Debug, Drop)]
+pub struct LongImage {
+    /// The bytes of the image.
+    pub bytes: usize,
+    /// The bytes of memory.
+    pub memory: usize,
+}
+
+/// How many bytes the image has, and how many memory has.
+impl fmt::Display for LongImage {
+    ghost output = { λ image. Some (long_image_text image) };
+
+    fn fmt<W: fmt::Write>(&self, f: &mut fmt::Formatter<W>) -> fmt::Result {
+        let LongImage { bytes, memory } = *self;
+        write!(
+            f,
+            "image: longer than memory: {bytes} bytes, and memory has {memory}"
+        )
+    }
 }
 
 impl ToolFault {
@@ -28,20 +57,38 @@ impl ToolFault {
         match self {
             ToolFault::CommandLine(_) => 2,
             ToolFault::Job(fault) => fault.status(),
-            ToolFault::NoRoom(_) | ToolFault::ImageUnreadable => 4,
+            ToolFault::NoRoom(_) | ToolFault::ImageUnreadable | ToolFault::LongImage(_) => 4,
         }
     }
 
-    /// Writes the fault as a line. If that fails as well, nothing is left to tell it to.
-    pub fn tell<E: Write>(&self, errors: &mut E) {
-        let _told = match self {
-            // This text ends its own line.
-            ToolFault::CommandLine(error) => write!(errors, "{error}"),
-            ToolFault::Job(fault) => writeln!(errors, "{fault}"),
-            ToolFault::NoRoom(fault) => writeln!(errors, "{fault}"),
-            ToolFault::ImageUnreadable => writeln!(errors, "image: file not readable"),
-        };
-        let _flushed = errors.flush();
+    // The fault as a line. What `clap` says ends its own line.
+    fn line(&self, alloc: Global) -> Result<String, AllocError>
+        ensures { IfOk result (λ text. IsLineOf self.now (string_bytes text)) }
+    {
+        match self {
+            ToolFault::CommandLine(error) => format!(in alloc; "{error}"),
+            ToolFault::Job(fault) => format!(in alloc; "{fault}\n"),
+            ToolFault::NoRoom(fault) => format!(in alloc; "{fault}\n"),
+            ToolFault::ImageUnreadable => format!(in alloc; "image: file not readable\n"),
+            ToolFault::LongImage(image) => format!(in alloc; "{image}\n"),
+        }
+    }
+
+    /// Writes the fault as a line, and gives the status with which the program ends. If there is no memory
+    /// for the line, that is told in its place. If the writer refuses it, nothing is left to tell it to.
+    pub fn tell<E: Sink>(&self, alloc: Global, errors: &mut E) -> u8
+        ensures { TellsFault E.took E.refused E.unflushed self.now errors.old errors.new result }
+    {
+        match self.line(alloc) {
+            Ok(line) => {
+                let _told = put_text(errors, line.as_bytes());
+                self.status()
+            }
+            Err(_) => {
+                let _told = put_text(errors, b"out of memory\n");
+                JobFault::OutOfMemory.status()
+            }
+        }
     }
 }
 
@@ -56,6 +103,39 @@ impl From<JobFault> for ToolFault {
     }
 }
 
+impl From<TraceFault> for ToolFault {
+    ghost use Rattle.std.specs.Prelude.{◌≡◌};
+    ghost use Rattle.kroft_command.specs.Tool.{of_trace};
+
+    ghost from_gives = { λ e f. f ≡ of_trace e };
+
+    fn from(fault: TraceFault) -> ToolFault {
+        ToolFault::Job(JobFault::from(fault))
+    }
+}
+
+impl From<ShowFault> for ToolFault {
+    ghost use Rattle.std.specs.Prelude.{◌≡◌};
+    ghost use Rattle.kroft_command.specs.Tool.{of_show};
+
+    ghost from_gives = { λ e f. f ≡ of_show e };
+
+    fn from(fault: ShowFault) -> ToolFault {
+        ToolFault::Job(JobFault::from(fault))
+    }
+}
+
+impl From<AllocError> for ToolFault {
+    ghost use Rattle.std.specs.Prelude.{◌≡◌};
+    ghost use Rattle.kroft_command.specs.Tool.{no_memory};
+
+    ghost from_gives = { λ e f. f ≡ no_memory };
+
+    fn from(_fault: AllocError) -> ToolFault {
+        ToolFault::Job(JobFault::OutOfMemory)
+    }
+}
+
 impl From<LogFault> for ToolFault {
     ghost use Rattle.std.specs.Prelude.{◌≡◌};
     ghost use Rattle.kroft_command.specs.Tool.{of_log};
@@ -64,7 +144,7 @@ impl From<LogFault> for ToolFault {
 
     fn from(fault: LogFault) -> ToolFault {
         match fault {
-            LogFault::Trace(fault) => ToolFault::Job(JobFault::from(fault)),
+            LogFault::Trace(fault) => ToolFault::from(fault),
             LogFault::NoRoom(fault) => ToolFault::NoRoom(fault),
         }
     }

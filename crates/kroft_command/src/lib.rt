@@ -8,6 +8,7 @@ mod fault;
 mod notes;
 mod one_try;
 mod program;
+mod tasks;
 
 pub use one_try::OneTryWriter;
 pub use program::tool;

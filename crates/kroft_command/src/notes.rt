@@ -10,7 +10,7 @@ Statuses:
      history an answer that its law doesn't allow
   2  the command line is wrong
   3  the shape file is wrong
-  4  the input is wrong, or a stream failed
+  4  the input or the image is wrong, or a stream failed
   5  there is too little memory
   6  history can't tell
 
@@ -55,8 +55,14 @@ were processed. For each word: how many loads wait for it (or -), I: it stands i
 P: it was processed; the bytes that the arriving word leaves alone; and of the first load that
 waits its tag, the bytes that it holds already, and their values.
 
+Memory begins with zeros. With --image address each word begins with its own address, the lowest
+byte first: word 4 is 04000000, so a value shows which word it is from. With --image FILE memory
+begins with the bytes of the file, in the order of memory, and with zeros behind them; a file that
+is longer than memory is refused. A file named address is './address'.
+
 Statuses: 0 all lines were served, 2 the command line is wrong, 3 the shape file is wrong,
-4 a line is faulty or a stream failed, 5 there is too little memory.
+4 a line is faulty, the image can't be read or is longer than memory, or a stream failed,
+5 there is too little memory.
 
 Example:
   $ printf 'load 1 4\\nserve 0\\n' | kroft run
@@ -74,12 +80,18 @@ What stands behind the ' -> ' of 'reg', 'bank' and 'settled' is passed over. A l
 most 768 bytes.
 Writes 'flat run, N steps', or 'mismatch at line N' for the first line that flat memory
 doesn't explain. Flat memory is words with no cache: a load is owed the word as it stood when the
-load was accepted. Memory begins with zeros; of a shape file only the words matter.
+load was accepted. Memory begins with zeros, or as the run's did with its --image ('kroft run
+--help' describes images); of a shape file only the words matter.
+A load that was accepted and never answered is no mismatch. With --all-answered it is a fault: a flat
+run that ends with K such loads is told as 'flat run, N steps, K loads open: tags T U ..'.
+With --format csv a line of names goes before a row with verdict, steps, line (and open, a list); with
+--format json they are an object.
 It is no grader: a flat run may be none of this machine, since most answers ('accepted', 'refused 7',
 'moved') are those of some cache. 'kroft grade' compares predictions with the machine's own answers.
 
-Statuses: 0 the run is flat, 1 it isn't, 2 the command line is wrong, 3 the shape file is wrong,
-4 a line is faulty or a stream failed, 5 there is too little memory.
+Statuses: 0 the run is flat, 1 it isn't (or, with --all-answered, loads are open), 2 the command line is
+wrong, 3 the shape file is wrong, 4 a line is faulty, the image is wrong or a stream failed, 5 there is
+too little memory.
 
 Example:
   $ echo 'take 0 -> value 1 00000000' | kroft check
@@ -97,7 +109,11 @@ requests wait one after another. So on a long trace the rows hardly differ. A sh
 number of registers isn't used.
 With --latency L the requests are driven in rounds instead ('kroft drive --help' describes them),
 and each row has 'regs N' and the counts of 'drive --latency L --summary' with N registers; with
---busy B those of 'drive --latency L --busy B --summary'.
+--busy B those of 'drive --latency L --busy B --summary'. With several latencies, each more than
+the one before it, the requests are driven with each in turn, and 'latency L' goes before each row.
+With --format csv a line of names goes before the rows, which are figures alone; with --format json
+each row is an object, on a line of its own. The names are those of the text. With --svg the rounds
+are drawn by the number of registers, a line for each latency, as a figure that a browser shows.
 
 Statuses: 0 done, 2 the command line is wrong, 3 the shape file is wrong, 4 a line is faulty or a
 stream failed, 5 there is too little memory. (The limit of turns that a sweep has for callers
@@ -116,10 +132,13 @@ first line that flat memory doesn't explain, and says why: which load the value 
 what it is owed, and which lines stored its bytes. A faulty line ends it too. On a pipe that is
 still being written the answer comes with the line; a run may have any number of lines.
 Writes 'flat run, N steps', or 'mismatch at line N: LINE' and its reason, in at most six lines.
-Memory begins with zeros; of a shape file only the words matter.
+With --format csv a line of names goes before a row, with --format json it is an object: the line, its
+event and answer, the reason by a name, its numbers, and the lines that each byte comes from.
+Memory begins with zeros, or as the run's did with its --image ('kroft run --help' describes images);
+of a shape file only the words matter.
 
 Statuses: 0 the run is flat, 1 it isn't, 2 the command line is wrong, 3 the shape file is wrong,
-4 a line is faulty or a stream failed, 5 there is too little memory.
+4 a line is faulty, the image is wrong or a stream failed, 5 there is too little memory.
 
 Example:
   $ echo 'take 0 -> value 1 00000000' | kroft explain
@@ -137,10 +156,13 @@ Behind 'reg', 'bank' and 'settled' stands what 'run' would show, as any printabl
 ' -> ' is served, and nothing is asked of it. A line has at most 768 bytes, and 64 before its ' -> '.
 The machine runs on by its own answers, whatever was predicted.
 Writes each wrong line with its number, and below it what the answer is, and why; and at the end how
-many of all predictions are right, and how many are open. What is open isn't wrong.
+many of all predictions are right, and how many are open. What is open isn't wrong. With an image
+With --format csv a line of names goes before a row for each wrong line, with --format json each is an
+object; the score is the last of them, and their 'kind' tells it apart.
+('kroft run --help' describes them) the values are those that memory has.
 
 Statuses: 0 no prediction is wrong, 1 some are, 2 the command line is wrong, 3 the shape file is wrong,
-4 a line is faulty or a stream failed, 5 there is too little memory.
+4 a line is faulty, the image is wrong or a stream failed, 5 there is too little memory.
 
 Example:
   $ printf 'load 1 4 -> accepted hit\\nload 2 5 -> accepted join\\n' | kroft grade
@@ -167,10 +189,20 @@ them. With --summary, in their place, one line of counts: rounds, the last of wh
 requests accepted and denied; of those accepted how many found their word at hand (hits) or on its
 way (joins), or asked for its block (misses); requests that stalled; rounds lost by each cause;
 loads answered, their mean and longest wait in rounds; the most registers in use at once; words
-written back.
+written back. With --format csv the counts stand in a line behind one of names, with --format json
+they are an object; the names are those of the text, and 'lost_7_no_register' is 'lost 7'. An image With --svg
+With --all a line follows for each of these: loads, stores and prefetches that were accepted, with
+their hits, joins and misses; the mean and longest wait of answered loads from the round that first
+asked for them; hits, joins and misses by set; rounds by the registers in use at their end, and by
+the loads owed a value; and answered loads by their wait, from acceptance and from the first asking
+(0 rounds, 1, 2 to 3, 4 to 7, .., of which each is told by its least). Here --format csv writes lines
+'name,index,value', and --format json arrays. All of it counts words: an access to two words is two
+requests.
+('kroft run --help' describes them) changes the values of the run, and no count.
+the lost rounds are drawn, a bar for each cause, as a figure that a browser shows.
 
-Statuses: 0 done, 2 the command line is wrong, 3 the shape file is wrong, 4 a line is faulty or a
-stream failed, 5 there is too little memory.
+Statuses: 0 done, 2 the command line is wrong, 3 the shape file is wrong, 4 a line is faulty, the
+image is wrong or a stream failed, 5 there is too little memory.
 
 Example:
   $ echo 'load 1 0' | kroft drive
@@ -216,16 +248,19 @@ Example:
 
 pub(crate) const SHOW_NOTES: &str =
     "Reads a trace from standard input ('kroft run --help' lists its lines) and applies its events, 10000
-at most, to a new machine. Lines that only show something are passed over.
+at most, to a new machine. Lines that only show something are passed over. Lines as 'run' and 'drive'
+write them, with ' -> ' and an answer, are read too: an answer that isn't the machine's is told.
 Writes a page of HTML, which needs no other file and no network: the machine before the first
 event and behind each, with what the event changed, and why, in words. Left and right, Home and
 End step through it, and the space bar plays.
-With --text, in its place, lines of at most 80 columns for a terminal: * stands before what the
-step changed. With --vcd, a waveform (a value change dump) with one unit of time an event.
+With --text, in its place, lines of at most 80 columns for a terminal: what each step changed, marked
+by *, and the whole machine each 100 events and at the end. With --vcd, a waveform (a value change
+dump) with one unit of time an event.
 A page has some 50 to 350 bytes an event, and 630 for a miss. It shows the first 256 words of memory.
+Memory begins with zeros, or with an image ('kroft run --help' describes them).
 
 Statuses: 0 done, 2 the command line is wrong, 3 the shape file is wrong, 4 a line is faulty, there
-are too many events or a stream failed, 5 there is too little memory.
+are too many events, the image is wrong or a stream failed, 5 there is too little memory.
 
 Example:
   $ echo 'load 1 4' | kroft show --text
@@ -270,11 +305,13 @@ stores have numbers of their own, free again after the response.
 
 Writes 'history of N events is ' and the law, and ', K operations open' behind it if some are; or
 'line N: ' and why the event of that line is none of the law. The lines behind it are not judged.
-If more than 4096 ways would have to be followed at a unit, the atomic law can't tell: 'line N:
-undecided: ' and why.
+If operations may have taken effect in too many orders, the atomic law can't tell: 'line N:
+undecided: ', why, and in which unit.
 
 With --values each line is written as well, and behind the response of an open load ' ->' and a space
 and a set for each byte: the bytes that it may be with a | between them, or ?? if it may be any.
+With --format csv a line of names goes before a row with what is found, with --format json it is an
+object; neither goes with --values.
 
 Statuses: 0 the history is one of the law, 1 it isn't (or, with --all-answered, operations are
 open), 2 the command line is wrong, 4 a line is faulty, the image can't be read or a stream failed,

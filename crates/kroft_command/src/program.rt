@@ -1,273 +1,188 @@
 //! The program over a reader and two writers.
 
-ghost use Rattle.std.specs.Prelude.{◌≤◌, IfOk, IfSome};
-ghost use Rattle.access_logs.specs.declared.writing.TheConstants.{MAX_WORDS};
-ghost use Rattle.round_driver.specs.declared.driving.TheConstants.{MOST_LATENCY};
+ghost use Rattle.std.specs.Prelude.{◌≡◌, ◌≤◌, ℕ, None, Ok, IfOk, IfErr, OnOk, Result};
+ghost use Rattle.toml.specs.Parse.{parse_document};
+ghost use Rattle.shape_files.specs.ShapeFile.{bad_field, text_says};
+ghost use Rattle.kroft_command.specs.declared.fault.ToolFault.{ToolFault as FaultValue};
 ghost use Rattle.kroft_command.specs.Tool.{IsInRange};
+ghost use Rattle.kroft_command.specs.Told.{EndsBy};
+ghost use Rattle.kroft_command.specs.Program.{Works, TellsWords, Performs, IsDone};
+ghost use Rattle.kroft_command.specs.Program.{IsShapeOf, UnreadShape, ShapeTextFails, ShapeFails, IsImageOf, UnreadImage, ImageFails, HasRoom, LacksRoom};
 
-use crate::command_line::{CommandLine, HistoryTask, LogName, Task, read_words};
-use crate::fault::ToolFault;
-use access_logs::{Din, Lackey, write_requests};
+use crate::command_line::{CommandLine, ImageName, Task, read_words};
+use crate::fault::{LongImage, ToolFault};
+use crate::tasks::{answer, check_by, drive, explain, grade, history, requests, run, show, sweep};
 use clap::error::ErrorKind;
-use history_text::{HistoryEnd, HistoryVerdict, judge_by_law, write_values_by_law};
-use kroft_jobs::{
-    JobFault, Verdict, drive_requests, serve, summarize_requests, sweep_in_rounds, sweep_registers,
-};
-use memory_histories::Rest;
-use round_driver::Timing;
-use run_pictures::Form;
-use shape_files::{ShapeFault, ToolShape, bad_field, read_shape};
+use kroft_jobs::JobFault;
+use memory_images::Image;
+use shape_files::{ToolShape, read_shape};
 use std::alloc::Global;
-use std::io::{Read, Write};
+use std::io;
 use std::rt::Files;
 use std::thread::Threads;
-use std::{fmt, io};
-use trace_text::TraceFault;
+use trace_text::{Sink, Source};
 
 /// Does what the words behind the program's name ask for, and gives the status that the program
 /// ends with: 0 done, 1 a mismatch or a wrong prediction was found, 2 the words were refused, 3 a fault of the shape
 /// file, 4 a fault of the trace or a failed write of the output, 5 want of memory or the turn limit
 /// of a sweep, 6 a history of which it can't be told. A fault is told in one line on `errors`.
-pub fn tool<R: AllocGlobal + Files + Threads + Sync, I: Read, O: Write, E: Write>(
+pub fn tool<R: AllocGlobal + Files + Threads + Sync, I: Source, O: Sink, E: Sink>(
     rt: &R,
     words: &[&str],
     input: &mut I,
     output: &mut O,
     errors: &mut E,
 ) -> u8
-    ensures { result ≤ 6 }
+    ensures few { result ≤ 6 }
+    ensures ends { (end : Result ℕ FaultValue)
+        × Works I.gave I.failed O.took O.refused O.unflushed input.old input.new output.old output.new end
+        × EndsBy E.took E.refused E.unflushed end errors.old errors.new result }
 {
     match work(rt, words, input, output) {
         Ok(status) => status,
-        Err(fault) => {
-            fault.tell(errors);
-            fault.status()
-        }
+        Err(fault) => fault.tell(rt.alloc(), errors),
     }
 }
 
-// Writes a text to the output.
-fn put<O: Write, D: fmt::Display + Drop>(output: &mut O, text: D) -> Result<(), JobFault> {
-    write!(output, "{text}").map_err(|_| JobFault::Trace(TraceFault::Write))
-}
-
-// Sees what was written through to its end.
-fn finish<O: Write>(output: &mut O) -> Result<(), JobFault> {
-    output
-        .flush()
-        .map_err(|_| JobFault::Trace(TraceFault::Write))
-}
-
 // Does what the words ask for.
-fn work<R: AllocGlobal + Files + Threads + Sync, I: Read, O: Write>(
+#[tactic(auto, unfolding(crate::specs::Program::Works))]
+fn work<R: AllocGlobal + Files + Threads + Sync, I: Source, O: Sink>(
     rt: &R,
     words: &[&str],
     input: &mut I,
     output: &mut O,
 ) -> Result<u8, ToolFault>
-    ensures { IfOk result (λ status. status ≤ 6) }
+    ensures few { IfOk result (λ status. status ≤ 6) }
+    ensures ends { Works I.gave I.failed O.took O.refused O.unflushed input.old input.new output.old output.new result }
 {
     match read_words(rt.alloc(), words) {
         Ok(asked) => perform(rt, asked, input, output),
-        Err(error) => told(error, output),
+        Err(error) => told(rt.alloc(), error, output),
     }
 }
 
-// What becomes of words that ask for no job: help and the version are written, and any other words
-// were refused.
-fn told<O: Write>(error: clap::Error, output: &mut O) -> Result<u8, ToolFault>
-    ensures { IfOk result (λ status. status ≤ 1) }
+// What becomes of words that are no task: help and the version are put, and any other words were refused.
+fn told<O: Sink>(alloc: Global, said: clap::Error, output: &mut O) -> Result<u8, ToolFault>
+    ensures few { IfOk result (λ status. status ≤ 1) }
+    ensures ends { TellsWords O.took O.refused O.unflushed said output.old output.new result }
 {
-    if error.kind() == ErrorKind::OutOfMemory {
-        return Err(ToolFault::Job(JobFault::OutOfMemory));
+    match said.kind() {
+        ErrorKind::OutOfMemory => Err(ToolFault::Job(JobFault::OutOfMemory)),
+        ErrorKind::DisplayHelp | ErrorKind::DisplayVersion => {
+            let text = format!(in alloc; "{said}")?;
+            answer(output, text.as_str(), 0)
+        }
+        _ => Err(ToolFault::CommandLine(said)),
     }
-    if error.use_stderr() {
-        return Err(ToolFault::CommandLine(error));
-    }
-    put(output, error)?;
-    finish(output)?;
-    Ok(0)
 }
 
-// Does the task on a machine of the shape that is asked for.
-fn perform<R: AllocGlobal + Files + Threads + Sync, I: Read, O: Write>(
+// Reads the files that are named, and does the task.
+#[tactic(auto, unfolding(crate::specs::Program::Performs))]
+fn perform<R: AllocGlobal + Files + Threads + Sync, I: Source, O: Sink>(
     rt: &R,
     asked: CommandLine<'_>,
     input: &mut I,
     output: &mut O,
 ) -> Result<u8, ToolFault>
     requires { IsInRange asked.task }
-    ensures { IfOk result (λ status. status ≤ 6) }
+    ensures few { IfOk result (λ status. status ≤ 6) }
+    ensures ends { Performs I.gave I.failed O.took O.refused O.unflushed asked.entry input.old input.new output.old
+        output.new result }
 {
     let shape = shape_of(rt, asked.shape_file)?;
-    let status = match asked.task {
-        Task::Run => run(rt.alloc(), &shape, input, output)?,
-        Task::Check => check(rt.alloc(), &shape, input, output)?,
-        Task::Sweep { timing } => sweep(rt, &shape, timing, input, output)?,
-        Task::Explain => explain(rt.alloc(), &shape, input, output)?,
-        Task::Grade => grade(rt.alloc(), &shape, input, output)?,
-        Task::Drive { timing, summary } => {
-            drive(rt.alloc(), &shape, timing, summary, input, output)?
-        }
-        Task::Requests { from, words } => requests(rt.alloc(), from, words, input, output)?,
-        Task::Show { form } => show(rt.alloc(), &shape, form, input, output)?,
-        Task::History(how) => {
-            let image = image_of(rt, asked.image_file)?;
-            history(rt.alloc(), how, &image, input, output)?
-        }
-    };
-    Ok(status)
+    let image = image_of(rt, asked.image)?;
+    find_room(asked.task, &shape, &image)?;
+    complete(rt, asked.task, &shape, &image, input, output)
+}
+
+// Does the task on a machine of the shape or on a history, of a memory that began with the image.
+#[tactic(auto, unfolding(crate::specs::Program::IsDone))]
+fn complete<R: AllocGlobal + Threads + Sync, I: Source, O: Sink>(
+    rt: &R,
+    task: Task,
+    shape: &ToolShape,
+    image: &Image,
+    input: &mut I,
+    output: &mut O,
+) -> Result<u8, ToolFault>
+    requires range { IsInRange task }
+    requires shape { bad_field shape.now ≡ None }
+    ensures few { IfOk result (λ status. status ≤ 6) }
+    ensures ends { IsDone I.gave I.failed O.took O.refused O.unflushed task shape.now image.now input.old input.new
+        output.old output.new result }
+{
+    let alloc = rt.alloc();
+    match task {
+        Task::Run => run(alloc, shape, image, input, output),
+        Task::Check {
+            all_answered,
+            format,
+        } => check_by(alloc, shape, image, all_answered, format, input, output),
+        Task::Sweep { timings, form } => { sweep(rt, shape, &timings, form, input, output) }
+        Task::Explain { format } => explain(alloc, shape, format, image, input, output),
+        Task::Grade { format } => grade(alloc, shape, format, image, input, output),
+        Task::Drive {
+            timing,
+            summary,
+            all,
+            form,
+        } => drive(
+            alloc, shape, image, timing, summary, all, form, input, output,
+        ),
+        Task::Requests { from, words } => requests(alloc, from, words, input, output),
+        Task::Show { form } => show(alloc, shape, image, form, input, output),
+        Task::History(how) => history(alloc, how, image.bytes(), input, output),
+    }
 }
 
 // The shape of the machine: that of the file, if one is named.
-fn shape_of<R: AllocGlobal + Files>(rt: &R, file: Option<&str>) -> Result<ToolShape, JobFault> {
+fn shape_of<R: AllocGlobal + Files>(rt: &R, file: Option<&str>) -> Result<ToolShape, JobFault>
+    ensures shape { IfOk result (IsShapeOf file.entry) }
+    ensures good { IfOk result (λ shape. bad_field shape ≡ None) }
+    ensures fault { IfErr result (ShapeFails file.entry) }
+{
     match file {
-        Some(path) => shape_of_file(rt, path),
+        Some(path) => shape_said(rt.alloc(), shape_text(rt, path)?.as_str()),
         None => Ok(ToolShape::default()),
     }
 }
 
-// The shape that a file describes.
-fn shape_of_file<R: AllocGlobal + Files>(rt: &R, path: &str) -> Result<ToolShape, JobFault> {
-    let text = match std::fs::read_to_string(rt, path) {
-        Ok(text) => text,
-        Err(error) if error.kind() == io::ErrorKind::OutOfMemory => {
-            return Err(JobFault::OutOfMemory);
-        }
-        Err(_) => return Err(JobFault::ShapeUnreadable),
-    };
-    Ok(read_shape(rt.alloc(), text.as_str())?)
-}
-
-// Serves the trace on a new machine.
-fn run<I: Read, O: Write>(
-    alloc: Global,
-    tool: &ToolShape,
-    input: &mut I,
-    output: &mut O,
-) -> Result<u8, JobFault>
-    ensures { IfOk result (λ status. status ≤ 1) }
+// The text of a shape file. Nothing is known of it but that the file gave it.
+fn shape_text<R: AllocGlobal + Files>(rt: &R, path: &str) -> Result<String, JobFault>
+    ensures { IfErr result UnreadShape }
 {
-    if let Some(field) = bad_field(tool) {
-        return Err(JobFault::Shape(ShapeFault::BadShape(field)));
+    match std::fs::read_to_string(rt, path) {
+        Ok(text) => Ok(text),
+        Err(error) if error.kind() == io::ErrorKind::OutOfMemory => Err(JobFault::OutOfMemory),
+        Err(_) => Err(JobFault::ShapeUnreadable),
     }
-    serve(alloc, tool, input, output)?;
-    Ok(0)
 }
 
-// Judges what a run wrote.
-fn check<I: Read, O: Write>(
-    alloc: Global,
-    tool: &ToolShape,
-    input: &mut I,
-    output: &mut O,
-) -> Result<u8, JobFault>
-    ensures { IfOk result (λ status. status ≤ 1) }
+// The shape that a text says.
+fn shape_said(alloc: Global, text: &str) -> Result<ToolShape, JobFault>
+    ensures shape { IfOk result (λ shape. text_says (parse_document text.now) ≡ Ok shape) }
+    ensures good { IfOk result (λ shape. bad_field shape ≡ None) }
+    ensures fault { IfErr result (ShapeTextFails text.now) }
 {
-    let verdict = Verdict(kroft_jobs::check(alloc, tool, input)?);
-    put(output, format_args!("{verdict}\n"))?;
-    finish(output)?;
-    Ok(verdict.status())
+    Ok(read_shape(alloc, text)?)
 }
 
-// Says why what a run wrote is none of flat memory.
-fn explain<I: Read, O: Write>(
-    alloc: Global,
-    tool: &ToolShape,
-    input: &mut I,
-    output: &mut O,
-) -> Result<u8, JobFault>
-    ensures { IfOk result (λ status. status ≤ 1) }
+// What memory has before the first store.
+fn image_of<R: AllocGlobal + Files>(rt: &R, name: ImageName<'_>) -> Result<Image, ToolFault>
+    ensures image { IfOk result (IsImageOf name.entry) }
+    ensures fault { IfErr result (ImageFails name.entry) }
 {
-    let explanation = kroft_jobs::explain(alloc, tool, input)?;
-    put(output, format_args!("{explanation}\n"))?;
-    finish(output)?;
-    Ok(explanation.status())
-}
-
-// Grades a sheet.
-fn grade<I: Read, O: Write>(
-    alloc: Global,
-    tool: &ToolShape,
-    input: &mut I,
-    output: &mut O,
-) -> Result<u8, JobFault>
-    ensures { IfOk result (λ status. status ≤ 1) }
-{
-    if let Some(field) = bad_field(tool) {
-        return Err(JobFault::Shape(ShapeFault::BadShape(field)));
+    match name {
+        ImageName::Zeros => Ok(Image::Zeros),
+        ImageName::Address => Ok(Image::Address),
+        ImageName::File(path) => Ok(Image::Bytes(image_bytes(rt, path)?)),
     }
-    let score = kroft_jobs::grade(alloc, tool, input, output)?;
-    Ok(score.status())
 }
 
-// Drives the requests in rounds, and writes the run or what it counts.
-fn drive<I: Read, O: Write>(
-    alloc: Global,
-    tool: &ToolShape,
-    timing: Timing,
-    summary: bool,
-    input: &mut I,
-    output: &mut O,
-) -> Result<u8, JobFault>
-    requires { timing.latency ≤ MOST_LATENCY }
-    ensures { IfOk result (λ status. status ≤ 1) }
+// The bytes of an image's file. Nothing is known of them but that the file gave them.
+fn image_bytes<R: AllocGlobal + Files>(rt: &R, path: &str) -> Result<Vec<u8>, ToolFault>
+    ensures { IfErr result UnreadImage }
 {
-    if let Some(field) = bad_field(tool) {
-        return Err(JobFault::Shape(ShapeFault::BadShape(field)));
-    }
-    if summary {
-        let table = summarize_requests(alloc, tool, timing, input)?;
-        put(output, format_args!("{table}\n"))?;
-    } else {
-        drive_requests(alloc, tool, timing, input, output)?;
-    }
-    finish(output)?;
-    Ok(0)
-}
-
-// Writes the requests of a log.
-fn requests<I: Read, O: Write>(
-    alloc: Global,
-    from: LogName,
-    words: u32,
-    input: &mut I,
-    output: &mut O,
-) -> Result<u8, ToolFault>
-    requires { words ≤ MAX_WORDS }
-    ensures { IfOk result (λ status. status ≤ 1) }
-{
-    match from {
-        LogName::Lackey => write_requests(alloc, input, output, &Lackey, words)?,
-        LogName::Din => write_requests(alloc, input, output, &Din, words)?,
-    }
-    Ok(0)
-}
-
-// Draws the machine at each event of the trace.
-fn show<I: Read, O: Write>(
-    alloc: Global,
-    tool: &ToolShape,
-    form: Form,
-    input: &mut I,
-    output: &mut O,
-) -> Result<u8, JobFault>
-    ensures { IfOk result (λ status. status ≤ 1) }
-{
-    if let Some(field) = bad_field(tool) {
-        return Err(JobFault::Shape(ShapeFault::BadShape(field)));
-    }
-    let drawing = kroft_jobs::show(alloc, tool, form, input)?;
-    put(output, drawing)?;
-    finish(output)?;
-    Ok(0)
-}
-
-// The bytes that memory has before the first store: those of the file, if one is named.
-fn image_of<R: AllocGlobal + Files>(rt: &R, file: Option<&str>) -> Result<Vec<u8>, ToolFault> {
-    let Some(path) = file else {
-        return Ok(Vec::new(rt.alloc()));
-    };
     match std::fs::read(rt, path) {
         Ok(bytes) => Ok(bytes),
         Err(error) if error.kind() == io::ErrorKind::OutOfMemory => {
@@ -277,70 +192,16 @@ fn image_of<R: AllocGlobal + Files>(rt: &R, file: Option<&str>) -> Result<Vec<u8
     }
 }
 
-// What becomes of a history, whose lines are written if that is asked for. What was written before a
-// fault is seen through to its end.
-fn judged<I: Read, O: Write>(
-    alloc: Global,
-    how: HistoryTask,
-    image: &[u8],
-    input: &mut I,
-    output: &mut O,
-) -> Result<HistoryEnd, JobFault> {
-    if !how.values {
-        return Ok(judge_by_law(alloc, input, how.law, image, how.rest)?);
-    }
-    let end = write_values_by_law(alloc, input, output, how.law, image, how.rest);
-    finish(output)?;
-    Ok(end?)
-}
-
-// Judges a history by a law.
-fn history<I: Read, O: Write>(
-    alloc: Global,
-    how: HistoryTask,
-    image: &[u8],
-    input: &mut I,
-    output: &mut O,
-) -> Result<u8, JobFault>
-    ensures { IfOk result (λ status. status ≤ 6) }
+// Sees whether memory has room for the image. That of a history has no end.
+fn find_room(task: Task, shape: &ToolShape, image: &Image) -> Result<(), ToolFault>
+    ensures ok { OnOk result (HasRoom task shape.now image.now) }
+    ensures fault { IfErr result (LacksRoom task shape.now image.now) }
 {
-    let end = judged(alloc, how, image, input, output)?;
-    let law = how.law.name();
-    let verdict = HistoryVerdict { law, end };
-    put(output, format_args!("{verdict}\n"))?;
-    finish(output)?;
-    Ok(verdict.status(how.all_answered))
-}
-
-// Serves the requests with 1, 2, 4 and 8 registers, or drives them in rounds if there are times of memory.
-fn sweep<R: AllocGlobal + Threads + Sync, I: Read, O: Write>(
-    rt: &R,
-    tool: &ToolShape,
-    timing: Option<Timing>,
-    input: &mut I,
-    output: &mut O,
-) -> Result<u8, JobFault>
-    requires { IfSome timing (λ timing. timing.latency ≤ MOST_LATENCY) }
-    ensures { IfOk result (λ status. status ≤ 1) }
-{
-    match timing {
-        None => {
-            let rows = sweep_registers(rt, rt.alloc(), tool, input)?;
-            put_rows(output, rows.as_slice())?;
-        }
-        Some(timing) => {
-            let rows = sweep_in_rounds(rt, rt.alloc(), tool, timing, input)?;
-            put_rows(output, rows.as_slice())?;
-        }
+    let bytes = image.bytes().len();
+    let memory = 4 * shape.shape.words as usize;
+    match task {
+        Task::History(_) => Ok(()),
+        _ if bytes <= memory => Ok(()),
+        _ => Err(ToolFault::LongImage(LongImage { bytes, memory })),
     }
-    finish(output)?;
-    Ok(0)
-}
-
-// Writes each of these as a line.
-fn put_rows<O: Write, D: fmt::Display>(output: &mut O, rows: &[D]) -> Result<(), JobFault> {
-    for row in rows {
-        put(output, format_args!("{row}\n"))?;
-    }
-    Ok(())
 }

@@ -1,5 +1,7 @@
 -- Why a sweep has no rows, by the fault of its shapes; and what is counted of requests that were read.
-use Rattle.std.proofs.Common.{◌≡◌, ℕ, true, List, map, Option, Some, None, Result, Ok, Err, IfErr, IsErrAnd, refl, sym, ap, subst, ◌∙◌}
+use Rattle.std.proofs.Common.{◌≡◌, ℕ, ◌+◌, ◌<◌, true, List, [], ◌∷◌, ◌++◌, length, take, get_or, map, Option, Some, None, Result, Ok, Err}
+use Rattle.std.proofs.Common.{IfErr, IsErrAnd, refl, sym, ap, subst, ◌∙◌}
+use Rattle.std.proofs.lemmas.List.{take_more}
 use Rattle.std.specs.List.{list_all}
 use Rattle.std.specs.Option.{option_map, option_or}
 use Rattle.flat_model.specs.declared.Event.{Event}
@@ -8,8 +10,10 @@ use Rattle.machine_core.specs.Machine.{MachineState}
 use Rattle.trace_text.specs.Reading.{ReadWhole}
 use Rattle.trace_text.specs.Serving.{trace_fault}
 use Rattle.trace_text.specs.declared.fault.TheConstants.{MAX_LINE}
+use Rattle.round_driver.specs.Details.{details_of}
 use Rattle.round_driver.specs.Tables.{table_of}
 use Rattle.round_driver.specs.Walks.{is_request, RequestsEnd}
+use Rattle.round_driver.specs.declared.details.Details.{Details}
 use Rattle.round_driver.specs.declared.table.Table.{Table}
 use Rattle.round_driver.specs.declared.timing.Timing.{Timing}
 use Rattle.shape_files.specs.declared.shape_file.ToolShape.{ToolShape}
@@ -21,7 +25,8 @@ use Rattle.register_sweeps.specs.Rounds.{rounds_row_of, EachRunEnds}
 use Rattle.register_sweeps.specs.Sweep.{FaultSays, bad_from}
 use Rattle.kroft_jobs.specs.declared.fault.JobFault.{JobFault}
 use Rattle.kroft_jobs.specs.Jobs.{swept, with_registers, of_sweep}
-use Rattle.kroft_jobs.specs.Sweeping.{IsCounted, AreCounted, SweepFails}
+use Rattle.kroft_jobs.specs.declared.rounds.LatencyRows.{LatencyRows}
+use Rattle.kroft_jobs.specs.Sweeping.{IsCounted, IsDetailed, AreCounted, AreSwept, SweepFails}
 
 -- ---- which field of the swept shapes is out of its range
 
@@ -69,6 +74,39 @@ module _ {R : Type 0} (gave : R → List ℕ → R → Type 0) (failed : R → R
 pub table_counted : (timing : Timing) (s : MachineState) (requests said : List Event) (table : Table) → requests ≡ said → list_all is_request requests ≡ true → table ≡ table_of timing s requests → RequestsEnd timing s requests → IsCounted timing s said table
 table_counted timing s requests said table read all made ends = subst (λ events. IsCounted timing s events table) read (made, ends all)
 
+pub all_detailed : (timing : Timing) (s : MachineState) (requests said : List Event) (details : Details) → requests ≡ said → list_all is_request requests ≡ true → details ≡ details_of timing s requests → RequestsEnd timing s requests → IsDetailed timing s said details
+all_detailed timing s requests said details read all made ends = subst (λ events. IsDetailed timing s events details) read (made, ends all)
+
 pub rows_counted : (timing : Timing) (t : ToolShape) (requests said : List Event) (shapes : List ToolShape) (rows : List RoundsRow) → requests ≡ said → list_all is_request requests ≡ true → shapes ≡ swept t → rows ≡ map (rounds_row_of timing requests) shapes → EachRunEnds timing requests shapes → AreCounted timing (swept t) said rows
 rows_counted timing t requests said shapes rows read all same made ends =
     subst (λ events. AreCounted timing (swept t) events rows) read (subst (λ ts. AreCounted timing ts requests rows) same (made, λ i u inside. ends i u inside all))
+
+pub counted : (timing : Timing) (requests : List Event) (shapes : List ToolShape) (rows : List RoundsRow)
+    → list_all is_request requests ≡ true → rows ≡ map (rounds_row_of timing requests) shapes
+    → EachRunEnds timing requests shapes → AreCounted timing shapes requests rows
+counted timing requests shapes rows all made ends = (made, λ i u inside. ends i u inside all)
+
+-- ---- one latency more
+
+swept_more : (timings : List Timing) (timing : Timing) (shapes : List ToolShape) (requests : List Event) (before : List LatencyRows)
+    (last : LatencyRows) → AreSwept timings shapes requests before → last.latency ≡ timing.latency
+    → AreCounted timing shapes requests last.rows.items → AreSwept (timings ++ timing ∷ []) shapes requests (before ++ last ∷ [])
+swept_more [] timing shapes requests [] last held same made = (same, made, tt)
+swept_more [] timing shapes requests (b ∷ bs) last held same made = absurd held
+swept_more (t ∷ ts) timing shapes requests [] last held same made = absurd held
+swept_more (t ∷ ts) timing shapes requests (b ∷ bs) last held same made =
+    (held.0, held.1, swept_more ts timing shapes requests bs last held.2 same made)
+
+pub swept_next : (timings : List Timing) (i : ℕ) (d : Timing) (shapes : List ToolShape) (requests : List Event)
+    (before next : List LatencyRows) (last : LatencyRows) → AreSwept (take i timings) shapes requests before → i < length timings
+    → last.latency ≡ (get_or timings i d).latency → AreCounted (get_or timings i d) shapes requests last.rows.items
+    → next ≡ before ++ last ∷ [] → AreSwept (take (i + 1) timings) shapes requests next
+swept_next timings i d shapes requests before next last held inside same made e =
+    subst (AreSwept (take (i + 1) timings) shapes requests) (sym e)
+    (subst (λ ts. AreSwept ts shapes requests (before ++ last ∷ [])) (sym (take_more timings i d inside))
+    (swept_more (take i timings) (get_or timings i d) shapes requests before last held same made))
+
+pub all_swept : (timings : List Timing) (t : ToolShape) (requests said : List Event) (shapes : List ToolShape) (rows : List LatencyRows)
+    → requests ≡ said → shapes ≡ swept t → AreSwept timings shapes requests rows → AreSwept timings (swept t) said rows
+all_swept timings t requests said shapes rows read same held =
+    subst (λ events. AreSwept timings (swept t) events rows) read (subst (λ ts. AreSwept timings ts requests rows) same held)

@@ -1,4 +1,7 @@
 pub mod Jobs
+pub mod Writing
 pub mod Driving
 pub mod Grading
 pub mod Sweeping
+pub mod Answering
+pub mod Forms

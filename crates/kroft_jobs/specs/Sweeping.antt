@@ -1,13 +1,15 @@
 -- What becomes of the requests of a trace that are counted in rounds, and why a sweep has no rows.
-use Rattle.std.specs.Prelude.{⊤, ◌≡◌, ℕ, List, map, Some, None}
+use Rattle.std.specs.Prelude.{⊤, ◌≡◌, ℕ, List, [], ◌∷◌, map, Some, None}
 use Rattle.std.specs.List.{All}
 use Rattle.flat_model.specs.declared.Event.{Event}
 use Rattle.machine_core.specs.Machine.{MachineState}
 use Rattle.trace_text.specs.Reading.{ReadWhole, ReadStops}
 use Rattle.trace_text.specs.Serving.{trace_fault}
 use Rattle.trace_text.specs.declared.fault.TheConstants.{MAX_LINE}
+use Rattle.round_driver.specs.Details.{details_of}
 use Rattle.round_driver.specs.Tables.{table_of}
 use Rattle.round_driver.specs.Walks.{IsOverInTime}
+use Rattle.round_driver.specs.declared.details.Details.{Details}
 use Rattle.round_driver.specs.declared.table.Table.{Table}
 use Rattle.round_driver.specs.declared.timing.Timing.{Timing}
 use Rattle.shape_files.specs.declared.shape_file.ToolShape.{ToolShape}
@@ -18,16 +20,29 @@ use Rattle.register_sweeps.specs.Rounds.{rounds_row_of}
 use Rattle.register_sweeps.specs.Sweep.{new_machine}
 use Rattle.kroft_jobs.specs.declared.fault.JobFault.{JobFault}
 use Rattle.kroft_jobs.specs.declared.fault.JobFault.TheVariants.{Shape, Trace, TurnLimit, OutOfMemory}
+use Rattle.kroft_jobs.specs.declared.rounds.LatencyRows.{LatencyRows}
 use Rattle.kroft_jobs.specs.Jobs.{with_registers}
 
 -- the table of these requests in rounds, in a run that is over in time
 abbrev pub IsCounted : (timing : Timing) (s : MachineState) (requests : List Event) → Table → Type 0
 IsCounted timing s requests table = (table ≡ table_of timing s requests) × IsOverInTime timing s requests
 
+-- the details of these requests in rounds, in a run that is over in time
+abbrev pub IsDetailed : (timing : Timing) (s : MachineState) (requests : List Event) → Details → Type 0
+IsDetailed timing s requests details = (details ≡ details_of timing s requests) × IsOverInTime timing s requests
+
 -- the rows of these requests in rounds on machines of these shapes, each of a run that is over in time
 abbrev pub AreCounted : (timing : Timing) (shapes : List ToolShape) (requests : List Event) → List RoundsRow → Type 0
 AreCounted timing shapes requests rows =
     (rows ≡ map (rounds_row_of timing requests) shapes) × All (λ t. IsOverInTime timing (new_machine t) requests) shapes
+
+-- For each of these times of memory in turn, its latency and the rows of these requests on machines of these shapes.
+abbrev pub AreSwept : (timings : List Timing) (shapes : List ToolShape) (requests : List Event) → List LatencyRows → Type 0
+AreSwept [] shapes requests [] = ⊤
+AreSwept [] shapes requests (swept ∷ rest) = ⊥
+AreSwept (timing ∷ timings) shapes requests [] = ⊥
+AreSwept (timing ∷ timings) shapes requests (swept ∷ rest) =
+    (swept.latency ≡ timing.latency) × AreCounted timing shapes requests swept.rows.items × AreSwept timings shapes requests rest
 
 -- Why a sweep over a trace has no rows. A fault of the trace goes before one of the shape, whose own number of registers
 -- doesn't matter: it isn't swept. Memory may be missing anywhere.

@@ -2,41 +2,52 @@
 
 ghost use Rattle.std.specs.Prelude.{⊤, ◌≡◌, None, IfOk};
 ghost use Rattle.shape_files.specs.ShapeFile.{bad_field};
-ghost use Rattle.register_sweeps.specs.Sweep.{new_machine};
+ghost use Rattle.register_sweeps.specs.Sweep.{machine_over};
 ghost use Rattle.trace_sheets.specs.Grades.{grade_text};
-ghost use Rattle.kroft_jobs.specs.Grading.{IsWritten, SheetGraded, GradesAll};
+ghost use Rattle.kroft_jobs.specs.Grading.{SheetGraded, GradesAll};
+ghost use Rattle.kroft_jobs.specs.Writing.{IsWritten};
 
+use crate::writing::put_text;
+use memory_images::Image;
+use named_fields::Format;
 use register_sweeps::{MachineJob, with_machine};
 use run_pictures::PictureMachine;
 use shape_files::ToolShape;
 use std::alloc::Global;
-use trace_sheets::{Grade, Score, grade_sheet};
-use trace_text::{Sink, Source, TraceFault, write_whole};
+use trace_sheets::{Grade, GradeHead, Score, ScoreIn, grade_sheet};
+use trace_text::{Sink, Source, TraceFault};
 
-/// Grades a sheet on a new machine of a shape whose fields are in range, over zeros, as [`grade_sheet`] does,
-/// and writes the grade: what is told of each wrong prediction, and the score as its last line.
+/// Grades a sheet on a new machine of a shape whose fields are in range, over an image, as [`grade_sheet`] does,
+/// and writes the grade in a format: what is told of each wrong prediction, and the score as its last line.
 ///
 /// The whole sheet is read before anything is written: a fault of it leaves the output as it is. A write
 /// that is refused ends the job at once. The output is flushed behind the score.
 pub fn grade<I: Source, O: Sink>(
     alloc: Global,
     tool: &ToolShape,
+    format: Format,
+    image: &Image,
     input: &mut I,
     output: &mut O,
 ) -> Result<Score, TraceFault>
     requires shape { bad_field tool.now ≡ None }
-    ensures { GradesAll I.gave I.failed O.took O.refused O.unflushed (new_machine tool.now) input.old input.new
+    ensures { GradesAll I.gave I.failed O.took O.refused O.unflushed format (machine_over image.now tool.now) input.old input.new
         output.old output.new result }
 {
-    let mut job = GradedSheet { alloc, input };
-    let grade = with_machine(alloc, tool, &mut job)?;
-    write_grade(alloc, grade, output)
+    let mut job = GradedSheet {
+        alloc,
+        format,
+        input,
+    };
+    let grade = with_machine(alloc, tool, image, &mut job)?;
+    write_grade(alloc, format, grade, output)
 }
 
 // The grading of a sheet.
 #[derive(Drop)]
 struct GradedSheet<'a, I> {
     alloc: Global,
+    format: Format,
     input: &'a mut I,
 }
 
@@ -45,12 +56,12 @@ impl<'a, I: Source> MachineJob for GradedSheet<'a, I> {
 
     ghost can = { λ s. ⊤ };
 
-    ghost done = { λ s machine t result. SheetGraded I.gave I.failed machine s.input.now t.input.now result };
+    ghost done = { λ s machine t result. SheetGraded I.gave I.failed s.format machine s.input.now t.input.now result };
 
     ghost holds_same = { λ s t. t.input.ghost_name ≡ s.input.ghost_name };
 
     fn work<M: PictureMachine>(&mut self, machine: &mut M) -> Result<Grade, TraceFault> {
-        grade_sheet(self.alloc, self.input, machine)
+        grade_sheet(self.alloc, self.format, self.input, machine)
     }
 
     fn give_up(&mut self) -> Result<Grade, TraceFault> {
@@ -59,19 +70,24 @@ impl<'a, I: Source> MachineJob for GradedSheet<'a, I> {
 }
 
 // Writes a grade, and flushes it.
-fn write_grade<O: Sink>(alloc: Global, grade: Grade, output: &mut O) -> Result<Score, TraceFault>
-    ensures written { IsWritten O.took O.refused O.unflushed (grade_text grade.report.items grade.score) output.old
+#[tactic(auto, unfolding(trace_sheets::specs::Grades::grade_text))]
+fn write_grade<O: Sink>(
+    alloc: Global,
+    format: Format,
+    grade: Grade,
+    output: &mut O,
+) -> Result<Score, TraceFault>
+    ensures written { IsWritten O.took O.refused O.unflushed (grade_text format grade.report.items grade.score) output.old
         output.new result }
     ensures score { IfOk result (λ score. score ≡ grade.score) }
 {
-    let Grade { mut report, score } = grade;
-    let last = format!(in alloc; "{score}\n")?;
-    report.extend_from_slice(last.as_bytes())?;
-    if write_whole(output, report.as_slice()).is_err() {
-        return Err(TraceFault::Write);
-    }
-    match output.flush_all() {
-        Ok(()) => Ok(score),
-        Err(_) => Err(TraceFault::Write),
-    }
+    let Grade { report, score } = grade;
+    let head = format!(in alloc; "{}", GradeHead(format))?;
+    let last = format!(in alloc; "{}\n", ScoreIn(format, score))?;
+    let mut text = Vec::new(alloc);
+    text.extend_from_slice(head.as_bytes())?;
+    text.extend_from_slice(report.as_slice())?;
+    text.extend_from_slice(last.as_bytes())?;
+    put_text(output, text.as_slice())?;
+    Ok(score)
 }

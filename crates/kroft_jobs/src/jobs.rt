@@ -1,19 +1,22 @@
 //! What is done with a trace, for the shape that was read.
 
 ghost use Rattle.std.specs.Prelude.{⊤, ◌≡◌, ◌≤◌, ℕ, List, None, Some, IfOk, IfErr, map, ◌++◌};
+ghost use Rattle.flat_model.specs.Flat.{Flat};
+ghost use Rattle.memory_images.specs.Images.{memory_from, flat_from};
 ghost use Rattle.machine_core.specs.Machine.{MachineState};
 ghost use Rattle.trace_text.specs.declared.fault.TheConstants.{MAX_LINE, MAX_PAIR};
 ghost use Rattle.trace_text.specs.Reading.{ReadWhole, ReadFails};
 ghost use Rattle.trace_text.specs.Serving.{trace_fault, Ends};
-ghost use Rattle.trace_text.specs.Checks.{pair_fault, IsJudged};
+ghost use Rattle.trace_text.specs.Checks.{pair_fault, IsJudgedFrom};
 ghost use Rattle.trace_text.specs.Requests.{requests_of};
 ghost use Rattle.run_reasons.specs.Runs.{Explains};
 ghost use Rattle.shape_files.specs.ShapeFile.{bad_field};
-ghost use Rattle.register_sweeps.specs.Sweep.{new_machine, row_of};
+ghost use Rattle.register_sweeps.specs.Sweep.{machine_over, row_of};
 ghost use Rattle.kroft_jobs.specs.Jobs.{swept, verdict_status, verdict_text};
 ghost use Rattle.kroft_jobs.specs.Sweeping.{SweepFails};
 
 use crate::fault::JobFault;
+use memory_images::Image;
 use register_sweeps::{MachineJob, OpenGate, Row, sweep, with_machine};
 use run_pictures::PictureMachine;
 use run_reasons::{Explanation, explain_text};
@@ -22,31 +25,32 @@ use std::alloc::Global;
 use std::fmt;
 use std::thread::Threads;
 use trace_text::{
-    CheckEnd, Counts, Sink, Source, TraceFault, check_text, read_requests, serve_text,
+    CheckEnd, Counts, Sink, Source, TraceFault, check_from, read_requests, serve_text,
 };
 
 // Turns of each thread of the program's sweep. Its gate is always open, so one is enough.
 pub(crate) const SWEEP_TURNS: u64 = 1_000_000;
 
-/// Serves a trace on a new machine of a shape whose fields are in range, over zeros, as
+/// Serves a trace on a new machine of a shape whose fields are in range, over an image, as
 /// `serve_text` does.
 pub fn serve<I: Source, O: Sink>(
     alloc: Global,
     tool: &ToolShape,
+    image: &Image,
     input: &mut I,
     output: &mut O,
 ) -> Result<Counts, TraceFault>
     requires shape { bad_field tool.now ≡ None }
     ensures { (after : MachineState)
         × Ends I.gave I.failed O.took O.refused O.unflushed input.old input.new output.old output.new
-        (new_machine tool.now) after result }
+        (machine_over image.now tool.now) after result }
 {
     let mut job = ServedTrace {
         alloc,
         input,
         output,
     };
-    with_machine(alloc, tool, &mut job)
+    with_machine(alloc, tool, image, &mut job)
 }
 
 // The serving of a trace.
@@ -75,31 +79,36 @@ impl<'a, I: Source, O: Sink> MachineJob for ServedTrace<'a, I, O> {
     }
 }
 
-/// Judges what a run wrote, over as many words of zeros as the shape says, as `check_text` does.
+/// Judges what a run wrote, over as many words of an image as the shape says, as `check_from` does.
 pub fn check<I: Source>(
     alloc: Global,
     tool: &ToolShape,
+    image: &Image,
     input: &mut I,
 ) -> Result<CheckEnd, TraceFault>
     ensures judged { IfOk result
-        (λ end. (texts : List (List ℕ)) × ReadWhole I.gave pair_fault MAX_PAIR input.old input.new texts
-        × IsJudged tool.now.shape.words texts end) }
+        (λ end. (texts : List (List ℕ)) × (last : Flat)
+        × ReadWhole I.gave pair_fault MAX_PAIR input.old input.new texts
+        × IsJudgedFrom (flat_from image.now tool.now.shape.words) texts end last) }
     ensures fault { IfErr result
         (ReadFails I.gave I.failed pair_fault MAX_PAIR input.old input.new) }
 {
-    check_text(alloc, input, tool.shape.words)
+    let memory = image.flat_memory(alloc, tool.shape.words)?;
+    let checked = check_from(alloc, input, memory)?;
+    Ok(checked.end)
 }
 
-/// Says why what a run wrote is none of flat memory, over as many words of zeros as the shape says, as
+/// Says why what a run wrote is none of flat memory, over as many words of an image as the shape says, as
 /// `explain_text` does.
 pub fn explain<I: Source>(
     alloc: Global,
     tool: &ToolShape,
+    image: &Image,
     input: &mut I,
 ) -> Result<Explanation, TraceFault>
-    ensures { Explains I.gave I.failed tool.now.shape.words input.old input.new result }
+    ensures { Explains I.gave I.failed (memory_from image.now tool.now.shape.words) input.old input.new result }
 {
-    explain_text(alloc, input, tool.shape.words)
+    explain_text(alloc, input, image, tool.shape.words)
 }
 
 /// What a check found, as the program tells it.

@@ -1,33 +1,37 @@
 //! What the program does with the requests of a trace in rounds.
 
-ghost use Rattle.std.specs.Prelude.{◌≡◌, ◌≤◌, ℕ, List, None, true, IfOk, IfErr, length};
-ghost use Rattle.std.specs.List.{list_all};
+ghost use Rattle.std.specs.Prelude.{◌≡◌, ◌≤◌, ℕ, List, None, true, IfOk, IfErr, OnOk, length, ⊤};
+ghost use Rattle.std.specs.List.{All, list_all};
 ghost use Rattle.trace_text.specs.declared.fault.TheConstants.{MAX_LINE};
 ghost use Rattle.trace_text.specs.Reading.{ReadWhole, ReadFails};
 ghost use Rattle.trace_text.specs.Serving.{trace_fault};
 ghost use Rattle.trace_text.specs.Requests.{requests_of};
 ghost use Rattle.shape_files.specs.ShapeFile.{bad_field};
-ghost use Rattle.register_sweeps.specs.Sweep.{new_machine};
+ghost use Rattle.register_sweeps.specs.Sweep.{FaultSays, machine_over};
 ghost use Rattle.round_driver.specs.declared.driving.TheConstants.{MOST_LATENCY};
+ghost use Rattle.round_driver.specs.Details.{details_of};
 ghost use Rattle.round_driver.specs.Rounds.{most_requests};
-ghost use Rattle.round_driver.specs.Walks.{is_request};
+ghost use Rattle.round_driver.specs.Walks.{is_request, RequestsEnd};
 ghost use Rattle.kroft_jobs.specs.Driving.{IsDriven, DrivesAll};
 ghost use Rattle.kroft_jobs.specs.Jobs.{swept};
-ghost use Rattle.kroft_jobs.specs.Sweeping.{IsCounted, AreCounted, SweepFails};
+ghost use Rattle.kroft_jobs.specs.Sweeping.{IsCounted, IsDetailed, AreCounted, AreSwept, SweepFails};
 
 use crate::fault::JobFault;
 use crate::jobs::{SWEEP_TURNS, swept_shapes};
 use flat_model::Event;
-use register_sweeps::{MachineJob, OpenGate, RoundsRow, rounds_table, sweep_rounds, with_machine};
-use round_driver::{Table, Timing, drive_with};
+use memory_images::Image;
+use register_sweeps::{
+    MachineJob, OpenGate, RoundsRow, SweepFault, rounds_table, sweep_rounds, with_machine,
+};
+use round_driver::{Details, Table, Timing, detail_with, drive_with};
 use run_pictures::PictureMachine;
 use shape_files::ToolShape;
-use std::alloc::Global;
+use std::alloc::{AllocError, Global};
 use std::thread::Threads;
 use trace_text::{Sink, Source, TraceFault, read_requests};
 
 /// Drives the requests of a trace in rounds through a new machine of a shape whose fields are in
-/// range, over zeros, as [`drive_with`] does, and writes the run. Gives the number of rounds, behind which the
+/// range, over an image, as [`drive_with`] does, and writes the run. Gives the number of rounds, behind which the
 /// requests are used up and nothing is on its way. The output isn't flushed.
 ///
 /// All requests are read before anything is written: a fault of the trace leaves the output as it is.
@@ -35,23 +39,25 @@ use trace_text::{Sink, Source, TraceFault, read_requests};
 pub fn drive_requests<I: Source, O: Sink>(
     alloc: Global,
     tool: &ToolShape,
+    image: &Image,
     timing: Timing,
     input: &mut I,
     output: &mut O,
 ) -> Result<u64, TraceFault>
     requires shape { bad_field tool.now ≡ None }
     requires latency { timing.latency ≤ MOST_LATENCY }
-    ensures { DrivesAll I.gave I.failed O.took O.refused timing (new_machine tool.now) input.old input.new
+    ensures { DrivesAll I.gave I.failed O.took O.refused timing (machine_over image.now tool.now) input.old input.new
         output.old output.new result }
 {
     let requests = read_requests(alloc, input)?;
-    drive_all(alloc, tool, timing, requests.as_slice(), output)
+    drive_all(alloc, tool, image, timing, requests.as_slice(), output)
 }
 
 // Drives requests on a new machine.
 fn drive_all<O: Sink>(
     alloc: Global,
     tool: &ToolShape,
+    image: &Image,
     timing: Timing,
     requests: &[Event],
     output: &mut O,
@@ -60,7 +66,7 @@ fn drive_all<O: Sink>(
     requires latency { timing.latency ≤ MOST_LATENCY }
     requires few { length requests.now ≤ most_requests }
     requires all { list_all is_request requests.now ≡ true }
-    ensures { IsDriven O.took O.refused timing (new_machine tool.now) requests.now output.old output.new
+    ensures { IsDriven O.took O.refused timing (machine_over image.now tool.now) requests.now output.old output.new
         result }
 {
     let mut job = DrivenRequests {
@@ -69,7 +75,7 @@ fn drive_all<O: Sink>(
         requests,
         output,
     };
-    with_machine(alloc, tool, &mut job)
+    with_machine(alloc, tool, image, &mut job)
 }
 
 // The driving of requests.
@@ -100,11 +106,12 @@ impl<'a, O: Sink> MachineJob for DrivenRequests<'a, O> {
 }
 
 /// Drives the requests of a trace in rounds through a new machine of a shape whose fields are in
-/// range, over zeros, and counts, as [`rounds_table`] does. Behind the rounds that are counted the requests
+/// range, over an image, and counts, as [`rounds_table`] does. Behind the rounds that are counted the requests
 /// are used up and nothing is on its way. The latency of `timing` is at most `MOST_LATENCY`.
 pub fn summarize_requests<I: Source>(
     alloc: Global,
     tool: &ToolShape,
+    image: &Image,
     timing: Timing,
     input: &mut I,
 ) -> Result<Table, TraceFault>
@@ -112,12 +119,81 @@ pub fn summarize_requests<I: Source>(
     requires latency { timing.latency ≤ MOST_LATENCY }
     ensures table { IfOk result
         (λ table. (texts : List (List ℕ)) × ReadWhole I.gave trace_fault MAX_LINE input.old input.new texts
-        × IsCounted timing (new_machine tool.now) (requests_of texts) table) }
+        × IsCounted timing (machine_over image.now tool.now) (requests_of texts) table) }
     ensures fault { IfErr result
         (ReadFails I.gave I.failed trace_fault MAX_LINE input.old input.new) }
 {
     let requests = read_requests(alloc, input)?;
-    Ok(rounds_table(alloc, tool, timing, requests.as_slice())?)
+    Ok(rounds_table(alloc, tool, image, timing, requests.as_slice())?)
+}
+
+/// Drives the requests of a trace as [`summarize_requests`] does, and counts more, as [`detail_with`] does.
+pub fn detail_requests<I: Source>(
+    alloc: Global,
+    tool: &ToolShape,
+    image: &Image,
+    timing: Timing,
+    input: &mut I,
+) -> Result<Details, TraceFault>
+    requires shape { bad_field tool.now ≡ None }
+    requires latency { timing.latency ≤ MOST_LATENCY }
+    ensures details { IfOk result
+        (λ details. (texts : List (List ℕ)) × ReadWhole I.gave trace_fault MAX_LINE input.old input.new texts
+        × IsDetailed timing (machine_over image.now tool.now) (requests_of texts) details) }
+    ensures fault { IfErr result
+        (ReadFails I.gave I.failed trace_fault MAX_LINE input.old input.new) }
+{
+    let requests = read_requests(alloc, input)?;
+    Ok(detail_all(alloc, tool, image, timing, requests.as_slice())?)
+}
+
+// Counts requests on a new machine over an image.
+fn detail_all(
+    alloc: Global,
+    tool: &ToolShape,
+    image: &Image,
+    timing: Timing,
+    requests: &[Event],
+) -> Result<Details, AllocError>
+    requires shape { bad_field tool.now ≡ None }
+    requires latency { timing.latency ≤ MOST_LATENCY }
+    requires few { length requests.now ≤ most_requests }
+    ensures details { IfOk result
+        (λ details. details ≡ details_of timing (machine_over image.now tool.now) requests.now) }
+    ensures over { OnOk result (RequestsEnd timing (machine_over image.now tool.now) requests.now) }
+{
+    let mut counting = DetailedRequests {
+        alloc,
+        timing,
+        requests,
+    };
+    with_machine(alloc, tool, image, &mut counting)
+}
+
+// The counting of requests.
+#[derive(Drop)]
+struct DetailedRequests<'a> {
+    alloc: Global,
+    timing: Timing,
+    requests: &'a [Event],
+}
+
+impl MachineJob for DetailedRequests<'_> {
+    type Done = Result<Details, AllocError>;
+
+    ghost can = { λ s. (s.timing.latency ≤ MOST_LATENCY) × (length s.requests.now ≤ most_requests) };
+
+    ghost done = { λ s machine t result. (IfOk result (λ details. details ≡ details_of s.timing machine s.requests.now)) × OnOk result (RequestsEnd s.timing machine s.requests.now) };
+
+    ghost holds_same = { λ s t. ⊤ };
+
+    fn work<M: PictureMachine>(&mut self, machine: &mut M) -> Result<Details, AllocError> {
+        detail_with(self.alloc, machine, self.timing, self.requests)
+    }
+
+    fn give_up(&mut self) -> Result<Details, AllocError> {
+        Err(AllocError)
+    }
 }
 
 /// The rows of the requests of a trace in rounds, with 1, 2, 4 and 8 registers and all else as the shape
@@ -149,5 +225,64 @@ pub fn sweep_in_rounds<R: Threads + Sync, I: Source>(
         SWEEP_TURNS,
         &OpenGate,
     )?;
+    Ok(rows)
+}
+
+/// The rows of a sweep in rounds with one latency.
+#[derive(Debug, Drop)]
+pub struct LatencyRows {
+    /// Rounds from a command's begin to its service.
+    pub latency: u64,
+    /// The rows, with 1, 2, 4 and 8 registers.
+    pub rows: Vec<RoundsRow>,
+}
+
+// The rows of requests with each of these times of memory, over shapes.
+fn sweep_each<R: Threads + Sync>(
+    rt: &R,
+    alloc: Global,
+    shapes: &[ToolShape],
+    timings: &[Timing],
+    requests: &[Event],
+) -> Result<Vec<LatencyRows>, SweepFault>
+    requires latency { All (λ timing. timing.latency ≤ MOST_LATENCY) timings.now }
+    requires few { length requests.now ≤ most_requests }
+    requires all { list_all is_request requests.now ≡ true }
+    ensures rows { IfOk result (λ swept. AreSwept timings.now shapes.now requests.now swept.items) }
+    ensures fault { IfErr result (FaultSays shapes.now) }
+{
+    let mut swept = Vec::new(alloc);
+    for timing in timings {
+        let made = sweep_rounds(rt, alloc, *timing, requests, shapes, SWEEP_TURNS, &OpenGate)?;
+        let rows = LatencyRows {
+            latency: timing.latency,
+            rows: made,
+        };
+        match swept.push(rows) {
+            Ok(()) => {}
+            Err(_) => return Err(SweepFault::OutOfMemory),
+        }
+    }
+    Ok(swept)
+}
+
+/// The rows of the requests of a trace with each of these times of memory in turn, as
+/// [`sweep_in_rounds`] makes them. The requests are read once. Each latency is at most `MOST_LATENCY`. The faults are
+/// those of [`sweep_in_rounds`], if there are times at all.
+pub fn sweep_latencies<R: Threads + Sync, I: Source>(
+    rt: &R,
+    alloc: Global,
+    tool: &ToolShape,
+    timings: &[Timing],
+    input: &mut I,
+) -> Result<Vec<LatencyRows>, JobFault>
+    requires latency { All (λ timing. timing.latency ≤ MOST_LATENCY) timings.now }
+    ensures rows { IfOk result
+        (λ rows. (texts : List (List ℕ)) × ReadWhole I.gave trace_fault MAX_LINE input.old input.new texts
+        × AreSwept timings.now (swept tool.now) (requests_of texts) rows.items) }
+    ensures fault { IfErr result (SweepFails I.gave I.failed tool.now input.old input.new) }
+{
+    let requests = read_requests(alloc, input)?;
+    let rows = sweep_each(rt, alloc, &swept_shapes(tool), timings, requests.as_slice())?;
     Ok(rows)
 }

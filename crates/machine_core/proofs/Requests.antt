@@ -17,7 +17,7 @@ use Rattle.flat_model.specs.declared.Answer.TheVariants.{Accepted, Refused}
 use Rattle.flat_model.specs.Words.{merged, has_any, zero_word}
 use Rattle.flat_model.specs.Flat.{word_at, stored, with_due, flat_after, may_answer, load_refusals, store_refusals, prefetch_refusals}
 use Rattle.flat_model.specs.Flat.{number}
-use Rattle.flat_model.specs.Ranges.{is_between}
+use Rattle.flat_model.specs.Causes.{is_of_a_load, is_of_a_miss}
 use Rattle.flat_model.proofs.Lanewise.{merged_over}
 use Rattle.memory_banks.specs.declared.BankAnswer.{BankAnswer}
 use Rattle.memory_banks.specs.Banks.{bank_at, words_after, all_pending, room_in}
@@ -134,7 +134,7 @@ starts_in z at l = let e = div-add-mod' at z.block_words in omega arith
 
 -- the event is kept, whichever of a miss's causes holds, if there is one; `go_on` is the case of none
 miss_or : (z : Sizes) (m : Machine) (block : ℕ) (event : Event) (step : Stepped) → IsSound z m
-    → ((cause : Cause) → is_between (number cause) 7 10 ≡ true → KeptBy z m event (record { answer = Refused cause; machine = m }))
+    → ((cause : Cause) → is_of_a_miss cause ≡ true → KeptBy z m event (record { answer = Refused cause; machine = m }))
     → (Able z m.cache block → KeptBy z m event (joined_with m.banks step))
     → KeptBy z m event (joined_with m.banks (unless
     (first_cause (miss_causes z (room_in z.bank_queue m.banks) m.cache block)) m.cache step))
@@ -245,14 +245,16 @@ module _ (z : Sizes) (lawful : IsLawful z) (m : Machine) (h : IsSound z m) where
       four : Bool
       four = targets_full m.cache (place_in z at) (found m.cache (block_of z at) (place_in z at))
 
-      between : (cause : Cause) → is_between (number cause) 7 10 ≡ true → is_between (number cause) 4 10 ≡ true
-      between OutOfRange e = cc
-      between NoLanes e = cc
-      between TagInUse e = cc
-      between NotPresent e = cc
-      between StackFull e = cc
-      between StrayWord e = cc
-      between _ e = refl
+      of_a_load : (cause : Cause) → is_of_a_miss cause ≡ true → is_of_a_load cause ≡ true
+      of_a_load RepliesFull e = refl
+      of_a_load TargetsFull e = refl
+      of_a_load OutOfRange e = cc
+      of_a_load NoLanes e = cc
+      of_a_load TagInUse e = cc
+      of_a_load NotPresent e = cc
+      of_a_load StackFull e = cc
+      of_a_load StrayWord e = cc
+      of_a_load _ e = refl
 
       present_or : at < z.words → nat_lt at z.words ≡ true → is_in_use m.cache tag ≡ false
           → nat_le z.replies (length (tags m.cache)) ≡ false → (b : Bool) → is_present m.cache (block_of z at) ≡ b
@@ -265,7 +267,7 @@ module _ (z : Sizes) (lawful : IsLawful z) (m : Machine) (h : IsSound z m) where
           by_four true = refuse_load tag at TargetsFull true false p u refl
           by_four false = accept l u r (λ q. cc)
       present_or l p u r false e =
-          miss_or z m (block_of z at) (Load tag at) step h (λ cause q. refuse_load tag at cause true false p u (between cause q))
+          miss_or z m (block_of z at) (Load tag at) step h (λ cause q. refuse_load tag at cause true false p u (of_a_load cause q))
           (λ able. accept l u r (λ q. able))
 
       go : (x : Bool) → nat_lt at z.words ≡ x → (y : Bool) → is_in_use m.cache tag ≡ y → (v : Bool)
@@ -354,17 +356,6 @@ module _ (z : Sizes) (lawful : IsLawful z) (m : Machine) (h : IsSound z m) where
           accept_store at word lanes l u (fetched_machine z m (block_of z at))
           (fetch_ok z lawful m h (block_of z at) (starts_in z at l) able) (fetched_hit z lawful m h (block_of z at) able)
 
-      between : (cause : Cause) → is_between (number cause) 7 10 ≡ true → is_between (number cause) 6 10 ≡ true
-      between OutOfRange e = cc
-      between NoLanes e = cc
-      between TagInUse e = cc
-      between RepliesFull e = cc
-      between TargetsFull e = cc
-      between NotPresent e = cc
-      between StackFull e = cc
-      between StrayWord e = cc
-      between _ e = refl
-
       go : (x : Bool) → nat_lt at z.words ≡ x → (y : Bool) → has_any lanes ≡ y → (b : Bool) → is_present m.cache (block_of z at) ≡ b
           → KeptBy z m (Store at word lanes) (joined_with m.banks
           (unless (cond (not x) (Some OutOfRange) (cond (not y) (Some NoLanes)
@@ -374,7 +365,7 @@ module _ (z : Sizes) (lawful : IsLawful z) (m : Machine) (h : IsSound z m) where
       go true p true q true e = accept (ltb-true at z.words p) q (λ r. cc)
       go true p true q false e =
           miss_or z m (block_of z at) (Store at word lanes) step h
-          (λ cause r. refuse_store at word lanes cause true true p q (between cause r))
+          (λ cause r. refuse_store at word lanes cause true true p q r)
           (λ able. accept (ltb-true at z.words p) q (λ r. able))
 
   -- ---- prefetches
@@ -402,17 +393,6 @@ module _ (z : Sizes) (lawful : IsLawful z) (m : Machine) (h : IsSound z m) where
             few = λ q. subst (λ ts. length ts ≤ z.replies) (sym f.same_tags) q;
           }
 
-      between : (cause : Cause) → is_between (number cause) 7 10 ≡ true → is_between (number cause) 6 10 ≡ true
-      between OutOfRange e = cc
-      between NoLanes e = cc
-      between TagInUse e = cc
-      between RepliesFull e = cc
-      between TargetsFull e = cc
-      between NotPresent e = cc
-      between StackFull e = cc
-      between StrayWord e = cc
-      between _ e = refl
-
       go : (x : Bool) → nat_lt at z.words ≡ x → (b : Bool) → is_present m.cache (block_of z at) ≡ b
           → KeptBy z m (Prefetch at) (joined_with m.banks
           (unless (cond (not x) (Some OutOfRange) (first_cause
@@ -420,7 +400,7 @@ module _ (z : Sizes) (lawful : IsLawful z) (m : Machine) (h : IsSound z m) where
       go false p b e = refuse_prefetch at OutOfRange false p refl
       go true p true e = accept (ltb-true at z.words p) (λ r. cc)
       go true p false e =
-          miss_or z m (block_of z at) (Prefetch at) step h (λ cause r. refuse_prefetch at cause true p (between cause r))
+          miss_or z m (block_of z at) (Prefetch at) step h (λ cause r. refuse_prefetch at cause true p r)
           (λ able. accept (ltb-true at z.words p) (λ r. able))
 
   -- ---- evictions

@@ -2,3 +2,5 @@
 pub mod Nonzero
 -- how C is told of a fault
 pub mod Telling
+-- rows that say requests
+pub mod Requests

@@ -62,3 +62,7 @@ pumped_answer p = answer_row p.1
 
 abbrev pub same_word : Word → Word
 same_word w = w
+
+-- a row that is shown, or else the one that was there
+abbrev pub shown_row : {X : Type 0} → X → Option (Option X) → X
+shown_row row shown = found_row (λ x. x) row shown

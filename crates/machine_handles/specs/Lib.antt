@@ -1,5 +1,7 @@
 -- what rows say
 pub mod Rows
+-- what the parts of a machine show
+pub mod Parts
 -- the machines that can be opened
 pub mod Listed
 pub mod Opening
@@ -8,3 +10,5 @@ pub mod Open
 pub mod Blocks
 pub mod Behind
 pub mod Calls
+-- rounds
+pub mod Rounds

@@ -1,7 +1,6 @@
 -- What the rows of plain numbers say that a machine is opened by and shows.
 use Rattle.std.specs.Prelude.{ℕ, Bool, ◌&&◌, if◌then◌else◌, ◌==◌}
 use Rattle.flat_model.specs.declared.Shape.{Shape}
-use Rattle.flat_model.specs.Words.{zero_word}
 use Rattle.miss_registers.specs.declared.Owed.{Owed}
 use Rattle.miss_registers.specs.declared.RegisterView.{RegisterView}
 use Rattle.miss_registers.specs.declared.FieldView.{FieldView}

@@ -8,21 +8,12 @@ ghost use Rattle.machine_handles.specs.Rows as rows;
 ghost use Rattle.machine_handles.specs.Calls.{apply_status, apply_row, applied, IsFlat, told_status, test_status, found_status, found_row, pumped_event, pumped_answer, same_word};
 
 use crate::handle::Handle;
-use crate::status::{CLOSED, DONE};
+use crate::status::{CLOSED, DONE, FOUND, NO_EVENT, NOT_THERE};
 use crate::views::{FieldRow, RegisterRow, TargetRow, field_row, register_row, target_row};
 use flat_judge::{AnswerRow, EventRow, answer_row, event_row};
 use flat_model::Word;
 use machine_core::AnyMachine;
 use std::alloc::Global;
-
-/// There is no such word, register or load, or no event to make.
-const NOT_THERE: u32 = 0;
-
-/// There is one, or one was made.
-const FOUND: u32 = 1;
-
-/// A row says nothing.
-const NO_EVENT: u32 = 2;
 
 /// Makes one event.
 ///

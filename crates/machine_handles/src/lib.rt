@@ -9,10 +9,19 @@ mod calls;
 mod handle;
 mod listed;
 mod open;
+mod part_calls;
+mod part_rows;
+mod parts;
+mod rounds;
 mod status;
 mod views;
 
 pub use calls::{apply, bank_word, field, pump, register, settled, target, weight};
 pub use handle::Handle;
 pub use open::{free_machine, open_machine};
+pub use part_calls::{
+    bank_answer, bank_command, find, frame, frame_word, queue_entry, reply, stack_entry,
+};
+pub use part_rows::{ArrivalRow, CommandRow, FrameRow, FrameWordRow, QueuedRow};
+pub use rounds::{CountsRow, drive};
 pub use views::{FieldRow, RegisterRow, ShapeRow, TargetRow};

@@ -5,10 +5,14 @@ ghost use Rattle.machine_core.specs.Law.{most_weight};
 ghost use Rattle.machine_core.specs.AnyMachine as any;
 ghost use Rattle.machine_handles.specs.Listed.{state, sizes, opened, fault_in, why, numbers, one_way, two_ways, four_ways, eight_ways};
 
+use crate::part_rows::{ArrivalRow, CommandRow, FrameRow, FrameWordRow, QueuedRow};
+use crate::parts::ShownMachine;
 use crate::views::ShapeRow;
+use flat_judge::AnswerRow;
 use flat_model::{Answer, Event, MakeFault, ShapeField, Word};
-use machine_core::{AnyMachine, Machine};
+use machine_core::{AnyMachine, Lookup, Machine};
 use miss_registers::{FieldView, Owed, RegisterView};
+use round_driver::{MachineNumbers, RoundMachine};
 use std::alloc::Global;
 
 /// A machine of the list: its ways a set, words a block, registers and places of the input stack.
@@ -235,5 +239,73 @@ impl AnyMachine for Listed {
 
     fn target(&self, slot: u32, i: u32, place: u32) -> Option<Owed> {
         of_each!(self, machine => AnyMachine::target(machine, slot, i, place))
+    }
+}
+
+impl ShownMachine for Listed {
+    fn frame(&self, frame: u32) -> Option<FrameRow> {
+        of_each!(self, machine => machine.frame(frame))
+    }
+
+    fn frame_word(&self, frame: u32, i: u32) -> Option<FrameWordRow> {
+        of_each!(self, machine => machine.frame_word(frame, i))
+    }
+
+    fn stack_entry(&self, place: u32) -> Option<ArrivalRow> {
+        of_each!(self, machine => ShownMachine::stack_entry(machine, place))
+    }
+
+    fn queue_entry(&self, place: u32) -> Option<QueuedRow> {
+        of_each!(self, machine => ShownMachine::queue_entry(machine, place))
+    }
+
+    fn bank_command(&self, bank: u32, place: u32) -> Option<CommandRow> {
+        of_each!(self, machine => machine.bank_command(bank, place))
+    }
+
+    fn bank_answer(&self, bank: u32, place: u32) -> Option<ArrivalRow> {
+        of_each!(self, machine => machine.bank_answer(bank, place))
+    }
+
+    fn reply(&self, place: u32) -> Option<AnswerRow> {
+        of_each!(self, machine => ShownMachine::reply(machine, place))
+    }
+
+    fn lookup(&self, at: u32) -> Option<u32> {
+        of_each!(self, machine => machine.lookup(at))
+    }
+}
+
+impl RoundMachine for Listed {
+    fn keeps_whole(&self) {
+        of_each!(self, machine => machine.keeps_whole())
+    }
+
+    fn bank_count(&self) -> u32 {
+        of_each!(self, machine => machine.bank_count())
+    }
+
+    fn command_count(&self, bank: u32) -> u32 {
+        of_each!(self, machine => machine.command_count(bank))
+    }
+
+    fn has_answer(&self, bank: u32) -> bool {
+        of_each!(self, machine => machine.has_answer(bank))
+    }
+
+    fn has_stack_room(&self) -> bool {
+        of_each!(self, machine => machine.has_stack_room())
+    }
+
+    fn find(&self, at: u32) -> Option<Lookup> {
+        of_each!(self, machine => RoundMachine::find(machine, at))
+    }
+
+    fn used_registers(&self) -> u32 {
+        of_each!(self, machine => machine.used_registers())
+    }
+
+    fn numbers(&self) -> MachineNumbers {
+        of_each!(self, machine => machine.numbers())
     }
 }

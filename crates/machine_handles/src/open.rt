@@ -7,16 +7,13 @@ ghost use Rattle.machine_handles.specs.Opening.{field_number, fault_number, open
 
 use crate::handle::Handle;
 use crate::listed::{Listed, OpenFault};
-use crate::status::{CLOSED, DONE};
+use crate::status::{CLOSED, DONE, OUT_OF_MEMORY};
 use crate::views::ShapeRow;
 use flat_model::{ShapeField, Word};
 use std::alloc::Global;
 
 /// The list has no such machine.
 const NOT_LISTED: u32 = 100;
-
-/// There was too little memory.
-const OUT_OF_MEMORY: u32 = 101;
 
 /// A machine is behind the handle already.
 const OPEN_ALREADY: u32 = 102;

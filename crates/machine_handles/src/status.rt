@@ -5,3 +5,15 @@ pub(crate) const DONE: u32 = 0;
 
 /// No machine is behind the handle.
 pub(crate) const CLOSED: u32 = 3;
+
+/// There is no such thing, or no event to make.
+pub(crate) const NOT_THERE: u32 = 0;
+
+/// There is one, or one was made.
+pub(crate) const FOUND: u32 = 1;
+
+/// A row says nothing.
+pub(crate) const NO_EVENT: u32 = 2;
+
+/// There was too little memory.
+pub(crate) const OUT_OF_MEMORY: u32 = 101;

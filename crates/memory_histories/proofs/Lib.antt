@@ -7,5 +7,8 @@ pub mod ByteSets
 pub mod Live
 pub mod Requests
 pub mod Stands
+-- what is kept of units once a store is answered
+pub mod Units
+pub mod Near
 -- what a flat memory owes
 pub mod FlatBytes

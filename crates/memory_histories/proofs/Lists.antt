@@ -1,6 +1,6 @@
 -- Tests over lists that are made of others.
-use Rattle.std.proofs.Common.{◌≡◌, ℕ, ◌+◌, ◌<◌, Bool, true, false, ◌&&◌, ◌||◌, not, cond, List, [], ◌∷◌, map, length, Option, None, Some, get_or, suc, inl, inr, refl, subst, sym, ap, ◌∙◌}
-use Rattle.std.specs.List.{All, Any, filter, find, list_any, zip, prefix_len, position}
+use Rattle.std.proofs.Common.{◌≡◌, ℕ, Bool, true, false, ◌&&◌, ◌||◌, not, List, [], ◌∷◌, map, length, Some, get_or, suc, inl, inr, refl, subst, ap, ◌∙◌}
+use Rattle.std.specs.List.{All, filter, find, list_any, zip, prefix_len, position}
 use Rattle.std.specs.Option.{option_map}
 use Rattle.std.proofs.lemmas.Bool.{cases_Bool}
 use Rattle.std.proofs.lemmas.List.Elements.{All-head, All-tail}
@@ -74,9 +74,21 @@ pub filter-always : {X : Type 0} (p : X → Bool) (xs : List X) → All (λ x. p
 filter-always p [] a = refl
 filter-always p (x ∷ xs) a = rw (All-head (λ y. p y ≡ true) x xs a, filter-always p xs (All-tail (λ y. p y ≡ true) x xs a)) refl
 
+pub filter-never : {X : Type 0} (p : X → Bool) (xs : List X) → All (λ x. p x ≡ false) xs → filter p xs ≡ []
+filter-never p [] a = refl
+filter-never p (x ∷ xs) a = rw (All-head (λ y. p y ≡ false) x xs a, filter-never p xs (All-tail (λ y. p y ≡ false) x xs a)) refl
+
 pub map-map : {X Y Z : Type 0} (f : X → Y) (g : Y → Z) (xs : List X) → map g (map f xs) ≡ map (λ x. g (f x)) xs
 map-map f g [] = refl
 map-map f g (x ∷ xs) = ap (λ t. g (f x) ∷ t) (map-map f g xs)
+
+pub map_kept : {X : Type 0} (f : X → X) (q : X → Bool) → ((x : X) → q x ≡ true → f x ≡ x) → (xs : List X) → map f (filter q xs)
+    ≡ filter q xs
+map_kept f q h [] = refl
+map_kept f q h (x ∷ xs) = elim (cases_Bool (q x)) [
+  | inl e ↦ rw (e, h x e, map_kept f q h xs) refl
+  | inr e ↦ rw (e, map_kept f q h xs) refl
+]
 
 -- what passes is kept
 and_kept : (k q : Bool) → (q ≡ true → k ≡ true) → (k && q) ≡ q

@@ -1,16 +1,16 @@
 -- Which stores a load may still see, and that those that are dropped change no answer.
-use Rattle.std.proofs.Common.{◌≡◌, ℕ, suc, ◌+◌, ◌<◌, ◌≤◌, Bool, true, false, ◌&&◌, ◌||◌, not, ◌==◌, nat_lt, List, [], ◌∷◌, ◌++◌, map, length, Option, None, Some, get_or, refl, sym, ap, ◌∙◌, inl, inr, arith, subst}
+use Rattle.std.proofs.Common.{◌≡◌, ℕ, suc, ◌+◌, ◌<◌, ◌≤◌, Bool, true, false, ◌&&◌, ◌||◌, not, ◌==◌, List, map, Option, None, Some, get_or, refl, sym, ap, ap₂, ◌∙◌, inl, inr, arith}
 use Rattle.std.specs.Prelude.{zero, is_none, is_some}
-use Rattle.std.specs.List.{All, Any, Contains, filter, list_any}
-use Rattle.std.proofs.lemmas.Bool.{false≢true, cases_Bool, cases_eq, cases_lt, and_parts, and_from, and_left, and_right, eqb-true, eq-eqb, ne_eqb, ltb-true, lt-ltb, le-ltb, not_from_true, not_from_false, false_from_ne_true, true_from_ne_false}
+use Rattle.std.specs.List.{All, Contains, filter, list_any}
+use Rattle.std.proofs.lemmas.Bool.{false≢true, cases_Bool, and_parts, and_from, eqb-true, eq-eqb, ltb-true, lt-ltb, le-ltb, not_from_false}
 use Rattle.std.proofs.lemmas.List.Elements.{All-contains}
-use Rattle.std.proofs.lemmas.List.Folds.{Any-from_list_any, list_any-from_Any}
+use Rattle.std.proofs.lemmas.List.Folds.{Any-from_list_any, list_any-from_Any, list_any-append}
 use Rattle.memory_histories.specs.declared.windows.StoreByte.{StoreByte}
 use Rattle.memory_histories.specs.declared.windows.LoadByte.{LoadByte}
 use Rattle.memory_histories.specs.Windows.{is_open, after_response}
 use Rattle.memory_histories.specs.Regular.{is_before, overwrites, is_overwritten, is_left, is_covered}
-use Rattle.memory_histories.specs.Kept.{is_past, is_live, is_dropped, live_after, is_covered_now, EndsBefore, IsTimely}
-use Rattle.memory_histories.proofs.Lists.{or_false, and_false, list_any-agree, list_any-same, list_any-never, list_any-map, list_any-filter, list_any-or, filter-agree, filter-filter, filter-map, list_any-kept, filter-kept}
+use Rattle.memory_histories.specs.Kept.{is_past, is_live, is_in, unit_of, is_dropped, answered_at, joined, answered_after, is_unanswered, is_seen, EndsBefore, IsTimely}
+use Rattle.memory_histories.proofs.Lists.{or_false, and_false, list_any-agree, list_any-same, list_any-never, list_any-map, list_any-filter, list_any-or, filter-agree, filter-filter, filter-map, map_kept, list_any-kept, filter-kept}
 
 -- Open stores. ----
 
@@ -25,14 +25,14 @@ open_none n s h = none_from s.ended (and_parts (is_none s.ended) (s.number == n)
 pub never_past : (stores : List StoreByte) (s : StoreByte) → s.ended ≡ None → is_past stores s ≡ false
 never_past stores s e = list_any-never (λ other. (other.address == s.address) && (is_before s.ended other.began && is_some other.ended)) (λ other. rw e (and_false (other.address == s.address))) stores
 
-open_live : (stores : List StoreByte) (n : ℕ) (s : StoreByte) → is_open n s ≡ true → is_live stores s ≡ true
-open_live stores n s h = rw (never_past stores s (open_none n s h)) refl
+open_unanswered : (n : ℕ) (s : StoreByte) → is_open n s ≡ true → is_unanswered s ≡ true
+open_unanswered n s h = (and_parts (is_none s.ended) (s.number == n) h).0
 
-pub list_any-open : (stores : List StoreByte) (n : ℕ) → list_any (is_open n) (filter (is_live stores) stores) ≡ list_any (is_open n) stores
-list_any-open stores n = list_any-kept (is_live stores) (is_open n) (open_live stores n) stores
+pub list_any-open : (stores : List StoreByte) (n : ℕ) → list_any (is_open n) (filter is_unanswered stores) ≡ list_any (is_open n) stores
+list_any-open stores n = list_any-kept is_unanswered (is_open n) (open_unanswered n) stores
 
-filter-open : (stores : List StoreByte) (n : ℕ) → filter (is_open n) (filter (is_live stores) stores) ≡ filter (is_open n) stores
-filter-open stores n = filter-kept (is_live stores) (is_open n) (open_live stores n) stores
+pub filter-open : (stores : List StoreByte) (n : ℕ) → filter (is_open n) (filter is_unanswered stores) ≡ filter (is_open n) stores
+filter-open stores n = filter-kept is_unanswered (is_open n) (open_unanswered n) stores
 
 le_of_lt_now : {a b : ℕ} → a < b → a ≤ b
 le_of_lt_now h = omega arith
@@ -99,11 +99,33 @@ same_tests true y f g = sym (f refl)
 same_tests false true f g = g refl
 same_tests false false f g = refl
 
-pub covered_now : (t : ℕ) (stores : List StoreByte) → All (IsTimely t) stores → (l : LoadByte) → l.began ≡ t → is_covered stores l ≡ is_covered_now (filter (is_live stores) stores) l.address
+-- what lies at an address lies in its unit
+pub in_unit : (a : ℕ) (s : StoreByte) → (s.address == a) ≡ true → is_in (unit_of a) s ≡ true
+in_unit a s h = eq-eqb (unit_of s.address) (unit_of a) (ap unit_of (eqb-true s.address a h))
+
+covered_test : (x u e v : Bool) → (x ≡ true → u ≡ true) → (v && (x && e)) ≡ ((u && (e && v)) && x)
+covered_test true u true true h = rw (h refl) refl
+covered_test true u true false h = rw (h refl) refl
+covered_test true u false true h = rw (h refl) refl
+covered_test true u false false h = rw (h refl) refl
+covered_test false u e v h = and_false v ∙ sym (and_false (u && (e && v)))
+
+seen_covers : (a : ℕ) (stores : List StoreByte)
+    → list_any (ended_at a) (filter (is_live stores) stores) ≡ list_any (λ s. s.address == a) (filter (is_seen (unit_of a) stores) stores)
+seen_covers a stores =
+    list_any-filter (is_live stores) (ended_at a) stores
+    ∙ (list_any-same (λ s. is_live stores s && ended_at a s) (λ s. is_seen (unit_of a) stores s && (s.address == a))
+    (λ s. covered_test (s.address == a) (is_in (unit_of a) s) (is_some s.ended) (is_live stores s) (in_unit a s)) stores
+    ∙ sym (list_any-filter (is_seen (unit_of a) stores) (λ s. s.address == a) stores))
+
+pub covered_now : (t : ℕ) (stores : List StoreByte) → All (IsTimely t) stores → (l : LoadByte) → l.began ≡ t
+    → is_covered stores l ≡ list_any (λ s. s.address == l.address) (filter (is_seen (unit_of l.address) stores) stores)
 covered_now t stores timely l e =
     list_any-agree (λ s. (s.address == l.address) && is_before s.ended l.began) (ended_at l.address) stores
     (λ k d i. ap (λ x. ((get_or stores k d).address == l.address) && x) (rw e (before_now t (get_or stores k d).began (get_or stores k d).ended (timely k d i).1)))
-    ∙ same_tests (list_any (ended_at l.address) stores) (list_any (ended_at l.address) (filter (is_live stores) stores)) (some_live t l.address stores timely) (some_stored l.address stores)
+    ∙ (same_tests (list_any (ended_at l.address) stores) (list_any (ended_at l.address) (filter (is_live stores) stores))
+    (some_live t l.address stores timely) (some_stored l.address stores)
+    ∙ seen_covers l.address stores)
 
 -- what is left for a load that is requested now
 left_test : (x y z : Bool) → (x && (y && not z)) ≡ (not z && (x && y))
@@ -114,12 +136,37 @@ left_test true false false = refl
 left_test false y true = refl
 left_test false y false = refl
 
-pub left_now : (t : ℕ) (stores : List StoreByte) → All (IsTimely t) stores → (l : LoadByte) (b : ℕ) → l.began ≡ t
-    → is_left stores l b ≡ list_any (λ s. (s.address == l.address) && (s.byte == b)) (filter (is_live stores) stores)
-left_now t stores timely l b e =
-    list_any-same (λ s. (s.address == l.address) && ((s.byte == b) && not (is_overwritten stores s l.began))) (λ s. is_live stores s && ((s.address == l.address) && (s.byte == b)))
+abbrev pub puts : ℕ → ℕ → StoreByte → Bool
+puts a b s = (s.address == a) && (s.byte == b)
+
+left_live : (t : ℕ) (stores : List StoreByte) → All (IsTimely t) stores → (l : LoadByte) (b : ℕ) → l.began ≡ t
+    → is_left stores l b ≡ list_any (λ s. is_live stores s && puts l.address b s) stores
+left_live t stores timely l b e =
+    list_any-same (λ s. (s.address == l.address) && ((s.byte == b) && not (is_overwritten stores s l.began)))
+    (λ s. is_live stores s && puts l.address b s)
     (λ s. ap (λ x. (s.address == l.address) && ((s.byte == b) && not x)) (rw e (overwritten_now t stores timely s)) ∙ left_test (s.address == l.address) (s.byte == b) (is_past stores s)) stores
-    ∙ sym (list_any-filter (is_live stores) (λ s. (s.address == l.address) && (s.byte == b)) stores)
+
+-- what a load may see is of an answered store, in its unit, or of an open one
+seen_test : (v x y u : Bool) (o : Option ℕ) → (o ≡ None → v ≡ true) → (x ≡ true → u ≡ true)
+    → (v && (x && y)) ≡ (((u && (is_some o && v)) && (x && y)) || (is_none o && (x && y)))
+seen_test v false y u o h k = and_false v ∙ sym (ap₂ (λ p q. p || q) (and_false (u && (is_some o && v))) (and_false (is_none o)))
+seen_test v true y u None h k = rw (h refl, and_false u) refl
+seen_test v true y u (Some e) h k = rw (k refl) (sym (or_false (v && y)))
+
+pub left_now : (t : ℕ) (stores : List StoreByte) → All (IsTimely t) stores → (l : LoadByte) (b : ℕ) → l.began ≡ t
+    → is_left stores l b
+    ≡ (list_any (puts l.address b) (filter (is_seen (unit_of l.address) stores) stores) || list_any (puts l.address b)
+    (filter is_unanswered stores))
+left_now t stores timely l b e =
+    let u = unit_of l.address in
+    left_live t stores timely l b e
+    ∙ (list_any-same (λ s. is_live stores s && puts l.address b s)
+    (λ s. (is_seen u stores s && puts l.address b s) || (is_unanswered s && puts l.address b s))
+    (λ s. seen_test (is_live stores s) (s.address == l.address) (s.byte == b) (is_in u s) s.ended (λ e. ap not (never_past stores s e))
+    (in_unit l.address s)) stores
+    ∙ (list_any-or (λ s. is_seen u stores s && puts l.address b s) (λ s. is_unanswered s && puts l.address b s) stores
+    ∙ sym (ap₂ (λ p q. p || q) (list_any-filter (is_seen u stores) (puts l.address b) stores)
+    (list_any-filter is_unanswered (puts l.address b) stores))))
 
 -- At a store's response. ----
 
@@ -160,9 +207,13 @@ or_test true false z false = refl
 or_test false y z true = refl
 or_test false y z false = refl
 
+abbrev drops : StoreByte → StoreByte → Bool
+drops s e = (e.address == s.address) && is_before s.ended e.began
+
 -- what is overwritten then: what was so before, and what the store overwrites
 past_after : (n t : ℕ) (stores : List StoreByte) → All (IsTimely t) stores → (s : StoreByte)
-    → is_past (map (after_response n t) stores) (after_response n t s) ≡ (is_past stores s || is_dropped (filter (is_open n) stores) s)
+    → is_past (map (after_response n t) stores) (after_response n t s)
+    ≡ (is_past stores s || list_any (drops s) (filter (is_open n) stores))
 past_after n t stores timely s =
     list_any-map (after_response n t) (overwrites_now (after_response n t s)) stores
     ∙ list_any-agree (λ o. overwrites_now (after_response n t s) (after_response n t o)) (λ o. overwrites_now s o || (is_open n o && ((o.address == s.address) && is_before s.ended o.began))) stores
@@ -176,13 +227,122 @@ not_or : (x y : Bool) → not (x || y) ≡ (not x && not y)
 not_or true y = refl
 not_or false y = refl
 
-pub live_answered : (n t : ℕ) (stores : List StoreByte) → All (IsTimely t) stores
-    → live_after n t (filter (is_live stores) stores) ≡ filter (is_live (map (after_response n t) stores)) (map (after_response n t) stores)
-live_answered n t stores timely =
+-- what overwrites a byte lies in its unit
+dropped_test : (x u y : Bool) → (x ≡ true → u ≡ true) → (x && (u && y)) ≡ (x && y)
+dropped_test true u y h = rw (h refl) refl
+dropped_test false u y h = refl
+
+dropped_in : (u : ℕ) (ending : List StoreByte) (s : StoreByte) → is_in u s ≡ true → is_dropped u ending s ≡ list_any (drops s) ending
+dropped_in u ending s h =
+    list_any-same (λ e. (e.address == s.address) && (is_in u e && is_before s.ended e.began)) (drops s)
+    (λ e. dropped_test (e.address == s.address) (is_in u e) (is_before s.ended e.began)
+    (λ same. eq-eqb (unit_of e.address) u (ap unit_of (eqb-true e.address s.address same) ∙ eqb-true (unit_of s.address) u h))) ending
+
+open_never_dropped : (ending : List StoreByte) (s : StoreByte) → s.ended ≡ None → list_any (drops s) ending ≡ false
+open_never_dropped ending s e = list_any-never (drops s) (λ o. rw e (and_false (o.address == s.address))) ending
+
+stayed_test : (x u e p d t : Bool) → (u ≡ true → x ≡ d) → ((u && (e && not (p || d))) && t)
+    ≡ (((u && (e && not p)) && (not x && t)) || false)
+stayed_test x false e p d t h = refl
+stayed_test x true false p d t h = refl
+stayed_test x true true true d t h = refl
+stayed_test x true true false d t h = rw (h refl) (sym (or_false (not d && t)))
+
+open_test : (u a b c t : Bool) → ((u && (true && not false)) && t) ≡ (((u && (false && a)) && (b && c)) || (true && (u && t)))
+open_test true a b c t = refl
+open_test false a b c t = refl
+
+ended_now : (n t : ℕ) (s : StoreByte) → is_open n s ≡ true → after_response n t s ≡ answered_at t s
+ended_now n t s h = rw h refl
+
+not_ended_now : (n t : ℕ) (s : StoreByte) → is_open n s ≡ false → after_response n t s ≡ s
+not_ended_now n t s h = rw h refl
+
+-- after the answer a load may see what it could before and wasn't overwritten now, and the bytes of the store
+seen_answered : (n t u : ℕ) (stores : List StoreByte) → All (IsTimely t) stores → (test : StoreByte → Bool) (s : StoreByte)
+    → (is_seen u (map (after_response n t) stores) (after_response n t s) && test (after_response n t s))
+    ≡ ((is_seen u stores s && (not (is_dropped u (filter (is_open n) stores) s) && test s)) ||
+    (is_open n s && (is_in u s && test (answered_at t s))))
+seen_answered n t u stores timely test s = elim (cases_Bool (is_open n s)) [
+  | inl h ↦
+      let e = open_none n s h in
+      let after = map (after_response n t) stores in
+      let ending = filter (is_open n) stores in
+      let same = ended_now n t s h in
+      let live : is_past after (answered_at t s) ≡ false =
+      ap (is_past after) (sym same)
+      ∙ (past_after n t stores timely s ∙ ap₂ (λ p q. p || q) (never_past stores s e) (open_never_dropped ending s e)) in
+      let now : (is_seen u after (after_response n t s) && test (after_response n t s))
+      ≡ ((is_in u s && (true && not false)) && test (answered_at t s)) =
+      ap (λ x. is_seen u after x && test x) same ∙ ap (λ p. (is_in u s && (true && not p)) && test (answered_at t s)) live in
+      now ∙ (open_test (is_in u s) (is_live stores s) (not (is_dropped u ending s)) (test s) (test (answered_at t s))
+      ∙ ap₂ (λ (o : Option ℕ) q. ((is_in u s && (is_some o && is_live stores s)) && (not (is_dropped u ending s) && test s)) ||
+      (q && (is_in u s && test (answered_at t s)))) (sym e) (sym h))
+  | inr h ↦
+      let after = map (after_response n t) stores in
+      let ending = filter (is_open n) stores in
+      let same = not_ended_now n t s h in
+      let past : is_past after s ≡ (is_past stores s || list_any (drops s) ending) = ap (is_past after) (sym same)
+      ∙ past_after n t stores timely s in
+      ap (λ x. is_seen u after x && test x) same
+      ∙ (ap (λ p. (is_in u s && (is_some s.ended && not p)) && test s) past
+      ∙ (stayed_test (is_dropped u ending s) (is_in u s) (is_some s.ended) (is_past stores s) (list_any (drops s) ending) (test s)
+      (dropped_in u ending s)
+      ∙ ap (λ q. (is_seen u stores s && (not (is_dropped u ending s) && test s)) || (q && (is_in u s && test (answered_at t s)))) (sym h)))
+]
+
+pub answered_seen : (n t u : ℕ) (stores answered : List StoreByte) → All (IsTimely t) stores
+    → ((test : StoreByte → Bool) → list_any test answered ≡ list_any test (filter (is_seen u stores) stores)) → (test : StoreByte → Bool)
+    → list_any test (answered_after t (filter (is_open n) stores) u answered)
+    ≡ list_any test (filter (is_seen u (map (after_response n t) stores)) (map (after_response n t) stores))
+answered_seen n t u stores answered timely same test =
+    let ending = filter (is_open n) stores in
     let f = after_response n t in
-    rw (filter-open stores n, filter-filter (is_live stores) (λ s. not (is_dropped (filter (is_open n) stores) s)) stores, filter-map f (is_live (map f stores)) stores)
-    (ap (map f) (filter-agree (λ s. is_live stores s && not (is_dropped (filter (is_open n) stores) s)) (λ s. is_live (map f stores) (f s)) stores
-    (λ k d l. sym (ap not (past_after n t stores timely (get_or stores k d)) ∙ not_or (is_past stores (get_or stores k d)) (is_dropped (filter (is_open n) stores) (get_or stores k d))))))
+    let stays : StoreByte → Bool = λ s. not (is_dropped u ending s) in
+    let p : StoreByte → Bool = λ s. is_seen u stores s && (stays s && test s) in
+    let q : StoreByte → Bool = λ s. is_open n s && (is_in u s && test (answered_at t s)) in
+    let stayed : list_any test (filter stays answered) ≡ list_any p stores =
+    list_any-filter stays test answered
+    ∙ (same (λ s. stays s && test s) ∙ list_any-filter (is_seen u stores) (λ s. stays s && test s) stores) in
+    let added : list_any test (joined t ending u) ≡ list_any q stores =
+    list_any-map (answered_at t) test (filter (is_in u) ending)
+    ∙ (list_any-filter (is_in u) (λ s. test (answered_at t s)) ending
+    ∙ list_any-filter (is_open n) (λ s. is_in u s && test (answered_at t s)) stores) in
+    list_any-append test (filter stays answered) (joined t ending u)
+    ∙ (ap₂ (λ x y. x || y) stayed added
+    ∙ (sym (list_any-or p q stores)
+    ∙ (list_any-same (λ s. p s || q s) (λ s. is_seen u (map f stores) (f s) && test (f s))
+    (λ s. sym (seen_answered n t u stores timely test s)) stores
+    ∙ (sym (list_any-map f (λ s. is_seen u (map f stores) s && test s) stores)
+    ∙ sym (list_any-filter (is_seen u (map f stores)) test (map f stores))))))
+
+-- the open stores after an answer
+and_true : (x : Bool) → (x && true) ≡ x
+and_true true = refl
+and_true false = refl
+
+still_open : (n t : ℕ) (s : StoreByte) → is_unanswered (after_response n t s) ≡ (is_unanswered s && not (is_open n s))
+still_open n t s = elim (cases_Bool (is_open n s)) [
+  | inl h ↦ ap is_unanswered (ended_now n t s h) ∙ sym (ap (λ x. is_unanswered s && not x) h ∙ and_false (is_unanswered s))
+  | inr h ↦ ap is_unanswered (not_ended_now n t s h) ∙ sym (ap (λ x. is_unanswered s && not x) h ∙ and_true (is_unanswered s))
+]
+
+false_from_not : (x : Bool) → not x ≡ true → x ≡ false
+false_from_not true h = cc
+false_from_not false h = refl
+
+still_same : (n t : ℕ) (s : StoreByte) → (is_unanswered s && not (is_open n s)) ≡ true → after_response n t s ≡ s
+still_same n t s h = not_ended_now n t s (false_from_not (is_open n s) (and_parts (is_unanswered s) (not (is_open n s)) h).1)
+
+pub unanswered_after : (n t : ℕ) (stores : List StoreByte)
+    → filter (λ s. not (is_open n s)) (filter is_unanswered stores) ≡ filter is_unanswered (map (after_response n t) stores)
+unanswered_after n t stores =
+    let f = after_response n t in
+    let q : StoreByte → Bool = λ s. is_unanswered s && not (is_open n s) in
+    filter-filter is_unanswered (λ s. not (is_open n s)) stores
+    ∙ (sym (map_kept f q (still_same n t) stores)
+    ∙ (ap (map f) (filter-agree q (λ s. is_unanswered (f s)) stores (λ k d l. sym (still_open n t (get_or stores k d))))
+    ∙ sym (filter-map f is_unanswered stores)))
 
 -- and nothing changes for a load that was requested before
 overwritten_answered : (n t m : ℕ) (stores : List StoreByte) → All (IsTimely t) stores → m ≤ t → (s : StoreByte)

@@ -1,6 +1,6 @@
 -- What a request changes for the loads that are open, and what a load that is requested now may return.
-use Rattle.std.proofs.Common.{◌≡◌, ℕ, ◌+◌, ◌/◌, ◌%◌, ◌<◌, Bool, true, false, ◌&&◌, ◌||◌, not, ◌==◌, List, [], ◌∷◌, ◌++◌, map, Option, None, Some, get_or, slice_get, refl, sym, ap, ◌∙◌, inl, inr}
-use Rattle.std.specs.Prelude.{is_some}
+use Rattle.std.proofs.Common.{◌≡◌, ℕ, ◌+◌, ◌/◌, ◌%◌, Bool, true, false, ◌&&◌, ◌||◌, not, ◌==◌, List, [], ◌∷◌, ◌++◌, Option, None, Some, get_or, slice_get, refl, sym, ap, ap₂, ◌∙◌, inl, inr, append-nil}
+use Rattle.std.specs.Prelude.{is_none, is_some}
 use Rattle.std.specs.List.{All, filter, list_any}
 use Rattle.std.proofs.Math.Bool.{or_assoc}
 use Rattle.std.proofs.lemmas.Bool.{cases_Bool, cases_eq, eq-eqb, ne_eqb}
@@ -11,13 +11,13 @@ use Rattle.memory_histories.specs.declared.events.Rest.TheVariants.{Zeros, Unkno
 use Rattle.memory_histories.specs.declared.windows.StoreByte.{StoreByte}
 use Rattle.memory_histories.specs.declared.windows.LoadByte.{LoadByte}
 use Rattle.memory_histories.specs.declared.sets.ByteSet.{ByteSet}
-use Rattle.memory_histories.specs.Sets.{has, with_byte, no_bytes, all_bytes}
+use Rattle.memory_histories.specs.Sets.{has, with_byte, no_bytes}
 use Rattle.memory_histories.specs.Windows.{store_bytes}
 use Rattle.memory_histories.specs.Regular.{is_before, overwrites, is_overwritten, is_left, is_covered, is_initial, may_return_byte}
-use Rattle.memory_histories.specs.Kept.{initial_set, with_stores, is_covered_now, first_set, opened, after_stores, is_past, is_live, IsTimely}
-use Rattle.memory_histories.proofs.Lists.{or_false, and_false, list_any-agree, list_any-same, list_any-never, filter-agree, filter-always}
+use Rattle.memory_histories.specs.Kept.{initial_set, with_stores, is_covered_by, first_set, opened, unit_of, is_in, is_past, is_live, is_unanswered, is_seen, IsTimely}
+use Rattle.memory_histories.proofs.Lists.{or_false, and_false, list_any-agree, list_any-same, list_any-never, filter-agree, filter-always, filter-never}
 use Rattle.memory_histories.proofs.ByteSets.{has-with_byte, has-no_bytes, has-all_bytes}
-use Rattle.memory_histories.proofs.Live.{never_past, covered_now, left_now}
+use Rattle.memory_histories.proofs.Live.{covered_now, left_now, puts}
 
 and_true : (x : Bool) → (x && true) ≡ x
 and_true true = refl
@@ -67,11 +67,22 @@ overwritten_before m t stores added new s =
 never_overwritten : (stores : List StoreByte) (s : StoreByte) (m : ℕ) → s.ended ≡ None → is_overwritten stores s m ≡ false
 never_overwritten stores s m e = list_any-never (overwrites s m) (λ o. rw e (and_false (o.address == s.address))) stores
 
-pub live_requested : (t : ℕ) (stores added : List StoreByte) → All (IsNew t) added → filter (is_live (stores ++ added)) (stores ++ added) ≡ filter (is_live stores) stores ++ added
-live_requested t stores added new =
-    let before = filter-agree (is_live (stores ++ added)) (is_live stores) stores (λ k d l. ap not (past_before t stores added new (get_or stores k d))) in
-    let all = filter-always (is_live (stores ++ added)) added (λ k d l. ap not (never_past (stores ++ added) (get_or added k d) (new k d l).1)) in
-    rw (filter-append (is_live (stores ++ added)) stores added, before, all) refl
+pub unanswered_requested : (t : ℕ) (stores added : List StoreByte) → All (IsNew t) added → filter is_unanswered (stores ++ added)
+    ≡ filter is_unanswered stores ++ added
+unanswered_requested t stores added new =
+    filter-append is_unanswered stores added ∙ ap (λ xs. filter is_unanswered stores ++ xs)
+    (filter-always is_unanswered added (λ k d l. ap is_none (new k d l).1))
+
+pub seen_requested : (t u : ℕ) (stores added : List StoreByte) → All (IsNew t) added
+    → filter (is_seen u (stores ++ added)) (stores ++ added) ≡ filter (is_seen u stores) stores
+seen_requested t u stores added new =
+    let p = is_seen u (stores ++ added) in
+    let before = filter-agree p (is_seen u stores) stores
+    (λ k d l. let s = get_or stores k d in ap (λ x. is_in u s && (is_some s.ended && not x)) (past_before t stores added new s)) in
+    let none = filter-never p added
+    (λ k d l. let s = get_or added k d in ap (λ (o : Option ℕ). is_in u s && (is_some o && is_live (stores ++ added) s)) (new k d l).1
+    ∙ and_false (is_in u s)) in
+    filter-append p stores added ∙ (ap₂ (λ xs ys. xs ++ ys) before none ∙ append-nil (filter (is_seen u stores) stores))
 
 pub left_requested : (t : ℕ) (stores added : List StoreByte) → All (IsNew t) added → (l : LoadByte) (b : ℕ)
     → is_left (stores ++ added) l b ≡ (is_left stores l b || list_any (λ s. (s.address == l.address) && (s.byte == b)) added)
@@ -107,18 +118,29 @@ has-initial (Some i) r b = has-only i b
 has-initial None Zeros b = has-only 0 b ∙ eqb_comm 0 b
 has-initial None Unknown b = has-all_bytes b
 
+opened_test : (i l a o : Bool) → l ≡ (a || o) → ((i || a) || o) ≡ (l || i)
+opened_test true l a o e = sym (or_comm l true)
+opened_test false l a o e = sym e ∙ sym (or_false l)
+
 -- the set of a load that is requested now
-pub opened_exact : (image : List ℕ) (r : Rest) (t : ℕ) (stores : List StoreByte) → All (IsTimely t) stores → (l : LoadByte) → l.began ≡ t → (b : ℕ)
-    → has (opened image r (filter (is_live stores) stores) l).may b ≡ may_return_byte image r stores l b
-opened_exact image r t stores timely l e b =
-    let live = filter (is_live stores) stores in
-    let initial = initial_set (slice_get image l.address) r in
-    let any = list_any (λ s. (s.address == l.address) && (s.byte == b)) live in
-    let first : has (first_set (is_covered_now live l.address) initial) b ≡ (is_initial (slice_get image l.address) r b && not (is_covered stores l)) =
-    has-first (is_covered_now live l.address) initial b
-    ∙ (ap (λ x. x && not (is_covered_now live l.address)) (has-initial (slice_get image l.address) r b) ∙ ap (λ x. is_initial (slice_get image l.address) r b && not x) (sym (covered_now t stores timely l e))) in
-    has-with_stores live l.address (first_set (is_covered_now live l.address) initial) b
-    ∙ (ap (λ x. x || any) first ∙ (or_comm (is_initial (slice_get image l.address) r b && not (is_covered stores l)) any ∙ ap (λ x. x || (is_initial (slice_get image l.address) r b && not (is_covered stores l))) (sym (left_now t stores timely l b e))))
+pub opened_exact : (image : List ℕ) (r : Rest) (t : ℕ) (stores answered : List StoreByte) → All (IsTimely t) stores → (l : LoadByte)
+    → l.began ≡ t
+    → ((test : StoreByte → Bool) → list_any test answered ≡ list_any test (filter (is_seen (unit_of l.address) stores) stores)) → (b : ℕ)
+    → has (opened image r (filter is_unanswered stores) answered l).may b ≡ may_return_byte image r stores l b
+opened_exact image r t stores answered timely l e same b =
+    let a = l.address in
+    let initial = initial_set (slice_get image a) r in
+    let first = first_set (is_covered_by answered a) initial in
+    let covered : is_covered_by answered a ≡ is_covered stores l = same (λ s. s.address == a) ∙ sym (covered_now t stores timely l e) in
+    let first_has : has first b ≡ (is_initial (slice_get image a) r b && not (is_covered stores l)) =
+    has-first (is_covered_by answered a) initial b ∙ ap₂ (λ x y. x && not y) (has-initial (slice_get image a) r b) covered in
+    let left : is_left stores l b ≡ (list_any (puts a b) answered || list_any (puts a b) (filter is_unanswered stores)) =
+    left_now t stores timely l b e ∙ ap (λ x. x || list_any (puts a b) (filter is_unanswered stores)) (sym (same (puts a b))) in
+    has-with_stores (filter is_unanswered stores) a (with_stores answered a first) b
+    ∙ (ap (λ x. x || list_any (puts a b) (filter is_unanswered stores))
+    (has-with_stores answered a first b ∙ ap (λ x. x || list_any (puts a b) answered) first_has)
+    ∙ opened_test (is_initial (slice_get image a) r b && not (is_covered stores l)) (is_left stores l b) (list_any (puts a b) answered)
+    (list_any (puts a b) (filter is_unanswered stores)) left)
 
 or_and : (x a y : Bool) → ((x || y) || a) ≡ ((x || a) || y)
 or_and true a y = refl

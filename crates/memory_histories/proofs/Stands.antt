@@ -1,6 +1,6 @@
 -- What is kept of a history judges it as the law does.
-use Rattle.std.proofs.Common.{◌≡◌, ℕ, ◌+◌, ◌<◌, ◌≤◌, Bool, true, false, ◌&&◌, ◌||◌, not, if◌then◌else◌, ◌==◌, List, [], ◌∷◌, ◌++◌, map, length, Option, None, Some, Result, Ok, Err, get_or, slice_get, refl, sym, ap, ◌∙◌, inl, inr, arith, subst}
-use Rattle.std.specs.Prelude.{is_none, OnOk, IfErr, MatchOption}
+use Rattle.std.proofs.Common.{◌≡◌, ℕ, ◌+◌, ◌≤◌, Bool, not, if◌then◌else◌, List, map, length, Option, None, Some, Result, Ok, Err, get_or, refl, sym, ap, ◌∙◌, inl, inr, arith, subst}
+use Rattle.std.specs.Prelude.{is_none, OnOk, IfErr}
 use Rattle.std.specs.Borrow.{Bor}
 use Rattle.std.specs.List.{All, filter, find, list_any, range_with_len}
 use Rattle.std.specs.Option.{option_map}
@@ -15,26 +15,24 @@ use Rattle.memory_histories.specs.declared.events.StepFault.TheVariants.{Refused
 use Rattle.memory_histories.specs.declared.events.Rest.{Rest}
 use Rattle.memory_histories.specs.declared.windows.StoreByte.{StoreByte}
 use Rattle.memory_histories.specs.declared.windows.LoadByte.{LoadByte}
-use Rattle.memory_histories.specs.declared.sets.ByteSet.{ByteSet}
 use Rattle.memory_histories.specs.declared.kept.OpenByte.{OpenByte}
-use Rattle.memory_histories.specs.Sets.{has}
 use Rattle.memory_histories.specs.Windows.{Windows, store_bytes, load_bytes, is_open, is_of, is_at, after_response, windows_after}
 use Rattle.memory_histories.specs.Windows as windows
-use Rattle.memory_histories.specs.Regular.{fault, may_return, may_return_byte, wrong_place, wrong_byte, is_inside, has_enabled, is_left, is_covered, is_initial, load_request_fault, load_response_fault, store_request_fault, store_response_fault}
-use Rattle.memory_histories.specs.Kept.{Kept, opened, after_stores, is_open_of, is_open_at, may_have, kept_fault, kept_after, kept_step, next_live, next_open, live_after, is_live, EndsBefore, IsTimely, IsExact, StandsFor}
+use Rattle.memory_histories.specs.Regular.{fault, may_return, is_inside, has_enabled, load_request_fault, load_response_fault, store_request_fault, store_response_fault}
+use Rattle.memory_histories.specs.Kept.{Kept, opened_at, after_stores, answered_after, unit_of, is_unanswered, is_seen, is_open_of, is_open_at, may_have, kept_fault, kept_after, kept_step, EndsBefore, IsTimely, IsExact, StandsFor}
 use Rattle.memory_histories.specs.Kept as keeps
 use Rattle.memory_histories.specs.Shown.{KeptFaultIs, StepFaultIs, IsSetOf}
 use Rattle.memory_histories.proofs.Lists.{list_any-map, filter-map, map-map, find-map, find-All, position-zip}
-use Rattle.memory_histories.proofs.Live.{list_any-open, live_answered, left_answered, covered_answered}
-use Rattle.memory_histories.proofs.Requests.{IsNew, store_bytes-new, live_requested, opened_exact, requested_exact}
+use Rattle.memory_histories.proofs.Live.{list_any-open, filter-open, answered_seen, unanswered_after, left_answered, covered_answered}
+use Rattle.memory_histories.proofs.Requests.{IsNew, store_bytes-new, unanswered_requested, seen_requested, opened_exact, requested_exact}
 
 -- Faults. ----
 
 any_of : (k : Kept) (w : Windows) → StandsFor k w → (n : ℕ) → list_any (is_open_of n) k.open_bytes ≡ list_any (is_of n) w.loads
 any_of k w s n = sym (list_any-map (λ o. o.load) (is_of n) k.open_bytes) ∙ ap (list_any (is_of n)) s.load_bytes
 
-any_open : (k : Kept) (w : Windows) → StandsFor k w → (n : ℕ) → list_any (is_open n) k.live ≡ list_any (is_open n) w.stores
-any_open k w s n = ap (list_any (is_open n)) s.live_bytes ∙ list_any-open w.stores n
+any_open : (k : Kept) (w : Windows) → StandsFor k w → (n : ℕ) → list_any (is_open n) k.stores ≡ list_any (is_open n) w.stores
+any_open k w s n = ap (list_any (is_open n)) s.open_stores ∙ list_any-open w.stores n
 
 response_map : {X Y : Type 0} (f : X → Y) (p : X → ℕ → Bool) (q : Y → ℕ → Bool) (xs : List X) (bs : List ℕ) → All (λ x. (b : ℕ) → p x b ≡ q (f x) b) xs
     → load_response_fault p xs bs ≡ load_response_fault q (map f xs) bs
@@ -85,16 +83,22 @@ exact_later w loads o h = let l = h.0 in (omega arith, h.1)
 
 requests_load : (k : Kept) (w : Windows) → StandsFor k w → (n a len : ℕ) → StandsFor (kept_after k (LoadRequest n a len)) (windows_after w (LoadRequest n a len))
 requests_load k w s n a len =
-    let f = opened k.image k.rest k.live in
+    let f = opened_at k.image k.rest k.stores k.answered in
     let ls = load_bytes n a len k.moment in
     let later = windows_after w (LoadRequest n a len) in
     let exact_f : (l : LoadByte) → l.began ≡ w.moment → IsExact later (f l) =
-    λ l e. (omega arith, λ b. rw (s.same_image, s.same_rest, s.live_bytes) (opened_exact w.image w.rest w.moment w.stores s.timely l e b)) in
+    λ l e. (
+      omega arith,
+      λ b. rw (s.same_image, s.same_rest, s.open_stores)
+          (opened_exact w.image w.rest w.moment w.stores (k.answered (unit_of l.address)) s.timely l e
+          (s.answered_stores (unit_of l.address)) b),
+    ) in
     record {
       same_image = s.same_image;
       same_rest = s.same_rest;
       same_moment = ap (λ t. t + 1) s.same_moment;
-      live_bytes = s.live_bytes;
+      open_stores = s.open_stores;
+      answered_stores = s.answered_stores;
       load_bytes = map-append (λ o. o.load) k.open_bytes (map f ls) ∙ rw (s.load_bytes, map-map f (λ o. o.load) ls, map_same ls, s.same_moment) refl;
       exact = All-append (IsExact later) k.open_bytes (map f ls)
           (All-weaker (IsExact w) (IsExact later) (λ o h. exact_later w later.loads o h) k.open_bytes s.exact)
@@ -109,7 +113,8 @@ answers_load k w s n bytes =
       same_image = s.same_image;
       same_rest = s.same_rest;
       same_moment = ap (λ t. t + 1) s.same_moment;
-      live_bytes = s.live_bytes;
+      open_stores = s.open_stores;
+      answered_stores = s.answered_stores;
       load_bytes = sym (filter-map (λ o. o.load) (λ l. not (is_of n l)) k.open_bytes) ∙ ap (filter (λ l. not (is_of n l))) s.load_bytes;
       exact = All-filter (λ o. not (is_open_of n o)) (IsExact later) k.open_bytes (All-weaker (IsExact w) (IsExact later) (λ o h. exact_later w later.loads o h) k.open_bytes s.exact);
       timely = all_timely_later w.moment w.stores s.timely;
@@ -124,7 +129,9 @@ requests_store k w s n a bytes e =
       same_image = s.same_image;
       same_rest = s.same_rest;
       same_moment = ap (λ t. t + 1) s.same_moment;
-      live_bytes = rw (s.live_bytes, s.same_moment) (sym (live_requested w.moment w.stores added new));
+      open_stores = rw (s.open_stores, s.same_moment) (sym (unanswered_requested w.moment w.stores added new));
+      answered_stores = λ unit test. s.answered_stores unit test
+          ∙ ap (list_any test) (sym (seen_requested w.moment unit w.stores added new));
       load_bytes = map-map (after_stores (store_bytes n a bytes.now e k.moment)) (λ o. o.load) k.open_bytes ∙ s.load_bytes;
       exact = rw s.same_moment (All-map (IsExact later) (after_stores added) k.open_bytes
           (All-weaker (IsExact w) (λ o. IsExact later (after_stores added o))
@@ -140,7 +147,12 @@ answers_store k w s n =
       same_image = s.same_image;
       same_rest = s.same_rest;
       same_moment = ap (λ t. t + 1) s.same_moment;
-      live_bytes = rw (s.live_bytes, s.same_moment) (live_answered n w.moment w.stores s.timely);
+      open_stores = ap (filter (λ x. not (is_open n x))) s.open_stores ∙ unanswered_after n w.moment w.stores;
+      answered_stores = λ unit test.
+          ap (λ xs. list_any test (answered_after k.moment (filter (is_open n) xs) unit (k.answered unit))) s.open_stores
+          ∙ (ap (λ xs. list_any test (answered_after k.moment xs unit (k.answered unit))) (filter-open w.stores n)
+          ∙ (ap (λ t. list_any test (answered_after t (filter (is_open n) w.stores) unit (k.answered unit))) s.same_moment
+          ∙ answered_seen n w.moment unit w.stores (k.answered unit) s.timely (s.answered_stores unit) test));
       load_bytes = s.load_bytes;
       exact = All-weaker (IsExact w) (IsExact later)
           (λ o h. let l = h.0 in let before : o.load.began ≤ w.moment = omega arith in
@@ -159,7 +171,8 @@ stands_first image rest = record {
   same_image = refl;
   same_rest = refl;
   same_moment = refl;
-  live_bytes = refl;
+  open_stores = refl;
+  answered_stores = λ unit test. refl;
   load_bytes = refl;
   exact = All-nil (IsExact (windows.opening image rest));
   timely = All-nil (IsTimely 0);

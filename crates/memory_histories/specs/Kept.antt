@@ -1,6 +1,6 @@
--- What the judge keeps of a history: of each byte the stores that a load may still see, and of each byte of an open load
--- what it may return if it is answered now.
-use Rattle.std.specs.Prelude.{ℕ, ◌≡◌, ◌+◌, ◌<◌, ◌≤◌, Bool, ◌&&◌, not, if◌then◌else◌, ◌==◌, List, [], ◌∷◌, ◌++◌, map, Option, Some, None, is_none, is_some, slice_get, length}
+-- What the judge keeps of a history: the bytes of the open stores, those of answered stores that a load may still see, and of
+-- each byte of an open load what it may return if it is answered now.
+use Rattle.std.specs.Prelude.{ℕ, ◌≡◌, ◌+◌, ◌-◌, ◌/◌, ◌<◌, Bool, true, nat_le, nat_lt, ◌&&◌, not, if◌then◌else◌, ◌==◌, List, [], ◌++◌, map, Option, Some, None, is_none, is_some, slice_get, length}
 use Rattle.std.specs.List.{All, filter, list_any, fold}
 use Rattle.memory_histories.specs.declared.events.HistoryEvent.{HistoryEvent}
 use Rattle.memory_histories.specs.declared.events.HistoryEvent.TheVariants.{LoadRequest, LoadResponse, StoreRequest, StoreResponse}
@@ -12,18 +12,28 @@ use Rattle.memory_histories.specs.declared.windows.LoadByte.{LoadByte}
 use Rattle.memory_histories.specs.declared.sets.ByteSet.{ByteSet}
 use Rattle.memory_histories.specs.declared.kept.OpenByte.{OpenByte}
 use Rattle.memory_histories.specs.Sets.{has, with_byte, no_bytes, all_bytes}
-use Rattle.memory_histories.specs.Windows.{Windows, store_bytes, load_bytes, is_open, is_of, is_at, after_response}
+use Rattle.memory_histories.specs.Windows.{Windows, store_bytes, load_bytes, is_open, is_of, is_at}
 use Rattle.memory_histories.specs.Regular.{is_before, is_inside, has_enabled, load_request_fault, load_response_fault, store_request_fault, store_response_fault, may_return_byte}
 
+-- `stores` are the bytes of the open stores. `answered` gives those of answered stores by unit, that is by eight aligned
+-- addresses, so that an event looks at the units of its operation alone
 pub record Kept : Type 0 where
   pub image : List ℕ
   pub rest : Rest
   pub moment : ℕ
-  pub live : List StoreByte
+  pub stores : List StoreByte
+  pub answered : ℕ → List StoreByte
   pub open_bytes : List OpenByte
 
 abbrev pub opening : List ℕ → Rest → Kept
-opening image rest = record { image = image; rest = rest; moment = 0; live = []; open_bytes = [] }
+opening image rest = record { image = image; rest = rest; moment = 0; stores = []; answered = λ unit. []; open_bytes = [] }
+
+-- the unit of an address
+abbrev pub unit_of : ℕ → ℕ
+unit_of address = address / 8
+
+abbrev pub is_in : ℕ → StoreByte → Bool
+is_in unit s = unit_of s.address == unit
 
 -- whether a byte is of the load that is open under this number
 abbrev pub is_open_of : ℕ → OpenByte → Bool
@@ -43,42 +53,76 @@ initial_set None Unknown = all_bytes
 abbrev pub with_stores : List StoreByte → ℕ → ByteSet → ByteSet
 with_stores stores address set = fold (λ s x. with_byte s x.byte) set (filter (λ x. x.address == address) stores)
 
--- whether a store to the byte at an address was answered
-abbrev pub is_covered_now : List StoreByte → ℕ → Bool
-is_covered_now live address = list_any (λ s. (s.address == address) && is_some s.ended) live
+-- whether one of these bytes lies at an address
+abbrev pub is_covered_by : List StoreByte → ℕ → Bool
+is_covered_by answered address = list_any (λ s. s.address == address) answered
 
 abbrev pub first_set : Bool → ByteSet → ByteSet
 first_set covered initial = if covered then no_bytes else initial
 
--- a byte of a load that is requested now
-abbrev pub opened : List ℕ → Rest → List StoreByte → LoadByte → OpenByte
-opened image rest live l = record { load = l; may = with_stores live l.address (first_set (is_covered_now live l.address) (initial_set (slice_get image l.address) rest)) }
+-- a byte of a load that is requested now, where these are the open stores and those that were answered
+abbrev pub opened : List ℕ → Rest → List StoreByte → List StoreByte → LoadByte → OpenByte
+opened image rest stores answered l = record {
+  load = l;
+  may = with_stores stores l.address (with_stores answered l.address
+      (first_set (is_covered_by answered l.address) (initial_set (slice_get image l.address) rest)));
+}
+
+abbrev pub opened_at : List ℕ → Rest → List StoreByte → (ℕ → List StoreByte) → LoadByte → OpenByte
+opened_at image rest stores answered l = opened image rest stores (answered (unit_of l.address)) l
+
+-- whether an address is one of so many from another on
+abbrev pub is_within : ℕ → ℕ → ℕ → Bool
+is_within from length address = nat_le from address && nat_lt (address - from) length
+
+abbrev pub AreWithin : ℕ → ℕ → List StoreByte → Type 0
+AreWithin from length stores = All (λ s. is_within from length s.address ≡ true) stores
 
 -- a byte of an open load once these stores are requested
 abbrev pub after_stores : List StoreByte → OpenByte → OpenByte
 after_stores added o = record { load = o.load; may = with_stores added o.load.address o.may }
 
--- whether a byte was overwritten by a store that is answered now
-abbrev pub is_dropped : List StoreByte → StoreByte → Bool
-is_dropped ending s = list_any (λ e. (e.address == s.address) && is_before s.ended e.began) ending
+-- whether a byte was overwritten by one of a unit whose store is answered now
+abbrev pub is_dropped : ℕ → List StoreByte → StoreByte → Bool
+is_dropped unit ending s = list_any (λ e. (e.address == s.address) && (is_in unit e && is_before s.ended e.began)) ending
 
--- the stores once this one is answered: those that it has overwritten are dropped
-abbrev pub live_after : ℕ → ℕ → List StoreByte → List StoreByte
-live_after number moment live = map (after_response number moment) (filter (λ s. not (is_dropped (filter (is_open number) live) s)) live)
+-- a byte whose store is answered at a moment
+abbrev pub answered_at : ℕ → StoreByte → StoreByte
+answered_at moment s = record { number = s.number; address = s.address; byte = s.byte; began = s.began; ended = Some moment }
 
-abbrev pub next_live : Kept → HistoryEvent → List StoreByte
-next_live k (StoreRequest number address bytes enables) = k.live ++ store_bytes number address bytes.now enables k.moment
-next_live k (StoreResponse number) = live_after number k.moment k.live
-next_live k event = k.live
+-- those of these bytes that lie in a unit, as they are once their store is answered
+abbrev pub joined : ℕ → List StoreByte → ℕ → List StoreByte
+joined moment ending unit = map (answered_at moment) (filter (is_in unit) ending)
+
+-- what is kept of a unit once the store with these bytes is answered: what it has overwritten is dropped
+abbrev pub answered_after : ℕ → List StoreByte → ℕ → List StoreByte → List StoreByte
+answered_after moment ending unit answered = filter (λ s. not (is_dropped unit ending s)) answered ++ joined moment ending unit
+
+abbrev pub next_stores : Kept → HistoryEvent → List StoreByte
+next_stores k (StoreRequest number address bytes enables) = k.stores ++ store_bytes number address bytes.now enables k.moment
+next_stores k (StoreResponse number) = filter (λ s. not (is_open number s)) k.stores
+next_stores k event = k.stores
+
+abbrev pub next_answered : Kept → HistoryEvent → ℕ → List StoreByte
+next_answered k (StoreResponse number) = λ unit. answered_after k.moment (filter (is_open number) k.stores) unit (k.answered unit)
+next_answered k event = k.answered
 
 abbrev pub next_open : Kept → HistoryEvent → List OpenByte
-next_open k (LoadRequest number address n) = k.open_bytes ++ map (opened k.image k.rest k.live) (load_bytes number address n k.moment)
+next_open k (LoadRequest number address n) = k.open_bytes ++ map (opened_at k.image k.rest k.stores k.answered)
+    (load_bytes number address n k.moment)
 next_open k (LoadResponse number bytes) = filter (λ o. not (is_open_of number o)) k.open_bytes
 next_open k (StoreRequest number address bytes enables) = map (after_stores (store_bytes number address bytes.now enables k.moment)) k.open_bytes
 next_open k event = k.open_bytes
 
 abbrev pub kept_after : Kept → HistoryEvent → Kept
-kept_after k event = record { image = k.image; rest = k.rest; moment = k.moment + 1; live = next_live k event; open_bytes = next_open k event }
+kept_after k event = record {
+  image = k.image;
+  rest = k.rest;
+  moment = k.moment + 1;
+  stores = next_stores k event;
+  answered = next_answered k event;
+  open_bytes = next_open k event;
+}
 
 abbrev pub may_have : OpenByte → ℕ → Bool
 may_have o b = has o.may b
@@ -86,8 +130,9 @@ may_have o b = has o.may b
 abbrev pub kept_fault : Kept → HistoryEvent → Option HistoryFault
 kept_fault k (LoadRequest number address n) = load_request_fault (is_inside address n) (list_any (is_open_of number) k.open_bytes)
 kept_fault k (LoadResponse number bytes) = load_response_fault may_have (filter (is_open_of number) k.open_bytes) bytes.now
-kept_fault k (StoreRequest number address bytes enables) = store_request_fault (is_inside address (length bytes.now)) (has_enabled bytes.now enables) (list_any (is_open number) k.live)
-kept_fault k (StoreResponse number) = store_response_fault (list_any (is_open number) k.live)
+kept_fault k (StoreRequest number address bytes enables) = store_request_fault (is_inside address (length bytes.now))
+    (has_enabled bytes.now enables) (list_any (is_open number) k.stores)
+kept_fault k (StoreResponse number) = store_response_fault (list_any (is_open number) k.stores)
 
 -- one event, where it is one of the law
 abbrev pub kept_step : Kept → HistoryEvent → Option Kept
@@ -102,6 +147,14 @@ is_past stores s = list_any (λ other. (other.address == s.address) && (is_befor
 abbrev pub is_live : List StoreByte → StoreByte → Bool
 is_live stores s = not (is_past stores s)
 
+-- whether a byte is of an open store
+abbrev pub is_unanswered : StoreByte → Bool
+is_unanswered s = is_none s.ended
+
+-- whether it lies in a unit, its store was answered, and a load may still see it
+abbrev pub is_seen : ℕ → List StoreByte → StoreByte → Bool
+is_seen unit stores s = is_in unit s && (is_some s.ended && is_live stores s)
+
 -- a window began before now, and if it ended, it did so after that and before now
 abbrev pub EndsBefore : ℕ → ℕ → Option ℕ → Type 0
 EndsBefore moment began None = Unit {0}
@@ -114,12 +167,15 @@ IsTimely moment s = (s.began < moment) × EndsBefore moment s.began s.ended
 abbrev pub IsExact : Windows → OpenByte → Type 0
 IsExact w o = (o.load.began < w.moment) × ((b : ℕ) → has o.may b ≡ may_return_byte w.image w.rest w.stores o.load b)
 
--- what is kept is of these windows
+-- what is kept is of these windows. The order in which bytes of answered stores are kept has no meaning: they are the same to
+-- every test
 pub record StandsFor (k : Kept) (w : Windows) : Type 0 where
   pub same_image : k.image ≡ w.image
   pub same_rest : k.rest ≡ w.rest
   pub same_moment : k.moment ≡ w.moment
-  pub live_bytes : k.live ≡ filter (is_live w.stores) w.stores
+  pub open_stores : k.stores ≡ filter is_unanswered w.stores
+  pub answered_stores : (unit : ℕ) (test : StoreByte → Bool) → list_any test (k.answered unit)
+      ≡ list_any test (filter (is_seen unit w.stores) w.stores)
   pub load_bytes : map (λ o. o.load) k.open_bytes ≡ w.loads
   pub exact : All (IsExact w) k.open_bytes
   pub timely : All (IsTimely w.moment) w.stores

@@ -1,6 +1,7 @@
 pub mod Windows
 pub mod Regular
 pub mod Hidden
+pub mod Faults
 pub mod Sets
 pub mod Kept
 pub mod Shown

@@ -1,20 +1,56 @@
 -- What a `RegularMemory` keeps, and what the answers of its calls say.
-use Rattle.std.specs.Prelude.{ℕ, ◌≡◌, Option, Some, None, MatchOption}
-use Rattle.std.specs.List.{find}
+use Rattle.std.specs.Prelude.{ℕ, ◌≡◌, Bool, true, if◌then◌else◌, ◌==◌, List, [], ◌∷◌, Option, Some, None, nat_eq}
+use Rattle.std.specs.HashMap.{get}
+use Rattle.std.specs.List.{find, list_any}
 use Rattle.memory_histories.specs.declared.events.HistoryEvent.{HistoryEvent}
 use Rattle.memory_histories.specs.declared.events.StepFault.{StepFault}
 use Rattle.memory_histories.specs.declared.events.StepFault.TheVariants.{Refused, TooLong, OutOfMemory}
 use Rattle.memory_histories.specs.declared.windows.LoadByte.{LoadByte}
+use Rattle.memory_histories.specs.declared.windows.StoreByte.{StoreByte}
 use Rattle.memory_histories.specs.declared.sets.ByteSet.{ByteSet}
+use Rattle.memory_histories.specs.declared.answered.KeptUnit.{KeptUnit}
+use Rattle.memory_histories.specs.declared.answered.UnitChange.{UnitChange}
 use Rattle.memory_histories.specs.declared.regular.RegularMemory.{RegularMemory}
 use Rattle.memory_histories.specs.Sets.{has}
 use Rattle.memory_histories.specs.Windows.{Windows, is_at}
 use Rattle.memory_histories.specs.Regular.{fault, may_return}
-use Rattle.memory_histories.specs.Kept.{Kept, kept_fault}
+use Rattle.memory_histories.specs.Kept.{Kept, kept_fault, unit_of, answered_after}
+
+-- the bytes of answered stores that are kept of a unit: none of one that isn't there
+abbrev pub stores_or : Option KeptUnit → List StoreByte
+stores_or (Some unit) = unit.stores.items
+stores_or None = []
+
+abbrev pub answered_in : (ℕ → Option KeptUnit) → ℕ → List StoreByte
+answered_in units unit = stores_or (units unit)
+
+-- whether a change is of this unit
+abbrev pub is_of_unit : ℕ → UnitChange → Bool
+is_of_unit unit change = change.unit == unit
+
+-- what is kept of the units with these changes: of two of one unit the first counts
+abbrev pub put_units : (ℕ → List StoreByte) → List UnitChange → ℕ → List StoreByte
+put_units answered [] unit = answered unit
+put_units answered (change ∷ changes) unit = if is_of_unit unit change then change.after.stores.items else put_units answered changes unit
+
+-- a change is what the answer to the store with these bytes makes of its unit
+abbrev pub IsAfter : ℕ → List StoreByte → (ℕ → List StoreByte) → UnitChange → Type 0
+IsAfter moment ending answered change = change.after.stores.items ≡ answered_after moment ending change.unit (answered change.unit)
+
+-- the unit of a byte is among those that change
+abbrev pub HasUnit : List UnitChange → StoreByte → Type 0
+HasUnit changes s = list_any (is_of_unit (unit_of s.address)) changes ≡ true
 
 -- what it keeps
 unfoldable pub kept : RegularMemory → Kept
-kept m = record { image = m.image.items; rest = m.rest; moment = m.moment; live = m.live.items; open_bytes = m.loads.items }
+kept m = record {
+  image = m.image.items;
+  rest = m.rest;
+  moment = m.moment;
+  stores = m.stores.items;
+  answered = answered_in (get nat_eq m.units);
+  open_bytes = m.loads.items;
+}
 
 -- what each fault of a step says of the event, over what is kept and over the windows
 abbrev pub KeptFaultIs : Kept → HistoryEvent → StepFault → Type 0

@@ -1,7 +1,6 @@
 //! The events of a history, and why one of them is refused.
 
 use std::alloc::AllocError;
-use thiserror::Error;
 
 /// The most bytes of one operation.
 pub const MAX_LENGTH: usize = 64;
@@ -65,16 +64,13 @@ pub enum Rest {
 }
 
 /// Why an event was not taken. After each of these everything is as it was.
-#[derive(Clone, Copy, PartialEq, Eq, Debug, Error)]
+#[derive(Clone, Copy, PartialEq, Eq, Debug)]
 pub enum StepFault {
     /// The history with this event is none of the law.
-    #[error("the event is none of the law: {0:?}")]
     Refused(HistoryFault),
     /// 2^64 - 1 events were taken.
-    #[error("the history is too long")]
     TooLong,
     /// There was too little memory.
-    #[error("out of memory")]
     OutOfMemory,
 }
 

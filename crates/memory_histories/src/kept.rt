@@ -1,15 +1,19 @@
-//! What the judge keeps: the stores that a load may still see, and the bytes of open loads.
+//! The bytes of open loads with what they may return, and those of open stores.
 
-ghost use Rattle.std.specs.Prelude.{◌≡◌, ◌+◌, ◌≤◌, ◌<◌, ◌++◌, ◌^◌, IfOk, OnOk, OnErr, length, map, not, vec_len, vec_capacity, slice_get};
+ghost use Rattle.std.specs.Prelude.{◌≡◌, ◌+◌, ◌≤◌, ◌<◌, ◌++◌, ◌^◌, IfOk, OnOk, OnErr, length, map, not, vec_len, vec_capacity, slice_get, nat_eq};
+ghost use Rattle.std.specs.HashMap.{get};
 ghost use Rattle.std.specs.List.{filter, find, list_any};
 ghost use Rattle.memory_histories.specs.Windows.{load_bytes, is_open, is_of, is_at};
 ghost use Rattle.memory_histories.specs.Regular.{wrong_place};
-ghost use Rattle.memory_histories.specs.Kept.{initial_set, with_stores, is_covered_now, first_set, opened, after_stores, is_dropped, live_after, is_open_of, is_open_at, may_have};
+ghost use Rattle.memory_histories.specs.Kept.{initial_set, with_stores, is_covered_by, first_set, opened, opened_at, is_within, after_stores, is_open_of, is_open_at, may_have, AreWithin};
+ghost use Rattle.memory_histories.specs.Shown.{answered_in};
 
+use crate::answered::{KeptUnit, answered_in, unit_of};
 use crate::events::Rest;
 use crate::sets::ByteSet;
-use crate::windows::{LoadByte, StoreByte, end_store, is_at, is_before, is_of, is_open};
+use crate::windows::{LoadByte, StoreByte, is_at, is_of, is_open};
 use std::alloc::{AllocError, Global};
+use std::collections::HashMap;
 
 /// One byte of an open load, and what it may return if it is answered now.
 #[derive(Clone, Copy, PartialEq, Eq, Debug)]
@@ -85,12 +89,11 @@ fn with_stores(stores: &[StoreByte], address: u64, set: ByteSet) -> ByteSet
         .fold(set, |set, store| set.with(store.byte))
 }
 
-// Whether a store to the byte at an address was answered.
-fn is_covered_now(live: &[StoreByte], address: u64) -> bool
-    ensures { result ≡ is_covered_now live.now address }
+// Whether one of these bytes lies at an address.
+fn is_covered_by(answered: &[StoreByte], address: u64) -> bool
+    ensures { result ≡ is_covered_by answered.now address }
 {
-    live.iter()
-        .any(|store| store.address == address && store.ended.is_some())
+    answered.iter().any(|store| store.address == address)
 }
 
 fn first_set(covered: bool, initial: ByteSet) -> ByteSet
@@ -100,22 +103,45 @@ fn first_set(covered: bool, initial: ByteSet) -> ByteSet
 }
 
 // A byte of a load that is requested now.
-fn opened(image: &[u8], rest: Rest, live: &[StoreByte], load: LoadByte) -> OpenByte
-    ensures { result ≡ opened image.now rest live.now load }
+fn opened(
+    image: &[u8],
+    rest: Rest,
+    stores: &[StoreByte],
+    answered: &[StoreByte],
+    load: LoadByte,
+) -> OpenByte
+    ensures { result ≡ opened image.now rest stores.now answered.now load }
 {
     let address = load.address;
     let initial = initial_set(image.get(address as usize).copied(), rest);
-    let first = first_set(is_covered_now(live, address), initial);
+    let first = first_set(is_covered_by(answered, address), initial);
     OpenByte {
         load,
-        may: with_stores(live, address, first),
+        may: with_stores(stores, address, with_stores(answered, address, first)),
+    }
+}
+
+// What is kept of a unit, if this is what is kept of another one, which may be the same.
+fn answered_next<'a>(
+    units: &'a HashMap<u64, KeptUnit>,
+    answered: &'a [StoreByte],
+    unit: u64,
+    next: u64,
+) -> &'a [StoreByte]
+    requires { answered.now ≡ answered_in (get nat_eq units.now) unit }
+    ensures { result.now ≡ answered_in (get nat_eq units.entry.now) next }
+{
+    if unit == next {
+        answered
+    } else {
+        answered_in(units, next)
     }
 }
 
 // Adds the bytes of a load that is requested now.
 pub(crate) fn add_load(
     loads: &mut Vec<OpenByte>,
-    memory: (&[u8], Rest, &[StoreByte]),
+    memory: (&[u8], Rest, &[StoreByte], &HashMap<u64, KeptUnit>),
     number: u64,
     address: u64,
     length: usize,
@@ -123,17 +149,46 @@ pub(crate) fn add_load(
 )
     requires room { vec_len loads.old + length ≤ vec_capacity loads.old }
     requires inside { address + length ≤ 2 ^ 64 }
-    ensures { loads.new.items ≡ loads.old.items ++ map (opened memory.entry.0.now memory.entry.1 memory.entry.2.now) (load_bytes number address length moment) }
+    ensures { loads.new.items ≡ loads.old.items ++ map (opened_at memory.entry.0.now memory.entry.1 memory.entry.2.now (answered_in (get nat_eq memory.entry.3.now))) (load_bytes number address length moment) }
 {
-    let (image, rest, live) = memory;
+    let (image, rest, stores, units) = memory;
+    let mut unit = unit_of(address);
+    let mut answered = answered_in(units, unit);
     for k in 0..length {
         let load = LoadByte {
             number,
             address: address + k as u64,
             began: moment,
         };
-        loads.push_reserved(opened(image, rest, live, load));
+        let next = unit_of(load.address);
+        let there = answered_next(units, answered, unit, next);
+        unit = next;
+        answered = there;
+        loads.push_reserved(opened(image, rest, stores, there, load));
     }
+}
+
+// Whether an address is one of so many from another on.
+fn is_within(from: u64, length: usize, address: u64) -> bool
+    ensures { result ≡ is_within from length address }
+{
+    from <= address && address - from < length as u64
+}
+
+// Those of these bytes that lie at so many addresses.
+pub(crate) fn stores_within(
+    alloc: Global,
+    stores: &[StoreByte],
+    from: u64,
+    length: usize,
+) -> Result<Vec<StoreByte>, AllocError>
+    ensures { IfOk result (λ v. v.items ≡ filter (λ s. is_within from length s.address) stores.now) }
+{
+    stores
+        .iter()
+        .filter(|store| is_within(from, length, store.address))
+        .copied()
+        .collect(alloc)
 }
 
 // A byte of an open load once these stores are requested.
@@ -146,12 +201,26 @@ fn after_stores(load: OpenByte, added: &[StoreByte]) -> OpenByte
     }
 }
 
-// Open loads may see these stores from now on.
-pub(crate) fn show_stores(loads: &mut [OpenByte], added: &[StoreByte])
+// A byte of an open load once these stores are requested, which lie at so many addresses.
+#[tactic(auto, using(crate::proofs::Near::not_shown))]
+fn shown(load: OpenByte, added: &[StoreByte], from: u64, length: usize) -> OpenByte
+    requires { AreWithin from length added.now }
+    ensures { result ≡ after_stores added.now load }
+{
+    if is_within(from, length, load.load.address) {
+        after_stores(load, added)
+    } else {
+        load
+    }
+}
+
+// Open loads may see these stores from now on, which lie at so many addresses.
+pub(crate) fn show_stores(loads: &mut [OpenByte], added: &[StoreByte], from: u64, length: usize)
+    requires { AreWithin from length added.now }
     ensures { loads.new ≡ map (after_stores added.now) loads.old }
 {
     for byte in loads.iter_mut() {
-        *byte = after_stores(*byte, added);
+        *byte = shown(*byte, added, from, length);
     }
 }
 
@@ -162,44 +231,24 @@ pub(crate) fn end_load(loads: &mut Vec<OpenByte>, number: u64)
     loads.retain(|load| !is_open_of(load, number));
 }
 
-// Whether a byte was overwritten by a store that is answered now.
-fn is_dropped(ending: &[StoreByte], store: &StoreByte) -> bool
-    ensures { result ≡ is_dropped ending.now store.now }
-{
-    ending.iter().any(|end| end.address == store.address && is_before(store.ended, end.began))
-}
-
 // The bytes of the store that is open under this number.
 pub(crate) fn open_store(
     alloc: Global,
-    live: &[StoreByte],
+    stores: &[StoreByte],
     number: u64,
 ) -> Result<Vec<StoreByte>, AllocError>
-    ensures { IfOk result (λ v. v.items ≡ filter (is_open number) live.now) }
+    ensures { IfOk result (λ v. v.items ≡ filter (is_open number) stores.now) }
 {
-    live.iter()
+    stores
+        .iter()
         .filter(|store| is_open(store, number))
         .copied()
         .collect(alloc)
 }
 
-// What these bytes have overwritten is dropped.
-fn drop_overwritten(live: &mut Vec<StoreByte>, ending: &[StoreByte])
-    ensures { live.new.items ≡ filter (λ s. not (is_dropped ending.now s)) live.old.items }
+// No store is open under this number from now on.
+pub(crate) fn end_store(stores: &mut Vec<StoreByte>, number: u64)
+    ensures { stores.new.items ≡ filter (λ s. not (is_open number s)) stores.old.items }
 {
-    live.retain(|store| !is_dropped(ending, store));
-}
-
-// The store with these bytes is answered: what it has overwritten is dropped.
-pub(crate) fn answer_store(
-    live: &mut Vec<StoreByte>,
-    ending: &[StoreByte],
-    number: u64,
-    moment: u64,
-)
-    requires { ending.now ≡ filter (is_open number) live.old.items }
-    ensures { live.new.items ≡ live_after number moment live.old.items }
-{
-    drop_overwritten(live, ending);
-    end_store(live.as_mut_slice(), number, moment);
+    stores.retain(|store| !is_open(store, number));
 }

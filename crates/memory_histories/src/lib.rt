@@ -7,7 +7,9 @@
 //! [`FlatHistory`] judges a history by that.
 #![tactic(auto)]
 
+mod answered;
 mod events;
+mod faults;
 mod flat;
 mod kept;
 mod reasons;
@@ -15,6 +17,7 @@ mod regular;
 mod sets;
 mod windows;
 
+pub use answered::{KeptUnit, UnitChange};
 pub use events::{HistoryEvent, HistoryFault, MAX_LENGTH, Rest, StepFault};
 pub use flat::{FlatHistory, OwedByte};
 pub use kept::OpenByte;

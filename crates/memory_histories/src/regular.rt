@@ -5,29 +5,33 @@ ghost use Rattle.std.specs.List.{filter, find, list_any};
 ghost use Rattle.std.specs.Option.{option_map};
 ghost use Rattle.memory_histories.specs.Windows.{Windows, opening, is_open, store_bytes, load_bytes, windows_after};
 ghost use Rattle.memory_histories.specs.Regular.{fault, is_inside, wrong_byte, load_request_fault, load_response_fault, store_request_fault, store_response_fault};
-ghost use Rattle.memory_histories.specs.Kept.{opened, after_stores, live_after, kept_after, kept_fault, kept_step, may_have, is_open_of, is_open_at, StandsFor};
+ghost use Rattle.memory_histories.specs.Kept.{opened_at, after_stores, answered_after, kept_after, kept_fault, kept_step, may_have, is_open_of, is_open_at, StandsFor};
 ghost use Rattle.memory_histories.specs.Shown.{kept, KeptFaultIs, StepFaultIs, IsSetOf};
 
+use crate::answered::{KeptUnit, changes, put_changes};
 use crate::events::{HistoryEvent, HistoryFault, MAX_LENGTH, Rest, StepFault};
 use crate::kept::{
-    OpenByte, add_load, answer_store, end_load, is_open_of, length_of, open_byte, open_store,
-    show_stores, wrong_place,
+    OpenByte, add_load, end_load, end_store, is_open_of, length_of, open_byte, open_store,
+    show_stores, stores_within, wrong_place,
 };
 use crate::sets::ByteSet;
 use crate::windows::{StoreByte, add_store, has_enabled, is_inside, is_open};
 use std::alloc::{AllocError, Global};
+use std::collections::HashMap;
 
 /// A memory that is judged by the regular law, event by event.
 ///
 /// It keeps of each byte the stores that a load may still see, and for each byte of an open load the
 /// set of what it may return: as much memory as the operations that are open and the bytes that were
-/// stored need, however long the history is.
+/// stored need, however long the history is. An event looks at the open operations, and at what is kept
+/// of those bytes that lie in the units of eight aligned addresses of its own operation.
 #[derive(Drop)]
 pub struct RegularMemory {
     image: Vec<u8>,
     rest: Rest,
     moment: u64,
-    live: Vec<StoreByte>,
+    stores: Vec<StoreByte>,
+    units: HashMap<u64, KeptUnit>,
     loads: Vec<OpenByte>,
 }
 
@@ -39,14 +43,13 @@ impl RegularMemory {
         ensures { IfOk result (λ m. StandsFor (kept m) (opening image.now rest)) }
     {
         let image = Vec::from_slice(alloc, image)?;
-        let live = Vec::new(alloc);
-        let loads = Vec::new(alloc);
         Ok(RegularMemory {
             image,
             rest,
             moment: 0,
-            live,
-            loads,
+            stores: Vec::new(alloc),
+            units: HashMap::new(alloc),
+            loads: Vec::new(alloc),
         })
     }
 
@@ -113,9 +116,9 @@ impl RegularMemory {
 
     // Whether a store is open under this number.
     fn has_open_store(&self, number: u64) -> bool
-        ensures { result ≡ list_any (is_open number) (kept self.now).live }
+        ensures { result ≡ list_any (is_open number) (kept self.now).stores }
     {
-        self.live.iter().any(|store| is_open(store, number))
+        self.stores.iter().any(|store| is_open(store, number))
     }
 
     // Why the load that is open under this number may not be answered with these bytes.
@@ -186,11 +189,18 @@ impl RegularMemory {
     // A load is open under this number from now on.
     fn request_load(&mut self, number: u64, address: u64, length: usize) -> Result<(), AllocError>
         requires { is_inside address length ≡ true }
-        ensures ok { OnOk result (kept self.new ≡ record (kept self.old) { open_bytes = (kept self.old).open_bytes ++ map (opened (kept self.old).image (kept self.old).rest (kept self.old).live) (load_bytes number address length (kept self.old).moment) }) }
+        ensures ok { OnOk result (kept self.new ≡ record (kept self.old) { open_bytes = (kept self.old).open_bytes ++ map (opened_at (kept self.old).image (kept self.old).rest (kept self.old).stores (kept self.old).answered) (load_bytes number address length (kept self.old).moment) }) }
         ensures err { OnErr result (kept self.new ≡ kept self.old) }
     {
+        let alloc = *self.stores.allocator();
+        let stores = stores_within(alloc, self.stores.as_slice(), address, length)?;
         self.loads.reserve(length)?;
-        let memory = (self.image.as_slice(), self.rest, self.live.as_slice());
+        let memory = (
+            self.image.as_slice(),
+            self.rest,
+            stores.as_slice(),
+            &self.units,
+        );
         add_load(
             &mut self.loads,
             memory,
@@ -211,23 +221,39 @@ impl RegularMemory {
         enables: u64,
     ) -> Result<(), AllocError>
         requires { is_inside address (length bytes.now) ≡ true }
-        ensures ok { OnOk result (let added = store_bytes number address bytes.now enables (kept self.old).moment in kept self.new ≡ record (kept self.old) { live = (kept self.old).live ++ added; open_bytes = map (after_stores added) (kept self.old).open_bytes }) }
+        ensures ok { OnOk result (let added = store_bytes number address bytes.now enables (kept self.old).moment in kept self.new ≡ record (kept self.old) { stores = (kept self.old).stores ++ added; open_bytes = map (after_stores added) (kept self.old).open_bytes }) }
         ensures err { OnErr result (kept self.new ≡ kept self.old) }
     {
-        self.live.reserve(bytes.len())?;
-        let first = self.live.len();
-        add_store(&mut self.live, number, address, bytes, enables, self.moment);
-        show_stores(self.loads.as_mut_slice(), &self.live[first..]);
+        self.stores.reserve(bytes.len())?;
+        let first = self.stores.len();
+        add_store(
+            &mut self.stores,
+            number,
+            address,
+            bytes,
+            enables,
+            self.moment,
+        );
+        show_stores(
+            self.loads.as_mut_slice(),
+            &self.stores[first..],
+            address,
+            bytes.len(),
+        );
         Ok(())
     }
 
     // The store that is open under this number is answered.
     fn answer_store(&mut self, number: u64) -> Result<(), AllocError>
-        ensures ok { OnOk result (kept self.new ≡ record (kept self.old) { live = live_after number (kept self.old).moment (kept self.old).live }) }
+        ensures ok { OnOk result (let ending = filter (is_open number) (kept self.old).stores in kept self.new ≡ record (kept self.old) { stores = filter (λ s. not (is_open number s)) (kept self.old).stores; answered = λ unit. answered_after (kept self.old).moment ending unit ((kept self.old).answered unit) }) }
         ensures err { OnErr result (kept self.new ≡ kept self.old) }
     {
-        let ending = open_store(*self.live.allocator(), self.live.as_slice(), number)?;
-        answer_store(&mut self.live, ending.as_slice(), number, self.moment);
+        let alloc = *self.stores.allocator();
+        let ending = open_store(alloc, self.stores.as_slice(), number)?;
+        let changes = changes(alloc, &self.units, ending.as_slice(), self.moment)?;
+        self.units.reserve(changes.len())?;
+        put_changes(&mut self.units, changes);
+        end_store(&mut self.stores, number);
         Ok(())
     }
 }

@@ -2,7 +2,7 @@
 
 ghost use Rattle.std.specs.Prelude.{◌≡◌, ◌+◌, ◌≤◌, ◌↔◌, ◌++◌, ◌^◌, IsTrue, length, map, not, vec_len, vec_capacity, slice_get};
 ghost use Rattle.std.specs.List.{filter, list_any};
-ghost use Rattle.memory_histories.specs.Windows.{store_bytes, load_bytes, is_open, is_of, is_at, after_response};
+ghost use Rattle.memory_histories.specs.Windows.{store_bytes, load_bytes, is_open, is_of, is_at};
 ghost use Rattle.memory_histories.specs.Hidden.{Explains};
 ghost use Rattle.memory_histories.specs.Regular.{is_initial, is_rest, is_before, overwrites, is_overwritten, is_left, is_covered, is_inside, has_enabled, may_return_byte, MayReturn};
 
@@ -160,29 +160,6 @@ pub(crate) fn add_store(
             });
         }
         left /= 2;
-    }
-}
-
-// The byte after the response of the store that is open under this number.
-fn after_response(store: StoreByte, number: u64, moment: u64) -> StoreByte
-    ensures { result ≡ after_response number moment store }
-{
-    if is_open(&store, number) {
-        StoreByte {
-            ended: Some(moment),
-            ..store
-        }
-    } else {
-        store
-    }
-}
-
-// The store that is open under this number is answered at this moment.
-pub(crate) fn end_store(stores: &mut [StoreByte], number: u64, moment: u64)
-    ensures { stores.new ≡ map (after_response number moment) stores.old }
-{
-    for store in stores.iter_mut() {
-        *store = after_response(*store, number, moment);
     }
 }
 

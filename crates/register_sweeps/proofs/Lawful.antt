@@ -15,6 +15,8 @@ use Rattle.cache_unit.specs.Shown as shown
 use Rattle.cache_unit.specs.Limits as limits
 use Rattle.cache_unit.specs.Sound.{InRange}
 use Rattle.cache_unit.proofs.Numbers as numbers
+use Rattle.memory_images.specs.declared.image.Image.{Image}
+use Rattle.memory_images.specs.Images.{memory_from}
 use Rattle.machine_core.specs.Machine.{MachineState, opening}
 use Rattle.machine_core.proofs.Contract.{sound_opening, bounded_opening, flat_opening}
 use Rattle.machine_core.proofs.Whole.{lawful, roomy}
@@ -24,7 +26,7 @@ use Rattle.round_driver.specs.Walks.{is_request}
 use Rattle.register_sweeps.specs.declared.row.Row.{Row}
 use Rattle.register_sweeps.specs.declared.sweeps.SweepFault.{SweepFault}
 use Rattle.shape_files.specs.ShapeFile.{is_register_count, sizes_of, bad_field}
-use Rattle.register_sweeps.specs.Sweep.{new_machine, row_of, CountsAll, EachCountsAll, bad_from}
+use Rattle.register_sweeps.specs.Sweep.{machine_over, new_machine, row_of, CountsAll, EachCountsAll, bad_from}
 use Rattle.register_sweeps.proofs.Ending.{Good, row_counts}
 use Rattle.register_sweeps.proofs.Shapes.{good_shape}
 
@@ -90,11 +92,15 @@ rows_count_all events ts (Ok rows) good said = λ requests i t row inside.
     let each = ap (λ xs. get_or xs i row) said ∙ get_or-map (row_of events) ts i t row inside in
     subst (CountsAll events (get_or ts i t)) (sym each) (counts_all (get_or ts i t) events (good_shape ts 0 i t good inside) requests)
 
--- a machine that is made over zeros is the new machine of its shape
-pub made : (t : ToolShape) (ways regs : ℕ) (image : List Word) (m : MachineState) → t.ways ≡ ways → t.regs ≡ regs → image ≡ replicate t.shape.words zero_word → m ≡ record { sizes = shown.sizes_of ways BLOCK_WORDS regs DEPTH t.shape; machine = opening (shown.sizes_of ways BLOCK_WORDS regs DEPTH t.shape) image } → m ≡ new_machine t
-made t ways regs image m w r zeros h =
-    h ∙ ap (λ xs. record { sizes = shown.sizes_of ways BLOCK_WORDS regs DEPTH t.shape; machine = opening (shown.sizes_of ways BLOCK_WORDS regs DEPTH t.shape) xs }) zeros ∙ sym (ap₂ (λ a b. record { sizes = shown.sizes_of a BLOCK_WORDS b DEPTH t.shape; machine = opening (shown.sizes_of a BLOCK_WORDS b DEPTH t.shape) (replicate t.shape.words zero_word) }) w r)
+-- what is made of these sizes over these words
+abbrev state_of : (t : ToolShape) (ways regs : ℕ) (memory : List Word) → MachineState
+state_of t ways regs memory =
+    let sizes = shown.sizes_of ways BLOCK_WORDS regs DEPTH t.shape in
+    record { sizes = sizes; machine = opening sizes memory }
 
--- a word of zero bytes
-pub zero_from : (w : Word) → w.b0 ≡ 0 → w.b1 ≡ 0 → w.b2 ≡ 0 → w.b3 ≡ 0 → w ≡ zero_word
-zero_from w h0 h1 h2 h3 = λ i. record { b0 = h0 i; b1 = h1 i; b2 = h2 i; b3 = h3 i }
+-- a machine that is made over what an image gives is that of its shape over the image
+pub made : (t : ToolShape) (image : Image) (ways regs : ℕ) (memory : List Word) (m : MachineState)
+    → t.ways ≡ ways → t.regs ≡ regs → memory ≡ memory_from image t.shape.words → m ≡ state_of t ways regs memory
+    → m ≡ machine_over image t
+made t image ways regs memory m w r given h =
+    h ∙ ap (state_of t ways regs) given ∙ sym (ap₂ (λ a b. state_of t a b (memory_from image t.shape.words)) w r)

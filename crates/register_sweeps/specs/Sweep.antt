@@ -1,13 +1,17 @@
 -- What a sweep counts, over the walk of the machine.
-use Rattle.std.specs.Prelude.{⊤, ℕ, zero, suc, ◌≡◌, ◌<◌, ◌+◌, ◌-◌, Bool, if◌then◌else◌, List, [], ◌∷◌, ◌++◌, length, replicate, slice_index_or, codes, decimal, Option, Some, None}
+use Rattle.std.specs.Prelude.{⊤, ℕ, zero, suc, ◌≡◌, ◌<◌, ◌+◌, ◌-◌, Bool, if◌then◌else◌, List, [], ◌∷◌, ◌++◌, length, slice_index_or, codes, decimal, Option, Some, None}
 use Rattle.std.specs.Option.{option_map, option_or}
-use Rattle.flat_model.specs.declared.Cause.TheVariants.{OutOfRange, NoLanes, NotPresent}
+use Rattle.flat_model.specs.Causes.{ends_request}
 use Rattle.flat_model.specs.declared.Event.{Event}
 use Rattle.flat_model.specs.declared.Answer.{Answer}
 use Rattle.flat_model.specs.declared.Answer.TheVariants.{Accepted, Value, Refused}
 use Rattle.flat_model.specs.declared.ShapeField.{ShapeField}
+use Rattle.flat_model.specs.declared.MakeFault.TheVariants as make
+use Rattle.flat_model.specs.Faults.{make_fault_text}
 use Rattle.flat_model.specs.Memory.{is_load}
-use Rattle.flat_model.specs.Words.{zero_word}
+use Rattle.memory_images.specs.Images.{memory_from}
+use Rattle.memory_images.specs.declared.image.Image.{Image}
+use Rattle.memory_images.specs.declared.image.Image.TheVariants.{Zeros}
 use Rattle.machine_core.specs.Machine.{MachineState, opening}
 use Rattle.machine_core.specs.AnyMachine.{answered, after_event, pump_tells, pump_leaves, weight_of}
 use Rattle.round_driver.specs.Rounds.{is_end}
@@ -41,9 +45,7 @@ pump_once c = course (pump_leaves c.state) (with_pumped c.row (pump_tells c.stat
 
 abbrev pub with_end : Row → Answer → Row
 with_end row Accepted = record row { accepted = row.accepted + 1 }
-with_end row (Refused OutOfRange) = record row { denied = row.denied + 1 }
-with_end row (Refused NoLanes) = record row { denied = row.denied + 1 }
-with_end row (Refused NotPresent) = record row { denied = row.denied + 1 }
+with_end row (Refused cause) = if ends_request cause then record row { denied = row.denied + 1 } else row
 with_end row answer = row
 
 -- a request is asked once
@@ -96,9 +98,13 @@ row_from s regs events = (run_dry (serve_all events (course s (empty_row regs)))
 
 -- ---- the row of a shape
 
--- a new machine of the shape, over zeros
+-- a new machine of the shape, over an image
+abbrev pub machine_over : Image → ToolShape → MachineState
+machine_over image t = record { sizes = sizes_of t; machine = opening (sizes_of t) (memory_from image t.shape.words) }
+
+-- over zeros
 abbrev pub new_machine : ToolShape → MachineState
-new_machine t = record { sizes = sizes_of t; machine = opening (sizes_of t) (replicate t.shape.words zero_word) }
+new_machine t = machine_over Zeros t
 
 abbrev pub row_of : List Event → ToolShape → Row
 row_of events t = row_from (new_machine t) t.regs events
@@ -158,6 +164,12 @@ abbrev pub FaultSays : List ToolShape → SweepFault → Type 0
 FaultSays shapes (BadShape place field) = bad_from 0 shapes ≡ Some (place, field)
 FaultSays shapes TurnLimit = bad_from 0 shapes ≡ None
 FaultSays shapes OutOfMemory = bad_from 0 shapes ≡ None
+
+-- a fault as it is told
+abbrev pub sweep_fault_text : SweepFault → List ℕ
+sweep_fault_text (BadShape place field) = codes "shape " ++ (decimal place ++ (codes ": " ++ make_fault_text (make.BadShape field)))
+sweep_fault_text TurnLimit = codes "turn limit"
+sweep_fault_text OutOfMemory = codes "out of memory"
 
 -- a fault that says nothing of the shapes
 abbrev pub IsStop : SweepFault → Type 0

@@ -5,10 +5,11 @@ ghost use Rattle.flat_model.specs.declared.limits.TheConstants.{MAX_BANKS};
 ghost use Rattle.machine_core.specs.Machine.{MachineState};
 ghost use Rattle.machine_core.specs.Law.{most_weight};
 ghost use Rattle.shape_files.specs.ShapeFile.{bad_field};
-ghost use Rattle.register_sweeps.specs.Sweep.{new_machine};
+ghost use Rattle.register_sweeps.specs.Sweep.{machine_over};
 
-use flat_model::{MakeFault, Word};
+use flat_model::MakeFault;
 use machine_core::Machine;
+use memory_images::Image;
 use run_pictures::PictureMachine;
 use shape_files::{BLOCK_WORDS, DEPTH, ToolShape};
 use std::alloc::{AllocError, Global};
@@ -27,7 +28,7 @@ pub trait MachineJob {
     // What it holds by reference it holds still.
     ghost holds_same: { Self → Self → Type 0 };
 
-    /// Does the job with a new machine over zeros.
+    /// Does the job with a new machine.
     fn work<M: PictureMachine>(&mut self, machine: &mut M) -> Self::Done
         requires can { can self.old }
         requires banks { (M.state machine.old).sizes.banks ≤ MAX_BANKS }
@@ -41,24 +42,30 @@ pub trait MachineJob {
         ensures same { holds_same self.old self.new };
 }
 
-/// Does a job with a new machine of a shape whose fields are in range, over zeros.
-pub fn with_machine<J: MachineJob>(alloc: Global, tool: &ToolShape, job: &mut J) -> J::Done
+/// Does a job with a new machine of a shape whose fields are in range, over an image. Of an image that is
+/// longer than its memory the machine has what fits.
+pub fn with_machine<J: MachineJob>(
+    alloc: Global,
+    tool: &ToolShape,
+    image: &Image,
+    job: &mut J,
+) -> J::Done
     requires shape { bad_field tool.now ≡ None }
     requires can { J.can job.old }
-    ensures done { J.done job.old (new_machine tool.now) job.new result }
+    ensures done { J.done job.old (machine_over image.now tool.now) job.new result }
     ensures same { J.holds_same job.old job.new }
 {
     // No list of constants gives const arguments, so the numbers stand here again. That none is
     // missing is proved.
     match (tool.ways, tool.regs) {
-        (1, 1) => with_machine_of::<1, 1, J>(alloc, tool, job),
-        (1, 2) => with_machine_of::<1, 2, J>(alloc, tool, job),
-        (1, 4) => with_machine_of::<1, 4, J>(alloc, tool, job),
-        (1, 8) => with_machine_of::<1, 8, J>(alloc, tool, job),
-        (2, 1) => with_machine_of::<2, 1, J>(alloc, tool, job),
-        (2, 2) => with_machine_of::<2, 2, J>(alloc, tool, job),
-        (2, 4) => with_machine_of::<2, 4, J>(alloc, tool, job),
-        (2, 8) => with_machine_of::<2, 8, J>(alloc, tool, job),
+        (1, 1) => with_machine_of::<1, 1, J>(alloc, tool, image, job),
+        (1, 2) => with_machine_of::<1, 2, J>(alloc, tool, image, job),
+        (1, 4) => with_machine_of::<1, 4, J>(alloc, tool, image, job),
+        (1, 8) => with_machine_of::<1, 8, J>(alloc, tool, image, job),
+        (2, 1) => with_machine_of::<2, 1, J>(alloc, tool, image, job),
+        (2, 2) => with_machine_of::<2, 2, J>(alloc, tool, image, job),
+        (2, 4) => with_machine_of::<2, 4, J>(alloc, tool, image, job),
+        (2, 8) => with_machine_of::<2, 8, J>(alloc, tool, image, job),
         _ => unreachable!(),
     }
 }
@@ -67,16 +74,17 @@ pub fn with_machine<J: MachineJob>(alloc: Global, tool: &ToolShape, job: &mut J)
 fn with_machine_of<const WAYS: usize, const REGS: usize, J: MachineJob>(
     alloc: Global,
     tool: &ToolShape,
+    image: &Image,
     job: &mut J,
 ) -> J::Done
     requires shape { bad_field tool.now ≡ None }
     requires ways { tool.now.ways ≡ WAYS }
     requires regs { tool.now.regs ≡ REGS }
     requires can { J.can job.old }
-    ensures done { J.done job.old (new_machine tool.now) job.new result }
+    ensures done { J.done job.old (machine_over image.now tool.now) job.new result }
     ensures same { J.holds_same job.old job.new }
 {
-    match machine_of::<WAYS, REGS>(alloc, tool) {
+    match machine_of::<WAYS, REGS>(alloc, tool, image) {
         Ok(mut machine) => job.work(&mut machine),
         Err(_) => job.give_up(),
     }
@@ -86,16 +94,17 @@ fn with_machine_of<const WAYS: usize, const REGS: usize, J: MachineJob>(
 fn machine_of<const WAYS: usize, const REGS: usize>(
     alloc: Global,
     tool: &ToolShape,
+    image: &Image,
 ) -> Result<Machine<WAYS, BLOCK_WORDS, REGS, DEPTH>, AllocError>
     requires shape { bad_field tool.now ≡ None }
     requires ways { tool.now.ways ≡ WAYS }
     requires regs { tool.now.regs ≡ REGS }
-    ensures machine { IfOk result (λ machine. machine ≡ new_machine tool.now) }
+    ensures machine { IfOk result (λ machine. machine ≡ machine_over image.now tool.now) }
     ensures banks { IfOk result (λ machine. machine.sizes.banks ≤ MAX_BANKS) }
     ensures few { IfOk result (λ machine. most_weight machine.sizes < 2 ^ 32) }
 {
-    let image = vec![in alloc; Word::default(); tool.shape.words as usize]?;
-    match Machine::<WAYS, BLOCK_WORDS, REGS, DEPTH>::new(alloc, tool.shape, image.as_slice()) {
+    let memory = image.memory(alloc, tool.shape.words)?;
+    match Machine::<WAYS, BLOCK_WORDS, REGS, DEPTH>::new(alloc, tool.shape, memory.as_slice()) {
         Ok(machine) => Ok(machine),
         Err(MakeFault::OutOfMemory) => Err(AllocError),
         Err(MakeFault::BadShape(_)) => unreachable!(),

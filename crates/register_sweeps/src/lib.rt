@@ -2,7 +2,7 @@
 //! several numbers of registers.
 //!
 //! [`with_machine`] is the one choice among the eight machines of 1 or 2 ways and 1, 2, 4 or 8
-//! registers. [`sweep_row`] gives the counts of one shape, and [`sweep`] those of several, each made
+//! registers, over an image. [`sweep_row`] gives the counts of one shape, and [`sweep`] those of several, each made
 //! by a thread of its own. [`sweep_rounds`] gives their tables, each of a machine that is driven in
 //! rounds with a latency of memory, where `sweep` pumps.
 #![tactic(auto)]

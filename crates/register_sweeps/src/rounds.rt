@@ -6,13 +6,14 @@ ghost use Rattle.round_driver.specs.Rounds.{most_requests};
 ghost use Rattle.round_driver.specs.Tables.{table_of};
 ghost use Rattle.round_driver.specs.Walks.{RequestsEnd};
 ghost use Rattle.shape_files.specs.ShapeFile.{bad_field};
-ghost use Rattle.register_sweeps.specs.Sweep.{FaultSays, bad_from, new_machine};
+ghost use Rattle.register_sweeps.specs.Sweep.{FaultSays, bad_from, machine_over};
 ghost use Rattle.register_sweeps.specs.Rounds.{RunEnds, EachRunEnds, rounds_row_of, rounds_row_text};
 
 use crate::choice::{MachineJob, with_machine};
 use crate::sweeps::{SweepFault, SweepGate};
 use crate::threads::{RowMaker, rows_on_threads};
 use flat_model::Event;
+use memory_images::Image;
 use round_driver::{Table, Timing, summarize_with};
 use run_pictures::PictureMachine;
 use shape_files::ToolShape;
@@ -39,12 +40,13 @@ impl fmt::Display for RoundsRow {
 }
 
 /// The table of requests that are driven in rounds through a new machine of a shape whose fields are
-/// in range, over zeros, as [`summarize_with`] counts it. The run is over in time.
+/// in range, over an image, as [`summarize_with`] counts it. The run is over in time.
 ///
 /// `AllocError` says that there was too little memory.
 pub fn rounds_table(
     alloc: Global,
     tool: &ToolShape,
+    image: &Image,
     timing: Timing,
     requests: &[Event],
 ) -> Result<Table, AllocError>
@@ -52,15 +54,15 @@ pub fn rounds_table(
     requires latency { timing.latency ≤ MOST_LATENCY }
     requires requests { length requests.now ≤ most_requests }
     ensures table { IfOk result
-        (λ table. table ≡ table_of timing (new_machine tool.now) requests.now) }
-    ensures over { OnOk result (RunEnds timing requests.now tool.now) }
+        (λ table. table ≡ table_of timing (machine_over image.now tool.now) requests.now) }
+    ensures over { OnOk result (RequestsEnd timing (machine_over image.now tool.now) requests.now) }
 {
     let mut job = CountedRounds {
         alloc,
         timing,
         requests,
     };
-    with_machine(alloc, tool, &mut job)
+    with_machine(alloc, tool, image, &mut job)
 }
 
 // The counting of requests.
@@ -106,7 +108,7 @@ impl RowMaker for RoundsRows<'_> {
     ghost shows = { λ s tool. RunEnds s.timing s.requests.now tool };
 
     fn make_row(&self, alloc: Global, tool: &ToolShape) -> Result<RoundsRow, AllocError> {
-        let table = rounds_table(alloc, tool, self.timing, self.requests)?;
+        let table = rounds_table(alloc, tool, &Image::Zeros, self.timing, self.requests)?;
         Ok(RoundsRow {
             regs: tool.regs,
             table,

@@ -10,7 +10,7 @@ ghost use Rattle.round_driver.specs.Walks.{is_request};
 ghost use Rattle.register_sweeps.specs.Sweep as sweep;
 ghost use Rattle.register_sweeps.specs.Sweep.{course, total};
 
-use flat_model::{Answer, Cause, Event};
+use flat_model::{Answer, Event};
 use machine_core::AnyMachine;
 use round_driver::RoundMachine;
 use std::fmt;
@@ -102,7 +102,7 @@ impl Row {
                 self.accepted += 1;
                 true
             }
-            Answer::Refused(Cause::OutOfRange | Cause::NoLanes | Cause::NotPresent) => {
+            Answer::Refused(cause) if cause.ends_request() => {
                 self.denied += 1;
                 true
             }

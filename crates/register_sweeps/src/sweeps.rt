@@ -1,36 +1,53 @@
 //! Sweeps: one row for each shape, each by a thread of its own.
 
-ghost use Rattle.std.specs.Prelude.{⊤, ◌≡◌, ◌≢◌, ◌∷◌, [], ◌≤◌, length, map, None, Err, IfOk, IfErr, OnOk, true};
+ghost use Rattle.std.specs.Prelude.{⊤, ◌≡◌, ◌≢◌, ◌∷◌, [], ◌≤◌, length, map, Some, None, Err, IfOk, IfErr, OnOk, true};
 ghost use Rattle.std.specs.List.{list_all};
 ghost use Rattle.round_driver.specs.Rounds.{most_requests};
 ghost use Rattle.round_driver.specs.Walks.{is_request};
 ghost use Rattle.register_sweeps.specs.declared.sweeps.SweepFault.TheVariants.{TurnLimit};
 ghost use Rattle.shape_files.specs.ShapeFile.{bad_field};
-ghost use Rattle.register_sweeps.specs.Sweep.{FaultSays, CountsAll, EachCountsAll, bad_from, row_from, row_of};
+ghost use Rattle.register_sweeps.specs.Sweep.{FaultSays, CountsAll, EachCountsAll, bad_from, row_from, row_of, sweep_fault_text};
 
 use crate::choice::{MachineJob, with_machine};
 use crate::row::{Row, row_from};
 use crate::threads::{RowMaker, rows_on_threads};
-use flat_model::{Event, ShapeField};
+use flat_model::{Event, MakeFault, ShapeField};
+use memory_images::Image;
 use run_pictures::PictureMachine;
 use shape_files::{ToolShape, bad_field};
 use std::alloc::{AllocError, Global};
+use std::error::Error;
+use std::fmt;
 use std::thread::Threads;
-use thiserror::Error;
 
 /// Why a sweep gave no rows.
-#[derive(Clone, Copy, PartialEq, Eq, Debug, Error)]
+#[derive(Clone, Copy, PartialEq, Eq, Debug)]
 pub enum SweepFault {
     /// The first shape, counted from 0, that has a field out of its range, and the first such
     /// field. It is found before any thread begins.
-    #[error("shape {place}: {field:?} is out of range")]
     BadShape { place: usize, field: ShapeField },
     /// The thread of a shape used up its turns before its gate let it begin.
-    #[error("turn limit")]
     TurnLimit,
     /// There was too little memory.
-    #[error("out of memory")]
     OutOfMemory,
+}
+
+impl Error for SweepFault {}
+
+/// `shape 2: Sets is out of range`, `turn limit` or `out of memory`.
+impl fmt::Display for SweepFault {
+    ghost output = { λ fault. Some (sweep_fault_text fault) };
+
+    fn fmt<W: fmt::Write>(&self, f: &mut fmt::Formatter<W>) -> fmt::Result {
+        match self {
+            SweepFault::BadShape { place, field } => {
+                let fault = MakeFault::BadShape(*field);
+                write!(f, "shape {place}: {fault}")
+            }
+            SweepFault::TurnLimit => f.write_str("turn limit"),
+            SweepFault::OutOfMemory => f.write_str("out of memory"),
+        }
+    }
 }
 
 impl From<AllocError> for SweepFault {
@@ -77,7 +94,7 @@ fn row_of(alloc: Global, tool: &ToolShape, events: &[Event]) -> Result<Row, Allo
         regs: tool.regs,
         events,
     };
-    with_machine(alloc, tool, &mut job)
+    with_machine(alloc, tool, &Image::Zeros, &mut job)
 }
 
 // The row of these requests.

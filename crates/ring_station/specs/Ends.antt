@@ -28,3 +28,8 @@ is_want fault = false
 
 abbrev pub lacks_memory : ThreadEnd → Bool
 lacks_memory end = is_want end.fault
+
+-- it found its journal full
+abbrev pub is_full : Option ThreadFault → Bool
+is_full (Some JournalFull) = true
+is_full fault = false

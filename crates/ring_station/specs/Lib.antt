@@ -1,3 +1,4 @@
+pub mod Faults
 pub mod Scripts
 pub mod Ends
 pub mod Turns

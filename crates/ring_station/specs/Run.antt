@@ -7,7 +7,9 @@ use Rattle.station_parts.specs.declared.parts.Audit.TheVariants.{Clean}
 use Rattle.ring_station.specs.declared.fault.RunFault.{RunFault}
 use Rattle.ring_station.specs.declared.fault.RunFault.TheVariants.{TurnLimit, OutOfMemory}
 use Rattle.ring_station.specs.declared.report.Run.{Run}
-use Rattle.ring_station.specs.Ends.{is_over, lacks_memory}
+use Rattle.ring_station.specs.declared.report.Stop.{Stop}
+use Rattle.ring_station.specs.declared.report.Stop.TheVariants as stops
+use Rattle.ring_station.specs.Ends.{is_over, lacks_memory, is_full}
 use Rattle.ring_station.specs.PartRuns.{HasFinished}
 
 abbrev pub is_clean : Audit → Bool
@@ -18,13 +20,31 @@ is_clean found = false
 abbrev pub lacks : Run → Bool
 lacks run = lacks_memory run.cache || (list_any lacks_memory run.ports.items || list_any lacks_memory run.banks.items)
 
--- every thread came to its end, and nothing is left and nothing owed behind them
+-- every thread came to its end
+abbrev pub are_over : Run → Bool
+are_over run = is_over run.cache && (list_all is_over run.ports.items && list_all is_over run.banks.items)
+
+-- and nothing is left and nothing owed behind them
 abbrev pub is_whole : Run → Bool
-is_whole run = is_clean run.audit && (is_over run.cache && (list_all is_over run.ports.items && list_all is_over run.banks.items))
+is_whole run = is_clean run.audit && are_over run
 
 -- why a run has no lists: want of memory goes before a limit
 abbrev pub fault_of : Run → Option RunFault
 fault_of run = if lacks run then Some OutOfMemory else (if is_whole run then None else Some TurnLimit)
+
+-- what kept a run from its end: want of memory goes before a full journal, and that before a thread's turns
+abbrev pub stop_of : Run → Option Stop
+stop_of run =
+    if lacks run then Some stops.OutOfMemory
+    else (if is_whole run then None
+    else (if is_full run.cache.fault then Some stops.JournalFull else (if are_over run then Some stops.NotClean else Some stops.TurnLimit)))
+
+-- as which of its two faults `run_threads` tells it
+abbrev pub told_as : Stop → RunFault
+told_as stops.OutOfMemory = OutOfMemory
+told_as stops.JournalFull = TurnLimit
+told_as stops.TurnLimit = TurnLimit
+told_as stops.NotClean = TurnLimit
 
 -- each bank has served all that it could
 abbrev pub HaveFinished : List BankSide → Type 0

@@ -1,18 +1,34 @@
 //! Why a run of the threads gives no lists.
 
 use std::alloc::AllocError;
-use thiserror::Error;
+use std::error::Error;
+use std::fmt;
 
 /// Why a run gave no lists. The station stands where the steps of its threads left it, and may be
 /// audited.
-#[derive(Clone, Copy, PartialEq, Eq, Debug, Error)]
+#[derive(Clone, Copy, PartialEq, Eq, Debug)]
 pub enum RunFault {
     /// A thread used up its turns before it came to its end.
-    #[error("turn limit")]
     TurnLimit,
     /// There was too little memory. It goes before `TurnLimit`, where both hold.
-    #[error("out of memory")]
     OutOfMemory,
+}
+
+impl Error for RunFault {}
+
+/// `turn limit` or `out of memory`.
+impl fmt::Display for RunFault {
+    ghost use Rattle.std.specs.Prelude.{Some};
+    ghost use Rattle.ring_station.specs.Faults.{run_fault_text};
+
+    ghost output = { λ fault. Some (run_fault_text fault) };
+
+    fn fmt<W: fmt::Write>(&self, f: &mut fmt::Formatter<W>) -> fmt::Result {
+        f.write_str(match self {
+            RunFault::TurnLimit => "turn limit",
+            RunFault::OutOfMemory => "out of memory",
+        })
+    }
 }
 
 impl From<AllocError> for RunFault {

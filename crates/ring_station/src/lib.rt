@@ -17,13 +17,16 @@ mod talk;
 mod thread_end;
 mod threads;
 
+pub use cache_unit::CacheUnit;
 pub use fault::RunFault;
+pub use flat_model::{Answer, Cause, Event, Lanes, MakeFault, Shape, ShapeField, Word};
 pub use gate::{Actor, Gate};
-pub use report::Run;
+pub use memory_banks::{BankAnswer, Command};
+pub use report::{Run, Stop};
 pub use run::{run_and_audit, run_threads};
 pub use station_journal::laws;
 pub use station_parts::{
-    Ask, Audit, BankSide, CacheSide, Entry, Port, RawBank, Ring, SideFault, Source, Station,
-    Stepped, Told, audit, station,
+    ASK_PLACES, Ask, Audit, BankSide, CacheSide, Entry, MAX_ENTRIES, MAX_PORTS, PORT_TAGS, Port,
+    RawBank, Ring, SideFault, Source, Station, Stepped, TELLING_PLACES, Told, audit, station,
 };
 pub use thread_end::{ThreadEnd, ThreadFault};

@@ -5,7 +5,6 @@ ghost use Rattle.station_journal.specs.declared.asks.Told.{Told};
 ghost use Rattle.station_journal.specs.Conversation.{Converses, is_final, accepted_load};
 ghost use Rattle.ring_station.specs.Scripts.{ask_at, HasTalked};
 
-use flat_model::Cause;
 use station_parts::{Ask, Told};
 
 /// What a port does in its next turn.
@@ -122,8 +121,9 @@ impl Talk {
 fn is_final(verdict: Told) -> bool
     ensures { result ≡ is_final verdict }
 {
-    matches!(
-        verdict,
-        Told::Accepted | Told::Refused(Cause::OutOfRange | Cause::NoLanes | Cause::NotPresent)
-    )
+    match verdict {
+        Told::Accepted => true,
+        Told::Refused(cause) => cause.ends_request(),
+        Told::Value { .. } => false,
+    }
 }

@@ -5,3 +5,4 @@ pub mod Walks
 pub mod Commands
 pub mod Moves
 pub mod Ends
+pub mod Counted

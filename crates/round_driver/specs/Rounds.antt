@@ -2,11 +2,11 @@
 use Rattle.std.specs.Prelude.{◌≡◌, ◌<◌, ℕ, zero, suc, ◌+◌, ◌-◌, ◌*◌, Bool, true, false, not, ◌&&◌, if◌then◌else◌, nat_lt, ◌==◌, List, [], ◌∷◌, ◌++◌, length, replicate, Option, Some, None, slice_get, slice_set, slice_index_or, drop}
 use Rattle.std.specs.Option.{option_or}
 use Rattle.flat_model.specs.declared.limits.TheConstants.{MAX_BANKS}
-use Rattle.flat_model.specs.declared.Cause.TheVariants.{OutOfRange, NoLanes, NotPresent}
 use Rattle.flat_model.specs.declared.Event.{Event}
 use Rattle.flat_model.specs.declared.Event.TheVariants.{Load, Store, Prefetch, Drain, Serve, Arrive, Process, Take}
 use Rattle.flat_model.specs.declared.Answer.{Answer}
 use Rattle.flat_model.specs.declared.Answer.TheVariants.{Accepted, Moved, Value, Nothing, Refused}
+use Rattle.flat_model.specs.Causes.{ends_request}
 use Rattle.cache_unit.specs.declared.Lookup.{Lookup}
 use Rattle.cache_unit.specs.declared.Lookup.TheVariants.{Miss}
 use Rattle.machine_core.specs.Machine.{MachineState}
@@ -141,9 +141,7 @@ arrive c = if has_stack_room c.state then arrive_from (next_with_answer c.state 
 -- whether an answer ends a request: it was accepted, or refused for what no move changes
 abbrev pub is_end : Answer → Bool
 is_end Accepted = true
-is_end (Refused OutOfRange) = true
-is_end (Refused NoLanes) = true
-is_end (Refused NotPresent) = true
+is_end (Refused cause) = ends_request cause
 is_end answer = false
 
 -- what a request finds, if it asks for a word

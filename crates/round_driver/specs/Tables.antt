@@ -6,6 +6,7 @@ use Rattle.flat_model.specs.declared.Event.{Event}
 use Rattle.flat_model.specs.declared.Event.TheVariants.{Load, Drain}
 use Rattle.flat_model.specs.declared.Answer.{Answer}
 use Rattle.flat_model.specs.declared.Answer.TheVariants.{Accepted, Moved, Value, Nothing, Refused}
+use Rattle.flat_model.specs.Causes.{passes}
 use Rattle.cache_unit.specs.declared.Lookup.{Lookup}
 use Rattle.cache_unit.specs.declared.Lookup.TheVariants.{Hit, Join, Miss}
 use Rattle.machine_core.specs.Machine.{MachineState}
@@ -27,18 +28,6 @@ abbrev pub counting : Counter → Counting
 counting c = record { table = c.table; since = c.since.items; is_stalled = c.is_stalled }
 
 -- ---- the lost rounds
-
--- whether a cause passes while things move on, so that the request is asked again
-abbrev pub passes : Cause → Bool
-passes TagInUse = true
-passes RepliesFull = true
-passes TargetsFull = true
-passes BlockQueued = true
-passes NoRegister = true
-passes SetPending = true
-passes QueueFull = true
-passes BankFull = true
-passes cause = false
 
 abbrev pub with_lost : LostRounds → Cause → LostRounds
 with_lost l TagInUse = record l { tag_in_use = l.tag_in_use + 1 }

@@ -11,10 +11,14 @@ unfoldable pub lost_text : LostRounds → List ℕ
 lost_text l =
     count_text (codes " lost 3:") l.tag_in_use ++ count_text (codes " 4:") l.replies_full ++ count_text (codes " 5:") l.targets_full ++ count_text (codes " 7:") l.no_register ++ count_text (codes " 8:") l.set_pending ++ count_text (codes " 9:") l.queue_full ++ count_text (codes " 10:") l.bank_full
 
--- the rounds that an answered load waited, whole ones and hundredths
+-- so many rounds for so many loads in the mean, whole ones and hundredths
+abbrev pub mean_of : ℕ → ℕ → ℕ × ℕ
+mean_of rounds loads =
+    if loads == 0 then (0, 0) else (rounds / loads, rounds % loads * 100 / loads)
+
+-- the rounds that an answered load waited
 abbrev pub mean_wait : Table → ℕ × ℕ
-mean_wait t =
-    if t.values == 0 then (0, 0) else (t.waited / t.values, t.waited % t.values * 100 / t.values)
+mean_wait t = mean_of t.waited t.values
 
 unfoldable pub requests_text : Table → List ℕ
 requests_text t =

@@ -1,5 +1,5 @@
 //! Whole runs.
-ghost use Rattle.std.specs.Prelude.{◌≡◌, ◌≢◌, ◌≤◌, ◌<◌, ◌^◌, ◌+◌, ◌++◌, ℕ, List, length, IfOk, IfErr, OnOk};
+ghost use Rattle.std.specs.Prelude.{◌≡◌, ◌≢◌, ◌≤◌, ◌<◌, ◌^◌, ◌+◌, ◌++◌, ℕ, List, length, IfOk, IfErr, OnOk, OnErr};
 ghost use Rattle.flat_model.specs.declared.limits.TheConstants.{MAX_BANKS};
 ghost use Rattle.trace_text.specs.Streams.{Moves};
 ghost use Rattle.round_driver.specs.declared.driving.TheConstants.{MOST_LATENCY};
@@ -31,7 +31,7 @@ pub(crate) const MOST_MOVES: u64 = 2_625;
 
 // One round: what is told of it stands in `notes`, and the requests that are left come back.
 #[tactic(auto, unfolding(crate::specs::Rounds::after_round))]
-fn round<'a, M: RoundMachine>(
+pub(crate) fn round<'a, M: RoundMachine>(
     machine: &mut M,
     schedule: &mut Schedule,
     notes: &mut Notes,
@@ -63,14 +63,14 @@ fn round<'a, M: RoundMachine>(
 }
 
 // Whether the requests are used up, and nothing is on its way.
-fn is_over<M: RoundMachine>(machine: &M, left: &[Event]) -> bool
+pub(crate) fn is_over<M: RoundMachine>(machine: &M, left: &[Event]) -> bool
     ensures { result ≡ rounds.is_over_at (M.state machine.now) left.now }
 {
     left.is_empty() && machine.weight() == 0
 }
 
 // More rounds than a run takes.
-fn most_rounds(latency: u64, requests: usize) -> u64
+pub(crate) fn most_rounds(latency: u64, requests: usize) -> u64
     requires latency { latency ≤ MOST_LATENCY }
     requires requests { requests ≤ most_requests }
     ensures value { result ≡ rounds.most_rounds latency requests }
@@ -192,6 +192,7 @@ pub fn summarize_with<M: RoundMachine>(
         (M.state machine.new ≡ (whole_run timing (M.state machine.old) requests.now).state) }
     ensures over { OnOk result (RequestsEnd timing (M.state machine.old) requests.now) }
     ensures early { OnOk result (EndsInTime timing (M.state machine.old) requests.now) }
+    ensures unchanged { OnErr result (M.state machine.new ≡ M.state machine.old) }
 {
     machine.keeps_whole();
     let mut counter = Counter::new(alloc)?;

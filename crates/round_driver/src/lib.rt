@@ -1,7 +1,7 @@
 //! Requests driven through a machine in rounds.
 //!
 //! A machine has no clock: who drives it chooses the order of the steps. [`drive`] and
-//! [`summarize`] choose rounds. A round makes, in this order: each bank, by number, begins a command
+//! [`summarize`] choose rounds, and [`detail_with`] counts more of them. A round makes, in this order: each bank, by number, begins a command
 //! if one waits that it hasn't begun and it isn't busy, and serves its first one if it began that
 //! `latency` rounds before; one answer arrives, from the next bank with one behind the bank that was
 //! last, if the input stack has room; the stack's first word is processed, the first reply taken and
@@ -15,6 +15,8 @@
 //! Rounds are a schedule, and tell nothing of any hardware's time.
 #![tactic(auto)]
 
+mod detailing;
+mod details;
 mod driving;
 mod in_flight;
 pub mod laws;
@@ -23,12 +25,18 @@ mod note;
 mod round;
 mod schedule;
 mod table;
+mod tally;
 mod texts;
 mod timing;
+mod waits;
 mod writing;
 
+pub use detailing::detail_with;
+pub use details::{ByKind, BySet, Details, Finds};
 pub use driving::{MOST_LATENCY, drive, drive_with, summarize, summarize_with};
-pub use machine::RoundMachine;
+pub use machine::{MachineNumbers, RoundMachine};
 pub use note::Note;
 pub use table::{LostRounds, Table};
+pub use tally::Tally;
 pub use timing::Timing;
+pub use waits::{WAIT_BUCKETS, Waits, wait_bucket};

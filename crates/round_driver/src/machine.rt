@@ -1,11 +1,36 @@
 //! What is asked of a machine that is driven in rounds.
-ghost use Rattle.std.specs.Prelude.{◌≡◌, ◌≤◌};
+ghost use Rattle.std.specs.Prelude.{◌≡◌, ◌<◌, ◌≤◌};
 ghost use Rattle.flat_model.specs.declared.limits.TheConstants.{MAX_BANK_QUEUE};
 ghost use Rattle.machine_core.specs.Whole.{IsWholeState};
+ghost use Rattle.round_driver.specs.Details as details;
 ghost use Rattle.round_driver.specs.Machines as machines;
 
-use flat_model::MAX_REGS;
+use flat_model::{MAX_BANK_QUEUE, MAX_REGS};
 use machine_core::{AnyMachine, Lookup, Machine};
+
+/// The numbers of a machine that counts of its run depend on.
+#[derive(Clone, Copy, PartialEq, Eq, Debug)]
+pub struct MachineNumbers {
+    /// Words of a block.
+    pub block_words: usize,
+    /// Sets of the cache.
+    pub sets: u32,
+    /// Registers.
+    pub regs: usize,
+    /// Loads that may be owed a value at once.
+    pub replies: u32,
+}
+
+impl MachineNumbers {
+    /// The set in which the block of the word at `at` lies, if the machine has it.
+    pub fn set_of(self, at: u32) -> usize
+        requires words { 0 < self.block_words }
+        requires sets { 0 < self.sets }
+        ensures { result ≡ details.set_of self at }
+    {
+        (at as usize / self.block_words) % self.sets as usize
+    }
+}
 
 /// A machine that can be driven in rounds, whatever its four const numbers are.
 pub trait RoundMachine: AnyMachine {
@@ -38,6 +63,10 @@ pub trait RoundMachine: AnyMachine {
     /// How many registers are in use.
     fn used_registers(&self) -> u32
         ensures { result ≡ machines.used_registers (Self.state self.now) };
+
+    /// The numbers that counts depend on.
+    fn numbers(&self) -> MachineNumbers
+        ensures { result ≡ details.numbers_of (Self.state self.now).sizes };
 }
 
 #[tactic(auto, unfolding(crate::specs::Machines::command_count, crate::specs::Machines::has_answer, crate::specs::Machines::has_stack_room, crate::specs::Machines::found_at, crate::specs::Machines::used_registers, crate::specs::Machines::used_at))]
@@ -52,8 +81,13 @@ impl<const WAYS: usize, const WORDS: usize, const REGS: usize, const DEPTH: usiz
     }
 
     fn command_count(&self, bank: u32) -> u32 {
+        let count = self.commands(bank);
+        if count <= MAX_BANK_QUEUE {
+            return count;
+        }
+        // (Never so, as the contract of `weight` tells. It is asked here alone, since to weigh takes long.)
         let _weight = self.weight();
-        self.commands(bank)
+        count
     }
 
     fn has_answer(&self, bank: u32) -> bool {
@@ -72,6 +106,16 @@ impl<const WAYS: usize, const WORDS: usize, const REGS: usize, const DEPTH: usiz
     #[tactic(auto, unfolding(crate::specs::Machines::used_registers))]
     fn used_registers(&self) -> u32 {
         used_among(self, MAX_REGS as u32)
+    }
+
+    fn numbers(&self) -> MachineNumbers {
+        let shape = self.shape();
+        MachineNumbers {
+            block_words: WORDS,
+            sets: shape.sets,
+            regs: REGS,
+            replies: shape.replies,
+        }
     }
 }
 

@@ -11,7 +11,7 @@ use crate::machine::RoundMachine;
 use crate::note::Note;
 use crate::schedule::Schedule;
 use arrayvec::ArrayVec;
-use flat_model::{Answer, Cause, Event};
+use flat_model::{Answer, Event};
 use machine_core::Lookup;
 
 /// The most that is told of a round: of each bank, one arrival, the stack, the replies, the write
@@ -35,10 +35,11 @@ fn is_done(answer: Answer) -> bool
 fn is_end(answer: Answer) -> bool
     ensures { result ≡ rounds.is_end answer }
 {
-    matches!(
-        answer,
-        Answer::Accepted | Answer::Refused(Cause::OutOfRange | Cause::NoLanes | Cause::NotPresent)
-    )
+    match answer {
+        Answer::Accepted => true,
+        Answer::Refused(cause) => cause.ends_request(),
+        _ => false,
+    }
 }
 
 // Makes an event, and tells it if it did something.

@@ -1,5 +1,6 @@
 //! What a run of rounds counted.
 ghost use Rattle.std.specs.Prelude.{◌≡◌, ◌<◌, ◌≤◌, ◌+◌, ◌*◌, ◌^◌, length, IfOk};
+ghost use Rattle.flat_model.specs.Causes.{passes};
 ghost use Rattle.round_driver.specs.declared.round.TheConstants.{MOST_NOTES};
 ghost use Rattle.round_driver.specs.declared.table.TheConstants.{TAGS};
 ghost use Rattle.round_driver.specs.Tables as tables;
@@ -66,7 +67,7 @@ impl LostRounds {
     // Counts a round that a cause took, and says whether the cause is one that passes.
     fn count(&mut self, cause: Cause) -> bool
         requires { tables.lost_total self.old < 2 ^ 63 }
-        ensures passes { result ≡ tables.passes cause }
+        ensures passes { result ≡ passes cause }
         ensures lost { self.new ≡ tables.with_lost self.old cause }
         ensures total { tables.lost_total self.new ≤ tables.lost_total self.old + 1 }
     {
@@ -86,7 +87,7 @@ impl LostRounds {
 }
 
 // How many tags there are: they are numbers of 16 bits.
-const TAGS: usize = u16::MAX as usize + 1;
+pub(crate) const TAGS: usize = u16::MAX as usize + 1;
 
 // The counts so far, when each tag's load was accepted, and whether the request at hand has stalled.
 #[derive(Drop)]

@@ -6,6 +6,18 @@ ghost use Rattle.round_driver.specs.Texts as texts;
 use crate::table::{LostRounds, Table};
 use std::fmt;
 
+// The mean of so many rounds for so many loads: whole ones, and hundredths rounded down.
+pub(crate) fn mean_of(rounds: u128, loads: u64) -> (u128, u128)
+    ensures { result ≡ texts.mean_of rounds loads }
+{
+    if loads == 0 {
+        return (0, 0);
+    }
+    let loads = u128::from(loads);
+    let rest = rounds % loads;
+    (rounds / loads, rest * 100 / loads)
+}
+
 impl LostRounds {
     // Writes the counts of all causes.
     #[tactic(auto, unfolding(crate::specs::Texts::lost_text))]
@@ -25,12 +37,7 @@ impl Table {
     pub fn mean_wait(&self) -> (u128, u128)
         ensures { result ≡ texts.mean_wait self.now }
     {
-        if self.values == 0 {
-            return (0, 0);
-        }
-        let values = u128::from(self.values);
-        let rest = self.waited % values;
-        (self.waited / values, rest * 100 / values)
+        mean_of(self.waited, self.values)
     }
 
     // Writes what became of the requests.

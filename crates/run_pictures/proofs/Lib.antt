@@ -1,2 +1,5 @@
 pub mod Texts
 pub mod Pictures
+pub mod Words
+pub mod Telling
+pub mod Recorded

@@ -1,47 +1,60 @@
 -- What is drawn of a run: the machine before its first event, and behind each.
-use Rattle.std.specs.Prelude.{◌≡◌, ℕ, ◌+◌, ◌<◌, ◌≤◌, Result, Ok, Err, List, [], ◌∷◌, ◌++◌, length}
+use Rattle.std.specs.Prelude.{◌≡◌, ℕ, ◌+◌, ◌%◌, ◌==◌, Bool, ◌||◌, ◌<◌, ◌≤◌, Result, Ok, Err, List, [], ◌∷◌, ◌++◌, length}
 use Rattle.std.specs.String.{string_bytes}
 use Rattle.std.specs.Global.{Global}
 use Rattle.std.specs.declared.string.String.{String}
-use Rattle.flat_model.specs.declared.Event.{Event}
-use Rattle.flat_model.specs.declared.Answer.{Answer}
 use Rattle.machine_core.specs.Machine.{MachineState}
-use Rattle.machine_core.specs.AnyMachine.{answered, after_event}
-use Rattle.trace_text.specs.declared.fault.TheConstants.{MAX_LINE}
+use Rattle.memory_images.specs.declared.image.Image.{Image}
+use Rattle.machine_core.specs.AnyMachine.{after_event}
+use Rattle.trace_text.specs.declared.fault.TheConstants.{MAX_PAIR}
 use Rattle.trace_text.specs.Reading.{ReadWhole, ReadFails}
-use Rattle.trace_text.specs.Serving.{trace_fault}
-use Rattle.trace_text.specs.Events.{trace_events}
+use Rattle.run_pictures.specs.declared.asked.Asked.{Asked}
 use Rattle.run_pictures.specs.declared.drawing.Form.{Form}
 use Rattle.run_pictures.specs.declared.drawing.Form.TheVariants as form
 use Rattle.run_pictures.specs.declared.drawing.Drawing.{Drawing}
 use Rattle.run_pictures.specs.declared.drawing.Drawing.TheVariants.{Page, Screens, Waveform}
 use Rattle.run_pictures.specs.declared.page_parts.TheConstants.{PAGE_HEAD, PAGE_END}
-use Rattle.run_pictures.specs.declared.drawn.TheConstants.{MOST_EVENTS}
+use Rattle.run_pictures.specs.declared.drawn.TheConstants.{MOST_EVENTS, WHOLE_EVERY}
 use Rattle.run_pictures.specs.declared.show.ShowFault.{ShowFault}
 use Rattle.run_pictures.specs.declared.show.ShowFault.TheVariants.{Trace, TooManyEvents, OutOfMemory}
+use Rattle.run_pictures.specs.declared.step.Made.{Made}
+use Rattle.run_pictures.specs.Asked.{said_fault, all_asked}
+use Rattle.run_pictures.specs.Steps.{made_by}
+use Rattle.run_pictures.specs.Words.{step_words}
 use Rattle.run_pictures.specs.Pages.{PageOpens, PageGoesOn}
 use Rattle.run_pictures.specs.Screens.{ScreensOpen, ScreensGoOn}
 use Rattle.run_pictures.specs.Waves.{WaveOpens, WaveGoesOn}
 
--- a drawing in this form of a machine before its first event
-abbrev pub Opens : Form → MachineState → Drawing → Type 0
-Opens form.Page s (Page p) = PageOpens PAGE_HEAD.now s p
-Opens form.Screens s (Screens p) = ScreensOpen s p
-Opens form.Waveform s (Waveform w) = WaveOpens s w
-Opens form s d = ⊥
+-- a drawing in this form of a machine before its first event, over an image
+abbrev pub Opens : Form → Image → MachineState → Drawing → Type 0
+Opens form.Page image s (Page p) = PageOpens PAGE_HEAD.now image s p
+Opens form.Screens image s (Screens p) = ScreensOpen image s p
+Opens form.Waveform image s (Waveform w) = WaveOpens s w
+Opens form image s d = ⊥
 
--- A drawing goes on by the step of this number: an event with its answer, behind which the machine stands so.
-abbrev pub Draws : ℕ → MachineState → Event → Answer → Drawing → Drawing → Type 0
-Draws n s event answer (Page p) (Page q) = PageGoesOn s event answer p q
-Draws n s event answer (Screens p) (Screens q) = ScreensGoOn n s event answer p q
-Draws n s event answer (Waveform v) (Waveform w) = WaveGoesOn n s v w
-Draws n s event answer d d' = ⊥
+-- A drawing goes on by the step of this number: an event that was made, told in these words, behind which the machine stands
+-- so. Screens have the whole machine there, or what changed. A waveform tells nothing in words.
+abbrev pub Draws : ℕ → Bool → MachineState → Made → List ℕ → Drawing → Drawing → Type 0
+Draws n whole s made words (Page p) (Page q) = PageGoesOn s made words p q
+Draws n whole s made words (Screens p) (Screens q) = ScreensGoOn n whole s made words p q
+Draws n whole s made words (Waveform v) (Waveform w) = WaveGoesOn n s made v w
+Draws n whole s made words d d' = ⊥
 
--- Each of these events is drawn, in order, as the machine's walk from this state answers it. The first one has this number.
-abbrev pub Follows : ℕ → MachineState → List Event → Drawing → Drawing → Type 0
-Follows n s [] d last = last ≡ d
-Follows n s (event ∷ events) d last =
-    (next : Drawing) × Draws n (after_event s event) event (answered s event) d next × Follows (n + 1) (after_event s event) events next last
+-- whether the step of this number, of so many, has the whole machine
+abbrev pub is_whole : ℕ → ℕ → Bool
+is_whole count n = (n == count) || (n % WHOLE_EVERY == 0)
+
+-- What is asked is drawn as the step of this number, of so many, by a machine that stands so before it: with the machine's
+-- own answer, and the recorded one beside it if that is another.
+abbrev pub DrawsEvent : ℕ → ℕ → MachineState → Asked → Drawing → Drawing → Type 0
+DrawsEvent count n s asked d d' =
+    Draws n (is_whole count n) (after_event s asked.event) (made_by s asked) (step_words s asked.event) d d'
+
+-- All this is drawn, in order, as the machine's walk from this state answers it. The first event has this number, of so many.
+abbrev pub Follows : ℕ → ℕ → MachineState → List Asked → Drawing → Drawing → Type 0
+Follows count n s [] d last = last ≡ d
+Follows count n s (asked ∷ rest) d last =
+    (next : Drawing) × DrawsEvent count n s asked d next × Follows count (n + 1) (after_event s asked.event) rest next last
 
 -- all that is written of a drawing
 abbrev pub whole_text : Drawing → List ℕ
@@ -49,16 +62,17 @@ whole_text (Page p) = string_bytes p.text ++ PAGE_END.now
 whole_text (Screens p) = string_bytes p.text
 whole_text (Waveform w) = string_bytes w.text
 
--- A text draws the walk of these events from this state: the machine before the first of them, and behind each.
-abbrev pub IsDrawn : Form → MachineState → List Event → List ℕ → Type 0
-IsDrawn form s events text =
-    (first : Drawing) × (last : Drawing) × Opens form s first × Follows 1 s events first last × (text ≡ whole_text last)
+-- A text draws the walk over all that is asked, from this state over an image: the machine before the first event, and behind each.
+abbrev pub IsDrawn : Form → Image → MachineState → List Asked → List ℕ → Type 0
+IsDrawn form image s all text =
+    (first : Drawing) × (last : Drawing) × Opens form image s first × Follows (length all) 1 s all first last × (text ≡ whole_text last)
 
--- What becomes of a trace: its events are drawn. Or it has a fault, or too many events, or memory is missing.
-abbrev pub Shows : {R : Type 0} (gave : R → List ℕ → R → Type 0) (failed : R → R → Type 0) → Form → MachineState → R → R → Result (String Global) ShowFault → Type 0
-Shows gave failed form s r r' (Ok text) =
-    (texts : List (List ℕ)) × ReadWhole gave trace_fault MAX_LINE r r' texts × (length (trace_events texts) ≤ MOST_EVENTS) × IsDrawn form s (trace_events texts) (string_bytes text)
-Shows gave failed form s r r' (Err (Trace fault)) = ReadFails gave failed trace_fault MAX_LINE r r' fault
-Shows gave failed form s r r' (Err TooManyEvents) =
-    (texts : List (List ℕ)) × ReadWhole gave trace_fault MAX_LINE r r' texts × (MOST_EVENTS < length (trace_events texts))
-Shows gave failed form s r r' (Err OutOfMemory) = Unit {0}
+-- What becomes of a trace or of a recorded run: its events are drawn, each with its recorded answer if that isn't the
+-- machine's. Or it has a fault, or too many events, or memory is missing.
+abbrev pub Shows : {R : Type 0} (gave : R → List ℕ → R → Type 0) (failed : R → R → Type 0) → Form → Image → MachineState → R → R → Result (String Global) ShowFault → Type 0
+Shows gave failed form image s r r' (Ok text) =
+    (texts : List (List ℕ)) × ReadWhole gave said_fault MAX_PAIR r r' texts × (length (all_asked texts) ≤ MOST_EVENTS) × IsDrawn form image s (all_asked texts) (string_bytes text)
+Shows gave failed form image s r r' (Err (Trace fault)) = ReadFails gave failed said_fault MAX_PAIR r r' fault
+Shows gave failed form image s r r' (Err TooManyEvents) =
+    (texts : List (List ℕ)) × ReadWhole gave said_fault MAX_PAIR r r' texts × (MOST_EVENTS < length (all_asked texts))
+Shows gave failed form image s r r' (Err OutOfMemory) = Unit {0}

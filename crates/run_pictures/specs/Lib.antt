@@ -1,9 +1,13 @@
 pub mod Numbered
 pub mod Extents
 pub mod Places
+pub mod Asked
+pub mod Steps
 pub mod Cells
+pub mod Words
 pub mod Pictures
 pub mod Pages
 pub mod Screens
 pub mod Waves
 pub mod Drawn
+pub mod Faults

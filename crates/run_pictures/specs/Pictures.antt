@@ -8,7 +8,8 @@ use Rattle.flat_model.specs.declared.Event.{Event}
 use Rattle.flat_model.specs.declared.Answer.{Answer}
 use Rattle.flat_model.specs.Flat.{Flat, flat_step}
 use Rattle.flat_model.specs.Memory.{shown}
-use Rattle.trace_text.specs.Checks.{zeros}
+use Rattle.memory_images.specs.declared.image.Image.{Image}
+use Rattle.memory_images.specs.Images.{flat_from}
 use Rattle.machine_core.specs.Machine.{MachineState}
 use Rattle.run_pictures.specs.declared.place.Place.{Place}
 use Rattle.run_pictures.specs.declared.film.Film.{Film}
@@ -42,9 +43,9 @@ pub record IsFilmed (s : MachineState) (flat : Flat) (f : Film) : Type 0 where
   pub owed : shown f.flat ≡ flat
   pub picture : IsPicture s (shown f.flat) f.places.items f.texts.items
 
--- the film of a new machine of zeros, with all places of its pictures
-pub record Begins (s : MachineState) (f : Film) : Type 0 where
-  pub film : IsFilmed s (zeros s.sizes.words) f
+-- the film of a new machine over an image, with all places of its pictures
+pub record Begins (image : Image) (s : MachineState) (f : Film) : Type 0 where
+  pub film : IsFilmed s (flat_from image s.sizes.words) f
   pub places : f.places.items ≡ places_in (extent_of s.sizes)
 
 -- A film goes on by one picture: that of the machine behind an event, with what flat memory owes behind it.

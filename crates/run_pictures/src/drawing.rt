@@ -9,6 +9,7 @@ use crate::page::Page;
 use crate::screens::Screens;
 use crate::step::Step;
 use crate::waveform::Waveform;
+use memory_images::Image;
 use std::alloc::{AllocError, Global};
 
 /// As what a run is drawn.
@@ -16,12 +17,14 @@ use std::alloc::{AllocError, Global};
 pub enum Form {
     /// A page of HTML, with its style and its script, that stands alone and steps through the run.
     Page,
-    /// Lines of at most 80 columns, with an empty line between the steps. Places where nothing stands
-    /// aren't shown, and of memory only the words that a step changed. A line begins with `*` if the
-    /// step changed it, and its text is `-` if nothing stands there any more.
+    /// Lines of at most 80 columns, with an empty line between the steps. A line begins with `*` if the
+    /// step changed it, and its text is `-` if nothing stands there any more. A step has the lines that
+    /// it changed, and those of the registers and frames in which they lie; the first and the last step,
+    /// and each whose number is a multiple of 100, have all lines. Places where nothing stands aren't
+    /// shown, and of memory only the words that a step changed.
     Screens,
-    /// A waveform, as a value change dump (VCD), with one unit of time a step: which registers stand
-    /// for blocks, which of these are obsolete, their blocks, and how many words, commands, answers
+    /// A waveform, as a value change dump (VCD), with one unit of time a step: its event and answer, and
+    /// whether another answer was recorded; which registers stand for blocks, which of these are obsolete, their blocks, and how many words, commands, answers
     /// and values stand in the input stack, the write queue, the banks and the ready replies.
     Waveform,
 }
@@ -35,17 +38,18 @@ pub(crate) enum Drawing {
 }
 
 impl Drawing {
-    // The drawing of a machine before its first event.
+    // The drawing of a machine over an image, before its first event.
     pub(crate) fn new<M: PictureMachine>(
         alloc: Global,
         machine: &M,
+        image: &Image,
         form: Form,
     ) -> Result<Drawing, AllocError>
-        ensures { IfOk result (λ drawing. Opens form (M.state machine.now) drawing) }
+        ensures { IfOk result (λ drawing. Opens form image.now (M.state machine.now) drawing) }
     {
         match form {
-            Form::Page => Ok(Drawing::Page(Page::new(alloc, machine)?)),
-            Form::Screens => Ok(Drawing::Screens(Screens::new(alloc, machine)?)),
+            Form::Page => Ok(Drawing::Page(Page::new(alloc, machine, image)?)),
+            Form::Screens => Ok(Drawing::Screens(Screens::new(alloc, machine, image)?)),
             Form::Waveform => Ok(Drawing::Waveform(Waveform::new(alloc, machine)?)),
         }
     }
@@ -58,7 +62,7 @@ impl Drawing {
         step: &Step,
     ) -> Result<(), AllocError>
         ensures { OnOk result
-            (Draws step.now.number (M.state machine.now) step.now.event step.now.answer self.old self.new) }
+            (Draws step.now.number step.now.is_whole (M.state machine.now) step.now.made (string_bytes step.now.words) self.old self.new) }
     {
         match self {
             Drawing::Page(page) => page.draw(alloc, machine, step),

@@ -1,65 +1,89 @@
 //! The walk of a machine over events, drawn.
 
-ghost use Rattle.std.specs.Prelude.{◌≡◌, OnOk, IfOk};
+ghost use Rattle.std.specs.Prelude.{◌≡◌, length, OnOk, IfOk};
 ghost use Rattle.std.specs.String.{string_bytes};
-ghost use Rattle.machine_core.specs.AnyMachine.{answered, after_event};
-ghost use Rattle.run_pictures.specs.Drawn.{Draws, Follows, IsDrawn};
+ghost use Rattle.machine_core.specs.AnyMachine.{after_event};
+ghost use Rattle.run_pictures.specs.Drawn.{DrawsEvent, Follows, IsDrawn, is_whole};
 
+use crate::asked::{Asked, other_answer};
 use crate::before::Before;
 use crate::drawing::{Drawing, Form};
 use crate::machine::PictureMachine;
-use crate::step::Step;
-use flat_model::Event;
+use crate::step::{Made, Step};
+use memory_images::Image;
 use std::alloc::{AllocError, Global};
 
 /// The most events that are drawn.
 pub const MOST_EVENTS: usize = 10_000;
 
-// Makes an event, and draws it as the step of this number.
+/// After how many events screens have the whole machine again.
+pub const WHOLE_EVERY: usize = 100;
+
+// Whether the step of this number, of so many, has the whole machine.
+fn is_whole(count: usize, number: usize) -> bool
+    ensures { result ≡ is_whole count number }
+{
+    number == count || number % WHOLE_EVERY == 0
+}
+
+// Makes the event that is asked, and draws it as the step of this number, of so many.
 fn draw_event<M: PictureMachine>(
     alloc: Global,
     machine: &mut M,
+    count: usize,
     number: usize,
-    event: Event,
+    asked: Asked,
     drawing: &mut Drawing,
 ) -> Result<(), AllocError>
-    ensures state { M.state machine.new ≡ after_event (M.state machine.old) event }
+    ensures state { M.state machine.new ≡ after_event (M.state machine.old) asked.event }
     ensures step { OnOk result
-        (Draws number (after_event (M.state machine.old) event) event
-        (answered (M.state machine.old) event) drawing.old drawing.new) }
+        (DrawsEvent count number (M.state machine.old) asked drawing.old drawing.new) }
 {
-    let before = Before::new(machine, event);
-    let answer = machine.apply(event);
-    let step = Step::new(alloc, machine, number, before, event, answer)?;
+    let before = Before::new(machine, asked.event);
+    let answer = machine.apply(asked.event);
+    let made = Made {
+        event: asked.event,
+        answer,
+        other: other_answer(answer, asked.recorded),
+    };
+    let step = Step::new(
+        alloc,
+        machine,
+        number,
+        is_whole(count, number),
+        before,
+        made,
+    )?;
     drawing.draw(alloc, machine, &step)
 }
 
-// Makes these events, and draws each.
+// Makes each event that is asked, and draws it.
 fn draw_events<M: PictureMachine>(
     alloc: Global,
     machine: &mut M,
-    events: &[Event],
+    all: &[Asked],
     drawing: &mut Drawing,
 ) -> Result<(), AllocError>
-    ensures { OnOk result (Follows 1 (M.state machine.old) events.now drawing.old drawing.new) }
+    ensures { OnOk result (Follows (length all.now) 1 (M.state machine.old) all.now drawing.old drawing.new) }
 {
-    for (k, event) in events.iter().enumerate() {
-        draw_event(alloc, machine, k + 1, *event, drawing)?;
+    for (k, asked) in all.iter().enumerate() {
+        draw_event(alloc, machine, all.len(), k + 1, *asked, drawing)?;
     }
     Ok(())
 }
 
-/// The text of the walk of a machine over these events.
+/// The text of the walk of a machine over all that is asked, from an image on.
 pub(crate) fn draw_run<M: PictureMachine>(
     alloc: Global,
     machine: &mut M,
+    image: &Image,
     form: Form,
-    events: &[Event],
+    all: &[Asked],
 ) -> Result<String, AllocError>
     ensures { IfOk result
-        (λ text. IsDrawn form (M.state machine.old) events.now (string_bytes text)) }
+        (λ text. IsDrawn form image.now (M.state machine.old) all.now (string_bytes text)) }
 {
-    let mut drawing = Drawing::new(alloc, machine, form)?;
-    draw_events(alloc, machine, events, &mut drawing)?;
+    let mut drawing = Drawing::new(alloc, machine, image, form)?;
+    draw_events(alloc, machine, all, &mut drawing)?;
     drawing.finish()
 }

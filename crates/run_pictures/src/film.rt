@@ -9,6 +9,7 @@ use crate::cells::text_at;
 use crate::machine::{Extent, PictureMachine};
 use crate::place::{Place, places_of};
 use flat_model::{Answer, Event, FlatMemory};
+use memory_images::Image;
 use std::alloc::{AllocError, Global};
 
 /// The picture as it stands, and the places that it has.
@@ -56,13 +57,17 @@ fn step_flat(flat: &mut FlatMemory, event: Event, answer: Answer) -> Result<(), 
 }
 
 impl Film {
-    /// The film of a machine in which nothing has happened, over zeros, before its first event.
-    pub(crate) fn new<M: PictureMachine>(alloc: Global, machine: &M) -> Result<Film, AllocError>
-        ensures { IfOk result (λ film. pictures.Begins (M.state machine.now) film) }
+    /// The film of a machine in which nothing has happened, over an image, before its first event.
+    pub(crate) fn new<M: PictureMachine>(
+        alloc: Global,
+        machine: &M,
+        image: &Image,
+    ) -> Result<Film, AllocError>
+        ensures { IfOk result (λ film. pictures.Begins image.now (M.state machine.now) film) }
     {
         let extent = machine.extent();
         let places = places_of(alloc, &extent)?;
-        let flat = FlatMemory::zeros(alloc, extent.words)?;
+        let flat = image.flat_memory(alloc, extent.words)?;
         let texts = texts_of(alloc, machine, &flat, places.as_slice())?;
         Ok(Film {
             flat,

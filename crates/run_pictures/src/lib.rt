@@ -1,16 +1,18 @@
 //! The machine at each event of a trace, drawn: as a page, as screens of text, and as a waveform.
 //!
 //! A picture is a row of [`Place`]s, and the text of each: a register, a word of a frame, an entry of
-//! a queue. [`show_text`] reads a trace, applies its events to a machine and draws it before the first
+//! a queue. [`show_text`] reads a trace or a recorded run, applies its events to a machine and draws it before the first
 //! of them and behind each: as a page of HTML that steps through the pictures, as lines for a
 //! terminal, or as a waveform. Whatever is drawn is what a [`PictureMachine`] shows of its state.
 #![tactic(auto)]
 
+mod asked;
 mod before;
 mod cells;
 mod drawing;
 mod drawn;
 mod film;
+mod level;
 mod machine;
 mod numbered;
 mod page;
@@ -18,6 +20,7 @@ mod page_parts;
 mod place;
 mod reasons;
 mod screens;
+mod shortage;
 mod show;
 mod signal;
 mod step;
@@ -25,7 +28,7 @@ mod waveform;
 
 pub use cells::text_at;
 pub use drawing::Form;
-pub use drawn::MOST_EVENTS;
+pub use drawn::{MOST_EVENTS, WHOLE_EVERY};
 pub use machine::{Extent, PictureMachine};
 pub use place::Place;
 pub use show::{ShowFault, show_text};

@@ -2,7 +2,7 @@
 ghost use Rattle.std.specs.Prelude.{◌≡◌, ◌*◌, length, slice_get};
 ghost use Rattle.memory_banks.specs.Banks.{bank_at};
 ghost use Rattle.cache_unit.specs.Views as views;
-ghost use Rattle.run_pictures.specs.Extents.{extent_of, fitted};
+ghost use Rattle.run_pictures.specs.Extents.{extent_of, fitted, frames_in, block_in, set_in, set_of_frame, bank_in};
 
 use flat_model::{Answer, Lanes, Word};
 use input_stack::Entry;
@@ -39,7 +39,7 @@ pub struct Extent {
 impl Extent {
     /// How many frames there are.
     pub fn frames(&self) -> u32
-        ensures { result ≡ fitted (self.now.sets * self.now.ways) }
+        ensures { result ≡ frames_in self.now }
     {
         self.sets.saturating_mul(self.ways)
     }
@@ -52,23 +52,35 @@ impl Extent {
     }
 
     /// The block of the word at an address.
-    pub fn block_of(&self, at: u32) -> u32 {
+    #[tactic(auto, using(crate::proofs::Words::quotients))]
+    pub fn block_of(&self, at: u32) -> u32
+        ensures { result ≡ block_in self.now at }
+    {
         at.checked_div(self.block_words).unwrap_or(0)
     }
 
     /// The set in which a block may be.
-    pub fn set_of(&self, block: u32) -> u32 {
-        block.checked_rem(self.sets).unwrap_or(0)
+    #[tactic(auto, using(crate::proofs::Words::quotients))]
+    pub fn set_of(&self, block: u32) -> u32
+        ensures { result ≡ set_in self.now block }
+    {
+        block.checked_rem(self.sets).unwrap_or(block)
     }
 
     /// The set to which a frame belongs.
-    pub fn set_of_frame(&self, frame: u32) -> u32 {
+    #[tactic(auto, using(crate::proofs::Words::quotients))]
+    pub fn set_of_frame(&self, frame: u32) -> u32
+        ensures { result ≡ set_of_frame self.now frame }
+    {
         frame.checked_div(self.ways).unwrap_or(0)
     }
 
     /// The bank in which the word at an address lies.
-    pub fn bank_of(&self, at: u64) -> u64 {
-        at.checked_rem(u64::from(self.banks)).unwrap_or(0)
+    #[tactic(auto, using(crate::proofs::Words::quotients))]
+    pub fn bank_of(&self, at: u64) -> u64
+        ensures { result ≡ bank_in self.now at }
+    {
+        at.checked_rem(u64::from(self.banks)).unwrap_or(at)
     }
 }
 

@@ -16,6 +16,8 @@ pub(crate) enum Numbered {
     Between(&'static str, u32, &'static str),
     /// Twice a word and a number.
     Two(&'static str, u32, &'static str, u32),
+    /// Two numbers between three words.
+    Around(&'static str, u32, &'static str, u32, &'static str),
     /// Three numbers, with a word before each.
     Three(&'static str, u32, &'static str, u32, &'static str, u32),
 }
@@ -29,6 +31,7 @@ impl fmt::Display for Numbered {
             Numbered::One(word, n) => write!(f, "{word}{n}"),
             Numbered::Between(word, n, next) => write!(f, "{word}{n}{next}"),
             Numbered::Two(word, n, next, m) => write!(f, "{word}{n}{next}{m}"),
+            Numbered::Around(word, n, next, m, last) => write!(f, "{word}{n}{next}{m}{last}"),
             Numbered::Three(word, n, next, m, last, k) => {
                 write!(f, "{word}{n}{next}{m}{last}{k}")
             }

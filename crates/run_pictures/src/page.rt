@@ -9,7 +9,8 @@ use crate::film::{Film, is_changed};
 use crate::machine::{Extent, PictureMachine};
 use crate::page_parts::{PAGE_END, PAGE_HEAD};
 use crate::place::Place;
-use crate::step::Step;
+use crate::step::{Other, Step};
+use memory_images::Image;
 use std::alloc::{AllocError, Global};
 
 /// A page, up to the step that was drawn last.
@@ -93,27 +94,35 @@ fn push_changes(text: &mut String, before: &[String], after: &[String]) -> Resul
 fn push_first(text: &mut String, texts: &[String]) -> Result<(), AllocError>
     ensures { OnOk result (string_bytes text.new ≡ string_bytes text.old ++ pages.first_text texts.now) }
 {
-    text.push_str("const steps = [\n[\"\",\"\",\"the machine before the first event\",[")?;
+    text.push_str("const steps = [\n[\"\",\"\",\"the machine before the first event\",\"\",[")?;
     push_changes(text, &[], texts)
 }
 
-// The event of a step, its answer and its words.
+// The event of a step, its answer, its words, and the recorded answer if that is another.
 fn push_event(text: &mut String, step: &Step) -> Result<(), AllocError>
     ensures { OnOk result
-        (string_bytes text.new ≡ string_bytes text.old ++ pages.event_line step.now.event step.now.answer (string_bytes step.now.words)) }
+        (string_bytes text.new ≡ string_bytes text.old ++ pages.event_line step.now.made (string_bytes step.now.words)) }
 {
-    let event = step.event;
-    let answer = step.answer;
+    let event = step.made.event;
+    let answer = step.made.answer;
+    let other = Other {
+        answer: step.made.other,
+    };
     let words = step.words.as_str();
-    write!(text, "[\"{event}\",\"{answer}\",\"{words}\",[")
+    write!(text, "[\"{event}\",\"{answer}\",\"{words}\",\"{other}\",[")
 }
 
 impl Page {
-    /// The page of a machine before its first event.
-    pub(crate) fn new<M: PictureMachine>(alloc: Global, machine: &M) -> Result<Page, AllocError>
-        ensures { IfOk result (λ page. pages.PageOpens PAGE_HEAD.now (M.state machine.now) page) }
+    /// The page of a machine over an image, before its first event.
+    pub(crate) fn new<M: PictureMachine>(
+        alloc: Global,
+        machine: &M,
+        image: &Image,
+    ) -> Result<Page, AllocError>
+        ensures { IfOk result
+            (λ page. pages.PageOpens PAGE_HEAD.now image.now (M.state machine.now) page) }
     {
-        let film = Film::new(alloc, machine)?;
+        let film = Film::new(alloc, machine, image)?;
         let mut text = String::from_str(alloc, PAGE_HEAD)?;
         push_extent(&mut text, machine.extent())?;
         push_places(&mut text, film.places())?;
@@ -129,9 +138,11 @@ impl Page {
         step: &Step,
     ) -> Result<(), AllocError>
         ensures { OnOk result
-            (pages.PageGoesOn (M.state machine.now) step.now.event step.now.answer self.old self.new) }
+            (pages.PageGoesOn (M.state machine.now) step.now.made (string_bytes step.now.words) self.old self.new) }
     {
-        let before = self.film.advance(alloc, machine, step.event, step.answer)?;
+        let before = self
+            .film
+            .advance(alloc, machine, step.made.event, step.made.answer)?;
         push_event(&mut self.text, step)?;
         push_changes(&mut self.text, before.as_slice(), self.film.texts())
     }

@@ -34,7 +34,8 @@ button { font: inherit; min-width: 34px; min-height: 28px; padding: 2px 8px; col
 button[aria-pressed=true] { background: var(--mark); border-color: var(--edge); }
 :focus-visible { outline: 3px solid var(--key); outline-offset: 1px; }
 #told { font-size: 17px; line-height: 22px; min-height: 22px; }
-#event { font-family: ui-monospace, 'DejaVu Sans Mono', monospace; }
+#event, #recorded { font-family: ui-monospace, 'DejaVu Sans Mono', monospace; }
+#recorded { color: var(--over); }
 #line { display: block; width: 100%; cursor: pointer; border: solid var(--line); border-width: 1px 0; }
 
 #machine { position: relative; display: grid; gap: 21px 24px; margin-top: 3px; align-items: start;
@@ -130,7 +131,7 @@ td.word { text-align: center; }
 <button id='show-lines' aria-pressed='false' aria-controls='lines-box'>reg lines</button>
 <button id='show-keys' aria-pressed='false' aria-controls='keys'>keys</button>
 </div>
-<p id='told' aria-live='polite'><b id='event'></b> <span id='words'></span></p>
+<p id='told' aria-live='polite'><b id='event'></b> <b id='recorded'></b> <span id='words'></span></p>
 <p id='keys' hidden>left, right: a step; Home, End: first and last; space: play; page up, page down: ten steps; + and -:
 wider and narrower columns; m: memory; r: the registers as a trace shows them. A click in the line of time goes there.</p>
 </header>
@@ -266,7 +267,8 @@ function ownerOf(text) {
 'use strict';
 
 // The run: which text stands at each place behind a step, forwards and backwards.
-// A step is [event, answer, words, changes], a change [place, text].
+// A step is [event, answer, words, recorded, changes]: the recorded answer if it isn't the machine's, and '' if not; a change is
+// [place, text].
 class Run {
   constructor(all) {
     this.steps = all;
@@ -280,7 +282,7 @@ class Run {
 
   forward() {
     this.now += 1;
-    const changes = this.steps[this.now][3];
+    const changes = this.steps[this.now][4];
     this.stood[this.now] = changes.map(([k]) => [k, this.texts[k]]);
     for (const [k, text] of changes) this.texts[k] = text;
   }
@@ -310,7 +312,7 @@ class Run {
 
   // The places that the step at hand changed, which the first picture hasn't.
   changed() {
-    return this.now > 0 ? this.steps[this.now][3].map(([k]) => k) : [];
+    return this.now > 0 ? this.steps[this.now][4].map(([k]) => k) : [];
   }
 
   // The address of the word that an entry is for.
@@ -412,7 +414,7 @@ class Story {
 
   note(run, step) {
     const touched = new Set();
-    run.steps[step][3].forEach(([k, text], n) => this.noteChange(k, run.stood[step][n][1], text, touched));
+    run.steps[step][4].forEach(([k, text], n) => this.noteChange(k, run.stood[step][n][1], text, touched));
     for (const bank of touched) this.noteBank(run, bank);
     for (const slot of range(sizes.registers)) this.blocks[slot][step] = run.text(`r${slot}`);
     this.stack[step] = this.counts.s;
@@ -818,7 +820,7 @@ class Picture {
     this.drawn = new Map();
     this.marked = [];
     this.used = new Set();
-    for (const [, , , changes] of run.steps) for (const [k, text] of changes) if (text !== '') this.used.add(places[k]);
+    for (const [, , , , changes] of run.steps) for (const [k, text] of changes) if (text !== '') this.used.add(places[k]);
     this.makeFrames();
     this.makeRegisters();
     for (const [letter, id] of [['s', 'stack'], ['q', 'queue'], ['v', 'ready']]) this.makeList(letter, find(`${id}-list`));
@@ -1208,9 +1210,10 @@ const arrows = new Arrows(find('arrows'));
 let timer = 0;
 
 function draw() {
-  const [event, answer, words] = run.steps[run.now];
+  const [event, answer, words, recorded] = run.steps[run.now];
   find('number').textContent = run.now;
   find('event').textContent = run.now > 0 ? `${event} -> ${answer}` : 'start';
+  find('recorded').textContent = recorded && `recorded: ${recorded}`;
   find('words').textContent = words;
   find('slider').value = run.now;
   picture.draw();

@@ -1,14 +1,20 @@
 //! What an event did, or why it didn't, in words.
 
-ghost use Rattle.std.specs.Prelude.{◌≡◌};
+ghost use Rattle.std.specs.Prelude.{◌≡◌, IfOk};
+ghost use Rattle.std.specs.String.{string_bytes};
+ghost use Rattle.run_pictures.specs.Numbered.{text_of};
+ghost use Rattle.run_pictures.specs.Words as words;
 
 use crate::before::Before;
-use crate::cells::is_pending;
 use crate::machine::{Extent, PictureMachine};
 use crate::numbered::Numbered;
-use flat_model::{Answer, Cause, Event};
+use crate::shortage::{bank_full, queue_full};
+use flat_model::{Answer, Cause, Event, Word};
+use input_stack::Entry;
 use machine_core::Lookup;
+use memory_banks::BankAnswer;
 use std::alloc::{AllocError, Global};
+use write_queue::Queued;
 
 /// What an event did, or why it didn't, in words. The machine stands behind the event: a refusal, and
 /// an event that found nothing to do, left it as it was.
@@ -18,21 +24,30 @@ pub(crate) fn words_of<M: PictureMachine>(
     before: Before,
     event: Event,
     answer: Answer,
-) -> Result<String, AllocError> {
+) -> Result<String, AllocError>
+    ensures { IfOk result
+        (λ text. string_bytes text ≡ words.words_by before (M.state machine.now) event answer) }
+{
     match answer {
-        Answer::Accepted => accepted(alloc, machine, before, event),
-        Answer::Moved => moved(alloc, machine, before, event),
-        Answer::Value { tag, word } => {
-            format!(in alloc; "the load of tag {tag} is answered {word}")
-        }
-        Answer::Nothing => idle(alloc, event),
+        Answer::Accepted => { written(alloc, accepted(&machine.extent(), event, before.found)) }
+        Answer::Moved => moved(alloc, &machine.extent(), before, event),
+        Answer::Value { tag, word } => taken(alloc, tag, word),
+        Answer::Nothing => written(alloc, idle(event)),
         Answer::Refused(cause) => refused(alloc, machine, event, cause),
     }
 }
 
+// A sentence as text.
+fn written(alloc: Global, sentence: Numbered) -> Result<String, AllocError>
+    ensures { IfOk result (λ text. string_bytes text ≡ text_of sentence) }
+{
+    format!(in alloc; "{sentence}")
+}
+
 // The block that a request or an eviction is about: block 0 for other events.
-fn block_of<M: PictureMachine>(machine: &M, event: Event) -> u32 {
-    let extent = machine.extent();
+pub(crate) fn block_about(extent: &Extent, event: Event) -> u32
+    ensures { result ≡ words.block_about extent.now event }
+{
     match event {
         Event::Load { at, .. } | Event::Store { at, .. } | Event::Prefetch { at } => {
             extent.block_of(at)
@@ -42,27 +57,34 @@ fn block_of<M: PictureMachine>(machine: &M, event: Event) -> u32 {
     }
 }
 
-fn accepted<M: PictureMachine>(
-    alloc: Global,
-    machine: &M,
-    before: Before,
-    event: Event,
-) -> Result<String, AllocError> {
-    let block = block_of(machine, event);
-    match (before.found, event) {
-        (_, Event::Evict { .. }) => format!(in alloc; "the frame of block {block} is given up"),
-        (Some(Lookup::Miss), _) => {
-            format!(in alloc;
-                "a miss: a register is taken, and block {block}'s words are asked for"
-            )
-        }
-        (Some(Lookup::Hit), _) => String::from_str(alloc, hit(event)),
-        (Some(Lookup::Join), _) => String::from_str(alloc, joined(event)),
-        (None, _) => Ok(String::new(alloc)),
+fn accepted(extent: &Extent, event: Event, found: Option<Lookup>) -> Numbered
+    ensures { text_of result ≡ words.accepted_words extent.now event found }
+{
+    match event {
+        Event::Evict { block } => Numbered::Between("the frame of block ", block, " is given up"),
+        _ => requested(block_about(extent, event), event, found),
     }
 }
 
-fn hit(event: Event) -> &'static str {
+// An accepted request, by what it found.
+fn requested(block: u32, event: Event, found: Option<Lookup>) -> Numbered
+    ensures { text_of result ≡ words.request_words block event found }
+{
+    match found {
+        Some(Lookup::Hit) => Numbered::Word(hit(event)),
+        Some(Lookup::Join) => Numbered::Word(joined(event)),
+        Some(Lookup::Miss) => Numbered::Between(
+            "a miss: a register is taken, and block ",
+            block,
+            "'s words are asked for",
+        ),
+        None => Numbered::Word(""),
+    }
+}
+
+fn hit(event: Event) -> &'static str
+    ensures { result.now ≡ words.hit_words event }
+{
     match event {
         Event::Load { .. } => "a hit: the value stands ready",
         Event::Store { .. } => "a hit: the frame's word is changed",
@@ -70,7 +92,9 @@ fn hit(event: Event) -> &'static str {
     }
 }
 
-fn joined(event: Event) -> &'static str {
+fn joined(event: Event) -> &'static str
+    ensures { result.now ≡ words.join_words event }
+{
     match event {
         Event::Load { .. } => "the word is on its way: the load waits for it",
         Event::Store { .. } => "the word is on its way: the code keeps the stored bytes from it",
@@ -78,61 +102,77 @@ fn joined(event: Event) -> &'static str {
     }
 }
 
-fn moved<M: PictureMachine>(
-    alloc: Global,
-    machine: &M,
-    before: Before,
-    event: Event,
-) -> Result<String, AllocError> {
+fn moved(alloc: Global, extent: &Extent, before: Before, event: Event) -> Result<String, AllocError>
+    ensures { IfOk result
+        (λ text. string_bytes text ≡ words.moved_words extent.now before event) }
+{
     match event {
-        Event::Drain => drained(alloc, machine, before),
+        Event::Drain => drained(alloc, extent, before.front),
         Event::Serve { bank } => format!(in alloc; "bank {bank} serves its first command"),
-        Event::Arrive { bank, .. } => arrived(alloc, machine, bank),
-        Event::Process { .. } => processed(alloc, before),
+        Event::Arrive { bank, .. } => arrived(alloc, bank, before.answer),
+        Event::Process { .. } => written(alloc, processed(before.entry)),
         _ => Ok(String::new(alloc)),
     }
 }
 
-fn drained<M: PictureMachine>(
-    alloc: Global,
-    machine: &M,
-    before: Before,
-) -> Result<String, AllocError> {
-    let Some(front) = before.front else {
-        return Ok(String::new(alloc));
-    };
+fn drained(alloc: Global, extent: &Extent, front: Option<Queued>) -> Result<String, AllocError>
+    ensures { IfOk result (λ text. string_bytes text ≡ words.drained_words extent.now front) }
+{
+    match front {
+        Some(front) => sent(alloc, extent, front),
+        None => Ok(String::new(alloc)),
+    }
+}
+
+// A word that leaves the write queue.
+fn sent(alloc: Global, extent: &Extent, front: Queued) -> Result<String, AllocError>
+    ensures { IfOk result (λ text. string_bytes text ≡ words.sent_words extent.now front) }
+{
     let at = front.at;
     let lanes = front.lanes;
-    let bank = machine.extent().bank_of(u64::from(at));
+    let bank = extent.bank_of(u64::from(at));
     format!(in alloc; "the bytes {lanes} of word {at} go to bank {bank}")
 }
 
-fn arrived<M: PictureMachine>(alloc: Global, machine: &M, bank: u32) -> Result<String, AllocError> {
-    let last = machine.stack_len().saturating_sub(1);
-    let Some(entry) = machine.stack_entry(last) else {
-        return Ok(String::new(alloc));
-    };
-    let slot = entry.slot;
-    let i = entry.i;
-    format!(in alloc; "bank {bank} gives word {i} of register {slot}'s block")
+fn arrived(alloc: Global, bank: u32, answer: Option<BankAnswer>) -> Result<String, AllocError>
+    ensures { IfOk result (λ text. string_bytes text ≡ words.arrived_words bank answer) }
+{
+    match answer {
+        Some(answer) => {
+            let slot = answer.slot;
+            let i = answer.i;
+            format!(in alloc; "bank {bank} gives word {i} of register {slot}'s block")
+        }
+        None => Ok(String::new(alloc)),
+    }
 }
 
-fn processed(alloc: Global, before: Before) -> Result<String, AllocError> {
-    let Some(entry) = before.entry else {
-        return Ok(String::new(alloc));
-    };
-    let slot = entry.slot;
-    let i = entry.i;
-    format!(in alloc; "word {i} of register {slot}'s block has come: its loads are answered")
+fn processed(entry: Option<Entry>) -> Numbered
+    ensures { text_of result ≡ words.processed_words entry }
+{
+    match entry {
+        Some(entry) => Numbered::Around(
+            "word ",
+            entry.i,
+            " of register ",
+            entry.slot,
+            "'s block has come: its loads are answered",
+        ),
+        None => Numbered::Word(""),
+    }
+}
+
+fn taken(alloc: Global, tag: u16, word: Word) -> Result<String, AllocError>
+    ensures { IfOk result
+        (λ text. string_bytes text ≡ words.taken_words tag word) }
+{
+    format!(in alloc; "the load of tag {tag} is answered {word}")
 }
 
 // Why there was nothing to do.
-fn idle(alloc: Global, event: Event) -> Result<String, AllocError> {
-    let words = idle_words(event);
-    format!(in alloc; "{words}")
-}
-
-fn idle_words(event: Event) -> Numbered {
+fn idle(event: Event) -> Numbered
+    ensures { text_of result ≡ words.idle_words event }
+{
     match event {
         Event::Drain => Numbered::Word("the write queue is empty"),
         Event::Serve { bank } => Numbered::One("no command waits at bank ", bank),
@@ -153,176 +193,116 @@ fn refused<M: PictureMachine>(
     machine: &M,
     event: Event,
     cause: Cause,
-) -> Result<String, AllocError> {
+) -> Result<String, AllocError>
+    ensures { IfOk result
+        (λ text. string_bytes text ≡ words.refused_words (M.state machine.now) event cause) }
+{
     match cause {
-        Cause::OutOfRange => outside(alloc, machine, event),
-        Cause::TagInUse => in_use(alloc, machine, event),
+        Cause::TagInUse => written(alloc, in_use(machine, event)),
         Cause::QueueFull => queue_full(alloc, machine, event),
         Cause::BankFull => bank_full(alloc, machine, event),
-        _ => {
-            let words = refused_words(&machine.extent(), block_of(machine, event), cause);
-            format!(in alloc; "{words}")
-        }
+        _ => written(alloc, limited(&machine.extent(), event, cause)),
     }
 }
 
-// Why a request or an eviction of this block was refused, if no more of the machine is to be told
-// than its numbers.
-fn refused_words(extent: &Extent, block: u32, cause: Cause) -> Numbered {
+// Why it was refused, if no more of the machine is to be told than its numbers.
+fn limited(extent: &Extent, event: Event, cause: Cause) -> Numbered
+    ensures { text_of result ≡ words.limit_words extent.now event cause }
+{
     match cause {
-        Cause::NoLanes => Numbered::Word("the store names no byte"),
+        Cause::OutOfRange => outside(extent, event),
         Cause::RepliesFull => Numbered::One(
             "as many loads are owed values as may be: ",
             extent.replies,
         ),
-        Cause::TargetsFull => Numbered::Word("four loads wait for the word already"),
         Cause::NoRegister => Numbered::One("all registers are in use: ", extent.regs),
         Cause::SetPending => Numbered::Between(
             "every way of set ",
-            extent.set_of(block),
+            extent.set_of(block_about(extent, event)),
             " waits for words",
         ),
-        Cause::NotPresent => Numbered::One("no frame holds block ", block),
+        Cause::NotPresent => Numbered::One("no frame holds block ", block_about(extent, event)),
         Cause::StackFull => Numbered::Between("the input stack is full: ", extent.depth, " words"),
+        _ => Numbered::Word(cause.words()),
+    }
+}
+
+fn outside(extent: &Extent, event: Event) -> Numbered
+    ensures { text_of result ≡ words.outside_words extent.now event }
+{
+    match event {
+        Event::Load { at, .. } | Event::Store { at, .. } | Event::Prefetch { at } => {
+            word_outside(extent, at)
+        }
+        Event::Evict { block } => block_outside(extent, block),
         _ => Numbered::Word(""),
     }
 }
 
-fn outside<M: PictureMachine>(
-    alloc: Global,
-    machine: &M,
-    event: Event,
-) -> Result<String, AllocError> {
-    let extent = machine.extent();
-    let words = extent.words;
-    let blocks = extent.block_of(words);
-    match event {
-        Event::Load { at, .. } | Event::Store { at, .. } | Event::Prefetch { at } => {
-            format!(in alloc; "word {at} is outside memory, which has {words} words")
-        }
-        Event::Evict { block } => {
-            format!(in alloc; "block {block} is outside memory, which has {blocks} blocks")
-        }
-        _ => Ok(String::new(alloc)),
-    }
+fn word_outside(extent: &Extent, at: u32) -> Numbered
+    ensures { text_of result ≡ words.word_outside extent.now at }
+{
+    Numbered::Around(
+        "word ",
+        at,
+        " is outside memory, which has ",
+        extent.words,
+        " words",
+    )
+}
+
+fn block_outside(extent: &Extent, block: u32) -> Numbered
+    ensures { text_of result ≡ words.block_outside extent.now block }
+{
+    Numbered::Around(
+        "block ",
+        block,
+        " is outside memory, which has ",
+        extent.block_of(extent.words),
+        " blocks",
+    )
 }
 
 // Whether the value of a tag stands ready at a place.
-fn is_ready<M: PictureMachine>(machine: &M, tag: u16, place: u32) -> bool {
+#[tactic(auto, unfolding(crate::specs::Words::is_ready))]
+fn is_ready<M: PictureMachine>(machine: &M, tag: u16, place: u32) -> bool
+    ensures { result ≡ words.is_ready (M.state machine.now) tag place }
+{
     match machine.reply(place) {
         Some(Answer::Value { tag: ready, .. }) => ready == tag,
         _ => false,
     }
 }
 
-fn in_use<M: PictureMachine>(
-    alloc: Global,
-    machine: &M,
-    event: Event,
-) -> Result<String, AllocError> {
-    let Event::Load { tag, .. } = event else {
-        return Ok(String::new(alloc));
-    };
-    if (0..machine.replies_len()).any(|place| is_ready(machine, tag, place)) {
-        format!(in alloc; "the value of tag {tag} stands ready, and wasn't taken")
+// Whether it stands ready anywhere.
+#[tactic(auto, unfolding(crate::specs::Words::has_value))]
+fn has_value<M: PictureMachine>(machine: &M, tag: u16) -> bool
+    ensures { result ≡ words.has_value (M.state machine.now) tag }
+{
+    (0..machine.replies_len()).any(|place| is_ready(machine, tag, place))
+}
+
+// Why no load may have a tag.
+#[tactic(auto, unfolding(crate::specs::Words::tag_words))]
+fn tag_taken<M: PictureMachine>(machine: &M, tag: u16) -> Numbered
+    ensures { text_of result ≡ words.tag_words (M.state machine.now) tag }
+{
+    if has_value(machine, tag) {
+        Numbered::Between(
+            "the value of tag ",
+            u32::from(tag),
+            " stands ready, and wasn't taken",
+        )
     } else {
-        format!(in alloc; "a load of tag {tag} waits for its word")
+        Numbered::Between("a load of tag ", u32::from(tag), " waits for its word")
     }
 }
 
-// Whether a word of a frame has bytes that memory doesn't have.
-fn is_dirty<M: PictureMachine>(machine: &M, frame: u32, i: u32) -> bool {
-    match machine.dirty(frame, i) {
-        Some(lanes) => lanes.has_any(),
-        None => false,
-    }
-}
-
-fn dirty_words<M: PictureMachine>(machine: &M, frame: u32) -> usize {
-    let words = machine.extent().block_words;
-    (0..words).filter(|i| is_dirty(machine, frame, *i)).count()
-}
-
-// Whether a frame may be the one that an event gives up: an eviction that of its block, and a miss
-// one of its set that waits for no word.
-fn may_go<M: PictureMachine>(machine: &M, event: Event, frame: u32) -> bool {
-    let extent = machine.extent();
-    let Some(held) = machine.frame_block(frame) else {
-        return false;
-    };
+fn in_use<M: PictureMachine>(machine: &M, event: Event) -> Numbered
+    ensures { text_of result ≡ words.in_use_words (M.state machine.now) event }
+{
     match event {
-        Event::Evict { block } => held == block,
-        _ => extent.set_of_frame(frame) == extent.set_of(block_of(machine, event))
-            && !is_pending(machine, held),
-    }
-}
-
-// The frame that an event can't give up, since it has more dirty words than there are places: the
-// first one, if there are several.
-fn stuck_frame<M: PictureMachine>(machine: &M, event: Event, free: usize) -> Option<u32> {
-    let frames = machine.extent().frames();
-    (0..frames).find(|frame| may_go(machine, event, *frame) && dirty_words(machine, *frame) > free)
-}
-
-fn queue_full<M: PictureMachine>(
-    alloc: Global,
-    machine: &M,
-    event: Event,
-) -> Result<String, AllocError> {
-    let free = machine
-        .extent()
-        .write_queue
-        .saturating_sub(machine.queue_len());
-    match stuck_frame(machine, event, free as usize) {
-        Some(frame) => {
-            let dirty = dirty_words(machine, frame);
-            format!(in alloc; "the write queue has {free} free places for {dirty} dirty words")
-        }
-        None => format!(in alloc; "the write queue has {free} free places, which are too few"),
-    }
-}
-
-// How many words of a block lie in a bank.
-fn words_in_bank<M: PictureMachine>(machine: &M, block: u32, bank: u32) -> usize {
-    let extent = machine.extent();
-    let first = u64::from(block) * u64::from(extent.block_words);
-    (0..extent.block_words)
-        .filter(|i| extent.bank_of(first + u64::from(*i)) == u64::from(bank))
-        .count()
-}
-
-// How many more commands a bank takes.
-fn room_at<M: PictureMachine>(machine: &M, bank: u32) -> u32 {
-    machine
-        .extent()
-        .bank_queue
-        .saturating_sub(machine.commands(bank))
-}
-
-// The first bank that has too little room for the reads of a block.
-fn short_bank<M: PictureMachine>(machine: &M, block: u32) -> Option<u32> {
-    let banks = machine.extent().banks;
-    (0..banks).find(|bank| {
-        (room_at(machine, *bank) as usize) < words_in_bank(machine, block, *bank)
-    })
-}
-
-fn bank_full<M: PictureMachine>(
-    alloc: Global,
-    machine: &M,
-    event: Event,
-) -> Result<String, AllocError> {
-    if let (Event::Drain, Some(front)) = (event, machine.queue_entry(0)) {
-        let bank = machine.extent().bank_of(u64::from(front.at));
-        return format!(in alloc; "bank {bank} has no room for a command");
-    }
-    let block = block_of(machine, event);
-    match short_bank(machine, block) {
-        Some(bank) => {
-            let room = room_at(machine, bank);
-            let reads = words_in_bank(machine, block, bank);
-            format!(in alloc; "bank {bank} has room for {room} commands, and is to be sent {reads}")
-        }
-        None => Ok(String::new(alloc)),
+        Event::Load { tag, .. } => tag_taken(machine, tag),
+        _ => Numbered::Word(""),
     }
 }

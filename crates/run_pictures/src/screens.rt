@@ -1,6 +1,7 @@
 //! The pictures of a machine, as lines for a terminal.
 
-ghost use Rattle.std.specs.Prelude.{◌≡◌, ◌++◌, OnOk, IfOk, slice_get};
+ghost use Rattle.std.specs.Prelude.{◌≡◌, ◌==◌, ◌++◌, OnOk, IfOk, Some, slice_get};
+ghost use Rattle.std.specs.List.{list_any};
 ghost use Rattle.std.specs.String.{string_bytes};
 ghost use Rattle.run_pictures.specs.Numbered.{text_of};
 ghost use Rattle.run_pictures.specs.Screens as screens;
@@ -10,7 +11,10 @@ use crate::machine::PictureMachine;
 use crate::numbered::Numbered;
 use crate::place::Place;
 use crate::step::Step;
+use flat_model::Answer;
+use memory_images::Image;
 use std::alloc::{AllocError, Global};
+use std::fmt;
 
 // What a place is called on a screen; nothing for one that isn't shown there.
 fn label_of(place: Place) -> Numbered
@@ -59,18 +63,162 @@ fn is_shown(place: Place, text: &str, is_changed: bool) -> bool
     }
 }
 
+// The register that a place is of, if it is of one.
+fn register_of(place: Place) -> Option<u32>
+    ensures { result ≡ screens.register_of place }
+{
+    match place {
+        Place::Register { slot } | Place::Field { slot, .. } | Place::Load { slot, .. } => {
+            Some(slot)
+        }
+        _ => None,
+    }
+}
+
+// The frame that a place is of, if it is of one.
+fn frame_of(place: Place) -> Option<u32>
+    ensures { result ≡ screens.frame_of place }
+{
+    match place {
+        Place::Frame { frame } | Place::Cell { frame, .. } => Some(frame),
+        _ => None,
+    }
+}
+
+// What is written of a picture: all of it, or what changed, and all of the registers and frames in which it lies.
+#[derive(Drop)]
+struct Part {
+    is_whole: bool,
+    registers: Vec<u32>,
+    frames: Vec<u32>,
+}
+
+fn push_owner(owners: &mut Vec<u32>, owner: Option<u32>, is_changed: bool) -> Result<(), AllocError>
+    ensures { OnOk result
+        (owners.new.items ≡ owners.old.items ++ screens.owner_in owner is_changed) }
+{
+    if !is_changed {
+        return Ok(());
+    }
+    let Some(owner) = owner else {
+        return Ok(());
+    };
+    owners.push(owner)?;
+    Ok(())
+}
+
+// The register of the place of this number, if that place changed.
+#[tactic(auto, unfolding(crate::specs::Screens::register_at))]
+fn push_register(
+    registers: &mut Vec<u32>,
+    places: &[Place],
+    before: &[String],
+    after: &[String],
+    k: usize,
+) -> Result<(), AllocError>
+    ensures { OnOk result
+        (registers.new.items ≡ registers.old.items ++ screens.register_at places.now before.now after.now k) }
+{
+    let changed = is_changed(before, after, k);
+    match places.get(k) {
+        Some(place) => push_owner(registers, register_of(*place), changed),
+        None => Ok(()),
+    }
+}
+
+// The frame of the place of this number, if that place changed.
+#[tactic(auto, unfolding(crate::specs::Screens::frame_at))]
+fn push_frame(
+    frames: &mut Vec<u32>,
+    places: &[Place],
+    before: &[String],
+    after: &[String],
+    k: usize,
+) -> Result<(), AllocError>
+    ensures { OnOk result
+        (frames.new.items ≡ frames.old.items ++ screens.frame_at places.now before.now after.now k) }
+{
+    let changed = is_changed(before, after, k);
+    match places.get(k) {
+        Some(place) => push_owner(frames, frame_of(*place), changed),
+        None => Ok(()),
+    }
+}
+
+// The registers in which something changed.
+fn registers_changed(
+    alloc: Global,
+    places: &[Place],
+    before: &[String],
+    after: &[String],
+) -> Result<Vec<u32>, AllocError>
+    ensures { IfOk result
+        (λ registers. registers.items ≡ screens.registers_changed places.now before.now after.now) }
+{
+    let mut registers = Vec::new(alloc);
+    for k in 0..places.len() {
+        push_register(&mut registers, places, before, after, k)?;
+    }
+    Ok(registers)
+}
+
+// The frames in which something changed.
+fn frames_changed(
+    alloc: Global,
+    places: &[Place],
+    before: &[String],
+    after: &[String],
+) -> Result<Vec<u32>, AllocError>
+    ensures { IfOk result
+        (λ frames. frames.items ≡ screens.frames_changed places.now before.now after.now) }
+{
+    let mut frames = Vec::new(alloc);
+    for k in 0..places.len() {
+        push_frame(&mut frames, places, before, after, k)?;
+    }
+    Ok(frames)
+}
+
+fn has_number(numbers: &[u32], number: u32) -> bool
+    ensures { result ≡ list_any (λ n. n == number) numbers.now }
+{
+    numbers.iter().any(|n| *n == number)
+}
+
+fn is_among(number: Option<u32>, numbers: &[u32]) -> bool
+    ensures { result ≡ screens.is_among number numbers.now }
+{
+    match number {
+        Some(number) => has_number(numbers, number),
+        None => false,
+    }
+}
+
+impl Part {
+    // Whether a place is written.
+    fn has(&self, place: Place, is_changed: bool) -> bool
+        ensures { result ≡ screens.is_written self.now.is_whole self.now.registers.items self.now.frames.items place is_changed }
+    {
+        self.is_whole
+            || is_changed
+            || is_among(register_of(place), self.registers.as_slice())
+            || is_among(frame_of(place), self.frames.as_slice())
+    }
+}
+
 // The line of a place.
 fn push_line(
     alloc: Global,
     screen: &mut String,
+    part: &Part,
     place: Place,
     text: &str,
     is_changed: bool,
 ) -> Result<(), AllocError>
     ensures { OnOk result
-        (string_bytes screen.new ≡ string_bytes screen.old ++ screens.line_text place text.now is_changed) }
+        (string_bytes screen.new ≡ string_bytes screen.old ++ screens.line_text part.now.is_whole part.now.registers.items part.now.frames.items place text.now is_changed) }
 {
-    if !is_shown(place, text, is_changed) {
+    if !is_shown(place, text, is_changed) || !part.has(place, is_changed) {
         return Ok(());
     }
     let mark = if is_changed { "*" } else { " " };
@@ -94,49 +242,96 @@ fn text_at(texts: &[String], k: usize) -> &str
 fn push_line_at(
     alloc: Global,
     screen: &mut String,
+    part: &Part,
     places: &[Place],
     before: &[String],
     after: &[String],
     k: usize,
 ) -> Result<(), AllocError>
     ensures { OnOk result
-        (string_bytes screen.new ≡ string_bytes screen.old ++ screens.line_at places.now before.now after.now k) }
+        (string_bytes screen.new ≡ string_bytes screen.old ++ screens.line_at part.now.is_whole part.now.registers.items part.now.frames.items places.now before.now after.now k) }
 {
     let text = text_at(after, k);
     let changed = is_changed(before, after, k);
     match places.get(k) {
-        Some(place) => push_line(alloc, screen, *place, text, changed),
+        Some(place) => push_line(alloc, screen, part, *place, text, changed),
         None => Ok(()),
     }
 }
 
-// The lines of all places, in their order.
-fn push_picture(
+// The lines of the places, in their order.
+fn push_lines(
     alloc: Global,
     screen: &mut String,
+    part: &Part,
     places: &[Place],
     before: &[String],
     after: &[String],
 ) -> Result<(), AllocError>
     ensures { OnOk result
-        (string_bytes screen.new ≡ string_bytes screen.old ++ screens.picture_text places.now before.now after.now) }
+        (string_bytes screen.new ≡ string_bytes screen.old ++ screens.lines_text part.now.is_whole part.now.registers.items part.now.frames.items places.now before.now after.now) }
 {
     for k in 0..places.len() {
-        push_line_at(alloc, screen, places, before, after, k)?;
+        push_line_at(alloc, screen, part, places, before, after, k)?;
     }
     Ok(())
+}
+
+// A picture, whole or not.
+fn push_picture(
+    alloc: Global,
+    screen: &mut String,
+    is_whole: bool,
+    places: &[Place],
+    before: &[String],
+    after: &[String],
+) -> Result<(), AllocError>
+    ensures { OnOk result
+        (string_bytes screen.new ≡ string_bytes screen.old ++ screens.picture_text is_whole places.now before.now after.now) }
+{
+    let registers = registers_changed(alloc, places, before, after)?;
+    let frames = frames_changed(alloc, places, before, after)?;
+    let part = Part {
+        is_whole,
+        registers,
+        frames,
+    };
+    push_lines(alloc, screen, &part, places, before, after)
+}
+
+// The line of a recorded answer that isn't the machine's, or nothing.
+#[derive(Clone, Copy)]
+struct RecordedLine {
+    answer: Option<Answer>,
+}
+
+impl fmt::Display for RecordedLine {
+    ghost output = { λ line. Some (screens.recorded_text line.answer) };
+
+    fn fmt<W: fmt::Write>(&self, f: &mut fmt::Formatter<W>) -> fmt::Result {
+        match self.answer {
+            Some(answer) => write!(f, "  recorded: {answer}\n"),
+            None => Ok(()),
+        }
+    }
 }
 
 // The lines above a picture: which step it is, and what it did.
 fn push_head(screen: &mut String, step: &Step) -> Result<(), AllocError>
     ensures { OnOk result
-        (string_bytes screen.new ≡ string_bytes screen.old ++ screens.head_text step.now.number step.now.event step.now.answer (string_bytes step.now.words)) }
+        (string_bytes screen.new ≡ string_bytes screen.old ++ screens.head_text step.now.number step.now.made (string_bytes step.now.words)) }
 {
     let number = step.number;
-    let event = step.event;
-    let answer = step.answer;
+    let event = step.made.event;
+    let answer = step.made.answer;
+    let recorded = RecordedLine {
+        answer: step.made.other,
+    };
     let words = step.words.as_str();
-    write!(screen, "\nstep {number}: {event} -> {answer}\n  {words}\n")
+    write!(
+        screen,
+        "\nstep {number}: {event} -> {answer}\n{recorded}  {words}\n"
+    )
 }
 
 /// Screens, up to that of the step that was drawn last.
@@ -147,13 +342,24 @@ pub(crate) struct Screens {
 }
 
 impl Screens {
-    /// The screen of a machine before its first event.
-    pub(crate) fn new<M: PictureMachine>(alloc: Global, machine: &M) -> Result<Screens, AllocError>
-        ensures { IfOk result (λ first. screens.ScreensOpen (M.state machine.now) first) }
+    /// The screen of a machine over an image, before its first event.
+    pub(crate) fn new<M: PictureMachine>(
+        alloc: Global,
+        machine: &M,
+        image: &Image,
+    ) -> Result<Screens, AllocError>
+        ensures { IfOk result (λ first. screens.ScreensOpen image.now (M.state machine.now) first) }
     {
-        let film = Film::new(alloc, machine)?;
+        let film = Film::new(alloc, machine, image)?;
         let mut text = String::from_str(alloc, "step 0: the machine before the first event\n")?;
-        push_picture(alloc, &mut text, film.places(), film.texts(), film.texts())?;
+        push_picture(
+            alloc,
+            &mut text,
+            true,
+            film.places(),
+            film.texts(),
+            film.texts(),
+        )?;
         Ok(Screens { film, text })
     }
 
@@ -165,13 +371,16 @@ impl Screens {
         step: &Step,
     ) -> Result<(), AllocError>
         ensures { OnOk result
-            (screens.ScreensGoOn step.now.number (M.state machine.now) step.now.event step.now.answer self.old self.new) }
+            (screens.ScreensGoOn step.now.number step.now.is_whole (M.state machine.now) step.now.made (string_bytes step.now.words) self.old self.new) }
     {
-        let before = self.film.advance(alloc, machine, step.event, step.answer)?;
+        let before = self
+            .film
+            .advance(alloc, machine, step.made.event, step.made.answer)?;
         push_head(&mut self.text, step)?;
         push_picture(
             alloc,
             &mut self.text,
+            step.is_whole,
             self.film.places(),
             before.as_slice(),
             self.film.texts(),

@@ -1,26 +1,45 @@
-//! A trace, drawn.
+//! A trace or a recorded run, drawn.
 
+ghost use Rattle.std.specs.Prelude.{Some};
 ghost use Rattle.run_pictures.specs.Drawn.{Shows};
+ghost use Rattle.run_pictures.specs.Faults.{show_fault_text};
 
+use crate::asked::read_asked;
 use crate::drawing::Form;
 use crate::drawn::{MOST_EVENTS, draw_run};
 use crate::machine::PictureMachine;
+use memory_images::Image;
 use std::alloc::{AllocError, Global};
-use thiserror::Error;
-use trace_text::{Source, TraceFault, read_events};
+use std::error::Error;
+use std::fmt;
+use trace_text::{Source, TraceFault};
 
 /// Why a trace isn't drawn.
-#[derive(Clone, Copy, PartialEq, Eq, Debug, Error)]
+#[derive(Clone, Copy, PartialEq, Eq, Debug)]
 pub enum ShowFault {
     /// What the trace says, or a failed read.
-    #[error("{0}")]
     Trace(TraceFault),
     /// The trace has more than 10,000 events.
-    #[error("too many events: {most} at most are shown", most = MOST_EVENTS)]
     TooManyEvents,
     /// There was too little memory.
-    #[error("out of memory")]
     OutOfMemory,
+}
+
+impl Error for ShowFault {}
+
+/// The fault of the trace as it tells itself, `too many events: 10000 at most are shown`, or `out of memory`.
+impl fmt::Display for ShowFault {
+    ghost output = { λ fault. Some (show_fault_text fault) };
+
+    fn fmt<W: fmt::Write>(&self, f: &mut fmt::Formatter<W>) -> fmt::Result {
+        match self {
+            ShowFault::Trace(fault) => write!(f, "{fault}"),
+            ShowFault::TooManyEvents => {
+                write!(f, "too many events: {MOST_EVENTS} at most are shown")
+            }
+            ShowFault::OutOfMemory => f.write_str("out of memory"),
+        }
+    }
 }
 
 impl From<AllocError> for ShowFault {
@@ -45,23 +64,29 @@ impl From<TraceFault> for ShowFault {
     }
 }
 
-/// Draws the walk of a machine over the events of a trace: the text of the machine before the first of
-/// them, and behind each. Lines that only show something are passed over. What loads are owed is drawn
-/// from memory of zeros on, so the machine is one in which nothing has happened, over zeros.
+/// Draws the walk of a machine over the events of a trace or of a recorded run: the text of the machine
+/// before the first of them, and behind each. Lines that only show something are passed over. An answer
+/// that was recorded is compared with the machine's own, which is drawn; if it is another one, it is told
+/// beside that. What loads are owed is drawn from memory of the image on, so the machine is one in which
+/// nothing has happened, over this image.
 ///
-/// `Trace` is the fault with which [`read_events`] ended, of a faulty line for one, and goes before the
-/// other faults. `TooManyEvents` says that there are more than 10,000 events, and `OutOfMemory` that
-/// there was too little memory to draw.
+/// A line is read as by [`read_line`](trace_text::read_line), and if it is none of a trace as by
+/// [`read_pair`](trace_text::read_pair). `Trace` is the first fault, in the order of
+/// [`read_requests`](trace_text::read_requests), of a faulty line for one, and goes before the other
+/// faults: a line that is neither has the trace's fault, or, if it has more than 64 bytes, the recorded
+/// run's. `TooManyEvents` says that there are more than 10,000 events, and `OutOfMemory` that there was
+/// too little memory to draw.
 pub fn show_text<R: Source, M: PictureMachine>(
     alloc: Global,
     reader: &mut R,
     machine: &mut M,
+    image: &Image,
     form: Form,
 ) -> Result<String, ShowFault>
-    ensures { Shows R.gave R.failed form (M.state machine.old) reader.old reader.new result }
+    ensures { Shows R.gave R.failed form image.now (M.state machine.old) reader.old reader.new result }
 {
-    let Some(events) = read_events(alloc, reader, MOST_EVENTS)? else {
+    let Some(all) = read_asked(alloc, reader)? else {
         return Err(ShowFault::TooManyEvents);
     };
-    Ok(draw_run(alloc, machine, form, events.as_slice())?)
+    Ok(draw_run(alloc, machine, image, form, all.as_slice())?)
 }

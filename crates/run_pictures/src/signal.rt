@@ -5,8 +5,11 @@ ghost use Rattle.memory_banks.specs.Banks.{bank_at};
 ghost use Rattle.run_pictures.specs.Numbered.{text_of};
 ghost use Rattle.run_pictures.specs.Waves as waves;
 
+use crate::level::Level;
 use crate::machine::{Extent, PictureMachine};
 use crate::numbered::Numbered;
+use crate::step::Made;
+use flat_model::{Answer, Event};
 use miss_registers::RegisterView;
 use std::alloc::{AllocError, Global};
 use std::fmt;
@@ -14,6 +17,19 @@ use std::fmt;
 /// What a signal of a waveform follows. Numbers count from 0.
 #[derive(Clone, Copy, PartialEq, Eq, Debug)]
 pub enum Signal {
+    /// The event's kind, as a word: `load` and the like, and `start` before the first event.
+    EventKind,
+    /// The tag of a load, or of the value that is taken.
+    Tag,
+    /// The address of the word that a load, store or prefetch asks for.
+    Address,
+    /// The machine's answer without its numbers, as a word: `accepted` and the like, and `none` before
+    /// the first event.
+    AnswerKind,
+    /// The number of the cause of a refusal.
+    Cause,
+    /// Whether another answer was recorded: one bit.
+    Differs,
     /// Whether a register stands for a block: one bit.
     Valid { slot: u32 },
     /// Whether its block lost its frame: one bit.
@@ -46,6 +62,12 @@ fn name_of(signal: Signal) -> Numbered
     ensures { text_of result ≡ waves.name_text signal }
 {
     match signal {
+        Signal::EventKind => Numbered::Word("event"),
+        Signal::Tag => Numbered::Word("tag"),
+        Signal::Address => Numbered::Word("address"),
+        Signal::AnswerKind => Numbered::Word("answer"),
+        Signal::Cause => Numbered::Word("cause"),
+        Signal::Differs => Numbered::Word("differs"),
         Signal::Valid { slot } => Numbered::Between("reg", slot, "_valid"),
         Signal::Obsolete { slot } => Numbered::Between("reg", slot, "_obsolete"),
         Signal::Block { slot } => Numbered::Between("reg", slot, "_block"),
@@ -58,48 +80,161 @@ fn name_of(signal: Signal) -> Numbered
 }
 
 impl Signal {
-    /// How many bits it has: 1 or 32.
+    /// How many bits it has: 1, 16 or 32. A word is declared as one.
     pub fn width(self) -> u32
         ensures { result ≡ waves.width_of self }
     {
         match self {
+            Signal::EventKind | Signal::AnswerKind | Signal::Differs => 1,
             Signal::Valid { .. } | Signal::Obsolete { .. } => 1,
+            Signal::Tag => 16,
             _ => 32,
         }
     }
 
-    /// Its value, in a machine of this state.
-    pub fn value<M: PictureMachine>(self, machine: &M) -> u32
-        ensures { result ≡ waves.value_of (M.state machine.now) self }
+    /// What it is declared as: a word, or bits.
+    pub(crate) fn type_word(self) -> &'static str
+        ensures { result.now ≡ waves.type_text self }
     {
         match self {
-            Signal::Valid { slot } => valid_bit(machine.register(slot)),
-            Signal::Obsolete { slot } => obsolete_bit(machine.register(slot)),
-            Signal::Block { slot } => block_number(machine.register(slot)),
-            Signal::Stack => machine.stack_len(),
-            Signal::Queue => machine.queue_len(),
-            Signal::Commands { bank } => machine.commands(bank),
-            Signal::Answers { bank } => machine.answers(bank),
-            Signal::Replies => machine.replies_len(),
+            Signal::EventKind | Signal::AnswerKind => "string",
+            _ => "wire",
+        }
+    }
+
+    /// What it stands at behind an event that was made, or before the first one, in a machine of this state.
+    pub(crate) fn level<M: PictureMachine>(self, machine: &M, made: Option<Made>) -> Level
+        ensures { waves.level_text result ≡ waves.value_text made (M.state machine.now) self }
+    {
+        match self {
+            Signal::EventKind => Level::Kind(event_word(made)),
+            Signal::Tag => Level::known(tag_of(made)),
+            Signal::Address => Level::known(address_of(made)),
+            Signal::AnswerKind => Level::Kind(answer_word(made)),
+            Signal::Cause => Level::known(cause_of(made)),
+            Signal::Differs => Level::Bit(is_other(made)),
+            Signal::Valid { slot } => Level::Bit(is_valid(machine.register(slot))),
+            Signal::Obsolete { slot } => Level::Bit(is_obsolete(machine.register(slot))),
+            Signal::Block { slot } => Level::Number(block_number(machine.register(slot))),
+            Signal::Stack => Level::Number(machine.stack_len()),
+            Signal::Queue => Level::Number(machine.queue_len()),
+            Signal::Commands { bank } => Level::Number(machine.commands(bank)),
+            Signal::Answers { bank } => Level::Number(machine.answers(bank)),
+            Signal::Replies => Level::Number(machine.replies_len()),
         }
     }
 }
 
-fn valid_bit(register: Option<RegisterView>) -> u32
-    ensures { result ≡ waves.valid_bit register }
+// The kind of an event, or that none was made yet.
+fn event_word(made: Option<Made>) -> &'static str
+    ensures { result.now ≡ waves.event_word made }
 {
-    match register {
-        Some(register) => u32::from(register.valid),
-        None => 0,
+    match made {
+        Some(made) => event_kind(made.event),
+        None => "start",
     }
 }
 
-fn obsolete_bit(register: Option<RegisterView>) -> u32
-    ensures { result ≡ waves.obsolete_bit register }
+fn event_kind(event: Event) -> &'static str
+    ensures { result.now ≡ waves.event_kind event }
+{
+    match event {
+        Event::Load { .. } => "load",
+        Event::Store { .. } => "store",
+        Event::Prefetch { .. } => "prefetch",
+        Event::Evict { .. } => "evict",
+        Event::Drain => "drain",
+        Event::Serve { .. } => "serve",
+        Event::Arrive { .. } => "arrive",
+        Event::Process { .. } => "process",
+        Event::Take { .. } => "take",
+    }
+}
+
+// The kind of an answer, or that there is none yet.
+fn answer_word(made: Option<Made>) -> &'static str
+    ensures { result.now ≡ waves.answer_word made }
+{
+    match made {
+        Some(made) => answer_kind(made.answer),
+        None => "none",
+    }
+}
+
+fn answer_kind(answer: Answer) -> &'static str
+    ensures { result.now ≡ waves.answer_kind answer }
+{
+    match answer {
+        Answer::Accepted => "accepted",
+        Answer::Moved => "moved",
+        Answer::Value { .. } => "value",
+        Answer::Nothing => "nothing",
+        Answer::Refused(_) => "refused",
+    }
+}
+
+fn tag_of(made: Option<Made>) -> Option<u32>
+    ensures { result ≡ waves.tag_of made }
+{
+    let made = made?;
+    match made.event {
+        Event::Load { tag, .. } => Some(u32::from(tag)),
+        _ => value_tag(made.answer),
+    }
+}
+
+fn value_tag(answer: Answer) -> Option<u32>
+    ensures { result ≡ waves.value_tag answer }
+{
+    match answer {
+        Answer::Value { tag, .. } => Some(u32::from(tag)),
+        _ => None,
+    }
+}
+
+fn address_of(made: Option<Made>) -> Option<u32>
+    ensures { result ≡ waves.address_of made }
+{
+    match made?.event {
+        Event::Load { at, .. } | Event::Store { at, .. } | Event::Prefetch { at } => Some(at),
+        _ => None,
+    }
+}
+
+fn cause_of(made: Option<Made>) -> Option<u32>
+    ensures { result ≡ waves.cause_of made }
+{
+    match made?.answer {
+        Answer::Refused(cause) => Some(u32::from(cause.number())),
+        _ => None,
+    }
+}
+
+// Whether another answer was recorded.
+fn is_other(made: Option<Made>) -> bool
+    ensures { result ≡ waves.is_other made }
+{
+    match made {
+        Some(made) => made.other.is_some(),
+        None => false,
+    }
+}
+
+fn is_valid(register: Option<RegisterView>) -> bool
+    ensures { result ≡ waves.is_valid register }
 {
     match register {
-        Some(register) => u32::from(register.obsolete),
-        None => 0,
+        Some(register) => register.valid,
+        None => false,
+    }
+}
+
+fn is_obsolete(register: Option<RegisterView>) -> bool
+    ensures { result ≡ waves.is_obsolete register }
+{
+    match register {
+        Some(register) => register.obsolete,
+        None => false,
     }
 }
 
@@ -110,6 +245,21 @@ fn block_number(register: Option<RegisterView>) -> u32
         Some(register) => register.block,
         None => 0,
     }
+}
+
+// The signals of an event.
+fn push_event(signals: &mut Vec<Signal>) -> Result<(), AllocError>
+    ensures { OnOk result (signals.new.items ≡ signals.old.items ++ waves.event_signals) }
+{
+    signals.extend_from_slice(&[
+        Signal::EventKind,
+        Signal::Tag,
+        Signal::Address,
+        Signal::AnswerKind,
+        Signal::Cause,
+        Signal::Differs,
+    ])?;
+    Ok(())
 }
 
 // The signals of a register.
@@ -157,6 +307,7 @@ pub(crate) fn signals_of(alloc: Global, extent: &Extent) -> Result<Vec<Signal>, 
     ensures { IfOk result (λ signals. signals.items ≡ waves.signals_in extent.now) }
 {
     let mut signals = Vec::new(alloc);
+    push_event(&mut signals)?;
     push_registers(&mut signals, extent)?;
     signals.push(Signal::Stack)?;
     signals.push(Signal::Queue)?;

@@ -1,13 +1,14 @@
 //! A waveform of a machine, as a value change dump (VCD).
 
-ghost use Rattle.std.specs.Prelude.{◌≡◌, ◌++◌, [], codes, length, slice_get, Some, OnOk, IfOk};
+ghost use Rattle.std.specs.Prelude.{◌≡◌, ◌++◌, [], codes, length, map, slice_get, OnOk, IfOk};
 ghost use Rattle.std.specs.List.{flat_map, range_with_len};
 ghost use Rattle.std.specs.String.{string_bytes};
 ghost use Rattle.run_pictures.specs.Waves as waves;
 
+use crate::film::is_changed;
 use crate::machine::PictureMachine;
 use crate::signal::{Signal, signals_of};
-use crate::step::Step;
+use crate::step::{Made, Step};
 use std::alloc::{AllocError, Global};
 
 fn signal_at(signals: &[Signal], k: usize) -> Option<Signal>
@@ -27,8 +28,9 @@ fn push_declaration(wave: &mut String, signals: &[Signal], k: usize) -> Result<(
 {
     match signal_at(signals, k) {
         Some(signal) => {
+            let kind = signal.type_word();
             let width = signal.width();
-            write!(wave, "$var wire {width} s{k} {signal} $end\n")
+            write!(wave, "$var {kind} {width} s{k} {signal} $end\n")
         }
         None => Ok(()),
     }
@@ -54,115 +56,84 @@ fn declarations(alloc: Global, signals: &[Signal]) -> Result<String, AllocError>
     Ok(wave)
 }
 
-// The value of the signal of this number.
-fn push_value(wave: &mut String, signal: Signal, k: usize, value: u32) -> Result<(), AllocError>
-    ensures { OnOk result
-        (string_bytes wave.new ≡ string_bytes wave.old ++ waves.value_text (Some signal) k (Some value)) }
-{
-    if signal.width() == 1 {
-        write!(wave, "{value}s{k}\n")
-    } else {
-        write!(wave, "b{value:b} s{k}\n")
-    }
-}
-
-// The values of all signals.
+// The values of all signals, as they are written in front of them.
 fn values_of<M: PictureMachine>(
     alloc: Global,
     machine: &M,
+    made: Option<Made>,
     signals: &[Signal],
-) -> Result<Vec<u32>, AllocError>
+) -> Result<Vec<String>, AllocError>
     ensures { IfOk result
-        (λ values. values.items ≡ waves.values_of (M.state machine.now) signals.now) }
+        (λ values. map string_bytes values.items ≡ waves.values_of made (M.state machine.now) signals.now) }
 {
     let mut values = Vec::with_capacity(alloc, signals.len())?;
     for signal in signals {
-        values.push(signal.value(machine))?;
+        values.push(value_text(alloc, machine, made, *signal)?)?;
     }
     Ok(values)
 }
 
-fn value_at(values: &[u32], k: usize) -> Option<u32>
-    ensures { result ≡ slice_get values.now k }
+// The value of a signal.
+fn value_text<M: PictureMachine>(
+    alloc: Global,
+    machine: &M,
+    made: Option<Made>,
+    signal: Signal,
+) -> Result<String, AllocError>
+    ensures { IfOk result
+        (λ value. string_bytes value ≡ waves.value_text made (M.state machine.now) signal) }
+{
+    let level = signal.level(machine, made);
+    format!(in alloc; "{level}")
+}
+
+// The value of the signal of this number.
+fn push_value(wave: &mut String, values: &[String], k: usize) -> Result<(), AllocError>
+    ensures { OnOk result
+        (string_bytes wave.new ≡ string_bytes wave.old ++ waves.value_line k (slice_get values.now k)) }
 {
     match values.get(k) {
-        Some(value) => Some(*value),
-        None => None,
+        Some(value) => write!(wave, "{value}s{k}\n"),
+        None => Ok(()),
     }
 }
 
-// Whether a value is that of before.
-fn is_same(before: Option<u32>, value: Option<u32>) -> bool
-    ensures { result ≡ waves.is_same before value }
-{
-    match (before, value) {
-        (Some(old), Some(new)) => old == new,
-        (Some(_), None) => false,
-        (None, Some(_)) => false,
-        (None, None) => true,
-    }
-}
-
-// The value of a signal, if there are both.
-fn push_known(
-    wave: &mut String,
-    signal: Option<Signal>,
-    k: usize,
-    value: Option<u32>,
-) -> Result<(), AllocError>
-    ensures { OnOk result
-        (string_bytes wave.new ≡ string_bytes wave.old ++ waves.value_text signal k value) }
-{
-    match (signal, value) {
-        (Some(signal), Some(value)) => push_value(wave, signal, k, value),
-        (Some(_), None) => Ok(()),
-        (None, _) => Ok(()),
-    }
-}
-
-// The value of the signal of this number, if it isn't that of before.
+// The same, if it isn't that of before.
 #[tactic(auto, unfolding(crate::specs::Waves::change_text))]
 fn push_change(
     wave: &mut String,
-    signals: &[Signal],
-    before: &[u32],
-    values: &[u32],
+    before: &[String],
+    values: &[String],
     k: usize,
 ) -> Result<(), AllocError>
     ensures { OnOk result
-        (string_bytes wave.new ≡ string_bytes wave.old ++ waves.change_text signals.now before.now values.now k) }
+        (string_bytes wave.new ≡ string_bytes wave.old ++ waves.change_text before.now values.now k) }
 {
-    let value = value_at(values, k);
-    if is_same(value_at(before, k), value) {
-        Ok(())
+    if is_changed(before, values, k) {
+        push_value(wave, values, k)
     } else {
-        push_known(wave, signal_at(signals, k), k, value)
+        Ok(())
     }
 }
 
 // The values that aren't those of before, if there was one.
-fn push_changes(
-    wave: &mut String,
-    signals: &[Signal],
-    before: &[u32],
-    values: &[u32],
-) -> Result<(), AllocError>
+fn push_changes(wave: &mut String, before: &[String], values: &[String]) -> Result<(), AllocError>
     ensures { OnOk result
-        (string_bytes wave.new ≡ string_bytes wave.old ++ waves.changes_text signals.now before.now values.now) }
+        (string_bytes wave.new ≡ string_bytes wave.old ++ waves.changes_text before.now values.now) }
 {
-    for k in 0..signals.len() {
-        push_change(wave, signals, before, values, k)?;
+    for k in 0..values.len() {
+        push_change(wave, before, values, k)?;
     }
     Ok(())
 }
 
 // The text before the first event: the declarations, and the values.
-fn opening_text(alloc: Global, signals: &[Signal], values: &[u32]) -> Result<String, AllocError>
-    ensures { IfOk result (λ text. string_bytes text ≡ waves.declarations_text signals.now ++ (codes "#0\n$dumpvars\n" ++ (waves.changes_text signals.now [] values.now ++ codes "$end\n"))) }
+fn opening_text(alloc: Global, signals: &[Signal], values: &[String]) -> Result<String, AllocError>
+    ensures { IfOk result (λ text. string_bytes text ≡ waves.declarations_text signals.now ++ (codes "#0\n$dumpvars\n" ++ (waves.changes_text [] values.now ++ codes "$end\n"))) }
 {
     let mut text = declarations(alloc, signals)?;
     text.push_str("#0\n$dumpvars\n")?;
-    push_changes(&mut text, signals, &[], values)?;
+    push_changes(&mut text, &[], values)?;
     text.push_str("$end\n")?;
     Ok(text)
 }
@@ -171,7 +142,7 @@ fn opening_text(alloc: Global, signals: &[Signal], values: &[u32]) -> Result<Str
 #[derive(Drop)]
 pub(crate) struct Waveform {
     signals: Vec<Signal>,
-    values: Vec<u32>,
+    values: Vec<String>,
     text: String,
 }
 
@@ -181,7 +152,7 @@ impl Waveform {
         ensures { IfOk result (λ wave. waves.WaveOpens (M.state machine.now) wave) }
     {
         let signals = signals_of(alloc, &machine.extent())?;
-        let values = values_of(alloc, machine, signals.as_slice())?;
+        let values = values_of(alloc, machine, None, signals.as_slice())?;
         let text = opening_text(alloc, signals.as_slice(), values.as_slice())?;
         Ok(Waveform {
             signals,
@@ -198,18 +169,13 @@ impl Waveform {
         step: &Step,
     ) -> Result<(), AllocError>
         ensures { OnOk result
-            (waves.WaveGoesOn step.now.number (M.state machine.now) self.old self.new) }
+            (waves.WaveGoesOn step.now.number (M.state machine.now) step.now.made self.old self.new) }
     {
         let signals = self.signals.as_slice();
-        let values = values_of(alloc, machine, signals)?;
+        let values = values_of(alloc, machine, Some(step.made), signals)?;
         let number = step.number;
         write!(&mut self.text, "#{number}\n")?;
-        push_changes(
-            &mut self.text,
-            signals,
-            self.values.as_slice(),
-            values.as_slice(),
-        )?;
+        push_changes(&mut self.text, self.values.as_slice(), values.as_slice())?;
         self.values = values;
         Ok(())
     }

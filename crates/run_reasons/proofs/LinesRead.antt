@@ -1,12 +1,13 @@
 -- What a byte makes of the lines that were read.
 use Rattle.std.proofs.Common.{◌≡◌, ◌≢◌, ℕ, ◌+◌, ◌^◌, ◌<◌, ◌≤◌, Option, Some, None, Result, Ok, Err, OnOk, IfErr, List, [], ◌∷◌, ◌++◌, length, length-append, append-nil, append_assoc, refl, sym, ◌∙◌, ap, subst, arith}
+use Rattle.flat_model.specs.declared.Word.{Word}
 use Rattle.flat_model.specs.declared.Event.{Event}
 use Rattle.flat_model.specs.declared.Answer.{Answer}
-use Rattle.flat_model.specs.Flat.{flat_step}
+use Rattle.flat_model.specs.Flat.{opening, flat_step}
 use Rattle.trace_text.specs.Reading.{IsGood, Good, fault_of}
 use Rattle.trace_text.specs.Pairs.{pair_of}
 use Rattle.trace_text.specs.Recorded.{recorded}
-use Rattle.trace_text.specs.Checks.{step_of, step_with, zeros, pair_fault, JudgedFrom}
+use Rattle.trace_text.specs.Checks.{step_of, step_with, pair_fault, JudgedFrom}
 use Rattle.trace_text.specs.declared.check.Step.{Step}
 use Rattle.trace_text.specs.declared.fault.TheConstants.{MAX_PAIR}
 use Rattle.trace_text.specs.declared.lines.LineFault.{LineFault}
@@ -36,7 +37,7 @@ from_more n o (t ∷ ts) text =
     let same : (n + 1) + length ts ≡ n + length (t ∷ ts) = omega arith in
     from_more (n + 1) p ts text ∙ ap (λ k. origins_then (origins_from (n + 1) p ts) k (step_of (pair_of text))) same
 
-origins_more : (words : ℕ) (texts : List (List ℕ)) (text : List ℕ) (s : Option Step) → step_of (pair_of text) ≡ s
+origins_more : (words : List Word) (texts : List (List ℕ)) (text : List ℕ) (s : Option Step) → step_of (pair_of text) ≡ s
     → origins_of words (texts ++ text ∷ []) ≡ origins_then (origins_of words texts) (length texts + 1) s
 origins_more words texts text s e =
     let same : 1 + length texts ≡ length texts + 1 = omega arith in
@@ -50,7 +51,7 @@ recorded_step pair event answer e = ap (λ (p : Pair). step_with p.line p.answer
 
 -- ---- a byte that ends no line
 
-pub read_char : {words : ℕ} {bytes : List ℕ} (r r' : Lines) (b : ℕ) → HasRead words bytes r → b ≢ 10 → length r.pending.items + 1 ≤ MAX_PAIR → r.count < most_lines
+pub read_char : {words : List Word} {bytes : List ℕ} (r r' : Lines) (b : ℕ) → HasRead words bytes r → b ≢ 10 → length r.pending.items + 1 ≤ MAX_PAIR → r.count < most_lines
     → r'.pending.items ≡ r.pending.items ++ b ∷ [] → r'.count ≡ r.count → r'.steps ≡ r.steps → shown r'.explainer ≡ shown r.explainer
     → HasRead words (bytes ++ b ∷ []) r'
 read_char {words = words} {bytes = bytes} r r' b h ne short few pending count steps explainer =
@@ -70,7 +71,7 @@ read_char {words = words} {bytes = bytes} r r' b h ne short few pending count st
 
 -- ---- a line that ends
 
-ended : {words : ℕ} {bytes : List ℕ} (r r' : Lines) (h : HasRead words bytes r) → pair_fault r.pending.items ≡ None
+ended : {words : List Word} {bytes : List ℕ} (r r' : Lines) (h : HasRead words bytes r) → pair_fault r.pending.items ≡ None
     → r'.pending.items ≡ [] → r'.count ≡ r.count + 1 → IsFlat words (h.texts ++ r.pending.items ∷ []) r'.steps → shown r'.explainer ≡ origins_of words (h.texts ++ r.pending.items ∷ [])
     → HasRead words (bytes ++ 10 ∷ []) r'
 ended {words = words} {bytes = bytes} r r' h good pending count flat origins =
@@ -93,19 +94,19 @@ no_fault : (text : List ℕ) (pair : Pair) → pair_of text ≡ Ok pair → pair
 no_fault text pair read = ap fault_of read
 
 -- a line that is no step
-pub read_still : {words : ℕ} {bytes : List ℕ} (r r' : Lines) (pair : Pair) → HasRead words bytes r → pair_of r.pending.items ≡ Ok pair → step_with pair.line pair.answer ≡ None
+pub read_still : {words : List Word} {bytes : List ℕ} (r r' : Lines) (pair : Pair) → HasRead words bytes r → pair_of r.pending.items ≡ Ok pair → step_with pair.line pair.answer ≡ None
     → r'.pending.items ≡ [] → r'.count ≡ r.count + 1 → r'.steps ≡ r.steps → shown r'.explainer ≡ shown r.explainer
     → HasRead words (bytes ++ 10 ∷ []) r'
 read_still {words = words} r r' pair h read none pending count steps explainer =
     let text = r.pending.items in
     let o = origins_of words h.texts in
     let more : origins_of words (h.texts ++ text ∷ []) ≡ o = origins_more words h.texts text None (step_of_pair text pair None read none) in
-    let flat : JudgedFrom (zeros words) (h.texts ++ text ∷ []) r.steps None o.flat = judged_still (zeros words) o.flat h.texts text pair r.steps None (sym read) (sym none) h.text.flat in
-    let whole : IsFlat words (h.texts ++ text ∷ []) r.steps = subst (λ (p : Origins). JudgedFrom (zeros words) (h.texts ++ text ∷ []) r.steps None p.flat) (sym more) flat in
+    let flat : JudgedFrom (opening words) (h.texts ++ text ∷ []) r.steps None o.flat = judged_still (opening words) o.flat h.texts text pair r.steps None (sym read) (sym none) h.text.flat in
+    let whole : IsFlat words (h.texts ++ text ∷ []) r.steps = subst (λ (p : Origins). JudgedFrom (opening words) (h.texts ++ text ∷ []) r.steps None p.flat) (sym more) flat in
     ended r r' h (no_fault text pair read) pending count (subst (IsFlat words (h.texts ++ text ∷ [])) (sym steps) whole) (explainer ∙ h.origins ∙ sym more)
 
 -- a step of flat memory
-pub read_step : {words : ℕ} {bytes : List ℕ} (r r' : Lines) (pair : Pair) (event : Event) (answer : Answer) (number : ℕ) → HasRead words bytes r
+pub read_step : {words : List Word} {bytes : List ℕ} (r r' : Lines) (pair : Pair) (event : Event) (answer : Answer) (number : ℕ) → HasRead words bytes r
     → pair_of r.pending.items ≡ Ok pair → pair ≡ recorded event answer → number ≡ r.count + 1
     → flat_step (shown r.explainer).flat event answer ≡ Some (shown r'.explainer).flat → shown r'.explainer ≡ origins_after (shown r.explainer) number event answer
     → r'.pending.items ≡ [] → r'.count ≡ r.count + 1 → r'.steps ≡ r.steps + 1
@@ -121,13 +122,13 @@ read_step {words = words} r r' pair event answer number h read is at step after 
     after ∙ ap (λ (x : Origins). origins_after x number event answer) h.origins ∙ ap (λ n. origins_after o n event answer) place ∙ sym more in
     let next = (shown r'.explainer).flat in
     let makes : flat_step o.flat event answer ≡ Some next = ap (λ (x : Origins). flat_step x.flat event answer) (sym h.origins) ∙ step in
-    let flat : JudgedFrom (zeros words) (h.texts ++ text ∷ []) r'.steps None next =
-    judged_more (zeros words) o.flat h.texts text pair s number r.steps None next r'.steps None (sym read) (sym some) place h.text.flat (makes, steps) in
-    ended r r' h (no_fault text pair read) pending count (subst (λ (p : Origins). JudgedFrom (zeros words) (h.texts ++ text ∷ []) r'.steps None p.flat) new flat) new
+    let flat : JudgedFrom (opening words) (h.texts ++ text ∷ []) r'.steps None next =
+    judged_more (opening words) o.flat h.texts text pair s number r.steps None next r'.steps None (sym read) (sym some) place h.text.flat (makes, steps) in
+    ended r r' h (no_fault text pair read) pending count (subst (λ (p : Origins). JudgedFrom (opening words) (h.texts ++ text ∷ []) r'.steps None p.flat) new flat) new
 
 -- ---- where a reading ends
 
-pub ends_in : {words : ℕ} {bytes : List ℕ} (r : Lines) (b : ℕ) (why : Stop) (h : HasRead words bytes r) → EndsAt words h.texts (r.pending.items ++ b ∷ []) why → EndsIn words (bytes ++ b ∷ []) why
+pub ends_in : {words : List Word} {bytes : List ℕ} (r : Lines) (b : ℕ) (why : Stop) (h : HasRead words bytes r) → EndsAt words h.texts (r.pending.items ++ b ∷ []) why → EndsIn words (bytes ++ b ∷ []) why
 ends_in {words = words} {bytes = bytes} r b why h ends = record {
   texts = h.texts;
   found = r.pending.items ++ b ∷ [];
@@ -139,7 +140,7 @@ ends_in {words = words} {bytes = bytes} r b why h ends = record {
 }
 
 -- whatever follows
-pub ends_more : {words : ℕ} {bytes : List ℕ} (why : Stop) (more : List ℕ) → EndsIn words bytes why → EndsIn words (bytes ++ more) why
+pub ends_more : {words : List Word} {bytes : List ℕ} (why : Stop) (more : List ℕ) → EndsIn words bytes why → EndsIn words (bytes ++ more) why
 ends_more {words = words} {bytes = bytes} why more p = record {
   texts = p.texts;
   found = p.found;
@@ -150,28 +151,28 @@ ends_more {words = words} {bytes = bytes} why more p = record {
   ends = p.ends;
 }
 
-pub ends_too_many : {words : ℕ} {bytes : List ℕ} (r : Lines) (b : ℕ) → HasRead words bytes r → r.count ≡ most_lines → EndsIn words (bytes ++ b ∷ []) (stop.Fault fault.TooManyLines)
+pub ends_too_many : {words : List Word} {bytes : List ℕ} (r : Lines) (b : ℕ) → HasRead words bytes r → r.count ≡ most_lines → EndsIn words (bytes ++ b ∷ []) (stop.Fault fault.TooManyLines)
 ends_too_many r b h full = ends_in r b (stop.Fault fault.TooManyLines) h (sym h.number ∙ full, omega (arith, length-append r.pending.items (b ∷ [])))
 
-pub ends_long : {words : ℕ} {bytes : List ℕ} (r : Lines) (b number : ℕ) → HasRead words bytes r → b ≢ 10 → length r.pending.items ≡ MAX_PAIR → number ≡ r.count + 1 → EndsIn words (bytes ++ b ∷ []) (stop.Fault (fault.Line number TooLong))
+pub ends_long : {words : List Word} {bytes : List ℕ} (r : Lines) (b number : ℕ) → HasRead words bytes r → b ≢ 10 → length r.pending.items ≡ MAX_PAIR → number ≡ r.count + 1 → EndsIn words (bytes ++ b ∷ []) (stop.Fault (fault.Line number TooLong))
 ends_long r b number h ne long at =
     let found : List ℕ = r.pending.items ++ b ∷ [] in
     ends_in r b (stop.Fault (fault.Line number TooLong)) h
     (omega (arith, at, h.number), begins_long pair_fault MAX_PAIR found (omega (arith, long, length-append r.pending.items (b ∷ []))) (none_more r.pending.items b ne h.text.unfinished))
 
-pub ends_faulty : {words : ℕ} {bytes : List ℕ} (r : Lines) (number : ℕ) (f : LineFault) → HasRead words bytes r → number ≡ r.count + 1 → pair_of r.pending.items ≡ Err f → EndsIn words (bytes ++ 10 ∷ []) (stop.Fault (fault.Line number f))
+pub ends_faulty : {words : List Word} {bytes : List ℕ} (r : Lines) (number : ℕ) (f : LineFault) → HasRead words bytes r → number ≡ r.count + 1 → pair_of r.pending.items ≡ Err f → EndsIn words (bytes ++ 10 ∷ []) (stop.Fault (fault.Line number f))
 ends_faulty r number f h at said =
     ends_in r 10 (stop.Fault (fault.Line number f)) h (omega (arith, at, h.number), begins_faulty r.pending.items f h.text.short h.text.unfinished said)
 
-mismatch_ends : (words : ℕ) (texts : List (List ℕ)) (text : List ℕ) (steps : ℕ) (pair : Pair) (event : Event) (answer : Answer) → IsFlat words texts steps → IsGood pair_fault MAX_PAIR text
+mismatch_ends : (words : List Word) (texts : List (List ℕ)) (text : List ℕ) (steps : ℕ) (pair : Pair) (event : Event) (answer : Answer) → IsFlat words texts steps → IsGood pair_fault MAX_PAIR text
     → pair_of text ≡ Ok pair → pair ≡ recorded event answer → flat_step (origins_of words texts).flat event answer ≡ None
     → IsMismatch words texts (text ++ 10 ∷ []) (mismatch_at (origins_of words texts) (length texts + 1) event answer)
 mismatch_ends words texts text steps pair event answer flat good read is none =
     let o = origins_of words texts in
     let n : ℕ = length texts + 1 in
     let s : Step = record { event = event; answer = answer } in
-    let judged : JudgedFrom (zeros words) (texts ++ text ∷ []) steps (Some n) o.flat =
-    judged_more (zeros words) o.flat texts text pair s n steps None o.flat steps (Some n) (sym read) (sym (recorded_step pair event answer is)) refl flat (none, refl, refl) in
+    let judged : JudgedFrom (opening words) (texts ++ text ∷ []) steps (Some n) o.flat =
+    judged_more (opening words) o.flat texts text pair s n steps None o.flat steps (Some n) (sym read) (sym (recorded_step pair event answer is)) refl flat (none, refl, refl) in
     record {
       text = text;
       ended = refl;
@@ -179,10 +180,10 @@ mismatch_ends words texts text steps pair event answer flat good read is none =
       pair = read ∙ ap (λ p. Ok p) is;
       not_flat = none;
       why = refl;
-      checked = judged_mismatch words (zeros words) o.flat (texts ++ text ∷ []) steps n (Some n) refl judged refl;
+      checked = judged_mismatch (opening words) o.flat (texts ++ text ∷ []) steps n (Some n) judged refl;
     }
 
-pub ends_step : {words : ℕ} {bytes : List ℕ} (r : Lines) (pair : Pair) (event : Event) (answer : Answer) (number : ℕ) (why : Stop) → HasRead words bytes r
+pub ends_step : {words : List Word} {bytes : List ℕ} (r : Lines) (pair : Pair) (event : Event) (answer : Answer) (number : ℕ) (why : Stop) → HasRead words bytes r
     → pair_of r.pending.items ≡ Ok pair → pair ≡ recorded event answer → number ≡ r.count + 1 → StepEnds (shown r.explainer) number event answer why
     → EndsIn words (bytes ++ 10 ∷ []) why
 ends_step {words = words} r pair event answer number (stop.Mismatch m) h read is at ends =
@@ -207,7 +208,7 @@ if_err (Ok x) f p = tt
 if_err (Err e) f p = f e p
 
 -- a line that ends leaves fewer bytes to be read
-pub left_less : {words : ℕ} {bytes : List ℕ} (r r' : Lines) (number : ℕ) → HasRead words bytes r → number < 2 ^ 64 → number ≡ r.count + 1 → r'.count ≡ number → r'.pending.items ≡ [] → bytes_left r' + 1 ≤ bytes_left r
+pub left_less : {words : List Word} {bytes : List ℕ} (r r' : Lines) (number : ℕ) → HasRead words bytes r → number < 2 ^ 64 → number ≡ r.count + 1 → r'.count ≡ number → r'.pending.items ≡ [] → bytes_left r' + 1 ≤ bytes_left r
 left_less r r' number h fits at count pending =
     let none : length r'.pending.items ≡ 0 = ap length pending in
     let short : length r.pending.items ≤ MAX_PAIR = h.text.short in

@@ -7,7 +7,7 @@ use Rattle.flat_model.specs.declared.Event.{Event}
 use Rattle.flat_model.specs.declared.Event.TheVariants.{Load, Store, Drain, Take}
 use Rattle.flat_model.specs.declared.Answer.{Answer}
 use Rattle.flat_model.specs.declared.Answer.TheVariants.{Accepted, Value, Refused}
-use Rattle.flat_model.specs.Words.{has, merged}
+use Rattle.flat_model.specs.Words.{zero_word, has, merged}
 use Rattle.run_reasons.specs.Origins.{Origins, beginning, origins_after, stored_in}
 use Rattle.run_reasons.specs.Pasts.{overwritten_at, overwritten_in, pasts_of}
 use Rattle.run_reasons.specs.Reasons.{reason_of}
@@ -23,7 +23,7 @@ after n o (step ∷ steps) = after (n + 1) (origins_after o n step.0 step.1) ste
 
 -- byte 0 of word 1 is stored in lines 1 and 2, loaded under tag 7 in line 3, and stored again in line 4
 abbrev stored_again : Origins
-stored_again = after 1 (beginning 2) (
+stored_again = after 1 (beginning (zero_word ∷ zero_word ∷ [])) (
     (Store 1 (word 10 0 0 13) (record { 0 = 9 }), Accepted) ∷ (Store 1 (word 11 0 0 0) (record { 0 = 1 }), Accepted) ∷ (Load 7 1, Accepted)
     ∷ (Store 1 (word 12 14 0 0) (record { 0 = 3 }), Accepted) ∷ []
     )
@@ -51,6 +51,21 @@ stale_word : reason_of stored_again (Take 0) (Value 7 (word 10 0 0 0)) ≡ Wrong
 })
 unfolding has merged stored_in overwritten_at overwritten_in pasts_of
 stale_word = refl
+
+-- Word 1 of a memory in which each word holds its own address: byte 0 is loaded before line 2 stores another one, and line 3
+-- tells that byte too early. The byte that is owed is no store's.
+abbrev addressed : Origins
+addressed = after 1 (beginning (zero_word ∷ word 1 0 0 0 ∷ [])) ((Load 7 1, Accepted) ∷ (Store 1 (word 9 0 0 0) (record { 0 = 1 }), Accepted) ∷ [])
+
+of_the_image : reason_of addressed (Take 0) (Value 7 (word 9 0 0 0)) ≡ WrongWord (record {
+  tag = 7;
+  load = record { line = 1; at = 1; word = word 1 0 0 0; stores = record { b0 = 0; b1 = 0; b2 = 0; b3 = 0 } };
+  got = word 9 0 0 0;
+  later = record { b0 = 2; b1 = 0; b2 = 0; b3 = 0 };
+  past = record { b0 = None; b1 = None; b2 = None; b3 = None };
+})
+unfolding has merged stored_in overwritten_at overwritten_in pasts_of
+of_the_image = refl
 
 in_use : reason_of stored_again (Load 7 0) (Refused NoRegister) ≡ InUse 7 3
 unfolding has merged stored_in overwritten_at overwritten_in

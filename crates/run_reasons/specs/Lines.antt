@@ -1,5 +1,6 @@
 -- Where a reading of lines stands.
 use Rattle.std.specs.Prelude.{◌≡◌, ℕ, ◌+◌, ◌-◌, ◌*◌, ◌<◌, None, Result, Ok, Err, List, [], length}
+use Rattle.flat_model.specs.declared.Word.{Word}
 use Rattle.flat_model.specs.declared.Event.{Event}
 use Rattle.flat_model.specs.declared.Answer.{Answer}
 use Rattle.flat_model.specs.Flat.{flat_step}
@@ -19,7 +20,7 @@ use Rattle.run_reasons.specs.declared.lines.Stop.{Stop}
 use Rattle.run_reasons.specs.declared.lines.Stop.TheVariants.{Mismatch, Fault}
 
 -- These bytes were read: the lines of a flat run, and the start of another line.
-pub record HasRead (words : ℕ) (bytes : List ℕ) (r : Lines) : Type 0 where
+pub record HasRead (words : List Word) (bytes : List ℕ) (r : Lines) : Type 0 where
   pub texts : List (List ℕ)
   pub text : IsFlatText words bytes texts r.pending.items r.steps
   pub number : r.count ≡ length texts

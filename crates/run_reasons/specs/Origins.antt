@@ -1,6 +1,6 @@
 -- Where the words of flat memory come from: the fold that keeps, beside flat memory, where each byte was last stored,
 -- where each tag was loaded or taken, and when each value of a byte was overwritten.
-use Rattle.std.specs.Prelude.{ℕ, ◌+◌, ◌==◌, ◌&&◌, if◌then◌else◌, nat_lt, Option, Some, None, List, [], ◌∷◌, replicate, slice_set, slice_index_or}
+use Rattle.std.specs.Prelude.{ℕ, ◌+◌, ◌==◌, ◌&&◌, if◌then◌else◌, nat_lt, Option, Some, None, List, [], ◌∷◌, length, replicate, slice_set, slice_index_or}
 use Rattle.flat_model.specs.declared.Word.{Word}
 use Rattle.flat_model.specs.declared.Lanes.{Lanes}
 use Rattle.flat_model.specs.declared.Event.{Event}
@@ -8,9 +8,9 @@ use Rattle.flat_model.specs.declared.Event.TheVariants.{Load, Store, Take}
 use Rattle.flat_model.specs.declared.Answer.{Answer}
 use Rattle.flat_model.specs.declared.Answer.TheVariants.{Accepted, Value}
 use Rattle.flat_model.specs.Words.{zero_word, has, Lane0, Lane1, Lane2, Lane3}
-use Rattle.flat_model.specs.Flat.{Flat, word_at, flat_after}
+use Rattle.flat_model.specs.Flat.{Flat, opening, word_at, flat_after}
 use Rattle.trace_text.specs.Pairs.{pair_of}
-use Rattle.trace_text.specs.Checks.{step_of, zeros}
+use Rattle.trace_text.specs.Checks.{step_of}
 use Rattle.trace_text.specs.declared.check.Step.{Step}
 use Rattle.run_reasons.specs.declared.origins.Stores.{Stores}
 use Rattle.run_reasons.specs.declared.origins.AcceptedLoad.{AcceptedLoad}
@@ -45,9 +45,9 @@ stored_in n lanes s = record {
 abbrev pub with_use : (ℕ → TagUse) → ℕ → TagUse → ℕ → TagUse
 with_use tags tag state t = if t == tag then state else tags t
 
--- memory of so many words of zeros, before any line
-abbrev pub beginning : ℕ → Origins
-beginning words = record { flat = zeros words; stores = replicate words no_stores; tags = λ tag. Never; past = λ key. None }
+-- memory of these words, before any line
+abbrev pub beginning : List Word → Origins
+beginning words = record { flat = opening words; stores = replicate (length words) no_stores; tags = λ tag. Never; past = λ key. None }
 
 -- a load of this address, accepted in line n
 abbrev pub accepted_load : Origins → ℕ → ℕ → AcceptedLoad
@@ -96,8 +96,8 @@ abbrev pub origins_from : ℕ → Origins → List (List ℕ) → Origins
 origins_from n o [] = o
 origins_from n o (text ∷ texts) = origins_from (n + 1) (origins_then o n (step_of (pair_of text))) texts
 
--- what these lines leave, of a run that begins with so many words of zeros
-abbrev pub origins_of : ℕ → List (List ℕ) → Origins
+-- what these lines leave, of a run that begins with these words
+abbrev pub origins_of : List Word → List (List ℕ) → Origins
 origins_of words texts = origins_from 1 (beginning words) texts
 
 -- the line behind a load that stored the byte that came, if memory has it there still; else 0

@@ -6,9 +6,9 @@ use Rattle.flat_model.specs.declared.Event.{Event}
 use Rattle.flat_model.specs.declared.Event.TheVariants.{Load, Store, Prefetch, Evict, Drain, Serve, Arrive, Process, Take}
 use Rattle.flat_model.specs.declared.Answer.{Answer}
 use Rattle.flat_model.specs.declared.Answer.TheVariants.{Accepted, Moved, Value, Nothing, Refused}
-use Rattle.flat_model.specs.Ranges.{is_between}
+use Rattle.flat_model.specs.Causes.{may_refuse}
 use Rattle.flat_model.specs.Words.{has_any}
-use Rattle.flat_model.specs.Flat.{number, word_at}
+use Rattle.flat_model.specs.Flat.{word_at}
 use Rattle.run_reasons.specs.Origins.{Origins, stores_at, later_stores}
 use Rattle.run_reasons.specs.Pasts.{pasts_of}
 use Rattle.run_reasons.specs.declared.origins.TagUse.{TagUse}
@@ -39,22 +39,13 @@ abbrev pub is_take : Event → Bool
 is_take (Take place) = true
 is_take event = false
 
--- the numbers of the causes for which an event may be refused
-abbrev pub has_cause : Event → ℕ → Bool
-has_cause (Load tag at) n = is_between n 1 1 || is_between n 3 10
-has_cause (Store at word lanes) n = is_between n 1 2 || is_between n 6 10
-has_cause (Prefetch at) n = is_between n 1 1 || is_between n 6 10
-has_cause (Evict block) n = is_between n 1 1 || is_between n 9 9 || is_between n 11 11
-has_cause Drain n = is_between n 10 10
-has_cause (Arrive bank place) n = is_between n 12 12
-has_cause event n = false
-
+-- whether the event ever gets the answer
 abbrev pub is_ever : Event → Answer → Bool
 is_ever event Accepted = is_accepted event
 is_ever event Moved = is_moved event
 is_ever event Nothing = is_moved event || is_take event
 is_ever event (Value tag word) = is_take event
-is_ever event (Refused c) = has_cause event (number c)
+is_ever event (Refused cause) = may_refuse event cause
 
 -- ---- reasons
 

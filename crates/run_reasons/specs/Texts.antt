@@ -38,9 +38,13 @@ answers_text (Take place) = codes "a value or nothing"
 
 -- ---- a wrong word
 
+-- a byte that memory began with: one of an image, unless it is zero
+abbrev pub initial_text : ℕ → List ℕ
+initial_text owed = if owed == 0 then codes "of the initial zeros" else codes "of the initial image"
+
 -- the store that a byte is owed from: none, if it is one that memory began with
-abbrev pub owed_from_text : ℕ → List ℕ
-owed_from_text line = if line == 0 then codes "of the initial zeros" else codes "stored in line " ++ decimal line
+abbrev pub owed_from_text : ℕ → ℕ → List ℕ
+owed_from_text owed line = if line == 0 then initial_text owed else codes "stored in line " ++ decimal line
 
 -- what had put a byte there, and the line that overwrote it
 abbrev pub overwritten_text : ℕ → ℕ → List ℕ
@@ -63,7 +67,7 @@ got_from_text line past =
 unfoldable pub byte_line : ℕ → ℕ → ℕ → ℕ → ℕ → Option Overwritten → List ℕ
 byte_line place owed store got later past =
     if owed == got then []
-    else codes "\nbyte " ++ decimal place ++ codes ": owed " ++ byte_text owed ++ codes ", " ++ owed_from_text store ++ codes "; got "
+    else codes "\nbyte " ++ decimal place ++ codes ": owed " ++ byte_text owed ++ codes ", " ++ owed_from_text owed store ++ codes "; got "
     ++ byte_text got ++ codes ", " ++ got_from_text later past
 
 -- the load with what it is owed, and a line for each byte that differs

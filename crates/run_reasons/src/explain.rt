@@ -1,12 +1,15 @@
 //! A recorded run is read as it comes, and its first mismatch explained.
 
 ghost use Rattle.std.specs.Prelude.{◌≡◌, ◌<◌, ℕ, List, [], length, Some};
+ghost use Rattle.flat_model.specs.declared.Word.{Word};
+ghost use Rattle.memory_images.specs.Images.{memory_from};
 ghost use Rattle.run_reasons.specs.Runs.{Explains, explained_by, status_of};
 ghost use Rattle.run_reasons.specs.Lines.{HasRead, EndsWith};
 ghost use Rattle.run_reasons.specs.Texts.{explanation_text};
 
 use crate::lines::{Lines, Stop};
 use crate::reason::Mismatch;
+use memory_images::Image;
 use std::alloc::Global;
 use std::fmt;
 use trace_text::{BUFFER_LEN, Source, TraceFault};
@@ -59,7 +62,7 @@ impl Stop {
     }
 }
 
-/// Reads a recorded run as it comes, over `words` words of zeros, up to the first line that flat
+/// Reads a recorded run as it comes, over `words` words of an image, up to the first line that flat
 /// memory can't answer, and says why. Each line is read as by
 /// [`read_pair`](trace_text::read_pair). Nothing is read behind the piece in which that line ends:
 /// so on a pipe that is still being written the answer comes with the line. A faulty line ends the
@@ -78,11 +81,12 @@ impl Stop {
 pub fn explain_text<R: Source>(
     alloc: Global,
     reader: &mut R,
+    image: &Image,
     words: u32,
 ) -> Result<Explanation, TraceFault>
-    ensures { Explains R.gave R.failed words reader.old reader.new result }
+    ensures { Explains R.gave R.failed (memory_from image.now words) reader.old reader.new result }
 {
-    let mut lines = Lines::new(alloc, words)?;
+    let mut lines = Lines::new(alloc, image, words)?;
     let mut buffer = vec![in alloc; 0u8; BUFFER_LEN]?;
     read_through(reader, &mut lines, &mut buffer)
 }
@@ -94,8 +98,8 @@ fn read_through<R: Source>(
     buffer: &mut [u8],
 ) -> Result<Explanation, TraceFault>
     requires room { 0 < length buffer.old }
-    requires begun { (words : ℕ) × HasRead words [] lines.old }
-    ensures { (words : ℕ) → HasRead words [] lines.old
+    requires begun { (words : List Word) × HasRead words [] lines.old }
+    ensures { (words : List Word) → HasRead words [] lines.old
         → Explains R.gave R.failed words reader.old reader.new result }
 {
     'pieces: loop {
@@ -115,7 +119,7 @@ fn read_through<R: Source>(
 impl Lines {
     // What is told where the input ends behind these lines.
     fn end(&self) -> Result<Explanation, TraceFault>
-        requires { (words : ℕ) × (before : List ℕ) × HasRead words before self.now }
+        requires { (words : List Word) × (before : List ℕ) × HasRead words before self.now }
         ensures { EndsWith self.now result }
     {
         match self.unfinished() {

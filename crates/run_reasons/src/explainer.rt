@@ -4,6 +4,7 @@ ghost use Rattle.std.specs.Prelude.{◌≡◌, ◌<◌, ◌≤◌, ◌+◌, ℕ,
 ghost use Rattle.std.specs.HashMap.{spare};
 ghost use Rattle.flat_model.specs.Flat.{Flat, word_at, may_answer, flat_step};
 ghost use Rattle.flat_model.specs.Memory as memory;
+ghost use Rattle.memory_images.specs.Images.{memory_from};
 ghost use Rattle.run_reasons.specs.Origins.{no_stores};
 ghost use Rattle.run_reasons.specs.declared.explainer.TheConstants.{TAGS};
 
@@ -11,6 +12,7 @@ use crate::origins::{AcceptedLoad, Stores, TagUse};
 use crate::pasts::Past;
 use crate::reason::{Mismatch, Reason, WrongWord, is_ever, is_out_of_range, never, tag_reason};
 use flat_model::{Answer, Event, FlatMemory, Lanes, StepFault, Word};
+use memory_images::Image;
 use std::alloc::{AllocError, Global};
 
 // How many tags there are: they are numbers of 16 bits.
@@ -74,12 +76,12 @@ impl Explainer {
     ghost use Rattle.run_reasons.specs.Reasons.{reason_of, reason_here, place_reason, value_reason};
     ghost use Rattle.run_reasons.specs.Shown.{shown, more_overwritten, ReadFaultIs};
 
-    /// Memory of so many words of zeros, before any line. `AllocError` says that there was too
+    /// Memory of so many words of an image, before any line. `AllocError` says that there was too
     /// little memory: nothing is made.
-    pub fn new(alloc: Global, words: u32) -> Result<Explainer, AllocError>
-        ensures { IfOk result (λ e. shown e ≡ beginning words) }
+    pub fn new(alloc: Global, image: &Image, words: u32) -> Result<Explainer, AllocError>
+        ensures { IfOk result (λ e. shown e ≡ beginning (memory_from image.now words)) }
     {
-        let flat = FlatMemory::zeros(alloc, words)?;
+        let flat = image.flat_memory(alloc, words)?;
         let stores = no_stores(alloc, words)?;
         let tags = no_uses(alloc, TAGS)?;
         let past = Past::new(alloc);

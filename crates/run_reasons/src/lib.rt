@@ -9,7 +9,7 @@
 //! tags the line in which it was loaded or taken; and for each value that a byte has had, which store
 //! last overwrote it. A byte has at most 256 values, so a run may be as long as it likes.
 //!
-//! A program that explains a run calls `explain_text(alloc, &mut input, words)?`, writes what it gives
+//! A program that explains a run calls `explain_text(alloc, &mut input, &Image::Zeros, words)?`, writes what it gives
 //! with a line feed behind it, and ends with its `status()`:
 //!
 //! - a flat run: `flat run, N steps`, and status 0;

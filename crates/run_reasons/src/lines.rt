@@ -1,7 +1,9 @@
 //! The lines of a recorded run, byte by byte.
 
 ghost use Rattle.std.specs.Prelude.{◌≡◌, ◌≤◌, ◌<◌, ◌+◌, ◌^◌, ℕ, List, [], ◌∷◌, ◌++◌, length, Some, None, IfSome, IfNone, IfOk, IfErr, OnOk};
+ghost use Rattle.flat_model.specs.declared.Word.{Word};
 ghost use Rattle.flat_model.specs.Flat.{flat_step};
+ghost use Rattle.memory_images.specs.Images.{memory_from};
 ghost use Rattle.trace_text.specs.Checks.{step_with};
 ghost use Rattle.trace_text.specs.Recorded.{recorded};
 ghost use Rattle.run_reasons.specs.Origins.{origins_after};
@@ -12,6 +14,7 @@ use crate::explainer::{Explainer, ReadFault};
 use crate::reason::Mismatch;
 use arrayvec::ArrayVec;
 use flat_model::{Answer, Event};
+use memory_images::Image;
 use std::alloc::{AllocError, Global};
 use trace_text::{Line, LineFault, MAX_PAIR, Pair, TraceFault, read_pair};
 
@@ -48,12 +51,12 @@ fn step_in(pair: Pair) -> Option<(Event, Answer)>
 impl Lines {
     ghost use Rattle.run_reasons.specs.Lines.{HasRead, StepEnds, bytes_left};
 
-    // No line yet, over so many words of zeros.
-    pub(crate) fn new(alloc: Global, words: u32) -> Result<Lines, AllocError>
-        ensures { IfOk result (λ lines. HasRead words [] lines) }
+    // No line yet, over so many words of an image.
+    pub(crate) fn new(alloc: Global, image: &Image, words: u32) -> Result<Lines, AllocError>
+        ensures { IfOk result (λ lines. HasRead (memory_from image.now words) [] lines) }
     {
         Ok(Lines {
-            explainer: Explainer::new(alloc, words)?,
+            explainer: Explainer::new(alloc, image, words)?,
             pending: ArrayVec::new(),
             count: 0,
             steps: 0,
@@ -62,12 +65,12 @@ impl Lines {
 
     // Reads these bytes, up to the first line that ends the reading.
     pub(crate) fn read(&mut self, bytes: &[u8]) -> Result<(), Stop>
-        requires { (words : ℕ) × (before : List ℕ) × HasRead words before self.old }
-        ensures ok { OnOk result ((words : ℕ) (before : List ℕ) → HasRead words before self.old
+        requires { (words : List Word) × (before : List ℕ) × HasRead words before self.old }
+        ensures ok { OnOk result ((words : List Word) (before : List ℕ) → HasRead words before self.old
             → HasRead words (before ++ bytes.now) self.new) }
         ensures progress { OnOk result
             (bytes_left self.new + length bytes.now ≤ bytes_left self.old) }
-        ensures stop { IfErr result (λ stop. (words : ℕ) (before : List ℕ)
+        ensures stop { IfErr result (λ stop. (words : List Word) (before : List ℕ)
             → HasRead words before self.old → EndsIn words (before ++ bytes.now) stop) }
     {
         for byte in bytes {
@@ -78,7 +81,7 @@ impl Lines {
 
     // The fault of the line that hasn't ended, if there is one, where the input ends.
     pub(crate) fn unfinished(&self) -> Option<TraceFault>
-        requires { (words : ℕ) × (before : List ℕ) × HasRead words before self.now }
+        requires { (words : List Word) × (before : List ℕ) × HasRead words before self.now }
         ensures some { IfSome result (λ fault. (0 < length self.now.pending.items)
             × (fault ≡ TraceFault.Line (self.now.count + 1) LineFault.NotEnded)) }
         ensures none { IfNone result (self.now.pending.items ≡ []) }
@@ -93,11 +96,11 @@ impl Lines {
 
     // Reads a byte, which may end a line.
     fn read_byte(&mut self, byte: u8) -> Result<(), Stop>
-        requires { (words : ℕ) × (before : List ℕ) × HasRead words before self.old }
-        ensures ok { OnOk result ((words : ℕ) (before : List ℕ) → HasRead words before self.old
+        requires { (words : List Word) × (before : List ℕ) × HasRead words before self.old }
+        ensures ok { OnOk result ((words : List Word) (before : List ℕ) → HasRead words before self.old
             → HasRead words (before ++ byte ∷ []) self.new) }
         ensures progress { OnOk result (bytes_left self.new + 1 ≤ bytes_left self.old) }
-        ensures stop { IfErr result (λ stop. (words : ℕ) (before : List ℕ)
+        ensures stop { IfErr result (λ stop. (words : List Word) (before : List ℕ)
             → HasRead words before self.old → EndsIn words (before ++ byte ∷ []) stop) }
     {
         if self.count == u64::MAX {
@@ -117,12 +120,12 @@ impl Lines {
 
     // Reads the line of this number, which ends here.
     fn end_line(&mut self, number: u64) -> Result<(), Stop>
-        requires read { (words : ℕ) × (before : List ℕ) × HasRead words before self.old }
+        requires read { (words : List Word) × (before : List ℕ) × HasRead words before self.old }
         requires number { number ≡ self.old.count + 1 }
-        ensures ok { OnOk result ((words : ℕ) (before : List ℕ) → HasRead words before self.old
+        ensures ok { OnOk result ((words : List Word) (before : List ℕ) → HasRead words before self.old
             → HasRead words (before ++ 10 ∷ []) self.new) }
         ensures progress { OnOk result (bytes_left self.new + 1 ≤ bytes_left self.old) }
-        ensures stop { IfErr result (λ stop. (words : ℕ) (before : List ℕ)
+        ensures stop { IfErr result (λ stop. (words : List Word) (before : List ℕ)
             → HasRead words before self.old → EndsIn words (before ++ 10 ∷ []) stop) }
     {
         self.pending.push(b'\n');

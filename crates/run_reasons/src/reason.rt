@@ -1,8 +1,7 @@
 //! Why flat memory can't answer a line so.
 
 ghost use Rattle.std.specs.Prelude.{◌≡◌};
-ghost use Rattle.flat_model.specs.Ranges.{is_between};
-ghost use Rattle.run_reasons.specs.Reasons.{is_accepted, is_moved, has_cause, is_ever, never, is_out_of_range, tag_reason};
+ghost use Rattle.run_reasons.specs.Reasons.{is_accepted, is_moved, is_ever, never, is_out_of_range, tag_reason};
 
 use crate::origins::{AcceptedLoad, Stores, TagUse};
 use crate::pasts::Pasts;
@@ -94,7 +93,7 @@ pub(crate) fn is_ever(event: Event, answer: Answer) -> bool
         Answer::Moved => is_moved(event),
         Answer::Nothing => is_moved(event) || matches!(event, Event::Take { .. }),
         Answer::Value { .. } => matches!(event, Event::Take { .. }),
-        Answer::Refused(cause) => has_cause(event, cause.number()),
+        Answer::Refused(cause) => cause.may_refuse(event),
     }
 }
 
@@ -116,30 +115,6 @@ fn is_moved(event: Event) -> bool
         event,
         Event::Drain | Event::Serve { .. } | Event::Arrive { .. } | Event::Process { .. }
     )
-}
-
-// Whether the event may be refused for the cause of this number.
-fn has_cause(event: Event, n: u8) -> bool
-    ensures { result ≡ has_cause event n }
-{
-    match event {
-        Event::Load { .. } => is_between(n, 1, 1) || is_between(n, 3, 10),
-        Event::Store { .. } => is_between(n, 1, 2) || is_between(n, 6, 10),
-        Event::Prefetch { .. } => is_between(n, 1, 1) || is_between(n, 6, 10),
-        Event::Evict { .. } => {
-            is_between(n, 1, 1) || is_between(n, 9, 9) || is_between(n, 11, 11)
-        }
-        Event::Drain => is_between(n, 10, 10),
-        Event::Arrive { .. } => is_between(n, 12, 12),
-        _ => false,
-    }
-}
-
-// Whether a number lies between two others, or is one of them.
-fn is_between(n: u8, low: u8, high: u8) -> bool
-    ensures { result ≡ is_between n low high }
-{
-    low <= n && n <= high
 }
 
 // The reason against an answer that the event never gets.

@@ -3,7 +3,7 @@
 ghost use Rattle.std.specs.Prelude.{◌≡◌, ◌<◌, Some};
 ghost use Rattle.std.specs.Fmt.{WritesOnOk};
 ghost use Rattle.flat_model.specs.Texts.{byte_text, hex_digit};
-ghost use Rattle.run_reasons.specs.Texts.{kind_text, answers_text, owed_from_text, overwritten_text, past_text, got_from_text, byte_line, wrong_word_text, reason_text, mismatch_text};
+ghost use Rattle.run_reasons.specs.Texts.{kind_text, answers_text, initial_text, owed_from_text, overwritten_text, past_text, got_from_text, byte_line, wrong_word_text, reason_text, mismatch_text};
 
 use crate::origins::AcceptedLoad;
 use crate::pasts::{Overwritten, Pasts};
@@ -160,7 +160,7 @@ fn write_byte<W: fmt::Write>(
     }
     let (owed, got) = (HexByte(owed), HexByte(got));
     write!(f, "\nbyte {place}: owed {owed}, ")?;
-    write_owed_from(f, store)?;
+    write_owed_from(f, owed.0, store)?;
     write!(f, "; got {got}, ")?;
     write_got_from(f, later, past)
 }
@@ -186,13 +186,24 @@ fn digit(n: u8) -> char
 }
 
 // Where the byte that is owed was stored.
-fn write_owed_from<W: fmt::Write>(f: &mut fmt::Formatter<W>, store: u64) -> fmt::Result
-    ensures { WritesOnOk W.write_str_gives f.old result (owed_from_text store) f.new }
+fn write_owed_from<W: fmt::Write>(f: &mut fmt::Formatter<W>, owed: u8, store: u64) -> fmt::Result
+    ensures { WritesOnOk W.write_str_gives f.old result (owed_from_text owed store) f.new }
 {
     if store == 0 {
-        f.write_str("of the initial zeros")
+        f.write_str(initial(owed))
     } else {
         write!(f, "stored in line {store}")
+    }
+}
+
+// What a byte is of that memory began with.
+fn initial(owed: u8) -> &'static str
+    ensures { result.now ≡ initial_text owed }
+{
+    if owed == 0 {
+        "of the initial zeros"
+    } else {
+        "of the initial image"
     }
 }
 

@@ -10,7 +10,7 @@ mod story;
 
 pub use checks::{are_told, is_flat, read_journal};
 pub use findings::{Findings, Outcome};
-pub use lines::{AskText, EntryText, ToldText, passes};
+pub use lines::{AskText, EntryText, ToldText};
 pub use plan::{
     BLOCK_WORDS, DEPTH, ENTRIES, MOST_PORTS, Plan, REGS, WAYS, WORDS, ask_by, bytes_of, shape,
 };

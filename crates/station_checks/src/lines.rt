@@ -1,6 +1,7 @@
 //! Asks, entries and tellings as text. Events, answers and words are written as in a trace.
+ghost use Rattle.std.specs.Prelude.{Some};
+ghost use Rattle.station_checks.specs.Texts.{entry_text, ask_text, told_text};
 
-use flat_model::Cause;
 use station_journal::{Ask, Entry, Told};
 use std::fmt::{self, Display, Formatter, Write};
 
@@ -9,6 +10,8 @@ use std::fmt::{self, Display, Formatter, Write};
 pub struct EntryText(pub Entry);
 
 impl Display for EntryText {
+    ghost output = { λ entry. Some (entry_text entry.0) };
+
     fn fmt<W: Write>(&self, f: &mut Formatter<W>) -> fmt::Result {
         match self.0 {
             Entry::Step { event, answer, .. } => write!(f, "{event} -> {answer}"),
@@ -22,13 +25,15 @@ impl Display for EntryText {
 pub struct AskText(pub Ask);
 
 impl Display for AskText {
+    ghost output = { λ ask. Some (ask_text ask.0) };
+
     fn fmt<W: Write>(&self, f: &mut Formatter<W>) -> fmt::Result {
         match self.0 {
             Ask::Load { tag, at } => write!(f, "load {tag} {at}"),
             Ask::Store { at, word, lanes } => write!(f, "store {at} {lanes} {word}"),
             Ask::Prefetch { at } => write!(f, "prefetch {at}"),
             Ask::Evict { block } => write!(f, "evict {block}"),
-            Ask::Done => write!(f, "done"),
+            Ask::Done => f.write_str("done"),
         }
     }
 }
@@ -38,17 +43,16 @@ impl Display for AskText {
 pub struct ToldText(pub Told);
 
 impl Display for ToldText {
+    ghost output = { λ told. Some (told_text told.0) };
+
     fn fmt<W: Write>(&self, f: &mut Formatter<W>) -> fmt::Result {
         match self.0 {
-            Told::Accepted => write!(f, "accepted"),
-            Told::Refused(cause) => write!(f, "refused {}", cause.number()),
+            Told::Accepted => f.write_str("accepted"),
+            Told::Refused(cause) => {
+                let number = cause.number();
+                write!(f, "refused {number}")
+            }
             Told::Value { tag, word } => write!(f, "value {tag} {word}"),
         }
     }
-}
-
-/// Whether a port offers its ask again if it was refused with this cause: something is in the way
-/// that passes.
-pub fn passes(cause: Cause) -> bool {
-    (3..=10).contains(&cause.number())
 }

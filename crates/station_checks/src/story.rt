@@ -1,7 +1,7 @@
 //! What a run is told by: what came of each ask, and what was found.
 
 use crate::findings::Findings;
-use crate::lines::{AskText, EntryText, ToldText, passes};
+use crate::lines::{AskText, EntryText, ToldText};
 use crate::plan::Plan;
 use station_journal::{Ask, Entry, Told};
 use station_parts::Audit;
@@ -79,7 +79,7 @@ fn tell_load<W: Write>(out: &mut W, ask: Ask, value: Option<Told>) -> io::Result
 fn ends_ask(told: Told) -> bool {
     match told {
         Told::Accepted => true,
-        Told::Refused(cause) => !passes(cause),
+        Told::Refused(cause) => !cause.passes(),
         Told::Value { .. } => false,
     }
 }
@@ -122,7 +122,7 @@ fn offered_again(lists: &[Vec<Told>]) -> usize {
 
 fn asks_again(told: Told) -> bool {
     match told {
-        Told::Refused(cause) => passes(cause),
+        Told::Refused(cause) => cause.passes(),
         Told::Accepted | Told::Value { .. } => false,
     }
 }

@@ -1,5 +1,9 @@
-//! The worked examples of the station, each a test under its name: stepped by hand, and on threads.
+//! The worked examples of the station, each a test under its name: stepped by hand, and on threads; and
+//! a caller with threads of its own, proved from the contracts of the parts.
 #![tactic(auto)]
 
+mod chain;
 #[cfg(test)]
 mod tests;
+
+pub use chain::{Follower, Waits, follow_chain};

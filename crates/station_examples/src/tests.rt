@@ -6,6 +6,7 @@ use std::alloc::{AllocError, Global};
 
 mod audited;
 mod by_hand;
+mod chain;
 mod checks;
 mod ends;
 mod gates;

@@ -1,7 +1,7 @@
 -- A port with a script: what it offers, what it is told, and when both belong together.
 use Rattle.std.specs.Prelude.{◌≡◌, ℕ, ◌+◌, Bool, true, false, not, if◌then◌else◌, List, [], ◌∷◌, ◌++◌}
 use Rattle.std.specs.List.{filter, count_by}
-use Rattle.flat_model.specs.declared.Cause.TheVariants.{OutOfRange, NoLanes, NotPresent}
+use Rattle.flat_model.specs.Causes.{ends_request}
 use Rattle.station_journal.specs.declared.asks.Ask.{Ask}
 use Rattle.station_journal.specs.declared.asks.Ask.TheVariants.{Load, Done}
 use Rattle.station_journal.specs.declared.asks.Told.{Told}
@@ -23,9 +23,7 @@ value_count tellings = count_by is_value tellings
 -- after this verdict a port goes on in its script; after any other one it offers the ask again
 abbrev pub is_final : Told → Bool
 is_final Accepted = true
-is_final (Refused OutOfRange) = true
-is_final (Refused NoLanes) = true
-is_final (Refused NotPresent) = true
+is_final (Refused cause) = ends_request cause
 is_final told = false
 
 -- ---- asks and their verdicts, each ask beside its own

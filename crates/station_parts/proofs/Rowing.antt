@@ -1,13 +1,13 @@
 -- Rows of lines, of which one was used.
-use Rattle.std.proofs.Common.{◌≡◌, ℕ, ◌+◌, ◌<◌, ◌≤◌, List, [], length, slice_index_or, slice_set, refl, sym, ap, ◌∙◌, arith}
+use Rattle.std.proofs.Common.{◌≡◌, ℕ, ◌+◌, ◌<◌, ◌≤◌, List, [], length, slice_index_or, slice_set, refl, sym, ap, ◌∙◌, append-nil, arith}
 use Rattle.std.proofs.Math.Seq.{map-set_same}
 use Rattle.std.specs.declared.alloc.Global.{Global}
-use Rattle.rtrb.specs.Ring.{sent, known_free, SameProducer, SameConsumer, ProducerLooked}
+use Rattle.rtrb.specs.Ring.{sent, received, known_free, SameProducer, SameConsumer, ProducerLooked, ConsumerLooked}
 use Rattle.rtrb.specs.declared.producer.Producer.{Producer}
 use Rattle.rtrb.specs.declared.consumer.Consumer.{Consumer}
 use Rattle.rtrb.specs.declared.AnyItems.{AnyItems}
 use Rattle.station_parts.specs.declared.row.Line.{Line}
-use Rattle.station_parts.specs.Rings.{pushes_to, pops_from}
+use Rattle.station_parts.specs.Rings.{pushes_to, pops_from, HasPopped}
 use Rattle.station_parts.specs.Rows.{rings_of, sent_at, free_at, taken_at, OnlySent, LinesLook, IsCounted}
 use Rattle.station_parts.proofs.Rows.{here_after, there_after, here_before, each_place}
 
@@ -18,6 +18,15 @@ pushes_kept a b same =
 pub pops_kept : {T : Type 0} (a b : Consumer T Global AnyItems) → SameConsumer a b → pops_from b ≡ pops_from a
 pops_kept a b same =
     λ i. record { words = same.0.0 i; slots = same.0.1 i; names = same.0.2 i; heap = same.0.3 i }
+
+-- an end that looked has popped nothing
+pub pops_looked : {T : Type 0} (a b : Consumer T Global AnyItems) → ConsumerLooked a b → HasPopped a b []
+pops_looked a b looked =
+    record {
+      ring = pops_kept a b looked.0;
+      popped = looked.1 ∙ sym (append-nil (received a));
+      known = looked.2;
+    }
 
 module _ (xs : List Line) (bank : ℕ) (x y : Line) (h : bank < length xs) (at : x ≡ slice_index_or xs bank x) where
   abbrev ys : List Line

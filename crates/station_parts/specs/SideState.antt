@@ -1,5 +1,5 @@
 -- What a cache side shows to its contracts, and what it knows of its rings.
-use Rattle.std.specs.Prelude.{ℕ, ◌≤◌, List, Option}
+use Rattle.std.specs.Prelude.{◌≡◌, ℕ, ◌≤◌, List, Option}
 use mathlib.Core.List.{IsPrefix}
 use Rattle.memory_banks.specs.declared.Command.{Command}
 use Rattle.memory_banks.specs.declared.BankAnswer.{BankAnswer}
@@ -60,3 +60,14 @@ state_of side =
             command_places side;
       };
     }
+
+-- more may be known, and nothing else has changed
+pub record OnlyLooks (old new : SideState) : Type 0 where
+  pub journal : new.journal ≡ old.journal
+  pub cache : new.cache ≡ old.cache
+  pub fault : new.fault ≡ old.fault
+  pub asked : (p : ℕ) → new.asked p ≡ old.asked p
+  pub told : (p : ℕ) → new.told p ≡ old.told p
+  pub commands : (b : ℕ) → new.commands b ≡ old.commands b
+  pub words : (b : ℕ) → new.words b ≡ old.words b
+  pub known : KnowsMore old.known new.known

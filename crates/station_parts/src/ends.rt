@@ -1,5 +1,5 @@
 //! Rows of rings' ends: one for each port or bank. Of a place that isn't there nothing is known.
-ghost use Rattle.std.specs.Prelude.{◌≡◌, ◌<◌, ◌∷◌, [], IfNone};
+ghost use Rattle.std.specs.Prelude.{◌≡◌, ◌<◌, ◌∷◌, [], IfNone, length, slice_get};
 ghost use Rattle.rtrb.specs.Ring.{known_items};
 ghost use Rattle.station_parts.specs.Rings.{HasPopped};
 ghost use Rattle.station_parts.specs.Rows.{known_at, room_at, list_of, PopsAt, LooksAt, PushesAt};
@@ -28,6 +28,41 @@ fn pop_one<T: Drop>(end: &mut Consumer<T>) -> Option<T>
         return None;
     }
     Some(end.pop_known())
+}
+
+/// Looks at the far end at a place: how many items are then known there.
+pub(crate) fn count_at<T>(ends: &mut Vec<Consumer<T>>, place: u32) -> usize
+    ensures looks { PopsAt ends.old.items ends.new.items place [] }
+    ensures number { result ≡ length (known_at ends.new.items place) }
+{
+    if place as usize >= ends.len() {
+        return 0;
+    }
+    let end = &mut ends[place as usize];
+    end.slots()
+}
+
+/// Looks at the far end at a place: the first item that is then known there, which stays in the ring.
+pub(crate) fn peek_at<T: Copy>(ends: &mut Vec<Consumer<T>>, place: u32) -> Option<T>
+    ensures looks { PopsAt ends.old.items ends.new.items place [] }
+    ensures first { result ≡ slice_get (known_at ends.new.items place) 0 }
+{
+    if place as usize >= ends.len() {
+        return None;
+    }
+    let end = &mut ends[place as usize];
+    peek_end(end)
+}
+
+/// Looks at the far end: the first item that is then known, which stays in the ring.
+pub(crate) fn peek_end<T: Copy>(end: &mut Consumer<T>) -> Option<T>
+    ensures looks { HasPopped end.old end.new [] }
+    ensures first { result ≡ slice_get (known_items end.new) 0 }
+{
+    if end.slots() == 0 {
+        return None;
+    }
+    Some(*end.peek_known())
 }
 
 /// Looks at the far end at a place: how many more items are then known to have room there.

@@ -9,6 +9,7 @@ mod bank;
 mod ends;
 mod inspect;
 mod lines;
+mod looks;
 mod make;
 mod parts;
 mod port;

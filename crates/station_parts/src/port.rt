@@ -4,6 +4,7 @@ ghost use Rattle.std.specs.List.{list_any};
 ghost use Rattle.rtrb.specs.Ring.{sent};
 ghost use Rattle.station_parts.specs.Ports.{is_done};
 
+use crate::ends::peek_end;
 use rtrb::{Consumer, Producer};
 use station_journal::{Ask, Told};
 
@@ -23,7 +24,7 @@ pub struct Port {
 }
 
 impl Port {
-    ghost use Rattle.std.specs.Prelude.{◌≡◌, ◌<◌, ◌≤◌, ◌+◌, ◌++◌, ◌∷◌, [], true, false, length, OnOk, OnErr, IfErr, IsOk, IsErr, IfSome, IfNone, IsSome};
+    ghost use Rattle.std.specs.Prelude.{◌≡◌, ◌<◌, ◌≤◌, ◌+◌, ◌++◌, ◌∷◌, [], true, false, length, OnOk, OnErr, IfErr, IsOk, IsErr, IfSome, IfNone, IsSome, slice_get};
     ghost use mathlib.Core.List.{IsPrefix};
     ghost use Rattle.station_parts.specs.Ids.{port_id};
     ghost use Rattle.station_parts.specs.Words.{offered, taken, has_ended, known_places, known_tellings};
@@ -73,5 +74,50 @@ impl Port {
     {
         self.tellings.slots();
         self.tellings.pop().ok()
+    }
+
+    /// For how many more asks the ring is known to have a free place, after a look. So many are taken
+    /// by `offer`, if the port hasn't offered `Done`.
+    pub fn known_places(&mut self) -> usize
+        ensures same { port_id self.new ≡ port_id self.old }
+        ensures places { result ≡ known_places self.new }
+        ensures more { known_places self.old ≤ known_places self.new }
+        ensures offered { offered self.new ≡ offered self.old }
+        ensures taken { taken self.new ≡ taken self.old }
+        ensures tellings { known_tellings self.new ≡ known_tellings self.old }
+    {
+        self.asks.slots()
+    }
+
+    /// Whether the port has offered `Done`, and so offers nothing more.
+    pub fn has_ended(&self) -> bool
+        ensures { result ≡ has_ended self.now }
+    {
+        self.ended
+    }
+
+    /// How many tellings are known, after a look, and not taken.
+    pub fn known_tellings(&mut self) -> usize
+        ensures same { port_id self.new ≡ port_id self.old }
+        ensures tellings { result ≡ length (known_tellings self.new) }
+        ensures more { IsPrefix (known_tellings self.old) (known_tellings self.new) }
+        ensures offered { offered self.new ≡ offered self.old }
+        ensures taken { taken self.new ≡ taken self.old }
+        ensures places { known_places self.new ≡ known_places self.old }
+    {
+        self.tellings.slots()
+    }
+
+    /// The telling that `take` gives next, after a look; it stays in the ring. `None` says that none is
+    /// known.
+    pub fn peek(&mut self) -> Option<Told>
+        ensures same { port_id self.new ≡ port_id self.old }
+        ensures first { result ≡ slice_get (known_tellings self.new) 0 }
+        ensures more { IsPrefix (known_tellings self.old) (known_tellings self.new) }
+        ensures offered { offered self.new ≡ offered self.old }
+        ensures taken { taken self.new ≡ taken self.old }
+        ensures places { known_places self.new ≡ known_places self.old }
+    {
+        peek_end(&mut self.tellings)
     }
 }

@@ -3,27 +3,41 @@
 use flat_model::MakeFault;
 use ring_station::RunFault;
 use std::alloc::AllocError;
-use std::io;
-use thiserror::Error;
+use std::error::Error;
+use std::{fmt, io};
 
 /// Why the program ends without having told all.
-#[derive(Debug, Drop, Error)]
+#[derive(Debug, Drop)]
 pub(crate) enum StationFault {
     /// The words of the command line, or help that was asked for.
-    #[error("{0}")]
     CommandLine(clap::Error),
     /// The shape is none: a fault of the program.
-    #[error("the shape is out of range")]
     Shape,
     /// A thread came to its limit, or the journal was full.
-    #[error("turn limit")]
     TurnLimit,
     /// A stream or the clock failed.
-    #[error("{0}")]
     Io(io::Error),
     /// There was too little memory.
-    #[error("out of memory")]
     OutOfMemory,
+}
+
+impl Error for StationFault {}
+
+/// What was wrong; of the command line and of a stream in the words of what it holds.
+impl fmt::Display for StationFault {
+    ghost use Rattle.station_tour.specs.Texts.{station_fault_text};
+
+    ghost output = { λ fault. station_fault_text fault };
+
+    fn fmt<W: fmt::Write>(&self, f: &mut fmt::Formatter<W>) -> fmt::Result {
+        match self {
+            StationFault::CommandLine(fault) => write!(f, "{fault}"),
+            StationFault::Shape => f.write_str("the shape is out of range"),
+            StationFault::TurnLimit => f.write_str("turn limit"),
+            StationFault::Io(fault) => write!(f, "{fault}"),
+            StationFault::OutOfMemory => f.write_str("out of memory"),
+        }
+    }
 }
 
 impl StationFault {

@@ -2,7 +2,6 @@
 
 use crossbeam_utils::CachePadded;
 use ring_station::{Actor, Gate, Told};
-use station_checks::passes;
 use station_parts::MAX_PORTS;
 use std::alloc::{AllocError, Global};
 use std::sync::atomic::{AtomicU32, Ordering};
@@ -45,7 +44,7 @@ impl Gate for PatientGate {
 
     fn told(&self, port: u32, told: &Told) {
         if let Told::Refused(cause) = *told
-            && passes(cause)
+            && cause.passes()
             && let Some(left) = self.left.get(port as usize)
         {
             left.store(self.turns, Ordering::SeqCst);

@@ -50,6 +50,11 @@ pub(crate) enum Server {
 }
 
 impl Display for Server {
+    ghost use Rattle.std.specs.Prelude.{Some};
+    ghost use Rattle.station_tour.specs.Texts.{server_text};
+
+    ghost output = { λ server. Some (server_text server) };
+
     fn fmt<W: fmt::Write>(&self, f: &mut Formatter<W>) -> fmt::Result {
         match *self {
             Server::Core => f.write_str("core"),

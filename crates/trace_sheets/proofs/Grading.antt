@@ -5,8 +5,10 @@ use Rattle.std.proofs.lemmas.Grind.{flat_map-append}
 use Rattle.machine_core.specs.Machine.{MachineState}
 use Rattle.trace_text.specs.declared.lines.Line.{Line}
 use Rattle.trace_text.specs.declared.lines.LineFault.{LineFault}
+use Rattle.named_fields.specs.declared.format.Format.{Format}
 use Rattle.trace_sheets.specs.Sheets.{sheet_line}
-use Rattle.trace_sheets.specs.Grades.{Asked, Graded, GradesOne, came_of, mark, mark_of, told, told_if, correction, after_said, after_texts, asked, asked_in, asked_from, no_score, with_mark, score_of, total}
+use Rattle.trace_sheets.specs.Grades.{Asked, Graded, GradesOne, came_of, mark, mark_of, told_if, correction, after_said, after_texts, asked, asked_in, asked_from, no_score, with_mark, score_of}
+use Rattle.trace_sheets.specs.Forms.{told, total}
 use Rattle.trace_sheets.specs.declared.score.Mark.{Mark}
 use Rattle.trace_sheets.specs.declared.score.Mark.TheVariants.{Right, Wrong, Open}
 use Rattle.trace_sheets.specs.declared.score.Score.{Score}
@@ -77,20 +79,20 @@ asked_few n m (t ∷ ts) =
     omega (arith, asked_few (n + 1) next ts, one_at_most n m t (sheet_line t), length-append front (asked_from (n + 1) next ts))
 
 -- no more predictions are counted than there are lines
-pub few_marks : {m m' : MachineState} {texts : List (List ℕ)} {report : List ℕ} {score : Score}
-    → Graded m texts m' report score → total score ≤ length texts
+pub few_marks : {format : Format} {m m' : MachineState} {texts : List (List ℕ)} {report : List ℕ} {score : Score}
+    → Graded format m texts m' report score → total score ≤ length texts
 few_marks {m = m} {texts = texts} g =
     let all = asked m texts in
     let counted : total (score_of (map mark all)) ≡ length all = total_is (map mark all) ∙ map_length all in
     omega (arith, ap total g.marks, counted, asked_few 1 m texts)
 
 -- no line yet
-pub graded_none : (m : MachineState) {report : List ℕ} {score : Score} → report ≡ [] → score ≡ no_score → Graded m [] m report score
-graded_none m none zero = record { state = refl; told = none; marks = zero }
+pub graded_none : (format : Format) (m : MachineState) {report : List ℕ} {score : Score} → report ≡ [] → score ≡ no_score → Graded format m [] m report score
+graded_none format m none zero = record { state = refl; told = none; marks = zero }
 
 -- ---- a sheet with one line more
 
-module _ {m m' : MachineState} {texts : List (List ℕ)} {report : List ℕ} {score : Score} (g : Graded m texts m' report score) (text : List ℕ) where
+module _ {format : Format} {m m' : MachineState} {texts : List (List ℕ)} {report : List ℕ} {score : Score} (g : Graded format m texts m' report score) (text : List ℕ) where
   -- what is asked in it
   abbrev last : Result (Line × Option (List ℕ)) LineFault → List Asked
   last said = asked_in (1 + length texts) m' text said
@@ -98,21 +100,21 @@ module _ {m m' : MachineState} {texts : List (List ℕ)} {report : List ℕ} {sc
   behind : asked m (texts ++ text ∷ []) ≡ asked m texts ++ last (sheet_line text)
   behind = asked_more 1 m texts text ∙ ap (λ s. asked m texts ++ asked_in (1 + length texts) s text (sheet_line text)) (sym g.state)
 
-  reported : flat_map correction (asked m (texts ++ text ∷ [])) ≡ report ++ flat_map correction (last (sheet_line text))
+  reported : flat_map (correction format) (asked m (texts ++ text ∷ [])) ≡ report ++ flat_map (correction format) (last (sheet_line text))
   reported =
-      ap (flat_map correction) behind
-      ∙ flat_map-append correction (asked m texts) (last (sheet_line text))
-      ∙ ap (λ l. l ++ flat_map correction (last (sheet_line text))) (sym g.told)
+      ap (flat_map (correction format)) behind
+      ∙ flat_map-append (correction format) (asked m texts) (last (sheet_line text))
+      ∙ ap (λ l. l ++ flat_map (correction format) (last (sheet_line text))) (sym g.told)
 
   now : after_texts m (texts ++ text ∷ []) ≡ after_said m' (sheet_line text)
   now = after_more m texts text ∙ ap (λ s. after_said s (sheet_line text)) (sym g.state)
 
   pub graded_more : (n : ℕ) (line : Line) (said : Option (List ℕ)) (next : MachineState) (report' : List ℕ) (score' : Score)
-      → n ≡ length texts + 1 → sheet_line text ≡ Ok (line, said) → GradesOne n m' text line said report score next report' score'
-      → Graded m (texts ++ text ∷ []) next report' score'
+      → n ≡ length texts + 1 → sheet_line text ≡ Ok (line, said) → GradesOne format n m' text line said report score next report' score'
+      → Graded format m (texts ++ text ∷ []) next report' score'
   graded_more n line None next report' score' number is one = record {
     state = one.0 ∙ sym (now ∙ ap (after_said m') is);
-    told = one.1 ∙ sym (append-nil report) ∙ sym (reported ∙ ap (λ s. report ++ flat_map correction (last s)) is);
+    told = one.1 ∙ sym (append-nil report) ∙ sym (reported ∙ ap (λ s. report ++ flat_map (correction format) (last s)) is);
     marks =
         one.2 ∙ g.marks
         ∙ ap (λ xs. score_of (map mark xs)) (sym (append-nil (asked m texts)) ∙ sym (behind ∙ ap (λ s. asked m texts ++ last s) is));
@@ -121,12 +123,12 @@ module _ {m m' : MachineState} {texts : List (List ℕ)} {report : List ℕ} {sc
       let place : n ≡ 1 + length texts = omega (arith, number) in
       let a : ℕ → Asked = λ k. record { number = k; text = text; said = said; came = came_of m' line } in
       let k = mark_of (came_of m' line) said in
-      let said_now : ℕ → List ℕ = λ i. told_if k (told i text (came_of m' line)) in
+      let said_now : ℕ → List ℕ = λ i. told_if k (told format i text said (came_of m' line)) in
       record {
         state = one.0 ∙ sym (now ∙ ap (after_said m') is);
         told =
             one.1 ∙ ap (λ i. report ++ said_now i) place ∙ ap (λ l. report ++ l) (sym (append-nil (said_now (1 + length texts))))
-            ∙ sym (reported ∙ ap (λ s. report ++ flat_map correction (last s)) is);
+            ∙ sym (reported ∙ ap (λ s. report ++ flat_map (correction format) (last s)) is);
         marks =
             one.2 ∙ ap (λ s. with_mark s k) g.marks ∙ sym (score_more (map mark (asked m texts)) k)
             ∙ ap score_of (sym (map_more (asked m texts) (a (1 + length texts))))

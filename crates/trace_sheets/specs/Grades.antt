@@ -1,9 +1,6 @@
 -- How a sheet is graded: each prediction beside the machine's own answer, by which the machine runs on.
-use Rattle.std.specs.Prelude.{◌≡◌, ℕ, ◌+◌, ◌==◌, Bool, ◌||◌, if◌then◌else◌, Option, Some, None, Result, Ok, Err, List, [], ◌∷◌, ◌++◌, map, codes, decimal}
+use Rattle.std.specs.Prelude.{◌≡◌, ℕ, ◌+◌, ◌==◌, Bool, ◌||◌, if◌then◌else◌, Option, Some, None, Result, Ok, Err, List, [], ◌∷◌, ◌++◌, map}
 use Rattle.std.specs.List.{flat_map}
-use Rattle.flat_model.specs.declared.Answer.{Answer}
-use Rattle.flat_model.specs.declared.Answer.TheVariants.{Accepted}
-use Rattle.cache_unit.specs.declared.Lookup.{Lookup}
 use Rattle.machine_core.specs.Machine.{MachineState}
 use Rattle.machine_core.specs.AnyMachine.{answered}
 use Rattle.trace_text.specs.Codes.{line_feed}
@@ -12,13 +9,14 @@ use Rattle.trace_text.specs.Texts.{answer_text, reply_text, after_line}
 use Rattle.trace_text.specs.declared.lines.Line.{Line}
 use Rattle.trace_text.specs.declared.lines.Line.TheVariants as line
 use Rattle.trace_text.specs.declared.lines.LineFault.{LineFault}
+use Rattle.named_fields.specs.declared.format.Format.{Format}
 use Rattle.round_driver.specs.Rounds.{finding}
 use Rattle.trace_text.specs.Reading.{ReadWhole, ReadFails}
 use Rattle.trace_text.specs.declared.fault.TheConstants.{MAX_PAIR}
 use Rattle.trace_text.specs.declared.fault.TraceFault.{TraceFault}
-use Rattle.trace_sheets.specs.Sheets.{accepted_text, is_open, sheet_line, sheet_fault}
+use Rattle.trace_sheets.specs.Sheets.{is_open, sheet_line, sheet_fault}
+use Rattle.trace_sheets.specs.Forms.{full_answer, told, grade_head, score_in}
 use Rattle.trace_sheets.specs.declared.grade.Grade.{Grade}
-use Rattle.trace_sheets.specs.Whys.{words_of}
 use Rattle.trace_sheets.specs.declared.came.Came.{Came}
 use Rattle.trace_sheets.specs.declared.came.Came.TheVariants.{Answered, Shown}
 use Rattle.trace_sheets.specs.declared.score.Mark.{Mark}
@@ -33,20 +31,6 @@ came_of m (line.Event event) = Answered event (answered m event) (finding m even
 came_of m (line.Register slot) = Shown (reply_text m (line.Register slot))
 came_of m (line.Bank at) = Shown (reply_text m (line.Bank at))
 came_of m line.Settled = Shown (reply_text m line.Settled)
-
--- an answer, with what the request found if it was accepted
-abbrev pub full_answer : Answer → Option Lookup → List ℕ
-full_answer Accepted (Some lookup) = accepted_text lookup
-full_answer answer found = answer_text answer
-
-abbrev pub full_text : Came → List ℕ
-full_text (Answered event answer found) = full_answer answer found
-full_text (Shown text) = text
-
--- why, behind it; what is shown has no reason
-abbrev pub why_text : Came → List ℕ
-why_text (Answered event answer found) = codes ": " ++ words_of event found answer
-why_text (Shown text) = []
 
 -- ---- a prediction
 
@@ -68,20 +52,14 @@ pub record Asked : Type 0 where
 abbrev pub mark : Asked → Mark
 mark a = mark_of a.came a.said
 
--- the line as it stands in the sheet, and below it what came, and why
-abbrev pub told : ℕ → List ℕ → Came → List ℕ
-told number text came =
-    codes "line "
-    ++ (decimal number ++ (codes ": " ++ (text ++ (codes "\n  is " ++ (full_text came ++ (why_text came ++ line_feed ∷ []))))))
-
 abbrev pub told_if : Mark → List ℕ → List ℕ
 told_if Right text = []
 told_if Wrong text = text
 told_if Open text = []
 
 -- what is told of a prediction: nothing, unless it is wrong
-abbrev pub correction : Asked → List ℕ
-correction a = told_if (mark a) (told a.number a.text a.came)
+abbrev pub correction : Format → Asked → List ℕ
+correction format a = told_if (mark a) (told format a.number a.text a.said a.came)
 
 -- ---- a sheet
 
@@ -123,38 +101,31 @@ abbrev pub score_of : List Mark → Score
 score_of [] = no_score
 score_of (mark ∷ marks) = with_mark (score_of marks) mark
 
-abbrev pub total : Score → ℕ
-total s = s.right + s.wrong + s.left_open
-
 -- what is told of the wrong predictions, and how many are right, wrong and open
-pub record Graded (m : MachineState) (texts : List (List ℕ)) (m' : MachineState) (report : List ℕ) (score : Score) : Type 0 where
+pub record Graded (format : Format) (m : MachineState) (texts : List (List ℕ)) (m' : MachineState) (report : List ℕ) (score : Score) : Type 0 where
   pub state : m' ≡ after_texts m texts
-  pub told : report ≡ flat_map correction (asked m texts)
+  pub told : report ≡ flat_map (correction format) (asked m texts)
   pub marks : score ≡ score_of (map mark (asked m texts))
 
 -- what becomes of a sheet: it is read to its end and graded, or it has a fault
-abbrev pub SheetEnds : {R : Type 0} (gave : R → List ℕ → R → Type 0) (failed : R → R → Type 0) (r r' : R) (m m' : MachineState) → Result Grade TraceFault → Type 0
-SheetEnds gave failed r r' m m' (Ok grade) =
-    (texts : List (List ℕ)) × ReadWhole gave sheet_fault MAX_PAIR r r' texts × Graded m texts m' grade.report.items grade.score
-SheetEnds gave failed r r' m m' (Err fault) = ReadFails gave failed sheet_fault MAX_PAIR r r' fault
-
--- the last line of a grade: all predictions are counted, the open ones too
-abbrev pub score_text : Score → List ℕ
-score_text s = decimal s.right ++ codes " of " ++ decimal (total s) ++ codes " right, " ++ decimal s.left_open ++ codes " open"
+abbrev pub SheetEnds : {R : Type 0} (gave : R → List ℕ → R → Type 0) (failed : R → R → Type 0) (format : Format) (r r' : R) (m m' : MachineState) → Result Grade TraceFault → Type 0
+SheetEnds gave failed format r r' m m' (Ok grade) =
+    (texts : List (List ℕ)) × ReadWhole gave sheet_fault MAX_PAIR r r' texts × Graded format m texts m' grade.report.items grade.score
+SheetEnds gave failed format r r' m m' (Err fault) = ReadFails gave failed sheet_fault MAX_PAIR r r' fault
 
 -- no prediction is wrong: what is open isn't
 abbrev pub score_status : Score → ℕ
 score_status s = if s.wrong == 0 then 0 else 1
 
 -- all that is written of a grade
-abbrev pub grade_text : List ℕ → Score → List ℕ
-grade_text report score = report ++ (score_text score ++ line_feed ∷ [])
+unfoldable pub grade_text : Format → List ℕ → Score → List ℕ
+grade_text format report score = grade_head format ++ (report ++ (score_in format score ++ line_feed ∷ []))
 
 -- ---- in the middle of a sheet
 
 -- one line more, of this number, which says this
-abbrev pub GradesOne : ℕ → MachineState → List ℕ → Line → Option (List ℕ) → List ℕ → Score → MachineState → List ℕ → Score → Type 0
-GradesOne number m text line None report score m' report' score' = (m' ≡ after_line m line) × (report' ≡ report) × (score' ≡ score)
-GradesOne number m text line (Some said) report score m' report' score' =
-    (m' ≡ after_line m line) × (report' ≡ report ++ told_if (mark_of (came_of m line) said) (told number text (came_of m line))) × (score'
+abbrev pub GradesOne : Format → ℕ → MachineState → List ℕ → Line → Option (List ℕ) → List ℕ → Score → MachineState → List ℕ → Score → Type 0
+GradesOne format number m text line None report score m' report' score' = (m' ≡ after_line m line) × (report' ≡ report) × (score' ≡ score)
+GradesOne format number m text line (Some said) report score m' report' score' =
+    (m' ≡ after_line m line) × (report' ≡ report ++ told_if (mark_of (came_of m line) said) (told format number text said (came_of m line))) × (score'
     ≡ with_mark score (mark_of (came_of m line) said))

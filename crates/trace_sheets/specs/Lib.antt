@@ -1,3 +1,4 @@
 pub mod Sheets
 pub mod Whys
+pub mod Forms
 pub mod Grades

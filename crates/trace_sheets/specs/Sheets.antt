@@ -1,9 +1,10 @@
 -- What the lines of a sheet say: a line of a trace, and what is predicted of it.
-use Rattle.std.specs.Prelude.{ℕ, ◌+◌, Bool, ◌&&◌, ◌||◌, if◌then◌else◌, nat_le, nat_lt, Option, Some, None, Result, Ok, Err, List, length, take, drop, codes}
+use Rattle.std.specs.Prelude.{ℕ, ◌+◌, Bool, ◌||◌, if◌then◌else◌, nat_lt, Option, Some, None, Result, Ok, Err, List, length, take, drop, codes}
 use Rattle.std.specs.List.{list_all}
 use Rattle.std.specs.Option.{is_some}
 use Rattle.cache_unit.specs.declared.Lookup.{Lookup}
 use Rattle.cache_unit.specs.declared.Lookup.TheVariants.{Hit, Join, Miss}
+use Rattle.named_fields.specs.Texts.{is_printable}
 use Rattle.trace_text.specs.declared.fault.TheConstants.{MAX_LINE}
 use Rattle.trace_text.specs.Lines.{same, line_of}
 use Rattle.trace_text.specs.Pairs.{answer_of, arrow_in}
@@ -29,10 +30,6 @@ is_open said = same said (codes "?")
 abbrev pub is_finding : List ℕ → Bool
 is_finding said =
     same said (accepted_text Hit) || (same said (accepted_text Join) || same said (accepted_text Miss))
-
--- a byte from the space to the tilde
-abbrev pub is_printable : ℕ → Bool
-is_printable b = nat_le 32 b && nat_le b 126
 
 -- What may be predicted of a line: of an event an answer, with what the request found or without, and of another line
 -- any text.

@@ -1,29 +1,12 @@
 -- Why an event is answered so, in words.
 use Rattle.std.specs.Prelude.{ℕ, Option, Some, None, List, codes}
-use Rattle.flat_model.specs.declared.Cause.{Cause}
-use Rattle.flat_model.specs.declared.Cause.TheVariants.{OutOfRange, NoLanes, TagInUse, RepliesFull, TargetsFull, BlockQueued, NoRegister, SetPending, QueueFull, BankFull, NotPresent, StackFull, StrayWord}
+use Rattle.flat_model.specs.Causes.{cause_words}
 use Rattle.flat_model.specs.declared.Event.{Event}
 use Rattle.flat_model.specs.declared.Event.TheVariants.{Load, Store, Drain, Serve, Arrive, Process}
 use Rattle.flat_model.specs.declared.Answer.{Answer}
 use Rattle.flat_model.specs.declared.Answer.TheVariants.{Accepted, Moved, Value, Nothing, Refused}
 use Rattle.cache_unit.specs.declared.Lookup.{Lookup}
 use Rattle.cache_unit.specs.declared.Lookup.TheVariants.{Hit, Join, Miss}
-
--- why an event is refused
-abbrev pub cause_words : Cause → List ℕ
-cause_words OutOfRange = codes "it is outside memory"
-cause_words NoLanes = codes "the store names no byte"
-cause_words TagInUse = codes "the tag is owed a value that wasn't taken yet"
-cause_words RepliesFull = codes "as many loads are owed values as may be"
-cause_words TargetsFull = codes "four loads wait for the word already"
-cause_words BlockQueued = codes "the block waits to be written"
-cause_words NoRegister = codes "all registers are in use"
-cause_words SetPending = codes "every way of the set waits for words"
-cause_words QueueFull = codes "the write queue has too few places for the dirty words"
-cause_words BankFull = codes "a bank has too little room for the commands"
-cause_words NotPresent = codes "no frame holds the block"
-cause_words StackFull = codes "the input stack is full"
-cause_words StrayWord = codes "no register waits for the word"
 
 -- what an accepted request found at hand
 abbrev pub hit_words : Event → List ℕ

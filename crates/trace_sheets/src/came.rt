@@ -4,6 +4,8 @@ ghost use Rattle.std.specs.Prelude.{◌≡◌, ◌++◌, OnOk};
 ghost use Rattle.trace_text.specs.Texts.{after_line, bank_text, settled_text};
 ghost use Rattle.round_driver.specs.Rounds as rounds;
 ghost use Rattle.trace_sheets.specs.Sheets.{accepted_text as text_of_accepted};
+ghost use Rattle.named_fields.specs.Formats.{said};
+ghost use Rattle.trace_sheets.specs.Forms as forms;
 ghost use Rattle.trace_sheets.specs.Grades as grades;
 
 use crate::score::Mark;
@@ -11,6 +13,7 @@ use crate::sheet::is_open;
 use crate::words::words_of;
 use flat_model::{Answer, Event, Word};
 use machine_core::Lookup;
+use named_fields::Field;
 use round_driver::RoundMachine;
 use std::alloc::AllocError;
 use trace_text::{Line, LineText, answer_text, register_text};
@@ -77,10 +80,34 @@ impl Came {
         }
     }
 
+    // What came, in full.
+    pub(crate) fn full_text(&self) -> LineText
+        ensures { result ≡ forms.full_text self.now }
+    {
+        match self {
+            Came::Answered { answer, found, .. } => full_answer(*answer, *found),
+            Came::Shown(text) => copy_of(text),
+        }
+    }
+
+    // Why, by its name; what is shown has no reason.
+    pub(crate) fn why_field(&self) -> Field<'static>
+        ensures { said result ≡ forms.why_named self.now }
+    {
+        match self {
+            Came::Answered {
+                event,
+                answer,
+                found,
+            } => Field::quoted("why", words_of(*event, *found, *answer).as_bytes()),
+            Came::Shown(_) => Field::missing("why"),
+        }
+    }
+
     // Tells it, and why, behind a text.
     pub(crate) fn push_to(&self, report: &mut Vec<u8>) -> Result<(), AllocError>
         ensures { OnOk result (report.new.items
-            ≡ report.old.items ++ (grades.full_text self.now ++ grades.why_text self.now)) }
+            ≡ report.old.items ++ (forms.full_text self.now ++ forms.why_text self.now)) }
     {
         match self {
             Came::Answered {
@@ -97,6 +124,15 @@ impl Came {
     }
 }
 
+// The same text.
+fn copy_of(text: &LineText) -> LineText
+    ensures { result ≡ text.now }
+{
+    let mut copy = LineText::new();
+    copy.push_bytes(text.as_bytes());
+    copy
+}
+
 // What a request finds, if it asks for a word.
 fn finding<M: RoundMachine>(machine: &M, event: Event) -> Option<Lookup>
     ensures { result ≡ rounds.finding (M.state machine.now) event }
@@ -111,7 +147,7 @@ fn finding<M: RoundMachine>(machine: &M, event: Event) -> Option<Lookup>
 
 // An answer, with what the request found if it was accepted.
 fn full_answer(answer: Answer, found: Option<Lookup>) -> LineText
-    ensures { result ≡ grades.full_answer answer found }
+    ensures { result ≡ forms.full_answer answer found }
 {
     match (answer, found) {
         (Answer::Accepted, Some(lookup)) => accepted_text(lookup),

@@ -1,13 +1,17 @@
 //! A sheet is graded.
 
-ghost use Rattle.std.specs.Prelude.{◌≡◌, ◌<◌, ◌≤◌, ◌++◌, [], length, OnOk};
+ghost use Rattle.std.specs.Prelude.{◌≡◌, ◌<◌, ◌≤◌, ◌++◌, ◌∷◌, [], length, map, OnOk};
+ghost use Rattle.named_fields.specs.Formats.{said as what_is_said};
 ghost use Rattle.trace_text.specs.declared.fault.TheConstants.{BUFFER_LEN, MAX_LINES, MAX_PAIR};
 ghost use Rattle.trace_sheets.specs.Sheets.{sheet_fault};
-ghost use Rattle.trace_sheets.specs.Grades.{Graded, SheetEnds, mark_of, no_score, told, told_if, total, with_mark};
+ghost use Rattle.trace_text.specs.Codes.{line_feed};
+ghost use Rattle.trace_sheets.specs.Forms.{correction_text, correction_named, full_text, told, total};
+ghost use Rattle.trace_sheets.specs.Grades.{Graded, SheetEnds, mark_of, no_score, told_if, with_mark};
 
 use crate::came::Came;
 use crate::score::{Mark, Score};
 use crate::sheet::sheet_said;
+use named_fields::{Field, Format, Object, Values};
 use round_driver::RoundMachine;
 use std::alloc::{AllocError, Global};
 use trace_text::{
@@ -17,15 +21,21 @@ use trace_text::{
 /// What becomes of a sheet.
 #[derive(Drop)]
 pub struct Grade {
-    /// Each wrong prediction as two lines: `line N: ` with its line, and `  is ` with what came, and why.
+    /// Each wrong prediction, as text in two lines: `line N: ` with its line, and `  is ` with what came, and why. In another
+    /// format it is a line of its own.
     pub report: Vec<u8>,
     /// How many predictions are right, wrong and open.
     pub score: Score,
 }
 
+/// How many fields a line of a grade has.
+pub const CORRECTION_FIELDS: usize = 9;
+
 // A machine that runs through the lines of a sheet, and the grade so far.
 #[derive(Drop)]
 pub(crate) struct Grading<'a, M> {
+    pub(crate) alloc: Global,
+    pub(crate) format: Format,
     pub(crate) machine: &'a mut M,
     pub(crate) report: &'a mut Vec<u8>,
     pub(crate) score: Score,
@@ -39,7 +49,8 @@ fn push_correction(
     came: &Came,
 ) -> Result<(), AllocError>
     requires { number ≤ MAX_LINES }
-    ensures { OnOk result (report.new.items ≡ report.old.items ++ told number text.now came.now) }
+    ensures { OnOk result (report.new.items
+        ≡ report.old.items ++ (correction_text number text.now came.now ++ line_feed ∷ [])) }
 {
     let mut head = LineText::new();
     head.push_bytes(b"line ");
@@ -53,16 +64,99 @@ fn push_correction(
     Ok(())
 }
 
+// A wrong prediction by names, of which this is what came.
+#[tactic(auto, unfolding(crate::specs::Forms::correction_named))]
+fn correction_fields<'b>(
+    number: u64,
+    text: &'b [u8],
+    said: &'b [u8],
+    is: &'b [u8],
+    came: &Came,
+) -> [Field<'b>; CORRECTION_FIELDS]
+    requires { is.now ≡ full_text came.now }
+    ensures { map what_is_said result ≡ correction_named number text.now said.now came.now }
+{
+    [
+        Field::called("kind", "wrong"),
+        Field::count("line", number),
+        Field::quoted("text", text),
+        Field::quoted("predicted", said),
+        Field::quoted("is", is),
+        came.why_field(),
+        Field::missing("right"),
+        Field::missing("wrong"),
+        Field::missing("open"),
+    ]
+}
+
+// Tells a wrong prediction in a format, of which this is what came, in a line of its own or two.
+#[tactic(auto, unfolding(crate::specs::Forms::told, named_fields::specs::Formats::in_format))]
+fn push_form<'b>(
+    alloc: Global,
+    format: Format,
+    report: &mut Vec<u8>,
+    number: u64,
+    text: &'b [u8],
+    said: &'b [u8],
+    is: &'b [u8],
+    came: &Came,
+) -> Result<(), AllocError>
+    requires few { number ≤ MAX_LINES }
+    requires is { is.now ≡ full_text came.now }
+    ensures { OnOk result (report.new.items
+        ≡ report.old.items ++ told format number text.now said.now came.now) }
+{
+    let fields = correction_fields(number, text, said, is, came);
+    match format {
+        Format::Text => push_correction(report, number, text, came),
+        Format::Csv => {
+            let row = format!(in alloc; "{}\n", Values(&fields))?;
+            report.extend_from_slice(row.as_bytes())
+        }
+        Format::Json => {
+            let object = format!(in alloc; "{}\n", Object(&fields))?;
+            report.extend_from_slice(object.as_bytes())
+        }
+    }
+}
+
+// Tells a wrong prediction in a format.
+fn push_told(
+    alloc: Global,
+    format: Format,
+    report: &mut Vec<u8>,
+    number: u64,
+    text: &[u8],
+    said: &[u8],
+    came: &Came,
+) -> Result<(), AllocError>
+    requires { number ≤ MAX_LINES }
+    ensures { OnOk result (report.new.items
+        ≡ report.old.items ++ told format number text.now said.now came.now) }
+{
+    let is = came.full_text();
+    push_form(
+        alloc,
+        format,
+        report,
+        number,
+        text,
+        said,
+        is.as_bytes(),
+        came,
+    )
+}
+
 impl<'a, M: RoundMachine> Grading<'a, M> {
     // The grade so far. Its report is taken out.
-    fn finished(&mut self, alloc: Global) -> Grade
+    fn finished(&mut self) -> Grade
         ensures report { result.report.items ≡ self.old.report.now.items }
         ensures score { result.score ≡ self.old.score }
         ensures machine { self.new.machine ≡ self.old.machine }
         ensures same { self.new.report.ghost_name ≡ self.old.report.ghost_name }
     {
         Grade {
-            report: std::mem::replace(self.report, Vec::new(alloc)),
+            report: std::mem::replace(self.report, Vec::new(self.alloc)),
             score: self.score,
         }
     }
@@ -72,7 +166,8 @@ impl<'a, M: RoundMachine> Grading<'a, M> {
         requires number { number ≤ MAX_LINES }
         requires few { total self.old.score < MAX_LINES }
         ensures report { OnOk result (self.new.report.now.items ≡ self.old.report.now.items
-            ++ told_if (mark_of came.now said.now) (told number text.now came.now)) }
+            ++ told_if (mark_of came.now said.now) (told self.old.format number text.now said.now came.now)) }
+        ensures format { self.new.format ≡ self.old.format }
         ensures score { self.new.score ≡ with_mark self.old.score (mark_of came.now said.now) }
         ensures machine { self.new.machine ≡ self.old.machine }
         ensures same { self.new.report.ghost_name ≡ self.old.report.ghost_name }
@@ -80,7 +175,15 @@ impl<'a, M: RoundMachine> Grading<'a, M> {
         let mark = came.mark(said);
         self.score.count(mark);
         match mark {
-            Mark::Wrong => push_correction(self.report, number, text, came),
+            Mark::Wrong => push_told(
+                self.alloc,
+                self.format,
+                self.report,
+                number,
+                text,
+                said,
+                came,
+            ),
             Mark::Right | Mark::Open => Ok(()),
         }
     }
@@ -91,7 +194,7 @@ impl<'a, M: RoundMachine> Collector for Grading<'a, M> {
 
     ghost longest = { MAX_PAIR };
 
-    ghost went = { λ s texts t. Graded (M.state s.machine.now) texts (M.state t.machine.now) t.report.now.items t.score };
+    ghost went = { λ s texts t. (t.format ≡ s.format) × Graded s.format (M.state s.machine.now) texts (M.state t.machine.now) t.report.now.items t.score };
 
     ghost stopped = { λ s text t. Unit {0} };
 
@@ -131,20 +234,23 @@ impl<'a, M: RoundMachine> Collector for Grading<'a, M> {
 ///
 /// A fault gives no grade, and leaves the machine behind lines before it. The first one in the order of the lines
 /// is answered, as by [`read_requests`](trace_text::read_requests): a line with a prediction that can't be one
-/// is a bad field. [`TraceFault::OutOfMemory`] may come in place of any answer, and [`TraceFault::Write`] never comes.
+/// is a bad field. What is told of a wrong prediction is told in the format. [`TraceFault::OutOfMemory`] may come in place of any answer, and [`TraceFault::Write`] never comes.
 ///
 /// One buffer of 4,096 bytes is allocated before the first read. The report takes more.
 pub fn grade_sheet<R: Source, M: RoundMachine>(
     alloc: Global,
+    format: Format,
     reader: &mut R,
     machine: &mut M,
 ) -> Result<Grade, TraceFault>
-    ensures { SheetEnds R.gave R.failed reader.old reader.new (M.state machine.old) (M.state machine.new)
+    ensures { SheetEnds R.gave R.failed format reader.old reader.new (M.state machine.old) (M.state machine.new)
         result }
 {
     let mut buffer = vec![in alloc; 0u8; BUFFER_LEN]?;
     let mut report = Vec::new(alloc);
     let mut grading = Grading {
+        alloc,
+        format,
         machine,
         report: &mut report,
         score: Score {
@@ -153,12 +259,11 @@ pub fn grade_sheet<R: Source, M: RoundMachine>(
             left_open: 0,
         },
     };
-    grade_through(alloc, reader, &mut grading, &mut buffer)
+    grade_through(reader, &mut grading, &mut buffer)
 }
 
 // Grades a sheet to its end, through a buffer.
 fn grade_through<R: Source, M: RoundMachine>(
-    alloc: Global,
     reader: &mut R,
     grading: &mut Grading<M>,
     buffer: &mut [u8],
@@ -166,13 +271,13 @@ fn grade_through<R: Source, M: RoundMachine>(
     requires room { length buffer.old ≡ BUFFER_LEN }
     requires report { grading.old.report.now.items ≡ [] }
     requires score { grading.old.score ≡ no_score }
-    ensures ends { SheetEnds R.gave R.failed reader.old reader.new (M.state grading.old.machine.now)
+    ensures ends { SheetEnds R.gave R.failed grading.old.format reader.old reader.new (M.state grading.old.machine.now)
         (M.state grading.new.machine.now) result }
     ensures same_machine { grading.new.machine.ghost_name ≡ grading.old.machine.ghost_name }
     ensures same_report { grading.new.report.ghost_name ≡ grading.old.report.ghost_name }
 {
     match read_lines(reader, grading, MAX_PAIR, buffer) {
-        Ok(()) => Ok(grading.finished(alloc)),
+        Ok(()) => Ok(grading.finished()),
         Err(stop) => Err(stop.fault_or(TraceFault::OutOfMemory)),
     }
 }

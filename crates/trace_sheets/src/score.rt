@@ -1,9 +1,14 @@
 //! How many predictions are right, wrong and open.
 
-ghost use Rattle.std.specs.Prelude.{◌≡◌, ◌<◌, ◌+◌, Some};
+ghost use Rattle.std.specs.Prelude.{◌≡◌, ◌<◌, ◌+◌, Some, map};
+ghost use Rattle.named_fields.specs.Formats.{said};
 ghost use Rattle.trace_text.specs.declared.fault.TheConstants.{MAX_LINES};
-ghost use Rattle.trace_sheets.specs.Grades.{with_mark, total, score_text, score_status};
+ghost use Rattle.trace_sheets.specs.Forms as forms;
+ghost use Rattle.trace_sheets.specs.Forms.{score_named, score_text, total};
+ghost use Rattle.trace_sheets.specs.Grades.{with_mark, score_status};
 
+use crate::grade::CORRECTION_FIELDS;
+use named_fields::{Field, Format, Header, Object, Values};
 use std::fmt;
 
 /// What a prediction is.
@@ -58,5 +63,63 @@ impl fmt::Display for Score {
         let open = self.left_open;
         let asked = u128::from(self.right) + u128::from(self.wrong) + u128::from(self.left_open);
         write!(f, "{right} of {asked} right, {open} open")
+    }
+}
+
+// A score by names.
+#[tactic(auto, unfolding(crate::specs::Forms::score_named))]
+fn score_fields(score: Score) -> [Field<'static>; CORRECTION_FIELDS]
+    ensures { map said result ≡ score_named score }
+{
+    [
+        Field::called("kind", "score"),
+        Field::missing("line"),
+        Field::missing("text"),
+        Field::missing("predicted"),
+        Field::missing("is"),
+        Field::missing("why"),
+        Field::count("right", score.right),
+        Field::count("wrong", score.wrong),
+        Field::count("open", score.left_open),
+    ]
+}
+
+/// A score in a format: the last line of a grade.
+#[derive(Clone, Copy)]
+pub struct ScoreIn(pub Format, pub Score);
+
+impl fmt::Display for ScoreIn {
+    ghost output = { λ it. Some (forms.score_in it.0 it.1) };
+
+    #[tactic(auto, unfolding(crate::specs::Forms::score_in, named_fields::specs::Formats::in_format))]
+    fn fmt<W: fmt::Write>(&self, f: &mut fmt::Formatter<W>) -> fmt::Result {
+        let score = self.1;
+        let fields = score_fields(score);
+        match self.0 {
+            Format::Text => write!(f, "{score}"),
+            Format::Csv => write!(f, "{}", Values(&fields)),
+            Format::Json => write!(f, "{}", Object(&fields)),
+        }
+    }
+}
+
+/// The names of a grade's fields as a line of its own, if the format has one: what stands before its first line.
+#[derive(Clone, Copy)]
+pub struct GradeHead(pub Format);
+
+impl fmt::Display for GradeHead {
+    ghost output = { λ head. Some (forms.grade_head head.0) };
+
+    #[tactic(auto, unfolding(crate::specs::Forms::grade_head, named_fields::specs::Formats::head_in_format))]
+    fn fmt<W: fmt::Write>(&self, f: &mut fmt::Formatter<W>) -> fmt::Result {
+        let fields = score_fields(Score {
+            right: 0,
+            wrong: 0,
+            left_open: 0,
+        });
+        match self.0 {
+            Format::Csv => write!(f, "{}\n", Header(&fields)),
+            Format::Text | Format::Json => Ok(()),
+        }
     }
 }

@@ -7,6 +7,7 @@ ghost use Rattle.flat_model.specs.declared.Event.{Event as EventValue};
 ghost use Rattle.trace_text.specs.declared.fault.TheConstants.{MAX_PAIR};
 ghost use Rattle.trace_text.specs.Lines.{IsSaid};
 ghost use Rattle.trace_text.specs.Pairs.{answer_of, arrow_in, pair_of};
+ghost use Rattle.named_fields.specs.Texts.{is_printable};
 ghost use Rattle.trace_sheets.specs.Sheets as sheets;
 ghost use Rattle.trace_sheets.specs.Sheets.{front_of, is_prediction, sheet_line};
 
@@ -105,7 +106,7 @@ fn is_answer(text: &[u8], said: &[u8]) -> bool
 
 // Whether all bytes are printable.
 fn is_printable(said: &[u8]) -> bool
-    ensures { result ≡ list_all sheets.is_printable said.now }
+    ensures { result ≡ list_all is_printable said.now }
 {
     said.iter().all(|byte| 32 <= *byte && *byte <= 126)
 }

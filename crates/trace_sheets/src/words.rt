@@ -3,7 +3,7 @@
 ghost use Rattle.std.specs.Prelude.{◌≡◌};
 ghost use Rattle.trace_sheets.specs.Whys as whys;
 
-use flat_model::{Answer, Cause, Event};
+use flat_model::{Answer, Event};
 use machine_core::Lookup;
 
 // What an event did, or why it didn't. A request found this, if it asks for a word.
@@ -15,7 +15,7 @@ pub(crate) fn words_of(event: Event, found: Option<Lookup>, answer: Answer) -> &
         Answer::Moved => moved_words(event),
         Answer::Value { .. } => "the word as it stood when the load was accepted",
         Answer::Nothing => idle_words(event),
-        Answer::Refused(cause) => cause_words(cause),
+        Answer::Refused(cause) => cause.words(),
     }
 }
 
@@ -71,26 +71,5 @@ fn idle_words(event: Event) -> &'static str
         Event::Arrive { .. } => "no answer stands at this place of the bank",
         Event::Process { .. } => "no word stands at this place of the input stack",
         _ => "no value stands ready at this place",
-    }
-}
-
-// Why an event is refused.
-fn cause_words(cause: Cause) -> &'static str
-    ensures { result.now ≡ whys.cause_words cause }
-{
-    match cause {
-        Cause::OutOfRange => "it is outside memory",
-        Cause::NoLanes => "the store names no byte",
-        Cause::TagInUse => "the tag is owed a value that wasn't taken yet",
-        Cause::RepliesFull => "as many loads are owed values as may be",
-        Cause::TargetsFull => "four loads wait for the word already",
-        Cause::BlockQueued => "the block waits to be written",
-        Cause::NoRegister => "all registers are in use",
-        Cause::SetPending => "every way of the set waits for words",
-        Cause::QueueFull => "the write queue has too few places for the dirty words",
-        Cause::BankFull => "a bank has too little room for the commands",
-        Cause::NotPresent => "no frame holds the block",
-        Cause::StackFull => "the input stack is full",
-        Cause::StrayWord => "no register waits for the word",
     }
 }

@@ -13,7 +13,8 @@ use Rattle.flat_model.specs.Flat.{Flat, may_answer, flat_after, flat_step, flat_
 use Rattle.trace_text.specs.Lines.{line_of}
 use Rattle.trace_text.specs.Pairs.{pair_of}
 use Rattle.trace_text.specs.Requests.{IsRequest, request_event, request_in, request_of, requests_of}
-use Rattle.trace_text.specs.Checks.{step_of, event_of, answer_of, number_of, events_in, answers_in, numbers_from, step_with, zeros, IsJudged, JudgedFrom, Judges}
+use Rattle.trace_text.specs.Checks.{step_of, event_of, answer_of, number_of, events_in, answers_in, numbers_from, step_with, zeros, IsJudged, IsJudgedFrom, JudgedFrom, Judges}
+use Rattle.trace_text.specs.declared.check.CheckEnd.{CheckEnd}
 use Rattle.trace_text.specs.declared.check.CheckEnd.TheVariants.{Flat as FlatRun, Mismatch}
 use Rattle.trace_text.specs.declared.check.Step.{Step}
 use Rattle.trace_text.specs.declared.lines.Line.{Line}
@@ -245,12 +246,23 @@ few_steps start now texts steps (Some n) judged = omega (arith, judged.0, events
 
 -- ---- what is answered
 
-pub judged_flat : (words : ℕ) (start now : Flat) (texts : List (List ℕ)) (steps : ℕ) (o : Option ℕ) → start ≡ zeros words → JudgedFrom start texts steps o now → o ≡ None → IsJudged words texts (FlatRun steps)
-judged_flat words start now texts steps None opens judged is = (judged.0, (now, ap (λ m. flat_run m (events_in texts) (answers_in texts)) (sym opens) ∙ judged.1))
-judged_flat words start now texts steps (Some n) opens judged is = cc
+pub judged_flat : (start now : Flat) (texts : List (List ℕ)) (steps : ℕ) (o : Option ℕ) → JudgedFrom start texts steps o now
+    → o ≡ None → IsJudgedFrom start texts (FlatRun steps) now
+judged_flat start now texts steps None judged is = judged
+judged_flat start now texts steps (Some n) judged is = cc
 
-pub judged_mismatch : (words : ℕ) (start now : Flat) (texts : List (List ℕ)) (steps n : ℕ) (o : Option ℕ) → start ≡ zeros words → JudgedFrom start texts steps o now → o ≡ Some n → IsJudged words texts (Mismatch n)
-judged_mismatch words start now texts steps n None opens judged is = cc
-judged_mismatch words start now texts steps n (Some m) opens judged is =
-    let fault : first_fault (zeros words) (events_in texts) (answers_in texts) ≡ Some judged.1.0 = ap (λ x. first_fault x (events_in texts) (answers_in texts)) (sym opens) ∙ judged.1.1 in
-    (fault_no_run (events_in texts) (answers_in texts) (zeros words) judged.1.0 fault, (judged.1.0, fault, judged.1.2 ∙ is))
+pub judged_mismatch : (start now : Flat) (texts : List (List ℕ)) (steps n : ℕ) (o : Option ℕ) → JudgedFrom start texts steps o now
+    → o ≡ Some n → IsJudgedFrom start texts (Mismatch n) now
+judged_mismatch start now texts steps n None judged is = cc
+judged_mismatch start now texts steps n (Some m) judged is =
+    (fault_no_run (events_in texts) (answers_in texts) start judged.1.0 judged.1.1, (judged.1.0, judged.1.1, judged.1.2 ∙ is))
+
+-- from zeros on
+pub judged_zeros : (words : ℕ) (start last : Flat) (texts : List (List ℕ)) (end : CheckEnd) → start ≡ zeros words
+    → IsJudgedFrom start texts end last → IsJudged words texts end
+judged_zeros words start last texts (FlatRun steps) opens judged =
+    (judged.0, (last, ap (λ m. flat_run m (events_in texts) (answers_in texts)) (sym opens) ∙ judged.1))
+judged_zeros words start last texts (Mismatch n) opens judged = (
+  ap (λ m. flat_run m (events_in texts) (answers_in texts)) (sym opens) ∙ judged.0,
+  (judged.1.0, ap (λ m. first_fault m (events_in texts) (answers_in texts)) (sym opens) ∙ judged.1.1, judged.1.2),
+)

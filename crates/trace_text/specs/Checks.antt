@@ -55,7 +55,14 @@ numbers_from n (text ∷ texts) = number_of n (step_of (pair_of text)) ++ number
 abbrev pub zeros : ℕ → Flat
 zeros words = opening (replicate words zero_word)
 
--- all pairs are a flat run from zeros, or this is the line of the first that isn't listed
+-- all pairs are a flat run from one memory to the other, or this is the line of the first that isn't listed
+abbrev pub IsJudgedFrom : Flat → List (List ℕ) → CheckEnd → Flat → Type 0
+IsJudgedFrom start texts (FlatRun steps) last =
+    (steps ≡ length (events_in texts)) × (flat_run start (events_in texts) (answers_in texts) ≡ Some last)
+IsJudgedFrom start texts (Mismatch n) last =
+    (flat_run start (events_in texts) (answers_in texts) ≡ None) × ((place : ℕ) × (first_fault start (events_in texts) (answers_in texts) ≡ Some place) × (slice_get (numbers_from 1 texts) place ≡ Some n))
+
+-- the same from zeros on
 abbrev pub IsJudged : ℕ → List (List ℕ) → CheckEnd → Type 0
 IsJudged words texts (FlatRun steps) = (steps ≡ length (events_in texts)) × ((last : Flat) × (flat_run (zeros words) (events_in texts) (answers_in texts) ≡ Some last))
 IsJudged words texts (Mismatch n) = (flat_run (zeros words) (events_in texts) (answers_in texts) ≡ None) × ((place : ℕ) × (first_fault (zeros words) (events_in texts) (answers_in texts) ≡ Some place) × (slice_get (numbers_from 1 texts) place ≡ Some n))

@@ -1,9 +1,10 @@
 //! A served trace is checked against flat memory.
 ghost use Rattle.std.specs.Prelude.{◌≡◌, ℕ, ◌<◌, List, OnOk, IfOk, IfErr};
 ghost use Rattle.trace_text.specs.declared.fault.TheConstants.{MAX_LINES, MAX_PAIR};
+ghost use Rattle.flat_model.specs.Flat.{Flat};
 ghost use Rattle.flat_model.specs.Memory.{shown};
 ghost use Rattle.trace_text.specs.Reading.{ReadWhole, ReadFails};
-ghost use Rattle.trace_text.specs.Checks.{step_with, pair_fault, IsJudged, JudgedFrom, Judges};
+ghost use Rattle.trace_text.specs.Checks.{step_with, pair_fault, IsJudged, IsJudgedFrom, JudgedFrom, Judges};
 
 use crate::fault::{BUFFER_LEN, MAX_PAIR, TraceFault};
 use crate::lines::Line;
@@ -74,6 +75,22 @@ impl Checking {
             Err(StepFault::OutOfMemory) => Err(Uncollected::Halted),
         }
     }
+
+    // What was found.
+    fn told(self) -> Checked
+        ensures { (start : Flat) (texts : List (List ℕ))
+            → JudgedFrom start texts self.steps self.mismatch (shown self.memory)
+            → IsJudgedFrom start texts result.end (shown result.memory) }
+    {
+        let end = match self.mismatch {
+            None => CheckEnd::Flat { steps: self.steps },
+            Some(line) => CheckEnd::Mismatch { line },
+        };
+        Checked {
+            end,
+            memory: self.memory,
+        }
+    }
 }
 
 impl Collector for Checking {
@@ -104,9 +121,19 @@ impl Collector for Checking {
     }
 }
 
-/// Reads a whole served trace, and judges its events and answers from `words` words of zeros on.
-/// Each line is read as by [`read_pair`](crate::read_pair). Behind a mismatch the rest is read too, so
-/// that a fault in a later line is the answer.
+/// What a check of a served trace found, and flat memory as it stands behind the run: its words, and
+/// what each tag is still owed. Behind a mismatch it stands as it was before that line.
+#[derive(Drop)]
+pub struct Checked {
+    /// What was found.
+    pub end: CheckEnd,
+    /// Flat memory behind the steps that were made.
+    pub memory: FlatMemory,
+}
+
+/// Reads a whole served trace, and judges its events and answers from this memory on. Each line is read
+/// as by [`read_pair`](crate::read_pair). Behind a mismatch the rest is read too, so that a fault in a
+/// later line is the answer.
 ///
 /// A fault gives no result, and the reader may have been read beyond it. The first one in the order
 /// of the lines is answered: [`TraceFault::Line`] with the number of the line, counted from 1, that
@@ -115,9 +142,34 @@ impl Collector for Checking {
 /// long before it. [`TraceFault::OutOfMemory`] may come in place of any answer, and
 /// [`TraceFault::Write`] never comes.
 ///
-/// The memory that the lines are judged by and one buffer of 4,096 bytes are taken before the first
-/// read. No line is kept: what is taken later grows with the tags that are owed a word at a time
-/// alone, of which there are at most 65,536.
+/// One buffer of 4,096 bytes is taken before the first read. No line is kept: what is taken later grows
+/// with the tags that are owed a word at a time alone, of which there are at most 65,536.
+pub fn check_from<R: Source>(
+    alloc: Global,
+    reader: &mut R,
+    memory: FlatMemory,
+) -> Result<Checked, TraceFault>
+    ensures judged { IfOk result
+        (λ checked. (texts : List (List ℕ))
+        × ReadWhole R.gave pair_fault MAX_PAIR reader.old reader.new texts
+        × IsJudgedFrom (shown memory) texts checked.end (shown checked.memory)) }
+    ensures fault { IfErr result
+        (ReadFails R.gave R.failed pair_fault MAX_PAIR reader.old reader.new) }
+{
+    let mut checking = Checking {
+        memory,
+        steps: 0,
+        mismatch: None,
+    };
+    let mut buffer = vec![in alloc; 0u8; BUFFER_LEN]?;
+    match read_lines(reader, &mut checking, MAX_PAIR, &mut buffer) {
+        Ok(()) => Ok(checking.told()),
+        Err(stop) => Err(stop.fault_or(TraceFault::OutOfMemory)),
+    }
+}
+
+/// Reads and judges a whole served trace as [`check_from`] does, from `words` words of zeros on, which
+/// are taken before the first read.
 pub fn check_text<R: Source>(
     alloc: Global,
     reader: &mut R,
@@ -129,19 +181,7 @@ pub fn check_text<R: Source>(
     ensures fault { IfErr result
         (ReadFails R.gave R.failed pair_fault MAX_PAIR reader.old reader.new) }
 {
-    let mut checking = Checking {
-        memory: FlatMemory::zeros(alloc, words)?,
-        steps: 0,
-        mismatch: None,
-    };
-    let mut buffer = vec![in alloc; 0u8; BUFFER_LEN]?;
-    match read_lines(reader, &mut checking, MAX_PAIR, &mut buffer) {
-        Ok(()) => Ok(match checking.mismatch {
-            None => CheckEnd::Flat {
-                steps: checking.steps,
-            },
-            Some(line) => CheckEnd::Mismatch { line },
-        }),
-        Err(stop) => Err(stop.fault_or(TraceFault::OutOfMemory)),
-    }
+    let memory = FlatMemory::zeros(alloc, words)?;
+    let checked = check_from(alloc, reader, memory)?;
+    Ok(checked.end)
 }

@@ -30,7 +30,7 @@ mod streams;
 mod text;
 mod writers;
 
-pub use check::{CheckEnd, check_text};
+pub use check::{CheckEnd, Checked, check_from, check_text};
 pub use events::read_events;
 pub use fault::{BUFFER_LEN, MAX_LINE, MAX_LINE_LIMIT, MAX_LINES, MAX_PAIR, TraceFault};
 pub use fields::{nibble, number};

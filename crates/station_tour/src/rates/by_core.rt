@@ -4,7 +4,7 @@ use crate::fault::StationFault;
 use flat_model::{Answer, Event, Word};
 use machine_core::Machine;
 use ring_station::Ask;
-use station_checks::{BLOCK_WORDS, DEPTH, REGS, WAYS, WORDS, passes, shape};
+use station_checks::{BLOCK_WORDS, DEPTH, REGS, WAYS, WORDS, shape};
 use std::alloc::Global;
 
 // Steps for one request, or to the machine's rest, which no request needs.
@@ -41,7 +41,7 @@ fn ask_all(core: &mut Core, requests: &[Ask]) -> Result<bool, StationFault> {
 fn ask_one(core: &mut Core, event: Event) -> Result<(), StationFault> {
     for _turn in 0..TURNS {
         match core.apply(event) {
-            Answer::Refused(cause) if passes(cause) => {
+            Answer::Refused(cause) if cause.passes() => {
                 let _moved = core.pump();
             }
             _ => return Ok(()),

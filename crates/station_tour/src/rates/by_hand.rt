@@ -2,7 +2,7 @@
 
 use crate::fault::StationFault;
 use ring_station::{Ask, BankSide, CacheSide, Port, Source, Station, Stepped, Told, station};
-use station_checks::{BLOCK_WORDS, DEPTH, ENTRIES, REGS, WAYS, passes, shape};
+use station_checks::{BLOCK_WORDS, DEPTH, ENTRIES, REGS, WAYS, shape};
 use std::alloc::Global;
 
 type Cache = CacheSide<WAYS, BLOCK_WORDS, REGS, DEPTH>;
@@ -54,7 +54,7 @@ fn ask_one(
         }
         cache.step(Source::Ask(0));
         match port.take() {
-            Some(Told::Refused(cause)) if passes(cause) => {
+            Some(Told::Refused(cause)) if cause.passes() => {
                 move_on(cache, port, banks);
             }
             Some(_) => return Ok(()),

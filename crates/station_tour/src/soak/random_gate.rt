@@ -3,7 +3,6 @@
 use crate::soak::trial::Draws;
 use flat_model::MAX_BANKS;
 use ring_station::{Actor, Gate, Told};
-use station_checks::passes;
 use station_parts::MAX_PORTS;
 use std::alloc::{AllocError, Global};
 use std::sync::atomic::{AtomicU32, Ordering};
@@ -110,7 +109,7 @@ impl Gate for RandomGate {
         let Told::Refused(cause) = *told else {
             return;
         };
-        if passes(cause)
+        if cause.passes()
             && let Some(hold) = self.hold(port.saturating_add(FIRST_PORT))
         {
             hold.left.store(hold.patience, Ordering::SeqCst);

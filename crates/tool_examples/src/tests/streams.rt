@@ -27,15 +27,19 @@ impl Read for FailsOnce {
 
 #[test]
 fn a_failed_read_ends_each_job(rt: HostRuntime) -> Result<(), Fail> {
-    let jobs: [&[&str]; 8] = [
+    let jobs: [&[&str]; 12] = [
         &["run"],
         &["check"],
         &["sweep"],
         &["sweep", "--latency", "0"],
         &["explain"],
+        &["grade"],
         &["drive"],
+        &["drive", "--summary"],
         &["show"],
         &["requests", "--from", "din"],
+        &["history"],
+        &["history", "--values"],
     ];
     for words in jobs {
         let mut input = FailsOnce { calls: 0 };
@@ -105,7 +109,7 @@ fn is_refused<R: Abort + AllocGlobal + Files + Threads + Sync>(
 #[test]
 fn a_refused_write_or_flush_ends_each_job(rt: HostRuntime) -> Result<(), Fail> {
     let one_page: &[&str] = &["requests", "--from", "din", "--words", "1024"];
-    let jobs: [(&[&str], &str); 12] = [
+    let jobs: [(&[&str], &str); 18] = [
         (&["run"], "drain\n"),
         (&["check"], "drain -> nothing\n"),
         (&["check"], "drain -> accepted\n"),
@@ -113,8 +117,14 @@ fn a_refused_write_or_flush_ends_each_job(rt: HostRuntime) -> Result<(), Fail> {
         (&["sweep", "--latency", "0"], "load 1 0\n"),
         (&["explain"], "drain -> nothing\n"),
         (&["explain"], "drain -> accepted\n"),
+        (&["grade"], "drain -> nothing\n"),
         (&["drive"], "load 1 0\n"),
+        (&["drive", "--summary"], "load 1 0\n"),
         (&["show"], "drain\n"),
+        (&["show", "--text"], "drain\n"),
+        (&["show", "--vcd"], "drain\n"),
+        (&["history"], "load-request 7 0x1000 1\n"),
+        (&["history", "--values"], "load-request 7 0x1000 1\n"),
         (&["--help"], ""),
         (one_page, "0 0\n"),
         // The flush behind a page without room goes before that fault.

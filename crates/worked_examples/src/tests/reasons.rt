@@ -2,6 +2,7 @@
 
 use super::fixture::{Behind, Script, ZERO, same};
 use flat_model::{Answer, Event, Lanes, Word};
+use memory_images::Image;
 use run_reasons::{Explainer, Mismatch, ReadFault, Reason, explain_text};
 use std::alloc::Global;
 use std::process::Abort;
@@ -295,7 +296,7 @@ fn ends<R: Abort>(
 ) -> Result<(), Fail> {
     for most in PIECES {
         let mut input = Script::new(run, most, [behind, behind]);
-        match explain_text(alloc, &mut input, 64) {
+        match explain_text(alloc, &mut input, &Image::Zeros, 64) {
             Ok(explanation) => {
                 let text = format!(in alloc; "{explanation}")?;
                 same(rt, name, Ok(text.as_str()), told);
@@ -545,7 +546,7 @@ const READ: &[(&str, u64, Event, Answer, Option<Reason>)] = &[
 
 #[test]
 fn a_line_that_is_refused_changes_nothing(rt: HostRuntime) -> Result<(), Fail> {
-    let mut explainer = Explainer::new(rt.alloc(), 8)?;
+    let mut explainer = Explainer::new(rt.alloc(), &Image::Zeros, 8)?;
     for (name, line, event, answer, reason) in READ {
         let (line, event, answer) = (*line, *event, *answer);
         let wanted = match reason {

@@ -10,6 +10,7 @@ use cache_unit::CacheUnit;
 use flat_model::{Answer, Event, FlatMemory, Lanes, MakeFault, ReplayFault, ShapeField};
 use machine_core::Machine;
 use memory_banks::Banks;
+use memory_images::Image;
 use miss_registers::RegisterFile;
 use run_reasons::{Explanation, explain_text};
 use std::io::Cursor;
@@ -183,9 +184,9 @@ fn reading_requests_may_find_no_memory(rt: HostRuntime) -> Result<(), Fail> {
 #[test]
 fn a_reading_may_find_no_memory(rt: HostRuntime) -> Result<(), Fail> {
     let run = "load 1 4 -> accepted\ntake 0 -> value 1 00000000\n";
-    let mut told = explain_text(rt.alloc(), &mut run.as_bytes(), 64);
+    let mut told = explain_text(rt.alloc(), &mut run.as_bytes(), &Image::Zeros, 64);
     if told == Err(TraceFault::OutOfMemory) {
-        told = explain_text(rt.alloc(), &mut run.as_bytes(), 64);
+        told = explain_text(rt.alloc(), &mut run.as_bytes(), &Image::Zeros, 64);
     }
     same(
         &rt,

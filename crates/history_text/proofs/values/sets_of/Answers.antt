@@ -1,5 +1,4 @@
-use Rattle.std.proofs.Common.{◌≡◌, ◌+◌, ◌∷◌, [], ℕ, Option, List, length, length-append, sym, subst, ap, arith}
-use Rattle.memory_histories.specs.declared.sets.ByteSet.{ByteSet}
+use Rattle.std.proofs.Common.{◌≡◌, ◌+◌, ◌∷◌, [], length, length-append, sym, subst, ap, arith}
 use Rattle.history_text.specs.Values.{AreSetsFrom}
 use Rattle.history_text.proofs.Written.{sets_more}
 use Rattle.history_text.proofs.values.sets_of.Goals as goal

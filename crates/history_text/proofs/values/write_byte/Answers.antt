@@ -1,8 +1,8 @@
-use Rattle.std.proofs.Common.{◌≡◌, ◌+◌, ◌<◌, ◌++◌, ◌∷◌, [], ℕ, List, ap, refl, sym, ◌∙◌, subst, arith}
+use Rattle.std.proofs.Common.{◌+◌, ◌<◌, ◌++◌, ◌∷◌, [], ℕ, List, ap, refl, sym, ◌∙◌, subst, arith}
 use Rattle.history_text.specs.Lines.{line_of, seen_in, seen_by}
 use Rattle.history_text.specs.Histories.{events_of, HasRead, texts_with}
 use Rattle.history_text.specs.Values.{IsTold, Told, one_more, TellStops, ByteStops}
-use Rattle.history_text.proofs.LinesRead.{texts_same, ends_long, at_line_end, on_ok, if_err, passed_on}
+use Rattle.history_text.proofs.LinesRead.{ends_long, at_line_end, on_ok, if_err, passed_on}
 use Rattle.history_text.proofs.Written.{tell_stops, line_stops}
 use Rattle.history_text.proofs.values.write_byte.Goals as goal
 

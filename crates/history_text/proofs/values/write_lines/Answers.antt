@@ -1,4 +1,4 @@
-use Rattle.std.proofs.Common.{◌+◌, ◌<◌, ◌≤◌, ◌++◌, ℕ, List, length, take, drop, sym, subst, refl, arith}
+use Rattle.std.proofs.Common.{◌+◌, ◌<◌, ◌≤◌, ◌++◌, ℕ, List, length, take, drop, subst, refl, arith}
 use Rattle.history_text.specs.Histories.{HasRead}
 use Rattle.history_text.specs.Values.{Told, ToldIn}
 use Rattle.history_text.proofs.LineTexts.{rest_behind}

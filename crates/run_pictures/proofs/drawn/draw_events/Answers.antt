@@ -1,4 +1,4 @@
-use Rattle.std.proofs.Common.{◌+◌, drop, subst, sym}
+use Rattle.std.proofs.Common.{◌+◌, drop, length, subst, sym}
 use Rattle.std.proofs.lemmas.List.{drop_more}
 use Rattle.run_pictures.specs.Drawn.{Follows}
 use Rattle.run_pictures.proofs.drawn.draw_events.Goals as goal
@@ -7,7 +7,7 @@ pub loop-k-preserved : goal.loop-k-preserved
 loop-k-preserved g c last rest =
     let k = c.loop-k.k in
     let s = g.M.AnyMachine.state c.loop-k.machine in
-    let events = c.args.events.now in
+    let all = c.args.all.now in
     let next = c.draw_event.new.drawing in
-    let behind = subst (λ t. Follows (k + 1 + 1) t (drop (k + 1) events) next last) c.draw_event.ensures.state rest in
-    c.loop-k.invariant last (subst (λ es. Follows (k + 1) s es c.loop-k.drawing last) (sym (drop_more events k _ c.loop-k-test.true)) (next, c.in_ok-draw_event.ensures.step, behind))
+    let behind = subst (λ t. Follows (length all) (k + 1 + 1) t (drop (k + 1) all) next last) c.draw_event.ensures.state rest in
+    c.loop-k.invariant last (subst (λ es. Follows (length all) (k + 1) s es c.loop-k.drawing last) (sym (drop_more all k _ c.loop-k-test.true)) (next, c.in_ok-draw_event.ensures.step, behind))

@@ -7,5 +7,5 @@ use Rattle.run_pictures.proofs.waveform.push_changes.Goals as goal
 pub loop-k-preserved : goal.loop-k-preserved
 loop-k-preserved c =
     let k = c.loop-k.k in
-    let f = change_text c.args.signals.now c.args.before.now c.args.values.now in
+    let f = change_text c.args.before.now c.args.values.now in
     c.in_ok-push_change.ensures ∙ ap (λ l. l ++ f k) c.loop-k.invariant ∙ flat_map_next f (string_bytes c.args.wave.now) k

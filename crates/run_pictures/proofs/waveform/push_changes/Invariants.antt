@@ -6,4 +6,4 @@ use Rattle.run_pictures.proofs.waveform.push_changes.Given as goal
 
 -- the values of the signals so far that changed stand behind the text
 abbrev pub invariant-loop-k : goal.invariant-loop-k
-invariant-loop-k l = string_bytes l.wave ≡ string_bytes l.initial.wave ++ flat_map (change_text l.signals l.before l.values) (range_with_len 0 l.k)
+invariant-loop-k l = string_bytes l.wave ≡ string_bytes l.initial.wave ++ flat_map (change_text l.before l.values) (range_with_len 0 l.k)

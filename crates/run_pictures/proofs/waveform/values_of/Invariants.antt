@@ -1,7 +1,8 @@
 use Rattle.std.proofs.Common.{◌≡◌, map, take}
-use Rattle.run_pictures.specs.Waves.{value_of}
+use Rattle.std.specs.String.{string_bytes}
+use Rattle.run_pictures.specs.Waves.{value_text}
 use Rattle.run_pictures.proofs.waveform.values_of.Given as goal
 
 -- the values of the signals so far
 abbrev pub invariant-loop-signal : goal.invariant-loop-signal
-invariant-loop-signal g l = l.values.items ≡ map (value_of (g.M.AnyMachine.state l.machine)) (take l.signal-index l.signals)
+invariant-loop-signal g l = map string_bytes l.values.items ≡ map (value_text l.made (g.M.AnyMachine.state l.machine)) (take l.signal-index l.signals)

@@ -1,5 +1,5 @@
-use Rattle.std.proofs.Common.{◌≡◌, ◌+◌, ◌<◌, ℕ, Option, Some, Result, Ok, Err, IfErr, IsErrAnd, List, [], ◌∷◌, ◌++◌, length, sym, ◌∙◌, ap, subst, arith}
-use Rattle.history_text.specs.Lines.{line_of, seen, seen_by}
+use Rattle.std.proofs.Common.{◌+◌, ◌<◌, ℕ, Option, Ok, List, length, sym, ◌∙◌, ap, subst, arith}
+use Rattle.history_text.specs.Lines.{seen, seen_by}
 use Rattle.history_text.specs.Histories.{events_of, HasRead, LineStops}
 use Rattle.history_text.specs.declared.events.OwnedEvent.{OwnedEvent}
 use Rattle.history_text.proofs.LineTexts.{events_few}

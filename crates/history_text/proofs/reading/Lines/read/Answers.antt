@@ -1,4 +1,4 @@
-use Rattle.std.proofs.Common.{◌++◌, ◌+◌, ◌<◌, ◌≤◌, ℕ, List, length, take, drop, sym, subst, refl, arith}
+use Rattle.std.proofs.Common.{◌++◌, ◌+◌, ◌<◌, ◌≤◌, ℕ, List, length, take, drop, subst, refl, arith}
 use Rattle.history_text.specs.Histories.{EndsIn, HasRead}
 use Rattle.history_text.proofs.LineTexts.{rest_behind}
 use Rattle.history_text.proofs.LinesRead.{ends_in, ends_more, read_on, read_all, passed_on}

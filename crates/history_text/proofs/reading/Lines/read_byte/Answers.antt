@@ -1,6 +1,6 @@
-use Rattle.std.proofs.Common.{◌≡◌, ◌+◌, ◌<◌, ◌++◌, ◌∷◌, [], ℕ, List, Option, Ok, Result, ap, refl, sym, ◌∙◌, subst, arith}
+use Rattle.std.proofs.Common.{◌+◌, ◌<◌, ◌++◌, ◌∷◌, [], ap, refl, sym, ◌∙◌, subst, arith}
 use Rattle.history_text.specs.Lines.{line_of, seen_in, seen_by}
-use Rattle.history_text.specs.Histories.{most_lines, events_of, EndsAt, HasRead, texts_with, IsTooLong, LineStops}
+use Rattle.history_text.specs.Histories.{most_lines, EndsAt}
 use Rattle.history_text.proofs.LinesRead.{closed, read_char, ends_long, ends_line, at_line_end, within_line, on_ok, on_ok_both, if_err}
 use Rattle.history_text.proofs.reading.Lines.read_byte.Goals as goal
 

@@ -1,6 +1,6 @@
 use Rattle.std.proofs.Common.{ap, subst, ◌∙◌}
 use Rattle.flat_model.specs.Memory.{shown}
-use Rattle.trace_text.specs.Checks.{zeros}
+use Rattle.memory_images.specs.Images.{flat_from}
 use Rattle.run_pictures.specs.Extents.{extent_of}
 use Rattle.run_pictures.specs.Places.{places_in}
 use Rattle.run_pictures.specs.Pictures.{IsPicture}
@@ -14,7 +14,7 @@ returns g c =
     let s = g.M.AnyMachine.state c.args.machine.now in
     record {
       film = record {
-        owed = c.in_ok-flat.ensures.shown ∙ ap (λ z. zeros z.words) c.extent-extent.ensures;
+        owed = c.in_ok-flat.ensures.shown ∙ ap (λ z. flat_from c.args.image.now z.words) c.extent-extent.ensures;
         picture = subst (λ places. IsPicture s (shown flat) places texts.items) c.as_slice.ensures.value c.in_ok-texts.ensures;
       };
       places = c.in_ok-places.ensures ∙ ap places_in c.extent-extent.ensures;

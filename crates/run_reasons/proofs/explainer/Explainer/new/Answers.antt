@@ -1,11 +1,12 @@
-use Rattle.std.proofs.Common.{◌≡◌, ℕ, ◌<◌, ◌≤◌, Bool, true, false, List, replicate, ap, ◌∙◌, refl, arith}
+use Rattle.std.proofs.Common.{◌≡◌, ℕ, ◌<◌, ◌≤◌, Bool, true, false, List, length, replicate, sym, ap, ◌∙◌, refl, arith}
 use Rattle.std.specs.Prelude.{nat_lt}
 use Rattle.std.proofs.Math.Path.{fun_ext}
 use Rattle.std.proofs.lemmas.List.{get_or-replicate, get_or_past, length-replicate}
 use Rattle.std.proofs.lemmas.Bool.Decides.{nat_tests}
-use Rattle.flat_model.specs.Flat.{Flat}
+use Rattle.flat_model.specs.Flat.{Flat, opening}
 use Rattle.flat_model.specs.Memory as memory
-use Rattle.trace_text.specs.Checks.{zeros}
+use Rattle.memory_images.specs.Images.{memory_from}
+use Rattle.memory_images.proofs.Memories.{memory_length}
 use Rattle.run_reasons.specs.declared.explainer.TheConstants.{TAGS}
 use Rattle.run_reasons.specs.declared.origins.Stores.{Stores}
 use Rattle.run_reasons.specs.declared.origins.TagUse.{TagUse}
@@ -27,14 +28,15 @@ never_used n = fun_ext (λ t. never_at n t (nat_lt t n) refl)
 pub returns : goal.returns
 unfolding shown
 returns c =
-    let words = c.args.words in
+    let words = memory_from c.args.image.now c.args.words in
+    let long : c.args.words ≡ length words = sym (memory_length c.args.image.now c.args.words) in
     let mk : Flat → List Stores → (ℕ → TagUse) → PastOf → Origins = λ f s t p. record { flat = f; stores = s; tags = t; past = p } in
-    let flat : memory.shown c.in_ok-flat.flat ≡ zeros words = c.in_ok-flat.ensures.shown in
-    let stores : c.in_ok-stores.stores.items ≡ replicate words no_stores = c.in_ok-stores.ensures.items in
+    let flat : memory.shown c.in_ok-flat.flat ≡ opening words = c.in_ok-flat.ensures.shown in
+    let stores : c.in_ok-stores.stores.items ≡ replicate (length words) no_stores = c.in_ok-stores.ensures.items ∙ ap (λ n. replicate n no_stores) long in
     let tags : c.in_ok-tags.tags.items ≡ replicate TAGS Never = c.in_ok-tags.ensures.items in
     let past = kept c.new-past.result in
     ap (λ f. mk f c.in_ok-stores.stores.items (uses_in c.in_ok-tags.tags.items) past) flat
-    ∙ ap (λ s. mk (zeros words) s (uses_in c.in_ok-tags.tags.items) past) stores
-    ∙ ap (λ l. mk (zeros words) (replicate words no_stores) (uses_in l) past) tags
-    ∙ ap (λ t. mk (zeros words) (replicate words no_stores) t past) (never_used TAGS)
-    ∙ ap (mk (zeros words) (replicate words no_stores) (λ tag. Never)) c.new-past.ensures
+    ∙ ap (λ s. mk (opening words) s (uses_in c.in_ok-tags.tags.items) past) stores
+    ∙ ap (λ l. mk (opening words) (replicate (length words) no_stores) (uses_in l) past) tags
+    ∙ ap (λ t. mk (opening words) (replicate (length words) no_stores) t past) (never_used TAGS)
+    ∙ ap (mk (opening words) (replicate (length words) no_stores) (λ tag. Never)) c.new-past.ensures

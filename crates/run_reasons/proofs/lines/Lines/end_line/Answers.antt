@@ -1,6 +1,6 @@
 use Rattle.std.proofs.Common.{◌≡◌, Ok, Err, ap, sym, ◌∙◌, arith}
 use Rattle.trace_text.specs.Pairs.{pair_of, ended_pair_of}
-use Rattle.trace_text.specs.Checks.{zeros}
+use Rattle.flat_model.specs.Flat.{opening}
 use Rattle.trace_text.proofs.Held.{few_steps}
 use Rattle.std.specs.Prelude.{None}
 use Rattle.run_reasons.specs.Origins.{origins_of}
@@ -20,7 +20,7 @@ pub step-requires : goal.step-requires
 step-requires c =
     let w = c.requires.read.0 in
     let h = c.requires.read.2 in
-    omega (arith, few_steps (zeros w) (origins_of w h.texts).flat h.texts c.args.self.now.steps None h.text.flat, h.number, c.requires.number, c.ranges.number.fits)
+    omega (arith, few_steps (opening w) (origins_of w h.texts).flat h.texts c.args.self.now.steps None h.text.flat, h.number, c.requires.number, c.ranges.number.fits)
 
 pub returns-in-None-clause-ok : goal.returns-in-None-clause-ok
 returns-in-None-clause-ok c words before h =

@@ -1,0 +1,74 @@
+//! Faults as they are told.
+
+ghost use Rattle.std.specs.Prelude.{Some, ◌≡◌};
+ghost use Rattle.flat_model.specs.Faults as texts;
+
+use crate::{MakeFault, ReplayFault, ShapeField, StepFault};
+use std::error::Error;
+use std::fmt;
+
+impl Error for MakeFault {}
+
+/// `Sets is out of range`, with the name of the field, or `out of memory`.
+impl fmt::Display for MakeFault {
+    ghost output = { λ fault. Some (texts.make_fault_text fault) };
+
+    fn fmt<W: fmt::Write>(&self, f: &mut fmt::Formatter<W>) -> fmt::Result {
+        match self {
+            MakeFault::BadShape(field) => write!(f, "{} is out of range", name_of(*field)),
+            MakeFault::OutOfMemory => f.write_str("out of memory"),
+        }
+    }
+}
+
+// The name of a number of a machine.
+fn name_of(field: ShapeField) -> &'static str
+    ensures { result.now ≡ texts.field_name field }
+{
+    match field {
+        ShapeField::BlockWords => "BlockWords",
+        ShapeField::Ways => "Ways",
+        ShapeField::Regs => "Regs",
+        ShapeField::Depth => "Depth",
+        ShapeField::Words => "Words",
+        ShapeField::Sets => "Sets",
+        ShapeField::Banks => "Banks",
+        ShapeField::BankQueue => "BankQueue",
+        ShapeField::WriteQueue => "WriteQueue",
+        ShapeField::Replies => "Replies",
+        ShapeField::Ports => "Ports",
+        ShapeField::Journal => "Journal",
+        ShapeField::Image => "Image",
+    }
+}
+
+impl Error for ReplayFault {}
+
+/// What was wrong, with the place of the answer that flat memory doesn't give.
+impl fmt::Display for ReplayFault {
+    ghost output = { λ fault. Some (texts.replay_fault_text fault) };
+
+    fn fmt<W: fmt::Write>(&self, f: &mut fmt::Formatter<W>) -> fmt::Result {
+        match self {
+            ReplayFault::Lengths => f.write_str("as many answers as events are needed"),
+            ReplayFault::Mismatch { place } => {
+                write!(f, "the answer at place {place} is not one of flat memory")
+            }
+            ReplayFault::OutOfMemory => f.write_str("out of memory"),
+        }
+    }
+}
+
+impl Error for StepFault {}
+
+/// What was wrong.
+impl fmt::Display for StepFault {
+    ghost output = { λ fault. Some (texts.step_fault_text fault) };
+
+    fn fmt<W: fmt::Write>(&self, f: &mut fmt::Formatter<W>) -> fmt::Result {
+        match self {
+            StepFault::Mismatch => f.write_str("the answer is not one of flat memory"),
+            StepFault::OutOfMemory => f.write_str("out of memory"),
+        }
+    }
+}

@@ -1,0 +1,4 @@
+pub mod Answering
+pub mod Performed
+pub mod Shapes
+pub mod Timings

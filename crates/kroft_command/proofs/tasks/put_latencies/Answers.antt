@@ -1,0 +1,16 @@
+use Rattle.std.proofs.Common.{refl, ap, ◌∙◌, ◌++◌, map}
+use Rattle.std.specs.List.{flat_map}
+use Rattle.result_formats.specs.Counts.{latency_head}
+use Rattle.kroft_command.specs.Program.{latency_lines, swept_rows}
+use Rattle.kroft_command.proofs.Answering.{answered}
+use Rattle.kroft_command.proofs.tasks.put_latencies.Goals as goal
+
+pub returns-clause-ends : goal.returns-clause-ends
+returns-clause-ends g c =
+    let read = c.in_ok-rows.ensures.rows in
+    let lines = c.as_str.ensures.value
+    ∙ (c.in_ok-told.ensures ∙ ap (λ rows. flat_map (latency_lines c.args.format) (map swept_rows rows)) c.as_slice.ensures.value) in
+    let text = c.as_str-2.ensures.value ∙ (c.in_ok-latencies.ensures.ok ∙ ap (λ l. latency_head c.args.format ++ l) lines) in
+    answered g.O.Sink.took g.O.Sink.refused g.O.Sink.unflushed _ _ _ _
+    c.as_str-2.result.now 0 (read.0, c.in_ok-rows.rows.items, read.1, read.2, text, refl)
+    c.answer.result c.answer.ensures.ok c.answer.ensures.status c.answer.ensures.err c.answer.ensures.fault

@@ -1,0 +1,410 @@
+-- What the program does: for its task, as the words were understood, the shape and the image that were read, and its input,
+-- which bytes go to its output, and by which status or fault it ends.
+use Rattle.std.specs.Prelude.{◌≡◌, ◌≢◌, ◌⊎◌, ℕ, ◌*◌, ◌/◌, ◌<◌, ◌≤◌, Bool, true, false, Option, None, Some, Result, Ok, Err, List, [], ◌∷◌, ◌++◌, length, map}
+use Rattle.std.specs.List.{flat_map}
+use Rattle.std.specs.String.{string_bytes}
+use Rattle.std.specs.Global.{Global, Vec}
+use Rattle.std.specs.declared.string.String.{String}
+use Rattle.machine_core.specs.Machine.{MachineState}
+use Rattle.toml.specs.Parse.{parse_document}
+use Rattle.flat_model.specs.Flat.{Flat}
+use Rattle.memory_images.specs.Images.{memory_from, flat_from, bytes_of}
+use Rattle.memory_images.specs.declared.image.Image.{Image}
+use Rattle.memory_images.specs.declared.image.Image.TheVariants as memory
+use Rattle.trace_text.specs.Checks.{pair_fault, IsJudgedFrom}
+use Rattle.trace_text.specs.Reading.{ReadWhole, ReadFails}
+use Rattle.trace_text.specs.Requests.{requests_of}
+use Rattle.trace_text.specs.Serving.{trace_fault, Ends}
+use Rattle.trace_text.specs.declared.check.CheckEnd.{CheckEnd}
+use Rattle.trace_text.specs.declared.fault.TheConstants.{MAX_LINE, MAX_PAIR}
+use Rattle.trace_text.specs.declared.fault.TraceFault.{TraceFault}
+use Rattle.trace_text.specs.declared.lines.LineFault.{LineFault}
+use Rattle.trace_text.specs.declared.serve.Counts.{Counts}
+use Rattle.access_logs.specs.Formats.{lackey_access, din_access}
+use Rattle.access_logs.specs.Logs as logs
+use Rattle.access_logs.specs.declared.access.Access.{Access}
+use Rattle.access_logs.specs.declared.fault.LogFault.{LogFault}
+use Rattle.access_logs.specs.declared.pages.TheConstants.{PAGE_WORDS}
+use Rattle.history_text.specs.Answers.{verdict_status as history_status}
+use Rattle.history_text.specs.Choice.{chosen_law}
+use Rattle.history_text.specs.Histories.{Judges}
+use Rattle.history_text.specs.Laws.{Law}
+use Rattle.history_text.specs.Values.{Writes}
+use Rattle.history_text.specs.declared.answers.HistoryEnd.{HistoryEnd}
+use Rattle.named_fields.specs.declared.format.Format.{Format}
+use Rattle.round_driver.specs.declared.details.Details.{Details}
+use Rattle.round_driver.specs.declared.table.Table.{Table}
+use Rattle.round_driver.specs.declared.timing.Timing.{Timing}
+use Rattle.run_pictures.specs.Drawn.{Shows}
+use Rattle.run_pictures.specs.declared.drawing.Form.{Form}
+use Rattle.run_pictures.specs.declared.show.ShowFault.{ShowFault}
+use Rattle.run_reasons.specs.Runs.{Explains, status_of as explanation_status}
+use Rattle.run_reasons.specs.declared.explain.Explanation.{Explanation}
+use Rattle.register_sweeps.specs.Sweep.{machine_over, row_of}
+use Rattle.register_sweeps.specs.declared.rounds.RoundsRow.{RoundsRow}
+use Rattle.shape_files.specs.ShapeFile.{text_says}
+use Rattle.shape_files.specs.declared.shape_file.ShapeFault.{ShapeFault}
+use Rattle.shape_files.specs.declared.shape_file.TheConstants.{DEFAULT_SHAPE}
+use Rattle.shape_files.specs.declared.shape_file.ToolShape.{ToolShape}
+use Rattle.trace_sheets.specs.Grades.{score_status}
+use Rattle.trace_sheets.specs.declared.score.Score.{Score}
+use Rattle.result_formats.specs.Details.{details_in}
+use Rattle.result_figures.specs.Bars.{loss_figure}
+use Rattle.result_figures.specs.Sweeps.{Swept, sweep_figure}
+use Rattle.result_formats.specs.Counts.{table_in, table_head, rounds_in, rounds_head, latency_in, latency_head, pumps_in, pumps_head}
+use Rattle.kroft_jobs.specs.Answering.{tags_owed, answered_status}
+use Rattle.kroft_jobs.specs.Driving.{DrivesAll}
+use Rattle.kroft_jobs.specs.Forms.{check_in, answered_in}
+use Rattle.kroft_jobs.specs.Grading.{GradesAll}
+use Rattle.kroft_jobs.specs.Jobs as jobs
+use Rattle.kroft_jobs.specs.Jobs.{swept, verdict_status}
+use Rattle.kroft_jobs.specs.Sweeping.{IsCounted, IsDetailed, AreCounted, AreSwept, SweepFails}
+use Rattle.kroft_jobs.specs.Writing.{IsPut, IsCut}
+use Rattle.kroft_jobs.specs.declared.fault.JobFault.{JobFault}
+use Rattle.kroft_jobs.specs.declared.fault.JobFault.TheVariants.{ShapeUnreadable, OutOfMemory}
+use Rattle.verdict_formats.specs.Explanations.{explanation_in}
+use Rattle.verdict_formats.specs.Histories.{history_in}
+use Rattle.kroft_jobs.specs.declared.rounds.LatencyRows.{LatencyRows}
+use Rattle.clap.specs.Values.{kind_of}
+use Rattle.clap.specs.declared.error.Error.{Error}
+use Rattle.clap.specs.declared.error.kind.ErrorKind.TheVariants.{DisplayHelp, DisplayVersion}
+use Rattle.kroft_command.specs.declared.command_line.CommandLine.{CommandLine}
+use Rattle.kroft_command.specs.declared.command_line.CountForm.{CountForm}
+use Rattle.kroft_command.specs.declared.command_line.CountForm.TheVariants.{Lines, Figure}
+use Rattle.kroft_command.specs.declared.command_line.HistoryTask.{HistoryTask}
+use Rattle.kroft_command.specs.declared.command_line.ImageName.{ImageName}
+use Rattle.kroft_command.specs.declared.command_line.ImageName.TheVariants as name
+use Rattle.kroft_command.specs.declared.command_line.LogName.{LogName}
+use Rattle.kroft_command.specs.declared.command_line.LogName.TheVariants.{Lackey, Din}
+use Rattle.kroft_command.specs.declared.command_line.Task.{Task}
+use Rattle.kroft_command.specs.declared.command_line.Task.TheVariants as task
+use Rattle.kroft_command.specs.declared.fault.ToolFault.{ToolFault}
+use Rattle.kroft_command.specs.declared.fault.ToolFault.TheVariants.{CommandLine as Words, Job, ImageUnreadable, LongImage as TooLong}
+use Rattle.kroft_command.specs.Tool.{IsInRange, timings_in, line, write_fault, no_memory, of_trace, of_show, of_log}
+
+-- how an end is told: by a status, or by a fault
+abbrev pub told : {X F : Type 0} (status_for : X → ℕ) (fault_for : F → ToolFault) → Result X F → Result ℕ ToolFault
+told status_for fault_for (Ok x) = Ok (status_for x)
+told status_for fault_for (Err f) = Err (fault_for f)
+
+-- what the lines of a log say
+abbrev pub access_in : LogName → List ℕ → Result (Option Access) LineFault
+access_in Lackey = lackey_access
+access_in Din = din_access
+
+-- the law by which a history is judged
+abbrev pub law_for : HistoryTask → List ℕ → Law
+law_for how image = chosen_law how.law image how.rest
+
+-- ---- the rows of latencies
+
+-- a latency and its rows
+abbrev pub swept_rows : LatencyRows → Swept
+swept_rows r = record { latency = r.latency; rows = r.rows.items }
+
+-- a line for each of them
+abbrev pub latency_lines : Format → Swept → List ℕ
+latency_lines format s = flat_map (λ row. line (latency_in format s.latency row)) s.rows
+
+-- ---- words
+
+-- `clap` says by an error that words ask for help or the version,
+abbrev pub AsksForText : Error → Type 0
+AsksForText said = (kind_of said ≡ DisplayHelp) ⊎ (kind_of said ≡ DisplayVersion)
+
+-- or by any other that they are refused.
+abbrev pub IsRefused : Error → Type 0
+IsRefused said = (kind_of said ≢ DisplayHelp) × (kind_of said ≢ DisplayVersion)
+
+-- ---- files
+
+-- The shape is the default, if no file is named, and else what the file's text says.
+abbrev pub IsShapeOf : {X : Type 0} → Option X → ToolShape → Type 0
+IsShapeOf None shape = shape ≡ DEFAULT_SHAPE
+IsShapeOf (Some path) shape = (text : List ℕ) × (text_says (parse_document text) ≡ Ok shape)
+
+-- Why there is no shape: the file can't be read, or memory is missing for that;
+abbrev pub UnreadShape : JobFault → Type 0
+UnreadShape fault = (fault ≡ ShapeUnreadable) ⊎ (fault ≡ OutOfMemory)
+
+-- or its text says none, or memory is missing for reading it as a table.
+abbrev pub ShapeTextFails : List ℕ → JobFault → Type 0
+ShapeTextFails text fault =
+    (fault ≡ OutOfMemory) ⊎ ((f : ShapeFault) × (text_says (parse_document text) ≡ Err f) × (fault ≡ jobs.of_shape f))
+
+abbrev pub ShapeFails : {X : Type 0} → Option X → JobFault → Type 0
+ShapeFails None fault = ⊥
+ShapeFails (Some path) fault = UnreadShape fault ⊎ ((text : List ℕ) × ShapeTextFails text fault)
+
+-- Memory has zeros before the first store, if nothing is named, or addresses, or else what the file gave.
+abbrev pub IsImageOf : ImageName → Image → Type 0
+IsImageOf name.Zeros image = image ≡ memory.Zeros
+IsImageOf name.Address image = image ≡ memory.Address
+IsImageOf (name.File path) image = (bytes : Vec ℕ) × (image ≡ memory.Bytes bytes)
+
+-- Why there is no image: the file can't be read, or memory is missing for it.
+abbrev pub UnreadImage : ToolFault → Type 0
+UnreadImage fault = (fault ≡ ImageUnreadable) ⊎ (fault ≡ no_memory)
+
+abbrev pub ImageFails : ImageName → ToolFault → Type 0
+ImageFails (name.File path) fault = UnreadImage fault
+ImageFails name fault = ⊥
+
+-- the bytes of a machine's memory
+abbrev pub memory_bytes : ToolShape → ℕ
+memory_bytes shape = 4 * shape.shape.words
+
+-- A machine's memory has room for the image. That of a history has no end.
+abbrev pub HasRoom : Task → (shape : ToolShape) (image : Image) → Type 0
+HasRoom (task.History how) shape image = Unit {0}
+HasRoom task shape image = length (bytes_of image) ≤ memory_bytes shape
+
+-- Why not: how many bytes either has.
+abbrev pub LacksRoom : Task → (shape : ToolShape) (image : Image) → ToolFault → Type 0
+LacksRoom (task.History how) shape image fault = ⊥
+LacksRoom task shape image fault =
+    (memory_bytes shape < length (bytes_of image))
+    × (fault ≡ TooLong (record { bytes = length (bytes_of image); memory = memory_bytes shape }))
+
+-- No file is at fault, but the image is too long for the shape.
+abbrev pub ImageIsTooLong : CommandLine → ToolFault → Type 0
+ImageIsTooLong asked fault =
+    (shape : ToolShape) × (image : Image) × IsShapeOf asked.shape_file shape × IsImageOf asked.image image
+    × LacksRoom asked.task shape image fault
+
+-- ---- tasks
+
+-- What holds of an output before and behind a task, and of its end; and of an input, too.
+abbrev pub Written : Type 0 → Type 1
+Written W = (output output' : W) → Result ℕ ToolFault → Type 0
+
+abbrev pub Ending : Type 0 → Type 0 → Type 1
+Ending R W = (input input' : R) → Written W
+
+-- Of an output: what it may take, and how it may refuse a write or a flush.
+module _ {W : Type 0} (took : W → List ℕ → W → Type 0) (refused unflushed : W → W → Type 0) where
+  -- The end of a job that finds a text and a status, and then puts the text. `Finds` says what it may find; `Fails`, why it
+  -- may find nothing, and then nothing is written. Memory may be missing for the text.
+  abbrev pub Answers : (Finds : List ℕ → ℕ → Type 0) (Fails : ToolFault → Type 0) → Written W
+  Answers Finds Fails output output' (Ok status) = (text : List ℕ) × Finds text status × IsPut took output text output'
+  Answers Finds Fails output output' (Err fault) =
+      ((output' ≡ output) × (Fails fault ⊎ (fault ≡ no_memory)))
+      ⊎ ((text : List ℕ) × (status : ℕ) × Finds text status × IsCut took refused unflushed output text output' × (fault ≡ write_fault))
+
+  -- What was driven stands behind a flush, if it came to its end.
+  abbrev pub Finishes : Result ℕ TraceFault → Written W
+  Finishes (Ok rounds) output output' result =
+      (took output [] output' × (result ≡ Ok 0)) ⊎ (unflushed output output' × (result ≡ Err write_fault))
+  Finishes (Err fault) output output' result = (output' ≡ output) × (result ≡ Err (of_trace fault))
+
+  -- What became of a history is put, once it is judged.
+  abbrev pub PutsVerdict : (how : HistoryTask) (judged : Result HistoryEnd TraceFault) → Written W
+  PutsVerdict how judged =
+      Answers (λ text status. (end : HistoryEnd) × (judged ≡ Ok end) × (text ≡ line (history_in how.format how.law end))
+      × (status ≡ history_status how.all_answered end))
+      (λ fault. (f : TraceFault) × (judged ≡ Err f) × (fault ≡ of_trace f))
+
+  -- Words that are no task: what they ask for is put, or they are refused, and then nothing is written.
+  abbrev pub TellsWords : (said : Error) → Written W
+  TellsWords said =
+      Answers (λ text status. AsksForText said × (status ≡ 0)) (λ fault. IsRefused said × (fault ≡ Words said))
+
+-- Of an input, too: what a read may give, and how one may fail.
+module _ {R W : Type 0} (gave : R → List ℕ → R → Type 0) (failed : R → R → Type 0)
+    (took : W → List ℕ → W → Type 0) (refused unflushed : W → W → Type 0) where
+  -- A trace is served on a new machine.
+  unfoldable pub Runs : (shape : ToolShape) (image : Image) → Ending R W
+  Runs shape image input input' output output' result =
+      (served : Result Counts TraceFault) × (after : MachineState)
+      × Ends gave failed took refused unflushed input input' output output' (machine_over image shape) after served
+      × (result ≡ told (λ counts. 0) of_trace served)
+
+  -- A recorded run is judged, and the verdict put.
+  unfoldable pub Checks : (format : Format) (shape : ToolShape) (image : Image) → Ending R W
+  Checks format shape image input input' =
+      Answers took refused unflushed
+      (λ text status. (texts : List (List ℕ)) × (end : CheckEnd) × (last : Flat)
+      × ReadWhole gave pair_fault MAX_PAIR input input' texts
+      × IsJudgedFrom (flat_from image shape.shape.words) texts end last × (text ≡ line (check_in format end)) × (status ≡ verdict_status end))
+      (λ fault. (f : TraceFault) × ReadFails gave failed pair_fault MAX_PAIR input input' f × (fault ≡ of_trace f))
+
+  -- It is judged, and which of its loads weren't answered is told behind the verdict.
+  unfoldable pub ChecksAnswered : (format : Format) (shape : ToolShape) (image : Image) → Ending R W
+  ChecksAnswered format shape image input input' =
+      Answers took refused unflushed
+      (λ text status. (texts : List (List ℕ)) × (end : CheckEnd) × (last : Flat) × (tags : List ℕ)
+      × ReadWhole gave pair_fault MAX_PAIR input input' texts
+      × IsJudgedFrom (flat_from image shape.shape.words) texts end last
+      × (tags ≡ tags_owed last) × (text ≡ line (answered_in format end tags)) × (status ≡ answered_status end tags))
+      (λ fault. (f : TraceFault) × ReadFails gave failed pair_fault MAX_PAIR input input' f × (fault ≡ of_trace f))
+
+  unfoldable pub checks_by : (all_answered : Bool) → (format : Format) (shape : ToolShape) (image : Image) → Ending R W
+  checks_by false = Checks
+  checks_by true = ChecksAnswered
+
+  -- A recorded run is explained, and the explanation put.
+  unfoldable pub ExplainsRun : (format : Format) (shape : ToolShape) (image : Image) → Ending R W
+  ExplainsRun format shape image input input' =
+      Answers took refused unflushed
+      (λ text status. (why : Explanation) × Explains gave failed (memory_from image shape.shape.words) input input' (Ok why)
+      × (text ≡ line (explanation_in format why)) × (status ≡ explanation_status why))
+      (λ fault. (f : TraceFault) × Explains gave failed (memory_from image shape.shape.words) input input' (Err f) × (fault ≡ of_trace f))
+
+  -- A sheet is graded on a new machine.
+  unfoldable pub Grades : (format : Format) (shape : ToolShape) (image : Image) → Ending R W
+  Grades format shape image input input' output output' result =
+      (graded : Result Score TraceFault)
+      × GradesAll gave failed took refused unflushed format (machine_over image shape) input input' output output' graded
+      × (result ≡ told score_status of_trace graded)
+
+  -- The requests of a trace are served with each number of registers, and a row is put for each.
+  abbrev pub SweepsRegisters : (format : Format) (shape : ToolShape) → Ending R W
+  SweepsRegisters format shape input input' =
+      Answers took refused unflushed
+      (λ text status. (texts : List (List ℕ)) × ReadWhole gave trace_fault MAX_LINE input input' texts
+      × (text ≡ pumps_head format ++ flat_map (λ row. line (pumps_in format row)) (map (row_of (requests_of texts)) (swept shape)))
+      × (status ≡ 0))
+      (λ fault. (f : JobFault) × SweepFails gave failed shape input input' f × (fault ≡ Job f))
+
+  -- They are driven in rounds with each number of registers, and a row is put for each.
+  abbrev pub SweepsRounds : (timing : Timing) (format : Format) (shape : ToolShape) → Ending R W
+  SweepsRounds timing format shape input input' =
+      Answers took refused unflushed
+      (λ text status. (texts : List (List ℕ)) × (rows : List RoundsRow) × ReadWhole gave trace_fault MAX_LINE input input' texts
+      × AreCounted timing (swept shape) (requests_of texts) rows
+      × (text ≡ rounds_head format ++ flat_map (λ row. line (rounds_in format row)) rows) × (status ≡ 0))
+      (λ fault. (f : JobFault) × SweepFails gave failed shape input input' f × (fault ≡ Job f))
+
+  -- They are driven with several latencies in turn, and each row stands behind its latency.
+  abbrev pub SweepsLatencies : (timings : List Timing) (format : Format) (shape : ToolShape) → Ending R W
+  SweepsLatencies timings format shape input input' =
+      Answers took refused unflushed
+      (λ text status. (texts : List (List ℕ)) × (rows : List LatencyRows) × ReadWhole gave trace_fault MAX_LINE input input' texts
+      × AreSwept timings (swept shape) (requests_of texts) rows
+      × (text ≡ latency_head format ++ flat_map (latency_lines format) (map swept_rows rows)) × (status ≡ 0))
+      (λ fault. (f : JobFault) × SweepFails gave failed shape input input' f × (fault ≡ Job f))
+
+  -- Their rounds are drawn, a line for each latency.
+  abbrev pub DrawsSweep : (timings : List Timing) (shape : ToolShape) → Ending R W
+  DrawsSweep timings shape input input' =
+      Answers took refused unflushed
+      (λ text status. (texts : List (List ℕ)) × (rows : List LatencyRows) × ReadWhole gave trace_fault MAX_LINE input input' texts
+      × AreSwept timings (swept shape) (requests_of texts) rows × (text ≡ sweep_figure (map swept_rows rows)) × (status ≡ 0))
+      (λ fault. (f : JobFault) × SweepFails gave failed shape input input' f × (fault ≡ Job f))
+
+  -- one latency alone isn't told with its row
+  abbrev pub sweeps_lines : (timings : List Timing) (format : Format) (shape : ToolShape) → Ending R W
+  sweeps_lines [] = SweepsRegisters
+  sweeps_lines (timing ∷ []) = SweepsRounds timing
+  sweeps_lines (timing ∷ next ∷ rest) = SweepsLatencies (timing ∷ next ∷ rest)
+
+  unfoldable pub Sweeps : (timings : List Timing) (form : CountForm) (shape : ToolShape) → Ending R W
+  Sweeps timings (Lines format) = sweeps_lines timings format
+  Sweeps timings Figure = DrawsSweep timings
+
+  -- The requests of a trace are driven in rounds through a new machine: the run is written,
+  abbrev pub WritesRun : (timing : Timing) (shape : ToolShape) (image : Image) → Ending R W
+  WritesRun timing shape image input input' output output' result =
+      (driven : Result ℕ TraceFault) × (last : W)
+      × DrivesAll gave failed took refused timing (machine_over image shape) input input' output last driven
+      × Finishes took refused unflushed driven last output' result
+
+  -- or a table of its counts is put.
+  abbrev pub PutsCounts : (timing : Timing) (format : Format) (shape : ToolShape) (image : Image) → Ending R W
+  PutsCounts timing format shape image input input' =
+      Answers took refused unflushed
+      (λ text status. (texts : List (List ℕ)) × (table : Table) × ReadWhole gave trace_fault MAX_LINE input input' texts
+      × IsCounted timing (machine_over image shape) (requests_of texts) table
+      × (text ≡ table_head format ++ line (table_in format table)) × (status ≡ 0))
+      (λ fault. (f : TraceFault) × ReadFails gave failed trace_fault MAX_LINE input input' f × (fault ≡ of_trace f))
+
+  -- or all details are put.
+  abbrev pub PutsDetails : (timing : Timing) (format : Format) (shape : ToolShape) (image : Image) → Ending R W
+  PutsDetails timing format shape image input input' =
+      Answers took refused unflushed
+      (λ text status. (texts : List (List ℕ)) × (details : Details) × ReadWhole gave trace_fault MAX_LINE input input' texts
+      × IsDetailed timing (machine_over image shape) (requests_of texts) details
+      × (text ≡ line (details_in format details)) × (status ≡ 0))
+      (λ fault. (f : TraceFault) × ReadFails gave failed trace_fault MAX_LINE input input' f × (fault ≡ of_trace f))
+
+  -- or these are drawn.
+  abbrev pub DrawsCounts : (timing : Timing) (shape : ToolShape) (image : Image) → Ending R W
+  DrawsCounts timing shape image input input' =
+      Answers took refused unflushed
+      (λ text status. (texts : List (List ℕ)) × (table : Table) × ReadWhole gave trace_fault MAX_LINE input input' texts
+      × IsCounted timing (machine_over image shape) (requests_of texts) table × (text ≡ loss_figure table) × (status ≡ 0))
+      (λ fault. (f : TraceFault) × ReadFails gave failed trace_fault MAX_LINE input input' f × (fault ≡ of_trace f))
+
+  abbrev pub counts_by : (form : CountForm) (all : Bool) (timing : Timing) (shape : ToolShape) (image : Image) → Ending R W
+  counts_by (Lines format) false timing = PutsCounts timing format
+  counts_by (Lines format) true timing = PutsDetails timing format
+  counts_by Figure all timing = DrawsCounts timing
+
+  unfoldable pub Drives : (timing : Timing) (summary all : Bool) (form : CountForm) (shape : ToolShape) (image : Image) → Ending R W
+  Drives timing false all form = WritesRun timing
+  Drives timing true all form = counts_by form all timing
+
+  -- The requests of a log are written, whose lines say these accesses, for a memory of so many words.
+  unfoldable pub WritesRequests : (access_of : List ℕ → Result (Option Access) LineFault) (words : ℕ) → Ending R W
+  WritesRequests access_of words input input' output output' result =
+      (written : Result (Unit {0}) LogFault)
+      × logs.Ends gave failed took refused unflushed access_of (words / PAGE_WORDS) input input' output output' written
+      × (result ≡ told (λ done. 0) of_log written)
+
+  -- The walk of a new machine over the events of a trace is drawn, and the drawing put.
+  unfoldable pub Draws : (form : Form) (shape : ToolShape) (image : Image) → Ending R W
+  Draws form shape image input input' =
+      Answers took refused unflushed
+      (λ text status. (drawing : String Global) × Shows gave failed form image (machine_over image shape) input input' (Ok drawing)
+      × (text ≡ string_bytes drawing) × (status ≡ 0))
+      (λ fault. (f : ShowFault) × Shows gave failed form image (machine_over image shape) input input' (Err f) × (fault ≡ of_show f))
+
+  -- A history is judged,
+  abbrev pub JudgesHistory : (how : HistoryTask) (image : List ℕ) → Ending R W
+  JudgesHistory how image input input' output output' result =
+      (judged : Result HistoryEnd TraceFault) × Judges gave failed (law_for how image) input input' judged
+      × PutsVerdict took refused unflushed how judged output output' result
+
+  -- or judged and written, with what its loads may have returned. That is flushed before anything else, whatever became of it.
+  abbrev pub WritesHistory : (how : HistoryTask) (image : List ℕ) → Ending R W
+  WritesHistory how image input input' output output' result =
+      (judged : Result HistoryEnd TraceFault) × (last : W)
+      × Writes gave failed took refused (law_for how image) input input' output last judged
+      × ((unflushed last output' × (result ≡ Err write_fault))
+      ⊎ ((flushed : W) × took last [] flushed × PutsVerdict took refused unflushed how judged flushed output' result))
+
+  abbrev pub judges_or_writes : Bool → (how : HistoryTask) (image : List ℕ) → Ending R W
+  judges_or_writes false = JudgesHistory
+  judges_or_writes true = WritesHistory
+
+  unfoldable pub FollowsHistory : (how : HistoryTask) (image : List ℕ) → Ending R W
+  FollowsHistory how = judges_or_writes how.values how
+
+  -- ---- the whole program
+
+  -- What becomes of each task.
+  unfoldable pub IsDone : Task → (shape : ToolShape) (image : Image) → Ending R W
+  IsDone task.Run shape image = Runs shape image
+  IsDone (task.Check all_answered format) shape image = checks_by all_answered format shape image
+  IsDone (task.Sweep timings form) shape image = Sweeps (timings_in timings) form shape
+  IsDone (task.Explain format) shape image = ExplainsRun format shape image
+  IsDone (task.Grade format) shape image = Grades format shape image
+  IsDone (task.Drive timing summary all form) shape image = Drives timing summary all form shape image
+  IsDone (task.Requests log words) shape image = WritesRequests (access_in log) words
+  IsDone (task.Show form) shape image = Draws form shape image
+  IsDone (task.History how) shape image = FollowsHistory how (bytes_of image)
+
+  -- The files that are named are read, and the task is done with what they say. Or one can't be read, or the image is too
+  -- long, and nothing is done.
+  unfoldable pub Performs : CommandLine → Ending R W
+  Performs asked input input' output output' result =
+      ((shape : ToolShape) × (image : Image) × IsShapeOf asked.shape_file shape × IsImageOf asked.image image
+      × HasRoom asked.task shape image × IsDone asked.task shape image input input' output output' result)
+      ⊎ ((fault : ToolFault) × (result ≡ Err fault) × (input' ≡ input) × (output' ≡ output)
+      × (((f : JobFault) × ShapeFails asked.shape_file f × (fault ≡ Job f)) ⊎ (ImageFails asked.image fault ⊎ ImageIsTooLong asked fault)))
+
+  -- The words are understood as a task that there may be, which is performed, or they ask for none, and nothing is read.
+  unfoldable pub Works : Ending R W
+  Works input input' output output' result =
+      ((asked : CommandLine) × IsInRange asked.task × Performs asked input input' output output' result)
+      ⊎ ((said : Error) × (input' ≡ input) × TellsWords took refused unflushed said output output' result)

@@ -1,0 +1,664 @@
+//! What the program does for each task: the job of the shape that was read, on the input, and what is
+//! written of its end.
+
+ghost use Rattle.std.specs.Prelude.{◌≡◌, ◌≤◌, [], ◌++◌, map, None, IfOk, IfErr, OnOk, OnErr};
+ghost use Rattle.std.specs.List.{All, AllByRecursion, flat_map};
+ghost use Rattle.std.specs.String.{string_bytes};
+ghost use Rattle.access_logs.specs.declared.writing.TheConstants.{MAX_WORDS};
+ghost use Rattle.history_text.specs.Answers.{verdict_status as history_status};
+ghost use Rattle.result_figures.specs.Sweeps.{told};
+ghost use Rattle.result_formats.specs.Counts.{rounds_in, latency_in, pumps_in};
+ghost use Rattle.round_driver.specs.declared.driving.TheConstants.{MOST_LATENCY};
+ghost use Rattle.shape_files.specs.ShapeFile.{bad_field};
+ghost use Rattle.kroft_jobs.specs.Writing.{IsPut, IsCut};
+ghost use Rattle.kroft_command.specs.Tool.{IsTimely, timings_in, line, write_fault};
+ghost use Rattle.kroft_command.specs.Program.{Runs, Checks, ChecksAnswered, checks_by, ExplainsRun, Grades, Draws, WritesRequests, access_in};
+ghost use Rattle.kroft_command.specs.Program.{Drives, WritesRun, PutsCounts, PutsDetails, DrawsCounts, counts_by};
+ghost use Rattle.kroft_command.specs.Program.{Sweeps, SweepsRegisters, SweepsRounds, SweepsLatencies, DrawsSweep, sweeps_lines, latency_lines, swept_rows};
+ghost use Rattle.kroft_command.specs.Program.{FollowsHistory, JudgesHistory, WritesHistory, PutsVerdict};
+
+use crate::command_line::{CountForm, HistoryTask, LogName, Timings};
+use crate::fault::ToolFault;
+use access_logs::{Din, Lackey, LogFormat, write_requests};
+use history_text::{HistoryEnd, HistoryVerdict, judge_by_law, write_values_by_law};
+use kroft_jobs::{
+    AnsweredIn, CheckIn, LatencyRows, Verdict, detail_requests, drive_requests, put_text, serve,
+    summarize_requests, sweep_in_rounds, sweep_latencies, sweep_registers,
+};
+use memory_images::Image;
+use named_fields::Format;
+use register_sweeps::{RoundsRow, Row};
+use result_figures::{LossFigure, SweepFigure, SweepLine};
+use result_formats::{
+    DetailsIn, LatencyHead, LatencyIn, PumpsHead, PumpsIn, RoundsHead, RoundsIn, TableHead, TableIn,
+};
+use round_driver::Timing;
+use run_pictures::Form;
+use shape_files::ToolShape;
+use std::alloc::{AllocError, Global};
+use std::thread::Threads;
+use trace_text::{Sink, Source, TraceFault};
+use verdict_formats::{ExplanationIn, HistoryIn};
+
+/// Puts what a job found, and gives its status.
+pub(crate) fn answer<O: Sink>(output: &mut O, text: &str, status: u8) -> Result<u8, ToolFault>
+    ensures ok { OnOk result (IsPut O.took output.old text.now output.new) }
+    ensures status { IfOk result (λ told. told ≡ status) }
+    ensures err { OnErr result (IsCut O.took O.refused O.unflushed output.old text.now output.new) }
+    ensures fault { IfErr result (λ fault. fault ≡ write_fault) }
+{
+    put_text(output, text.as_bytes())?;
+    Ok(status)
+}
+
+// Sees what was written through to its end.
+fn finish<O: Sink>(output: &mut O) -> Result<(), ToolFault>
+    ensures ok { OnOk result (O.took output.old [] output.new) }
+    ensures err { OnErr result (O.unflushed output.old output.new) }
+    ensures fault { IfErr result (λ fault. fault ≡ write_fault) }
+{
+    match output.flush_all() {
+        Ok(()) => Ok(()),
+        Err(_) => Err(ToolFault::from(TraceFault::Write)),
+    }
+}
+
+/// Serves the trace on a new machine.
+#[tactic(auto, unfolding(crate::specs::Program::Runs))]
+pub(crate) fn run<I: Source, O: Sink>(
+    alloc: Global,
+    tool: &ToolShape,
+    image: &Image,
+    input: &mut I,
+    output: &mut O,
+) -> Result<u8, ToolFault>
+    requires shape { bad_field tool.now ≡ None }
+    ensures few { IfOk result (λ status. status ≤ 1) }
+    ensures ends { Runs I.gave I.failed O.took O.refused O.unflushed tool.now image.now input.old input.new output.old output.new
+        result }
+{
+    serve(alloc, tool, image, input, output)?;
+    Ok(0)
+}
+
+// Judges what a run wrote.
+#[tactic(auto, unfolding(crate::specs::Program::Checks))]
+fn check<I: Source, O: Sink>(
+    alloc: Global,
+    tool: &ToolShape,
+    format: Format,
+    image: &Image,
+    input: &mut I,
+    output: &mut O,
+) -> Result<u8, ToolFault>
+    ensures few { IfOk result (λ status. status ≤ 1) }
+    ensures ends { Checks I.gave I.failed O.took O.refused O.unflushed format tool.now image.now input.old input.new output.old output.new
+        result }
+{
+    let end = kroft_jobs::check(alloc, tool, image, input)?;
+    let text = format!(in alloc; "{}\n", CheckIn(format, end))?;
+    answer(output, text.as_str(), Verdict(end).status())
+}
+
+// Judges what a run wrote, and tells which of its loads weren't answered.
+#[tactic(auto, unfolding(crate::specs::Program::ChecksAnswered))]
+fn check_answered<I: Source, O: Sink>(
+    alloc: Global,
+    tool: &ToolShape,
+    format: Format,
+    image: &Image,
+    input: &mut I,
+    output: &mut O,
+) -> Result<u8, ToolFault>
+    ensures few { IfOk result (λ status. status ≤ 1) }
+    ensures ends { ChecksAnswered I.gave I.failed O.took O.refused O.unflushed format tool.now image.now input.old input.new output.old
+        output.new result }
+{
+    let answered = kroft_jobs::check_answered(alloc, tool, image, input)?;
+    let text = format!(in alloc; "{}\n", AnsweredIn(format, &answered))?;
+    answer(output, text.as_str(), answered.status())
+}
+
+/// Judges what a run wrote. Loads that weren't answered are a fault if that is asked for.
+#[tactic(auto, unfolding(crate::specs::Program::checks_by))]
+pub(crate) fn check_by<I: Source, O: Sink>(
+    alloc: Global,
+    tool: &ToolShape,
+    image: &Image,
+    all_answered: bool,
+    format: Format,
+    input: &mut I,
+    output: &mut O,
+) -> Result<u8, ToolFault>
+    ensures few { IfOk result (λ status. status ≤ 1) }
+    ensures ends { checks_by I.gave I.failed O.took O.refused O.unflushed all_answered format tool.now image.now input.old input.new
+        output.old output.new result }
+{
+    if all_answered {
+        check_answered(alloc, tool, format, image, input, output)
+    } else {
+        check(alloc, tool, format, image, input, output)
+    }
+}
+
+/// Says why what a run wrote is none of flat memory.
+#[tactic(auto, unfolding(crate::specs::Program::ExplainsRun))]
+pub(crate) fn explain<I: Source, O: Sink>(
+    alloc: Global,
+    tool: &ToolShape,
+    format: Format,
+    image: &Image,
+    input: &mut I,
+    output: &mut O,
+) -> Result<u8, ToolFault>
+    ensures few { IfOk result (λ status. status ≤ 1) }
+    ensures ends { ExplainsRun I.gave I.failed O.took O.refused O.unflushed format tool.now image.now input.old input.new output.old
+        output.new result }
+{
+    let explanation = kroft_jobs::explain(alloc, tool, image, input)?;
+    let text = format!(in alloc; "{}\n", ExplanationIn(format, explanation))?;
+    answer(output, text.as_str(), explanation.status())
+}
+
+/// Grades a sheet.
+#[tactic(auto, unfolding(crate::specs::Program::Grades))]
+pub(crate) fn grade<I: Source, O: Sink>(
+    alloc: Global,
+    tool: &ToolShape,
+    format: Format,
+    image: &Image,
+    input: &mut I,
+    output: &mut O,
+) -> Result<u8, ToolFault>
+    requires shape { bad_field tool.now ≡ None }
+    ensures few { IfOk result (λ status. status ≤ 1) }
+    ensures ends { Grades I.gave I.failed O.took O.refused O.unflushed format tool.now image.now input.old input.new output.old output.new
+        result }
+{
+    let score = kroft_jobs::grade(alloc, tool, format, image, input, output)?;
+    Ok(score.status())
+}
+
+// Drives the requests in rounds, and writes the run.
+fn write_run<I: Source, O: Sink>(
+    alloc: Global,
+    tool: &ToolShape,
+    image: &Image,
+    timing: Timing,
+    input: &mut I,
+    output: &mut O,
+) -> Result<u8, ToolFault>
+    requires shape { bad_field tool.now ≡ None }
+    requires latency { timing.latency ≤ MOST_LATENCY }
+    ensures few { IfOk result (λ status. status ≤ 1) }
+    ensures ends { WritesRun I.gave I.failed O.took O.refused O.unflushed timing tool.now image.now input.old input.new output.old
+        output.new result }
+{
+    drive_requests(alloc, tool, image, timing, input, output)?;
+    finish(output)?;
+    Ok(0)
+}
+
+// Drives them, and puts the counts.
+fn put_counts<I: Source, O: Sink>(
+    alloc: Global,
+    tool: &ToolShape,
+    image: &Image,
+    timing: Timing,
+    format: Format,
+    input: &mut I,
+    output: &mut O,
+) -> Result<u8, ToolFault>
+    requires shape { bad_field tool.now ≡ None }
+    requires latency { timing.latency ≤ MOST_LATENCY }
+    ensures few { IfOk result (λ status. status ≤ 1) }
+    ensures ends { PutsCounts I.gave I.failed O.took O.refused O.unflushed timing format tool.now image.now input.old input.new output.old
+        output.new result }
+{
+    let table = summarize_requests(alloc, tool, image, timing, input)?;
+    let counts = format!(in alloc; "{}{}\n", TableHead(format), TableIn(format, table))?;
+    answer(output, counts.as_str(), 0)
+}
+
+// Drives them, and puts all details.
+fn put_details<I: Source, O: Sink>(
+    alloc: Global,
+    tool: &ToolShape,
+    image: &Image,
+    timing: Timing,
+    format: Format,
+    input: &mut I,
+    output: &mut O,
+) -> Result<u8, ToolFault>
+    requires shape { bad_field tool.now ≡ None }
+    requires latency { timing.latency ≤ MOST_LATENCY }
+    ensures few { IfOk result (λ status. status ≤ 1) }
+    ensures ends { PutsDetails I.gave I.failed O.took O.refused O.unflushed timing format tool.now image.now input.old input.new output.old
+        output.new result }
+{
+    let details = detail_requests(alloc, tool, image, timing, input)?;
+    let told = format!(in alloc; "{}\n", DetailsIn(format, &details))?;
+    answer(output, told.as_str(), 0)
+}
+
+// Drives them, and draws the counts.
+fn draw_counts<I: Source, O: Sink>(
+    alloc: Global,
+    tool: &ToolShape,
+    image: &Image,
+    timing: Timing,
+    input: &mut I,
+    output: &mut O,
+) -> Result<u8, ToolFault>
+    requires shape { bad_field tool.now ≡ None }
+    requires latency { timing.latency ≤ MOST_LATENCY }
+    ensures few { IfOk result (λ status. status ≤ 1) }
+    ensures ends { DrawsCounts I.gave I.failed O.took O.refused O.unflushed timing tool.now image.now input.old input.new output.old
+        output.new result }
+{
+    let counted = summarize_requests(alloc, tool, image, timing, input)?;
+    let figure = format!(in alloc; "{}", LossFigure(counted))?;
+    answer(output, figure.as_str(), 0)
+}
+
+// Drives them, and shows the counts.
+fn show_counts<I: Source, O: Sink>(
+    alloc: Global,
+    tool: &ToolShape,
+    image: &Image,
+    timing: Timing,
+    all: bool,
+    form: CountForm,
+    input: &mut I,
+    output: &mut O,
+) -> Result<u8, ToolFault>
+    requires shape { bad_field tool.now ≡ None }
+    requires latency { timing.latency ≤ MOST_LATENCY }
+    ensures few { IfOk result (λ status. status ≤ 1) }
+    ensures ends { counts_by I.gave I.failed O.took O.refused O.unflushed form all timing tool.now image.now input.old input.new
+        output.old output.new result }
+{
+    match (form, all) {
+        (CountForm::Lines(format), false) => {
+            put_counts(alloc, tool, image, timing, format, input, output)
+        }
+        (CountForm::Lines(format), true) => {
+            put_details(alloc, tool, image, timing, format, input, output)
+        }
+        (CountForm::Figure, _) => draw_counts(alloc, tool, image, timing, input, output),
+    }
+}
+
+/// Drives the requests in rounds, and writes the run or what it counts.
+#[tactic(auto, unfolding(crate::specs::Program::Drives))]
+pub(crate) fn drive<I: Source, O: Sink>(
+    alloc: Global,
+    tool: &ToolShape,
+    image: &Image,
+    timing: Timing,
+    summary: bool,
+    all: bool,
+    form: CountForm,
+    input: &mut I,
+    output: &mut O,
+) -> Result<u8, ToolFault>
+    requires shape { bad_field tool.now ≡ None }
+    requires latency { timing.latency ≤ MOST_LATENCY }
+    ensures few { IfOk result (λ status. status ≤ 1) }
+    ensures ends { Drives I.gave I.failed O.took O.refused O.unflushed timing summary all form tool.now image.now input.old input.new
+        output.old output.new result }
+{
+    if summary {
+        show_counts(alloc, tool, image, timing, all, form, input, output)
+    } else {
+        write_run(alloc, tool, image, timing, input, output)
+    }
+}
+
+// Writes the requests of a log in a format.
+#[tactic(auto, unfolding(crate::specs::Program::WritesRequests))]
+fn requests_in<F: LogFormat, I: Source, O: Sink>(
+    alloc: Global,
+    format: &F,
+    words: u32,
+    input: &mut I,
+    output: &mut O,
+) -> Result<u8, ToolFault>
+    requires { words ≤ MAX_WORDS }
+    ensures few { IfOk result (λ status. status ≤ 1) }
+    ensures ends { WritesRequests I.gave I.failed O.took O.refused O.unflushed F.access_in words input.old input.new
+        output.old output.new result }
+{
+    write_requests(alloc, input, output, format, words)?;
+    Ok(0)
+}
+
+/// Writes the requests of a log.
+pub(crate) fn requests<I: Source, O: Sink>(
+    alloc: Global,
+    from: LogName,
+    words: u32,
+    input: &mut I,
+    output: &mut O,
+) -> Result<u8, ToolFault>
+    requires { words ≤ MAX_WORDS }
+    ensures few { IfOk result (λ status. status ≤ 1) }
+    ensures ends { WritesRequests I.gave I.failed O.took O.refused O.unflushed (access_in from) words input.old input.new
+        output.old output.new result }
+{
+    match from {
+        LogName::Lackey => requests_in(alloc, &Lackey, words, input, output),
+        LogName::Din => requests_in(alloc, &Din, words, input, output),
+    }
+}
+
+/// Draws the machine at each event of the trace.
+#[tactic(auto, unfolding(crate::specs::Program::Draws))]
+pub(crate) fn show<I: Source, O: Sink>(
+    alloc: Global,
+    tool: &ToolShape,
+    image: &Image,
+    form: Form,
+    input: &mut I,
+    output: &mut O,
+) -> Result<u8, ToolFault>
+    requires shape { bad_field tool.now ≡ None }
+    ensures few { IfOk result (λ status. status ≤ 1) }
+    ensures ends { Draws I.gave I.failed O.took O.refused O.unflushed form tool.now image.now input.old input.new output.old
+        output.new result }
+{
+    let drawing = kroft_jobs::show(alloc, tool, image, form, input)?;
+    answer(output, drawing.as_str(), 0)
+}
+
+// Puts what became of a history.
+fn put_verdict<O: Sink>(
+    alloc: Global,
+    how: HistoryTask,
+    judged: Result<HistoryEnd, TraceFault>,
+    output: &mut O,
+) -> Result<u8, ToolFault>
+    ensures few { IfOk result (λ status. status ≤ 6) }
+    ensures ends { PutsVerdict O.took O.refused O.unflushed how judged output.old output.new result }
+{
+    let end = judged?;
+    let told = HistoryIn {
+        format: how.format,
+        law: how.law,
+        end,
+    };
+    let text = format!(in alloc; "{told}\n")?;
+    answer(output, text.as_str(), status_of(how, end))
+}
+
+// The status of its end.
+fn status_of(how: HistoryTask, end: HistoryEnd) -> u8
+    ensures status { result ≡ history_status how.all_answered end }
+    ensures few { result ≤ 6 }
+{
+    let verdict = HistoryVerdict {
+        law: how.law.name(),
+        end,
+    };
+    verdict.status(how.all_answered)
+}
+
+// Judges a history.
+fn judge_history<I: Source, O: Sink>(
+    alloc: Global,
+    how: HistoryTask,
+    image: &[u8],
+    input: &mut I,
+    output: &mut O,
+) -> Result<u8, ToolFault>
+    ensures few { IfOk result (λ status. status ≤ 6) }
+    ensures ends { JudgesHistory I.gave I.failed O.took O.refused O.unflushed how image.now input.old input.new output.old
+        output.new result }
+{
+    let judged = judge_by_law(alloc, input, how.law, image, how.rest);
+    put_verdict(alloc, how, judged, output)
+}
+
+// Judges a history, and writes its lines. What was written is seen through to its end, whatever became of it.
+fn write_history<I: Source, O: Sink>(
+    alloc: Global,
+    how: HistoryTask,
+    image: &[u8],
+    input: &mut I,
+    output: &mut O,
+) -> Result<u8, ToolFault>
+    ensures few { IfOk result (λ status. status ≤ 6) }
+    ensures ends { WritesHistory I.gave I.failed O.took O.refused O.unflushed how image.now input.old input.new output.old
+        output.new result }
+{
+    let judged = write_values_by_law(alloc, input, output, how.law, image, how.rest);
+    finish(output)?;
+    put_verdict(alloc, how, judged, output)
+}
+
+/// Judges a history by a law, and writes its lines if that is asked for.
+#[tactic(auto, unfolding(crate::specs::Program::FollowsHistory))]
+pub(crate) fn history<I: Source, O: Sink>(
+    alloc: Global,
+    how: HistoryTask,
+    image: &[u8],
+    input: &mut I,
+    output: &mut O,
+) -> Result<u8, ToolFault>
+    ensures few { IfOk result (λ status. status ≤ 6) }
+    ensures ends { FollowsHistory I.gave I.failed O.took O.refused O.unflushed how image.now input.old input.new output.old
+        output.new result }
+{
+    if how.values {
+        write_history(alloc, how, image, input, output)
+    } else {
+        judge_history(alloc, how, image, input, output)
+    }
+}
+
+// Rows of numbers of registers, a line each.
+fn lines_of_rows(alloc: Global, format: Format, rows: &[Row]) -> Result<String, AllocError>
+    ensures { IfOk result (λ text. string_bytes text ≡ flat_map (λ row. line (pumps_in format row)) rows.now) }
+{
+    let mut text = String::new(alloc);
+    for row in rows {
+        write!(text, "{}\n", PumpsIn(format, *row))?;
+    }
+    Ok(text)
+}
+
+// Rows of numbers of registers in rounds, a line each.
+fn lines_of_rounds(alloc: Global, format: Format, rows: &[RoundsRow]) -> Result<String, AllocError>
+    ensures { IfOk result (λ text. string_bytes text ≡ flat_map (λ row. line (rounds_in format row)) rows.now) }
+{
+    let mut text = String::new(alloc);
+    for row in rows {
+        write!(text, "{}\n", RoundsIn(format, *row))?;
+    }
+    Ok(text)
+}
+
+// Serves the requests with 1, 2, 4 and 8 registers.
+fn put_registers<R: AllocGlobal + Threads + Sync, I: Source, O: Sink>(
+    rt: &R,
+    tool: &ToolShape,
+    format: Format,
+    input: &mut I,
+    output: &mut O,
+) -> Result<u8, ToolFault>
+    ensures few { IfOk result (λ status. status ≤ 1) }
+    ensures ends { SweepsRegisters I.gave I.failed O.took O.refused O.unflushed format tool.now input.old input.new output.old
+        output.new result }
+{
+    let rows = sweep_registers(rt, rt.alloc(), tool, input)?;
+    let told = lines_of_rows(rt.alloc(), format, rows.as_slice())?;
+    let lines = format!(in rt.alloc(); "{}{}", PumpsHead(format), told.as_str())?;
+    answer(output, lines.as_str(), 0)
+}
+
+// Drives the requests in rounds with 1, 2, 4 and 8 registers.
+fn put_rounds<R: AllocGlobal + Threads + Sync, I: Source, O: Sink>(
+    rt: &R,
+    tool: &ToolShape,
+    timing: Timing,
+    format: Format,
+    input: &mut I,
+    output: &mut O,
+) -> Result<u8, ToolFault>
+    requires { timing.latency ≤ MOST_LATENCY }
+    ensures few { IfOk result (λ status. status ≤ 1) }
+    ensures ends { SweepsRounds I.gave I.failed O.took O.refused O.unflushed timing format tool.now input.old input.new output.old
+        output.new result }
+{
+    let rows = sweep_in_rounds(rt, rt.alloc(), tool, timing, input)?;
+    let told = lines_of_rounds(rt.alloc(), format, rows.as_slice())?;
+    let rounds = format!(in rt.alloc(); "{}{}", RoundsHead(format), told.as_str())?;
+    answer(output, rounds.as_str(), 0)
+}
+
+// Adds a line for each row of a latency.
+fn push_latency(
+    text: &mut String,
+    format: Format,
+    latency: u64,
+    rows: &[RoundsRow],
+) -> Result<(), AllocError>
+    ensures { OnOk result
+        (string_bytes text.new ≡ string_bytes text.old ++ flat_map (λ row. line (latency_in format latency row)) rows.now) }
+{
+    for row in rows {
+        write!(text, "{}\n", LatencyIn(format, latency, *row))?;
+    }
+    Ok(())
+}
+
+// The rows of all latencies, a line each.
+fn lines_of_latencies(
+    alloc: Global,
+    format: Format,
+    swept: &[LatencyRows],
+) -> Result<String, AllocError>
+    ensures { IfOk result (λ text. string_bytes text ≡ flat_map (latency_lines format) (map swept_rows swept.now)) }
+{
+    let mut text = String::new(alloc);
+    for one in swept {
+        push_latency(&mut text, format, one.latency, one.rows.as_slice())?;
+    }
+    Ok(text)
+}
+
+// Drives the requests in rounds with each of these times of memory, and 1, 2, 4 and 8 registers.
+fn put_latencies<R: AllocGlobal + Threads + Sync, I: Source, O: Sink>(
+    rt: &R,
+    tool: &ToolShape,
+    timings: &[Timing],
+    format: Format,
+    input: &mut I,
+    output: &mut O,
+) -> Result<u8, ToolFault>
+    requires { All IsTimely timings.now }
+    ensures few { IfOk result (λ status. status ≤ 1) }
+    ensures ends { SweepsLatencies I.gave I.failed O.took O.refused O.unflushed timings.now format tool.now input.old input.new
+        output.old output.new result }
+{
+    let rows = sweep_latencies(rt, rt.alloc(), tool, timings, input)?;
+    let told = lines_of_latencies(rt.alloc(), format, rows.as_slice())?;
+    let latencies = format!(in rt.alloc(); "{}{}", LatencyHead(format), told.as_str())?;
+    answer(output, latencies.as_str(), 0)
+}
+
+// The rows of latencies as the lines of a figure.
+fn lines_of_figure<'a>(
+    alloc: Global,
+    swept: &'a [LatencyRows],
+) -> Result<Vec<SweepLine<'a>>, AllocError>
+    ensures { IfOk result (λ lines. map told lines.items ≡ map swept_rows swept.now) }
+{
+    let mut lines = Vec::new(alloc);
+    for one in swept {
+        let rows = one.rows.as_slice();
+        lines.push(SweepLine {
+            latency: one.latency,
+            rows,
+        })?;
+    }
+    Ok(lines)
+}
+
+// Drives them so, and draws their rounds.
+fn draw_sweep<R: AllocGlobal + Threads + Sync, I: Source, O: Sink>(
+    rt: &R,
+    tool: &ToolShape,
+    timings: &[Timing],
+    input: &mut I,
+    output: &mut O,
+) -> Result<u8, ToolFault>
+    requires { All IsTimely timings.now }
+    ensures few { IfOk result (λ status. status ≤ 1) }
+    ensures ends { DrawsSweep I.gave I.failed O.took O.refused O.unflushed timings.now tool.now input.old input.new output.old
+        output.new result }
+{
+    let rows = sweep_latencies(rt, rt.alloc(), tool, timings, input)?;
+    let lines = lines_of_figure(rt.alloc(), rows.as_slice())?;
+    let figure = format!(in rt.alloc(); "{}", SweepFigure(lines.as_slice()))?;
+    answer(output, figure.as_str(), 0)
+}
+
+// Serves the requests with each number of registers, or drives them in rounds if there are times of memory.
+fn put_sweep<R: AllocGlobal + Threads + Sync, I: Source, O: Sink>(
+    rt: &R,
+    tool: &ToolShape,
+    timings: &[Timing],
+    format: Format,
+    input: &mut I,
+    output: &mut O,
+) -> Result<u8, ToolFault>
+    requires { All IsTimely timings.now }
+    ensures few { IfOk result (λ status. status ≤ 1) }
+    ensures ends { sweeps_lines I.gave I.failed O.took O.refused O.unflushed timings.now format tool.now input.old input.new
+        output.old output.new result }
+{
+    match timings {
+        [] => put_registers(rt, tool, format, input, output),
+        [timing] => put_rounds(rt, tool, *timing, format, input, output),
+        [_, _, ..] => put_latencies(rt, tool, timings, format, input, output),
+    }
+}
+
+// Counts the requests with each number of registers, and writes or draws the counts.
+#[tactic(auto, unfolding(crate::specs::Program::Sweeps))]
+fn sweep_by<R: AllocGlobal + Threads + Sync, I: Source, O: Sink>(
+    rt: &R,
+    tool: &ToolShape,
+    timings: &[Timing],
+    form: CountForm,
+    input: &mut I,
+    output: &mut O,
+) -> Result<u8, ToolFault>
+    requires timely { All IsTimely timings.now }
+    ensures few { IfOk result (λ status. status ≤ 1) }
+    ensures ends { Sweeps I.gave I.failed O.took O.refused O.unflushed timings.now form tool.now input.old input.new output.old
+        output.new result }
+{
+    match form {
+        CountForm::Lines(format) => put_sweep(rt, tool, timings, format, input, output),
+        CountForm::Figure => draw_sweep(rt, tool, timings, input, output),
+    }
+}
+
+/// Counts the requests with 1, 2, 4 and 8 registers, by pumps or in rounds, and writes or draws the counts.
+pub(crate) fn sweep<R: AllocGlobal + Threads + Sync, I: Source, O: Sink>(
+    rt: &R,
+    tool: &ToolShape,
+    timings: &Timings,
+    form: CountForm,
+    input: &mut I,
+    output: &mut O,
+) -> Result<u8, ToolFault>
+    requires { AllByRecursion IsTimely timings.now.all }
+    ensures few { IfOk result (λ status. status ≤ 1) }
+    ensures ends { Sweeps I.gave I.failed O.took O.refused O.unflushed (timings_in timings.now) form tool.now input.old input.new
+        output.old output.new result }
+{
+    sweep_by(rt, tool, timings.as_slice(), form, input, output)
+}

@@ -1,0 +1,88 @@
+//! What a check found, in a format.
+
+ghost use Rattle.std.specs.Prelude.{◌≡◌, Some, map};
+ghost use Rattle.named_fields.specs.Formats.{said};
+ghost use Rattle.kroft_jobs.specs.Forms as forms;
+
+use crate::answered::AnsweredVerdict;
+use crate::jobs::Verdict;
+use named_fields::{Field, Format, Object, OneRow};
+use std::fmt;
+use trace_text::CheckEnd;
+
+// The verdict.
+#[tactic(auto, unfolding(crate::specs::Forms::check_named))]
+fn check_fields(end: CheckEnd) -> [Field<'static>; 3]
+    ensures { map said result ≡ forms.check_named end }
+{
+    match end {
+        CheckEnd::Flat { steps } => [
+            Field::called("verdict", "flat"),
+            Field::count("steps", steps),
+            Field::missing("line"),
+        ],
+        CheckEnd::Mismatch { line } => [
+            Field::called("verdict", "mismatch"),
+            Field::missing("steps"),
+            Field::count("line", line),
+        ],
+    }
+}
+
+// The tags of the loads that are open.
+fn open_field(end: CheckEnd, tags: &[u16]) -> Field<'_>
+    ensures { said result ≡ forms.open_named end tags.now }
+{
+    match end {
+        CheckEnd::Flat { .. } => Field::numbers("open", tags),
+        CheckEnd::Mismatch { .. } => Field::missing("open"),
+    }
+}
+
+// The verdict, and the tags of the loads that are open.
+#[tactic(auto, unfolding(crate::specs::Forms::answered_named))]
+fn answered_fields(end: CheckEnd, tags: &[u16]) -> [Field<'_>; 4]
+    ensures { map said result ≡ forms.answered_named end tags.now }
+{
+    let [verdict, steps, line] = check_fields(end);
+    [verdict, steps, line, open_field(end, tags)]
+}
+
+/// What a check found, in a format: the verdict with its steps or its line.
+#[derive(Clone, Copy)]
+pub struct CheckIn(pub Format, pub CheckEnd);
+
+impl fmt::Display for CheckIn {
+    ghost output = { λ it. Some (forms.check_in it.0 it.1) };
+
+    #[tactic(auto, unfolding(crate::specs::Forms::check_in, named_fields::specs::Formats::alone_in))]
+    fn fmt<W: fmt::Write>(&self, f: &mut fmt::Formatter<W>) -> fmt::Result {
+        let verdict = Verdict(self.1);
+        let fields = check_fields(self.1);
+        match self.0 {
+            Format::Text => write!(f, "{verdict}"),
+            Format::Csv => write!(f, "{}", OneRow(&fields)),
+            Format::Json => write!(f, "{}", Object(&fields)),
+        }
+    }
+}
+
+/// What a check found of a run all of whose loads have to be answered, in a format: the verdict, and behind a flat run the
+/// tags of the loads that are open.
+#[derive(Clone, Copy)]
+pub struct AnsweredIn<'a>(pub Format, pub &'a AnsweredVerdict);
+
+impl<'a> fmt::Display for AnsweredIn<'a> {
+    ghost output = { λ it. Some (forms.answered_in it.0 it.1.now.end it.1.now.tags.items) };
+
+    #[tactic(auto, unfolding(crate::specs::Forms::answered_in, named_fields::specs::Formats::alone_in))]
+    fn fmt<W: fmt::Write>(&self, f: &mut fmt::Formatter<W>) -> fmt::Result {
+        let answered = self.1;
+        let named = answered_fields(answered.end, answered.tags.as_slice());
+        match self.0 {
+            Format::Text => write!(f, "{answered}"),
+            Format::Csv => write!(f, "{}", OneRow(&named)),
+            Format::Json => write!(f, "{}", Object(&named)),
+        }
+    }
+}

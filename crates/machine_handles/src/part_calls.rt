@@ -1,0 +1,193 @@
+//! The calls that show the parts of a machine behind a handle.
+ghost use Rattle.std.specs.Prelude.{◌≡◌, Some};
+ghost use Rattle.std.specs.Option.{option_map};
+ghost use Rattle.machine_handles.specs.Behind.{behind};
+ghost use Rattle.machine_handles.specs.Parts as parts;
+ghost use Rattle.machine_handles.specs.Calls.{found_status, shown_row};
+
+use crate::handle::Handle;
+use crate::part_rows::{ArrivalRow, CommandRow, FrameRow, FrameWordRow, QueuedRow};
+use crate::parts::ShownMachine;
+use crate::status::{CLOSED, FOUND, NOT_THERE};
+use flat_judge::AnswerRow;
+use std::alloc::Global;
+
+// Tells what was found, if something was.
+fn tell<T: Copy>(found: Option<T>, row: &mut T) -> u32
+    ensures status { result ≡ found_status (Some found) }
+    ensures row { row.new ≡ shown_row row.old (Some found) }
+{
+    match found {
+        Some(shown) => {
+            *row = shown;
+            FOUND
+        }
+        None => NOT_THERE,
+    }
+}
+
+/// What a frame shows. Set `s` has the frames from `s` times its ways on. 1: `row` is it. 0: there is no
+/// such frame. 3: the handle is closed. After 0 and 3 `row` is as it was.
+pub fn frame(alloc: Global, handle: &mut Handle, frame: u32, row: &mut FrameRow) -> u32
+    ensures status { result
+        ≡ found_status (option_map (λ m. parts.frame_shown m frame) (behind handle.old)) }
+    ensures row { row.new
+        ≡ shown_row row.old
+        (option_map (λ m. parts.frame_shown m frame) (behind handle.old)) }
+    ensures same { behind handle.new ≡ behind handle.old }
+{
+    let Some(machine) = handle.take(alloc) else {
+        return CLOSED;
+    };
+    let found = machine.as_ref().frame(frame);
+    handle.keep(machine);
+    tell(found, row)
+}
+
+/// Word `i` of the block that a frame holds. 1: `row` is it. 0: there is no such frame, it is free, or
+/// blocks have no such word. 3: the handle is closed. After 0 and 3 `row` is as it was.
+pub fn frame_word(
+    alloc: Global,
+    handle: &mut Handle,
+    frame: u32,
+    i: u32,
+    row: &mut FrameWordRow,
+) -> u32
+    ensures status { result
+        ≡ found_status (option_map (λ m. parts.frame_word_shown m frame i) (behind handle.old)) }
+    ensures row { row.new
+        ≡ shown_row row.old
+        (option_map (λ m. parts.frame_word_shown m frame i) (behind handle.old)) }
+    ensures same { behind handle.new ≡ behind handle.old }
+{
+    let Some(machine) = handle.take(alloc) else {
+        return CLOSED;
+    };
+    let found = machine.as_ref().frame_word(frame, i);
+    handle.keep(machine);
+    tell(found, row)
+}
+
+/// The word at `place` of the input stack, the one that came first at 0. 1: `row` is it. 0: there is
+/// none. 3: the handle is closed. After 0 and 3 `row` is as it was.
+pub fn stack_entry(alloc: Global, handle: &mut Handle, place: u32, row: &mut ArrivalRow) -> u32
+    ensures status { result
+        ≡ found_status (option_map (λ m. parts.stack_shown m place) (behind handle.old)) }
+    ensures row { row.new
+        ≡ shown_row row.old
+        (option_map (λ m. parts.stack_shown m place) (behind handle.old)) }
+    ensures same { behind handle.new ≡ behind handle.old }
+{
+    let Some(machine) = handle.take(alloc) else {
+        return CLOSED;
+    };
+    let found = machine.as_ref().stack_entry(place);
+    handle.keep(machine);
+    tell(found, row)
+}
+
+/// The word at `place` of the write queue, the one that is drained next at 0. 1: `row` is it. 0: there
+/// is none. 3: the handle is closed. After 0 and 3 `row` is as it was.
+pub fn queue_entry(alloc: Global, handle: &mut Handle, place: u32, row: &mut QueuedRow) -> u32
+    ensures status { result
+        ≡ found_status (option_map (λ m. parts.queue_shown m place) (behind handle.old)) }
+    ensures row { row.new
+        ≡ shown_row row.old
+        (option_map (λ m. parts.queue_shown m place) (behind handle.old)) }
+    ensures same { behind handle.new ≡ behind handle.old }
+{
+    let Some(machine) = handle.take(alloc) else {
+        return CLOSED;
+    };
+    let found = machine.as_ref().queue_entry(place);
+    handle.keep(machine);
+    tell(found, row)
+}
+
+/// The command at `place` among those that wait at a bank, the one that is served next at 0. 1: `row`
+/// is it. 0: there is no such bank or command. 3: the handle is closed. After 0 and 3 `row` is as it
+/// was.
+pub fn bank_command(
+    alloc: Global,
+    handle: &mut Handle,
+    bank: u32,
+    place: u32,
+    row: &mut CommandRow,
+) -> u32
+    ensures status { result
+        ≡ found_status (option_map (λ m. parts.command_shown m bank place) (behind handle.old)) }
+    ensures row { row.new
+        ≡ shown_row row.old
+        (option_map (λ m. parts.command_shown m bank place) (behind handle.old)) }
+    ensures same { behind handle.new ≡ behind handle.old }
+{
+    let Some(machine) = handle.take(alloc) else {
+        return CLOSED;
+    };
+    let found = machine.as_ref().bank_command(bank, place);
+    handle.keep(machine);
+    tell(found, row)
+}
+
+/// The answer at `place` of a bank, the oldest one at 0: an arrival with this place brings it. 1: `row`
+/// is it. 0: there is no such bank or answer. 3: the handle is closed. After 0 and 3 `row` is as it
+/// was.
+pub fn bank_answer(
+    alloc: Global,
+    handle: &mut Handle,
+    bank: u32,
+    place: u32,
+    row: &mut ArrivalRow,
+) -> u32
+    ensures status { result
+        ≡ found_status (option_map (λ m. parts.bank_answer_shown m bank place) (behind handle.old)) }
+    ensures row { row.new
+        ≡ shown_row row.old
+        (option_map (λ m. parts.bank_answer_shown m bank place) (behind handle.old)) }
+    ensures same { behind handle.new ≡ behind handle.old }
+{
+    let Some(machine) = handle.take(alloc) else {
+        return CLOSED;
+    };
+    let found = machine.as_ref().bank_answer(bank, place);
+    handle.keep(machine);
+    tell(found, row)
+}
+
+/// The answer that a take at `place` would get: the value that stands ready there, the first one at 0.
+/// 1: `row` is it. 0: none stands there. 3: the handle is closed. After 0 and 3 `row` is as it was.
+pub fn reply(alloc: Global, handle: &mut Handle, place: u32, row: &mut AnswerRow) -> u32
+    ensures status { result
+        ≡ found_status (option_map (λ m. parts.reply_shown m place) (behind handle.old)) }
+    ensures row { row.new
+        ≡ shown_row row.old
+        (option_map (λ m. parts.reply_shown m place) (behind handle.old)) }
+    ensures same { behind handle.new ≡ behind handle.old }
+{
+    let Some(machine) = handle.take(alloc) else {
+        return CLOSED;
+    };
+    let found = machine.as_ref().reply(place);
+    handle.keep(machine);
+    tell(found, row)
+}
+
+/// What a request for the word at `at` would find now. Nothing changes. 1: `lookup` is 0, a hit: the word is
+/// at hand. It is 1: a register waits for the word, and the request would join it. Or it is 2: no frame
+/// holds the block, a miss. 0: memory has no such word. 3: the handle is closed. After 0 and 3 `lookup` is
+/// as it was.
+pub fn find(alloc: Global, handle: &mut Handle, at: u32, lookup: &mut u32) -> u32
+    ensures status { result
+        ≡ found_status (option_map (λ m. parts.lookup_shown m at) (behind handle.old)) }
+    ensures lookup { lookup.new
+        ≡ shown_row lookup.old
+        (option_map (λ m. parts.lookup_shown m at) (behind handle.old)) }
+    ensures same { behind handle.new ≡ behind handle.old }
+{
+    let Some(machine) = handle.take(alloc) else {
+        return CLOSED;
+    };
+    let found = machine.as_ref().lookup(at);
+    handle.keep(machine);
+    tell(found, lookup)
+}

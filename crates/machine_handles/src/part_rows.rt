@@ -1,0 +1,174 @@
+//! What the frames, the input stack, the write queue and the banks of a machine show, as rows of
+//! plain numbers.
+ghost use Rattle.std.specs.Prelude.{◌≡◌};
+ghost use Rattle.machine_handles.specs.Parts as parts;
+
+use cache_unit::Lookup;
+use flat_model::{Lanes, Word};
+use input_stack::Entry;
+use memory_banks::{BankAnswer, Command};
+use write_queue::Queued;
+
+/// What a frame of the cache shows of itself.
+#[repr(C)]
+#[derive(Clone, Copy)]
+pub struct FrameRow {
+    /// 1 if it holds a block, 0 if it is free.
+    pub valid: u32,
+    /// The block, 0 if it is free.
+    pub block: u32,
+}
+
+/// A word of the block that a frame holds.
+#[repr(C)]
+#[derive(Clone, Copy)]
+pub struct FrameWordRow {
+    /// The bytes in the buffer. Of a word that is still on its way only the lanes of its register's
+    /// code have come to the buffer.
+    pub word: Word,
+    /// The lanes that were stored since the frame took the block, and that memory doesn't have yet.
+    pub dirty: u8,
+}
+
+/// A word on its way from its bank to a register.
+#[repr(C)]
+#[derive(Clone, Copy)]
+pub struct ArrivalRow {
+    /// The register.
+    pub slot: u32,
+    /// The number of the word in the register's block.
+    pub i: u32,
+    /// The word as its bank had it when it served the command.
+    pub word: Word,
+}
+
+/// A word that waits in the write queue.
+#[repr(C)]
+#[derive(Clone, Copy)]
+pub struct QueuedRow {
+    /// The block that was given up.
+    pub block: u32,
+    /// The address of the word.
+    pub at: u32,
+    /// The bytes to be written: only those in the lanes count.
+    pub word: Word,
+    /// The lanes to be written.
+    pub lanes: u8,
+}
+
+/// A command that waits at a bank. What doesn't apply to its kind is 0.
+#[repr(C)]
+#[derive(Clone, Copy)]
+pub struct CommandRow {
+    /// 0: the word is read for a register. 1: it is written.
+    pub kind: u32,
+    /// The register that asks, if it is read.
+    pub slot: u32,
+    /// The number of the word in the register's block, if it is read.
+    pub i: u32,
+    /// Where the word lies in the bank, counted from 0.
+    pub place: u32,
+    /// The bytes to be written: only those in the lanes count.
+    pub word: Word,
+    /// The lanes to be written.
+    pub lanes: u8,
+}
+
+const ZERO_WORD: Word = Word {
+    b0: 0,
+    b1: 0,
+    b2: 0,
+    b3: 0,
+};
+
+/// A frame as a row: free, or with this block.
+pub(crate) fn frame_row(block: Option<u32>) -> FrameRow
+    ensures { result ≡ parts.frame_row block }
+{
+    match block {
+        Some(block) => FrameRow { valid: 1, block },
+        None => FrameRow { valid: 0, block: 0 },
+    }
+}
+
+/// A word of a frame's block as a row, if there is one.
+pub(crate) fn frame_word_row(word: Option<Word>, dirty: Option<Lanes>) -> Option<FrameWordRow>
+    ensures { result ≡ parts.frame_word_row word dirty }
+{
+    match (word, dirty) {
+        (Some(word), Some(dirty)) => Some(FrameWordRow {
+            word,
+            dirty: dirty.0,
+        }),
+        _ => None,
+    }
+}
+
+/// An entry of the input stack as a row.
+pub(crate) fn entry_row(entry: Entry) -> ArrivalRow
+    ensures { result ≡ parts.entry_row entry }
+{
+    ArrivalRow {
+        slot: entry.slot,
+        i: entry.i,
+        word: entry.word,
+    }
+}
+
+/// A bank's answer as a row.
+pub(crate) fn bank_answer_row(answer: BankAnswer) -> ArrivalRow
+    ensures { result ≡ parts.bank_answer_row answer }
+{
+    ArrivalRow {
+        slot: answer.slot,
+        i: answer.i,
+        word: answer.word,
+    }
+}
+
+/// A word of the write queue as a row.
+pub(crate) fn queued_row(queued: Queued) -> QueuedRow
+    ensures { result ≡ parts.queued_row queued }
+{
+    QueuedRow {
+        block: queued.block,
+        at: queued.at,
+        word: queued.word,
+        lanes: queued.lanes.0,
+    }
+}
+
+/// A bank's command as a row.
+pub(crate) fn command_row(command: Command) -> CommandRow
+    ensures { result ≡ parts.command_row command }
+{
+    match command {
+        Command::Read { slot, i, place } => CommandRow {
+            kind: 0,
+            slot,
+            i,
+            place,
+            word: ZERO_WORD,
+            lanes: 0,
+        },
+        Command::Write { place, word, lanes } => CommandRow {
+            kind: 1,
+            slot: 0,
+            i: 0,
+            place,
+            word,
+            lanes: lanes.0,
+        },
+    }
+}
+
+/// What a request finds, by its number: 0 a hit, 1 a miss that is under way, 2 a miss.
+pub(crate) fn lookup_number(lookup: Lookup) -> u32
+    ensures { result ≡ parts.lookup_number lookup }
+{
+    match lookup {
+        Lookup::Hit => 0,
+        Lookup::Join => 1,
+        Lookup::Miss => 2,
+    }
+}

@@ -1,0 +1,264 @@
+//! Requests driven through the machine behind a handle, in rounds.
+ghost use Rattle.std.specs.Prelude.{◌≡◌, ◌≢◌, ◌≤◌, Some, None, IfOk, OnOk, IfErr, OnErr, IsTrue, length};
+ghost use Rattle.std.specs.List.{list_all};
+ghost use Rattle.machine_core.specs.Machine.{MachineState};
+ghost use Rattle.machine_handles.specs.Behind.{behind};
+ghost use Rattle.machine_handles.specs.Listed.{state};
+ghost use Rattle.machine_handles.specs.Rounds as rounds;
+ghost use Rattle.machine_handles.specs.Rounds.{bad_rounds, rounds_fault, counted, driven, IsDriven, IsToldOfRounds, rounds_number, why_not};
+
+use crate::handle::Handle;
+use crate::listed::Listed;
+use crate::status::{CLOSED, DONE, NO_EVENT, OUT_OF_MEMORY};
+use flat_judge::EventRow;
+use flat_model::Event;
+use round_driver::{MOST_LATENCY, RoundMachine, Table, Timing, summarize_with};
+use std::alloc::{AllocError, Global};
+
+/// The most requests of a run.
+const MOST_REQUESTS: usize = 16_777_216;
+
+/// There are more requests than that.
+const TOO_MANY: u32 = 104;
+
+/// The latency is higher than it may be.
+const BAD_LATENCY: u32 = 105;
+
+/// What a run of rounds counted. A round is a step of the schedule, and no time of any hardware.
+#[repr(C)]
+#[derive(Clone, Copy)]
+pub struct CountsRow {
+    /// Rounds, the last one counted, in which nothing moves.
+    pub rounds: u64,
+    /// Requests that were accepted.
+    pub accepted: u64,
+    /// Requests that were refused with 1, 2 or 11.
+    pub denied: u64,
+    /// Accepted requests whose word was at hand.
+    pub hits: u64,
+    /// Accepted requests whose word was on its way already.
+    pub joins: u64,
+    /// Accepted requests whose block was asked for.
+    pub misses: u64,
+    /// Requests that were refused with 3 to 10 in the round that first asked them.
+    pub stalled: u64,
+    /// Rounds in which the request at hand was refused with 3: its tag is in use.
+    pub lost_tag_in_use: u64,
+    /// With 4: as many loads are owed values as may be.
+    pub lost_replies_full: u64,
+    /// With 5: four loads wait for the word.
+    pub lost_targets_full: u64,
+    /// With 7: no register is free.
+    pub lost_no_register: u64,
+    /// With 8: every way of the set waits for words.
+    pub lost_set_pending: u64,
+    /// With 9: the write queue has too few places.
+    pub lost_queue_full: u64,
+    /// With 10: a bank has too little room.
+    pub lost_bank_full: u64,
+    /// Loads that were answered.
+    pub values: u64,
+    /// Rounds from each answered load's acceptance to its answer, in all, and 2^64 - 1 if they are
+    /// more.
+    pub waited: u64,
+    /// The most of these for one load.
+    pub longest: u64,
+    /// Words that were written back.
+    pub written: u64,
+    /// The most registers in use at once.
+    pub registers: u32,
+}
+
+/// Why requests aren't driven.
+#[derive(Clone, Copy)]
+pub(crate) enum RoundsFault {
+    /// No machine is behind the handle.
+    Closed,
+    /// The latency is higher than it may be.
+    BadLatency,
+    /// There are more requests than may be.
+    TooMany,
+    /// A row is no load, store, prefetch or eviction.
+    NoRequest,
+    /// There was too little memory.
+    OutOfMemory,
+}
+
+impl From<AllocError> for RoundsFault {
+    ghost use Rattle.std.specs.Prelude.{◌≡◌};
+    ghost use Rattle.machine_handles.specs.declared.rounds.RoundsFault.TheVariants.{OutOfMemory};
+
+    ghost from_gives = { λ e f. f ≡ OutOfMemory };
+
+    fn from(_fault: AllocError) -> RoundsFault {
+        RoundsFault::OutOfMemory
+    }
+}
+
+/// Drives these requests through the machine in rounds until nothing is on its way, and counts.
+///
+/// A round makes, in this order: each bank, by number, begins a command if one waits that it hasn't
+/// begun and it isn't busy, and serves its first one if it began that `latency` rounds before; one
+/// answer arrives, from the next bank with one behind the bank that was last, if the input stack has
+/// room; the stack's first word is processed, the first reply taken and the write queue's front
+/// drained, each if possible; and the request at hand is asked once. If it was accepted, or refused
+/// with 1, 2 or 11, the next one follows; otherwise it is asked again in the next round. With `busy`
+/// below `latency` a bank begins a command each `busy` rounds at most while others are on their way
+/// through it; otherwise it has one command at a time.
+///
+/// 0: `counts` is what was counted, the requests are used up and nothing is on its way. 3: the handle
+/// is closed. 105: `latency` is higher than 1,000. 104: there are more than 16,777,216 requests. 2: a
+/// row is no load, store, prefetch or eviction. 101: there was too little memory. They are looked for
+/// in this order, and after each of them all is as it was.
+pub fn drive(
+    alloc: Global,
+    handle: &mut Handle,
+    latency: u32,
+    busy: u32,
+    requests: &[EventRow],
+    counts: &mut CountsRow,
+) -> u32
+    ensures status { IsToldOfRounds result
+        (rounds_fault (behind handle.old) latency requests.now) }
+    ensures counts { result ≡ 0
+        → Some counts.new ≡ counted latency busy requests.now (behind handle.old) }
+    ensures machine { result ≡ 0
+        → behind handle.new ≡ driven latency busy requests.now (behind handle.old) }
+    ensures over { result ≡ 0
+        → IsDriven latency busy requests.now (behind handle.old) }
+    ensures unchanged { result ≢ 0 → behind handle.new ≡ behind handle.old }
+    ensures kept { result ≢ 0 → counts.new ≡ counts.old }
+{
+    match drive_behind(alloc, handle, latency, busy, requests) {
+        Ok(table) => {
+            *counts = counts_row(&table);
+            DONE
+        }
+        Err(fault) => rounds_number(fault),
+    }
+}
+
+// Drives the machine behind the handle.
+fn drive_behind(
+    alloc: Global,
+    handle: &mut Handle,
+    latency: u32,
+    busy: u32,
+    requests: &[EventRow],
+) -> Result<Table, RoundsFault>
+    ensures fault { IfErr result
+        (λ e. e ≡ why_not (rounds_fault (behind handle.old) latency requests.now)) }
+    ensures none { OnOk result (rounds_fault (behind handle.old) latency requests.now ≡ None) }
+    ensures counts { IfOk result
+        (λ table. Some (rounds.counts_row table)
+        ≡ counted latency busy requests.now (behind handle.old)) }
+    ensures machine { OnOk result
+        (behind handle.new ≡ driven latency busy requests.now (behind handle.old)) }
+    ensures over { OnOk result (IsDriven latency busy requests.now (behind handle.old)) }
+    ensures unchanged { OnErr result (behind handle.new ≡ behind handle.old) }
+{
+    let Some(mut machine) = handle.take(alloc) else {
+        return Err(RoundsFault::Closed);
+    };
+    let made = drive_machine(alloc, machine.as_mut(), latency, busy, requests);
+    handle.keep(machine);
+    made
+}
+
+// Drives a machine.
+#[tactic(auto, unfolding(crate::specs::Rounds::bad_rounds))]
+fn drive_machine(
+    alloc: Global,
+    machine: &mut Listed,
+    latency: u32,
+    busy: u32,
+    rows: &[EventRow],
+) -> Result<Table, RoundsFault>
+    ensures fault { IfErr result (λ e. e ≡ why_not (bad_rounds latency rows.now)) }
+    ensures none { OnOk result (bad_rounds latency rows.now ≡ None) }
+    ensures counts { IfOk result
+        (λ table. Some (rounds.counts_row table)
+        ≡ counted latency busy rows.now (Some (state machine.old))) }
+    ensures machine { OnOk result
+        (Some (state machine.new) ≡ driven latency busy rows.now (Some (state machine.old))) }
+    ensures over { OnOk result (IsDriven latency busy rows.now (Some (state machine.old))) }
+    ensures unchanged { OnErr result (state machine.new ≡ state machine.old) }
+{
+    if u64::from(latency) > MOST_LATENCY {
+        return Err(RoundsFault::BadLatency);
+    }
+    if rows.len() > MOST_REQUESTS {
+        return Err(RoundsFault::TooMany);
+    }
+    if !are_requests(rows) {
+        return Err(RoundsFault::NoRequest);
+    }
+    machine.keeps_whole();
+    let requests = requests_of(alloc, rows)?;
+    let timing = Timing {
+        latency: u64::from(latency),
+        busy: u64::from(busy),
+    };
+    Ok(summarize_with(alloc, machine, timing, requests.as_slice())?)
+}
+
+// Whether each row says a load, a store, a prefetch or an eviction.
+fn are_requests(rows: &[EventRow]) -> bool
+    ensures { result ≡ list_all rounds.is_request_row rows.now }
+{
+    rows.iter().all(|row| row.kind < 4)
+}
+
+// The request that a row says.
+fn request_of(row: &EventRow) -> Event
+    ensures { result ≡ rounds.request_of row.now }
+{
+    row.event().unwrap_or(Event::Drain)
+}
+
+// The requests that the rows say.
+fn requests_of(alloc: Global, rows: &[EventRow]) -> Result<Vec<Event>, AllocError>
+    ensures { IfOk result (λ v. v.items ≡ rounds.requests_of rows.now) }
+{
+    rows.iter().map(request_of).collect(alloc)
+}
+
+// What was counted, as a row.
+fn counts_row(table: &Table) -> CountsRow
+    ensures { result ≡ rounds.counts_row table.now }
+{
+    CountsRow {
+        rounds: table.rounds,
+        accepted: table.accepted,
+        denied: table.denied,
+        hits: table.hits,
+        joins: table.joins,
+        misses: table.misses,
+        stalled: table.stalled,
+        lost_tag_in_use: table.lost.tag_in_use,
+        lost_replies_full: table.lost.replies_full,
+        lost_targets_full: table.lost.targets_full,
+        lost_no_register: table.lost.no_register,
+        lost_set_pending: table.lost.set_pending,
+        lost_queue_full: table.lost.queue_full,
+        lost_bank_full: table.lost.bank_full,
+        values: table.values,
+        waited: table.waited.min(u128::from(u64::MAX)) as u64,
+        longest: table.longest,
+        written: table.written,
+        registers: table.registers,
+    }
+}
+
+fn rounds_number(fault: RoundsFault) -> u32
+    ensures number { result ≡ rounds_number fault }
+    ensures fault { result ≢ 0 }
+{
+    match fault {
+        RoundsFault::Closed => CLOSED,
+        RoundsFault::BadLatency => BAD_LATENCY,
+        RoundsFault::TooMany => TOO_MANY,
+        RoundsFault::NoRequest => NO_EVENT,
+        RoundsFault::OutOfMemory => OUT_OF_MEMORY,
+    }
+}

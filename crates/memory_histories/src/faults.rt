@@ -1,0 +1,41 @@
+//! Faults as they are told.
+
+ghost use Rattle.std.specs.Prelude.{Some, ◌≡◌};
+ghost use Rattle.memory_histories.specs.Faults as texts;
+
+use crate::events::{HistoryFault, StepFault};
+use std::error::Error;
+use std::fmt;
+
+/// What was wrong with the event, in a few words, with the place of a wrong byte.
+impl fmt::Display for HistoryFault {
+    ghost output = { λ fault. Some (texts.history_fault_text fault) };
+
+    fn fmt<W: fmt::Write>(&self, f: &mut fmt::Formatter<W>) -> fmt::Result {
+        match self {
+            HistoryFault::OutOfRange => f.write_str("the operation is out of range"),
+            HistoryFault::NoByteEnabled => f.write_str("no byte of the store is enabled"),
+            HistoryFault::NumberInUse => f.write_str("the number is in use"),
+            HistoryFault::NotOpen => f.write_str("no operation is open under the number"),
+            HistoryFault::WrongLength => f.write_str("the load was requested with another length"),
+            HistoryFault::WrongByte { place } => {
+                write!(f, "the byte at place {place} of the answer is wrong")
+            }
+        }
+    }
+}
+
+impl Error for StepFault {}
+
+/// Why the event was not taken: of one that is none of the law, what was wrong with it.
+impl fmt::Display for StepFault {
+    ghost output = { λ fault. Some (texts.step_fault_text fault) };
+
+    fn fmt<W: fmt::Write>(&self, f: &mut fmt::Formatter<W>) -> fmt::Result {
+        match self {
+            StepFault::Refused(fault) => write!(f, "the event is none of the law: {fault}"),
+            StepFault::TooLong => f.write_str("the history is too long"),
+            StepFault::OutOfMemory => f.write_str("out of memory"),
+        }
+    }
+}

@@ -1,0 +1,11 @@
+use Rattle.std.proofs.Common.{take, ◌++◌}
+use Rattle.std.specs.Prelude.{codes}
+use Rattle.std.specs.List.{flat_map}
+use Rattle.std.specs.Fmt.{HasWritten, IsPlainFormatter}
+use Rattle.flat_model.specs.Texts.{byte_text}
+use Rattle.named_fields.proofs.strings.write_spaced.Given as goal
+
+abbrev pub invariant-loop-byte : goal.invariant-loop-byte
+invariant-loop-byte g l =
+    IsPlainFormatter l.initial.f → HasWritten g.W.Write.write_str_gives l.initial.f
+    (flat_map (λ b. codes " " ++ byte_text b) (take l.byte-index l.bytes)) l.f

@@ -1,0 +1,6 @@
+pub mod Scales
+pub mod Elements
+pub mod Looks
+pub mod Plots
+pub mod Sweeps
+pub mod Bars

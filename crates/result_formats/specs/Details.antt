@@ -1,0 +1,44 @@
+-- The details of a run in a format.
+use Rattle.std.specs.Prelude.{ℕ, ◌+◌, List, [], ◌∷◌, ◌++◌, codes, take}
+use Rattle.round_driver.specs.Details.{bucket_of}
+use Rattle.round_driver.specs.Texts.{mean_of, table_text}
+use Rattle.round_driver.specs.declared.details.Details.{Details}
+use Rattle.round_driver.specs.declared.waits.Waits.{Waits}
+use Rattle.named_fields.specs.declared.figures.Figure.TheVariants.{Hundredths}
+use Rattle.named_fields.specs.declared.format.Format.{Format}
+use Rattle.named_fields.specs.declared.format.Format.TheVariants.{Text, Csv, Json}
+use Rattle.result_formats.specs.declared.series.By.TheVariants.{Number, Doubling}
+use Rattle.named_fields.specs.Formats.{Named, named, joined, member_text}
+use Rattle.result_formats.specs.Counts.{count, table_named}
+use Rattle.result_formats.specs.Series.{Listed, listed, all_fields, all_series}
+
+-- the figures beside those of the table
+unfoldable pub details_named : Details → List Named
+details_named d =
+    count (codes "loads") d.kinds.loads.accepted ∷ count (codes "load_hits") d.kinds.loads.hits
+    ∷ count (codes "load_joins") d.kinds.loads.joins ∷ count (codes "load_misses") d.kinds.loads.misses
+    ∷ count (codes "stores") d.kinds.stores.accepted ∷ count (codes "store_hits") d.kinds.stores.hits
+    ∷ count (codes "store_joins") d.kinds.stores.joins ∷ count (codes "store_misses") d.kinds.stores.misses
+    ∷ count (codes "prefetches") d.kinds.prefetches.accepted ∷ count (codes "prefetch_hits") d.kinds.prefetches.hits
+    ∷ count (codes "prefetch_joins") d.kinds.prefetches.joins ∷ count (codes "prefetch_misses") d.kinds.prefetches.misses
+    ∷ named (codes "mean_from_asking") (Hundredths (mean_of d.waits_from_asking.rounds d.waits_from_asking.loads).0 (mean_of d.waits_from_asking.rounds d.waits_from_asking.loads).1)
+    ∷ count (codes "longest_from_asking") d.waits_from_asking.longest ∷ []
+
+-- the loads by the bucket of their wait, up to that of the longest one
+abbrev pub buckets_of : Waits → List ℕ
+buckets_of w = take (bucket_of w.longest + 1) w.buckets
+
+-- the series
+unfoldable pub series_named : Details → List Listed
+series_named d =
+    listed (codes "set_hits") Number d.sets.hits ∷ listed (codes "set_joins") Number d.sets.joins ∷ listed (codes "set_misses") Number d.sets.misses
+    ∷ listed (codes "rounds_by_registers") Number d.registers ∷ listed (codes "rounds_by_owed") Number d.owed
+    ∷ listed (codes "waits") Doubling (buckets_of d.waits) ∷ listed (codes "waits_from_asking") Doubling (buckets_of d.waits_from_asking) ∷ []
+
+-- the details, with the figures of the table
+unfoldable pub details_in : Format → Details → List ℕ
+details_in Text d = table_text d.table ++ (all_fields Text (details_named d) ++ all_series Text (series_named d))
+details_in Csv d =
+    codes "name,index,value" ++ (all_fields Csv (table_named d.table) ++ (all_fields Csv (details_named d) ++ all_series Csv (series_named d)))
+details_in Json d =
+    codes "{" ++ (joined member_text (table_named d.table) ++ (all_fields Json (details_named d) ++ (all_series Json (series_named d) ++ codes "}")))

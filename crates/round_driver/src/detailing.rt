@@ -1,0 +1,79 @@
+//! Whole runs that are counted with all details.
+ghost use Rattle.std.specs.Prelude.{◌≡◌, ◌≤◌, ◌<◌, ◌^◌, length, IfOk, OnOk, OnErr};
+ghost use Rattle.flat_model.specs.declared.limits.TheConstants.{MAX_BANKS};
+ghost use Rattle.round_driver.specs.declared.driving.TheConstants.{MOST_LATENCY};
+ghost use Rattle.round_driver.specs.Details.{details_of, details_from, ends_total};
+ghost use Rattle.round_driver.specs.Rounds.{whole_run, most_requests, EndsInTime};
+ghost use Rattle.round_driver.specs.Walks.{RequestsEnd};
+ghost use Rattle.round_driver.specs.Machines as machines;
+
+use crate::details::{Details, RoundEnds, Told};
+use crate::driving::{is_over, most_rounds, round};
+use crate::machine::RoundMachine;
+use crate::round::Notes;
+use crate::schedule::Schedule;
+use crate::table::{Counter, Table};
+use crate::timing::Timing;
+use flat_model::Event;
+use std::alloc::{AllocError, Global};
+
+// The details of a run with this table, whose last round ends with so many registers in use.
+fn details_from(table: Table, told: Told, mut ends: RoundEnds, registers: u32) -> Details
+    requires { ends_total ends < 2 ^ 61 }
+    ensures { result ≡ details_from table told ends registers }
+{
+    ends.count(registers, &told);
+    Details {
+        table,
+        kinds: told.kinds,
+        sets: told.sets,
+        registers: ends.registers,
+        owed: ends.owed,
+        waits: told.waits,
+        waits_from_asking: told.waits_from_asking,
+    }
+}
+
+/// Drives these requests through the machine in rounds, as [`drive_with`](crate::drive_with) does, and
+/// counts what [`summarize_with`](crate::summarize_with) counts and more.
+///
+/// `AllocError` says that there was too little memory; nothing has been asked then. As many counts are
+/// held as the machine has sets, and two rounds for each tag.
+pub fn detail_with<M: RoundMachine>(
+    alloc: Global,
+    machine: &mut M,
+    timing: Timing,
+    requests: &[Event],
+) -> Result<Details, AllocError>
+    requires banks { (M.state machine.old).sizes.banks ≤ MAX_BANKS }
+    requires latency { timing.latency ≤ MOST_LATENCY }
+    requires requests { length requests.now ≤ most_requests }
+    ensures details { IfOk result
+        (λ details. details ≡ details_of timing (M.state machine.old) requests.now) }
+    ensures machine { OnOk result
+        (M.state machine.new ≡ (whole_run timing (M.state machine.old) requests.now).state) }
+    ensures over { OnOk result (RequestsEnd timing (M.state machine.old) requests.now) }
+    ensures early { OnOk result (EndsInTime timing (M.state machine.old) requests.now) }
+    ensures unchanged { OnErr result (M.state machine.new ≡ M.state machine.old) }
+{
+    machine.keeps_whole();
+    let numbers = machine.numbers();
+    let mut counter = Counter::new(alloc)?;
+    let mut told = Told::new(alloc, numbers)?;
+    let mut ends = RoundEnds::new(alloc, numbers)?;
+    let mut schedule = Schedule::new(timing);
+    let mut notes = Notes::new();
+    let mut left = requests;
+    for _turn in 0..most_rounds(timing.latency, requests.len()) {
+        if is_over(machine, left) {
+            let table = counter.table_after(schedule.round + 1);
+            return Ok(details_from(table, told, ends, machine.used_registers()));
+        }
+        left = round(machine, &mut schedule, &mut notes, left);
+        counter.count_all(notes.as_slice());
+        told.count_all(numbers, notes.as_slice());
+        ends.count(machine.used_registers(), &told);
+    }
+    let table = counter.table_after(schedule.round + 1);
+    Ok(details_from(table, told, ends, machine.used_registers()))
+}

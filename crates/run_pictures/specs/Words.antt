@@ -1,0 +1,317 @@
+-- What a step did, or why it didn't, in words: a function of its event, its answer and the machine before it.
+use Rattle.std.specs.Prelude.{ℕ, ◌-◌, ◌*◌, ◌+◌, ◌==◌, nat_lt, Bool, false, ◌&&◌, not, if◌then◌else◌, List, [], ◌++◌, codes, decimal, length, Option, Some, None, slice_get}
+use Rattle.std.specs.List.{list_any, filter, find, range_with_len}
+use Rattle.flat_model.specs.declared.Word.{Word}
+use Rattle.flat_model.specs.declared.Lanes.{Lanes}
+use Rattle.flat_model.specs.declared.Cause.{Cause}
+use Rattle.flat_model.specs.declared.Cause.TheVariants.{OutOfRange, TagInUse, RepliesFull, NoRegister, SetPending, QueueFull, BankFull, NotPresent, StackFull}
+use Rattle.flat_model.specs.declared.Event.{Event}
+use Rattle.flat_model.specs.declared.Event.TheVariants.{Load, Store, Prefetch, Evict, Drain, Serve, Arrive, Process, Take}
+use Rattle.flat_model.specs.declared.Answer.{Answer}
+use Rattle.flat_model.specs.declared.Answer.TheVariants.{Accepted, Moved, Value, Nothing, Refused}
+use Rattle.flat_model.specs.Causes.{cause_words}
+use Rattle.flat_model.specs.Texts.{word_text, lanes_text}
+use Rattle.flat_model.specs.Words.{has_any}
+use Rattle.memory_banks.specs.Banks.{bank_at}
+use Rattle.memory_banks.specs.declared.BankAnswer.{BankAnswer}
+use Rattle.input_stack.specs.declared.Entry.{Entry}
+use Rattle.write_queue.specs.declared.Queued.{Queued}
+use Rattle.cache_unit.specs.declared.Lookup.{Lookup}
+use Rattle.cache_unit.specs.declared.Lookup.TheVariants.{Hit, Join, Miss}
+use Rattle.cache_unit.specs.Views.{frame_view, dirty_view, reply_view}
+use Rattle.machine_core.specs.Machine.{MachineState}
+use Rattle.machine_core.specs.AnyMachine.{answered}
+use Rattle.round_driver.specs.Machines.{found_at}
+use Rattle.run_pictures.specs.declared.before.Before.{Before}
+use Rattle.run_pictures.specs.declared.machine.Extent.{Extent}
+use Rattle.run_pictures.specs.Extents.{extent_of, frames_in, block_in, set_in, set_of_frame, bank_in}
+use Rattle.run_pictures.specs.Cells.{is_pending}
+
+-- ---- what is seen of the machine before an event
+
+-- what a request finds
+abbrev pub found_by : MachineState → Event → Option Lookup
+found_by s (Load tag at) = found_at s at
+found_by s (Store at word lanes) = found_at s at
+found_by s (Prefetch at) = found_at s at
+found_by s event = None
+
+-- the answer of a bank that is to arrive
+abbrev pub answer_for : MachineState → Event → Option BankAnswer
+answer_for s (Arrive bank place) = slice_get (bank_at s.machine.banks bank).answers place
+answer_for s event = None
+
+-- the word of the input stack that is to be processed
+abbrev pub entry_for : MachineState → Event → Option Entry
+entry_for s (Process place) = slice_get s.machine.cache.stack place
+entry_for s event = None
+
+unfoldable pub seen : MachineState → Event → Before
+seen s event =
+    record {
+      found = found_by s event;
+      front = slice_get s.machine.cache.queue 0;
+      answer = answer_for s event;
+      entry = entry_for s event;
+    }
+
+-- the block that a request or an eviction is about; block 0 for other events
+abbrev pub block_about : Extent → Event → ℕ
+block_about z (Load tag at) = block_in z at
+block_about z (Store at word lanes) = block_in z at
+block_about z (Prefetch at) = block_in z at
+block_about z (Evict block) = block
+block_about z event = 0
+
+-- ---- what was accepted
+
+abbrev pub hit_words : Event → List ℕ
+hit_words (Load tag at) = codes "a hit: the value stands ready"
+hit_words (Store at word lanes) = codes "a hit: the frame's word is changed"
+hit_words event = codes "the word is in its frame already"
+
+abbrev pub join_words : Event → List ℕ
+join_words (Load tag at) = codes "the word is on its way: the load waits for it"
+join_words (Store at word lanes) = codes "the word is on its way: the code keeps the stored bytes from it"
+join_words event = codes "the word is on its way already"
+
+-- a request of this block, by what it found
+abbrev pub request_words : ℕ → Event → Option Lookup → List ℕ
+request_words block event (Some Hit) = hit_words event
+request_words block event (Some Join) = join_words event
+request_words block event (Some Miss) =
+    codes "a miss: a register is taken, and block " ++ (decimal block ++ codes "'s words are asked for")
+request_words block event None = []
+
+abbrev pub accepted_words : Extent → Event → Option Lookup → List ℕ
+accepted_words z (Evict block) found = codes "the frame of block " ++ (decimal block ++ codes " is given up")
+accepted_words z event found = request_words (block_about z event) event found
+
+-- ---- what moved on
+
+abbrev pub drained_text : Lanes → ℕ → ℕ → List ℕ
+drained_text lanes at bank =
+    codes "the bytes " ++ (lanes_text lanes ++ (codes " of word " ++ (decimal at ++ (codes " go to bank " ++ decimal bank))))
+
+-- a word that leaves the write queue
+abbrev pub sent_words : Extent → Queued → List ℕ
+sent_words z q = drained_text q.lanes q.at (bank_in z q.at)
+
+abbrev pub drained_words : Extent → Option Queued → List ℕ
+drained_words z None = []
+drained_words z (Some q) = sent_words z q
+
+abbrev pub served_words : ℕ → List ℕ
+served_words bank = codes "bank " ++ (decimal bank ++ codes " serves its first command")
+
+abbrev pub arrived_text : ℕ → ℕ → ℕ → List ℕ
+arrived_text bank i slot =
+    codes "bank " ++ (decimal bank ++ (codes " gives word " ++ (decimal i ++ (codes " of register " ++ (decimal slot ++ codes "'s block")))))
+
+abbrev pub arrived_words : ℕ → Option BankAnswer → List ℕ
+arrived_words bank None = []
+arrived_words bank (Some a) = arrived_text bank a.i a.slot
+
+abbrev pub processed_words : Option Entry → List ℕ
+processed_words None = []
+processed_words (Some e) =
+    codes "word " ++ (decimal e.i ++ (codes " of register " ++ (decimal e.slot ++ codes "'s block has come: its loads are answered")))
+
+abbrev pub moved_words : Extent → Before → Event → List ℕ
+moved_words z before Drain = drained_words z before.front
+moved_words z before (Serve bank) = served_words bank
+moved_words z before (Arrive bank place) = arrived_words bank before.answer
+moved_words z before (Process place) = processed_words before.entry
+moved_words z before event = []
+
+abbrev pub taken_words : ℕ → Word → List ℕ
+taken_words tag word = codes "the load of tag " ++ (decimal tag ++ (codes " is answered " ++ word_text word))
+
+-- ---- why there was nothing to do
+
+abbrev pub idle_words : Event → List ℕ
+idle_words Drain = codes "the write queue is empty"
+idle_words (Serve bank) = codes "no command waits at bank " ++ decimal bank
+idle_words (Arrive bank place) = codes "no answer stands at place " ++ (decimal place ++ (codes " of bank " ++ decimal bank))
+idle_words (Process place) = codes "no word stands at place " ++ (decimal place ++ codes " of the input stack")
+idle_words (Take place) = codes "no value stands ready at place " ++ decimal place
+idle_words event = []
+
+-- ---- why it was refused
+
+abbrev pub word_outside : Extent → ℕ → List ℕ
+word_outside z at = codes "word " ++ (decimal at ++ (codes " is outside memory, which has " ++ (decimal z.words ++ codes " words")))
+
+abbrev pub block_outside_text : ℕ → ℕ → List ℕ
+block_outside_text block blocks =
+    codes "block " ++ (decimal block ++ (codes " is outside memory, which has " ++ (decimal blocks ++ codes " blocks")))
+
+abbrev pub block_outside : Extent → ℕ → List ℕ
+block_outside z block = block_outside_text block (block_in z z.words)
+
+abbrev pub outside_words : Extent → Event → List ℕ
+outside_words z (Load tag at) = word_outside z at
+outside_words z (Store at word lanes) = word_outside z at
+outside_words z (Prefetch at) = word_outside z at
+outside_words z (Evict block) = block_outside z block
+outside_words z event = []
+
+abbrev pub has_tag : ℕ → Option Answer → Bool
+has_tag tag (Some (Value t word)) = t == tag
+has_tag tag reply = false
+
+-- whether the value of a tag stands ready at a place
+unfoldable pub is_ready : MachineState → ℕ → ℕ → Bool
+is_ready s tag place = has_tag tag (reply_view s.machine.cache place)
+
+-- whether it stands ready anywhere
+unfoldable pub has_value : MachineState → ℕ → Bool
+has_value s tag = list_any (λ place. is_ready s tag place) (range_with_len 0 (length s.machine.cache.ready))
+
+unfoldable pub tag_words : MachineState → ℕ → List ℕ
+tag_words s tag =
+    if has_value s tag
+    then codes "the value of tag " ++ (decimal tag ++ codes " stands ready, and wasn't taken")
+    else codes "a load of tag " ++ (decimal tag ++ codes " waits for its word")
+
+abbrev pub in_use_words : MachineState → Event → List ℕ
+in_use_words s (Load tag at) = tag_words s tag
+in_use_words s event = []
+
+-- ---- why the write queue has too few places
+
+abbrev pub any_lane : Option Lanes → Bool
+any_lane None = false
+any_lane (Some lanes) = has_any lanes
+
+-- whether a word of a frame has bytes that memory doesn't have
+unfoldable pub is_dirty : MachineState → ℕ → ℕ → Bool
+is_dirty s frame i = any_lane (dirty_view s.machine.cache frame i)
+
+-- how many such words a frame has
+unfoldable pub dirty_count : MachineState → ℕ → ℕ
+dirty_count s frame = length (filter (λ i. is_dirty s frame i) (range_with_len 0 (extent_of s.sizes).block_words))
+
+-- whether a block of a set has all its words
+unfoldable pub is_whole_in : MachineState → ℕ → ℕ → ℕ → Bool
+is_whole_in s set frame block = set_of_frame (extent_of s.sizes) frame == set && not (is_pending s block)
+
+abbrev pub held_may_go : MachineState → Event → ℕ → Option ℕ → Bool
+held_may_go s event frame None = false
+held_may_go s (Evict block) frame (Some held) = held == block
+held_may_go s event frame (Some held) =
+    let z = extent_of s.sizes in
+    is_whole_in s (set_in z (block_about z event)) frame held
+
+-- whether a frame may be the one that an event gives up: an eviction that of its block, and a miss one of its set that waits
+-- for no word
+unfoldable pub may_go : MachineState → Event → ℕ → Bool
+may_go s event frame = held_may_go s event frame (frame_view s.machine.cache frame)
+
+-- how many frames may go
+unfoldable pub count_that_may_go : MachineState → Event → ℕ
+count_that_may_go s event = length (filter (λ frame. may_go s event frame) (range_with_len 0 (frames_in (extent_of s.sizes))))
+
+-- the first frame that may go
+unfoldable pub first_that_may_go : MachineState → Event → Option ℕ
+first_that_may_go s event = find (λ frame. may_go s event frame) (range_with_len 0 (frames_in (extent_of s.sizes)))
+
+-- the frame that goes, if no other may: which frame of a set was taken first isn't shown
+unfoldable pub victim : MachineState → Event → Option ℕ
+victim s event = if count_that_may_go s event == 1 then first_that_may_go s event else None
+
+-- how many places of the write queue are free
+unfoldable pub free_places : MachineState → ℕ
+free_places s = (extent_of s.sizes).write_queue - length s.machine.cache.queue
+
+abbrev pub free_text : ℕ → ℕ → List ℕ
+free_text free dirty =
+    codes "the write queue has " ++ (decimal free ++ (codes " free places for " ++ (decimal dirty ++ codes " dirty words")))
+
+abbrev pub queue_words_for : MachineState → Option ℕ → List ℕ
+queue_words_for s None =
+    codes "the write queue has " ++ (decimal (free_places s) ++ codes " free places, too few for the victim's dirty words")
+queue_words_for s (Some frame) = free_text (free_places s) (dirty_count s frame)
+
+abbrev pub queue_words : MachineState → Event → List ℕ
+queue_words s event = queue_words_for s (victim s event)
+
+-- ---- why a bank has too little room
+
+-- whether a word of a block lies in a bank
+abbrev pub lies_in : Extent → ℕ → ℕ → ℕ → Bool
+lies_in z block bank i = bank_in z (block * z.block_words + i) == bank
+
+-- how many words of a block lie in a bank
+unfoldable pub reads_in : Extent → ℕ → ℕ → ℕ
+reads_in z block bank = length (filter (λ i. lies_in z block bank i) (range_with_len 0 z.block_words))
+
+-- how many more commands a bank takes
+unfoldable pub room_at : MachineState → ℕ → ℕ
+room_at s bank = (extent_of s.sizes).bank_queue - length (bank_at s.machine.banks bank).queue
+
+-- whether a bank has too little room for the reads of a block
+unfoldable pub is_short : MachineState → ℕ → ℕ → Bool
+is_short s block bank = nat_lt (room_at s bank) (reads_in (extent_of s.sizes) block bank)
+
+-- the first such bank
+unfoldable pub short_bank : MachineState → ℕ → Option ℕ
+short_bank s block = find (λ bank. is_short s block bank) (range_with_len 0 (extent_of s.sizes).banks)
+
+abbrev pub shortage_text : ℕ → ℕ → ℕ → List ℕ
+shortage_text bank room reads =
+    codes "bank " ++ (decimal bank ++ (codes " has room for " ++ (decimal room ++ (codes " commands, and is to be sent " ++ decimal reads))))
+
+abbrev pub shortage_words : MachineState → ℕ → ℕ → List ℕ
+shortage_words s block bank = shortage_text bank (room_at s bank) (reads_in (extent_of s.sizes) block bank)
+
+abbrev pub short_words : MachineState → ℕ → Option ℕ → List ℕ
+short_words s block None = []
+short_words s block (Some bank) = shortage_words s block bank
+
+abbrev pub no_room_words : Extent → Option Queued → List ℕ
+no_room_words z None = []
+no_room_words z (Some q) = codes "bank " ++ (decimal (bank_in z q.at) ++ codes " has no room for a command")
+
+abbrev pub bank_words : MachineState → Event → List ℕ
+bank_words s Drain = no_room_words (extent_of s.sizes) (slice_get s.machine.cache.queue 0)
+bank_words s event =
+    let block = block_about (extent_of s.sizes) event in
+    short_words s block (short_bank s block)
+
+-- ---- each cause
+
+-- by a machine's numbers alone
+abbrev pub limit_words : Extent → Event → Cause → List ℕ
+limit_words z event OutOfRange = outside_words z event
+limit_words z event RepliesFull = codes "as many loads are owed values as may be: " ++ decimal z.replies
+limit_words z event NoRegister = codes "all registers are in use: " ++ decimal z.regs
+limit_words z event SetPending =
+    codes "every way of set " ++ (decimal (set_in z (block_about z event)) ++ codes " waits for words")
+limit_words z event NotPresent = codes "no frame holds block " ++ decimal (block_about z event)
+limit_words z event StackFull = codes "the input stack is full: " ++ (decimal z.depth ++ codes " words")
+limit_words z event cause = cause_words cause
+
+abbrev pub refused_words : MachineState → Event → Cause → List ℕ
+refused_words s event TagInUse = in_use_words s event
+refused_words s event QueueFull = queue_words s event
+refused_words s event BankFull = bank_words s event
+refused_words s event cause = limit_words (extent_of s.sizes) event cause
+
+-- ---- all words
+
+-- by what is seen before the event, and the machine that a refusal leaves as it was
+abbrev pub words_by : Before → MachineState → Event → Answer → List ℕ
+words_by before s event Accepted = accepted_words (extent_of s.sizes) event before.found
+words_by before s event Moved = moved_words (extent_of s.sizes) before event
+words_by before s event (Value tag word) = taken_words tag word
+words_by before s event Nothing = idle_words event
+words_by before s event (Refused cause) = refused_words s event cause
+
+-- what an event did to a machine of this state, or why it didn't
+abbrev pub words_of : MachineState → Event → Answer → List ℕ
+words_of s event answer = words_by (seen s event) s event answer
+
+-- the words of an event's own answer
+unfoldable pub step_words : MachineState → Event → List ℕ
+step_words s event = words_of s event (answered s event)

@@ -1,0 +1,190 @@
+//! The events of a trace or of a recorded run.
+ghost use Rattle.std.specs.Prelude.{◌≡◌, ℕ, ◌<◌, ◌≤◌, ◌++◌, ◌∷◌, [], List, length, OnOk, IfOk, IfErr};
+ghost use Rattle.trace_text.specs.declared.fault.TheConstants.{MAX_LINE, MAX_LINES, MAX_PAIR};
+ghost use Rattle.trace_text.specs.Lines.{IsSaid, line_of};
+ghost use Rattle.trace_text.specs.Pairs.{pair_of};
+ghost use Rattle.trace_text.specs.Reading.{ReadWhole, ReadFails};
+ghost use Rattle.run_pictures.specs.Asked as all;
+
+use crate::drawn::MOST_EVENTS;
+use arrayvec::ArrayVec;
+use flat_model::{Answer, Event};
+use std::alloc::Global;
+use trace_text::{
+    BUFFER_LEN, Collector, Failed, Line, LineFault, MAX_LINE, MAX_PAIR, Pair, Source, TraceFault,
+    Uncollected, answer_text, read_line, read_lines, read_pair,
+};
+
+// The bytes of a line, with its LF.
+const MAX_ENDED: usize = MAX_PAIR + 1;
+
+/// An event that a machine is asked, and the answer that was recorded with it, if one was.
+#[derive(Clone, Copy, PartialEq, Eq, Debug)]
+pub struct Asked {
+    pub event: Event,
+    pub recorded: Option<Answer>,
+}
+
+// A line with its LF, as the readers of lines take it.
+fn ended(text: &[u8]) -> ArrayVec<u8, MAX_ENDED>
+    requires { length text.now ≤ MAX_PAIR }
+    ensures { result.items ≡ text.now ++ 10 ∷ [] }
+{
+    let mut ended = ArrayVec::<u8, MAX_ENDED>::new();
+    if ended.try_extend_from_slice(text).is_err() {
+        return ended;
+    }
+    ended.push(b'\n');
+    ended
+}
+
+// What a line of a trace says, without its LF.
+fn line_said(text: &[u8]) -> Result<Line, LineFault>
+    requires { length text.now ≤ MAX_LINE }
+    ensures line { result ≡ line_of text.now }
+    ensures fault { IfErr result IsSaid }
+{
+    let ended = ended(text);
+    read_line(ended.as_slice())
+}
+
+// What a line of a recorded run says, without its LF.
+fn pair_said(text: &[u8]) -> Result<Pair, LineFault>
+    requires { length text.now ≤ MAX_PAIR }
+    ensures pair { result ≡ pair_of text.now }
+    ensures fault { IfErr result IsSaid }
+{
+    let ended = ended(text);
+    read_pair(ended.as_slice())
+}
+
+// What a line says, without its LF: it is one of a trace, or one of a recorded run.
+#[tactic(auto, unfolding(crate::specs::Asked::said_of))]
+fn said(text: &[u8]) -> Result<Pair, LineFault>
+    requires { length text.now ≤ MAX_PAIR }
+    ensures pair { result ≡ all.said_of text.now }
+    ensures fault { IfErr result IsSaid }
+{
+    if text.len() > MAX_LINE {
+        return pair_said(text);
+    }
+    match line_said(text) {
+        Ok(line) => Ok(Pair { line, answer: None }),
+        Err(fault) => match pair_said(text) {
+            Ok(pair) => Ok(pair),
+            Err(_) => Err(fault),
+        },
+    }
+}
+
+// What is asked in a line, if it has an event.
+fn asked_in(pair: Pair) -> Option<Asked>
+    ensures { result ≡ all.asked_with pair.line pair.answer }
+{
+    match pair.line {
+        Line::Event(event) => Some(Asked {
+            event,
+            recorded: pair.answer,
+        }),
+        Line::Register(_) | Line::Bank(_) | Line::Settled => None,
+    }
+}
+
+/// The recorded answer, if it isn't the machine's.
+#[tactic(auto, unfolding(crate::specs::Asked::other_answer))]
+pub(crate) fn other_answer(answer: Answer, recorded: Option<Answer>) -> Option<Answer>
+    ensures { result ≡ all.other_answer answer recorded }
+{
+    let recorded = recorded?;
+    if answer_text(answer).as_bytes() == answer_text(recorded).as_bytes() {
+        None
+    } else {
+        Some(recorded)
+    }
+}
+
+// What is asked in the lines so far: all is counted, and kept as long as it isn't too much.
+#[derive(Drop)]
+pub(crate) struct AskedSoFar {
+    pub(crate) count: usize,
+    pub(crate) asked: Vec<Asked>,
+}
+
+impl AskedSoFar {
+    // Counts what is asked, and keeps it if it isn't too much.
+    fn gather(&mut self, asked: Option<Asked>) -> Result<(), Uncollected>
+        requires few { self.old.count < MAX_LINES }
+        ensures ok { OnOk result (all.GathersOne self.old asked self.new) }
+        ensures err { IfErr result (λ miss. miss ≡ Uncollected.Halted) }
+    {
+        let Some(asked) = asked else {
+            return Ok(());
+        };
+        self.count += 1;
+        if self.count > MOST_EVENTS {
+            return Ok(());
+        }
+        self.asked.push(asked)?;
+        Ok(())
+    }
+}
+
+impl Collector for AskedSoFar {
+    ghost fault_in = { all.said_fault };
+
+    ghost longest = { MAX_PAIR };
+
+    ghost went = { λ s texts t. all.Gathered texts t };
+
+    ghost stopped = { λ s text t. Unit {0} };
+
+    ghost paused = { λ s t. t ≡ s };
+
+    ghost unpaused = { λ s t. ⊥ };
+
+    ghost holds_same = { λ s t. Unit {0} };
+
+    fn collect(&mut self, _number: u64, text: &[u8]) -> Result<(), Uncollected> {
+        let pair = said(text)?;
+        self.gather(asked_in(pair))
+    }
+
+    fn pause(&mut self) -> Result<(), Failed> {
+        Ok(())
+    }
+}
+
+/// The events of a trace or of a recorded run, in order, each with its answer if that was recorded. `None` says that
+/// there are more than are drawn. Lines that only show something are passed over.
+///
+/// A line is read as by [`read_line`], and if it is none of a trace as by [`read_pair`]. Of a line that is neither the
+/// trace's fault is answered, or, if it has more than 64 bytes, the recorded run's. The text is read to its end, so a
+/// faulty line goes before too many events. The order of the faults is that of
+/// [`read_requests`](trace_text::read_requests).
+///
+/// One buffer of 4,096 bytes is allocated before the first read. The events that are kept take more.
+pub(crate) fn read_asked<R: Source>(
+    alloc: Global,
+    reader: &mut R,
+) -> Result<Option<Vec<Asked>>, TraceFault>
+    ensures read { IfOk result
+        (λ found. (texts : List (List ℕ))
+        × ReadWhole R.gave all.said_fault MAX_PAIR reader.old reader.new texts
+        × all.KeepsFew (all.all_asked texts) found) }
+    ensures fault { IfErr result
+        (ReadFails R.gave R.failed all.said_fault MAX_PAIR reader.old reader.new) }
+{
+    let mut so_far = AskedSoFar {
+        count: 0,
+        asked: Vec::new(alloc),
+    };
+    let mut buffer = vec![in alloc; 0u8; BUFFER_LEN]?;
+    match read_lines(reader, &mut so_far, MAX_PAIR, &mut buffer) {
+        Ok(()) => {}
+        Err(stop) => return Err(stop.fault_or(TraceFault::OutOfMemory)),
+    }
+    if so_far.count > MOST_EVENTS {
+        return Ok(None);
+    }
+    Ok(Some(so_far.asked))
+}

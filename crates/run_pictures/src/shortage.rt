@@ -1,0 +1,229 @@
+//! What there was too little room for, in words.
+
+ghost use Rattle.std.specs.Prelude.{◌≡◌, IfOk};
+ghost use Rattle.std.specs.String.{string_bytes};
+ghost use Rattle.run_pictures.specs.Words as words;
+
+use crate::cells::is_pending;
+use crate::machine::{Extent, PictureMachine};
+use crate::reasons::block_about;
+use flat_model::Event;
+use std::alloc::{AllocError, Global};
+use write_queue::Queued;
+
+/// Why an event was refused that would have queued a frame's dirty words.
+pub(crate) fn queue_full<M: PictureMachine>(
+    alloc: Global,
+    machine: &M,
+    event: Event,
+) -> Result<String, AllocError>
+    ensures { IfOk result
+        (λ text. string_bytes text ≡ words.queue_words (M.state machine.now) event) }
+{
+    let free = free_places(machine);
+    match victim(machine, event) {
+        Some(frame) => {
+            let dirty = dirty_count(machine, frame);
+            format!(in alloc; "the write queue has {free} free places for {dirty} dirty words")
+        }
+        None => {
+            format!(in alloc;
+                "the write queue has {free} free places, too few for the victim's dirty words"
+            )
+        }
+    }
+}
+
+// How many places of the write queue are free.
+#[tactic(auto, unfolding(crate::specs::Words::free_places))]
+fn free_places<M: PictureMachine>(machine: &M) -> u32
+    ensures { result ≡ words.free_places (M.state machine.now) }
+{
+    machine
+        .extent()
+        .write_queue
+        .saturating_sub(machine.queue_len())
+}
+
+// Whether a word of a frame has bytes that memory doesn't have.
+#[tactic(auto, unfolding(crate::specs::Words::is_dirty))]
+fn is_dirty<M: PictureMachine>(machine: &M, frame: u32, i: u32) -> bool
+    ensures { result ≡ words.is_dirty (M.state machine.now) frame i }
+{
+    match machine.dirty(frame, i) {
+        Some(lanes) => lanes.has_any(),
+        None => false,
+    }
+}
+
+// How many such words a frame has.
+#[tactic(auto, unfolding(crate::specs::Words::dirty_count))]
+fn dirty_count<M: PictureMachine>(machine: &M, frame: u32) -> usize
+    ensures { result ≡ words.dirty_count (M.state machine.now) frame }
+{
+    let words = machine.extent().block_words;
+    (0..words).filter(|i| is_dirty(machine, frame, *i)).count()
+}
+
+// Whether a block in a frame of a set has all its words.
+#[tactic(auto, unfolding(crate::specs::Words::is_whole_in))]
+fn is_whole_in<M: PictureMachine>(machine: &M, set: u32, frame: u32, block: u32) -> bool
+    ensures { result ≡ words.is_whole_in (M.state machine.now) set frame block }
+{
+    machine.extent().set_of_frame(frame) == set && !is_pending(machine, block)
+}
+
+// Whether a frame may be the one that an event gives up: an eviction that of its block, and a miss
+// one of its set that waits for no word.
+#[tactic(auto, unfolding(crate::specs::Words::may_go))]
+fn may_go<M: PictureMachine>(machine: &M, event: Event, frame: u32) -> bool
+    ensures { result ≡ words.may_go (M.state machine.now) event frame }
+{
+    let Some(held) = machine.frame_block(frame) else {
+        return false;
+    };
+    match event {
+        Event::Evict { block } => held == block,
+        _ => {
+            let extent = machine.extent();
+            let set = extent.set_of(block_about(&extent, event));
+            is_whole_in(machine, set, frame, held)
+        }
+    }
+}
+
+// How many frames may go.
+#[tactic(auto, unfolding(crate::specs::Words::count_that_may_go))]
+fn count_that_may_go<M: PictureMachine>(machine: &M, event: Event) -> usize
+    ensures { result ≡ words.count_that_may_go (M.state machine.now) event }
+{
+    let frames = machine.extent().frames();
+    (0..frames)
+        .filter(|frame| may_go(machine, event, *frame))
+        .count()
+}
+
+// The first frame that may go.
+#[tactic(auto, unfolding(crate::specs::Words::first_that_may_go))]
+fn first_that_may_go<M: PictureMachine>(machine: &M, event: Event) -> Option<u32>
+    ensures { result ≡ words.first_that_may_go (M.state machine.now) event }
+{
+    let frames = machine.extent().frames();
+    (0..frames).find(|frame| may_go(machine, event, *frame))
+}
+
+// The frame that goes, if no other may. Which frame of a set was taken first isn't shown.
+#[tactic(auto, unfolding(crate::specs::Words::victim))]
+fn victim<M: PictureMachine>(machine: &M, event: Event) -> Option<u32>
+    ensures { result ≡ words.victim (M.state machine.now) event }
+{
+    if count_that_may_go(machine, event) == 1 {
+        first_that_may_go(machine, event)
+    } else {
+        None
+    }
+}
+
+/// Why an event was refused that would have sent commands to banks.
+pub(crate) fn bank_full<M: PictureMachine>(
+    alloc: Global,
+    machine: &M,
+    event: Event,
+) -> Result<String, AllocError>
+    ensures { IfOk result
+        (λ text. string_bytes text ≡ words.bank_words (M.state machine.now) event) }
+{
+    match event {
+        Event::Drain => no_room(alloc, &machine.extent(), machine.queue_entry(0)),
+        _ => bank_short(alloc, machine, block_about(&machine.extent(), event)),
+    }
+}
+
+// The bank of the write queue's front takes no command.
+fn no_room(alloc: Global, extent: &Extent, front: Option<Queued>) -> Result<String, AllocError>
+    ensures { IfOk result (λ text. string_bytes text ≡ words.no_room_words extent.now front) }
+{
+    match front {
+        Some(front) => {
+            let bank = extent.bank_of(u64::from(front.at));
+            format!(in alloc; "bank {bank} has no room for a command")
+        }
+        None => Ok(String::new(alloc)),
+    }
+}
+
+// A bank takes too few commands for the reads of a block.
+fn bank_short<M: PictureMachine>(
+    alloc: Global,
+    machine: &M,
+    block: u32,
+) -> Result<String, AllocError>
+    ensures { IfOk result
+        (λ text. string_bytes text ≡ words.short_words (M.state machine.now) block (words.short_bank (M.state machine.now) block)) }
+{
+    match short_bank(machine, block) {
+        Some(bank) => shortage(alloc, machine, block, bank),
+        None => Ok(String::new(alloc)),
+    }
+}
+
+// This bank takes too few.
+fn shortage<M: PictureMachine>(
+    alloc: Global,
+    machine: &M,
+    block: u32,
+    bank: u32,
+) -> Result<String, AllocError>
+    ensures { IfOk result
+        (λ text. string_bytes text ≡ words.shortage_words (M.state machine.now) block bank) }
+{
+    let room = room_at(machine, bank);
+    let reads = reads_in(&machine.extent(), block, bank);
+    format!(in alloc; "bank {bank} has room for {room} commands, and is to be sent {reads}")
+}
+
+// Whether a word of a block lies in a bank.
+fn lies_in(extent: &Extent, block: u32, bank: u32, i: u32) -> bool
+    ensures { result ≡ words.lies_in extent.now block bank i }
+{
+    let first = u64::from(block) * u64::from(extent.block_words);
+    extent.bank_of(first + u64::from(i)) == u64::from(bank)
+}
+
+// How many words of a block lie in a bank.
+#[tactic(auto, unfolding(crate::specs::Words::reads_in))]
+fn reads_in(extent: &Extent, block: u32, bank: u32) -> usize
+    ensures { result ≡ words.reads_in extent.now block bank }
+{
+    (0..extent.block_words)
+        .filter(|i| lies_in(extent, block, bank, *i))
+        .count()
+}
+
+// How many more commands a bank takes.
+#[tactic(auto, unfolding(crate::specs::Words::room_at))]
+fn room_at<M: PictureMachine>(machine: &M, bank: u32) -> u32
+    ensures { result ≡ words.room_at (M.state machine.now) bank }
+{
+    machine
+        .extent()
+        .bank_queue
+        .saturating_sub(machine.commands(bank))
+}
+
+// Whether a bank has too little room for the reads of a block.
+#[tactic(auto, unfolding(crate::specs::Words::is_short))]
+fn is_short<M: PictureMachine>(machine: &M, block: u32, bank: u32) -> bool
+    ensures { result ≡ words.is_short (M.state machine.now) block bank }
+{
+    (room_at(machine, bank) as usize) < reads_in(&machine.extent(), block, bank)
+}
+
+// The first such bank.
+#[tactic(auto, unfolding(crate::specs::Words::short_bank))]
+fn short_bank<M: PictureMachine>(machine: &M, block: u32) -> Option<u32>
+    ensures { result ≡ words.short_bank (M.state machine.now) block }
+{
+    let banks = machine.extent().banks;
+    (0..banks).find(|bank| is_short(machine, block, *bank))
+}

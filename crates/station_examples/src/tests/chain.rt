@@ -1,0 +1,46 @@
+//! A chain of words that is followed on threads of a caller's own.
+use super::TURNS;
+use crate::chain::{Follower, Waits, follow_chain};
+use ring_station::{Audit, MAX_ENTRIES, Shape, Station, station};
+use std::test::Fail;
+
+// Eight blocks of four words in one bank, behind a cache of two frames.
+const ONE_BANK: Shape = Shape {
+    words: 32,
+    sets: 2,
+    banks: 1,
+    bank_queue: 4,
+    write_queue: 4,
+    replies: 4,
+};
+
+// Words of three blocks, two of which share a frame.
+const LINKS: [(u32, u32); 3] = [(5, 9), (9, 17), (17, 2)];
+
+#[test]
+fn chain_on_threads(rt: HostRuntime) -> Result<(), Fail> {
+    // A refused ask is offered again at once, and each offer takes a place of the journal.
+    let mut all: Station<1, 4, 2, 2> = station(rt.alloc(), ONE_BANK, 1, MAX_ENTRIES)?;
+    let mut follower = Follower::new(5, 3);
+    let (Some(mut port), Some(mut bank)) = (all.ports.pop(), all.banks.pop()) else {
+        unreachable!()
+    };
+    let found = follow_chain(
+        &rt,
+        &mut follower,
+        &LINKS,
+        TURNS,
+        &mut all.cache,
+        &mut port,
+        &mut bank,
+    );
+    assert_eq!(rt; found, Audit::Clean);
+    let told_all = Follower {
+        at: 2,
+        left: 0,
+        stored: 3,
+        waits: Waits::Nothing,
+    };
+    assert_eq!(rt; follower, told_all);
+    Ok(())
+}

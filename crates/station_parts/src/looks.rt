@@ -1,0 +1,84 @@
+//! What the cache side may look at: what a step at a source would find, and room for.
+ghost use Rattle.std.specs.Prelude.{◌≡◌, length, slice_get};
+ghost use Rattle.cache_unit.specs.State.{UnitState};
+ghost use Rattle.station_parts.specs.Ids.{cache_id};
+ghost use Rattle.station_parts.specs.SideState.{state_of, OnlyLooks};
+ghost use Rattle.station_parts.specs.Words.{known_asks, telling_places, known_words, command_places, cache_in, sizes_in};
+
+use crate::ends::{count_at, look_at, peek_at};
+use crate::parts::CacheSide;
+use cache_unit::CacheUnit;
+use memory_banks::BankAnswer;
+use station_journal::Ask;
+
+impl<const WAYS: usize, const WORDS: usize, const REGS: usize, const DEPTH: usize> CacheSide<
+    WAYS,
+    WORDS,
+    REGS,
+    DEPTH,
+> {
+    /// How many asks of a port are known, after a look, and not taken. There are none of a port that
+    /// isn't there.
+    pub fn known_asks(&mut self, port: u32) -> usize
+        ensures looks { OnlyLooks (state_of self.old) (state_of self.new) }
+        ensures same { cache_id self.new ≡ cache_id self.old }
+        ensures asks { result ≡ length (known_asks self.new port) }
+    {
+        count_at(&mut self.asks, port)
+    }
+
+    /// The ask that a step at the port takes next, after a look; it stays in the ring. `None` says that
+    /// none is known.
+    pub fn peek_ask(&mut self, port: u32) -> Option<Ask>
+        ensures looks { OnlyLooks (state_of self.old) (state_of self.new) }
+        ensures same { cache_id self.new ≡ cache_id self.old }
+        ensures first { result ≡ slice_get (known_asks self.new port) 0 }
+    {
+        peek_at(&mut self.asks, port)
+    }
+
+    /// For how many more tellings a port's ring is known to have a free place, after a look. With none
+    /// the port is asked nothing and told no value.
+    pub fn telling_places(&mut self, port: u32) -> usize
+        ensures looks { OnlyLooks (state_of self.old) (state_of self.new) }
+        ensures same { cache_id self.new ≡ cache_id self.old }
+        ensures places { result ≡ telling_places self.new port }
+    {
+        look_at(&mut self.tellings, port)
+    }
+
+    /// How many words of a bank are known, after a look, and not taken.
+    pub fn known_words(&mut self, bank: u32) -> usize
+        ensures looks { OnlyLooks (state_of self.old) (state_of self.new) }
+        ensures same { cache_id self.new ≡ cache_id self.old }
+        ensures words { result ≡ length (known_words self.new bank) }
+    {
+        count_at(&mut self.answers, bank)
+    }
+
+    /// The word that a step at the bank takes next, after a look; it stays in the ring. `None` says
+    /// that none is known.
+    pub fn peek_word(&mut self, bank: u32) -> Option<BankAnswer>
+        ensures looks { OnlyLooks (state_of self.old) (state_of self.new) }
+        ensures same { cache_id self.new ≡ cache_id self.old }
+        ensures first { result ≡ slice_get (known_words self.new bank) 0 }
+    {
+        peek_at(&mut self.answers, bank)
+    }
+
+    /// For how many more commands a bank's ring is known to have a free place, after a look.
+    pub fn command_places(&mut self, bank: u32) -> u32
+        ensures looks { OnlyLooks (state_of self.old) (state_of self.new) }
+        ensures same { cache_id self.new ≡ cache_id self.old }
+        ensures places { result ≡ command_places self.new bank }
+    {
+        self.row.look(bank)
+    }
+
+    /// The cache unit, to be seen: its registers, its stack, its write queue and its ready values.
+    pub fn unit(&self) -> &CacheUnit<WAYS, WORDS, REGS, DEPTH>
+        ensures { result.now ≡ record { sizes = sizes_in self.now; cache = cache_in self.now } }
+    {
+        &self.unit
+    }
+}

@@ -1,0 +1,78 @@
+-- What is told of a wrong prediction and of a score, in a format.
+use Rattle.std.specs.Prelude.{ℕ, ◌+◌, List, [], ◌∷◌, ◌++◌, codes, decimal}
+use Rattle.flat_model.specs.declared.Answer.{Answer}
+use Rattle.flat_model.specs.declared.Answer.TheVariants.{Accepted}
+use Rattle.cache_unit.specs.declared.Lookup.{Lookup}
+use Rattle.named_fields.specs.Formats.{Named, absent, counted, worded, written, in_format, head_in_format}
+use Rattle.named_fields.specs.declared.format.Format.{Format}
+use Rattle.std.specs.Prelude.{Option, Some}
+use Rattle.trace_text.specs.Codes.{line_feed}
+use Rattle.trace_text.specs.Texts.{answer_text}
+use Rattle.trace_sheets.specs.Sheets.{accepted_text}
+use Rattle.trace_sheets.specs.Whys.{words_of}
+use Rattle.trace_sheets.specs.declared.came.Came.{Came}
+use Rattle.trace_sheets.specs.declared.came.Came.TheVariants.{Answered, Shown}
+use Rattle.trace_sheets.specs.declared.score.Score.{Score}
+
+-- ---- what came
+
+-- an answer, with what the request found if it was accepted
+abbrev pub full_answer : Answer → Option Lookup → List ℕ
+full_answer Accepted (Some lookup) = accepted_text lookup
+full_answer answer found = answer_text answer
+
+-- what came, in full
+abbrev pub full_text : Came → List ℕ
+full_text (Answered event answer found) = full_answer answer found
+full_text (Shown text) = text
+
+-- why, behind it; what is shown has no reason
+abbrev pub why_text : Came → List ℕ
+why_text (Answered event answer found) = codes ": " ++ words_of event found answer
+why_text (Shown text) = []
+
+-- ---- a wrong prediction
+
+-- the line as it stands in the sheet, and below it what came, and why
+abbrev pub correction_text : ℕ → List ℕ → Came → List ℕ
+correction_text number text came =
+    codes "line " ++ (decimal number ++ (codes ": " ++ (text ++ (codes "\n  is " ++ (full_text came ++ why_text came)))))
+
+-- why, by its name
+abbrev pub why_named : Came → Named
+why_named (Answered event answer found) = written (codes "why") (words_of event found answer)
+why_named (Shown text) = absent (codes "why")
+
+-- the same by names: the line, what is predicted in it, what came, and why
+unfoldable pub correction_named : ℕ → List ℕ → List ℕ → Came → List Named
+correction_named number text said came =
+    worded (codes "kind") (codes "wrong") ∷ counted (codes "line") number ∷ written (codes "text") text
+    ∷ written (codes "predicted") said ∷ written (codes "is") (full_text came) ∷ why_named came
+    ∷ absent (codes "right") ∷ absent (codes "wrong") ∷ absent (codes "open") ∷ []
+
+-- a line of the report, with its LF
+unfoldable pub told : Format → ℕ → List ℕ → List ℕ → Came → List ℕ
+told format number text said came =
+    in_format format (correction_text number text came) (correction_named number text said came) ++ line_feed ∷ []
+
+-- ---- the score
+
+abbrev pub total : Score → ℕ
+total s = s.right + s.wrong + s.left_open
+
+-- the last line of a grade: all predictions are counted, the open ones too
+abbrev pub score_text : Score → List ℕ
+score_text s = decimal s.right ++ codes " of " ++ decimal (total s) ++ codes " right, " ++ decimal s.left_open ++ codes " open"
+
+unfoldable pub score_named : Score → List Named
+score_named s =
+    worded (codes "kind") (codes "score") ∷ absent (codes "line") ∷ absent (codes "text")
+    ∷ absent (codes "predicted") ∷ absent (codes "is") ∷ absent (codes "why")
+    ∷ counted (codes "right") s.right ∷ counted (codes "wrong") s.wrong ∷ counted (codes "open") s.left_open ∷ []
+
+-- what stands before the first line
+unfoldable pub grade_head : Format → List ℕ
+grade_head format = head_in_format format (score_named (record { right = 0; wrong = 0; left_open = 0 }))
+
+unfoldable pub score_in : Format → Score → List ℕ
+score_in format s = in_format format (score_text s) (score_named s)
