@@ -1,5 +1,4 @@
 //! A chain of words that is followed on threads of a caller's own.
-use super::TURNS;
 use crate::chain::{Follower, Waits, follow_chain};
 use ring_station::{Audit, MAX_ENTRIES, Shape, Station, station};
 use std::test::Fail;
@@ -16,6 +15,10 @@ const ONE_BANK: Shape = Shape {
 
 // Words of three blocks, two of which share a frame.
 const LINKS: [(u32, u32); 3] = [(5, 9), (9, 17), (17, 2)];
+
+// The follower's thread never waits: while the other one isn't run it may take any number of turns. So there is no limit
+// here but that of a test that hangs.
+const TURNS: u64 = u64::MAX;
 
 #[test]
 fn chain_on_threads(rt: HostRuntime) -> Result<(), Fail> {
