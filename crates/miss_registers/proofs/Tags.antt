@@ -7,11 +7,7 @@ use Rattle.std.proofs.lemmas.List.Sums.{sum_by-cons, sum_by-append}
 use Rattle.std.proofs.lemmas.List.Folds.{list_any-append}
 use Rattle.std.proofs.lemmas.Grind.{flat_map-append}
 use Rattle.miss_registers.specs.declared.Owed.{Owed}
-use Rattle.miss_registers.specs.declared.Mark.{Mark}
-use Rattle.miss_registers.specs.declared.Target.{Target}
 use Rattle.miss_registers.specs.Registers.{Field, Register, tags_of, tags_of_field, has_tag, waiting_tags, tag_waits}
-use Rattle.miss_registers.specs.View.{fields_from, shown, Fitting}
-use Rattle.miss_registers.proofs.Fields.{load_sum, load_sum-all}
 
 -- ---- counts
 
@@ -34,13 +30,6 @@ count_by-map p f (x ∷ xs) =
     let r = count_by-map p f xs in
     omega arith
 
-sum_by-ones : {X : Type 0} (xs : List X) → sum_by (λ x. 1) xs ≡ length xs
-sum_by-ones [] = refl
-sum_by-ones {X} (x ∷ xs) =
-    let a = sum_by-cons (λ (y : X). 1) x xs in
-    let r = sum_by-ones xs in
-    omega arith
-
 -- an element passes where one is counted
 pub list_any-count_by : {X : Type 0} (p : X → Bool) (xs : List X) → list_any p xs ≡ nat_lt 0 (count_by p xs)
 list_any-count_by p [] = refl
@@ -54,46 +43,19 @@ list_any-count_by {X} p (x ∷ xs) =
 
 -- ---- the tags of a register
 
-tag_sum : (p : ℕ → Bool) (fields : List Field) → count_by p (flat_map tags_of_field fields) ≡ load_sum (λ w. cond (p w.tag) 1 0) fields
-tag_sum p [] = refl
-tag_sum p (f ∷ fs) =
-    let g : Owed → ℕ = λ w. cond (p w.tag) 1 0 in
-    let a = count_by-append p (tags_of_field f) (flat_map tags_of_field fs) in
-    let m = count_by-map p (λ (w : Owed). w.tag) f.waiting in
-    let b = sum_by-cons (λ (x : Field). sum_by g x.waiting) f fs in
-    let r = tag_sum p fs in
-    omega arith
+pub list_any-flat_map : {X Y : Type 0} (p : Y → Bool) (f : X → List Y) (xs : List X) → list_any (λ x. list_any p (f x)) xs ≡ list_any p (flat_map f xs)
+list_any-flat_map p f [] = refl
+list_any-flat_map p f (x ∷ xs) = ap (λ b. list_any p (f x) || b) (list_any-flat_map p f xs) ∙ sym (list_any-append p (f x) (flat_map f xs))
 
-tag_count : (fields : List Field) → length (flat_map tags_of_field fields) ≡ load_sum (λ w. 1) fields
-tag_count [] = refl
-tag_count (f ∷ fs) =
-    let g : Owed → ℕ = λ w. 1 in
-    let a = length-append (tags_of_field f) (flat_map tags_of_field fs) in
-    let m = length-map f.waiting (λ (w : Owed). w.tag) in
-    let o = sum_by-ones f.waiting in
-    let b = sum_by-cons (λ (x : Field). sum_by g x.waiting) f fs in
-    let r = tag_count fs in
-    omega arith
-
-pub count-shown : (v o : Bool) (b f : ℕ) (ms : List Mark) (ts : List Target) (r : Register) → shown v o b f ms ts ≡ r → Fitting (length ms) ts → length ts ≡ length (tags_of r)
-count-shown v o b f ms ts r e h =
-    rw (← e) (sym (tag_count (fields_from 0 ms ts) ∙ load_sum-all (λ w. 1) ms ts h.outside ∙ sum_by-ones ts))
-
-pub has_tag-shown : (v o : Bool) (b f : ℕ) (ms : List Mark) (ts : List Target) (r : Register) (tag : ℕ) → shown v o b f ms ts ≡ r → Fitting (length ms) ts → list_any (λ t. t.owed.tag == tag) ts ≡ has_tag (tags_of r) tag
-has_tag-shown v o b f ms ts r tag e h =
-    let p : ℕ → Bool = λ t. t == tag in
-    let s = tag_sum p (fields_from 0 ms ts) ∙ load_sum-all (λ w. cond (p w.tag) 1 0) ms ts h.outside in
-    let l = list_any-count_by (λ (t : Target). p t.owed.tag) ts in
-    let k = list_any-count_by p (flat_map tags_of_field (fields_from 0 ms ts)) in
-    rw (← e) (l ∙ ap (λ n. nat_lt 0 n) (sym s) ∙ sym k)
+pub list_any-map : {X Y : Type 0} (p : Y → Bool) (f : X → Y) (xs : List X) → list_any p (map f xs) ≡ list_any (λ x. p (f x)) xs
+list_any-map p f [] = refl
+list_any-map p f (x ∷ xs) = ap (λ b. p (f x) || b) (list_any-map p f xs)
 
 -- ---- the tags of all registers
 
 pub tag_waits-all : (rs : List Register) (tag : ℕ) → list_any (λ r. has_tag (tags_of r) tag) rs ≡ tag_waits rs tag
 unfolding waiting_tags
-tag_waits-all [] tag = refl
-tag_waits-all (r ∷ rs) tag =
-    ap (λ b. has_tag (tags_of r) tag || b) (tag_waits-all rs tag) ∙ sym (list_any-append (λ t. t == tag) (tags_of r) (flat_map tags_of rs))
+tag_waits-all rs tag = list_any-flat_map (λ t. t == tag) tags_of rs
 
 pub waiting_tags-none : waiting_tags [] ≡ []
 unfolding waiting_tags
