@@ -1,11 +1,14 @@
 -- What each step makes of the tags that wait.
-use Rattle.std.proofs.Common.{◌≡◌, ℕ, suc, zero, ◌<◌, Bool, true, false, cond, if◌then◌else◌, List, [], ◌∷◌, ◌++◌, length, set, get_or, replicate, refl, ap, arith}
+use Rattle.std.proofs.Common.{◌≡◌, ℕ, suc, zero, ◌<◌, Bool, true, false, cond, if◌then◌else◌, List, [], ◌∷◌, ◌++◌, length, set, get_or}
+use Rattle.std.proofs.Common.{replicate, refl, ap, arith}
 use Rattle.std.specs.List.{flat_map, count_by}
 use Rattle.std.proofs.lemmas.Bool.{and_parts}
 use Rattle.std.proofs.lemmas.List.Sums.{sum_by-cons}
 use Rattle.std.proofs.lemmas.List.Folds.{flat_map-map}
 use Rattle.miss_registers.specs.declared.Owed.{Owed}
-use Rattle.miss_registers.specs.Registers.{Field, Register, free_register, clear_field, register_at, field_of, is_done, awaited, finished, finished_field, finished_fields, made_obsolete, without_code, fresh, tags_of, tags_of_field, waiting_tags}
+use Rattle.miss_registers.specs.Registers.{Field, Register, free_register, clear_field, register_at, field_of, is_done, awaited, finished}
+use Rattle.miss_registers.specs.Registers.{finished_field, finished_fields, made_obsolete, without_code, fresh, tags_of, tags_of_field}
+use Rattle.miss_registers.specs.Registers.{waiting_tags}
 use Rattle.miss_registers.specs.Whole.{IsWholeRegister}
 use Rattle.miss_registers.proofs.Each.{set-each}
 use Rattle.miss_registers.proofs.Tags.{count_by-append, count_by-map, Changes, Changes-set}
@@ -24,7 +27,8 @@ pub tags_of-obsolete : (r : Register) → tags_of (made_obsolete r) ≡ tags_of 
 unfolding made_obsolete
 tags_of-obsolete r = flat_map-map tags_of_field without_code r.fields
 
-pub awaited-changes : (r : Register) (i : ℕ) (owed : Owed) → i < length r.fields → Changes (tags_of r) (tags_of (awaited r i owed)) [] (owed.tag ∷ [])
+pub awaited-changes : (r : Register) (i : ℕ) (owed : Owed) → i < length r.fields
+    → Changes (tags_of r) (tags_of (awaited r i owed)) [] (owed.tag ∷ [])
 unfolding awaited
 awaited-changes r i owed h =
     let waiting = (field_of r i).waiting in
@@ -38,7 +42,8 @@ awaited-changes r i owed h =
     omega arith))
 
 -- no load waits where all words are processed
-none_wait : (fields : List Field) → ((i : ℕ) → (get_or fields i clear_field).processed ≡ true → get_or fields i clear_field ≡ finished_field)
+none_wait : (fields : List Field)
+    → ((i : ℕ) → (get_or fields i clear_field).processed ≡ true → get_or fields i clear_field ≡ finished_field)
     → is_done fields ≡ true → flat_map tags_of_field fields ≡ []
 none_wait [] h d = refl
 none_wait (f ∷ fs) h d =
@@ -56,11 +61,13 @@ finished-changes words r i h t = go (is_done (finished_fields r i)) refl
     lost : Changes (tags_of r) (flat_map tags_of_field (finished_fields r i)) (tags_of_field (field_of r i)) []
     lost = Changes-set tags_of_field r.fields i finished_field clear_field (tags_of_field (field_of r i)) [] t (λ p. omega arith)
 
-    all : (j : ℕ) → (get_or (finished_fields r i) j clear_field).processed ≡ true → get_or (finished_fields r i) j clear_field ≡ finished_field
+    all : (j : ℕ) → (get_or (finished_fields r i) j clear_field).processed ≡ true
+        → get_or (finished_fields r i) j clear_field ≡ finished_field
     all = set-each (λ (f : Field). f.processed ≡ true → f ≡ finished_field) r.fields i finished_field clear_field t h.done (λ d. refl)
 
     go : (b : Bool) → is_done (finished_fields r i) ≡ b
-        → Changes (tags_of r) (tags_of (if b then free_register else record r { fields = finished_fields r i })) (tags_of_field (field_of r i)) []
+        → Changes (tags_of r) (tags_of (if b then free_register else record r { fields = finished_fields r i }))
+        (tags_of_field (field_of r i)) []
     go false e p = lost p
     go true e p =
         let n = ap (count_by p) (none_wait (finished_fields r i) all e) in

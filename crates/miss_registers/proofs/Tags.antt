@@ -1,5 +1,6 @@
 -- Lists of tags, and how often each stands there.
-use Rattle.std.proofs.Common.{◌≡◌, ℕ, ◌+◌, ◌<◌, Bool, true, false, ◌||◌, cond, List, [], ◌∷◌, ◌++◌, map, length, set, get_or, refl, ap, sym, ◌∙◌, arith}
+use Rattle.std.proofs.Common.{◌≡◌, ℕ, ◌+◌, ◌<◌, Bool, true, false, ◌||◌, cond, List, [], ◌∷◌, ◌++◌, map, length, set, get_or, refl, ap}
+use Rattle.std.proofs.Common.{sym, ◌∙◌, arith}
 use Rattle.std.specs.List.{list_any, flat_map, sum_by, count_by}
 use Rattle.std.proofs.lemmas.Bool.{or_parts}
 use Rattle.std.proofs.lemmas.List.Sums.{sum_by-cons, sum_by-append, sum_by-set}
@@ -7,7 +8,8 @@ use Rattle.std.proofs.lemmas.List.Folds.{list_any-append}
 
 -- ---- whether one passes
 
-pub list_any-flat_map : {X Y : Type 0} (p : Y → Bool) (f : X → List Y) (xs : List X) → list_any (λ x. list_any p (f x)) xs ≡ list_any p (flat_map f xs)
+pub list_any-flat_map : {X Y : Type 0} (p : Y → Bool) (f : X → List Y) (xs : List X)
+    → list_any (λ x. list_any p (f x)) xs ≡ list_any p (flat_map f xs)
 list_any-flat_map p f [] = refl
 list_any-flat_map p f (x ∷ xs) = ap (λ b. list_any p (f x) || b) (list_any-flat_map p f xs) ∙ sym (list_any-append p (f x) (flat_map f xs))
 
@@ -20,7 +22,8 @@ list_any-map p f (x ∷ xs) = ap (λ b. p (f x) || b) (list_any-map p f xs)
 pub count_by-append : {X : Type 0} (p : X → Bool) (xs ys : List X) → count_by p (xs ++ ys) ≡ count_by p xs + count_by p ys
 count_by-append p xs ys = sum_by-append (λ x. cond (p x) 1 0) xs ys
 
-count_by-flat_map : {X Y : Type 0} (p : Y → Bool) (f : X → List Y) (xs : List X) → count_by p (flat_map f xs) ≡ sum_by (λ x. count_by p (f x)) xs
+count_by-flat_map : {X Y : Type 0} (p : Y → Bool) (f : X → List Y) (xs : List X)
+    → count_by p (flat_map f xs) ≡ sum_by (λ x. count_by p (f x)) xs
 count_by-flat_map p f [] = refl
 count_by-flat_map p f (x ∷ xs) =
     let a = count_by-append p (f x) (flat_map f xs) in

@@ -1,5 +1,6 @@
 -- Each step keeps the registers whole, and the number of the loads that wait.
-use Rattle.std.proofs.Common.{◌≡◌, ◌⊎◌, ℕ, suc, zero, ◌+◌, ◌<◌, ◌≤◌, ◌==◌, Bool, true, false, cond, if◌then◌else◌, List, [], ◌∷◌, ◌++◌, map, length, set, get_or, replicate, None, refl, ap, sym, ◌∙◌, inl, inr, arith, length-set, length-append}
+use Rattle.std.proofs.Common.{◌≡◌, ℕ, suc, zero, ◌+◌, ◌<◌, ◌≤◌, ◌==◌, Bool, true, false, cond, if◌then◌else◌, List, [], ◌∷◌, ◌++◌, map}
+use Rattle.std.proofs.Common.{length, set, replicate, None, refl, ap, sym, ◌∙◌, inl, inr, arith, length-set, length-append}
 use Rattle.std.specs.List.{count_by}
 use Rattle.std.proofs.lemmas.Bool.{cases_eq, cases_Bool, false≢true, and_parts, and_right, both_ways, not-true, ne_eqb}
 use Rattle.std.proofs.lemmas.List.{get_or-set_same, get_or-set_other, length-replicate, length-map}
@@ -11,7 +12,9 @@ use Rattle.flat_model.specs.declared.limits.TheConstants.{MAX_BLOCK_WORDS, MAX_R
 use Rattle.flat_model.specs.Words.{no_lanes, joined}
 use Rattle.miss_registers.specs.declared.Owed.{Owed}
 use Rattle.miss_registers.specs.declared.TheConstants.{MAX_WAITING}
-use Rattle.miss_registers.specs.Registers.{Field, Register, free_register, clear_field, register_at, field_of, with_field, is_live, is_done, live_for, awaited, noted, marked, finished, finished_field, finished_fields, made_obsolete, without_code, fresh, expects, tags_of, tags_of_field, waiting_tags, tag_waits}
+use Rattle.miss_registers.specs.Registers.{Field, Register, free_register, clear_field, register_at, field_of, with_field, is_live}
+use Rattle.miss_registers.specs.Registers.{is_done, live_for, awaited, noted, marked, finished, finished_field, finished_fields}
+use Rattle.miss_registers.specs.Registers.{made_obsolete, without_code, fresh, expects, tags_of, tags_of_field, waiting_tags, tag_waits}
 use Rattle.miss_registers.specs.Whole.{IsWholeRegister, IsWhole}
 use Rattle.miss_registers.proofs.Each.{set-each, replicate-each}
 use Rattle.miss_registers.proofs.Places.{live_for-missing}
@@ -61,7 +64,8 @@ with_field-whole words r i f h v p m c d w = record {
 
 -- and the word is unprocessed
 unprocessed-whole : (words : ℕ) (r : Register) (i : ℕ) (f : Field) → IsWholeRegister words r → r.valid ≡ true → i < length r.fields
-    → f.processed ≡ false → (r.obsolete ≡ true → f.code ≡ no_lanes) → length f.waiting ≤ MAX_WAITING → IsWholeRegister words (with_field r i f)
+    → f.processed ≡ false → (r.obsolete ≡ true → f.code ≡ no_lanes) → length f.waiting ≤ MAX_WAITING
+    → IsWholeRegister words (with_field r i f)
 unprocessed-whole words r i f h v p u c w =
     let here = ap (λ (x : Field). x.processed) (get_or-set_same r.fields i f clear_field p) in
     let within : i < length (set r.fields i f) = rw (length-set r.fields i f) p in
@@ -76,11 +80,13 @@ awaited-whole words r i owed h v p u room =
     let few : length f.waiting ≤ MAX_WAITING = omega (arith, length-append (field_of r i).waiting (owed ∷ [])) in
     unprocessed-whole words r i f h v p u (λ o. h.codes o i) few
 
-finished-whole : (words : ℕ) (r : Register) (i : ℕ) → IsWholeRegister words r → r.valid ≡ true → i < length r.fields → IsWholeRegister words (finished r i)
+finished-whole : (words : ℕ) (r : Register) (i : ℕ) → IsWholeRegister words r → r.valid ≡ true → i < length r.fields
+    → IsWholeRegister words (finished r i)
 unfolding finished
 finished-whole words r i h v p = go (is_done (finished_fields r i)) refl
   where
-    go : (b : Bool) → is_done (finished_fields r i) ≡ b → IsWholeRegister words (if b then free_register else record r { fields = finished_fields r i })
+    go : (b : Bool) → is_done (finished_fields r i) ≡ b
+        → IsWholeRegister words (if b then free_register else record r { fields = finished_fields r i })
     go true e = free-whole words
     go false e = with_field-whole words r i finished_field h v p e (λ o. refl) (λ d. refl) (omega arith)
 
@@ -142,13 +148,15 @@ abbrev IsAlone : List Register → ℕ → Register → Type 0
 IsAlone rs slot r =
     (k : ℕ) → (k ≡ slot → ⊥) → is_live r ≡ true → is_live (register_at rs k) ≡ true → r.block ≡ (register_at rs k).block → ⊥
 
-stays_alone : (words regs : ℕ) (rs : List Register) (slot : ℕ) (r : Register) → IsWhole words regs rs → StaysLive (register_at rs slot) r → IsAlone rs slot r
+stays_alone : (words regs : ℕ) (rs : List Register) (slot : ℕ) (r : Register) → IsWhole words regs rs → StaysLive (register_at rs slot) r
+    → IsAlone rs slot r
 stays_alone words regs rs slot r h stays k n a b s =
     let q = stays a in
     n (sym (h.one_live slot k q.0 b (sym q.1 ∙ s)))
 
 -- a register is another, which lost these tags and got those
-set-kept : (words regs n m : ℕ) (rs : List Register) (slot : ℕ) (r : Register) (gone come : List ℕ) → IsKept words regs n rs → slot < length rs
+set-kept : (words regs n m : ℕ) (rs : List Register) (slot : ℕ) (r : Register) (gone come : List ℕ) → IsKept words regs n rs
+    → slot < length rs
     → IsWholeRegister words r → IsAlone rs slot r → Changes (tags_of (register_at rs slot)) (tags_of r) gone come
     → ((tag : ℕ) → count_by (λ t. t == tag) (waiting_tags rs) + count_by (λ t. t == tag) come ≤ 1) → m + length gone ≡ n + length come
     → IsKept words regs m (set rs slot r)
@@ -156,7 +164,8 @@ set-kept words regs n m rs slot r gone come kept p w alone changes once count =
     let h = kept.0 in
     let all = file-changes rs slot r gone come p changes in
     let here : register_at (set rs slot r) slot ≡ r = get_or-set_same rs slot r free_register p in
-    let there : (k : ℕ) → (k ≡ slot → ⊥) → register_at (set rs slot r) k ≡ register_at rs k = λ k n. get_or-set_other rs slot k r free_register n in
+    let there : (k : ℕ) → (k ≡ slot → ⊥) → register_at (set rs slot r) k ≡ register_at rs k =
+    λ k n. get_or-set_other rs slot k r free_register n in
     let whole : IsWhole words regs (set rs slot r) = record {
       registers_there = length-set rs slot r ∙ h.registers_there;
       some_register = h.some_register;
@@ -203,7 +212,8 @@ same_loads-kept words regs n rs slot i f kept p v t u c e =
 
 -- ---- each step
 
-pub marked-kept : (words regs n : ℕ) (rs : List Register) (slot i : ℕ) → IsKept words regs n rs → slot < length rs → expects (register_at rs slot) i ≡ true
+pub marked-kept : (words regs n : ℕ) (rs : List Register) (slot i : ℕ) → IsKept words regs n rs → slot < length rs
+    → expects (register_at rs slot) i ≡ true
     → IsKept words regs n (set rs slot (marked (register_at rs slot) i))
 unfolding marked
 marked-kept words regs n rs slot i kept p x =
@@ -222,7 +232,8 @@ noted-kept words regs n rs slot i lanes kept p l t u =
     let f : Field = record (field_of r i) { code = joined (field_of r i).code lanes } in
     same_loads-kept words regs n rs slot i f kept p q.0 t u (λ o. absurd (both_ways r.obsolete q.1 o)) refl
 
-pub obsolete-kept : (words regs n : ℕ) (rs : List Register) (slot : ℕ) → IsKept words regs n rs → slot < length rs → is_live (register_at rs slot) ≡ true
+pub obsolete-kept : (words regs n : ℕ) (rs : List Register) (slot : ℕ) → IsKept words regs n rs → slot < length rs
+    → is_live (register_at rs slot) ≡ true
     → IsKept words regs n (set rs slot (made_obsolete (register_at rs slot)))
 obsolete-kept words regs n rs slot kept p l =
     let r = register_at rs slot in
@@ -231,18 +242,22 @@ obsolete-kept words regs n rs slot kept p l =
     lost-kept words regs n n rs slot (made_obsolete r) [] kept p w stays (λ q. rw (tags_of-obsolete r) refl) (omega arith)
 
 pub awaited-kept : (words regs n : ℕ) (rs : List Register) (slot i : ℕ) (owed : Owed) → IsKept words regs n rs → slot < length rs
-    → is_live (register_at rs slot) ≡ true → expects (register_at rs slot) i ≡ true → length (field_of (register_at rs slot) i).waiting < MAX_WAITING
+    → is_live (register_at rs slot) ≡ true → expects (register_at rs slot) i ≡ true
+    → length (field_of (register_at rs slot) i).waiting < MAX_WAITING
     → tag_waits rs owed.tag ≡ false → IsKept words regs (n + 1) (set rs slot (awaited (register_at rs slot) i owed))
 awaited-kept words regs n rs slot i owed kept p l x room new =
     let r = register_at rs slot in
     let e = expects-parts r i x in
     let w = awaited-whole words r i owed (kept.0.each slot) e.valid e.there e.unprocessed room in
     let alone = stays_alone words regs rs slot (awaited r i owed) kept.0 (awaited-live r i owed) in
-    set-kept words regs n (n + 1) rs slot (awaited r i owed) [] (owed.tag ∷ []) kept p w alone (awaited-changes r i owed e.there) once (omega arith)
+    let changes = awaited-changes r i owed e.there in
+    set-kept words regs n (n + 1) rs slot (awaited r i owed) [] (owed.tag ∷ []) kept p w alone changes once (omega arith)
   where
     once : (tag : ℕ) → count_by (λ t. t == tag) (waiting_tags rs) + count_by (λ t. t == tag) (owed.tag ∷ []) ≤ 1
     once tag = elim (cases_eq owed.tag tag) [
-      | inl e ↦ omega (arith, none_counted (λ t. t == tag) (waiting_tags rs) (rw e at new), count_by-le-length (λ t. t == tag) (owed.tag ∷ []))
+      | inl e ↦ (
+          let none = none_counted (λ t. t == tag) (waiting_tags rs) (rw e at new) in
+          omega (arith, none, count_by-le-length (λ t. t == tag) (owed.tag ∷ [])))
       | inr m ↦ (
           let s = sum_by-cons (λ (t : ℕ). cond (t == tag) 1 0) owed.tag [] in
           let c : cond {A = ℕ} (owed.tag == tag) 1 0 ≡ 0 = rw (ne_eqb owed.tag tag m) refl in
@@ -255,7 +270,8 @@ pub few_finish : (words regs n : ℕ) (rs : List Register) (slot i : ℕ) → Is
 few_finish words regs n rs slot i kept p s =
     let r = register_at rs slot in
     let f = field_of r i in
-    let all = file-changes rs slot (finished r i) (tags_of_field f) [] p (finished-changes words r i (kept.0.each slot) (in_stack_there r i s)) in
+    let changes = finished-changes words r i (kept.0.each slot) (in_stack_there r i s) in
+    let all = file-changes rs slot (finished r i) (tags_of_field f) [] p changes in
     let l = Changes-length (waiting_tags rs) (waiting_tags (set rs slot (finished r i))) (tags_of_field f) [] all in
     omega (arith, kept.1, length-map f.waiting (λ (w : Owed). w.tag))
 
@@ -268,7 +284,8 @@ finished-kept words regs n m rs slot i kept p s count =
     let there = in_stack_there r i s in
     let w = finished-whole words r i h (in_stack-valid words r i h s) there in
     let c : m + length (tags_of_field (field_of r i)) ≡ n = omega (arith, length-map (field_of r i).waiting (λ (x : Owed). x.tag)) in
-    lost-kept words regs n m rs slot (finished r i) (tags_of_field (field_of r i)) kept p w (finished-live r i) (finished-changes words r i h there) c
+    let changes = finished-changes words r i h there in
+    lost-kept words regs n m rs slot (finished r i) (tags_of_field (field_of r i)) kept p w (finished-live r i) changes c
 
 fresh-alone : (rs : List Register) (slot words block frame : ℕ) → live_for rs block ≡ None → IsAlone rs slot (fresh words block frame)
 unfolding fresh
@@ -291,7 +308,8 @@ unfolding waiting_tags
 waiting_tags-new zero = refl
 waiting_tags-new (suc regs) = waiting_tags-new regs
 
-pub new-kept : (words regs : ℕ) → 1 ≤ words → words ≤ MAX_BLOCK_WORDS → 1 ≤ regs → regs ≤ MAX_REGS → IsKept words regs 0 (replicate regs free_register)
+pub new-kept : (words regs : ℕ) → 1 ≤ words → words ≤ MAX_BLOCK_WORDS → 1 ≤ regs → regs ≤ MAX_REGS
+    → IsKept words regs 0 (replicate regs free_register)
 new-kept words regs a b c d =
     let whole : IsWhole words regs (replicate regs free_register) = record {
       registers_there = length-replicate regs free_register;

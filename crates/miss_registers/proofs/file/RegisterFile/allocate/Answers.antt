@@ -7,7 +7,8 @@ invariant_of-self g c =
     let xs = c.self.inside.slots.items in
     let v : xs ≡ c.args.self.now = c.self.view_is in
     let kept = rw v at c.self.invariant in
-    rw (c.allocate.ensures, v) (allocated-kept _ _ _ _ c.args.slot c.args.block c.args.frame kept c.requires.slot c.requires.free c.requires.absent)
+    let q = c.requires in
+    rw (c.allocate.ensures, v) (allocated-kept _ _ _ _ c.args.slot c.args.block c.args.frame kept q.slot q.free q.absent)
 
 pub returns-clause-whole : goal.returns-clause-whole
 returns-clause-whole g c = (invariant_of-self g c).0

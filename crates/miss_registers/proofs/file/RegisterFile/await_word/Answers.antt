@@ -1,5 +1,5 @@
 use Rattle.std.proofs.Common.{◌≡◌, arith}
-use Rattle.miss_registers.specs.Registers.{free_register, register_at}
+use Rattle.miss_registers.specs.Registers.{free_register}
 use Rattle.miss_registers.proofs.Each.{element_is}
 use Rattle.miss_registers.proofs.Whole.{awaited-kept}
 use Rattle.miss_registers.proofs.Awaiting.{few_wait}
@@ -11,7 +11,9 @@ invariant_of-self g c =
     let v : xs ≡ c.args.self.now = c.self.view_is in
     let register = c.index_mut-register in
     let e = element_is xs c.args.self.now c.args.slot register.result.now free_register v c.requires.slot register.ensures.value in
-    rw (c.await_word.ensures, e, v) (awaited-kept _ _ _ _ c.args.slot c.args.i _ (rw v at c.self.invariant) c.requires.slot c.requires.live c.requires.expected c.requires.room c.requires.new_tag)
+    let q = c.requires in
+    let kept = rw v at c.self.invariant in
+    rw (c.await_word.ensures, e, v) (awaited-kept _ _ _ _ c.args.slot c.args.i _ kept q.slot q.live q.expected q.room q.new_tag)
 
 pub overflow_add-self : goal.overflow_add-self
 overflow_add-self g c = omega (arith, few_wait _ _ _ c.self.invariant.0, c.self.invariant.1)

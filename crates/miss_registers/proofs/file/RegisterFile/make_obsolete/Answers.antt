@@ -1,5 +1,5 @@
 use Rattle.std.proofs.Common.{◌≡◌}
-use Rattle.miss_registers.specs.Registers.{free_register, register_at}
+use Rattle.miss_registers.specs.Registers.{free_register}
 use Rattle.miss_registers.proofs.Each.{element_is}
 use Rattle.miss_registers.proofs.Whole.{obsolete-kept}
 use Rattle.miss_registers.proofs.file.RegisterFile.make_obsolete.Goals as goal
