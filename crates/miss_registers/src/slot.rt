@@ -69,7 +69,7 @@ impl Slot {
         self.obsolete = false;
         self.block = block;
         self.frame = frame;
-        self.fields = clear_fields(words);
+        put_clear_fields(&mut self.fields, words);
     }
 
     /// One more load waits for word `i`, last in the word's list.
@@ -243,15 +243,15 @@ fn clear_codes(fields: &mut [Field])
     }
 }
 
-fn clear_fields(words: u32) -> ArrayVec<Field, MAX_BLOCK_WORDS>
+// In place, since moving all fields costs more than writing those that there are.
+fn put_clear_fields(fields: &mut ArrayVec<Field, MAX_BLOCK_WORDS>, words: u32)
     requires { words ≤ MAX_BLOCK_WORDS }
-    ensures { result.items ≡ replicate words spec.clear_field }
+    ensures { fields.new.items ≡ replicate words spec.clear_field }
 {
-    let mut fields = ArrayVec::new();
+    fields.clear();
     for _ in 0..words {
         fields.push(Field::default());
     }
-    fields
 }
 
 // A register that isn't live shows no frame.
