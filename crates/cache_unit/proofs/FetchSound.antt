@@ -112,9 +112,6 @@ module _ (z : Sizes) (d : dir.Frames) (rs : List regs.Register) (st : List Entry
   fs : List dir.Frame
   fs = set d.frames f (begun_frame z.block_words q' block)
 
-  rs' : List regs.Register
-  rs' = set rs slot (begun_register z.block_words q' block f)
-
   here : dir.frame_at (set d.frames f (begun_frame z.block_words q' block)) f ≡ begun_frame z.block_words q' block
   here = at_new d.frames f (begun_frame z.block_words q' block) in_range
 

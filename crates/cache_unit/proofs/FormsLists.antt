@@ -17,11 +17,6 @@ find_none p [] h = refl
 find_none p (x ∷ xs) h =
     elim (p x) as (λ b. bit b + tally p xs ≡ 0 → cond b (Some x) (find p xs) ≡ None) [ true ↦ λ k. absurd (omega arith) | false ↦ λ k. find_none p xs (omega arith) ] h
 
-pub none_from_find : {X : Type 0} (p : X → Bool) (xs : List X) → find p xs ≡ None → tally p xs ≡ 0
-none_from_find p [] h = refl
-none_from_find p (x ∷ xs) h =
-    elim (p x) as (λ b. cond b (Some x) (find p xs) ≡ None → bit b + tally p xs ≡ 0) [ true ↦ λ k. cc | false ↦ λ k. let ih = none_from_find p xs k in omega arith ] h
-
 pub some_from_find : {X : Type 0} (p : X → Bool) (xs : List X) (x : X) → find p xs ≡ Some x → 1 ≤ tally p xs
 some_from_find p [] x h = cc
 some_from_find p (y ∷ xs) x h =

@@ -82,9 +82,6 @@ not_live r = obsolete-dead r.valid r.obsolete
 -- ---- what still holds
 
 module _ (z : Sizes) (d : dir.Frames) (rs : List regs.Register) (st : List Entry) (q : Queue) (ready : List Reply) (h : IsSound z d rs st q ready) (block f : ℕ) (holds : dir.frame_of d.frames block ≡ Some f) where
-  abbrev rs' : List regs.Register
-  rs' = retired rs (regs.live_for rs block)
-
   abbrev fs' : List dir.Frame
   fs' = set d.frames f dir.empty_frame
 

@@ -256,10 +256,6 @@ pub cell-shown : (d : dir.Frames) (rs : List regs.Register) (st : List Entry) (q
 cell-shown d rs st q ready block f i e =
     ap (λ o. cell_in (as_cache d rs st q ready) o i) (frame_of-shown d rs st q ready block ∙ e) ∙ ap (λ (x : Frame). get_or x.cells i zero_cell) (frame_at-shown d.frames f)
 
-pub no_cell-shown : (d : dir.Frames) (rs : List regs.Register) (st : List Entry) (q : List Queued) (ready : List Reply) (block i : ℕ) → dir.frame_of d.frames block ≡ None → cell_of (as_cache d rs st q ready) block i ≡ zero_cell
-no_cell-shown d rs st q ready block i e =
-    ap (λ o. cell_in (as_cache d rs st q ready) o i) (frame_of-shown d rs st q ready block ∙ e)
-
 -- ---- where the code finds a word
 
 pub zero_from : (w : Word) → (w.b0 ≡ 0) × ((w.b1 ≡ 0) × ((w.b2 ≡ 0) × (w.b3 ≡ 0))) → w ≡ zero_word

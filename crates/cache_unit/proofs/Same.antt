@@ -118,13 +118,6 @@ unfolding dir.frame_of
 frame_of-is fs b k apart h =
     place_of-only (λ (f : dir.Frame). is_number f.block b) dir.empty_frame fs k refl (number_is _ b h) (λ j e. apart j k b (number_from _ b e) h)
 
-pub none_in_frames : (fs : List dir.Frame) (b : ℕ) → dir.frame_of fs b ≡ None → (k : ℕ) → (dir.frame_at fs k).block ≡ Some b → ⊥
-unfolding dir.frame_of
-none_in_frames fs b h k e =
-    let f = place_of-none (λ (f : dir.Frame). is_number f.block b) dir.empty_frame fs refl h k in
-    let t = number_is (dir.frame_at fs k).block b e in
-    cc
-
 -- ---- which register is live for a block
 
 pub live_for-shown : (d : dir.Frames) (rs : List regs.Register) (st : List Entry) (q : List Queued) (ready : List Reply) (b : ℕ) → live_for (as_cache d rs st q ready) b ≡ regs.live_for rs b

@@ -1,24 +1,29 @@
--- The tags that wait.
-use Rattle.std.proofs.Common.{◌≡◌, ℕ, ◌+◌, ◌<◌, nat_lt, ◌==◌, Bool, true, false, ◌||◌, cond, List, [], ◌∷◌, ◌++◌, map, length, get_or, take, refl, ap, sym, ◌∙◌, arith, length-append, zero-add}
+-- Lists of tags, and how often each stands there.
+use Rattle.std.proofs.Common.{◌≡◌, ℕ, ◌+◌, ◌<◌, Bool, true, false, ◌||◌, cond, List, [], ◌∷◌, ◌++◌, map, length, set, get_or, refl, ap}
+use Rattle.std.proofs.Common.{sym, ◌∙◌, arith}
 use Rattle.std.specs.List.{list_any, flat_map, sum_by, count_by}
-use Rattle.std.proofs.lemmas.Bool.Decides.{nat_tests}
-use Rattle.std.proofs.lemmas.List.{length-map, take_more}
-use Rattle.std.proofs.lemmas.List.Sums.{sum_by-cons, sum_by-append}
+use Rattle.std.proofs.lemmas.Bool.{or_parts}
+use Rattle.std.proofs.lemmas.List.Sums.{sum_by-cons, sum_by-append, sum_by-set}
 use Rattle.std.proofs.lemmas.List.Folds.{list_any-append}
-use Rattle.std.proofs.lemmas.Grind.{flat_map-append}
-use Rattle.miss_registers.specs.declared.Owed.{Owed}
-use Rattle.miss_registers.specs.declared.Mark.{Mark}
-use Rattle.miss_registers.specs.declared.Target.{Target}
-use Rattle.miss_registers.specs.Registers.{Field, Register, tags_of, tags_of_field, has_tag, waiting_tags, tag_waits}
-use Rattle.miss_registers.specs.View.{fields_from, shown, Fitting}
-use Rattle.miss_registers.proofs.Fields.{load_sum, load_sum-all}
 
--- ---- counts
+-- ---- whether one passes
+
+pub list_any-flat_map : {X Y : Type 0} (p : Y → Bool) (f : X → List Y) (xs : List X)
+    → list_any (λ x. list_any p (f x)) xs ≡ list_any p (flat_map f xs)
+list_any-flat_map p f [] = refl
+list_any-flat_map p f (x ∷ xs) = ap (λ b. list_any p (f x) || b) (list_any-flat_map p f xs) ∙ sym (list_any-append p (f x) (flat_map f xs))
+
+pub list_any-map : {X Y : Type 0} (p : Y → Bool) (f : X → Y) (xs : List X) → list_any p (map f xs) ≡ list_any (λ x. p (f x)) xs
+list_any-map p f [] = refl
+list_any-map p f (x ∷ xs) = ap (λ b. p (f x) || b) (list_any-map p f xs)
+
+-- ---- how many pass
 
 pub count_by-append : {X : Type 0} (p : X → Bool) (xs ys : List X) → count_by p (xs ++ ys) ≡ count_by p xs + count_by p ys
 count_by-append p xs ys = sum_by-append (λ x. cond (p x) 1 0) xs ys
 
-pub count_by-flat_map : {X Y : Type 0} (p : Y → Bool) (f : X → List Y) (xs : List X) → count_by p (flat_map f xs) ≡ sum_by (λ x. count_by p (f x)) xs
+count_by-flat_map : {X Y : Type 0} (p : Y → Bool) (f : X → List Y) (xs : List X)
+    → count_by p (flat_map f xs) ≡ sum_by (λ x. count_by p (f x)) xs
 count_by-flat_map p f [] = refl
 count_by-flat_map p f (x ∷ xs) =
     let a = count_by-append p (f x) (flat_map f xs) in
@@ -34,75 +39,39 @@ count_by-map p f (x ∷ xs) =
     let r = count_by-map p f xs in
     omega arith
 
-sum_by-ones : {X : Type 0} (xs : List X) → sum_by (λ x. 1) xs ≡ length xs
-sum_by-ones [] = refl
-sum_by-ones {X} (x ∷ xs) =
-    let a = sum_by-cons (λ (y : X). 1) x xs in
-    let r = sum_by-ones xs in
+pub none_counted : {X : Type 0} (p : X → Bool) (xs : List X) → list_any p xs ≡ false → count_by p xs ≡ 0
+none_counted p [] h = refl
+none_counted {X} p (x ∷ xs) h =
+    let q = or_parts (p x) (list_any p xs) h in
+    let s = sum_by-cons (λ (y : X). cond (p y) 1 0) x xs in
+    let c : cond {A = ℕ} (p x) 1 0 ≡ 0 = rw q.0 refl in
+    let r = none_counted p xs q.1 in
     omega arith
 
--- an element passes where one is counted
-pub list_any-count_by : {X : Type 0} (p : X → Bool) (xs : List X) → list_any p xs ≡ nat_lt 0 (count_by p xs)
-list_any-count_by p [] = refl
-list_any-count_by {X} p (x ∷ xs) =
-    let b = sum_by-cons (λ (y : X). cond (p y) 1 0) x xs in
-    rw b (go (p x) (list_any p xs) (count_by p xs) (list_any-count_by p xs))
-  where
-    go : (b c : Bool) (n : ℕ) → c ≡ nat_lt 0 n → (b || c) ≡ nat_lt 0 (cond b 1 0 + n)
-    go true c n h = grind (arith, nat_tests)
-    go false c n h = rw zero-add h
-
--- ---- the tags of a register
-
-tag_sum : (p : ℕ → Bool) (fields : List Field) → count_by p (flat_map tags_of_field fields) ≡ load_sum (λ w. cond (p w.tag) 1 0) fields
-tag_sum p [] = refl
-tag_sum p (f ∷ fs) =
-    let g : Owed → ℕ = λ w. cond (p w.tag) 1 0 in
-    let a = count_by-append p (tags_of_field f) (flat_map tags_of_field fs) in
-    let m = count_by-map p (λ (w : Owed). w.tag) f.waiting in
-    let b = sum_by-cons (λ (x : Field). sum_by g x.waiting) f fs in
-    let r = tag_sum p fs in
+all_counted : (xs : List ℕ) → count_by (λ t. true) xs ≡ length xs
+all_counted [] = refl
+all_counted (x ∷ xs) =
+    let s = sum_by-cons (λ (t : ℕ). cond true 1 0) x xs in
+    let ih = all_counted xs in
     omega arith
 
-tag_count : (fields : List Field) → length (flat_map tags_of_field fields) ≡ load_sum (λ w. 1) fields
-tag_count [] = refl
-tag_count (f ∷ fs) =
-    let g : Owed → ℕ = λ w. 1 in
-    let a = length-append (tags_of_field f) (flat_map tags_of_field fs) in
-    let m = length-map f.waiting (λ (w : Owed). w.tag) in
-    let o = sum_by-ones f.waiting in
-    let b = sum_by-cons (λ (x : Field). sum_by g x.waiting) f fs in
-    let r = tag_count fs in
+-- ---- what changes
+
+-- a list lost these tags and got those, in any order
+abbrev pub Changes : (old new gone come : List ℕ) → Type 0
+Changes old new gone come = (p : ℕ → Bool) → count_by p new + count_by p gone ≡ count_by p old + count_by p come
+
+pub Changes-length : (old new gone come : List ℕ) → Changes old new gone come → length new + length gone ≡ length old + length come
+Changes-length old new gone come c =
+    let e = c (λ t. true) in
+    omega (arith, all_counted old, all_counted new, all_counted gone, all_counted come)
+
+-- one of several lists changes
+pub Changes-set : {X : Type 0} (f : X → List ℕ) (xs : List X) (i : ℕ) (y d : X) (gone come : List ℕ) → i < length xs
+    → Changes (f (get_or xs i d)) (f y) gone come → Changes (flat_map f xs) (flat_map f (set xs i y)) gone come
+Changes-set {X} f xs i y d gone come h c p =
+    let s = sum_by-set (λ (x : X). count_by p (f x)) xs i y d h in
+    let a = count_by-flat_map p f (set xs i y) in
+    let b = count_by-flat_map p f xs in
+    let e = c p in
     omega arith
-
-pub count-shown : (v o : Bool) (b f : ℕ) (ms : List Mark) (ts : List Target) (r : Register) → shown v o b f ms ts ≡ r → Fitting (length ms) ts → length ts ≡ length (tags_of r)
-count-shown v o b f ms ts r e h =
-    rw (← e) (sym (tag_count (fields_from 0 ms ts) ∙ load_sum-all (λ w. 1) ms ts h.outside ∙ sum_by-ones ts))
-
-pub has_tag-shown : (v o : Bool) (b f : ℕ) (ms : List Mark) (ts : List Target) (r : Register) (tag : ℕ) → shown v o b f ms ts ≡ r → Fitting (length ms) ts → list_any (λ t. t.owed.tag == tag) ts ≡ has_tag (tags_of r) tag
-has_tag-shown v o b f ms ts r tag e h =
-    let p : ℕ → Bool = λ t. t == tag in
-    let s = tag_sum p (fields_from 0 ms ts) ∙ load_sum-all (λ w. cond (p w.tag) 1 0) ms ts h.outside in
-    let l = list_any-count_by (λ (t : Target). p t.owed.tag) ts in
-    let k = list_any-count_by p (flat_map tags_of_field (fields_from 0 ms ts)) in
-    rw (← e) (l ∙ ap (λ n. nat_lt 0 n) (sym s) ∙ sym k)
-
--- ---- the tags of all registers
-
-pub tag_waits-all : (rs : List Register) (tag : ℕ) → list_any (λ r. has_tag (tags_of r) tag) rs ≡ tag_waits rs tag
-unfolding waiting_tags
-tag_waits-all [] tag = refl
-tag_waits-all (r ∷ rs) tag =
-    ap (λ b. has_tag (tags_of r) tag || b) (tag_waits-all rs tag) ∙ sym (list_any-append (λ t. t == tag) (tags_of r) (flat_map tags_of rs))
-
-pub waiting_tags-none : waiting_tags [] ≡ []
-unfolding waiting_tags
-waiting_tags-none = refl
-
--- one more register
-pub length-waiting_tags_more : (rs : List Register) (k : ℕ) (d : Register) → k < length rs → length (waiting_tags (take (k + 1) rs)) ≡ length (waiting_tags (take k rs)) + length (tags_of (get_or rs k d))
-unfolding waiting_tags
-length-waiting_tags_more rs k d h =
-    let e = take_more rs k d h in
-    let a = flat_map-append tags_of (take k rs) (get_or rs k d ∷ []) in
-    rw (e, a) (omega (arith, length-append (flat_map tags_of (take k rs)) (flat_map tags_of (get_or rs k d ∷ [])), length-append (tags_of (get_or rs k d)) []))

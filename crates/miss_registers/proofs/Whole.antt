@@ -1,22 +1,30 @@
--- Each step keeps the registers whole.
-use Rattle.std.proofs.Common.{◌≡◌, ◌⊎◌, ℕ, suc, zero, ◌<◌, ◌≤◌, ◌==◌, Bool, true, false, cond, if◌then◌else◌, List, [], ◌∷◌, ◌++◌, map, length, set, get_or, replicate, None, refl, ap, sym, ◌∙◌, inl, inr, arith, length-set, length-append}
+-- Each step keeps the registers whole, and the number of the loads that wait.
+use Rattle.std.proofs.Common.{◌≡◌, ℕ, suc, zero, ◌+◌, ◌<◌, ◌≤◌, ◌==◌, Bool, true, false, cond, if◌then◌else◌, List, [], ◌∷◌, ◌++◌, map}
+use Rattle.std.proofs.Common.{length, set, replicate, None, refl, ap, sym, ◌∙◌, inl, inr, arith, length-set, length-append}
 use Rattle.std.specs.List.{count_by}
-use Rattle.std.proofs.lemmas.Bool.{cases_eq, cases_lt, cases_Bool, false≢true, and_parts, and_right, both_ways, not-true, eq-eqb, ne_eqb}
-use Rattle.std.proofs.lemmas.List.{get_or_past, get_or-set_same, get_or-set_other, length-replicate, length-map, get_or-replicate}
+use Rattle.std.proofs.lemmas.Bool.{cases_eq, cases_Bool, false≢true, and_parts, and_right, both_ways, not-true, ne_eqb}
+use Rattle.std.proofs.lemmas.List.{get_or-set_same, get_or-set_other, length-replicate, length-map}
+use Rattle.std.proofs.lemmas.List.Sums.{sum_by-cons, count_by-le-length}
 use Rattle.std.proofs.Math.ListN.{get_or-map}
 use Rattle.std.proofs.lemmas.List.Folds.{list_all_at, list_all-map}
 use Rattle.flat_model.specs.declared.Lanes.{Lanes}
+use Rattle.flat_model.specs.declared.limits.TheConstants.{MAX_BLOCK_WORDS, MAX_REGS}
 use Rattle.flat_model.specs.Words.{no_lanes, joined}
 use Rattle.miss_registers.specs.declared.Owed.{Owed}
-use Rattle.miss_registers.specs.Registers.{Field, Register, free_register, clear_field, register_at, field_of, with_field, is_live, is_done, live_for, awaited, noted, marked, finished, finished_field, finished_fields, made_obsolete, without_code, fresh, expects, tags_of, tags_of_field, waiting_tags, tag_waits}
+use Rattle.miss_registers.specs.declared.TheConstants.{MAX_WAITING}
+use Rattle.miss_registers.specs.Registers.{Field, Register, free_register, clear_field, register_at, field_of, with_field, is_live}
+use Rattle.miss_registers.specs.Registers.{is_done, live_for, awaited, noted, marked, finished, finished_field, finished_fields}
+use Rattle.miss_registers.specs.Registers.{made_obsolete, without_code, fresh, expects, tags_of, tags_of_field, waiting_tags, tag_waits}
 use Rattle.miss_registers.specs.Whole.{IsWholeRegister, IsWhole}
+use Rattle.miss_registers.proofs.Each.{set-each, replicate-each}
 use Rattle.miss_registers.proofs.Places.{live_for-missing}
 use Rattle.miss_registers.proofs.Words.{in_stack_there, expects-parts}
-use Rattle.miss_registers.proofs.Counts.{flat_map-set_same, count-with_register, waiting_tags-same, tags_of-fresh, tags_of-obsolete, count-awaited_file, count-finished_file, none_counted}
+use Rattle.miss_registers.proofs.Tags.{none_counted, Changes, Changes-length, Changes-set}
+use Rattle.miss_registers.proofs.Counts.{tags_of-fresh, tags_of-obsolete, awaited-changes, finished-changes, file-changes}
 
 -- ---- a register
 
-pub free-whole : (words : ℕ) → IsWholeRegister words free_register
+free-whole : (words : ℕ) → IsWholeRegister words free_register
 free-whole words = record {
   free = λ v. refl;
   fields_there = λ v. absurd (false≢true v);
@@ -26,84 +34,66 @@ free-whole words = record {
   few_loads = λ i. omega arith;
 }
 
-clear_all : (words i : ℕ) → get_or (replicate words clear_field) i clear_field ≡ clear_field
-clear_all words i = elim (cases_lt i words) [
-  | inl p ↦ get_or-replicate words i clear_field clear_field p
-  | inr p ↦ get_or_past (replicate words clear_field) i clear_field (rw (length-replicate words clear_field) p)
-]
-
 fresh_missing : (words : ℕ) → 1 ≤ words → is_done (replicate words clear_field) ≡ false
 fresh_missing zero h = absurd (omega arith)
 fresh_missing (suc words) h = refl
 
-pub fresh-whole : (words block frame : ℕ) → 1 ≤ words → IsWholeRegister words (fresh words block frame)
+fresh-whole : (words block frame : ℕ) → 1 ≤ words → IsWholeRegister words (fresh words block frame)
 unfolding fresh
 fresh-whole words block frame h = record {
   free = λ v. absurd (false≢true (sym v));
   fields_there = λ v. length-replicate words clear_field;
   missing = λ v. fresh_missing words h;
   codes = λ o. absurd (false≢true o);
-  done = λ i p. absurd (false≢true (sym (ap (λ (f : Field). f.processed) (clear_all words i)) ∙ p));
-  few_loads = λ i. rw (clear_all words i) (omega arith);
+  done = λ i p. absurd (false≢true (sym (ap (λ (f : Field). f.processed) (replicate-each words i clear_field)) ∙ p));
+  few_loads = λ i. rw (replicate-each words i clear_field) (omega arith);
 }
 
--- one word's field is another, with the word unprocessed
-pub with_field-whole : (words : ℕ) (r : Register) (i : ℕ) (f : Field) → IsWholeRegister words r → r.valid ≡ true → i < length r.fields → f.processed ≡ false → (r.obsolete ≡ true → f.code ≡ no_lanes) → length f.waiting ≤ 4 → IsWholeRegister words (with_field r i f)
-with_field-whole words r i f h v p u c w =
-    let here : get_or (set r.fields i f) i clear_field ≡ f = get_or-set_same r.fields i f clear_field p in
-    let there : (j : ℕ) → (j ≡ i → ⊥) → get_or (set r.fields i f) j clear_field ≡ field_of r j = λ j n. get_or-set_other r.fields i j f clear_field n in
-    record {
-      free = λ n. absurd (both_ways r.valid n v);
-      fields_there = λ t. length-set r.fields i f ∙ h.fields_there t;
-      missing = λ t. list_all_at (λ (x : Field). x.processed) (set r.fields i f) i clear_field (rw (length-set r.fields i f) p) (ap (λ (x : Field). x.processed) here ∙ u);
-      codes = λ o j. elim (cases_eq j i) [
-        | inl e ↦ rw (e, here) (c o)
-        | inr n ↦ rw (there j n) (h.codes o j)
-      ];
-      done = λ j d. elim (cases_eq j i) [
-        | inl e ↦ absurd (both_ways f.processed u (sym (ap (λ (x : Field). x.processed) here) ∙ rw e at d))
-        | inr n ↦ there j n ∙ h.done j (rw (there j n) at d)
-      ];
-      few_loads = λ j. elim (cases_eq j i) [
-        | inl e ↦ rw (e, here) w
-        | inr n ↦ rw (there j n) (h.few_loads j)
-      ];
-    }
+-- one word's field is another
+with_field-whole : (words : ℕ) (r : Register) (i : ℕ) (f : Field) → IsWholeRegister words r → r.valid ≡ true → i < length r.fields
+    → is_done (set r.fields i f) ≡ false → (r.obsolete ≡ true → f.code ≡ no_lanes) → (f.processed ≡ true → f ≡ finished_field)
+    → length f.waiting ≤ MAX_WAITING → IsWholeRegister words (with_field r i f)
+with_field-whole words r i f h v p m c d w = record {
+  free = λ n. absurd (both_ways r.valid n v);
+  fields_there = λ t. length-set r.fields i f ∙ h.fields_there t;
+  missing = λ t. m;
+  codes = λ o. set-each (λ (x : Field). x.code ≡ no_lanes) r.fields i f clear_field p (h.codes o) (c o);
+  done = set-each (λ (x : Field). x.processed ≡ true → x ≡ finished_field) r.fields i f clear_field p h.done d;
+  few_loads = set-each (λ (x : Field). length x.waiting ≤ MAX_WAITING) r.fields i f clear_field p h.few_loads w;
+}
 
-pub finished-whole_register : (words : ℕ) (r : Register) (i : ℕ) → IsWholeRegister words r → r.valid ≡ true → i < length r.fields → IsWholeRegister words (finished r i)
+-- and the word is unprocessed
+unprocessed-whole : (words : ℕ) (r : Register) (i : ℕ) (f : Field) → IsWholeRegister words r → r.valid ≡ true → i < length r.fields
+    → f.processed ≡ false → (r.obsolete ≡ true → f.code ≡ no_lanes) → length f.waiting ≤ MAX_WAITING
+    → IsWholeRegister words (with_field r i f)
+unprocessed-whole words r i f h v p u c w =
+    let here = ap (λ (x : Field). x.processed) (get_or-set_same r.fields i f clear_field p) in
+    let within : i < length (set r.fields i f) = rw (length-set r.fields i f) p in
+    let missing = list_all_at (λ (x : Field). x.processed) (set r.fields i f) i clear_field within (here ∙ u) in
+    with_field-whole words r i f h v p missing c (λ d. absurd (both_ways f.processed u d)) w
+
+awaited-whole : (words : ℕ) (r : Register) (i : ℕ) (owed : Owed) → IsWholeRegister words r → r.valid ≡ true → i < length r.fields
+    → (field_of r i).processed ≡ false → length (field_of r i).waiting < MAX_WAITING → IsWholeRegister words (awaited r i owed)
+unfolding awaited
+awaited-whole words r i owed h v p u room =
+    let f : Field = record (field_of r i) { waiting = (field_of r i).waiting ++ owed ∷ [] } in
+    let few : length f.waiting ≤ MAX_WAITING = omega (arith, length-append (field_of r i).waiting (owed ∷ [])) in
+    unprocessed-whole words r i f h v p u (λ o. h.codes o i) few
+
+finished-whole : (words : ℕ) (r : Register) (i : ℕ) → IsWholeRegister words r → r.valid ≡ true → i < length r.fields
+    → IsWholeRegister words (finished r i)
 unfolding finished
-finished-whole_register words r i h v p = go (is_done (finished_fields r i)) refl
+finished-whole words r i h v p = go (is_done (finished_fields r i)) refl
   where
-    here : get_or (set r.fields i finished_field) i clear_field ≡ finished_field
-    here = get_or-set_same r.fields i finished_field clear_field p
-
-    there : (j : ℕ) → (j ≡ i → ⊥) → get_or (set r.fields i finished_field) j clear_field ≡ field_of r j
-    there j n = get_or-set_other r.fields i j finished_field clear_field n
-
-    go : (b : Bool) → is_done (finished_fields r i) ≡ b → IsWholeRegister words (if b then free_register else record r { fields = finished_fields r i })
+    go : (b : Bool) → is_done (finished_fields r i) ≡ b
+        → IsWholeRegister words (if b then free_register else record r { fields = finished_fields r i })
     go true e = free-whole words
-    go false e = record {
-      free = λ n. absurd (both_ways r.valid n v);
-      fields_there = λ t. length-set r.fields i finished_field ∙ h.fields_there t;
-      missing = λ t. e;
-      codes = λ o j. elim (cases_eq j i) [
-        | inl z ↦ rw (z, here) refl
-        | inr n ↦ rw (there j n) (h.codes o j)
-      ];
-      done = λ j d. elim (cases_eq j i) [
-        | inl z ↦ rw z here
-        | inr n ↦ there j n ∙ h.done j (rw (there j n) at d)
-      ];
-      few_loads = λ j. elim (cases_eq j i) [
-        | inl z ↦ rw (z, here) (omega arith)
-        | inr n ↦ rw (there j n) (h.few_loads j)
-      ];
-    }
+    go false e = with_field-whole words r i finished_field h v p e (λ o. refl) (λ d. refl) (omega arith)
 
-pub obsolete-whole_register : (words : ℕ) (r : Register) → IsWholeRegister words r → r.valid ≡ true → IsWholeRegister words (made_obsolete r)
+obsolete-whole : (words : ℕ) (r : Register) → IsWholeRegister words r → r.valid ≡ true → IsWholeRegister words (made_obsolete r)
 unfolding made_obsolete
-obsolete-whole_register words r h v =
-    let cleared : (i : ℕ) → get_or (map without_code r.fields) i clear_field ≡ without_code (field_of r i) = λ i. get_or-map without_code r.fields i clear_field in
+obsolete-whole words r h v =
+    let cleared = λ (i : ℕ). get_or-map without_code r.fields i clear_field in
     record {
       free = λ n. absurd (both_ways r.valid n v);
       fields_there = λ t. length-map r.fields without_code ∙ h.fields_there t;
@@ -113,13 +103,12 @@ obsolete-whole_register words r h v =
       few_loads = λ i. rw (cleared i) (h.few_loads i);
     }
 
--- a load more waits for an unprocessed word
-pub awaited-whole_register : (words : ℕ) (r : Register) (i : ℕ) (owed : Owed) → IsWholeRegister words r → r.valid ≡ true → i < length r.fields → (field_of r i).processed ≡ false → length (field_of r i).waiting < 4 → IsWholeRegister words (awaited r i owed)
-unfolding awaited
-awaited-whole_register words r i owed h v p u room =
-    let f : Field = record (field_of r i) { waiting = (field_of r i).waiting ++ owed ∷ [] } in
-    let few : length f.waiting ≤ 4 = omega (arith, length-append (field_of r i).waiting (owed ∷ [])) in
-    with_field-whole words r i f h v p u (λ o. h.codes o i) few
+-- a word in the stack is an unprocessed word of a valid register
+in_stack-valid : (words : ℕ) (r : Register) (i : ℕ) → IsWholeRegister words r → (field_of r i).in_stack ≡ true → r.valid ≡ true
+in_stack-valid words r i h s = elim (cases_Bool r.valid) [
+  | inl v ↦ v
+  | inr n ↦ absurd (false≢true (sym (ap (λ (x : Register). (field_of x i).in_stack) (h.free n)) ∙ s))
+]
 
 -- ---- which registers stay live
 
@@ -128,62 +117,62 @@ live-parts r l =
     let q = and_parts _ _ l in
     (q.0, not-true _ q.1)
 
-awaited-live : (r : Register) (i : ℕ) (owed : Owed) → is_live (awaited r i owed) ≡ true → (is_live r ≡ true) × ((awaited r i owed).block ≡ r.block)
+-- a register is live only where the one before was, for the same block
+abbrev StaysLive : Register → Register → Type 0
+StaysLive old new = is_live new ≡ true → (is_live old ≡ true) × (new.block ≡ old.block)
+
+awaited-live : (r : Register) (i : ℕ) (owed : Owed) → StaysLive r (awaited r i owed)
 unfolding awaited
 awaited-live r i owed l = (l, refl)
 
-finished-live : (r : Register) (i : ℕ) → is_live (finished r i) ≡ true → (is_live r ≡ true) × ((finished r i).block ≡ r.block)
+finished-live : (r : Register) (i : ℕ) → StaysLive r (finished r i)
 unfolding finished
-finished-live r i l = go (is_done (finished_fields r i)) refl l
+finished-live r i = go (is_done (finished_fields r i))
   where
-    go : (b : Bool) → is_done (finished_fields r i) ≡ b → is_live (if b then free_register else record r { fields = finished_fields r i }) ≡ true → (is_live r ≡ true) × ((if b then free_register else record r { fields = finished_fields r i }).block ≡ r.block)
-    go true e k = absurd (false≢true k)
-    go false e k = (k, refl)
+    go : (b : Bool) → StaysLive r (if b then free_register else record r { fields = finished_fields r i })
+    go true l = absurd (false≢true l)
+    go false l = (l, refl)
 
 obsolete_not_live : (r : Register) → is_live (made_obsolete r) ≡ false
 unfolding made_obsolete
 obsolete_not_live r = and_right r.valid false refl
 
--- a word in the stack is an unprocessed word of a valid register
-pub record InStack (r : Register) (i : ℕ) : Type 0 where
-  pub valid : r.valid ≡ true
-  pub there : i < length r.fields
-  pub unprocessed : (field_of r i).processed ≡ false
-
-pub in_stack-parts : (words : ℕ) (r : Register) (i : ℕ) → IsWholeRegister words r → (field_of r i).in_stack ≡ true → InStack r i
-in_stack-parts words r i h s = record {
-  valid = elim (cases_Bool r.valid) [
-    | inl v ↦ v
-    | inr n ↦ absurd (false≢true (sym (ap (λ (x : Register). (field_of x i).in_stack) (h.free n)) ∙ s))
-  ];
-  there = in_stack_there r i s;
-  unprocessed = elim (cases_Bool (field_of r i).processed) [
-    | inl d ↦ absurd (false≢true (sym (ap (λ (f : Field). f.in_stack) (h.done i d)) ∙ s))
-    | inr n ↦ n
-  ];
-}
-
 -- ---- the file
+
+-- its registers are whole, and so many loads wait
+abbrev pub IsKept : (words regs n : ℕ) → List Register → Type 0
+IsKept words regs n rs = IsWhole words regs rs × (n ≡ length (waiting_tags rs))
 
 -- no other live register stands for the block of this one
 abbrev IsAlone : List Register → ℕ → Register → Type 0
 IsAlone rs slot r =
     (k : ℕ) → (k ≡ slot → ⊥) → is_live r ≡ true → is_live (register_at rs k) ≡ true → r.block ≡ (register_at rs k).block → ⊥
 
-with_register-whole : (words regs : ℕ) (rs : List Register) (slot : ℕ) (r : Register) → IsWhole words regs rs → slot < length rs → IsWholeRegister words r → IsAlone rs slot r → ((tag : ℕ) → count_by (λ t. t == tag) (waiting_tags (set rs slot r)) ≤ 1) → IsWhole words regs (set rs slot r)
-with_register-whole words regs rs slot r h p w alone once =
+stays_alone : (words regs : ℕ) (rs : List Register) (slot : ℕ) (r : Register) → IsWhole words regs rs → StaysLive (register_at rs slot) r
+    → IsAlone rs slot r
+stays_alone words regs rs slot r h stays k n a b s =
+    let q = stays a in
+    n (sym (h.one_live slot k q.0 b (sym q.1 ∙ s)))
+
+-- a register is another, which lost these tags and got those
+set-kept : (words regs n m : ℕ) (rs : List Register) (slot : ℕ) (r : Register) (gone come : List ℕ) → IsKept words regs n rs
+    → slot < length rs
+    → IsWholeRegister words r → IsAlone rs slot r → Changes (tags_of (register_at rs slot)) (tags_of r) gone come
+    → ((tag : ℕ) → count_by (λ t. t == tag) (waiting_tags rs) + count_by (λ t. t == tag) come ≤ 1) → m + length gone ≡ n + length come
+    → IsKept words regs m (set rs slot r)
+set-kept words regs n m rs slot r gone come kept p w alone changes once count =
+    let h = kept.0 in
+    let all = file-changes rs slot r gone come p changes in
     let here : register_at (set rs slot r) slot ≡ r = get_or-set_same rs slot r free_register p in
-    let there : (k : ℕ) → (k ≡ slot → ⊥) → register_at (set rs slot r) k ≡ register_at rs k = λ k n. get_or-set_other rs slot k r free_register n in
-    record {
+    let there : (k : ℕ) → (k ≡ slot → ⊥) → register_at (set rs slot r) k ≡ register_at rs k =
+    λ k n. get_or-set_other rs slot k r free_register n in
+    let whole : IsWhole words regs (set rs slot r) = record {
       registers_there = length-set rs slot r ∙ h.registers_there;
       some_register = h.some_register;
       few_registers = h.few_registers;
       some_word = h.some_word;
       few_words = h.few_words;
-      each = λ k. elim (cases_eq k slot) [
-        | inl e ↦ rw (e, here) w
-        | inr n ↦ rw (there k n) (h.each k)
-      ];
+      each = set-each (IsWholeRegister words) rs slot r free_register p h.each w;
       one_live = λ j k a b s. elim (cases_eq j slot) [
         | inl e ↦ elim (cases_eq k slot) [
           | inl f ↦ e ∙ sym f
@@ -194,104 +183,142 @@ with_register-whole words regs rs slot r h p w alone once =
           | inr n ↦ h.one_live j k (rw (there j m) at a) (rw (there k n) at b) (rw (there j m, there k n) at s)
         ]
       ];
-      once = once;
-    }
+      once = λ tag. (let z = all (λ t. t == tag) in let o = once tag in omega arith);
+    } in
+    let counted = kept.1 in
+    let l = Changes-length (waiting_tags rs) (waiting_tags (set rs slot r)) gone come all in
+    (whole, omega arith)
 
--- a register that is live only where the one before was, for the same block
-kept_alone : (words regs : ℕ) (rs : List Register) (slot : ℕ) (r : Register) → IsWhole words regs rs → (is_live r ≡ true → (is_live (register_at rs slot) ≡ true) × (r.block ≡ (register_at rs slot).block)) → IsAlone rs slot r
-kept_alone words regs rs slot r h kept k n a b s =
-    let q = kept a in
-    n (sym (h.one_live slot k q.0 b (sym q.1 ∙ s)))
+-- and it got none
+lost-kept : (words regs n m : ℕ) (rs : List Register) (slot : ℕ) (r : Register) (gone : List ℕ) → IsKept words regs n rs → slot < length rs
+    → IsWholeRegister words r → StaysLive (register_at rs slot) r → Changes (tags_of (register_at rs slot)) (tags_of r) gone []
+    → m + length gone ≡ n → IsKept words regs m (set rs slot r)
+lost-kept words regs n m rs slot r gone kept p w stays changes count =
+    let alone = stays_alone words regs rs slot r kept.0 stays in
+    set-kept words regs n m rs slot r gone [] kept p w alone changes (λ tag. omega (arith, kept.0.once tag)) (omega arith)
 
--- a register with the tags of the one before
-same_tags-whole : (words regs : ℕ) (rs : List Register) (slot : ℕ) (r : Register) → IsWhole words regs rs → slot < length rs → IsWholeRegister words r → (is_live r ≡ true → (is_live (register_at rs slot) ≡ true) × (r.block ≡ (register_at rs slot).block)) → tags_of r ≡ tags_of (register_at rs slot) → IsWhole words regs (set rs slot r)
-same_tags-whole words regs rs slot r h p w kept e =
-    with_register-whole words regs rs slot r h p w (kept_alone words regs rs slot r h kept) (λ tag. rw (waiting_tags-same rs slot r e) (h.once tag))
+-- an unprocessed word's field is another, for which the same loads wait
+same_loads-kept : (words regs n : ℕ) (rs : List Register) (slot i : ℕ) (f : Field) → IsKept words regs n rs → slot < length rs
+    → (register_at rs slot).valid ≡ true → i < length (register_at rs slot).fields → f.processed ≡ false
+    → ((register_at rs slot).obsolete ≡ true → f.code ≡ no_lanes) → f.waiting ≡ (field_of (register_at rs slot) i).waiting
+    → IsKept words regs n (set rs slot (with_field (register_at rs slot) i f))
+same_loads-kept words regs n rs slot i f kept p v t u c e =
+    let r = register_at rs slot in
+    let h = kept.0.each slot in
+    let w = unprocessed-whole words r i f h v t u c (rw e (h.few_loads i)) in
+    let same = λ (q : ℕ → Bool). ap (λ ws. count_by q (map (λ (x : Owed). x.tag) ws) + count_by q []) e in
+    let changes = Changes-set tags_of_field r.fields i f clear_field [] [] t same in
+    lost-kept words regs n n rs slot (with_field r i f) [] kept p w (λ l. (l, refl)) changes (omega arith)
 
-pub marked-whole : (words regs : ℕ) (rs : List Register) (slot i : ℕ) → IsWhole words regs rs → slot < length rs → expects (register_at rs slot) i ≡ true → IsWhole words regs (set rs slot (marked (register_at rs slot) i))
+-- ---- each step
+
+pub marked-kept : (words regs n : ℕ) (rs : List Register) (slot i : ℕ) → IsKept words regs n rs → slot < length rs
+    → expects (register_at rs slot) i ≡ true
+    → IsKept words regs n (set rs slot (marked (register_at rs slot) i))
 unfolding marked
-marked-whole words regs rs slot i h p x =
+marked-kept words regs n rs slot i kept p x =
     let r = register_at rs slot in
     let e = expects-parts r i x in
     let f : Field = record (field_of r i) { in_stack = true } in
-    let w = with_field-whole words r i f (h.each slot) e.valid e.there e.unprocessed (λ o. (h.each slot).codes o i) ((h.each slot).few_loads i) in
-    same_tags-whole words regs rs slot (with_field r i f) h p w (λ l. (l, refl)) (flat_map-set_same tags_of_field r.fields i f clear_field refl)
+    same_loads-kept words regs n rs slot i f kept p e.valid e.there e.unprocessed (λ o. (kept.0.each slot).codes o i) refl
 
-pub noted-whole : (words regs : ℕ) (rs : List Register) (slot i : ℕ) (lanes : Lanes) → IsWhole words regs rs → slot < length rs → is_live (register_at rs slot) ≡ true → i < length (register_at rs slot).fields → (field_of (register_at rs slot) i).processed ≡ false → IsWhole words regs (set rs slot (noted (register_at rs slot) i lanes))
+pub noted-kept : (words regs n : ℕ) (rs : List Register) (slot i : ℕ) (lanes : Lanes) → IsKept words regs n rs → slot < length rs
+    → is_live (register_at rs slot) ≡ true → i < length (register_at rs slot).fields → (field_of (register_at rs slot) i).processed ≡ false
+    → IsKept words regs n (set rs slot (noted (register_at rs slot) i lanes))
 unfolding noted
-noted-whole words regs rs slot i lanes h p l t u =
+noted-kept words regs n rs slot i lanes kept p l t u =
     let r = register_at rs slot in
     let q = live-parts r l in
     let f : Field = record (field_of r i) { code = joined (field_of r i).code lanes } in
-    let w = with_field-whole words r i f (h.each slot) q.0 t u (λ o. absurd (both_ways r.obsolete q.1 o)) ((h.each slot).few_loads i) in
-    same_tags-whole words regs rs slot (with_field r i f) h p w (λ v. (v, refl)) (flat_map-set_same tags_of_field r.fields i f clear_field refl)
+    same_loads-kept words regs n rs slot i f kept p q.0 t u (λ o. absurd (both_ways r.obsolete q.1 o)) refl
 
-pub obsolete-whole : (words regs : ℕ) (rs : List Register) (slot : ℕ) → IsWhole words regs rs → slot < length rs → is_live (register_at rs slot) ≡ true → IsWhole words regs (set rs slot (made_obsolete (register_at rs slot)))
-obsolete-whole words regs rs slot h p l =
+pub obsolete-kept : (words regs n : ℕ) (rs : List Register) (slot : ℕ) → IsKept words regs n rs → slot < length rs
+    → is_live (register_at rs slot) ≡ true
+    → IsKept words regs n (set rs slot (made_obsolete (register_at rs slot)))
+obsolete-kept words regs n rs slot kept p l =
     let r = register_at rs slot in
-    let q = live-parts r l in
-    let w = obsolete-whole_register words r (h.each slot) q.0 in
-    same_tags-whole words regs rs slot (made_obsolete r) h p w (λ v. absurd (both_ways (is_live (made_obsolete r)) (obsolete_not_live r) v)) (tags_of-obsolete r)
+    let w = obsolete-whole words r (kept.0.each slot) (live-parts r l).0 in
+    let stays = λ (v : is_live (made_obsolete r) ≡ true). absurd (both_ways (is_live (made_obsolete r)) (obsolete_not_live r) v) in
+    lost-kept words regs n n rs slot (made_obsolete r) [] kept p w stays (λ q. rw (tags_of-obsolete r) refl) (omega arith)
 
-pub awaited-whole : (words regs : ℕ) (rs : List Register) (slot i : ℕ) (owed : Owed) → IsWhole words regs rs → slot < length rs → is_live (register_at rs slot) ≡ true → expects (register_at rs slot) i ≡ true → length (field_of (register_at rs slot) i).waiting < 4 → tag_waits rs owed.tag ≡ false → IsWhole words regs (set rs slot (awaited (register_at rs slot) i owed))
-awaited-whole words regs rs slot i owed h p l x room n =
+pub awaited-kept : (words regs n : ℕ) (rs : List Register) (slot i : ℕ) (owed : Owed) → IsKept words regs n rs → slot < length rs
+    → is_live (register_at rs slot) ≡ true → expects (register_at rs slot) i ≡ true
+    → length (field_of (register_at rs slot) i).waiting < MAX_WAITING
+    → tag_waits rs owed.tag ≡ false → IsKept words regs (n + 1) (set rs slot (awaited (register_at rs slot) i owed))
+awaited-kept words regs n rs slot i owed kept p l x room new =
     let r = register_at rs slot in
     let e = expects-parts r i x in
-    with_register-whole words regs rs slot (awaited r i owed) h p (awaited-whole_register words r i owed (h.each slot) e.valid e.there e.unprocessed room) (kept_alone words regs rs slot (awaited r i owed) h (λ v. awaited-live r i owed v)) (λ tag. go tag e.there (cases_eq owed.tag tag))
+    let w = awaited-whole words r i owed (kept.0.each slot) e.valid e.there e.unprocessed room in
+    let alone = stays_alone words regs rs slot (awaited r i owed) kept.0 (awaited-live r i owed) in
+    let changes = awaited-changes r i owed e.there in
+    set-kept words regs n (n + 1) rs slot (awaited r i owed) [] (owed.tag ∷ []) kept p w alone changes once (omega arith)
   where
-    go : (tag : ℕ) → i < length (register_at rs slot).fields → (owed.tag ≡ tag) ⊎ (owed.tag ≡ tag → ⊥) → count_by (λ t. t == tag) (waiting_tags (set rs slot (awaited (register_at rs slot) i owed))) ≤ 1
-    go tag t (inl e) =
-        let z = count-awaited_file (λ u. u == tag) rs slot i owed p t in
-        let c : cond {A = ℕ} (owed.tag == tag) 1 0 ≤ 1 = rw (eq-eqb owed.tag tag e) (omega arith) in
-        let none = none_counted rs tag (rw e at n) in
-        omega (arith, z, c, none)
-    go tag t (inr m) =
-        let z = count-awaited_file (λ u. u == tag) rs slot i owed p t in
-        let c : cond {A = ℕ} (owed.tag == tag) 1 0 ≡ 0 = rw (ne_eqb owed.tag tag m) refl in
-        omega (arith, z, c, h.once tag)
+    once : (tag : ℕ) → count_by (λ t. t == tag) (waiting_tags rs) + count_by (λ t. t == tag) (owed.tag ∷ []) ≤ 1
+    once tag = elim (cases_eq owed.tag tag) [
+      | inl e ↦ (
+          let none = none_counted (λ t. t == tag) (waiting_tags rs) (rw e at new) in
+          omega (arith, none, count_by-le-length (λ t. t == tag) (owed.tag ∷ [])))
+      | inr m ↦ (
+          let s = sum_by-cons (λ (t : ℕ). cond (t == tag) 1 0) owed.tag [] in
+          let c : cond {A = ℕ} (owed.tag == tag) 1 0 ≡ 0 = rw (ne_eqb owed.tag tag m) refl in
+          omega (arith, kept.0.once tag))
+    ]
 
-pub finished-whole : (words regs : ℕ) (rs : List Register) (slot i : ℕ) → IsWhole words regs rs → slot < length rs → (field_of (register_at rs slot) i).in_stack ≡ true → IsWhole words regs (set rs slot (finished (register_at rs slot) i))
-finished-whole words regs rs slot i h p s =
+-- the loads of a word are among those that wait
+pub few_finish : (words regs n : ℕ) (rs : List Register) (slot i : ℕ) → IsKept words regs n rs → slot < length rs
+    → (field_of (register_at rs slot) i).in_stack ≡ true → length (field_of (register_at rs slot) i).waiting ≤ n
+few_finish words regs n rs slot i kept p s =
     let r = register_at rs slot in
-    let q = in_stack-parts words r i (h.each slot) s in
-    with_register-whole words regs rs slot (finished r i) h p (finished-whole_register words r i (h.each slot) q.valid q.there) (kept_alone words regs rs slot (finished r i) h (λ v. finished-live r i v)) (λ tag. (
-    let z = count-finished_file (λ t. t == tag) rs slot i p q.there (h.each slot).done in
-    let once = h.once tag in
-    omega arith))
+    let f = field_of r i in
+    let changes = finished-changes words r i (kept.0.each slot) (in_stack_there r i s) in
+    let all = file-changes rs slot (finished r i) (tags_of_field f) [] p changes in
+    let l = Changes-length (waiting_tags rs) (waiting_tags (set rs slot (finished r i))) (tags_of_field f) [] all in
+    omega (arith, kept.1, length-map f.waiting (λ (w : Owed). w.tag))
 
-pub fresh-alone : (rs : List Register) (slot words block frame : ℕ) → live_for rs block ≡ None → IsAlone rs slot (fresh words block frame)
+pub finished-kept : (words regs n m : ℕ) (rs : List Register) (slot i : ℕ) → IsKept words regs n rs → slot < length rs
+    → (field_of (register_at rs slot) i).in_stack ≡ true → m + length (field_of (register_at rs slot) i).waiting ≡ n
+    → IsKept words regs m (set rs slot (finished (register_at rs slot) i))
+finished-kept words regs n m rs slot i kept p s count =
+    let r = register_at rs slot in
+    let h = kept.0.each slot in
+    let there = in_stack_there r i s in
+    let w = finished-whole words r i h (in_stack-valid words r i h s) there in
+    let c : m + length (tags_of_field (field_of r i)) ≡ n = omega (arith, length-map (field_of r i).waiting (λ (x : Owed). x.tag)) in
+    let changes = finished-changes words r i h there in
+    lost-kept words regs n m rs slot (finished r i) (tags_of_field (field_of r i)) kept p w (finished-live r i) changes c
+
+fresh-alone : (rs : List Register) (slot words block frame : ℕ) → live_for rs block ≡ None → IsAlone rs slot (fresh words block frame)
 unfolding fresh
 fresh-alone rs slot words block frame n k m a b s = live_for-missing rs block k n b (sym s)
 
-pub allocated-whole : (words regs : ℕ) (rs : List Register) (slot block frame : ℕ) → IsWhole words regs rs → slot < length rs → live_for rs block ≡ None → IsWhole words regs (set rs slot (fresh words block frame))
-allocated-whole words regs rs slot block frame h p n =
-    with_register-whole words regs rs slot (fresh words block frame) h p (fresh-whole words block frame h.some_word) (fresh-alone rs slot words block frame n) (λ tag. (
-    let z = count-with_register (λ t. t == tag) rs slot (fresh words block frame) p in
-    let e = ap (count_by (λ t. t == tag)) (tags_of-fresh words block frame) in
-    let once = h.once tag in
-    omega arith))
+pub allocated-kept : (words regs n : ℕ) (rs : List Register) (slot block frame : ℕ) → IsKept words regs n rs → slot < length rs
+    → (register_at rs slot).valid ≡ false → live_for rs block ≡ None → IsKept words regs n (set rs slot (fresh words block frame))
+allocated-kept words regs n rs slot block frame kept p v absent =
+    let h = kept.0 in
+    let none : tags_of (register_at rs slot) ≡ [] = ap tags_of ((h.each slot).free v) in
+    let same = λ (q : ℕ → Bool). ap (λ ts. count_by q ts + count_by q []) (tags_of-fresh words block frame ∙ sym none) in
+    let w = fresh-whole words block frame h.some_word in
+    let alone = fresh-alone rs slot words block frame absent in
+    set-kept words regs n n rs slot (fresh words block frame) [] [] kept p w alone same (λ tag. omega (arith, h.once tag)) refl
 
 -- ---- a new file
 
-new_at : (regs k : ℕ) → register_at (replicate regs free_register) k ≡ free_register
-new_at regs k = elim (cases_lt k regs) [
-  | inl p ↦ get_or-replicate regs k free_register free_register p
-  | inr p ↦ get_or_past (replicate regs free_register) k free_register (rw (length-replicate regs free_register) p)
-]
-
-pub waiting_tags-new : (regs : ℕ) → waiting_tags (replicate regs free_register) ≡ []
+waiting_tags-new : (regs : ℕ) → waiting_tags (replicate regs free_register) ≡ []
 unfolding waiting_tags
 waiting_tags-new zero = refl
 waiting_tags-new (suc regs) = waiting_tags-new regs
 
-pub new-whole : (words regs : ℕ) → 1 ≤ words → words ≤ 16 → 1 ≤ regs → regs ≤ 16 → IsWhole words regs (replicate regs free_register)
-new-whole words regs a b c d = record {
-  registers_there = length-replicate regs free_register;
-  some_register = c;
-  few_registers = d;
-  some_word = a;
-  few_words = b;
-  each = λ k. rw (new_at regs k) (free-whole words);
-  one_live = λ j k l m s. absurd (false≢true (sym (ap is_live (new_at regs j)) ∙ l));
-  once = λ tag. rw (waiting_tags-new regs) (omega arith);
-}
+pub new-kept : (words regs : ℕ) → 1 ≤ words → words ≤ MAX_BLOCK_WORDS → 1 ≤ regs → regs ≤ MAX_REGS
+    → IsKept words regs 0 (replicate regs free_register)
+new-kept words regs a b c d =
+    let whole : IsWhole words regs (replicate regs free_register) = record {
+      registers_there = length-replicate regs free_register;
+      some_register = c;
+      few_registers = d;
+      some_word = a;
+      few_words = b;
+      each = λ k. rw (replicate-each regs k free_register) (free-whole words);
+      one_live = λ j k l m s. absurd (false≢true (sym (ap is_live (replicate-each regs j free_register)) ∙ l));
+      once = λ tag. rw (waiting_tags-new regs) (omega arith);
+    } in
+    (whole, sym (ap length (waiting_tags-new regs)))

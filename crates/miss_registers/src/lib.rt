@@ -1,10 +1,12 @@
 //! The registers that keep what is known of missing blocks.
 #![tactic(auto)]
 
-ghost use Rattle.std.specs.Prelude.{◌≡◌, ◌<◌, ◌≤◌, ◌++◌, [], ◌∷◌, length, slice_get};
+ghost use Rattle.std.specs.Prelude.{◌≡◌, ◌<◌, ◌≤◌, ◌++◌, [], ◌∷◌, ◌==◌, length, slice_get};
+ghost use Rattle.std.specs.List.{list_any};
 ghost use Rattle.miss_registers.specs.declared.TheConstants.{MAX_WAITING};
 ghost use Rattle.miss_registers.specs.Views.{load_at_front};
 
+mod field;
 mod file;
 mod slot;
 
@@ -12,6 +14,7 @@ use arrayvec::ArrayVec;
 pub use file::RegisterFile;
 use flat_model::{Lanes, Word};
 use std::marker::Model;
+use std::mem;
 
 /// A load that waits for a word, and the bytes that it has already.
 #[derive(Clone, Copy, PartialEq, Eq, Debug, Default)]
@@ -61,24 +64,8 @@ pub struct FieldView {
     pub targets: u32,
 }
 
-// What is kept of a word, beside the loads that wait for it. All is clear of a word that has still
-// to come.
-#[derive(Clone, Copy, Default)]
-struct Mark {
-    in_stack: bool,
-    processed: bool,
-    code: Lanes,
-}
-
 /// How many loads may wait for one word.
 pub const MAX_WAITING: usize = 4;
-
-// A load that waits for word `i`.
-#[derive(Clone, Copy, Default)]
-struct Target {
-    i: u32,
-    owed: Owed,
-}
 
 /// At most [`MAX_WAITING`] loads, in their order.
 #[derive(Drop)]
@@ -109,6 +96,20 @@ impl OwedList {
         ensures { self.new ≡ self.old ++ owed ∷ [] }
     {
         self.items.push(owed);
+    }
+
+    // Hands on its loads, and keeps none.
+    fn take(&mut self) -> Self
+        ensures taken { result ≡ self.old }
+        ensures left { self.new ≡ [] }
+    {
+        mem::replace(self, OwedList::new())
+    }
+
+    fn has_tag(&self, tag: u16) -> bool
+        ensures { result ≡ list_any (λ w. w.tag == tag) self.now }
+    {
+        self.items.as_slice().iter().any(|owed| owed.tag == tag)
     }
 
     // The load that is answered first: one of tag 0 with nothing held where there is none.

@@ -6,6 +6,8 @@ use Rattle.miss_registers.proofs.file.first_free.Goals as goal
 
 pub returns : goal.returns
 returns c =
-    let found = position_from_yields_List (λ r. not r.valid) _ _ c.position-place.result c.position-place.ensures.ran (YieldsList-from_slice _ c.iter.ensures.rest) (λ x b q k. search (rules, tests)) in
+    let ran = c.position-place.ensures.ran in
+    let yields = YieldsList-from_slice _ c.iter.ensures.rest in
+    let found = position_from_yields_List (λ r. not r.valid) _ _ c.position-place.result ran yields (λ x b q k. search (rules, tests)) in
     let place = found ∙ sym (free_slot_position c.args.slots.now) in
     search (rules, tests) ∙ place

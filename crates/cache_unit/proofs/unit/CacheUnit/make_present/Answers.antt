@@ -25,7 +25,6 @@ pub returns-in-Some-clause-unit : goal.returns-in-Some-clause-unit
 returns-in-Some-clause-unit g c =
     let s = c.self.inside in
     let u = c.args.self.now in
-    let room = g.L.Lines.room_of c.args.lines.now in
     let look = frame_of-shown s.directory s.registers s.stack s.queue.entries s.ready.items c.args.block ∙ sym c.in-Some.ensures.found in
     let here = ap (λ (v : UnitState). is_present v.cache c.args.block) (sym c.self.view_is) ∙ ap is_some look in
     ap (λ (x : Cache). let v : UnitState = record { sizes = u.sizes; cache = x } in v) (sym (present_fetched u.sizes u.cache c.args.block here))
@@ -34,7 +33,6 @@ pub returns-in-Some-clause-lines : goal.returns-in-Some-clause-lines
 returns-in-Some-clause-lines g c =
     let s = c.self.inside in
     let u = c.args.self.now in
-    let room = g.L.Lines.room_of c.args.lines.now in
     let look = frame_of-shown s.directory s.registers s.stack s.queue.entries s.ready.items c.args.block ∙ sym c.in-Some.ensures.found in
     let here = ap (λ (v : UnitState). is_present v.cache c.args.block) (sym c.self.view_is) ∙ ap is_some look in
     let none = HasSent-none g.L.Lines.sent_to g.L.Lines.room_of g.L.Lines.same c.args.lines.now (g.met.L.Lines.same_self c.args.lines.now) in
@@ -45,7 +43,6 @@ pub returns-in-Some-clause-targets : goal.returns-in-Some-clause-targets
 returns-in-Some-clause-targets g c i =
     let s = c.self.inside in
     let u = c.args.self.now in
-    let room = g.L.Lines.room_of c.args.lines.now in
     let look = frame_of-shown s.directory s.registers s.stack s.queue.entries s.ready.items c.args.block ∙ sym c.in-Some.ensures.found in
     let here = ap (λ (v : UnitState). is_present v.cache c.args.block) (sym c.self.view_is) ∙ ap is_some look in
     sym (ap (λ b. b && targets_full u.cache i (found u.cache c.args.block i)) here)
@@ -70,7 +67,6 @@ pub fetch-requires : goal.fetch-requires
 fetch-requires g c =
     let s = c.self.inside in
     let u = c.args.self.now in
-    let room = g.L.Lines.room_of c.args.lines.now in
     let look = frame_of-shown s.directory s.registers s.stack s.queue.entries s.ready.items c.args.block ∙ sym c.look.ensures.found ∙ c.in_default.is in
     let here = ap (λ (v : UnitState). is_present v.cache c.args.block) (sym c.self.view_is) ∙ ap is_some look in
     let may = c.in_ok-places.ensures.found in

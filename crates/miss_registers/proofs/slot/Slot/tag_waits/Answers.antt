@@ -1,8 +1,9 @@
-use Rattle.std.proofs.Common.{◌∙◌}
-use Rattle.miss_registers.proofs.Tags.{has_tag-shown}
+use Rattle.std.proofs.Common.{◌∙◌, ◌==◌}
+use Rattle.miss_registers.specs.Registers.{tags_of_field}
+use Rattle.miss_registers.proofs.Tags.{list_any-flat_map}
 use Rattle.miss_registers.proofs.slot.Slot.tag_waits.Goals as goal
 
 pub returns : goal.returns
 returns c =
-    let s = c.self.inside in
-    c.tag_among.ensures ∙ rw c.as_slice.ensures.value (has_tag-shown s.valid s.obsolete s.block s.frame s.marks.items s.targets.items _ c.args.tag c.self.view_is c.self.invariant)
+    let e = list_any-flat_map (λ t. t == c.args.tag) tags_of_field c.self.inside.fields.items in
+    c.one_has_tag.ensures ∙ rw (c.as_slice.ensures.value, ← c.self.view_is) e

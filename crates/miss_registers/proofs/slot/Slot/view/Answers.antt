@@ -1,11 +1,17 @@
-use Rattle.std.proofs.Common.{◌≡◌, ◌∙◌, refl}
+use Rattle.std.proofs.Common.{◌≡◌, ◌+◌, cond, List, [], ◌∷◌, refl, ap, ◌∙◌}
+use Rattle.std.specs.List.{count_by}
+use Rattle.std.proofs.lemmas.List.Sums.{sum_by-cons}
+use Rattle.miss_registers.specs.Registers.{Field}
 use Rattle.miss_registers.specs.Views.{processed_shown}
-use Rattle.miss_registers.proofs.Shown.{processed-of}
 use Rattle.miss_registers.proofs.slot.Slot.view.Goals as goal
+
+processed_shown-count : (fields : List Field) → count_by (λ f. f.processed) fields ≡ processed_shown fields
+processed_shown-count [] = refl
+processed_shown-count (f ∷ rest) =
+    sum_by-cons (λ (x : Field). cond x.processed 1 0) f rest ∙ ap (λ n. cond f.processed 1 0 + n) (processed_shown-count rest)
 
 pub returns : goal.returns
 returns c =
-    let s = c.self.inside in
-    let q = processed-of s.valid s.obsolete s.block s.frame s.marks.items s.targets.items _ c.self.view_is in
-    let p : c.processed_in.result ≡ processed_shown c.args.self.now.fields = c.processed_in.ensures ∙ rw c.as_slice.ensures.value q in
-    rw (c.frame_shown.ensures, p, ← c.self.view_is) refl
+    let counted : c.processed_count.result ≡ processed_shown c.self.inside.fields.items =
+    c.processed_count.ensures ∙ rw c.as_slice.ensures.value (processed_shown-count c.self.inside.fields.items) in
+    rw (c.frame_shown.ensures, counted, ← c.self.view_is) refl

@@ -1,9 +1,0 @@
-use Rattle.std.proofs.Common.{◌∙◌, refl}
-use Rattle.miss_registers.proofs.Shown.{field_any-of}
-use Rattle.miss_registers.proofs.slot.Slot.target.Goals as goal
-
-pub returns : goal.returns
-returns c =
-    let s = c.self.inside in
-    let e = field_any-of s.valid s.obsolete s.block s.frame s.marks.items s.targets.items _ c.args.i c.self.view_is c.self.invariant in
-    c.get.ensures ∙ rw (e, c.waiting_for-waiting.ensures, c.as_slice.ensures.value) refl
