@@ -102,51 +102,59 @@ static void sets(void) {
     CHECK(kroft_history_free(&h) == KROFT_DONE);
 }
 
-enum { STORES = 16, UNIT = 64 };
+enum { WORDS = 2000, STORES = 8, UNIT = 64 };
 
-/* Sixteen stores of different bytes to one byte, all open: the answer of one leaves too many ways in which the others
-   may have taken effect before. Nothing is told as a fault, the unit is forgotten, and the rest is judged on. */
-static void undecided(void) {
+/* A load of two bytes that stays open while many stores to its second byte are made, one behind the other, and eight more
+   that are open at once: each order of these makes a way with all the words that the load may have got. */
+static void crowd(kroft_history *h) {
+    uint32_t k;
+    uint8_t byte;
+    CHECK(kroft_load_request(h, 1, UNIT, 2) == KROFT_LAWFUL);
+    for (k = 0; k < WORDS; k++) {
+        byte = (uint8_t)(k % 100 + 100);
+        CHECK(kroft_store_request(h, 1, UNIT + 1, &byte, 1, 1) == KROFT_LAWFUL && kroft_store_response(h, 1) == KROFT_LAWFUL);
+    }
+    for (byte = 1; byte <= STORES; byte++) CHECK(kroft_store_request(h, byte, UNIT + 1, &byte, 1, 1) == KROFT_LAWFUL);
+}
+
+/* The answer of a store leaves too many words. Nothing is told as a fault, the unit is forgotten, and the rest is judged on. */
+static void undecided_store(void) {
     static const uint8_t zero[1] = {0}, other[1] = {99};
     uint8_t row[KROFT_SET_BYTES], all[KROFT_SET_BYTES];
     kroft_history h = opened(KROFT_ATOMIC_LAW, 8, KROFT_ZEROS);
     uint64_t address = 77, place = 78, loads, stores;
-    uint8_t byte;
     memset(all, 0xff, sizeof all);
     CHECK(kroft_undecided(&h, &address) == KROFT_NONE && address == 77);
-    for (byte = 1; byte <= STORES; byte++) CHECK(kroft_store_request(&h, byte, UNIT + 3, &byte, 1, 1) == KROFT_LAWFUL);
-    CHECK(kroft_load_request(&h, 1, UNIT + 2, 2) == KROFT_LAWFUL && kroft_load_request(&h, 2, 0, 1) == KROFT_LAWFUL);
-    CHECK(kroft_undecided(&h, &address) == KROFT_NONE && address == 77);
+    crowd(&h);
+    CHECK(kroft_load_request(&h, 2, 0, 1) == KROFT_LAWFUL && kroft_undecided(&h, &address) == KROFT_NONE && address == 77);
     CHECK(kroft_store_response(&h, STORES) == KROFT_UNDECIDED);
     CHECK(kroft_undecided(&h, &address) == KROFT_FOUND && address == UNIT);
     CHECK(kroft_unanswered(&h, &loads, &stores) == KROFT_DONE && loads == 2 && stores == STORES);
     memset(row, 0x33, sizeof row);
-    CHECK(kroft_may_return(&h, 1, UNIT + 3, row, sizeof row) == KROFT_UNDECIDED && row[0] == 0x33 && row[31] == 0x33);
+    CHECK(kroft_may_return(&h, 1, UNIT + 1, row, sizeof row) == KROFT_UNDECIDED && row[0] == 0x33 && row[31] == 0x33);
     CHECK(kroft_may_return(&h, 2, 0, row, sizeof row) == KROFT_FOUND && is_set(row, zero, 1));
-    CHECK(kroft_store_response(&h, STORES) == KROFT_UNDECIDED && kroft_store_response(&h, 99) == KROFT_NOT_OPEN);
+    CHECK(kroft_store_response(&h, 99) == KROFT_NOT_OPEN);
     CHECK(kroft_undecided(&h, &address) == KROFT_FOUND && address == UNIT);
     CHECK(kroft_wrong_place(&h, 2, other, 1, &place) == KROFT_WRONG_BYTE && place == 0);
     CHECK(kroft_forget(&h, UNIT + 7) == KROFT_DONE);
     address = 77;
     CHECK(kroft_undecided(&h, &address) == KROFT_NONE && address == 77);
     CHECK(kroft_store_response(&h, STORES) == KROFT_LAWFUL);
-    CHECK(kroft_may_return(&h, 1, UNIT + 3, row, sizeof row) == KROFT_FOUND && memcmp(row, all, sizeof row) == 0);
+    CHECK(kroft_may_return(&h, 1, UNIT + 1, row, sizeof row) == KROFT_FOUND && memcmp(row, all, sizeof row) == 0);
     CHECK(kroft_load_response(&h, 2, other, 1) == KROFT_WRONG_BYTE && kroft_load_response(&h, 2, zero, 1) == KROFT_LAWFUL);
     CHECK(kroft_history_free(&h) == KROFT_DONE);
 }
 
-/* The load whose answer is undecided, by the place of no byte; and an event that is taken ends the note of the unit. */
+/* So does the answer of a load with a byte that was never stored, if all orders are looked at; asked first, and then told.
+   An event that is taken ends the note of the unit. */
 static void undecided_load(void) {
-    uint8_t zeros[2] = {0, 0};
+    static const uint8_t bytes[2] = {0, 99};
     kroft_history h = opened(KROFT_ATOMIC_LAW, 2, KROFT_ZEROS);
     uint64_t address = 77, place = 78;
-    uint8_t byte;
-    CHECK(kroft_load_request(&h, 1, UNIT, 2) == KROFT_LAWFUL);
-    for (byte = 1; byte <= STORES; byte++) CHECK(kroft_store_request(&h, byte, UNIT, &byte, 1, 1) == KROFT_LAWFUL);
-    zeros[1] = 1; /* what no store writes */
-    CHECK(kroft_wrong_place(&h, 1, zeros, 2, &place) == KROFT_UNDECIDED && place == 78);
-    CHECK(kroft_undecided(&h, &address) == KROFT_NONE && address == 77); /* it was asked, and not told */
-    CHECK(kroft_load_response(&h, 1, zeros, 2) == KROFT_UNDECIDED);
+    crowd(&h);
+    CHECK(kroft_wrong_place(&h, 1, bytes, 2, &place) == KROFT_UNDECIDED && place == 78);
+    CHECK(kroft_undecided(&h, &address) == KROFT_NONE && address == 77);
+    CHECK(kroft_load_response(&h, 1, bytes, 2) == KROFT_UNDECIDED);
     CHECK(kroft_undecided(&h, &address) == KROFT_FOUND && address == UNIT);
     CHECK(kroft_load_request(&h, 2, 0, 1) == KROFT_LAWFUL);
     CHECK(kroft_undecided(&h, &address) == KROFT_NONE && address == UNIT);
@@ -170,8 +178,9 @@ static void handles(void) {
     CHECK(kroft_forget(&h, 0) == KROFT_CLOSED && kroft_undecided(&h, &address) == KROFT_CLOSED && address == 77);
     for (unit = 0; unit <= 17; unit++) {
         int is_unit = unit == 1 || unit == 2 || unit == 4 || unit == 8;
-        CHECK(kroft_history_open(&h, KROFT_ATOMIC_LAW, unit, KROFT_ZEROS, nothing, 0) == (is_unit ? KROFT_DONE : KROFT_NO_LAW));
-        CHECK(kroft_history_free(&h) == (is_unit ? KROFT_DONE : KROFT_CLOSED));
+        uint32_t said = kroft_history_open(&h, KROFT_ATOMIC_LAW, unit, KROFT_ZEROS, nothing, 0);
+        if (is_unit) CHECK(said == KROFT_DONE && kroft_history_free(&h) == KROFT_DONE);
+        if (!is_unit) CHECK(said == KROFT_NO_LAW && kroft_history_free(&h) == KROFT_CLOSED);
     }
     CHECK(kroft_history_open(&h, KROFT_ATOMIC_LAW, 8, 2, nothing, 0) == KROFT_NO_LAW && h.open == 0);
     h = opened(KROFT_REGULAR_LAW, 1, KROFT_ZEROS);
@@ -195,7 +204,7 @@ int main(void) {
     }
     places();
     sets();
-    undecided();
+    undecided_store();
     undecided_load();
     unknown();
     handles();

@@ -97,19 +97,23 @@ class Histories(unittest.TestCase):
                 history.load_response(1, b"\x22\x22")
 
     def test_a_unit_without_a_verdict_is_forgotten(self) -> None:
+        """A load stays open while many stores are made, and eight more are open at once: too many words."""
         with History(Law.ATOMIC) as history:
-            for number in range(1, 17):
-                history.store_request(number, 0x43, bytes([number]))
             history.load_request(1, 0x43, 1)
+            for number in range(2000):
+                history.store_request(1, 0x43, bytes([number % 100 + 100]))
+                history.store_response(1)
+            for number in range(1, 9):
+                history.store_request(number, 0x43, bytes([number]))
             with self.assertRaises(Undecided) as undecided:
-                history.store_response(16)
+                history.store_response(8)
             self.assertEqual(undecided.exception.address, 0x40)
             with self.assertRaises(Undecided) as asked:
                 history.may_return(1, 0x43)
             self.assertIsNone(asked.exception.address)
-            self.assertEqual(len(history.open_stores()), 16)
+            self.assertEqual(len(history.open_stores()), 8)
             history.forget(0x47)
-            for number in range(1, 17):
+            for number in range(1, 9):
                 history.store_response(number)
             self.assertEqual(history.may_return(1, 0x43), set(range(256)))
             history.load_response(1, b"\x77")
