@@ -21,6 +21,9 @@
 //     expect(history.load_response(2, bytes, 8));  // before or after the store: either is lawful
 //     for (const kroft_operation &lost : history.open_loads()) ..
 //
+// kroft::History(kroft::Law::Atomic) judges by the atomic law: an operation takes effect at one moment, in each aligned
+// unit that it touches. An answer may be undecided there, which is no fault: the unit can be forgotten.
+//
 // kroft::Traffic makes the accesses of a bench, from a seed: kroft::Traffic(plan, seed)(number).
 //
 // kroft::Machine is a lockup-free cache over banks of memory, whose loads get what flat memory held when they were

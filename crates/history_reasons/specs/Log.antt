@@ -1,15 +1,17 @@
 -- What a log keeps of a history, to say why a byte is wrong.
-use Rattle.std.specs.Prelude.{ℕ, ◌≡◌, ◌≤◌, ◌<◌, ◌+◌, ◌==◌, Bool, true, false, not, List, ◌++◌, map, drop, length, Option, Some, None, vec_len, vec_capacity}
+use Rattle.std.specs.Prelude.{ℕ, ◌≡◌, ◌≤◌, ◌<◌, ◌+◌, ◌-◌, ◌*◌, ◌⊎◌, ◌==◌, min, if◌then◌else◌, Bool, true, false, not, List, ◌++◌, map, drop, length, Option, Some, None, vec_len, vec_capacity}
 use Rattle.std.specs.List.{filter}
+use Rattle.std.specs.Option.{option_map}
 use Rattle.memory_histories.specs.declared.events.HistoryEvent.{HistoryEvent}
 use Rattle.memory_histories.specs.declared.events.HistoryEvent.TheVariants.{LoadRequest, LoadResponse, StoreRequest, StoreResponse}
 use Rattle.memory_histories.specs.declared.windows.StoreByte.{StoreByte}
 use Rattle.memory_histories.specs.declared.windows.LoadByte.{LoadByte}
 use Rattle.memory_histories.specs.Windows.{Windows, store_bytes, load_bytes, is_of, after_response}
-use Rattle.memory_histories.specs.Regular.{is_inside}
+use Rattle.memory_histories.specs.Regular.{is_inside, overwrites}
 use Rattle.history_reasons.specs.declared.log.StoreLog.{StoreLog}
 use Rattle.history_reasons.specs.declared.Reason.{Reason}
-use Rattle.history_reasons.specs.Reasons.{HasReason}
+use Rattle.history_reasons.specs.declared.Reason.TheVariants.{StoreOverwritten}
+use Rattle.history_reasons.specs.Reasons.{HasReason, stores_byte, last_that, last_reason}
 
 -- so many bytes of stores are kept at least, before the first ones are forgotten
 abbrev pub kept_bytes : ℕ
@@ -28,11 +30,12 @@ pub record IsLogOf (g : StoreLog) (w : Windows) : Type 0 where
   pub whole : g.is_whole ≡ (forgotten == 0)
   pub enough : g.is_whole ≡ false → kept_bytes ≤ length g.stores.items
 
--- an operation that an event requests lies within memory
-abbrev pub IsWithin : HistoryEvent → Type 0
-IsWithin (LoadRequest number address n) = is_inside address n ≡ true
-IsWithin (StoreRequest number address bytes enables) = is_inside address (length bytes.now) ≡ true
-IsWithin event = true ≡ true
+-- whether an operation that an event requests lies within memory
+abbrev pub is_within : HistoryEvent → Bool
+is_within (LoadRequest number address n) = is_inside address n
+is_within (StoreRequest number address bytes enables) = is_inside address (length bytes.now)
+is_within (LoadResponse number bytes) = true
+is_within (StoreResponse number) = true
 
 -- there is room for what one event adds
 abbrev pub HasRoom : StoreLog → Type 0
@@ -57,6 +60,40 @@ pub record IsNoted (g : StoreLog) (event : HistoryEvent) (h : StoreLog) : Type 0
   pub is_whole : h.is_whole ≡ g.is_whole
   pub stores : h.stores.items ≡ noted_stores g.stores.items g.moment event
   pub loads : h.loads.items ≡ noted_loads g.loads.items g.moment event
+
+-- one event more is counted, unless there are as many as can be counted
+pub record IsCounted (g : StoreLog) (h : StoreLog) : Type 0 where
+  pub image : h.image.items ≡ g.image.items
+  pub rest : h.rest ≡ g.rest
+  pub moment : h.moment ≡ min (g.moment + 1) 18446744073709551615
+  pub is_whole : h.is_whole ≡ g.is_whole
+  pub stores : h.stores.items ≡ g.stores.items
+  pub loads : h.loads.items ≡ g.loads.items
+
+-- the first stores may have been forgotten, for there were twice as many bytes as are kept at least
+abbrev pub IsShorter : StoreLog → StoreLog → Type 0
+IsShorter g h =
+    ((h.stores.items ≡ g.stores.items) × (h.is_whole ≡ g.is_whole))
+    ⊎ ((2 * kept_bytes ≤ length g.stores.items) × (h.stores.items ≡ drop (length g.stores.items - kept_bytes) g.stores.items)
+    × (h.is_whole ≡ false))
+
+pub record IsShortened (g : StoreLog) (h : StoreLog) : Type 0 where
+  pub image : h.image.items ≡ g.image.items
+  pub rest : h.rest ≡ g.rest
+  pub moment : h.moment ≡ g.moment
+  pub loads : h.loads.items ≡ g.loads.items
+  pub stores : IsShorter g h
+
+-- what the stores that are kept tell of a byte, if some are forgotten: who stored it last, and who overwrote that
+abbrev pub reason_of : Option StoreByte → (StoreByte → Option StoreByte) → Option Reason
+reason_of None overwriting = None
+reason_of (Some s) overwriting = option_map (λ o. StoreOverwritten s o) (overwriting s)
+
+abbrev pub part_reason : List StoreByte → LoadByte → ℕ → Option Reason
+part_reason stores l b = reason_of (last_that (stores_byte l.address b) stores) (λ s. last_that (overwrites s l.began) stores)
+
+abbrev pub kept_reason : StoreLog → LoadByte → ℕ → Option Reason
+kept_reason g l b = if g.is_whole then last_reason g.image.items g.rest g.stores.items l b else part_reason g.stores.items l b
 
 -- the reason is a true one, over the bytes of all stores so far
 abbrev pub IsTrueOf : Windows → LoadByte → ℕ → Reason → Type 0

@@ -8,7 +8,6 @@ ghost use Rattle.history_reasons.specs.Reasons.{HasReason, stores_byte, covers, 
 mod log;
 
 pub use log::{KEPT_BYTES, StoreLog};
-
 use memory_histories::{LoadByte, Rest, StoreByte, may_return};
 
 /// Why a load may not return a byte.
@@ -41,7 +40,7 @@ pub fn why(
     last_reason(image, rest, stores, load, byte)
 }
 
-fn last_reason(
+pub(crate) fn last_reason(
     image: &[u8],
     rest: Rest,
     stores: &[StoreByte],
@@ -83,7 +82,11 @@ pub(crate) fn last_with(stores: &[StoreByte], address: u64, byte: u8) -> Option<
 }
 
 // The last store that overwrote this one before the moment.
-pub(crate) fn last_overwriting(stores: &[StoreByte], store: &StoreByte, moment: u64) -> Option<StoreByte>
+pub(crate) fn last_overwriting(
+    stores: &[StoreByte],
+    store: &StoreByte,
+    moment: u64,
+) -> Option<StoreByte>
     ensures { result ≡ last_that (overwrites store.now moment) stores.now }
 {
     stores.iter().rev().copied().find(|other| {

@@ -1,12 +1,13 @@
 //! The stores and the open loads of a history as it goes, to say why a byte is wrong.
 
-ghost use Rattle.std.specs.Prelude.{◌≡◌, ◌+◌, ◌≤◌, ◌<◌, ◌^◌, ◌↔◌, ◌++◌, true, None, length, map, not, vec_len, vec_capacity, IfOk, OnOk, IfSome};
+ghost use Rattle.std.specs.Prelude.{◌≡◌, ◌+◌, ◌-◌, ◌≤◌, ◌<◌, ◌^◌, ◌↔◌, ◌++◌, true, None, length, drop, map, not, vec_len, vec_capacity, IfOk, OnOk, IfSome};
 ghost use Rattle.std.specs.List.{filter, find};
 ghost use Rattle.memory_histories.specs.Windows.{Windows, opening, windows_after, store_bytes, load_bytes, is_of, is_at, after_response};
-ghost use Rattle.memory_histories.specs.Regular.{MayReturn};
-ghost use Rattle.history_reasons.specs.Log.{IsLogOf, IsWithin, HasRoom, IsNoted, IsTrueOf, IsWholeOf};
+ghost use Rattle.memory_histories.specs.Regular.{MayReturn, is_inside};
+ghost use Rattle.history_reasons.specs.Reasons.{last_reason};
+ghost use Rattle.history_reasons.specs.Log.{IsLogOf, is_within, HasRoom, IsNoted, IsCounted, IsShortened, part_reason, kept_reason, IsTrueOf, IsWholeOf};
 
-use crate::{Reason, last_overwriting, last_with, why};
+use crate::{Reason, last_overwriting, last_reason, last_with};
 use memory_histories::{HistoryEvent, LoadByte, MAX_LENGTH, Rest, StoreByte};
 use std::alloc::{AllocError, Global};
 
@@ -50,7 +51,7 @@ impl StoreLog {
         ensures same { (w : Windows) → IsLogOf self.old w → IsLogOf self.new w }
         ensures room { OnOk result (HasRoom self.new) }
     {
-        self.forget()?;
+        self.shorten()?;
         self.reserve()
     }
 
@@ -63,40 +64,57 @@ impl StoreLog {
         self.loads.reserve(MAX_LENGTH)
     }
 
-    // Forgets the first stores, if there are twice as many as are kept at least.
-    #[tactic(auto, using(crate::proofs::Logs::forgot))]
-    fn forget(&mut self) -> Result<(), AllocError>
+    fn shorten(&mut self) -> Result<(), AllocError>
         ensures { (w : Windows) → IsLogOf self.old w → IsLogOf self.new w }
     {
-        let count = self.stores.len();
-        if count < 2 * KEPT_BYTES {
+        self.forget()
+    }
+
+    // Forgets the first stores, if there are twice as many as are kept at least.
+    fn forget(&mut self) -> Result<(), AllocError>
+        ensures { IsShortened self.old self.new }
+    {
+        if self.stores.len() < 2 * KEPT_BYTES {
             return Ok(());
         }
         let alloc = *self.stores.allocator();
-        let kept = Vec::from_slice(alloc, &self.stores[count - KEPT_BYTES..])?;
-        self.stores = kept;
+        self.stores = last_bytes(alloc, self.stores.as_slice())?;
         self.is_whole = false;
         Ok(())
     }
 
-    /// Notes an event of the history, which has a number of its own only if fewer than 2^64 - 1 events were
-    /// noted before.
-    #[tactic(auto, using(crate::proofs::Logs::noted))]
+    /// Notes an event of the history. The events have numbers of their own as long as fewer than 2^64 are
+    /// noted. (One whose operation doesn't lie within memory is none of any law, and only counted.)
     pub fn note(&mut self, event: HistoryEvent)
         requires room { HasRoom self.old }
-        requires inside { IsWithin event }
         ensures { (w : Windows)
             → w.moment < 18446744073709551615
+            → is_within event.entry ≡ true
             → IsLogOf self.old w
             → IsLogOf self.new (windows_after w event.entry) }
     {
         self.note_bytes(event);
+        self.count();
+    }
+
+    fn count(&mut self)
+        ensures { IsCounted self.old self.new }
+    {
         self.moment = self.moment.saturating_add(1);
     }
 
     fn note_bytes(&mut self, event: HistoryEvent)
         requires room { HasRoom self.old }
-        requires inside { IsWithin event }
+        ensures { is_within event.entry ≡ true → IsNoted self.old event.entry self.new }
+    {
+        if is_within(event) {
+            self.note_within(event);
+        }
+    }
+
+    fn note_within(&mut self, event: HistoryEvent)
+        requires room { HasRoom self.old }
+        requires inside { is_within event ≡ true }
         ensures { IsNoted self.old event.entry self.new }
     {
         match event {
@@ -127,7 +145,6 @@ impl StoreLog {
 
     /// Whether it has all stores so far. It may have forgotten the first only if they had more than
     /// [`KEPT_BYTES`] bytes together.
-    #[tactic(auto, using(crate::proofs::Logs::whole))]
     pub fn is_whole(&self) -> bool
         ensures { (w : Windows) → IsLogOf self.now w → IsWholeOf self.now w result }
     {
@@ -140,16 +157,18 @@ impl StoreLog {
             → IsLogOf self.now w
             → result ≡ find (is_at number address) w.loads }
     {
-        self.loads
-            .iter()
-            .copied()
-            .find(|load| load.number == number && load.address == address)
+        self.kept_load(number, address)
+    }
+
+    fn kept_load(&self, number: u64, address: u64) -> Option<LoadByte>
+        ensures { result ≡ find (is_at number address) self.now.loads.items }
+    {
+        load_at(self.loads.as_slice(), number, address)
     }
 
     /// Why a load may not return this byte by the regular law, if it is answered now: a true reason, over all
     /// stores so far. If the log [is whole](StoreLog::is_whole), it is `None` exactly if the load may return
     /// the byte; if it isn't, it may be `None` too since a store was forgotten.
-    #[tactic(auto, using(crate::proofs::Logs::whole_reason, crate::proofs::Logs::part_reason))]
     pub fn why(&self, load: &LoadByte, byte: u8) -> Option<Reason>
         ensures reason { (w : Windows)
             → IsLogOf self.now w
@@ -159,19 +178,91 @@ impl StoreLog {
             → IsWholeOf self.now w true
             → (result ≡ None) ↔ MayReturn w.image w.rest w.stores load.now byte }
     {
-        if self.is_whole {
-            return why(
-                self.image.as_slice(),
-                self.rest,
-                self.stores.as_slice(),
-                load,
-                byte,
-            );
-        }
-        let stored = last_with(self.stores.as_slice(), load.address, byte)?;
-        let by = last_overwriting(self.stores.as_slice(), &stored, load.began)?;
-        Some(Reason::StoreOverwritten { stored, by })
+        self.kept_reason(load, byte)
     }
+
+    fn kept_reason(&self, load: &LoadByte, byte: u8) -> Option<Reason>
+        ensures { result ≡ kept_reason self.now load.now byte }
+    {
+        if self.is_whole {
+            let image = self.image.as_slice();
+            last_reason(image, self.rest, self.stores.as_slice(), load, byte)
+        } else {
+            part_reason(self.stores.as_slice(), load, byte)
+        }
+    }
+}
+
+// Why a load may not return a byte, by the last stores alone.
+fn part_reason(stores: &[StoreByte], load: &LoadByte, byte: u8) -> Option<Reason>
+    ensures { result ≡ part_reason stores.now load.now byte }
+{
+    let stored = last_with(stores, load.address, byte)?;
+    let by = last_overwriting(stores, &stored, load.began)?;
+    Some(Reason::StoreOverwritten { stored, by })
+}
+
+// As many of the last bytes as are kept at least.
+fn last_bytes(alloc: Global, stores: &[StoreByte]) -> Result<Vec<StoreByte>, AllocError>
+    requires { 4096 ≤ length stores.now }
+    ensures { IfOk result (λ v. v.items ≡ drop (length stores.now - 4096) stores.now) }
+{
+    Vec::from_slice(alloc, &stores[stores.len() - KEPT_BYTES..])
+}
+
+// Whether an operation that an event requests lies within memory.
+fn is_within(event: HistoryEvent) -> bool
+    ensures { result ≡ is_within event.entry }
+{
+    match event {
+        HistoryEvent::LoadRequest {
+            number: _,
+            address,
+            length,
+        } => is_inside(address, length),
+        HistoryEvent::StoreRequest {
+            number: _,
+            address,
+            bytes,
+            enables: _,
+        } => is_inside(address, bytes.len()),
+        HistoryEvent::LoadResponse {
+            number: _,
+            bytes: _,
+        } => true,
+        HistoryEvent::StoreResponse { number: _ } => true,
+    }
+}
+
+// Whether an operation of so many bytes lies within memory.
+fn is_inside(address: u64, length: usize) -> bool
+    ensures { result ≡ is_inside address length }
+{
+    1 <= length && (length <= MAX_LENGTH && u128::from(address) + length as u128 <= 1 << 64)
+}
+
+// Whether a byte is of the load that is open under this number.
+fn is_of(load: &LoadByte, number: u64) -> bool
+    ensures { result ≡ is_of number load.now }
+{
+    load.number == number
+}
+
+// Whether it is the one at this address of that load.
+fn is_at(load: &LoadByte, number: u64, address: u64) -> bool
+    ensures { result ≡ is_at number address load.now }
+{
+    is_of(load, number) && load.address == address
+}
+
+// The byte at this address of the load that is open under this number.
+fn load_at(loads: &[LoadByte], number: u64, address: u64) -> Option<LoadByte>
+    ensures { result ≡ find (is_at number address) loads.now }
+{
+    loads
+        .iter()
+        .copied()
+        .find(|load| is_at(load, number, address))
 }
 
 // Adds the bytes of a load that is requested at this moment.
@@ -193,7 +284,7 @@ fn add_load(loads: &mut Vec<LoadByte>, number: u64, address: u64, length: usize,
 fn end_load(loads: &mut Vec<LoadByte>, number: u64)
     ensures { loads.new.items ≡ filter (λ l. not (is_of number l)) loads.old.items }
 {
-    loads.retain(|load| load.number != number);
+    loads.retain(|load| !is_of(load, number));
 }
 
 // Adds the enabled bytes of a store that is requested at this moment.
