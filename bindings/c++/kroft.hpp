@@ -21,6 +21,9 @@
 //     expect(history.load_response(2, bytes, 8));  // before or after the store: either is lawful
 //     for (const kroft_operation &lost : history.open_loads()) ..
 //
+// kroft::History(kroft::Law::Atomic) judges by the atomic law: an operation takes effect at one moment, in each aligned
+// unit that it touches. An answer may be undecided there, which is no fault: the unit can be forgotten.
+//
 // kroft::Traffic makes the accesses of a bench, from a seed: kroft::Traffic(plan, seed)(number).
 //
 // kroft::Machine is a lockup-free cache over banks of memory, whose loads get what flat memory held when they were
@@ -437,7 +440,7 @@ private:
 };
 
 /// The laws by which a history can be judged.
-enum class Law : uint32_t { Regular = KROFT_REGULAR_LAW, Flat = KROFT_FLAT_LAW };
+enum class Law : uint32_t { Regular = KROFT_REGULAR_LAW, Flat = KROFT_FLAT_LAW, Atomic = KROFT_ATOMIC_LAW };
 
 /// What stands beyond the image before the first store.
 enum class Beyond : uint32_t { Zeros = KROFT_ZEROS, Unknown = KROFT_UNKNOWN };
@@ -448,6 +451,9 @@ public:
     explicit HistoryVerdict(uint32_t status) : status(status) {}
 
     explicit operator bool() const { return status == KROFT_LAWFUL; }
+
+    /// Whether there is no verdict, which the atomic law alone says: the event is none that is wrong, and none that was taken.
+    bool is_undecided() const { return status == KROFT_UNDECIDED; }
 
     /// The number of the fault, as in kroft.h; KROFT_LAWFUL if there is none.
     uint32_t fault() const { return status; }
@@ -462,6 +468,7 @@ public:
         case KROFT_WRONG_LENGTH: return "the load was requested with another length";
         case KROFT_WRONG_BYTE: return "the load may not return one of the bytes";
         case KROFT_TOO_LONG: return "as many events as can be counted";
+        case KROFT_UNDECIDED: return "undecided: too many ways in one unit";
         default: return "not the library of this header";
         }
     }
@@ -474,10 +481,13 @@ private:
 /// std::bad_alloc if there is too little memory, and then everything is as it was.
 class History {
 public:
-    explicit History(Law law = Law::Regular, const std::vector<uint8_t> &image = {}, Beyond beyond = Beyond::Zeros) {
+    /// By the atomic law memory has aligned units of 1, 2, 4 or 8 bytes; the other laws have units of 1. 0: the largest
+    /// that the law has.
+    explicit History(Law law = Law::Regular, const std::vector<uint8_t> &image = {}, Beyond beyond = Beyond::Zeros, unsigned unit = 0) {
         const uint8_t none = 0;
         const uint8_t *bytes = image.empty() ? &none : image.data();
-        done(kroft_history_open(&handle, static_cast<uint32_t>(law), 1, static_cast<uint32_t>(beyond), bytes, image.size()));
+        if (unit == 0) unit = law == Law::Atomic ? 8 : 1;
+        done(kroft_history_open(&handle, static_cast<uint32_t>(law), unit, static_cast<uint32_t>(beyond), bytes, image.size()));
     }
     ~History() { kroft_history_free(&handle); }
     History(History &&other) noexcept : handle(std::exchange(other.handle, kroft_history KROFT_NO_HISTORY)) {}
@@ -504,7 +514,7 @@ public:
     HistoryVerdict store_response(uint64_t number) { return told(kroft_store_response(&handle, number)); }
 
     /// What the load that is open under a number may return for the byte at an address, if it is answered now; none if
-    /// no such load asks for that byte.
+    /// no such load asks for that byte, or if the atomic law has no verdict. By that law it is said of this byte alone.
     std::optional<std::bitset<256>> may_return(uint64_t number, uint64_t address) {
         uint8_t row[KROFT_SET_BYTES];
         if (told(kroft_may_return(&handle, number, address, row, sizeof row)).fault() != KROFT_FOUND) return std::nullopt;
@@ -521,6 +531,18 @@ public:
         return place;
     }
 
+    /// Where the unit begins for whose sake an answer was undecided; none if no answer was since an event was taken last,
+    /// or a unit forgotten.
+    std::optional<uint64_t> undecided() {
+        uint64_t address = 0;
+        if (told(kroft_undecided(&handle, &address)).fault() != KROFT_FOUND) return std::nullopt;
+        return address;
+    }
+
+    /// Forgets the unit in which the byte at an address lies, of a history by the atomic law; std::invalid_argument: the law
+    /// has no units. From there on its bytes are unknown, and the other units are judged on.
+    void forget(uint64_t address) { done(kroft_forget(&handle, address)); }
+
     /// The operations that are open, in the order of their requests.
     std::vector<kroft_operation> open_loads() { return operations(kroft_unanswered_load); }
     std::vector<kroft_operation> open_stores() { return operations(kroft_unanswered_store); }
@@ -531,7 +553,7 @@ private:
     static void done(uint32_t status) {
         if (status == KROFT_OUT_OF_MEMORY) throw std::bad_alloc();
         if (status == KROFT_CLOSED) throw std::logic_error("a history that was moved from");
-        if (status == KROFT_NO_LAW) throw std::invalid_argument("no such law");
+        if (status == KROFT_NO_LAW) throw std::invalid_argument("no such law or unit");
     }
 
     static HistoryVerdict told(uint32_t status) {

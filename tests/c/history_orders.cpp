@@ -2,21 +2,28 @@
    place of each wrong byte, and each set of what a load may return.
 
    history_orders COUNT SEED [TURN]: with a TURN the brute force itself is made wrong (1: a load may see what was overwritten;
-   2: enables aren't looked at; 3: an open store is never seen; 4: a load never sees a store that was requested after it),
-   and then some history has to differ: the test that the comparison can fail.
+   2: enables aren't looked at; 3: an open store is never seen; 4: a load never sees a store that was requested after it;
+   5 and 6, of the atomic law alone: each byte is a unit; a load gets the word at its request), and then some history has to
+   differ: the test that the comparison can fail.
 
    The regular law: the bytes of an operation are looked at one by one. Each store and each load has a moment of its own
    between its request and its response; a store that isn't answered may have had its moment or not. A load's byte may be what
    the last store before the load's moment left. So try all orders of the stores to that byte and the one load in which
-   nothing stands before what was answered before its request. The flat law: each moment is the request. */
+   nothing stands before what was answered before its request. The flat law: each moment is the request. The atomic law: of each
+   unit all states are kept that it may be in, with the open stores that had their moment and what the open loads got at theirs;
+   between any two events any open operation may have its moment. */
 #include "kroft.h"
 
+#include <algorithm>
 #include <array>
 #include <bitset>
 #include <cstdio>
 #include <cstdlib>
 #include <cstring>
+#include <map>
 #include <random>
+#include <set>
+#include <tuple>
 #include <vector>
 
 namespace {
@@ -103,8 +110,112 @@ Bytes flat_set(const Operation &load, int address) {
     return seen;
 }
 
-Bytes set_of(uint32_t law, const History &history, const Operation &load, int address) {
-    return law == KROFT_FLAT_LAW ? flat_set(load, address) : regular_set(history, load, address);
+/* What one unit may be: the word that stands there, the open stores that had their moment, and what the open loads got. */
+struct State {
+    std::array<int, 8> word{};
+    std::set<int> done;
+    std::map<int, std::array<int, 8>> got;
+    bool operator<(const State &other) const { return std::tie(word, done, got) < std::tie(other.word, other.done, other.got); }
+};
+
+/* A unit under the atomic law, over the open operations that touch it. */
+class Unit {
+public:
+    Unit(const History &history, int first, int size) : first(first), size(size) {
+        State state;
+        for (int k = 0; k < size; k++) state.word[k] = history.initial(first + k);
+        states.insert(state);
+    }
+
+    bool touches(const Operation &it) const {
+        for (int a = first; a < first + size; a++)
+            if (it.is_store ? writes(it, a) : a >= it.address && a < it.address + it.length) return true;
+        return false;
+    }
+
+    void request(const Operation &it) {
+        if (!touches(it)) return;
+        open.push_back(it);
+        if (turned != 6 || it.is_store) return;
+        std::set<State> bound;
+        for (State state : all_moments()) {
+            state.got[it.number] = state.word;
+            bound.insert(state);
+        }
+        states = bound;
+    }
+
+    /* The states in which the operation may be answered, a load with these bytes. */
+    std::set<State> answered(const Operation &it, const uint8_t *bytes) const {
+        std::set<State> left;
+        for (State state : all_moments()) {
+            if (touches(it) && !(it.is_store ? state.done.erase(it.number) != 0 : has_got(state, it, bytes))) continue;
+            if (!it.is_store) state.got.erase(it.number);
+            left.insert(state);
+        }
+        return left;
+    }
+
+    void answer(const Operation &it, const uint8_t *bytes) {
+        states = answered(it, bytes);
+        for (size_t k = 0; k < open.size(); k++)
+            if (open[k].is_store == it.is_store && open[k].number == it.number) open.erase(open.begin() + k--);
+    }
+
+    Bytes may_return(const Operation &load, int address) const {
+        Bytes seen;
+        for (const State &state : all_moments()) {
+            auto found = state.got.find(load.number);
+            if (found != state.got.end()) see(found->second[address - first], seen);
+        }
+        return seen;
+    }
+
+    const int first, size;
+
+private:
+    std::set<State> states;
+    std::vector<Operation> open;
+
+    bool has_got(const State &state, const Operation &load, const uint8_t *bytes) const {
+        auto found = state.got.find(load.number);
+        if (found == state.got.end()) return false;
+        for (int a = std::max(first, load.address); a < std::min(first + size, load.address + load.length); a++)
+            if (found->second[a - first] >= 0 && found->second[a - first] != bytes[a - load.address]) return false;
+        return true;
+    }
+
+    /* Those that are reached if open operations have their moments, in any order. */
+    std::set<State> all_moments() const {
+        std::set<State> reached = states;
+        std::vector<State> left(states.begin(), states.end());
+        while (!left.empty()) {
+            State state = left.back();
+            left.pop_back();
+            for (const Operation &it : open) {
+                State next = state;
+                if (it.is_store ? state.done.count(it.number) != 0 : state.got.count(it.number) != 0) continue;
+                if (it.is_store) {
+                    next.done.insert(it.number);
+                    for (int a = first; a < first + size; a++)
+                        if (writes(it, a)) next.word[a - first] = it.bytes[a - it.address];
+                } else {
+                    next.got[it.number] = state.word;
+                }
+                if (reached.insert(next).second) left.push_back(next);
+            }
+        }
+        return reached;
+    }
+};
+
+Bytes set_of(uint32_t law, const History &history, const std::vector<Unit> &units, const Operation &load, int address) {
+    if (law == KROFT_FLAT_LAW) return flat_set(load, address);
+    if (law == KROFT_REGULAR_LAW) return regular_set(history, load, address);
+    Bytes none;
+    for (const Unit &unit : units)
+        if (address >= unit.first && address < unit.first + unit.size) return unit.may_return(load, address);
+    return none;
 }
 
 void fail(const History &history, uint32_t law, const char *what) {
@@ -123,7 +234,10 @@ public:
         for (int k = below(4); k > 0; k--) history.image.push_back(static_cast<uint8_t>(below(values)));
         for (int a = 0; a < unit_at + 3; a++) history.flat.push_back(history.initial(a));
         length = 1 + below(3);
-        if (kroft_history_open(&handle, law, 1, history.is_unknown ? KROFT_UNKNOWN : KROFT_ZEROS, history.image.data(),
+        uint32_t size = law == KROFT_ATOMIC_LAW ? 1u << below(4) : 1;
+        int own = turned == 5 ? 1 : static_cast<int>(size);
+        for (int first = 0; law == KROFT_ATOMIC_LAW && first < unit_at + 3; first += own) units.emplace_back(history, first, own);
+        if (kroft_history_open(&handle, law, size, history.is_unknown ? KROFT_UNKNOWN : KROFT_ZEROS, history.image.data(),
                                history.image.size()) != KROFT_DONE)
             std::abort();
     }
@@ -153,6 +267,7 @@ private:
     uint32_t law;
     std::mt19937_64 &random;
     History history;
+    std::vector<Unit> units; /* of the atomic law */
     int length;
     bool is_well = true;
     kroft_history handle = KROFT_NO_HISTORY;
@@ -186,19 +301,27 @@ private:
         }
         history.operations.push_back(it);
         history.events++;
+        for (Unit &unit : units) unit.request(it);
+    }
+
+    /* The place of the first byte of an answer in the lowest unit that it can't come from; none: -1. */
+    int atomic_wrong(const Operation &load, const uint8_t *bytes) const {
+        for (const Unit &unit : units)
+            if (unit.answered(load, bytes).empty()) return std::max(0, unit.first - load.address);
+        return -1;
     }
 
     /* A response, right or wrong. */
     void answer(size_t which) {
         Operation &it = history.operations[which];
         uint32_t wanted = KROFT_LAWFUL, said;
+        uint8_t bytes[3] = {0, 0, 0};
         if (it.is_store) {
             said = kroft_store_response(&handle, it.number);
         } else {
-            uint8_t bytes[3];
             uint64_t wrong = 0, place = 9; /* the first that it may not return */
             for (int k = 0; k < it.length; k++) {
-                Bytes may = set_of(law, history, it, it.address + k);
+                Bytes may = set_of(law, history, units, it, it.address + k);
                 int byte = below(values);
                 if (below(4) != 0) /* mostly one that it may return */
                     while (!may[byte]) byte = (byte + 1) % 256;
@@ -208,6 +331,11 @@ private:
                     wrong = k;
                 }
             }
+            if (law == KROFT_ATOMIC_LAW) {
+                int place_of = atomic_wrong(it, bytes);
+                wanted = place_of < 0 ? KROFT_LAWFUL : KROFT_WRONG_BYTE;
+                wrong = place_of < 0 ? 0 : place_of;
+            }
             expect(kroft_wrong_place(&handle, it.number, bytes, it.length, &place), wanted, "a response that isn't told");
             expect(static_cast<uint32_t>(place), static_cast<uint32_t>(wanted == KROFT_LAWFUL ? 9 : wrong), "the place of a wrong byte");
             said = kroft_load_response(&handle, it.number, bytes, it.length);
@@ -215,6 +343,7 @@ private:
         }
         expect(said, wanted, "a response");
         if (said != KROFT_LAWFUL) return;
+        for (Unit &unit : units) unit.answer(it, bytes);
         it.answered = history.events;
         history.events++;
     }
@@ -225,7 +354,7 @@ private:
             for (int address = it.address; address < it.address + it.length && is_well; address++) {
                 uint8_t row[KROFT_SET_BYTES];
                 expect(kroft_may_return(&handle, it.number, address, row, sizeof row), KROFT_FOUND, "a set is asked");
-                Bytes may = set_of(law, history, it, address);
+                Bytes may = set_of(law, history, units, it, address);
                 for (int byte = 0; byte < 256 && is_well; byte++)
                     expect(row[byte / 8] >> byte % 8 & 1, may[byte], "a set");
             }
@@ -243,8 +372,9 @@ int main(int argc, char **argv) {
     std::mt19937_64 random(std::strtoull(argv[2], nullptr, 10));
     turned = argc > 3 ? std::atoi(argv[3]) : 0;
     for (long k = 0; k < count; k++)
-        for (uint32_t law : {KROFT_REGULAR_LAW, KROFT_FLAT_LAW}) differ += !Run(law, random).goes_well();
-    std::printf("%ld histories by each law, %ld answers and %ld wrong ones: %ld differ\n", count, Run::answers, Run::refusals, differ);
+        for (uint32_t law : {KROFT_REGULAR_LAW, KROFT_FLAT_LAW, KROFT_ATOMIC_LAW})
+            if (law != KROFT_ATOMIC_LAW || k % 10 == 0) differ += !Run(law, random).goes_well(); /* its brute force is slow */
+    std::printf("%ld histories by each law (a tenth of them by the atomic one), %ld answers and %ld wrong ones: %ld differ\n", count, Run::answers, Run::refusals, differ);
     if (differ != 0) return 1;
     return Run::answers < count || Run::refusals < count / 10 ? 3 : 0;
 }

@@ -1,4 +1,4 @@
-/* Each allocation of kroft_open, of kroft_drive and of a history, refused in turn: it says so, keeps no memory, and what
+/* Each allocation of kroft_open, of kroft_drive and of a history by each law, refused in turn: it says so, keeps no memory, and what
    is behind the handle is as it was. Linked with the C library's calls wrapped (-Wl,--wrap=malloc and so on). */
 #include "check.h"
 #include "kroft.h"
@@ -33,7 +33,7 @@ void __wrap_free(void *at) {
 /* A call of a history of 40 loads and stores that are open at once, and what it says. */
 static uint32_t call(kroft_history *h, uint32_t law, unsigned k) {
     static const uint8_t bytes[4] = {1, 2, 3, 4};
-    if (k == 0) return kroft_history_open(h, law, 1, KROFT_ZEROS, bytes, 4);
+    if (k == 0) return kroft_history_open(h, law, law == KROFT_ATOMIC_LAW ? 8 : 1, KROFT_ZEROS, bytes, 4);
     if (k <= 40) return kroft_store_request(h, k, 8 * k, bytes, 4, 15);
     if (k <= 80) return kroft_load_request(h, k, 8 * (k - 40), 4);
     if (k <= 120) return kroft_load_response(h, k - 40, bytes, 4);
@@ -68,10 +68,44 @@ static int is_refused(uint32_t law, long place) {
 static void histories(void) {
     uint32_t law;
     long place;
-    for (law = KROFT_REGULAR_LAW; law <= KROFT_FLAT_LAW; law++) {
+    for (law = KROFT_REGULAR_LAW; law <= KROFT_ATOMIC_LAW; law++) {
         for (place = 0; is_refused(law, place); place++) {}
         CHECK(place > 8);
     }
+}
+
+/* A question to a history by the atomic law, or a unit of it that is forgotten, and what it says. */
+static uint32_t ask(kroft_history *h, int which, uint8_t *row, uint64_t *place) {
+    static const uint8_t bytes[2] = {1, 3};
+    if (which == 0) return kroft_may_return(h, 1, 8, row, KROFT_SET_BYTES);
+    if (which == 1) return kroft_wrong_place(h, 1, bytes, 2, place);
+    return kroft_forget(h, 64);
+}
+
+/* What the judge of the atomic law allocates to answer, refused in turn: it says so, and the history is as it was. */
+static void questions(void) {
+    static const uint32_t says[3] = {KROFT_FOUND, KROFT_WRONG_BYTE, KROFT_DONE};
+    static const uint8_t bytes[2] = {1, 2};
+    kroft_history h = KROFT_NO_HISTORY;
+    int which;
+    granted = 1000000;
+    CHECK(kroft_history_open(&h, KROFT_ATOMIC_LAW, 8, KROFT_ZEROS, bytes, 0) == KROFT_DONE);
+    CHECK(kroft_store_request(&h, 1, 8, bytes, 2, 3) == KROFT_LAWFUL && kroft_load_request(&h, 1, 8, 2) == KROFT_LAWFUL);
+    for (which = 0; which < 3; which++) {
+        long refused, before = held;
+        uint32_t status = KROFT_OUT_OF_MEMORY;
+        for (refused = 0; refused < 1000 && status == KROFT_OUT_OF_MEMORY; refused++) {
+            uint8_t row[KROFT_SET_BYTES] = {0x33};
+            uint64_t place = 77;
+            granted = refused;
+            status = ask(&h, which, row, &place);
+            if (status == KROFT_OUT_OF_MEMORY) CHECK(row[0] == 0x33 && place == 77 && held == before);
+        }
+        CHECK(status == says[which]);
+        if (which < 2) CHECK(refused > 1 && held == before);
+    }
+    granted = 1000000;
+    CHECK(kroft_load_response(&h, 1, bytes, 2) == KROFT_LAWFUL && kroft_history_free(&h) == KROFT_DONE && held == 0);
 }
 
 int main(void) {
@@ -107,5 +141,6 @@ int main(void) {
     CHECK(kroft_settled(&handle) == KROFT_FOUND);
     CHECK(kroft_free(&handle) == KROFT_DONE && held == 0);
     histories();
+    questions();
     return checks_end("refused");
 }

@@ -1,4 +1,5 @@
-/* kroft::History: a table of what two laws say, and a memory with hidden moments that is judged over many accesses. */
+/* kroft::History: what the laws say of small histories, and memories with hidden moments that are judged over many
+   accesses. */
 #include "../kroft.hpp"
 
 #include <cstdio>
@@ -41,6 +42,93 @@ void a_load_beside_a_store() {
     }
 }
 
+/* New then old, and a unit that is torn: the atomic law refuses them. */
+void new_then_old() {
+    const uint8_t old[1] = {0}, later[1] = {0x5a};
+    for (kroft::Law law : {kroft::Law::Regular, kroft::Law::Atomic}) {
+        kroft::History history(law);
+        bool is_atomic = law == kroft::Law::Atomic;
+        check(history.store_request(1, 0x13, later, 1) && history.load_request(1, 0x13, 1), "requests");
+        check(history.load_response(1, later, 1) && history.load_request(2, 0x13, 1), "new");
+        check(history.load_response(2, old, 1).fault() == (is_atomic ? KROFT_WRONG_BYTE : KROFT_LAWFUL), "then old");
+        check(history.open_loads().size() == (is_atomic ? 1u : 0u), "a load that is still open");
+    }
+    const uint8_t ones[2] = {0x11, 0x11}, twos[2] = {0x22, 0x22}, torn[2] = {0x11, 0x22};
+    for (unsigned unit : {1u, 2u, 4u, 8u}) {
+        kroft::History history(kroft::Law::Atomic, {}, kroft::Beyond::Zeros, unit);
+        check(history.store_request(1, 0x20, ones, 2) && history.store_request(2, 0x20, twos, 2), "two stores");
+        check(history.store_response(1) && history.store_response(2) && history.load_request(1, 0x20, 2), "a load behind them");
+        check(bool(history.load_response(1, torn, 2)) == (unit == 1), "a torn unit");
+    }
+}
+
+/* A unit without a verdict is told as such, and forgotten; the rest is judged on. */
+void undecided() {
+    kroft::History history(kroft::Law::Atomic);
+    check(bool(history.load_request(7, 0x43, 1)), "a load that stays open");
+    for (unsigned k = 0; k < 2000; k++) {
+        uint8_t byte = static_cast<uint8_t>(k % 100 + 100);
+        check(history.store_request(1, 0x43, &byte, 1) && history.store_response(1), "a store behind another");
+    }
+    for (uint8_t number = 1; number <= 8; number++) check(bool(history.store_request(number, 0x43, &number, 1)), "a store");
+    check(!history.undecided(), "nothing undecided yet");
+    kroft::HistoryVerdict said = history.store_response(8);
+    check(!said && said.is_undecided() && history.undecided() == 0x40u, "undecided");
+    history.forget(*history.undecided());
+    check(bool(history.store_response(8)) && !history.undecided(), "forgotten");
+    const uint8_t wrong[1] = {1};
+    check(history.load_request(1, 0x48, 1) && !history.load_response(1, wrong, 1), "another unit");
+    for (bool forgets : {false, true}) {
+        bool threw = false;
+        try {
+            if (forgets) kroft::History().forget(0);
+            else kroft::History(kroft::Law::Regular, {}, kroft::Beyond::Zeros, 8);
+        } catch (const std::invalid_argument &) {
+            threw = true;
+        }
+        check(threw, "the regular law has no units");
+    }
+}
+
+/* A byte that two ports have a copy of. A load reads one copy at a moment of its own; a store writes both at one moment, or
+   with a bug each at its own. How many accesses go well until one is blamed. */
+long copies_until_blame(long most, kroft::Law law, bool apart, unsigned seed) {
+    struct Waiting {
+        bool is_store;
+        unsigned port, left; /* how many copies it has still to come to */
+        uint8_t byte;
+    };
+    std::mt19937 random(seed);
+    std::map<uint64_t, Waiting> waiting;
+    uint8_t copies[2] = {0, 0};
+    kroft::History history(law);
+    for (long number = 0; number < most; number++) {
+        bool is_store = random() % 2 == 0;
+        Waiting it{is_store, static_cast<unsigned>(random() % 2), is_store && apart ? 2u : 1u, static_cast<uint8_t>(random())};
+        if (waiting.size() < 4) {
+            if (it.is_store) history.store_request(number, 0x1000, &it.byte, 1);
+            else history.load_request(number, 0x1000, 1);
+            waiting.emplace(number, it);
+        }
+        for (auto at = waiting.begin(); at != waiting.end();) {
+            Waiting &moved = at->second;
+            if (moved.left > 0 && random() % 2 == 0) {
+                moved.left--;
+                if (!moved.is_store) moved.byte = copies[moved.port];
+                else if (apart) copies[moved.left] = moved.byte;
+                else copies[0] = copies[1] = moved.byte;
+            }
+            if (moved.left > 0 || random() % 2 == 0) {
+                ++at;
+                continue;
+            }
+            if (moved.is_store ? !history.store_response(at->first) : !history.load_response(at->first, &moved.byte, 1)) return number;
+            at = waiting.erase(at);
+        }
+    }
+    return most;
+}
+
 /* A memory whose accesses take effect at moments of their own; with a bug it loses one store in eight. How many accesses
    go well until one is blamed: all, of one without a bug. */
 long accesses_until_blame(long most, bool loses, unsigned seed) {
@@ -81,6 +169,14 @@ long accesses_until_blame(long most, bool loses, unsigned seed) {
 
 int main() {
     a_load_beside_a_store();
+    new_then_old();
+    undecided();
+    for (unsigned seed = 0; seed < 5; seed++) {
+        for (kroft::Law law : {kroft::Law::Regular, kroft::Law::Atomic})
+            check(copies_until_blame(5000, law, false, seed) == 5000, "copies that change at once are not blamed");
+        check(copies_until_blame(5000, kroft::Law::Regular, true, seed) == 5000, "the regular law lets new then old pass");
+        check(copies_until_blame(5000, kroft::Law::Atomic, true, seed) < 1000, "the atomic law blames it soon");
+    }
     for (unsigned seed = 0; seed < 5; seed++) {
         check(accesses_until_blame(20000, false, seed) == 20000, "a right memory is not blamed");
         check(accesses_until_blame(20000, true, seed) < 2000, "a wrong memory is blamed soon");

@@ -37,7 +37,7 @@ from .events import (
     Take,
     Value,
 )
-from .history import History, HistoryFault, Law, NotLawful, Operation
+from .history import History, HistoryFault, Law, NotLawful, Operation, Undecided
 from .judge import FlatJudge, StepJudge
 from .machine import (
     SHAPES,
@@ -108,6 +108,7 @@ __all__ = [
     "Traffic",
     "TrafficAccess",
     "Unanswered",
+    "Undecided",
     "Value",
     "Write",
 ]

@@ -8,7 +8,7 @@ from typing import FrozenSet, List, NamedTuple, Optional, Type, Union
 from .errors import Access, Closed, KroftError, Unanswered
 from .library import HandleRow, OperationRow, library
 
-_LAWFUL, _FOUND, _CLOSED, _OUT_OF_MEMORY = 0, 1, 3, 101
+_LAWFUL, _FOUND, _CLOSED, _WRONG_BYTE, _OUT_OF_MEMORY, _NO_LAW, _UNDECIDED = 0, 1, 3, 16, 101, 103, 105
 _SET_BYTES = 32
 
 Buffer = Union[bytes, bytearray, memoryview]
@@ -19,6 +19,7 @@ class Law(enum.IntEnum):
 
     REGULAR = 0  #: at some moment between its request and its response, each byte for itself
     FLAT = 1  #: at its request
+    ATOMIC = 2  #: at one moment between them, in each aligned unit of memory that it touches
 
 
 class HistoryFault(enum.IntEnum):
@@ -39,13 +40,26 @@ class NotLawful(KroftError):
     def __init__(self, cause: HistoryFault, event: str, place: Optional[int] = None, may: Optional[FrozenSet[int]] = None) -> None:
         text = f"{event}: {cause.name.lower()}"
         if place is not None and may is not None:
+            # (by the atomic law each byte of a unit may be right, and no moment explains them together)
             wanted = " or ".join(f"{byte:02x}" for byte in sorted(may)[:4]) + (" or others" if len(may) > 4 else "")
             text += f" {place}: may be {wanted}"
         super().__init__(text)
         self.cause = cause
         self.name = cause.name
-        self.place = place  #: WRONG_BYTE: the place of the first wrong byte in the response
-        self.may = may  #: WRONG_BYTE: what the load may return there
+        self.place = place  #: WRONG_BYTE: the place of the first wrong byte in the response; by the atomic law, of a wrong unit's first
+        self.may = may  #: WRONG_BYTE: what the load may return there; None if the atomic law can't tell
+
+
+class Undecided(KroftError):
+    """There is no verdict: the open operations may have taken effect in too many ways in one unit. By the atomic law alone.
+
+    The history is as it was before. Once the unit is forgotten, the answer can be told again.
+    """
+
+    def __init__(self, event: str, address: Optional[int] = None) -> None:
+        where = "" if address is None else f" in the unit at {address:#x}"
+        super().__init__(f"{event}: undecided, for too many ways{where}")
+        self.address = address  #: where the unit begins; None of a question that isn't an answer
 
 
 class Operation(NamedTuple):
@@ -59,6 +73,7 @@ class Operation(NamedTuple):
 class History:
     """A history by a law over the image of a memory, from address 0 on. Beyond it there are zeros, or nothing is known.
 
+    By the atomic law memory has aligned units of 1, 2, 4 or 8 bytes: 8, unless `unit` says otherwise. It is for that law alone.
     Events are told in the order in which they happened. It is a context manager: left without an exception, it raises
     `Unanswered` if an operation is open. Numbers are free again once their operation is answered.
 
@@ -71,12 +86,16 @@ class History:
     [0, 90]
     """
 
-    def __init__(self, law: Law = Law.REGULAR, image: Buffer = b"", *, unknown: bool = False) -> None:
+    def __init__(self, law: Law = Law.REGULAR, image: Buffer = b"", *, unit: Optional[int] = None, unknown: bool = False) -> None:
         self._handle = HandleRow()
-        self._library = library()
         self.law = Law(law)
+        self.unit = unit if unit is not None else 8 if self.law == Law.ATOMIC else 1
+        if self.unit not in ((1, 2, 4, 8) if self.law == Law.ATOMIC else (1,)):
+            raise ValueError(f"no unit of the {self.law.name.lower()} law: {self.unit}")
+        self._library = library()
         data = bytes(image)
-        status = self._library.kroft_history_open(c.byref(self._handle), self.law, 1, int(unknown), c.c_char_p(data), len(data))
+        opened = (self.law, self.unit, int(unknown), c.c_char_p(data), len(data))
+        status = self._library.kroft_history_open(c.byref(self._handle), *opened)
         if status == _OUT_OF_MEMORY:
             raise MemoryError("no history was opened")
         assert status == _LAWFUL, status
@@ -109,13 +128,26 @@ class History:
 
     def may_return(self, number: int, address: int) -> Optional[FrozenSet[int]]:
         """What the load that is open under a number may return for the byte at an address, if it is answered now; None if no
-        such load asks for that byte."""
+        such load asks for that byte. By the atomic law it is said of this byte alone, and may be `Undecided`."""
         row = c.create_string_buffer(_SET_BYTES)
         status = self._call("kroft_may_return", _word(number), _word(address), row, _SET_BYTES)
+        if status == _OUT_OF_MEMORY:
+            raise MemoryError(f"load {number} at {address:#x}")
+        if status == _UNDECIDED:
+            raise Undecided(f"load {number} at {address:#x}")
         if status != _FOUND:
             return None
         bits = int.from_bytes(row.raw, "little")
         return frozenset(byte for byte in range(256) if bits >> byte & 1)
+
+    def forget(self, address: int) -> None:
+        """Forgets the unit in which the byte at an address lies, of a history by the atomic law. From there on its bytes are
+        unknown: whatever a load returns there is allowed. The other units are judged on."""
+        status = self._call("kroft_forget", _word(address))
+        if status == _OUT_OF_MEMORY:
+            raise MemoryError(f"the unit with {address:#x} was not forgotten")
+        if status == _NO_LAW:
+            raise ValueError(f"the {self.law.name.lower()} law has no units")
 
     def open_loads(self) -> List[Operation]:
         """The loads that are open, in the order of their requests."""
@@ -153,14 +185,23 @@ class History:
         status = self._call(name, *(_word(it) if isinstance(it, int) else it for it in arguments))
         if status == _OUT_OF_MEMORY:
             raise MemoryError(event)
+        if status == _UNDECIDED:
+            first = c.c_uint64()
+            self._call("kroft_undecided", c.byref(first))
+            raise Undecided(event, first.value)
         if status != _LAWFUL:
             raise NotLawful(HistoryFault(status), event)
 
     def _with_place(self, number: int, got: bytes, event: str) -> NotLawful:
         place = c.c_uint64()
-        self._call("kroft_wrong_place", _word(number), c.c_char_p(got), len(got), c.byref(place))
+        if self._call("kroft_wrong_place", _word(number), c.c_char_p(got), len(got), c.byref(place)) != _WRONG_BYTE:
+            return NotLawful(HistoryFault.WRONG_BYTE, event)  # there was too little memory to say where
         load = next(it for it in self.open_loads() if it.number == number)
-        return NotLawful(HistoryFault.WRONG_BYTE, event, place.value, self.may_return(number, load.address + place.value))
+        try:
+            may = self.may_return(number, load.address + place.value)
+        except Undecided:
+            may = None
+        return NotLawful(HistoryFault.WRONG_BYTE, event, place.value, may)
 
     def _operations(self, name: str) -> List[Operation]:
         found: List[Operation] = []

@@ -162,6 +162,8 @@ def declare(library: c.CDLL) -> c.CDLL:
         "kroft_store_response": [handle, u64],
         "kroft_may_return": [handle, u64, u64, out, c.c_size_t],
         "kroft_wrong_place": [handle, u64, out, c.c_size_t, out],
+        "kroft_forget": [handle, u64],
+        "kroft_undecided": [handle, out],
         "kroft_unanswered": [handle, out, out],
         "kroft_unanswered_load": [handle, u64, out],
         "kroft_unanswered_store": [handle, u64, out],

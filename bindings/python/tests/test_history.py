@@ -4,7 +4,7 @@ import random
 import unittest
 from typing import Callable, Dict, List, Optional, Tuple
 
-from kroft import Closed, History, HistoryFault, Law, NotLawful, Operation, Unanswered
+from kroft import Closed, History, HistoryFault, Law, NotLawful, Operation, Unanswered, Undecided
 
 
 class Histories(unittest.TestCase):
@@ -63,6 +63,83 @@ class Histories(unittest.TestCase):
         with self.assertRaises(Closed):
             history.load_request(1, 0, 1)
 
+    def test_new_then_old(self) -> None:
+        """The atomic law refuses what the regular law lets pass."""
+        for law, unit in [(Law.REGULAR, None), (Law.ATOMIC, None), (Law.ATOMIC, 1), (Law.ATOMIC, 4)]:
+            with self.subTest(law=law, unit=unit), History(law, unit=unit) as history:
+                history.store_request(1, 0x13, b"\x5a")
+                history.load_request(1, 0x13, 1)
+                history.load_response(1, b"\x5a")
+                history.load_request(2, 0x13, 1)
+                if law == Law.ATOMIC:
+                    with self.assertRaises(NotLawful) as wrong:
+                        history.load_response(2, b"\0")
+                    self.assertEqual((wrong.exception.cause, wrong.exception.place, wrong.exception.may), (HistoryFault.WRONG_BYTE, 0, {0x5A}))
+                    history.load_response(2, b"\x5a")
+                else:
+                    history.load_response(2, b"\0")
+                history.store_response(1)
+
+    def test_a_torn_word_by_the_size_of_a_unit(self) -> None:
+        for unit in (1, 2, 4, 8):
+            with self.subTest(unit=unit), History(Law.ATOMIC, unit=unit) as history:
+                history.store_request(1, 0x20, b"\x11\x11")
+                history.store_request(2, 0x20, b"\x22\x22")
+                history.store_response(1)
+                history.store_response(2)
+                history.load_request(1, 0x20, 2)
+                if unit == 1:
+                    history.load_response(1, b"\x11\x22")
+                    continue
+                with self.assertRaises(NotLawful) as wrong:
+                    history.load_response(1, b"\x11\x22")
+                self.assertEqual((wrong.exception.place, wrong.exception.may), (0, {0x11, 0x22}))
+                history.load_response(1, b"\x22\x22")
+
+    def test_a_unit_without_a_verdict_is_forgotten(self) -> None:
+        """A load stays open while many stores are made, and eight more are open at once: too many words."""
+        with History(Law.ATOMIC) as history:
+            history.load_request(1, 0x43, 1)
+            for number in range(2000):
+                history.store_request(1, 0x43, bytes([number % 100 + 100]))
+                history.store_response(1)
+            for number in range(1, 9):
+                history.store_request(number, 0x43, bytes([number]))
+            with self.assertRaises(Undecided) as undecided:
+                history.store_response(8)
+            self.assertEqual(undecided.exception.address, 0x40)
+            with self.assertRaises(Undecided) as asked:
+                history.may_return(1, 0x43)
+            self.assertIsNone(asked.exception.address)
+            self.assertEqual(len(history.open_stores()), 8)
+            history.forget(0x47)
+            for number in range(1, 9):
+                history.store_response(number)
+            self.assertEqual(history.may_return(1, 0x43), set(range(256)))
+            history.load_response(1, b"\x77")
+            history.load_request(2, 0x48, 1)
+            with self.assertRaises(NotLawful):
+                history.load_response(2, b"\x01")
+            history.load_response(2, b"\0")
+
+    def test_each_law_has_its_units(self) -> None:
+        for law, unit in [(Law.ATOMIC, 0), (Law.ATOMIC, 3), (Law.ATOMIC, 16), (Law.REGULAR, 8), (Law.FLAT, 2)]:
+            with self.subTest(law=law, unit=unit), self.assertRaises(ValueError):
+                History(law, unit=unit)
+        for law in (Law.REGULAR, Law.FLAT):
+            with self.subTest(law=law), History(law) as history, self.assertRaises(ValueError):
+                history.forget(0)
+
+    def test_random_runs_of_two_copies(self) -> None:
+        """Two copies of a byte that a store changes at one moment are blamed by no law; if it changes them at two, the
+        atomic law alone finds it."""
+        for apart in (False, True):
+            for law in (Law.REGULAR, Law.ATOMIC):
+                with self.subTest(apart=apart, law=law):
+                    blamed = [run_of_copies(random.Random(seed), law, apart) for seed in range(10)]
+                    wanted = apart and law == Law.ATOMIC
+                    self.assertEqual([it is not None for it in blamed], [wanted] * 10, blamed)
+
     def test_random_runs_of_a_memory(self) -> None:
         """A memory that takes effect at a hidden moment is never blamed; one that forgets stores is, soon."""
         for forgets in (False, True):
@@ -92,6 +169,46 @@ def run_of_memory(chance: random.Random, forgets: bool) -> Optional[NotLawful]:
                 if kind == "store" and not (forgets and chance.random() < 0.2):
                     memory[address] = byte
                 done[moved] = (kind, memory[address])
+            for answered in some_of(chance, list(done)):
+                kind, byte = done.pop(answered)
+                if kind == "load":
+                    history.load_response(answered, bytes([byte]))
+                else:
+                    history.store_response(answered)
+    except NotLawful as error:
+        return error
+    finally:
+        history.close()
+    return None
+
+
+def run_of_copies(chance: random.Random, law: Law, apart: bool) -> Optional[NotLawful]:
+    """Loads and stores of a byte that two ports have a copy of. A load reads one copy at a moment of its own; a store
+    writes both at one moment, or each at its own."""
+    copies = [0, 0]
+    waiting: Dict[int, Tuple[str, List[int], int]] = {}  # kind, the copies that it still has to come to, byte
+    done: Dict[int, Tuple[str, int]] = {}
+    history = History(law)
+    try:
+        for number in range(1000):
+            kind, byte, port = chance.choice(["load", "store"]), chance.randrange(1, 256), chance.randrange(2)
+            if len(waiting) < 3:
+                waiting[number] = (kind, [port] if kind == "load" else [0, 1], byte)
+                if kind == "load":
+                    history.load_request(number, 0x1000, 1)
+                else:
+                    history.store_request(number, 0x1000, bytes([byte]))
+            for moved in some_of(chance, list(waiting)):
+                kind, left, byte = waiting[moved]
+                now = left[:1] if apart else left
+                if kind == "store":
+                    for copy in now:
+                        copies[copy] = byte
+                if left == now:
+                    waiting.pop(moved)
+                    done[moved] = (kind, copies[left[0]])
+                else:
+                    waiting[moved] = (kind, left[1:], byte)
             for answered in some_of(chance, list(done)):
                 kind, byte = done.pop(answered)
                 if kind == "load":

@@ -1,4 +1,7 @@
 -- a mark that isn't 0
 pub mod Nonzero
--- how C is told of a fault
+-- the judge of the atomic law
+pub mod AtomicJudge
+pub mod Found
+-- how C is told
 pub mod Telling

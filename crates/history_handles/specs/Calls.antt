@@ -1,55 +1,110 @@
 -- What the calls of a handle answer and leave, by the session behind it: `None` is a closed handle.
-use Rattle.std.specs.Prelude.{ℕ, ◌≡◌, ◌⊎◌, ◌==◌, Bool, true, false, if◌then◌else◌, List, length, Option, Some, None, slice_get}
+use Rattle.std.specs.Prelude.{ℕ, ◌≡◌, ◌≢◌, ◌⊎◌, ◌==◌, Bool, true, false, if◌then◌else◌, List, length, Option, Some, None, Result, Ok, Err, slice_get}
 use Rattle.std.specs.Option.{option_map}
 use Rattle.memory_histories.specs.declared.events.HistoryEvent.{HistoryEvent}
 use Rattle.memory_histories.specs.declared.events.HistoryFault.{HistoryFault}
-use Rattle.memory_histories.specs.declared.events.HistoryFault.TheVariants.{WrongByte}
+use Rattle.memory_histories.specs.declared.events.HistoryFault.TheVariants.{OutOfRange, NoByteEnabled, NumberInUse, NotOpen, WrongLength, WrongByte}
+use Rattle.memory_histories.specs.declared.sets.ByteSet.{ByteSet}
+use Rattle.memory_histories.specs.Sets.{has}
+use Rattle.history_handles.specs.declared.faults.JudgeFault.{JudgeFault}
+use Rattle.history_handles.specs.declared.faults.JudgeFault.TheVariants.{Refused, Undecided, TooLong, OutOfMemory}
+use Rattle.history_handles.specs.declared.handle.HistoryHandle.{HistoryHandle}
 use Rattle.history_handles.specs.declared.rows.Operation.{Operation}
-use Rattle.history_handles.specs.History.{fault_of, moment_of, may_return_at}
-use Rattle.history_handles.specs.Session.{Session, session_after}
+use Rattle.history_handles.specs.Behind.{IsBehind}
+use Rattle.history_handles.specs.History.{History, Passes, has_units}
+use Rattle.history_handles.specs.Kept.{JudgeFaultIs, IsFound, IsSetFound}
+use Rattle.history_handles.specs.Session.{Session, session_after, session_refusing, session_forgetting}
 use Rattle.history_handles.specs.Rows.{IsOctets}
-use Rattle.history_handles.specs.Status.{fault_number}
+use Rattle.history_handles.specs.Status.{judge_number, said_number}
 
--- an event that has a fault is told by the fault's number; one that has none by 0, unless memory is wanting or the history
--- has as many events as can be counted
-abbrev pub IsVerdict : ℕ → ℕ → Option HistoryFault → Type 0
-IsVerdict status moment (Some fault) = status ≡ fault_number fault
-IsVerdict status moment None = (status ≡ 0) ⊎ ((status ≡ 101) ⊎ ((status ≡ 104) × (moment ≡ 18446744073709551615)))
+-- Events. ----
 
-abbrev pub IsStatus : ℕ → Option Session → HistoryEvent → Type 0
-IsStatus status None event = status ≡ 3
-IsStatus status (Some s) event = IsVerdict status (moment_of s.history) (fault_of s.history event)
+-- what is said of an event: it was taken, or it wasn't for a fault
+abbrev pub IsSaid : History → HistoryEvent → Option JudgeFault → Type 0
+IsSaid h event None = Passes h event
+IsSaid h event (Some found) = JudgeFaultIs h event found
 
--- the session that an event leaves: with it, where C is told 0, and else the one before
-abbrev pub left_by : ℕ → Option Session → HistoryEvent → Option Session
-left_by status session event = if status == 0 then option_map (λ s. session_after s event) session else session
+abbrev pub left_by : Option JudgeFault → Session → HistoryEvent → Session
+left_by None s event = session_after s event
+left_by (Some found) s event = session_refusing s found
 
--- what a load may return for a byte, where there is such a load
-abbrev pub set_asked : Option Session → ℕ → ℕ → Option (Option (ℕ → Bool))
-set_asked session number address = option_map (λ s. may_return_at s.history number address) session
+-- C is told by its number what is said of an event, and that is what the event leaves behind the handle
+pub record IsAnswered (status : ℕ) (h : HistoryHandle) (s : Session) (event : HistoryEvent) : Type 0 where
+  pub said : Option JudgeFault
+  pub number : status ≡ said_number said
+  pub law : IsSaid s.history event said
+  pub left : IsBehind h (Some (left_by said s event))
+
+abbrev pub IsEventTold : ℕ → HistoryHandle → Option Session → HistoryEvent → Type 0
+IsEventTold status h None event = (status ≡ 3) × IsBehind h None
+IsEventTold status h (Some s) event = IsAnswered status h s event
+
+-- What a load may return. ----
 
 -- what C is told of a set, and its row before and after
-abbrev pub IsFoundSet : ℕ → List ℕ → List ℕ → Option (ℕ → Bool) → Type 0
-IsFoundSet status row row' None = (status ≡ 0) × (row' ≡ row)
-IsFoundSet status row row' (Some may) = (status ≡ 1) × IsOctets row' may
+abbrev pub IsRowTold : ℕ → List ℕ → List ℕ → Result (Option ByteSet) JudgeFault → Type 0
+IsRowTold status row row' (Ok None) = (status ≡ 0) × (row' ≡ row)
+IsRowTold status row row' (Ok (Some set)) = (status ≡ 1) × IsOctets row' (has set)
+IsRowTold status row row' (Err found) = (status ≡ judge_number found) × (row' ≡ row)
 
-abbrev pub IsFittingSet : Bool → ℕ → List ℕ → List ℕ → Option (ℕ → Bool) → Type 0
-IsFittingSet false status row row' found = (status ≡ 2) × (row' ≡ row)
-IsFittingSet true status row row' found = IsFoundSet status row row' found
+pub record IsSetAnswered (status : ℕ) (row : List ℕ) (row' : List ℕ) (s : Session) (number : ℕ) (address : ℕ) : Type 0 where
+  pub found : Result (Option ByteSet) JudgeFault
+  pub law : IsSetFound s.history number address found
+  pub told : IsRowTold status row row' found
 
-abbrev pub IsSetTold : ℕ → List ℕ → List ℕ → Option (Option (ℕ → Bool)) → Type 0
-IsSetTold status row row' None = (status ≡ 3) × (row' ≡ row)
-IsSetTold status row row' (Some found) = IsFittingSet (length row == 32) status row row' found
+abbrev pub IsFittingSet : Bool → ℕ → List ℕ → List ℕ → Session → ℕ → ℕ → Type 0
+IsFittingSet false status row row' s number address = (status ≡ 2) × (row' ≡ row)
+IsFittingSet true status row row' s number address = IsSetAnswered status row row' s number address
+
+abbrev pub IsSetTold : ℕ → List ℕ → List ℕ → Option Session → ℕ → ℕ → Type 0
+IsSetTold status row row' None number address = (status ≡ 3) × (row' ≡ row)
+IsSetTold status row row' (Some s) number address = IsFittingSet (length row == 32) status row row' s number address
+
+-- Where an answer is wrong. ----
 
 -- a fault as it is told, with the place of a wrong byte before and after
-abbrev pub IsFaultTold : ℕ → ℕ → ℕ → Option HistoryFault → Type 0
+abbrev pub IsCauseTold : ℕ → ℕ → ℕ → HistoryFault → Type 0
+IsCauseTold status place place' (WrongByte wrong) = (status ≡ 16) × (place' ≡ wrong)
+IsCauseTold status place place' cause = (status ≡ judge_number (Refused cause)) × (place' ≡ place)
+
+abbrev pub IsFaultTold : ℕ → ℕ → ℕ → Option JudgeFault → Type 0
 IsFaultTold status place place' None = (status ≡ 0) × (place' ≡ place)
-IsFaultTold status place place' (Some (WrongByte wrong)) = (status ≡ 16) × (place' ≡ wrong)
-IsFaultTold status place place' (Some fault) = (status ≡ fault_number fault) × (place' ≡ place)
+IsFaultTold status place place' (Some (Refused cause)) = IsCauseTold status place place' cause
+IsFaultTold status place place' (Some found) = (status ≡ judge_number found) × (place' ≡ place)
+
+pub record IsPlaceAnswered (status : ℕ) (place : ℕ) (place' : ℕ) (s : Session) (event : HistoryEvent) : Type 0 where
+  pub found : Option JudgeFault
+  pub law : IsFound s.history event found
+  pub told : IsFaultTold status place place' found
 
 abbrev pub IsPlaceTold : ℕ → ℕ → ℕ → Option Session → HistoryEvent → Type 0
 IsPlaceTold status place place' None event = (status ≡ 3) × (place' ≡ place)
-IsPlaceTold status place place' (Some s) event = IsFaultTold status place place' (fault_of s.history event)
+IsPlaceTold status place place' (Some s) event = IsPlaceAnswered status place place' s event
+
+-- Units that are forgotten. ----
+
+-- C is told that a unit was forgotten, that there was too little memory, or that the law has no units
+abbrev pub IsForgetNumber : ℕ → Bool → Type 0
+IsForgetNumber status true = (status ≡ 0) ⊎ (status ≡ 101)
+IsForgetNumber status false = status ≡ 103
+
+abbrev pub IsForgetStatus : ℕ → Option Session → Type 0
+IsForgetStatus status None = status ≡ 3
+IsForgetStatus status (Some s) = IsForgetNumber status (has_units s.history)
+
+abbrev pub forgotten_by : ℕ → Option Session → ℕ → Option Session
+forgotten_by status session address = if status == 0 then option_map (λ s. session_forgetting address s) session else session
+
+-- the unit for whose sake an answer was undecided, and its address before and after
+abbrev pub IsAddressFound : ℕ → ℕ → ℕ → Option ℕ → Type 0
+IsAddressFound status address address' None = (status ≡ 0) × (address' ≡ address)
+IsAddressFound status address address' (Some first) = (status ≡ 1) × (address' ≡ first)
+
+abbrev pub IsAddressTold : ℕ → ℕ → ℕ → Option Session → Type 0
+IsAddressTold status address address' None = (status ≡ 3) × (address' ≡ address)
+IsAddressTold status address address' (Some s) = IsAddressFound status address address' s.undecided
+
+-- Open operations. ----
 
 -- how many operations are open
 abbrev pub IsCounted : ℕ → Option Session → ℕ → ℕ → ℕ → ℕ → Type 0

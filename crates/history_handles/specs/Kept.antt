@@ -1,30 +1,97 @@
 -- Of which history a judge keeps what it needs, and what its answers say of that history.
-use Rattle.std.specs.Prelude.{ℕ, ◌≡◌, Bool, Option, Some, None}
+use Rattle.std.specs.Prelude.{⊤, ℕ, ◌≡◌, Bool, true, false, Option, Some, None, Result, Ok, Err}
+use Rattle.std.specs.Option.{option_map}
 use Rattle.memory_histories.specs.declared.events.HistoryEvent.{HistoryEvent}
-use Rattle.memory_histories.specs.declared.events.StepFault.{StepFault}
-use Rattle.memory_histories.specs.declared.events.StepFault.TheVariants.{Refused, TooLong, OutOfMemory}
+use Rattle.memory_histories.specs.declared.events.HistoryFault.{HistoryFault}
 use Rattle.memory_histories.specs.declared.sets.ByteSet.{ByteSet}
 use Rattle.memory_histories.specs.Sets.{has}
+use Rattle.memory_histories.specs.Regular.{fault}
+use Rattle.memory_histories.specs.Flat.{flat_fault}
 use Rattle.memory_histories.specs.Kept.{StandsFor}
 use Rattle.memory_histories.specs.Shown.{kept}
 use Rattle.memory_histories.specs.FlatShown.{shown}
+use Rattle.atomic_histories.specs.May as atomic
 use Rattle.history_handles.specs.declared.judge.Judge.{Judge}
 use Rattle.history_handles.specs.declared.judge.Judge.TheVariants as judge
-use Rattle.history_handles.specs.History.{History, OfRegular, OfFlat, fault_of, moment_of}
+use Rattle.history_handles.specs.declared.faults.JudgeFault.{JudgeFault}
+use Rattle.history_handles.specs.declared.faults.JudgeFault.TheVariants.{Refused, Undecided, TooLong, OutOfMemory}
+use Rattle.history_handles.specs.declared.faults.ForgetFault.{ForgetFault}
+use Rattle.history_handles.specs.declared.faults.ForgetFault.TheVariants as forget
+use Rattle.history_handles.specs.Atomic.{Atomic, IsLawful, IsRefused, IsFormed, IsJudgeOf, IsUndecided, IsUndecidedByte}
+use Rattle.history_handles.specs.History.{History, OfRegular, OfFlat, OfAtomic, has_units, may_by_regular, may_by_flat}
 
 -- what a judge keeps is of this history
 abbrev pub IsOf : Judge → History → Type 0
 IsOf (judge.Regular m) (OfRegular w) = StandsFor (kept m) w
 IsOf (judge.Flat m) (OfFlat f) = shown m ≡ f
+IsOf (judge.Atomic m) (OfAtomic a) = IsJudgeOf m a
 IsOf m h = ⊥
 
+-- Faults. ----
+
+-- what a fault says of an event whose history has this many events, where its law finds this fault, or none
+abbrev pub ExactFaultIs : Option HistoryFault → ℕ → JudgeFault → Type 0
+ExactFaultIs found moment (Refused cause) = found ≡ Some cause
+ExactFaultIs found moment (Undecided address) = ⊥
+ExactFaultIs found moment TooLong = (found ≡ None) × (moment ≡ 18446744073709551615)
+ExactFaultIs found moment OutOfMemory = found ≡ None
+
+-- by the atomic law
+abbrev pub AtomicFaultIs : Atomic → HistoryEvent → JudgeFault → Type 0
+AtomicFaultIs a event (Refused cause) = IsRefused a event cause
+AtomicFaultIs a event (Undecided address) = IsUndecided a event address
+AtomicFaultIs a event TooLong = ⊥
+AtomicFaultIs a event OutOfMemory = IsFormed a event
+
 -- what each fault of a step says of the event
-abbrev pub StepFaultIs : History → HistoryEvent → StepFault → Type 0
-StepFaultIs h event (Refused cause) = fault_of h event ≡ Some cause
-StepFaultIs h event TooLong = (fault_of h event ≡ None) × (moment_of h ≡ 18446744073709551615)
-StepFaultIs h event OutOfMemory = fault_of h event ≡ None
+abbrev pub JudgeFaultIs : History → HistoryEvent → JudgeFault → Type 0
+JudgeFaultIs (OfRegular w) event found = ExactFaultIs (fault w event) w.moment found
+JudgeFaultIs (OfFlat f) event found = ExactFaultIs (flat_fault f event) f.moment found
+JudgeFaultIs (OfAtomic a) event found = AtomicFaultIs a event found
+
+-- what a judge finds without taking the event
+abbrev pub IsExactlyFound : Option HistoryFault → Option JudgeFault → Type 0
+IsExactlyFound found told = told ≡ option_map (λ cause. Refused cause) found
+
+abbrev pub IsAtomicallyFound : Atomic → HistoryEvent → Option JudgeFault → Type 0
+IsAtomicallyFound a event None = IsLawful a event
+IsAtomicallyFound a event (Some found) = AtomicFaultIs a event found
+
+abbrev pub IsFound : History → HistoryEvent → Option JudgeFault → Type 0
+IsFound (OfRegular w) event told = IsExactlyFound (fault w event) told
+IsFound (OfFlat f) event told = IsExactlyFound (flat_fault f event) told
+IsFound (OfAtomic a) event told = IsAtomicallyFound a event told
+
+-- Sets. ----
 
 -- the set has the bytes that may be returned, and there is none where no load asks for the byte
 abbrev pub IsSetOf : Option (ℕ → Bool) → Option ByteSet → Type 0
 IsSetOf None set = set ≡ None
 IsSetOf (Some may) set = (s : ByteSet) × (set ≡ Some s) × ((b : ℕ) → has s b ≡ may b)
+
+abbrev pub IsExactSet : Option (ℕ → Bool) → Result (Option ByteSet) JudgeFault → Type 0
+IsExactSet may (Ok set) = IsSetOf may set
+IsExactSet may (Err found) = ⊥
+
+-- by the atomic law a set is of its byte alone, and there may be no verdict
+abbrev pub NoSetIs : Atomic → ℕ → JudgeFault → Type 0
+NoSetIs a address (Refused cause) = ⊥
+NoSetIs a address (Undecided first) = IsUndecidedByte a address first
+NoSetIs a address TooLong = ⊥
+NoSetIs a address OutOfMemory = ⊤
+
+abbrev pub IsAtomicSet : Atomic → ℕ → ℕ → Result (Option ByteSet) JudgeFault → Type 0
+IsAtomicSet a number address (Ok set) = atomic.IsSetOf a.lost a.image a.rest a.size a.events number address set
+IsAtomicSet a number address (Err found) = NoSetIs a address found
+
+abbrev pub IsSetFound : History → ℕ → ℕ → Result (Option ByteSet) JudgeFault → Type 0
+IsSetFound (OfRegular w) number address told = IsExactSet (may_by_regular w number address) told
+IsSetFound (OfFlat f) number address told = IsExactSet (may_by_flat f number address) told
+IsSetFound (OfAtomic a) number address told = IsAtomicSet a number address told
+
+-- Forgetting. ----
+
+-- why no unit was forgotten
+abbrev pub ForgetFaultIs : History → ForgetFault → Type 0
+ForgetFaultIs h forget.NoUnits = has_units h ≡ false
+ForgetFaultIs h forget.OutOfMemory = has_units h ≡ true

@@ -8,3 +8,4 @@ pub record IsKept (m : OpenHistory) (s : Session) : Type 0 where
   pub judge : IsOf m.judge s.history
   pub loads : m.loads.items ≡ s.loads
   pub stores : m.stores.items ≡ s.stores
+  pub undecided : m.undecided ≡ s.undecided

@@ -1,4 +1,5 @@
 -- histories of all laws
+pub mod Atomic
 pub mod History
 pub mod Rows
 pub mod Session

@@ -3,17 +3,31 @@ use Rattle.std.specs.Prelude.{◌≡◌, ◌≢◌, ℕ, ◌==◌, if◌then◌e
 use Rattle.std.specs.Option.{option_map}
 use Rattle.memory_histories.specs.declared.events.Rest.{Rest}
 use Rattle.memory_histories.specs.declared.events.Rest.TheVariants.{Zeros, Unknown}
+use Rattle.atomic_histories.specs.declared.memory.UnitSize.{UnitSize}
+use Rattle.atomic_histories.specs.declared.memory.UnitSize.TheVariants.{One, Two, Four, Eight}
 use Rattle.history_handles.specs.declared.judge.Law.{Law}
-use Rattle.history_handles.specs.declared.judge.Law.TheVariants.{Regular, Flat}
+use Rattle.history_handles.specs.declared.judge.Law.TheVariants.{Regular, Flat, Atomic}
 use Rattle.history_handles.specs.declared.history.OpenHistory.{OpenHistory}
 use Rattle.history_handles.specs.declared.open.OpenFault.{OpenFault}
 use Rattle.history_handles.specs.declared.open.OpenFault.TheVariants.{NoLaw, OutOfMemory, OpenAlready}
 use Rattle.history_handles.specs.Session.{session_opening}
 use Rattle.history_handles.specs.Behind.{IsKeptOf}
 
--- the law and the rest of memory that these numbers choose
-abbrev pub law_of : ℕ → Option Law
-law_of law = if law == 0 then Some Regular else if law == 1 then Some Flat else None
+-- the unit that has so many bytes
+abbrev pub unit_of : ℕ → Option UnitSize
+unit_of bytes =
+    if bytes == 1 then Some One else if bytes == 2 then Some Two else if bytes == 4 then Some Four else if bytes == 8 then Some Eight
+    else None
+
+-- a law under which each byte is read and written for itself
+abbrev pub of_bytes : Law → ℕ → Option Law
+of_bytes law unit = if unit == 1 then Some law else None
+
+-- the law and the rest of memory that these numbers choose, with the unit of bytes that are read and written as one
+abbrev pub law_of : ℕ → ℕ → Option Law
+law_of law unit =
+    if law == 0 then of_bytes Regular unit else if law == 1 then of_bytes Flat unit
+    else if law == 2 then option_map (λ size. Atomic size) (unit_of unit) else None
 
 abbrev pub rest_of : ℕ → Option Rest
 rest_of rest = if rest == 0 then Some Zeros else if rest == 1 then Some Unknown else None
@@ -22,9 +36,8 @@ abbrev pub both : {X Y : Type 0} → Option X → Option Y → Option (X × Y)
 both (Some x) (Some y) = Some (x, y)
 both x y = None
 
--- with the unit of bytes that are read and written as one
 abbrev pub chosen : ℕ → ℕ → ℕ → Option (Law × Rest)
-chosen law unit rest = if unit == 1 then both (law_of law) (rest_of rest) else None
+chosen law unit rest = both (law_of law unit) (rest_of rest)
 
 -- why no history is opened, by what is kept behind the handle: `None`, where only memory can be wanting
 abbrev pub open_fault : Option OpenHistory → ℕ → ℕ → ℕ → Option OpenFault

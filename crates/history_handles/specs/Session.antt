@@ -1,22 +1,26 @@
 -- A history with the operations that are open.
-use Rattle.std.specs.Prelude.{ℕ, ◌==◌, not, List, [], ◌∷◌, ◌++◌, length}
+use Rattle.std.specs.Prelude.{ℕ, ◌==◌, not, List, [], ◌∷◌, ◌++◌, length, Option, Some, None}
 use Rattle.std.specs.List.{filter}
 use Rattle.memory_histories.specs.declared.events.HistoryEvent.{HistoryEvent}
 use Rattle.memory_histories.specs.declared.events.HistoryEvent.TheVariants.{LoadRequest, LoadResponse, StoreRequest, StoreResponse}
 use Rattle.memory_histories.specs.declared.events.Rest.{Rest}
 use Rattle.history_handles.specs.declared.judge.Law.{Law}
+use Rattle.history_handles.specs.declared.faults.JudgeFault.{JudgeFault}
+use Rattle.history_handles.specs.declared.faults.JudgeFault.TheVariants.{Refused, Undecided, TooLong, OutOfMemory}
 use Rattle.history_handles.specs.declared.rows.Operation.{Operation}
-use Rattle.history_handles.specs.History.{History, opening, history_after}
+use Rattle.history_handles.specs.History.{History, opening, history_after, history_forgetting}
 
--- the loads and the stores that are open stand in the order of their requests
+-- the loads and the stores that are open stand in the order of their requests. `undecided` is where the unit begins for whose sake an
+-- answer was undecided, if none was taken and no unit was forgotten since
 pub record Session : Type 0 where
   pub history : History
   pub loads : List Operation
   pub stores : List Operation
+  pub undecided : Option ℕ
 
 -- no event yet
 abbrev pub session_opening : Law → List ℕ → Rest → Session
-session_opening law image rest = record { history = opening law image rest; loads = []; stores = [] }
+session_opening law image rest = record { history = opening law image rest; loads = []; stores = []; undecided = None }
 
 -- those that have another number
 abbrev pub without : ℕ → List Operation → List Operation
@@ -35,6 +39,23 @@ stores_after stores (StoreRequest number address bytes enables) = with_one numbe
 stores_after stores (StoreResponse number) = without number stores
 stores_after stores event = stores
 
+-- it was taken
 abbrev pub session_after : Session → HistoryEvent → Session
-session_after s event =
-    record { history = history_after s.history event; loads = loads_after s.loads event; stores = stores_after s.stores event }
+session_after s event = record {
+  history = history_after s.history event;
+  loads = loads_after s.loads event;
+  stores = stores_after s.stores event;
+  undecided = None;
+}
+
+-- it wasn't, for this fault
+abbrev pub session_refusing : Session → JudgeFault → Session
+session_refusing s (Undecided address) = record { history = s.history; loads = s.loads; stores = s.stores; undecided = Some address }
+session_refusing s (Refused cause) = s
+session_refusing s TooLong = s
+session_refusing s OutOfMemory = s
+
+-- the unit in which the byte at an address lies is forgotten
+abbrev pub session_forgetting : ℕ → Session → Session
+session_forgetting address s =
+    record { history = history_forgetting address s.history; loads = s.loads; stores = s.stores; undecided = None }

@@ -1,9 +1,9 @@
 -- How C is told of an event.
-use Rattle.std.specs.Prelude.{ℕ, Result, Ok, Err}
+use Rattle.std.specs.Prelude.{ℕ, Option, Some, None}
 use Rattle.memory_histories.specs.declared.events.HistoryFault.{HistoryFault}
 use Rattle.memory_histories.specs.declared.events.HistoryFault.TheVariants.{OutOfRange, NoByteEnabled, NumberInUse, NotOpen, WrongLength, WrongByte}
-use Rattle.memory_histories.specs.declared.events.StepFault.{StepFault}
-use Rattle.memory_histories.specs.declared.events.StepFault.TheVariants.{Refused, TooLong, OutOfMemory}
+use Rattle.history_handles.specs.declared.faults.JudgeFault.{JudgeFault}
+use Rattle.history_handles.specs.declared.faults.JudgeFault.TheVariants.{Refused, Undecided, TooLong, OutOfMemory}
 
 abbrev pub fault_number : HistoryFault → ℕ
 fault_number OutOfRange = 11
@@ -13,8 +13,13 @@ fault_number NotOpen = 14
 fault_number WrongLength = 15
 fault_number (WrongByte place) = 16
 
-abbrev pub step_status : {X : Type 0} → Result X StepFault → ℕ
-step_status (Ok x) = 0
-step_status (Err (Refused fault)) = fault_number fault
-step_status (Err TooLong) = 104
-step_status (Err OutOfMemory) = 101
+abbrev pub judge_number : JudgeFault → ℕ
+judge_number (Refused fault) = fault_number fault
+judge_number (Undecided address) = 105
+judge_number TooLong = 104
+judge_number OutOfMemory = 101
+
+-- 0, if there is no fault
+abbrev pub said_number : Option JudgeFault → ℕ
+said_number None = 0
+said_number (Some fault) = judge_number fault

@@ -1,13 +1,14 @@
 //! A history with the operations that are open.
-ghost use Rattle.std.specs.Prelude.{◌≡◌, ◌<◌, None, Some, IfOk, IfErr, OnOk, OnErr, vec_len, vec_capacity};
-ghost use Rattle.history_handles.specs.History.{fault_of, may_return_at};
-ghost use Rattle.history_handles.specs.Session.{Session, session_opening, session_after, loads_after, stores_after, without};
-ghost use Rattle.history_handles.specs.Kept.{StepFaultIs, IsSetOf};
+ghost use Rattle.std.specs.Prelude.{◌≡◌, ◌<◌, true, None, Some, IfOk, IfErr, OnOk, OnErr, vec_len, vec_capacity};
+ghost use Rattle.history_handles.specs.History.{Passes, has_units};
+ghost use Rattle.history_handles.specs.Session.{Session, session_opening, session_after, session_refusing, session_forgetting, loads_after, stores_after, without};
+ghost use Rattle.history_handles.specs.Kept.{JudgeFaultIs, IsFound, IsSetFound, ForgetFaultIs};
 ghost use Rattle.history_handles.specs.KeptSession.{IsKept};
 
+use crate::faults::{ForgetFault, JudgeFault};
 use crate::judge::{Judge, Law};
 use crate::rows::Operation;
-use memory_histories::{ByteSet, HistoryEvent, HistoryFault, Rest, StepFault};
+use memory_histories::{ByteSet, HistoryEvent, Rest};
 use std::alloc::{AllocError, Global};
 
 /// A history that is judged as it goes, with the operations that are open in the order of their requests.
@@ -16,6 +17,9 @@ pub struct OpenHistory {
     pub(crate) judge: Judge,
     pub(crate) loads: Vec<Operation>,
     pub(crate) stores: Vec<Operation>,
+    /// Where the unit begins for whose sake an answer was undecided, if none was taken and no unit was
+    /// forgotten since.
+    pub(crate) undecided: Option<u64>,
 }
 
 impl OpenHistory {
@@ -35,45 +39,107 @@ impl OpenHistory {
             judge,
             loads,
             stores,
+            undecided: None,
         })
     }
 
-    // Takes one event. After each fault everything is as it was.
-    pub(crate) fn step(&mut self, event: HistoryEvent) -> Result<(), StepFault>
+    // Takes one event. After each fault everything is as it was, but for the note of where an answer was
+    // undecided.
+    pub(crate) fn step(&mut self, event: HistoryEvent) -> Result<(), JudgeFault>
         ensures ok { (s : Session)
             → IsKept self.old s
-            → OnOk result ((fault_of s.history event.entry ≡ None) × IsKept self.new (session_after s event.entry)) }
+            → OnOk result (Passes s.history event.entry × IsKept self.new (session_after s event.entry)) }
         ensures fault { (s : Session)
             → IsKept self.old s
-            → IfErr result (StepFaultIs s.history event.entry) }
+            → IfErr result (JudgeFaultIs s.history event.entry) }
+        ensures left { (s : Session)
+            → IsKept self.old s
+            → IfErr result (λ fault. IsKept self.new (session_refusing s fault)) }
+    {
+        match self.taken(event) {
+            Ok(()) => Ok(()),
+            Err(fault) => {
+                self.note(fault);
+                Err(fault)
+            }
+        }
+    }
+
+    // Takes one event; after each fault everything is as it was.
+    fn taken(&mut self, event: HistoryEvent) -> Result<(), JudgeFault>
+        ensures ok { (s : Session)
+            → IsKept self.old s
+            → OnOk result (Passes s.history event.entry × IsKept self.new (session_after s event.entry)) }
+        ensures fault { (s : Session)
+            → IsKept self.old s
+            → IfErr result (JudgeFaultIs s.history event.entry) }
         ensures unchanged { (s : Session) → IsKept self.old s → OnErr result (IsKept self.new s) }
     {
         if make_room(&mut self.loads).is_err() || make_room(&mut self.stores).is_err() {
-            return Err(match self.fault(event) {
-                Some(fault) => StepFault::Refused(fault),
-                None => StepFault::OutOfMemory,
-            });
+            return Err(self.fault_without_room(event));
         }
         self.judge.step(event)?;
         note_load(&mut self.loads, event);
         note_store(&mut self.stores, event);
+        self.undecided = None;
         Ok(())
     }
 
-    // Why the history with this event would be none of its law.
-    pub(crate) fn fault(&self, event: HistoryEvent) -> Option<HistoryFault>
-        ensures { (s : Session) → IsKept self.now s → result ≡ fault_of s.history event.entry }
+    // Why an event isn't taken for which there is no room.
+    #[tactic(auto, using(crate::proofs::Found::not_taken, crate::proofs::Found::no_room))]
+    fn fault_without_room(&self, event: HistoryEvent) -> JudgeFault
+        ensures { (s : Session)
+            → IsKept self.now s
+            → JudgeFaultIs s.history event.entry result }
+    {
+        match self.fault(event) {
+            Some(fault) => fault,
+            None => JudgeFault::OutOfMemory,
+        }
+    }
+
+    // Notes where an answer was undecided.
+    fn note(&mut self, fault: JudgeFault)
+        ensures { (s : Session)
+            → IsKept self.old s
+            → IsKept self.new (session_refusing s fault) }
+    {
+        if let JudgeFault::Undecided { address } = fault {
+            self.undecided = Some(address);
+        }
+    }
+
+    // What a step would say of an event, if there is room for it: `None` if it would be taken.
+    pub(crate) fn fault(&self, event: HistoryEvent) -> Option<JudgeFault>
+        ensures { (s : Session) → IsKept self.now s → IsFound s.history event.entry result }
     {
         self.judge.fault(event)
     }
 
     // What the load that is open under a number may return for the byte at an address.
-    pub(crate) fn may_return(&self, number: u64, address: u64) -> Option<ByteSet>
+    pub(crate) fn may_return(
+        &self,
+        number: u64,
+        address: u64,
+    ) -> Result<Option<ByteSet>, JudgeFault>
         ensures { (s : Session)
             → IsKept self.now s
-            → IsSetOf (may_return_at s.history number address) result }
+            → IsSetFound s.history number address result }
     {
         self.judge.may_return(number, address)
+    }
+
+    // Forgets the unit in which the byte at an address lies.
+    pub(crate) fn forget(&mut self, address: u64) -> Result<(), ForgetFault>
+        ensures ok { (s : Session)
+            → IsKept self.old s
+            → OnOk result ((has_units s.history ≡ true) × IsKept self.new (session_forgetting address s)) }
+        ensures fault { (s : Session) → IsKept self.old s → IfErr result (ForgetFaultIs s.history) }
+        ensures unchanged { (s : Session) → IsKept self.old s → OnErr result (IsKept self.new s) }
+    {
+        self.judge.forget(address)?;
+        self.undecided = None;
+        Ok(())
     }
 }
 

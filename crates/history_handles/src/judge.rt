@@ -1,11 +1,14 @@
 //! The judges of all laws as one.
-ghost use Rattle.std.specs.Prelude.{◌≡◌, None, IfOk, IfErr, OnOk, OnErr};
-ghost use Rattle.history_handles.specs.History.{History, opening, fault_of, history_after, may_return_at};
-ghost use Rattle.history_handles.specs.Kept.{IsOf, StepFaultIs, IsSetOf};
+ghost use Rattle.std.specs.Prelude.{◌≡◌, true, IfOk, IfErr, OnOk, OnErr};
+ghost use Rattle.history_handles.specs.History.{History, opening, Passes, history_after, history_forgetting, has_units};
+ghost use Rattle.history_handles.specs.Kept.{IsOf, JudgeFaultIs, IsFound, IsSetFound, ForgetFaultIs};
 
-use memory_histories::{
-    ByteSet, FlatHistory, HistoryEvent, HistoryFault, RegularMemory, Rest, StepFault,
+use crate::faults::{ForgetFault, JudgeFault};
+use crate::steps::{
+    forget_atomic, found, found_atomic, set_atomic, step_atomic, step_flat, step_regular,
 };
+use atomic_histories::{AtomicMemory, DEFAULT_LIMIT, UnitSize};
+use memory_histories::{ByteSet, FlatHistory, HistoryEvent, RegularMemory, Rest};
 use std::alloc::{AllocError, Global};
 
 /// A law by which a history can be judged.
@@ -15,6 +18,9 @@ pub enum Law {
     Regular,
     /// An operation takes effect at its request.
     Flat,
+    /// An operation takes effect at one moment between its request and its response, in each aligned unit of
+    /// this size that it touches.
+    Atomic(UnitSize),
 }
 
 /// A history that is judged by one of the laws.
@@ -24,10 +30,13 @@ pub enum Judge {
     Regular(RegularMemory),
     /// By the flat law.
     Flat(FlatHistory),
+    /// By the atomic law.
+    Atomic(AtomicMemory),
 }
 
 impl Judge {
     // A history without an event, over the bytes of an image and what stands beyond it.
+    #[tactic(auto, using(crate::proofs::AtomicJudge::opened))]
     pub(crate) fn new(
         alloc: Global,
         law: Law,
@@ -39,42 +48,71 @@ impl Judge {
         match law {
             Law::Regular => Ok(Judge::Regular(RegularMemory::new(alloc, image, rest)?)),
             Law::Flat => Ok(Judge::Flat(FlatHistory::new(alloc, image, rest)?)),
+            Law::Atomic(unit) => {
+                let memory = AtomicMemory::new(alloc, unit, DEFAULT_LIMIT, image, rest)?;
+                Ok(Judge::Atomic(memory))
+            }
         }
     }
 
-    // Why the history with this event would be none of its law.
-    pub(crate) fn fault(&self, event: HistoryEvent) -> Option<HistoryFault>
-        ensures { (h : History) → IsOf self.now h → result ≡ fault_of h event.entry }
+    // What a step would say of an event, if there is room for it: `None` if it would be taken.
+    pub(crate) fn fault(&self, event: HistoryEvent) -> Option<JudgeFault>
+        ensures { (h : History) → IsOf self.now h → IsFound h event.entry result }
     {
         match self {
-            Judge::Regular(memory) => memory.fault(event),
-            Judge::Flat(memory) => memory.fault(event),
+            Judge::Regular(memory) => found(memory.fault(event)),
+            Judge::Flat(memory) => found(memory.fault(event)),
+            Judge::Atomic(memory) => found_atomic(memory, event),
         }
     }
 
     // What the load that is open under a number may return for the byte at an address.
-    pub(crate) fn may_return(&self, number: u64, address: u64) -> Option<ByteSet>
-        ensures { (h : History)
-            → IsOf self.now h
-            → IsSetOf (may_return_at h number address) result }
+    pub(crate) fn may_return(
+        &self,
+        number: u64,
+        address: u64,
+    ) -> Result<Option<ByteSet>, JudgeFault>
+        ensures { (h : History) → IsOf self.now h → IsSetFound h number address result }
     {
         match self {
-            Judge::Regular(memory) => memory.may_return(number, address),
-            Judge::Flat(memory) => memory.may_return(number, address),
+            Judge::Regular(memory) => Ok(memory.may_return(number, address)),
+            Judge::Flat(memory) => Ok(memory.may_return(number, address)),
+            Judge::Atomic(memory) => set_atomic(memory, number, address),
         }
     }
 
     // Takes one event.
-    pub(crate) fn step(&mut self, event: HistoryEvent) -> Result<(), StepFault>
+    pub(crate) fn step(&mut self, event: HistoryEvent) -> Result<(), JudgeFault>
         ensures ok { (h : History)
             → IsOf self.old h
-            → OnOk result ((fault_of h event.entry ≡ None) × IsOf self.new (history_after h event.entry)) }
-        ensures fault { (h : History) → IsOf self.old h → IfErr result (StepFaultIs h event.entry) }
+            → OnOk result (Passes h event.entry × IsOf self.new (history_after h event.entry)) }
+        ensures fault { (h : History)
+            → IsOf self.old h
+            → IfErr result (JudgeFaultIs h event.entry) }
         ensures unchanged { (h : History) → IsOf self.old h → OnErr result (IsOf self.new h) }
     {
         match self {
-            Judge::Regular(memory) => memory.step(event),
-            Judge::Flat(memory) => memory.step(event),
+            Judge::Regular(memory) => step_regular(memory, event),
+            Judge::Flat(memory) => step_flat(memory, event),
+            Judge::Atomic(memory) => step_atomic(memory, event),
+        }
+    }
+
+    // Forgets the unit in which the byte at an address lies.
+    pub(crate) fn forget(&mut self, address: u64) -> Result<(), ForgetFault>
+        ensures ok { (h : History)
+            → IsOf self.old h
+            → OnOk result ((has_units h ≡ true) × IsOf self.new (history_forgetting address h)) }
+        ensures fault { (h : History) → IsOf self.old h → IfErr result (ForgetFaultIs h) }
+        ensures unchanged { (h : History) → IsOf self.old h → OnErr result (IsOf self.new h) }
+    {
+        match self {
+            Judge::Regular(_memory) => Err(ForgetFault::NoUnits),
+            Judge::Flat(_memory) => Err(ForgetFault::NoUnits),
+            Judge::Atomic(memory) => {
+                forget_atomic(memory, address)?;
+                Ok(())
+            }
         }
     }
 }

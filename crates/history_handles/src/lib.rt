@@ -5,20 +5,24 @@
 //! each number and each length has an answer. What a call says is a number.
 #![tactic(auto)]
 
+mod asked;
 mod calls;
+mod faults;
 mod handle;
 mod history;
 mod judge;
 mod open;
 mod rows;
 mod status;
+mod steps;
+mod units;
 
-pub use calls::{
-    load_request, load_response, may_return, store_request, store_response, unanswered,
-    unanswered_load, unanswered_store, wrong_place,
-};
+pub use asked::{may_return, unanswered, unanswered_load, unanswered_store, wrong_place};
+pub use calls::{load_request, load_response, store_request, store_response};
+pub use faults::JudgeFault;
 pub use handle::HistoryHandle;
 pub use history::OpenHistory;
 pub use judge::Judge;
 pub use open::{free_history, open_history};
 pub use rows::{OCTETS, Operation};
+pub use units::{forget, undecided};

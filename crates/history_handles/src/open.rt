@@ -1,12 +1,13 @@
 //! A history is opened and freed.
 ghost use Rattle.std.specs.Prelude.{◌≡◌, ◌≢◌, None, IfErr, OnOk, OnErr};
 ghost use Rattle.history_handles.specs.Behind.{behind};
-ghost use Rattle.history_handles.specs.Opening.{chosen, law_of, rest_of, open_fault, open_number, fault_or_memory, IsTold, IsOpened, told_status};
+ghost use Rattle.history_handles.specs.Opening.{chosen, law_of, unit_of, of_bytes, rest_of, open_fault, open_number, fault_or_memory, IsTold, IsOpened, told_status};
 
 use crate::handle::HistoryHandle;
 use crate::history::OpenHistory;
 use crate::judge::Law;
 use crate::status::{CLOSED, DONE, NO_LAW, OPEN_ALREADY, OUT_OF_MEMORY};
+use atomic_histories::UnitSize;
 use memory_histories::Rest;
 use std::alloc::{AllocError, Global};
 
@@ -33,8 +34,9 @@ impl From<AllocError> for OpenFault {
 }
 
 /// Opens a history without an event behind a closed handle, to be judged by a law (0: the regular
-/// one; 1: the flat one) under which so many bytes are read and written as one: a `unit` of 1 for these
-/// two. Memory begins as the bytes of the image, from address 0 on, and beyond them as `rest` says (0:
+/// one; 1: the flat one; 2: the atomic one) under which so many bytes are read and written as one: a
+/// `unit` of 1 for the first two, and of 1, 2, 4 or 8 for the atomic one, whose units are aligned.
+/// Memory begins as the bytes of the image, from address 0 on, and beyond them as `rest` says (0:
 /// zeros; 1: nothing is known).
 ///
 /// 0: it stands behind the handle. 102: a history is behind the handle already. 103: no law has this
@@ -103,18 +105,38 @@ fn open_into(
 fn chosen(law: u32, unit: u32, rest: u32) -> Option<(Law, Rest)>
     ensures { result ≡ chosen law unit rest }
 {
-    if unit != 1 {
-        return None;
-    }
-    Some((law_of(law)?, rest_of(rest)?))
+    Some((law_of(law, unit)?, rest_of(rest)?))
 }
 
-fn law_of(law: u32) -> Option<Law>
-    ensures { result ≡ law_of law }
+fn law_of(law: u32, unit: u32) -> Option<Law>
+    ensures { result ≡ law_of law unit }
 {
     match law {
-        0 => Some(Law::Regular),
-        1 => Some(Law::Flat),
+        0 => of_bytes(Law::Regular, unit),
+        1 => of_bytes(Law::Flat, unit),
+        2 => match unit_of(unit) {
+            Some(size) => Some(Law::Atomic(size)),
+            None => None,
+        },
+        _ => None,
+    }
+}
+
+// A law under which each byte is read and written for itself.
+fn of_bytes(law: Law, unit: u32) -> Option<Law>
+    ensures { result ≡ of_bytes law unit }
+{
+    if unit == 1 { Some(law) } else { None }
+}
+
+fn unit_of(bytes: u32) -> Option<UnitSize>
+    ensures { result ≡ unit_of bytes }
+{
+    match bytes {
+        1 => Some(UnitSize::One),
+        2 => Some(UnitSize::Two),
+        4 => Some(UnitSize::Four),
+        8 => Some(UnitSize::Eight),
         _ => None,
     }
 }

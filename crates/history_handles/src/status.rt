@@ -1,8 +1,9 @@
 //! What a call of a handle may tell, as a number.
 ghost use Rattle.std.specs.Prelude.{◌≡◌};
-ghost use Rattle.history_handles.specs.Status.{fault_number, step_status};
+ghost use Rattle.history_handles.specs.Status.{fault_number, judge_number};
 
-use memory_histories::{HistoryFault, StepFault};
+use crate::faults::JudgeFault;
+use memory_histories::HistoryFault;
 
 /// The call was made; of an event: the history with it is one of the law.
 pub(crate) const DONE: u32 = 0;
@@ -28,11 +29,14 @@ pub(crate) const OUT_OF_MEMORY: u32 = 101;
 /// A history is behind the handle already.
 pub(crate) const OPEN_ALREADY: u32 = 102;
 
-/// No law has this number, or no memory begins so.
+/// No law has this number, or no memory begins so; of a unit to be forgotten: the law has none.
 pub(crate) const NO_LAW: u32 = 103;
 
 /// The history has as many events as can be counted.
 pub(crate) const TOO_LONG: u32 = 104;
+
+/// There is no verdict: too many ways would have to be followed at a unit.
+pub(crate) const UNDECIDED: u32 = 105;
 
 // The number of a fault.
 pub(crate) fn fault_number(fault: HistoryFault) -> u32
@@ -48,14 +52,14 @@ pub(crate) fn fault_number(fault: HistoryFault) -> u32
     }
 }
 
-// The number of what a step says.
-pub(crate) fn step_status(told: Result<(), StepFault>) -> u32
-    ensures { result ≡ step_status told }
+// The number of why an event wasn't taken.
+pub(crate) fn judge_number(fault: JudgeFault) -> u32
+    ensures { result ≡ judge_number fault }
 {
-    match told {
-        Ok(()) => DONE,
-        Err(StepFault::Refused(fault)) => fault_number(fault),
-        Err(StepFault::TooLong) => TOO_LONG,
-        Err(StepFault::OutOfMemory) => OUT_OF_MEMORY,
+    match fault {
+        JudgeFault::Refused(cause) => fault_number(cause),
+        JudgeFault::Undecided { address: _ } => UNDECIDED,
+        JudgeFault::TooLong => TOO_LONG,
+        JudgeFault::OutOfMemory => OUT_OF_MEMORY,
     }
 }

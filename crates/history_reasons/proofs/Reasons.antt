@@ -52,7 +52,7 @@ turned xs x c =
     let within : c.0 < length xs = let l = c.1 in omega arith in
     (length xs - 1 - c.0, omega arith, sym (get_or-reverse xs c.0 x within) ∙ c.2)
 
-last_there : (p : StoreByte → Bool) (xs : List StoreByte) (x : StoreByte) → last_that p xs ≡ Some x → Contains xs x × (p x ≡ true)
+pub last_there : (p : StoreByte → Bool) (xs : List StoreByte) (x : StoreByte) → last_that p xs ≡ Some x → Contains xs x × (p x ≡ true)
 last_there p xs x h = let r = found_there p (reverse xs) x h in (turned xs x r.0, r.1)
 
 false_true : (b : Bool) → b ≡ false → b ≡ true → ⊥
@@ -80,10 +80,10 @@ initial None Zeros b = Decides-eqb b 0
 initial None Unknown b = Decides-ltb b 256
 initial (Some i) r b = Decides-eqb i b
 
-stores_law : (address b : ℕ) (s : StoreByte) → Decides (stores_byte address b s) (Stores address b s)
+pub stores_law : (address b : ℕ) (s : StoreByte) → Decides (stores_byte address b s) (Stores address b s)
 stores_law address b s = Decides-and _ _ (Decides-eqb s.address address) (Decides-eqb s.byte b)
 
-overwrites_law : (s by : StoreByte) (moment : ℕ) → Decides (overwrites s moment by) (Overwrote by s moment)
+pub overwrites_law : (s by : StoreByte) (moment : ℕ) → Decides (overwrites s moment by) (Overwrote by s moment)
 overwrites_law s by moment = Decides-and _ _ (Decides-eqb by.address s.address) (Decides-and _ _ (before s.ended by.began) (before by.ended
     moment))
 

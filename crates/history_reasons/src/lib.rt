@@ -5,6 +5,9 @@ ghost use Rattle.std.specs.Prelude.{◌≡◌, ◌↔◌, None, slice_get, IfSom
 ghost use Rattle.memory_histories.specs.Regular.{MayReturn, may_return_byte, is_before, overwrites, is_initial, is_rest};
 ghost use Rattle.history_reasons.specs.Reasons.{HasReason, stores_byte, covers, last_that, last_reason};
 
+mod log;
+
+pub use log::{KEPT_BYTES, StoreLog};
 use memory_histories::{LoadByte, Rest, StoreByte, may_return};
 
 /// Why a load may not return a byte.
@@ -37,7 +40,7 @@ pub fn why(
     last_reason(image, rest, stores, load, byte)
 }
 
-fn last_reason(
+pub(crate) fn last_reason(
     image: &[u8],
     rest: Rest,
     stores: &[StoreByte],
@@ -68,7 +71,7 @@ fn is_allowed(image: &[u8], rest: Rest, stores: &[StoreByte], load: &LoadByte, b
 }
 
 // The last store that put this byte at an address.
-fn last_with(stores: &[StoreByte], address: u64, byte: u8) -> Option<StoreByte>
+pub(crate) fn last_with(stores: &[StoreByte], address: u64, byte: u8) -> Option<StoreByte>
     ensures { result ≡ last_that (stores_byte address byte) stores.now }
 {
     stores
@@ -79,7 +82,11 @@ fn last_with(stores: &[StoreByte], address: u64, byte: u8) -> Option<StoreByte>
 }
 
 // The last store that overwrote this one before the moment.
-fn last_overwriting(stores: &[StoreByte], store: &StoreByte, moment: u64) -> Option<StoreByte>
+pub(crate) fn last_overwriting(
+    stores: &[StoreByte],
+    store: &StoreByte,
+    moment: u64,
+) -> Option<StoreByte>
     ensures { result ≡ last_that (overwrites store.now moment) stores.now }
 {
     stores.iter().rev().copied().find(|other| {

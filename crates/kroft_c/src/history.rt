@@ -4,14 +4,15 @@ ghost use Rattle.memory_histories.specs.declared.events.HistoryEvent.TheVariants
 ghost use Rattle.history_handles.specs.Session.{Session};
 ghost use Rattle.history_handles.specs.Behind.{behind, IsBehind};
 ghost use Rattle.history_handles.specs.Opening.{chosen, open_fault, IsTold, IsOpened, told_status};
-ghost use Rattle.history_handles.specs.Calls.{IsStatus, left_by, IsSetTold, set_asked, IsPlaceTold, IsCounted, IsOperationTold, load_asked, store_asked};
+ghost use Rattle.history_handles.specs.Calls.{IsEventTold, IsSetTold, IsPlaceTold, IsForgetStatus, forgotten_by, IsAddressTold, IsCounted, IsOperationTold, load_asked, store_asked};
 
 use history_handles::{HistoryHandle, Operation};
 use std::alloc::Global;
 
 /// Opens a history without an event behind a closed handle, to be judged by a law (0: the regular
-/// one; 1: the flat one) under which so many bytes are read and written as one: a `unit` of 1 for these
-/// two. Memory begins as the bytes of the image, from address 0 on, and beyond them as `rest` says (0:
+/// one; 1: the flat one; 2: the atomic one) under which so many bytes are read and written as one: a
+/// `unit` of 1 for the first two, and of 1, 2, 4 or 8 for the atomic one, whose units are aligned.
+/// Memory begins as the bytes of the image, from address 0 on, and beyond them as `rest` says (0:
 /// zeros; 1: nothing is known).
 ///
 /// 0: it stands behind the handle. 102: a history is behind the handle already. 103: no law has this
@@ -47,7 +48,7 @@ pub extern "C" fn kroft_history_free(alloc: Global, handle: &mut HistoryHandle) 
 ///
 /// 0: the history with it is one of its law. 11: it has no byte or more than 64, or runs beyond the
 /// last address. 13: a load is open under the number. 104: the history has 2^64 - 1 events. 101:
-/// there was too little memory. 3: the handle is closed. After each but 0 all is as it was.
+/// there was too little memory. 3: the handle is closed. After each but 0 the history is as it was.
 #[unsafe(no_mangle)]
 pub extern "C" fn kroft_load_request(
     alloc: Global,
@@ -56,12 +57,9 @@ pub extern "C" fn kroft_load_request(
     address: u64,
     length: usize,
 ) -> u32
-    ensures status { (b : Option Session)
+    ensures { (b : Option Session)
         → IsBehind handle.old b
-        → IsStatus result b (LoadRequest number address length) }
-    ensures history { (b : Option Session)
-        → IsBehind handle.old b
-        → IsBehind handle.new (left_by result b (LoadRequest number address length)) }
+        → IsEventTold result handle.new b (LoadRequest number address length) }
 {
     history_handles::load_request(alloc, handle, number, address, length)
 }
@@ -69,8 +67,10 @@ pub extern "C" fn kroft_load_request(
 /// The load that is open under this number is answered with these bytes.
 ///
 /// 0: the history with it is one of its law. 14: no load is open under the number. 15: the load was
-/// requested with another length. 16: the load may not return one of the bytes. 104, 101 and 3 as of
-/// [`kroft_load_request`]. After each but 0 all is as it was.
+/// requested with another length. 16: the load may not return one of the bytes. 105: there is no
+/// verdict, since too many ways would have to be followed at one of its units ([`kroft_undecided`] says at
+/// which, and once it is forgotten there is one); the atomic law alone says so. 104, 101 and 3 as of
+/// [`kroft_load_request`]. After each but 0 the history is as it was.
 #[unsafe(no_mangle)]
 pub extern "C" fn kroft_load_response(
     alloc: Global,
@@ -78,12 +78,9 @@ pub extern "C" fn kroft_load_response(
     number: u64,
     bytes: &[u8],
 ) -> u32
-    ensures status { (b : Option Session)
+    ensures { (b : Option Session)
         → IsBehind handle.old b
-        → IsStatus result b (LoadResponse number bytes.entry) }
-    ensures history { (b : Option Session)
-        → IsBehind handle.old b
-        → IsBehind handle.new (left_by result b (LoadResponse number bytes.entry)) }
+        → IsEventTold result handle.new b (LoadResponse number bytes.entry) }
 {
     history_handles::load_response(alloc, handle, number, bytes)
 }
@@ -93,7 +90,7 @@ pub extern "C" fn kroft_load_response(
 ///
 /// 0: the history with it is one of its law. 11: it has no byte or more than 64, or runs beyond the
 /// last address. 12: no byte is enabled. 13: a store is open under the number. 104, 101 and 3 as of
-/// [`kroft_load_request`]. After each but 0 all is as it was.
+/// [`kroft_load_request`]. After each but 0 the history is as it was.
 #[unsafe(no_mangle)]
 pub extern "C" fn kroft_store_request(
     alloc: Global,
@@ -103,32 +100,27 @@ pub extern "C" fn kroft_store_request(
     bytes: &[u8],
     enables: u64,
 ) -> u32
-    ensures status { (b : Option Session)
+    ensures { (b : Option Session)
         → IsBehind handle.old b
-        → IsStatus result b (StoreRequest number address bytes.entry enables) }
-    ensures history { (b : Option Session)
-        → IsBehind handle.old b
-        → IsBehind handle.new (left_by result b (StoreRequest number address bytes.entry enables)) }
+        → IsEventTold result handle.new b (StoreRequest number address bytes.entry enables) }
 {
     history_handles::store_request(alloc, handle, number, address, bytes, enables)
 }
 
 /// The store that is open under this number is answered.
 ///
-/// 0: the history with it is one of its law. 14: no store is open under the number. 104, 101 and 3 as
-/// of [`kroft_load_request`]. After each but 0 all is as it was.
+/// 0: the history with it is one of its law. 14: no store is open under the number. 105 as of
+/// [`kroft_load_response`]. 104, 101 and 3 as of [`kroft_load_request`]. After each but 0 the history is
+/// as it was.
 #[unsafe(no_mangle)]
 pub extern "C" fn kroft_store_response(
     alloc: Global,
     handle: &mut HistoryHandle,
     number: u64,
 ) -> u32
-    ensures status { (b : Option Session)
+    ensures { (b : Option Session)
         → IsBehind handle.old b
-        → IsStatus result b (StoreResponse number) }
-    ensures history { (b : Option Session)
-        → IsBehind handle.old b
-        → IsBehind handle.new (left_by result b (StoreResponse number)) }
+        → IsEventTold result handle.new b (StoreResponse number) }
 {
     history_handles::store_response(alloc, handle, number)
 }
@@ -137,7 +129,9 @@ pub extern "C" fn kroft_store_response(
 /// now: bit `k` of byte `n` of `set` says whether it may return byte `8n + k`.
 ///
 /// 1: `set` is it. 0: no such load asks for that byte. 2: `set` hasn't 32 bytes. 3: the handle is
-/// closed. After each but 1 `set` is as it was; the history is so after each.
+/// closed. By the atomic law it is the set of this byte alone, and there may be no verdict: 105 says
+/// that too many ways would have to be followed at its unit, and 101 that there was too little memory.
+/// After each but 1 `set` is as it was; the history is so after each.
 #[unsafe(no_mangle)]
 pub extern "C" fn kroft_may_return(
     alloc: Global,
@@ -148,7 +142,7 @@ pub extern "C" fn kroft_may_return(
 ) -> u32
     ensures set { (b : Option Session)
         → IsBehind handle.old b
-        → IsSetTold result set.old set.new (set_asked b number address) }
+        → IsSetTold result set.old set.new b number address }
     ensures same { behind handle.new ≡ behind handle.old }
 {
     history_handles::may_return(alloc, handle, number, address, set)
@@ -157,8 +151,10 @@ pub extern "C" fn kroft_may_return(
 /// What [`kroft_load_response`] would say of these bytes if there is room for it, and the first of them that
 /// the load may not return. It isn't told.
 ///
-/// 16: the load may not return the byte at `place`, counted from 0. 0, 14, 15 and 3 as of
-/// [`kroft_load_response`], and `place` is as it was. The history is as it was after each.
+/// 16: the load may not return the byte at `place`, counted from 0; by the atomic law it is the first that
+/// lies in the lowest unit whose bytes it may not return. 0, 14, 15, 105 and 3 as of
+/// [`kroft_load_response`], and 101 by the atomic law alone: there was too little memory; `place` is then as
+/// it was. The history is as it was after each.
 #[unsafe(no_mangle)]
 pub extern "C" fn kroft_wrong_place(
     alloc: Global,
@@ -173,6 +169,41 @@ pub extern "C" fn kroft_wrong_place(
     ensures same { behind handle.new ≡ behind handle.old }
 {
     history_handles::wrong_place(alloc, handle, number, bytes, place)
+}
+
+/// Forgets the unit in which the byte at an address lies, of a history by the atomic law. From there on its
+/// bytes are unknown: whatever a load returns there is allowed, and no answer is undecided for its sake. The
+/// other units are judged on.
+///
+/// 0: it is forgotten. 103: the law has no units. 101: there was too little memory. 3: the handle is closed.
+/// After each but 0 the history is as it was.
+#[unsafe(no_mangle)]
+pub extern "C" fn kroft_forget(alloc: Global, handle: &mut HistoryHandle, address: u64) -> u32
+    ensures status { (b : Option Session) → IsBehind handle.old b → IsForgetStatus result b }
+    ensures history { (b : Option Session)
+        → IsBehind handle.old b
+        → IsBehind handle.new (forgotten_by result b address) }
+{
+    history_handles::forget(alloc, handle, address)
+}
+
+/// Where the unit begins for whose sake an answer was undecided, if no event was taken and no unit was
+/// forgotten since.
+///
+/// 1: it begins at `address`. 0: there is none. 3: the handle is closed. After 0 and 3 `address` is as it
+/// was; the history is so after each.
+#[unsafe(no_mangle)]
+pub extern "C" fn kroft_undecided(
+    alloc: Global,
+    handle: &mut HistoryHandle,
+    address: &mut u64,
+) -> u32
+    ensures address { (b : Option Session)
+        → IsBehind handle.old b
+        → IsAddressTold result address.old address.new b }
+    ensures same { behind handle.new ≡ behind handle.old }
+{
+    history_handles::undecided(alloc, handle, address)
 }
 
 /// How many loads and how many stores are open. 0: `loads` and `stores` say it. 3: the handle is

@@ -1,0 +1,33 @@
+-- What a judge finds of an event is what a step would say of it.
+use Rattle.std.proofs.Common.{◌≡◌, ℕ, refl, sym, subst}
+use Rattle.std.specs.Prelude.{Option, Some, None}
+use Rattle.std.specs.Option.{option_map}
+use Rattle.memory_histories.specs.declared.events.HistoryEvent.{HistoryEvent}
+use Rattle.memory_histories.specs.declared.events.HistoryFault.{HistoryFault}
+use Rattle.memory_histories.specs.Regular.{fault}
+use Rattle.memory_histories.specs.Flat.{flat_fault}
+use Rattle.history_handles.specs.declared.faults.JudgeFault.{JudgeFault}
+use Rattle.history_handles.specs.declared.faults.JudgeFault.TheVariants.{Refused, OutOfMemory}
+use Rattle.history_handles.specs.History.{History, OfRegular, OfFlat, OfAtomic}
+use Rattle.history_handles.specs.Kept.{ExactFaultIs, IsExactlyFound, JudgeFaultIs, IsFound}
+use Rattle.history_handles.proofs.AtomicJudge.{formed}
+
+exact_fault : (found : Option HistoryFault) (moment : ℕ) (told : JudgeFault) → IsExactlyFound found (Some told)
+    → ExactFaultIs found moment told
+exact_fault None moment told h = cc
+exact_fault (Some cause) moment told h =
+    let same : told ≡ Refused cause = cc in subst (λ f. ExactFaultIs (Some cause) moment f) (sym same) refl
+
+exact_none : (found : Option HistoryFault) → IsExactlyFound found None → found ≡ None
+exact_none None h = refl
+exact_none (Some cause) h = cc
+
+pub not_taken : (h : History) (event : HistoryEvent) (told : JudgeFault) → IsFound h event (Some told) → JudgeFaultIs h event told
+not_taken (OfRegular w) event told f = exact_fault (fault w event) w.moment told f
+not_taken (OfFlat w) event told f = exact_fault (flat_fault w event) w.moment told f
+not_taken (OfAtomic a) event told f = f
+
+pub no_room : (h : History) (event : HistoryEvent) → IsFound h event None → JudgeFaultIs h event OutOfMemory
+no_room (OfRegular w) event f = exact_none (fault w event) f
+no_room (OfFlat w) event f = exact_none (flat_fault w event) f
+no_room (OfAtomic a) event f = formed a event f

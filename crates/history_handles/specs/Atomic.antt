@@ -1,0 +1,72 @@
+-- A history by the atomic law, of which units may have been forgotten.
+use Rattle.std.specs.Prelude.{ℕ, ◌≡◌, ◌/◌, List, [], ◌∷◌, ◌++◌, None}
+use Rattle.memory_histories.specs.declared.events.HistoryEvent.{HistoryEvent}
+use Rattle.memory_histories.specs.declared.events.HistoryFault.{HistoryFault}
+use Rattle.memory_histories.specs.declared.events.Rest.{Rest}
+use Rattle.atomic_histories.specs.declared.memory.AtomicMemory.{AtomicMemory}
+use Rattle.atomic_histories.specs.Operations.{opened_by, form_fault}
+use Rattle.atomic_histories.specs.Lost.{IsAtomicBut, FaultIsBut}
+use Rattle.atomic_histories.specs.Held.{Held, IsWide, StandsBut}
+use Rattle.atomic_histories.specs.May.{IsWideByte}
+use Rattle.atomic_histories.specs.Judge.{held, limit_of}
+
+-- what memory had before the first event, the size of its units, the numbers of those that were forgotten, and the events
+pub record Atomic : Type 0 where
+  pub image : List ℕ
+  pub rest : Rest
+  pub size : ℕ
+  pub lost : List ℕ
+  pub events : List HistoryEvent
+
+-- no event yet
+abbrev pub opening : List ℕ → Rest → ℕ → Atomic
+opening image rest size = record { image = image; rest = rest; size = size; lost = []; events = [] }
+
+abbrev pub with_event : Atomic → HistoryEvent → Atomic
+with_event a event = record { image = a.image; rest = a.rest; size = a.size; lost = a.lost; events = a.events ++ event ∷ [] }
+
+-- the unit in which the byte at an address lies is forgotten
+abbrev pub forgetting : ℕ → Atomic → Atomic
+forgetting address a = record { image = a.image; rest = a.rest; size = a.size; lost = address / a.size ∷ a.lost; events = a.events }
+
+-- the history with this event is one of the law, but for what is seen of the units that were forgotten
+abbrev pub IsLawful : Atomic → HistoryEvent → Type 0
+IsLawful a event = IsAtomicBut a.lost a.image a.rest a.size (a.events ++ event ∷ [])
+
+-- it is none, for this fault
+abbrev pub IsRefused : Atomic → HistoryEvent → HistoryFault → Type 0
+IsRefused a event cause = FaultIsBut a.lost a.image a.rest a.size a.events event cause × ¬ (IsLawful a event)
+
+-- an event has the form that the operations which are open ask for
+abbrev pub IsFormed : Atomic → HistoryEvent → Type 0
+IsFormed a event = form_fault (opened_by a.events) event ≡ None
+
+-- this is what a judge keeps of the history
+pub record IsHeld (kept : Held) (a : Atomic) : Type 0 where
+  pub image : kept.image ≡ a.image
+  pub rest : kept.rest ≡ a.rest
+  pub size : kept.size ≡ a.size
+  pub stands : StandsBut kept a.lost a.events
+
+-- to how many pairs of a word and the stores in effect ways are followed at a unit
+abbrev pub followed : ℕ
+followed = 4096
+
+-- what this judge keeps is of the history
+pub record IsJudgeOf (m : AtomicMemory) (a : Atomic) : Type 0 where
+  pub kept : IsHeld (held m) a
+  pub limit : limit_of m ≡ followed
+
+-- the unit that begins at an address may have gone too many ways, of which each must be followed to tell what this event makes of the
+-- history
+pub record IsUndecided (a : Atomic) (event : HistoryEvent) (address : ℕ) : Type 0 where
+  pub formed : IsFormed a event
+  pub kept : Held
+  pub is_kept : IsHeld kept a
+  pub wide : IsWide followed kept event address
+
+-- or what an open load may return for the byte at an address
+pub record IsUndecidedByte (a : Atomic) (byte : ℕ) (address : ℕ) : Type 0 where
+  pub kept : Held
+  pub is_kept : IsHeld kept a
+  pub wide : IsWideByte followed kept byte address

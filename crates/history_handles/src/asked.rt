@@ -1,0 +1,193 @@
+//! What a history behind a handle is asked.
+ghost use Rattle.std.specs.Prelude.{◌≡◌, None, Option, Some, length};
+ghost use Rattle.memory_histories.specs.declared.events.HistoryEvent.TheVariants.{LoadResponse};
+ghost use Rattle.history_handles.specs.Session.{Session};
+ghost use Rattle.history_handles.specs.Behind.{behind, IsBehind};
+ghost use Rattle.history_handles.specs.Calls.{IsSetTold, IsRowTold, IsPlaceTold, IsFaultTold, IsCauseTold, IsCounted, IsOperationTold, load_asked, store_asked};
+
+use crate::faults::JudgeFault;
+use crate::handle::HistoryHandle;
+use crate::rows::{OCTETS, Operation, write_set};
+use crate::status::{
+    CLOSED, DONE, FOUND, NO_ROOM, NOT_THERE, WRONG_BYTE, fault_number, judge_number,
+};
+use memory_histories::{ByteSet, HistoryEvent, HistoryFault};
+use std::alloc::Global;
+
+/// What the load that is open under a number may return for the byte at an address, if it is answered
+/// now: bit `k` of byte `n` of `set` says whether it may return byte `8n + k`.
+///
+/// 1: `set` is it. 0: no such load asks for that byte. 2: `set` hasn't 32 bytes. 3: the handle is
+/// closed. By the atomic law it is the set of this byte alone, and there may be no verdict: 105 says
+/// that too many ways would have to be followed at its unit, and 101 that there was too little memory.
+/// After each but 1 `set` is as it was; the history is so after each.
+#[tactic(auto, using(crate::proofs::Telling::is_set))]
+pub fn may_return(
+    alloc: Global,
+    handle: &mut HistoryHandle,
+    number: u64,
+    address: u64,
+    set: &mut [u8],
+) -> u32
+    ensures set { (b : Option Session)
+        → IsBehind handle.old b
+        → IsSetTold result set.old set.new b number address }
+    ensures same { behind handle.new ≡ behind handle.old }
+{
+    let Some(history) = handle.take(alloc) else {
+        return CLOSED;
+    };
+    let found = history.as_ref().may_return(number, address);
+    handle.keep(history);
+    if set.len() != OCTETS {
+        return NO_ROOM;
+    }
+    told_set(found, set)
+}
+
+// Tells a set, if there is one.
+fn told_set(found: Result<Option<ByteSet>, JudgeFault>, set: &mut [u8]) -> u32
+    requires { length set.old ≡ OCTETS }
+    ensures { IsRowTold result set.old set.new found }
+{
+    match found {
+        Ok(Some(bytes)) => {
+            write_set(bytes, set);
+            FOUND
+        }
+        Ok(None) => NOT_THERE,
+        Err(fault) => judge_number(fault),
+    }
+}
+
+/// What [`load_response`](crate::load_response) would say of these bytes if there is room for it, and the first of them that
+/// the load may not return. It isn't told.
+///
+/// 16: the load may not return the byte at `place`, counted from 0; by the atomic law it is the first that
+/// lies in the lowest unit whose bytes it may not return. 0, 14, 15, 105 and 3 as of [`load_response`], and
+/// 101 by the atomic law alone: there was too little memory; `place` is then as it was. The history is as it
+/// was after each.
+///
+/// [`load_response`]: crate::load_response
+#[tactic(auto, using(crate::proofs::Telling::is_place))]
+pub fn wrong_place(
+    alloc: Global,
+    handle: &mut HistoryHandle,
+    number: u64,
+    bytes: &[u8],
+    place: &mut u64,
+) -> u32
+    ensures place { (b : Option Session)
+        → IsBehind handle.old b
+        → IsPlaceTold result place.old place.new b (LoadResponse number bytes.entry) }
+    ensures same { behind handle.new ≡ behind handle.old }
+{
+    let Some(history) = handle.take(alloc) else {
+        return CLOSED;
+    };
+    let found = history
+        .as_ref()
+        .fault(HistoryEvent::LoadResponse { number, bytes });
+    handle.keep(history);
+    told_place(found, place)
+}
+
+// Tells a fault by its number, and the place of a wrong byte.
+fn told_place(found: Option<JudgeFault>, place: &mut u64) -> u32
+    ensures { IsFaultTold result place.old place.new found }
+{
+    match found {
+        None => DONE,
+        Some(JudgeFault::Refused(cause)) => told_cause(cause, place),
+        Some(fault) => judge_number(fault),
+    }
+}
+
+fn told_cause(cause: HistoryFault, place: &mut u64) -> u32
+    ensures { IsCauseTold result place.old place.new cause }
+{
+    match cause {
+        HistoryFault::WrongByte { place: wrong } => {
+            *place = wrong as u64;
+            WRONG_BYTE
+        }
+        cause => fault_number(cause),
+    }
+}
+
+/// How many loads and how many stores are open. 0: `loads` and `stores` say it. 3: the handle is
+/// closed, and they are as they were.
+pub fn unanswered(
+    alloc: Global,
+    handle: &mut HistoryHandle,
+    loads: &mut u64,
+    stores: &mut u64,
+) -> u32
+    ensures counts { (b : Option Session)
+        → IsBehind handle.old b
+        → IsCounted result b loads.old loads.new stores.old stores.new }
+    ensures same { behind handle.new ≡ behind handle.old }
+{
+    let Some(history) = handle.take(alloc) else {
+        return CLOSED;
+    };
+    *loads = history.as_ref().loads.len() as u64;
+    *stores = history.as_ref().stores.len() as u64;
+    handle.keep(history);
+    DONE
+}
+
+/// The load at place `n` among those that are open, in the order of their requests. 1: `operation` is
+/// it. 0: there is none. 3: the handle is closed. After 0 and 3 `operation` is as it was.
+pub fn unanswered_load(
+    alloc: Global,
+    handle: &mut HistoryHandle,
+    n: u64,
+    operation: &mut Operation,
+) -> u32
+    ensures load { (b : Option Session)
+        → IsBehind handle.old b
+        → IsOperationTold result operation.old operation.new (load_asked b n) }
+    ensures same { behind handle.new ≡ behind handle.old }
+{
+    let Some(history) = handle.take(alloc) else {
+        return CLOSED;
+    };
+    let found = history.as_ref().loads.get(n as usize).copied();
+    handle.keep(history);
+    told(found, operation)
+}
+
+/// The store at place `n` among those that are open, in the order of their requests. 1: `operation` is
+/// it. 0: there is none. 3: the handle is closed. After 0 and 3 `operation` is as it was.
+pub fn unanswered_store(
+    alloc: Global,
+    handle: &mut HistoryHandle,
+    n: u64,
+    operation: &mut Operation,
+) -> u32
+    ensures store { (b : Option Session)
+        → IsBehind handle.old b
+        → IsOperationTold result operation.old operation.new (store_asked b n) }
+    ensures same { behind handle.new ≡ behind handle.old }
+{
+    let Some(history) = handle.take(alloc) else {
+        return CLOSED;
+    };
+    let found = history.as_ref().stores.get(n as usize).copied();
+    handle.keep(history);
+    told(found, operation)
+}
+
+// Tells an operation, if there is one.
+fn told(found: Option<Operation>, operation: &mut Operation) -> u32
+    ensures { IsOperationTold result operation.old operation.new (Some found) }
+{
+    match found {
+        Some(open) => {
+            *operation = open;
+            FOUND
+        }
+        None => NOT_THERE,
+    }
+}

@@ -1,0 +1,339 @@
+//! The stores and the open loads of a history as it goes, to say why a byte is wrong.
+
+ghost use Rattle.std.specs.Prelude.{◌≡◌, ◌+◌, ◌-◌, ◌≤◌, ◌<◌, ◌^◌, ◌↔◌, ◌++◌, true, None, length, drop, map, not, vec_len, vec_capacity, IfOk, OnOk, IfSome};
+ghost use Rattle.std.specs.List.{filter, find};
+ghost use Rattle.memory_histories.specs.Windows.{Windows, opening, windows_after, store_bytes, load_bytes, is_of, is_at, after_response};
+ghost use Rattle.memory_histories.specs.Regular.{MayReturn, is_inside};
+ghost use Rattle.history_reasons.specs.Reasons.{last_reason};
+ghost use Rattle.history_reasons.specs.Log.{IsLogOf, is_within, HasRoom, IsNoted, IsCounted, IsShortened, part_reason, kept_reason, IsTrueOf, IsWholeOf};
+
+use crate::{Reason, last_overwriting, last_reason, last_with};
+use memory_histories::{HistoryEvent, LoadByte, MAX_LENGTH, Rest, StoreByte};
+use std::alloc::{AllocError, Global};
+
+/// How many bytes of stores a log keeps at least: of more it may forget the first ones.
+pub const KEPT_BYTES: usize = 4096;
+
+/// The bytes of the stores of a history and of its open loads, with the events that requested and answered
+/// them, counted from 0. The first stores may be forgotten, so that a log has never more than twice
+/// [`KEPT_BYTES`] of them and one store.
+#[derive(Drop)]
+pub struct StoreLog {
+    image: Vec<u8>,
+    rest: Rest,
+    moment: u64,
+    stores: Vec<StoreByte>,
+    loads: Vec<LoadByte>,
+    is_whole: bool,
+}
+
+impl StoreLog {
+    /// The log of a history without an event, of a memory that begins with this image, and beyond it as
+    /// `rest` says. `AllocError` says that there was too little memory: nothing is made.
+    #[tactic(auto, using(crate::proofs::Logs::opened))]
+    pub fn new(alloc: Global, image: &[u8], rest: Rest) -> Result<StoreLog, AllocError>
+        ensures { IfOk result (λ g. IsLogOf g (opening image.now rest)) }
+    {
+        let image = Vec::from_slice(alloc, image)?;
+        Ok(StoreLog {
+            image,
+            rest,
+            moment: 0,
+            stores: Vec::new(alloc),
+            loads: Vec::new(alloc),
+            is_whole: true,
+        })
+    }
+
+    /// Makes room for what one event adds, and may forget the first stores for it. `AllocError` says that
+    /// there was too little memory. The log is of the same history after both.
+    pub fn make_room(&mut self) -> Result<(), AllocError>
+        ensures same { (w : Windows) → IsLogOf self.old w → IsLogOf self.new w }
+        ensures room { OnOk result (HasRoom self.new) }
+    {
+        self.shorten()?;
+        self.reserve()
+    }
+
+    #[tactic(auto, using(crate::proofs::Logs::same_log))]
+    fn reserve(&mut self) -> Result<(), AllocError>
+        ensures same { (w : Windows) → IsLogOf self.old w → IsLogOf self.new w }
+        ensures room { OnOk result (HasRoom self.new) }
+    {
+        self.stores.reserve(MAX_LENGTH)?;
+        self.loads.reserve(MAX_LENGTH)
+    }
+
+    fn shorten(&mut self) -> Result<(), AllocError>
+        ensures { (w : Windows) → IsLogOf self.old w → IsLogOf self.new w }
+    {
+        self.forget()
+    }
+
+    // Forgets the first stores, if there are twice as many as are kept at least.
+    fn forget(&mut self) -> Result<(), AllocError>
+        ensures { IsShortened self.old self.new }
+    {
+        if self.stores.len() < 2 * KEPT_BYTES {
+            return Ok(());
+        }
+        let alloc = *self.stores.allocator();
+        self.stores = last_bytes(alloc, self.stores.as_slice())?;
+        self.is_whole = false;
+        Ok(())
+    }
+
+    /// Notes an event of the history. The events have numbers of their own as long as fewer than 2^64 are
+    /// noted. (One whose operation doesn't lie within memory is none of any law, and only counted.)
+    pub fn note(&mut self, event: HistoryEvent)
+        requires room { HasRoom self.old }
+        ensures { (w : Windows)
+            → w.moment < 18446744073709551615
+            → is_within event.entry ≡ true
+            → IsLogOf self.old w
+            → IsLogOf self.new (windows_after w event.entry) }
+    {
+        self.note_bytes(event);
+        self.count();
+    }
+
+    fn count(&mut self)
+        ensures { IsCounted self.old self.new }
+    {
+        self.moment = self.moment.saturating_add(1);
+    }
+
+    fn note_bytes(&mut self, event: HistoryEvent)
+        requires room { HasRoom self.old }
+        ensures { is_within event.entry ≡ true → IsNoted self.old event.entry self.new }
+    {
+        if is_within(event) {
+            self.note_within(event);
+        }
+    }
+
+    fn note_within(&mut self, event: HistoryEvent)
+        requires room { HasRoom self.old }
+        requires inside { is_within event ≡ true }
+        ensures { IsNoted self.old event.entry self.new }
+    {
+        match event {
+            HistoryEvent::LoadRequest {
+                number,
+                address,
+                length,
+            } => add_load(&mut self.loads, number, address, length, self.moment),
+            HistoryEvent::LoadResponse { number, bytes: _ } => end_load(&mut self.loads, number),
+            HistoryEvent::StoreRequest {
+                number,
+                address,
+                bytes,
+                enables,
+            } => add_store(
+                &mut self.stores,
+                number,
+                address,
+                bytes,
+                enables,
+                self.moment,
+            ),
+            HistoryEvent::StoreResponse { number } => {
+                end_store(self.stores.as_mut_slice(), number, self.moment);
+            }
+        }
+    }
+
+    /// Whether it has all stores so far. It may have forgotten the first only if they had more than
+    /// [`KEPT_BYTES`] bytes together.
+    pub fn is_whole(&self) -> bool
+        ensures { (w : Windows) → IsLogOf self.now w → IsWholeOf self.now w result }
+    {
+        self.is_whole
+    }
+
+    /// The byte at an address of the load that is open under this number, with the event that requested it.
+    pub fn load_at(&self, number: u64, address: u64) -> Option<LoadByte>
+        ensures { (w : Windows)
+            → IsLogOf self.now w
+            → result ≡ find (is_at number address) w.loads }
+    {
+        self.kept_load(number, address)
+    }
+
+    fn kept_load(&self, number: u64, address: u64) -> Option<LoadByte>
+        ensures { result ≡ find (is_at number address) self.now.loads.items }
+    {
+        load_at(self.loads.as_slice(), number, address)
+    }
+
+    /// Why a load may not return this byte by the regular law, if it is answered now: a true reason, over all
+    /// stores so far. If the log [is whole](StoreLog::is_whole), it is `None` exactly if the load may return
+    /// the byte; if it isn't, it may be `None` too since a store was forgotten.
+    pub fn why(&self, load: &LoadByte, byte: u8) -> Option<Reason>
+        ensures reason { (w : Windows)
+            → IsLogOf self.now w
+            → IfSome result (IsTrueOf w load.now byte) }
+        ensures whole { (w : Windows)
+            → IsLogOf self.now w
+            → IsWholeOf self.now w true
+            → (result ≡ None) ↔ MayReturn w.image w.rest w.stores load.now byte }
+    {
+        self.kept_reason(load, byte)
+    }
+
+    fn kept_reason(&self, load: &LoadByte, byte: u8) -> Option<Reason>
+        ensures { result ≡ kept_reason self.now load.now byte }
+    {
+        if self.is_whole {
+            let image = self.image.as_slice();
+            last_reason(image, self.rest, self.stores.as_slice(), load, byte)
+        } else {
+            part_reason(self.stores.as_slice(), load, byte)
+        }
+    }
+}
+
+// Why a load may not return a byte, by the last stores alone.
+fn part_reason(stores: &[StoreByte], load: &LoadByte, byte: u8) -> Option<Reason>
+    ensures { result ≡ part_reason stores.now load.now byte }
+{
+    let stored = last_with(stores, load.address, byte)?;
+    let by = last_overwriting(stores, &stored, load.began)?;
+    Some(Reason::StoreOverwritten { stored, by })
+}
+
+// As many of the last bytes as are kept at least.
+fn last_bytes(alloc: Global, stores: &[StoreByte]) -> Result<Vec<StoreByte>, AllocError>
+    requires { 4096 ≤ length stores.now }
+    ensures { IfOk result (λ v. v.items ≡ drop (length stores.now - 4096) stores.now) }
+{
+    Vec::from_slice(alloc, &stores[stores.len() - KEPT_BYTES..])
+}
+
+// Whether an operation that an event requests lies within memory.
+fn is_within(event: HistoryEvent) -> bool
+    ensures { result ≡ is_within event.entry }
+{
+    match event {
+        HistoryEvent::LoadRequest {
+            number: _,
+            address,
+            length,
+        } => is_inside(address, length),
+        HistoryEvent::StoreRequest {
+            number: _,
+            address,
+            bytes,
+            enables: _,
+        } => is_inside(address, bytes.len()),
+        HistoryEvent::LoadResponse {
+            number: _,
+            bytes: _,
+        } => true,
+        HistoryEvent::StoreResponse { number: _ } => true,
+    }
+}
+
+// Whether an operation of so many bytes lies within memory.
+fn is_inside(address: u64, length: usize) -> bool
+    ensures { result ≡ is_inside address length }
+{
+    1 <= length && (length <= MAX_LENGTH && u128::from(address) + length as u128 <= 1 << 64)
+}
+
+// Whether a byte is of the load that is open under this number.
+fn is_of(load: &LoadByte, number: u64) -> bool
+    ensures { result ≡ is_of number load.now }
+{
+    load.number == number
+}
+
+// Whether it is the one at this address of that load.
+fn is_at(load: &LoadByte, number: u64, address: u64) -> bool
+    ensures { result ≡ is_at number address load.now }
+{
+    is_of(load, number) && load.address == address
+}
+
+// The byte at this address of the load that is open under this number.
+fn load_at(loads: &[LoadByte], number: u64, address: u64) -> Option<LoadByte>
+    ensures { result ≡ find (is_at number address) loads.now }
+{
+    loads
+        .iter()
+        .copied()
+        .find(|load| is_at(load, number, address))
+}
+
+// Adds the bytes of a load that is requested at this moment.
+fn add_load(loads: &mut Vec<LoadByte>, number: u64, address: u64, length: usize, moment: u64)
+    requires room { vec_len loads.old + length ≤ vec_capacity loads.old }
+    requires inside { address + length ≤ 2 ^ 64 }
+    ensures { loads.new.items ≡ loads.old.items ++ load_bytes number address length moment }
+{
+    for k in 0..length {
+        loads.push_reserved(LoadByte {
+            number,
+            address: address + k as u64,
+            began: moment,
+        });
+    }
+}
+
+// No load is open under this number from now on.
+fn end_load(loads: &mut Vec<LoadByte>, number: u64)
+    ensures { loads.new.items ≡ filter (λ l. not (is_of number l)) loads.old.items }
+{
+    loads.retain(|load| !is_of(load, number));
+}
+
+// Adds the enabled bytes of a store that is requested at this moment.
+fn add_store(
+    stores: &mut Vec<StoreByte>,
+    number: u64,
+    address: u64,
+    bytes: &[u8],
+    enables: u64,
+    moment: u64,
+)
+    requires room { vec_len stores.old + length bytes.now ≤ vec_capacity stores.old }
+    requires inside { address + length bytes.now ≤ 2 ^ 64 }
+    ensures { stores.new.items ≡ stores.old.items ++ store_bytes number address bytes.now enables moment }
+{
+    let mut left = enables;
+    for (k, byte) in bytes.iter().enumerate() {
+        if left % 2 == 1 {
+            stores.push_reserved(StoreByte {
+                number,
+                address: address + k as u64,
+                byte: *byte,
+                began: moment,
+                ended: None,
+            });
+        }
+        left /= 2;
+    }
+}
+
+// The store that is open under this number is answered at this moment.
+fn end_store(stores: &mut [StoreByte], number: u64, moment: u64)
+    ensures { stores.new ≡ map (after_response number moment) stores.old }
+{
+    for store in stores.iter_mut() {
+        *store = after_response(*store, number, moment);
+    }
+}
+
+// A byte after the response of the store that is open under this number.
+fn after_response(store: StoreByte, number: u64, moment: u64) -> StoreByte
+    ensures { result ≡ after_response number moment store }
+{
+    if store.ended.is_none() && store.number == number {
+        StoreByte {
+            ended: Some(moment),
+            ..store
+        }
+    } else {
+        store
+    }
+}
