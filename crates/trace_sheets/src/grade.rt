@@ -216,7 +216,7 @@ impl<'a, M: PictureMachine> Grading<'a, M> {
         requires few { total self.old.score < MAX_LINES }
         ensures report { OnOk result (self.new.report.now.items ≡ self.old.report.now.items
             ++ told_if (mark_of came.now said.now) (told self.old.format number text.now said.now
-                (full_text came.now) (why_behind (M.state self.old.machine.now) came.now))) }
+            (full_text came.now) (why_behind (M.state self.old.machine.now) came.now))) }
         ensures format { self.new.format ≡ self.old.format }
         ensures score { self.new.score ≡ with_mark self.old.score (mark_of came.now said.now) }
         ensures machine { self.new.machine ≡ self.old.machine }
