@@ -52,7 +52,7 @@ fn push_correction(
 ) -> Result<(), AllocError>
     requires { number ≤ MAX_LINES }
     ensures { OnOk result (report.new.items ≡ report.old.items
-        ++ (correction_text number text.now is.now (option_map (λ words. words.now) why) ++ line_feed ∷ [])) }
+        ++ (correction_text number text.now is.now (option_map (λ words. words.now) why.entry) ++ line_feed ∷ [])) }
 {
     let mut head = LineText::new();
     head.push_bytes(b"line ");
@@ -70,7 +70,7 @@ fn push_correction(
 // Tells why, if there is a reason, behind what came.
 fn push_why(report: &mut Vec<u8>, why: Option<&[u8]>) -> Result<(), AllocError>
     ensures { OnOk result
-        (report.new.items ≡ report.old.items ++ why_text (option_map (λ words. words.now) why)) }
+        (report.new.items ≡ report.old.items ++ why_text (option_map (λ words. words.now) why.entry)) }
 {
     match why {
         Some(words) => {
@@ -83,7 +83,7 @@ fn push_why(report: &mut Vec<u8>, why: Option<&[u8]>) -> Result<(), AllocError>
 
 // Why, by its name.
 fn why_field<'b>(why: Option<&'b [u8]>) -> Field<'b>
-    ensures { what_is_said result ≡ why_named (option_map (λ words. words.now) why) }
+    ensures { what_is_said result ≡ why_named (option_map (λ words. words.now) why.entry) }
 {
     match why {
         Some(words) => Field::quoted("why", words),
@@ -101,7 +101,7 @@ fn correction_fields<'b>(
     why: Option<&'b [u8]>,
 ) -> [Field<'b>; CORRECTION_FIELDS]
     ensures { map what_is_said result
-        ≡ correction_named number text.now said.now is.now (option_map (λ words. words.now) why) }
+        ≡ correction_named number text.now said.now is.now (option_map (λ words. words.now) why.entry) }
 {
     [
         Field::called("kind", "wrong"),
@@ -130,7 +130,7 @@ fn push_form<'b>(
 ) -> Result<(), AllocError>
     requires { number ≤ MAX_LINES }
     ensures { OnOk result (report.new.items ≡ report.old.items
-        ++ told format number text.now said.now is.now (option_map (λ words. words.now) why)) }
+        ++ told format number text.now said.now is.now (option_map (λ words. words.now) why.entry)) }
 {
     let fields = correction_fields(number, text, said, is, why);
     match format {
