@@ -155,11 +155,12 @@ pub(crate) const GRADE_NOTES: &str =
 Behind 'reg', 'bank' and 'settled' stands what 'run' would show, as any printable text. A line without
 ' -> ' is served, and nothing is asked of it. A line has at most 768 bytes, and 64 before its ' -> '.
 The machine runs on by its own answers, whatever was predicted.
-Writes each wrong line with its number, and below it what the answer is, and why; and at the end how
-many of all predictions are right, and how many are open. What is open isn't wrong. With an image
+Writes each wrong line with its number, and below it what the answer is, and why, in the words that
+'kroft show' has for this step; and at the end how many of all predictions are right, and how many
+are open. What is open isn't wrong. With an image ('kroft run --help' describes them) the values are
+those that memory has.
 With --format csv a line of names goes before a row for each wrong line, with --format json each is an
 object; the score is the last of them, and their 'kind' tells it apart.
-('kroft run --help' describes them) the values are those that memory has.
 
 Statuses: 0 no prediction is wrong, 1 some are, 2 the command line is wrong, 3 the shape file is wrong,
 4 a line is faulty, the image is wrong or a stream failed, 5 there is too little memory.
@@ -167,7 +168,7 @@ Statuses: 0 no prediction is wrong, 1 some are, 2 the command line is wrong, 3 t
 Example:
   $ printf 'load 1 4 -> accepted hit\\nload 2 5 -> accepted join\\n' | kroft grade
   line 1: load 1 4 -> accepted hit
-    is accepted miss: a register is taken, and the block's words are asked for
+    is accepted miss: a miss: a register is taken, and block 1's words are asked for
   1 of 2 right, 0 open";
 
 pub(crate) const DRIVE_NOTES: &str =

@@ -10,23 +10,23 @@ use machine_core::Lookup;
 use memory_banks::BankAnswer;
 use write_queue::Queued;
 
-/// What of the machine before an event can't be seen behind it.
+/// What the words of an event say of the machine before it that can't be seen behind it: [`words_by`](crate::words_by) takes it.
 #[derive(Clone, Copy)]
-pub(crate) struct Before {
-    /// What a request's word was found to be.
-    pub(crate) found: Option<Lookup>,
-    /// The write queue's front.
-    pub(crate) front: Option<Queued>,
-    /// The answer of a bank that is to arrive.
-    pub(crate) answer: Option<BankAnswer>,
-    /// The word of the input stack that is to be processed.
-    pub(crate) entry: Option<Entry>,
+pub struct Before {
+    /// What a load, store or prefetch finds of its word; nothing of other events, and outside memory.
+    pub found: Option<Lookup>,
+    /// The write queue's front, if a word waits there.
+    pub front: Option<Queued>,
+    /// The answer of a bank that is to arrive, if the event names one.
+    pub answer: Option<BankAnswer>,
+    /// The word of the input stack that is to be processed, if the event names one.
+    pub entry: Option<Entry>,
 }
 
 impl Before {
-    /// What is seen before an event.
+    /// What is seen of a machine that is to be asked an event. It allocates nothing.
     #[tactic(auto, unfolding(crate::specs::Words::seen))]
-    pub(crate) fn new<M: PictureMachine>(machine: &M, event: Event) -> Before
+    pub fn new<M: PictureMachine>(machine: &M, event: Event) -> Before
         ensures { result ≡ words.seen (M.state machine.now) event }
     {
         Before {

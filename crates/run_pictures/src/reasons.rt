@@ -16,9 +16,13 @@ use memory_banks::BankAnswer;
 use std::alloc::{AllocError, Global};
 use write_queue::Queued;
 
-/// What an event did, or why it didn't, in words. The machine stands behind the event: a refusal, and
-/// an event that found nothing to do, left it as it was.
-pub(crate) fn words_of<M: PictureMachine>(
+/// What an event did, or why it didn't, in words: the sentence that a picture of the run has for this step.
+///
+/// It speaks of the machine before the event. What can't be seen of that behind it stands in `before`, which
+/// [`Before::new`] reads of the machine before it is asked; and then the machine stands behind the event, which it
+/// answered with `answer`. A refusal, and an event that found nothing to do, left it as it was. The sentence has the
+/// numbers that it rests on, as the block that is asked for or the places that are free, and ends without a full stop.
+pub fn words_by<M: PictureMachine>(
     alloc: Global,
     machine: &M,
     before: Before,

@@ -7,7 +7,7 @@ ghost use Rattle.run_pictures.specs.Words.{words_by};
 
 use crate::before::Before;
 use crate::machine::PictureMachine;
-use crate::reasons::words_of;
+use crate::reasons::words_by;
 use flat_model::{Answer, Event};
 use std::alloc::{AllocError, Global};
 use std::fmt;
@@ -69,7 +69,7 @@ impl Step {
         ensures words { IfOk result
             (λ step. string_bytes step.words ≡ words_by before (M.state machine.now) made.event made.answer) }
     {
-        let words = words_of(alloc, machine, before, made.event, made.answer)?;
+        let words = words_by(alloc, machine, before, made.event, made.answer)?;
         Ok(Step {
             number,
             is_whole,

@@ -3,12 +3,16 @@ use Rattle.std.proofs.Common.{◌≡◌, ℕ, ◌+◌, ◌≤◌, Option, Some, 
 use Rattle.std.specs.List.{flat_map}
 use Rattle.std.proofs.lemmas.Grind.{flat_map-append}
 use Rattle.machine_core.specs.Machine.{MachineState}
+use Rattle.run_pictures.proofs.Words.{words_behind}
+use Rattle.trace_text.specs.Texts.{after_line}
 use Rattle.trace_text.specs.declared.lines.Line.{Line}
+use Rattle.trace_text.specs.declared.lines.Line.TheVariants as line
 use Rattle.trace_text.specs.declared.lines.LineFault.{LineFault}
 use Rattle.named_fields.specs.declared.format.Format.{Format}
 use Rattle.trace_sheets.specs.Sheets.{sheet_line}
-use Rattle.trace_sheets.specs.Grades.{Asked, Graded, GradesOne, came_of, mark, mark_of, told_if, correction, after_said, after_texts, asked, asked_in, asked_from, no_score, with_mark, score_of}
-use Rattle.trace_sheets.specs.Forms.{told, total}
+use Rattle.trace_sheets.specs.Grades.{Asked, Graded, GradesOne, came_of, why_of, why_behind, mark, mark_of, told_if, correction, after_said, after_texts, asked, asked_of, asked_in, asked_from, no_score, with_mark, score_of}
+use Rattle.trace_sheets.specs.Forms.{full_text, told, total}
+use Rattle.trace_sheets.specs.declared.came.Came.{Came}
 use Rattle.trace_sheets.specs.declared.score.Mark.{Mark}
 use Rattle.trace_sheets.specs.declared.score.Mark.TheVariants.{Right, Wrong, Open}
 use Rattle.trace_sheets.specs.declared.score.Score.{Score}
@@ -30,6 +34,26 @@ asked_more n m (t ∷ ts) text =
     ap (λ l. front ++ l) (asked_more (n + 1) next ts text)
     ∙ sym (append_assoc front (asked_from (n + 1) next ts) (asked_in ((n + 1) + length ts) (after_texts next ts) text (sheet_line text)))
     ∙ ap (λ k. (front ++ asked_from (n + 1) next ts) ++ asked_in k (after_texts next ts) text (sheet_line text)) number
+
+-- ---- why
+
+-- what the machine behind a line tells of the one before it
+why_told : (m : MachineState) (l : Line) → why_behind (after_line m l) (came_of m l) ≡ why_of m l
+unfolding after_line
+why_told m (line.Event event) = ap Some (words_behind m event)
+why_told m (line.Register slot) = refl
+why_told m (line.Bank at) = refl
+why_told m line.Settled = refl
+
+-- what is told of a line is told of its prediction
+pub told_behind : (format : Format) (n : ℕ) (m s : MachineState) (text : List ℕ) (l : Line) (said : List ℕ) (came : Came)
+    → came ≡ came_of m l → s ≡ after_line m l
+    → told_if (mark_of came said) (told format n text said (full_text came) (why_behind s came)) ≡ correction format (asked_of n m text l said)
+told_behind format n m s text l said came is stands =
+    let tells : Came → Option (List ℕ) → List ℕ = λ x why. told_if (mark_of x said) (told format n text said (full_text x) why) in
+    ap (λ x. tells x (why_behind s x)) is
+    ∙ ap (λ z. tells (came_of m l) (why_behind z (came_of m l))) stands
+    ∙ ap (tells (came_of m l)) (why_told m l)
 
 -- ---- scores
 
@@ -121,16 +145,16 @@ module _ {format : Format} {m m' : MachineState} {texts : List (List ℕ)} {repo
   }
   graded_more n line (Some said) next report' score' number is one =
       let place : n ≡ 1 + length texts = omega (arith, number) in
-      let a : ℕ → Asked = λ k. record { number = k; text = text; said = said; came = came_of m' line } in
-      let k = mark_of (came_of m' line) said in
-      let said_now : ℕ → List ℕ = λ i. told_if k (told format i text said (came_of m' line)) in
+      let a : ℕ → Asked = λ k. asked_of k m' text line said in
+      let told_now : ℕ → List ℕ = λ k. correction format (a k) in
       record {
         state = one.0 ∙ sym (now ∙ ap (after_said m') is);
         told =
-            one.1 ∙ ap (λ i. report ++ said_now i) place ∙ ap (λ l. report ++ l) (sym (append-nil (said_now (1 + length texts))))
+            one.1 ∙ ap (λ k. report ++ told_now k) place ∙ ap (λ l. report ++ l) (sym (append-nil (told_now (1 + length texts))))
             ∙ sym (reported ∙ ap (λ s. report ++ flat_map (correction format) (last s)) is);
         marks =
-            one.2 ∙ ap (λ s. with_mark s k) g.marks ∙ sym (score_more (map mark (asked m texts)) k)
-            ∙ ap score_of (sym (map_more (asked m texts) (a (1 + length texts))))
+            one.2 ∙ ap (λ s. with_mark s (mark (a n))) g.marks ∙ sym (score_more (map mark (asked m texts)) (mark (a n)))
+            ∙ ap score_of (sym (map_more (asked m texts) (a n)))
+            ∙ ap (λ k. score_of (map mark (asked m texts ++ a k ∷ []))) place
             ∙ ap (λ xs. score_of (map mark xs)) (sym (behind ∙ ap (λ s. asked m texts ++ last s) is));
       }

@@ -1,15 +1,13 @@
 -- What is told of a wrong prediction and of a score, in a format.
-use Rattle.std.specs.Prelude.{ℕ, ◌+◌, List, [], ◌∷◌, ◌++◌, codes, decimal}
+use Rattle.std.specs.Prelude.{ℕ, ◌+◌, Option, Some, None, List, [], ◌∷◌, ◌++◌, codes, decimal}
 use Rattle.flat_model.specs.declared.Answer.{Answer}
 use Rattle.flat_model.specs.declared.Answer.TheVariants.{Accepted}
 use Rattle.cache_unit.specs.declared.Lookup.{Lookup}
 use Rattle.named_fields.specs.Formats.{Named, absent, counted, worded, written, in_format, head_in_format}
 use Rattle.named_fields.specs.declared.format.Format.{Format}
-use Rattle.std.specs.Prelude.{Option, Some}
 use Rattle.trace_text.specs.Codes.{line_feed}
 use Rattle.trace_text.specs.Texts.{answer_text}
 use Rattle.trace_sheets.specs.Sheets.{accepted_text}
-use Rattle.trace_sheets.specs.Whys.{words_of}
 use Rattle.trace_sheets.specs.declared.came.Came.{Came}
 use Rattle.trace_sheets.specs.declared.came.Came.TheVariants.{Answered, Shown}
 use Rattle.trace_sheets.specs.declared.score.Score.{Score}
@@ -23,37 +21,37 @@ full_answer answer found = answer_text answer
 
 -- what came, in full
 abbrev pub full_text : Came → List ℕ
-full_text (Answered event answer found) = full_answer answer found
+full_text (Answered event answer before) = full_answer answer before.found
 full_text (Shown text) = text
 
--- why, behind it; what is shown has no reason
-abbrev pub why_text : Came → List ℕ
-why_text (Answered event answer found) = codes ": " ++ words_of event found answer
-why_text (Shown text) = []
+-- why, behind it, if there is a reason
+abbrev pub why_text : Option (List ℕ) → List ℕ
+why_text (Some words) = codes ": " ++ words
+why_text None = []
 
 -- ---- a wrong prediction
 
 -- the line as it stands in the sheet, and below it what came, and why
-abbrev pub correction_text : ℕ → List ℕ → Came → List ℕ
-correction_text number text came =
-    codes "line " ++ (decimal number ++ (codes ": " ++ (text ++ (codes "\n  is " ++ (full_text came ++ why_text came)))))
+abbrev pub correction_text : ℕ → List ℕ → List ℕ → Option (List ℕ) → List ℕ
+correction_text number text is why =
+    codes "line " ++ (decimal number ++ (codes ": " ++ (text ++ (codes "\n  is " ++ (is ++ why_text why)))))
 
 -- why, by its name
-abbrev pub why_named : Came → Named
-why_named (Answered event answer found) = written (codes "why") (words_of event found answer)
-why_named (Shown text) = absent (codes "why")
+abbrev pub why_named : Option (List ℕ) → Named
+why_named (Some words) = written (codes "why") words
+why_named None = absent (codes "why")
 
 -- the same by names: the line, what is predicted in it, what came, and why
-unfoldable pub correction_named : ℕ → List ℕ → List ℕ → Came → List Named
-correction_named number text said came =
+unfoldable pub correction_named : ℕ → List ℕ → List ℕ → List ℕ → Option (List ℕ) → List Named
+correction_named number text said is why =
     worded (codes "kind") (codes "wrong") ∷ counted (codes "line") number ∷ written (codes "text") text
-    ∷ written (codes "predicted") said ∷ written (codes "is") (full_text came) ∷ why_named came
+    ∷ written (codes "predicted") said ∷ written (codes "is") is ∷ why_named why
     ∷ absent (codes "right") ∷ absent (codes "wrong") ∷ absent (codes "open") ∷ []
 
 -- a line of the report, with its LF
-unfoldable pub told : Format → ℕ → List ℕ → List ℕ → Came → List ℕ
-told format number text said came =
-    in_format format (correction_text number text came) (correction_named number text said came) ++ line_feed ∷ []
+unfoldable pub told : Format → ℕ → List ℕ → List ℕ → List ℕ → Option (List ℕ) → List ℕ
+told format number text said is why =
+    in_format format (correction_text number text is why) (correction_named number text said is why) ++ line_feed ∷ []
 
 -- ---- the score
 

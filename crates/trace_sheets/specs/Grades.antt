@@ -10,12 +10,12 @@ use Rattle.trace_text.specs.declared.lines.Line.{Line}
 use Rattle.trace_text.specs.declared.lines.Line.TheVariants as line
 use Rattle.trace_text.specs.declared.lines.LineFault.{LineFault}
 use Rattle.named_fields.specs.declared.format.Format.{Format}
-use Rattle.round_driver.specs.Rounds.{finding}
+use Rattle.run_pictures.specs.Words.{seen, words_by, step_words}
 use Rattle.trace_text.specs.Reading.{ReadWhole, ReadFails}
 use Rattle.trace_text.specs.declared.fault.TheConstants.{MAX_PAIR}
 use Rattle.trace_text.specs.declared.fault.TraceFault.{TraceFault}
 use Rattle.trace_sheets.specs.Sheets.{is_open, sheet_line, sheet_fault}
-use Rattle.trace_sheets.specs.Forms.{full_answer, told, grade_head, score_in}
+use Rattle.trace_sheets.specs.Forms.{full_answer, full_text, told, grade_head, score_in}
 use Rattle.trace_sheets.specs.declared.grade.Grade.{Grade}
 use Rattle.trace_sheets.specs.declared.came.Came.{Came}
 use Rattle.trace_sheets.specs.declared.came.Came.TheVariants.{Answered, Shown}
@@ -25,29 +25,41 @@ use Rattle.trace_sheets.specs.declared.score.Score.{Score}
 
 -- ---- what came
 
--- what comes of a line: an event's answer, with what a request found before it, or what the machine shows
+-- what comes of a line: an event's answer, with what is seen of the machine before it, or what the machine shows
 abbrev pub came_of : MachineState → Line → Came
-came_of m (line.Event event) = Answered event (answered m event) (finding m event)
+came_of m (line.Event event) = Answered event (answered m event) (seen m event)
 came_of m (line.Register slot) = Shown (reply_text m (line.Register slot))
 came_of m (line.Bank at) = Shown (reply_text m (line.Bank at))
 came_of m line.Settled = Shown (reply_text m line.Settled)
+
+-- why it came: the words that stand beside this step where a run is drawn. What is shown has no reason.
+abbrev pub why_of : MachineState → Line → Option (List ℕ)
+why_of m (line.Event event) = Some (step_words m event)
+why_of m (line.Register slot) = None
+why_of m (line.Bank at) = None
+why_of m line.Settled = None
 
 -- ---- a prediction
 
 -- whether what is predicted is what came, in full or without what the request found
 abbrev pub is_right : Came → List ℕ → Bool
-is_right (Answered event answer found) said = same said (answer_text answer) || same said (full_answer answer found)
+is_right (Answered event answer before) said = same said (answer_text answer) || same said (full_answer answer before.found)
 is_right (Shown text) said = same said text
 
 abbrev pub mark_of : Came → List ℕ → Mark
 mark_of came said = if is_open said then Open else if is_right came said then Right else Wrong
 
--- a prediction: the number of its line, counted from 1, the line as it stands in the sheet, what is predicted, and what came
+-- a prediction: the number of its line, counted from 1, the line as it stands in the sheet, what is predicted, what came, and why
 pub record Asked : Type 0 where
   pub number : ℕ
   pub text : List ℕ
   pub said : List ℕ
   pub came : Came
+  pub why : Option (List ℕ)
+
+-- this prediction of a line, by a machine that stands so before it
+abbrev pub asked_of : ℕ → MachineState → List ℕ → Line → List ℕ → Asked
+asked_of n m text line said = record { number = n; text = text; said = said; came = came_of m line; why = why_of m line }
 
 abbrev pub mark : Asked → Mark
 mark a = mark_of a.came a.said
@@ -59,14 +71,14 @@ told_if Open text = []
 
 -- what is told of a prediction: nothing, unless it is wrong
 abbrev pub correction : Format → Asked → List ℕ
-correction format a = told_if (mark a) (told format a.number a.text a.said a.came)
+correction format a = told_if (mark a) (told format a.number a.text a.said (full_text a.came) a.why)
 
 -- ---- a sheet
 
 abbrev pub asked_in : ℕ → MachineState → List ℕ → Result (Line × Option (List ℕ)) LineFault → List Asked
 asked_in n m text (Err fault) = []
 asked_in n m text (Ok (line, None)) = []
-asked_in n m text (Ok (line, Some said)) = record { number = n; text = text; said = said; came = came_of m line } ∷ []
+asked_in n m text (Ok (line, Some said)) = asked_of n m text line said ∷ []
 
 abbrev pub after_said : MachineState → Result (Line × Option (List ℕ)) LineFault → MachineState
 after_said m (Err fault) = m
@@ -123,9 +135,14 @@ grade_text format report score = grade_head format ++ (report ++ (score_in forma
 
 -- ---- in the middle of a sheet
 
+-- why this came, by the machine behind its line
+abbrev pub why_behind : MachineState → Came → Option (List ℕ)
+why_behind m (Answered event answer before) = Some (words_by before m event answer)
+why_behind m (Shown text) = None
+
 -- one line more, of this number, which says this
 abbrev pub GradesOne : Format → ℕ → MachineState → List ℕ → Line → Option (List ℕ) → List ℕ → Score → MachineState → List ℕ → Score → Type 0
 GradesOne format number m text line None report score m' report' score' = (m' ≡ after_line m line) × (report' ≡ report) × (score' ≡ score)
 GradesOne format number m text line (Some said) report score m' report' score' =
-    (m' ≡ after_line m line) × (report' ≡ report ++ told_if (mark_of (came_of m line) said) (told format number text said (came_of m line))) × (score'
-    ≡ with_mark score (mark_of (came_of m line) said))
+    let a = asked_of number m text line said in
+    (m' ≡ after_line m line) × (report' ≡ report ++ correction format a) × (score' ≡ with_mark score (mark a))

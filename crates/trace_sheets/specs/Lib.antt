@@ -1,4 +1,3 @@
 pub mod Sheets
-pub mod Whys
 pub mod Forms
 pub mod Grades

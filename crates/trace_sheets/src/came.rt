@@ -1,31 +1,26 @@
-//! What comes of a line: the machine's answer, and why.
+//! What comes of a line: the machine's answer, or what it shows.
 
-ghost use Rattle.std.specs.Prelude.{◌≡◌, ◌++◌, OnOk};
+ghost use Rattle.std.specs.Prelude.{◌≡◌};
 ghost use Rattle.trace_text.specs.Texts.{after_line, bank_text, settled_text};
-ghost use Rattle.round_driver.specs.Rounds as rounds;
 ghost use Rattle.trace_sheets.specs.Sheets.{accepted_text as text_of_accepted};
-ghost use Rattle.named_fields.specs.Formats.{said};
 ghost use Rattle.trace_sheets.specs.Forms as forms;
 ghost use Rattle.trace_sheets.specs.Grades as grades;
 
 use crate::score::Mark;
 use crate::sheet::is_open;
-use crate::words::words_of;
 use flat_model::{Answer, Event, Word};
 use machine_core::Lookup;
-use named_fields::Field;
-use round_driver::RoundMachine;
-use std::alloc::AllocError;
+use run_pictures::{Before, PictureMachine};
 use trace_text::{Line, LineText, answer_text, register_text};
 
 // What comes of a line. It isn't exported, but `pub`, since definitions name it.
 #[derive(Drop)]
 pub enum Came {
-    // An event's answer, and what a request found before it.
+    // An event's answer, and what is seen of the machine before it. Words are made of that only if the prediction is wrong.
     Answered {
         event: Event,
         answer: Answer,
-        found: Option<Lookup>,
+        before: Before,
     },
     // What the machine shows.
     Shown(LineText),
@@ -34,18 +29,18 @@ pub enum Came {
 impl Came {
     // Lets a machine answer a line.
     #[tactic(auto, unfolding(trace_text::specs::Texts::reply_text, trace_text::specs::Texts::after_line))]
-    pub(crate) fn new<M: RoundMachine>(machine: &mut M, line: Line) -> Came
+    pub(crate) fn new<M: PictureMachine>(machine: &mut M, line: Line) -> Came
         ensures came { result ≡ grades.came_of (M.state machine.old) line }
         ensures after { M.state machine.new ≡ after_line (M.state machine.old) line }
     {
         match line {
             Line::Event(event) => {
-                let found = finding(machine, event);
+                let before = Before::new(machine, event);
                 let answer = machine.apply(event);
                 Came::Answered {
                     event,
                     answer,
-                    found,
+                    before,
                 }
             }
             Line::Register(slot) => Came::Shown(register_text(machine, slot)),
@@ -72,81 +67,17 @@ impl Came {
         ensures { result ≡ grades.is_right self.now said.now }
     {
         match self {
-            Came::Answered { answer, found, .. } => {
+            Came::Answered { answer, before, .. } => {
                 said == answer_text(*answer).as_bytes()
-                    || said == full_answer(*answer, *found).as_bytes()
+                    || said == full_answer(*answer, before.found).as_bytes()
             }
             Came::Shown(text) => said == text.as_bytes(),
         }
     }
-
-    // What came, in full.
-    pub(crate) fn full_text(&self) -> LineText
-        ensures { result ≡ forms.full_text self.now }
-    {
-        match self {
-            Came::Answered { answer, found, .. } => full_answer(*answer, *found),
-            Came::Shown(text) => copy_of(text),
-        }
-    }
-
-    // Why, by its name; what is shown has no reason.
-    pub(crate) fn why_field(&self) -> Field<'static>
-        ensures { said result ≡ forms.why_named self.now }
-    {
-        match self {
-            Came::Answered {
-                event,
-                answer,
-                found,
-            } => Field::quoted("why", words_of(*event, *found, *answer).as_bytes()),
-            Came::Shown(_) => Field::missing("why"),
-        }
-    }
-
-    // Tells it, and why, behind a text.
-    pub(crate) fn push_to(&self, report: &mut Vec<u8>) -> Result<(), AllocError>
-        ensures { OnOk result (report.new.items
-            ≡ report.old.items ++ (forms.full_text self.now ++ forms.why_text self.now)) }
-    {
-        match self {
-            Came::Answered {
-                event,
-                answer,
-                found,
-            } => {
-                report.extend_from_slice(full_answer(*answer, *found).as_bytes())?;
-                report.extend_from_slice(b": ")?;
-                report.extend_from_slice(words_of(*event, *found, *answer).as_bytes())
-            }
-            Came::Shown(text) => report.extend_from_slice(text.as_bytes()),
-        }
-    }
-}
-
-// The same text.
-fn copy_of(text: &LineText) -> LineText
-    ensures { result ≡ text.now }
-{
-    let mut copy = LineText::new();
-    copy.push_bytes(text.as_bytes());
-    copy
-}
-
-// What a request finds, if it asks for a word.
-fn finding<M: RoundMachine>(machine: &M, event: Event) -> Option<Lookup>
-    ensures { result ≡ rounds.finding (M.state machine.now) event }
-{
-    match event {
-        Event::Load { at, .. } | Event::Store { at, .. } | Event::Prefetch { at } => {
-            machine.find(at)
-        }
-        _ => None,
-    }
 }
 
 // An answer, with what the request found if it was accepted.
-fn full_answer(answer: Answer, found: Option<Lookup>) -> LineText
+pub(crate) fn full_answer(answer: Answer, found: Option<Lookup>) -> LineText
     ensures { result ≡ forms.full_answer answer found }
 {
     match (answer, found) {

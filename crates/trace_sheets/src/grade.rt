@@ -1,18 +1,19 @@
 //! A sheet is graded.
 
 ghost use Rattle.std.specs.Prelude.{◌≡◌, ◌<◌, ◌≤◌, ◌++◌, ◌∷◌, [], length, map, OnOk};
+ghost use Rattle.std.specs.Option.{option_map};
 ghost use Rattle.named_fields.specs.Formats.{said as what_is_said};
 ghost use Rattle.trace_text.specs.declared.fault.TheConstants.{BUFFER_LEN, MAX_LINES, MAX_PAIR};
 ghost use Rattle.trace_sheets.specs.Sheets.{sheet_fault};
 ghost use Rattle.trace_text.specs.Codes.{line_feed};
-ghost use Rattle.trace_sheets.specs.Forms.{correction_text, correction_named, full_text, told, total};
-ghost use Rattle.trace_sheets.specs.Grades.{Graded, SheetEnds, mark_of, no_score, told_if, with_mark};
+ghost use Rattle.trace_sheets.specs.Forms.{correction_text, correction_named, full_text, told, total, why_named, why_text};
+ghost use Rattle.trace_sheets.specs.Grades.{Graded, SheetEnds, mark_of, no_score, told_if, why_behind, with_mark};
 
-use crate::came::Came;
+use crate::came::{Came, full_answer};
 use crate::score::{Mark, Score};
 use crate::sheet::sheet_said;
 use named_fields::{Field, Format, Object, Values};
-use round_driver::RoundMachine;
+use run_pictures::{PictureMachine, words_by};
 use std::alloc::{AllocError, Global};
 use trace_text::{
     BUFFER_LEN, Collector, Failed, LineText, MAX_PAIR, Source, TraceFault, Uncollected, read_lines,
@@ -21,8 +22,8 @@ use trace_text::{
 /// What becomes of a sheet.
 #[derive(Drop)]
 pub struct Grade {
-    /// Each wrong prediction, as text in two lines: `line N: ` with its line, and `  is ` with what came, and why. In another
-    /// format it is a line of its own.
+    /// Each wrong prediction, as text in two lines: `line N: ` with its line, and `  is ` with what came, and why, in the words
+    /// of [`words_by`]; what is shown has no reason. In another format it is a line of its own.
     pub report: Vec<u8>,
     /// How many predictions are right, wrong and open.
     pub score: Score,
@@ -41,16 +42,17 @@ pub(crate) struct Grading<'a, M> {
     pub(crate) score: Score,
 }
 
-// Tells a wrong prediction: the number of its line, the line, and what came.
+// Tells a wrong prediction: the number of its line, the line, what came, and why, if there is a reason.
 fn push_correction(
     report: &mut Vec<u8>,
     number: u64,
     text: &[u8],
-    came: &Came,
+    is: &[u8],
+    why: Option<&[u8]>,
 ) -> Result<(), AllocError>
     requires { number ≤ MAX_LINES }
-    ensures { OnOk result (report.new.items
-        ≡ report.old.items ++ (correction_text number text.now came.now ++ line_feed ∷ [])) }
+    ensures { OnOk result (report.new.items ≡ report.old.items
+        ++ (correction_text number text.now is.now (option_map (λ words. words.now) why.entry) ++ line_feed ∷ [])) }
 {
     let mut head = LineText::new();
     head.push_bytes(b"line ");
@@ -59,22 +61,47 @@ fn push_correction(
     report.extend_from_slice(head.as_bytes())?;
     report.extend_from_slice(text)?;
     report.extend_from_slice(b"\n  is ")?;
-    came.push_to(report)?;
+    report.extend_from_slice(is)?;
+    push_why(report, why)?;
     report.push(b'\n')?;
     Ok(())
 }
 
-// A wrong prediction by names, of which this is what came.
+// Tells why, if there is a reason, behind what came.
+fn push_why(report: &mut Vec<u8>, why: Option<&[u8]>) -> Result<(), AllocError>
+    ensures { OnOk result
+        (report.new.items ≡ report.old.items ++ why_text (option_map (λ words. words.now) why.entry)) }
+{
+    match why {
+        Some(words) => {
+            report.extend_from_slice(b": ")?;
+            report.extend_from_slice(words)
+        }
+        None => Ok(()),
+    }
+}
+
+// Why, by its name.
+fn why_field<'b>(why: Option<&'b [u8]>) -> Field<'b>
+    ensures { what_is_said result ≡ why_named (option_map (λ words. words.now) why.entry) }
+{
+    match why {
+        Some(words) => Field::quoted("why", words),
+        None => Field::missing("why"),
+    }
+}
+
+// A wrong prediction by names, with what came, and why.
 #[tactic(auto, unfolding(crate::specs::Forms::correction_named))]
 fn correction_fields<'b>(
     number: u64,
     text: &'b [u8],
     said: &'b [u8],
     is: &'b [u8],
-    came: &Came,
+    why: Option<&'b [u8]>,
 ) -> [Field<'b>; CORRECTION_FIELDS]
-    requires { is.now ≡ full_text came.now }
-    ensures { map what_is_said result ≡ correction_named number text.now said.now came.now }
+    ensures { map what_is_said result
+        ≡ correction_named number text.now said.now is.now (option_map (λ words. words.now) why.entry) }
 {
     [
         Field::called("kind", "wrong"),
@@ -82,14 +109,14 @@ fn correction_fields<'b>(
         Field::quoted("text", text),
         Field::quoted("predicted", said),
         Field::quoted("is", is),
-        came.why_field(),
+        why_field(why),
         Field::missing("right"),
         Field::missing("wrong"),
         Field::missing("open"),
     ]
 }
 
-// Tells a wrong prediction in a format, of which this is what came, in a line of its own or two.
+// Tells a wrong prediction in a format, with what came, and why, in a line of its own or two.
 #[tactic(auto, unfolding(crate::specs::Forms::told, named_fields::specs::Formats::in_format))]
 fn push_form<'b>(
     alloc: Global,
@@ -99,16 +126,15 @@ fn push_form<'b>(
     text: &'b [u8],
     said: &'b [u8],
     is: &'b [u8],
-    came: &Came,
+    why: Option<&'b [u8]>,
 ) -> Result<(), AllocError>
-    requires few { number ≤ MAX_LINES }
-    requires is { is.now ≡ full_text came.now }
-    ensures { OnOk result (report.new.items
-        ≡ report.old.items ++ told format number text.now said.now came.now) }
+    requires { number ≤ MAX_LINES }
+    ensures { OnOk result (report.new.items ≡ report.old.items
+        ++ told format number text.now said.now is.now (option_map (λ words. words.now) why.entry)) }
 {
-    let fields = correction_fields(number, text, said, is, came);
+    let fields = correction_fields(number, text, said, is, why);
     match format {
-        Format::Text => push_correction(report, number, text, came),
+        Format::Text => push_correction(report, number, text, is, why),
         Format::Csv => {
             let row = format!(in alloc; "{}\n", Values(&fields))?;
             report.extend_from_slice(row.as_bytes())
@@ -120,34 +146,57 @@ fn push_form<'b>(
     }
 }
 
-// Tells a wrong prediction in a format.
-fn push_told(
+// Tells a wrong prediction in a format. The machine stands behind its line, of which this came.
+fn push_told<M: PictureMachine>(
     alloc: Global,
     format: Format,
     report: &mut Vec<u8>,
+    machine: &M,
     number: u64,
     text: &[u8],
     said: &[u8],
     came: &Came,
 ) -> Result<(), AllocError>
     requires { number ≤ MAX_LINES }
-    ensures { OnOk result (report.new.items
-        ≡ report.old.items ++ told format number text.now said.now came.now) }
+    ensures { OnOk result (report.new.items ≡ report.old.items
+        ++ told format number text.now said.now (full_text came.now) (why_behind (M.state machine.now) came.now)) }
 {
-    let is = came.full_text();
-    push_form(
-        alloc,
-        format,
-        report,
-        number,
-        text,
-        said,
-        is.as_bytes(),
-        came,
-    )
+    match came {
+        Came::Answered {
+            event,
+            answer,
+            before,
+        } => {
+            let is = full_answer(*answer, before.found);
+            let words = words_by(alloc, machine, *before, *event, *answer)?;
+            let why = Some(words.as_bytes());
+            push_form(
+                alloc,
+                format,
+                report,
+                number,
+                text,
+                said,
+                is.as_bytes(),
+                why,
+            )
+        }
+        Came::Shown(is) => {
+            push_form(
+                alloc,
+                format,
+                report,
+                number,
+                text,
+                said,
+                is.as_bytes(),
+                None,
+            )
+        }
+    }
 }
 
-impl<'a, M: RoundMachine> Grading<'a, M> {
+impl<'a, M: PictureMachine> Grading<'a, M> {
     // The grade so far. Its report is taken out.
     fn finished(&mut self) -> Grade
         ensures report { result.report.items ≡ self.old.report.now.items }
@@ -161,12 +210,13 @@ impl<'a, M: RoundMachine> Grading<'a, M> {
         }
     }
 
-    // Marks what is predicted in the line of this number, of which this came.
+    // Marks what is predicted in the line of this number, of which this came. The machine stands behind the line.
     fn mark(&mut self, number: u64, text: &[u8], said: &[u8], came: &Came) -> Result<(), AllocError>
         requires number { number ≤ MAX_LINES }
         requires few { total self.old.score < MAX_LINES }
         ensures report { OnOk result (self.new.report.now.items ≡ self.old.report.now.items
-            ++ told_if (mark_of came.now said.now) (told self.old.format number text.now said.now came.now)) }
+            ++ told_if (mark_of came.now said.now) (told self.old.format number text.now said.now
+            (full_text came.now) (why_behind (M.state self.old.machine.now) came.now))) }
         ensures format { self.new.format ≡ self.old.format }
         ensures score { self.new.score ≡ with_mark self.old.score (mark_of came.now said.now) }
         ensures machine { self.new.machine ≡ self.old.machine }
@@ -179,6 +229,7 @@ impl<'a, M: RoundMachine> Grading<'a, M> {
                 self.alloc,
                 self.format,
                 self.report,
+                self.machine,
                 number,
                 text,
                 said,
@@ -189,7 +240,7 @@ impl<'a, M: RoundMachine> Grading<'a, M> {
     }
 }
 
-impl<'a, M: RoundMachine> Collector for Grading<'a, M> {
+impl<'a, M: PictureMachine> Collector for Grading<'a, M> {
     ghost fault_in = { sheet_fault };
 
     ghost longest = { MAX_PAIR };
@@ -234,10 +285,13 @@ impl<'a, M: RoundMachine> Collector for Grading<'a, M> {
 ///
 /// A fault gives no grade, and leaves the machine behind lines before it. The first one in the order of the lines
 /// is answered, as by [`read_requests`](trace_text::read_requests): a line with a prediction that can't be one
-/// is a bad field. What is told of a wrong prediction is told in the format. [`TraceFault::OutOfMemory`] may come in place of any answer, and [`TraceFault::Write`] never comes.
+/// is a bad field. What is told of a wrong prediction is told in the format, and why it is wrong in the words that a picture of
+/// the run has for that step ([`words_by`]). [`TraceFault::OutOfMemory`] may come in place of any answer, and
+/// [`TraceFault::Write`] never comes.
 ///
-/// One buffer of 4,096 bytes is allocated before the first read. The report takes more.
-pub fn grade_sheet<R: Source, M: RoundMachine>(
+/// One buffer of 4,096 bytes is allocated before the first read. The report takes more, and so do the words of a wrong
+/// prediction; a right or open one takes nothing.
+pub fn grade_sheet<R: Source, M: PictureMachine>(
     alloc: Global,
     format: Format,
     reader: &mut R,
@@ -263,7 +317,7 @@ pub fn grade_sheet<R: Source, M: RoundMachine>(
 }
 
 // Grades a sheet to its end, through a buffer.
-fn grade_through<R: Source, M: RoundMachine>(
+fn grade_through<R: Source, M: PictureMachine>(
     reader: &mut R,
     grading: &mut Grading<M>,
     buffer: &mut [u8],

@@ -1,8 +1,7 @@
 use Rattle.std.proofs.Common.{◌∙◌, ◌++◌, ap, refl, arith, Ok, Some, None}
 use Rattle.std.specs.Option.{option_map}
-use Rattle.trace_sheets.specs.Forms.{told}
-use Rattle.trace_sheets.specs.Grades.{came_of, mark_of, told_if, with_mark}
-use Rattle.trace_sheets.proofs.Grading.{few_marks, graded_more}
+use Rattle.trace_sheets.specs.Grades.{asked_of, correction, mark_of, with_mark}
+use Rattle.trace_sheets.proofs.Grading.{few_marks, graded_more, told_behind}
 use Rattle.trace_sheets.proofs.grade.GradingCollector.collect.Goals as goal
 
 pub mark-requires-clause-few : goal.mark-requires-clause-few
@@ -24,18 +23,18 @@ returns-in-Ok-mark-clause-kept g c start texts number went =
     let before = old.report.now.items in
     let text = c.args.text.now in
     let n = c.args.number in
+    let m = g.M.AnyMachine.state old.machine.now in
     let line = c.in-Ok.read.0 in
     let said = c.in-Some.said.now in
-    let came = c.new-came.ensures.came in
-    let is = came_of (g.M.AnyMachine.state old.machine.now) line in
+    let came = c.new-came.ensures in
     let marked = c.in-Ok-mark.ensures in
     let says = c.in-Ok.ensures.ok ∙ ap (λ s. Ok (line, option_map (λ s. s.now) s)) c.in-Some.is in (
       marked.format ∙ went.0,
       graded_more went.1 text n line (Some said) _ c.mark.new.self.report.now.items c.mark.new.self.score number says (
-        ap (λ m. g.M.AnyMachine.state m.now) marked.machine ∙ c.new-came.ensures.after,
+        ap (λ m. g.M.AnyMachine.state m.now) marked.machine ∙ came.after,
         marked.report
-            ∙ ap (λ x. before ++ told_if (mark_of x said) (told old.format n text said x)) came
-            ∙ ap (λ format. before ++ told_if (mark_of is said) (told format n text said is)) went.0,
-        marked.score ∙ ap (λ x. with_mark old.score (mark_of x said)) came,
+            ∙ ap (λ l. before ++ l) (told_behind old.format n m _ text line said _ came.came came.after)
+            ∙ ap (λ format. before ++ correction format (asked_of n m text line said)) went.0,
+        marked.score ∙ ap (λ x. with_mark old.score (mark_of x said)) came.came,
       ),
     )
