@@ -1,10 +1,12 @@
-use Rattle.std.proofs.Common.{◌≡◌, ◌+◌, ◌≤◌, sym, ap, ◌∙◌, arith}
+use Rattle.std.proofs.Common.{◌≡◌, ◌+◌, ◌≤◌, length, sym, ap, ◌∙◌, arith}
 use Rattle.round_driver.specs.Machines.{used_registers}
 use Rattle.round_driver.specs.Rounds.{start_of, rounds_until_over, is_over, whole_run}
 use Rattle.round_driver.specs.Tables.{counting, nothing, counted_all, with_rounds, total, table_of}
-use Rattle.round_driver.specs.Details.{counted_all as told_all, told_of, ends_of, told_total, told_rounds, ends_total}
+use Rattle.round_driver.specs.Details.{counted_all as told_all, told_of, ends_of, outcomes_in, told_total, told_rounds, ends_total}
 use Rattle.round_driver.proofs.Runs.{no_more, run_begins, counts_begin, over_here, run_next, told_next as notes_next, counts_next}
 use Rattle.round_driver.proofs.Ends.{requests_end}
+use Rattle.round_driver.specs.Outcomes.{nothing_recorded, with_notes}
+use Rattle.round_driver.proofs.Recorded.{all_recorded, recording_begins, recorded_next}
 use Rattle.round_driver.proofs.Counted.{nothing_is_told, nothing_has_ended, told_begins, ends_begin, told_next, ends_next, details_alike}
 use Rattle.round_driver.proofs.detailing.detail_with.Goals as goal
 
@@ -24,6 +26,7 @@ loop-turn-init g c =
       counts = counts_begin c.args.timing s c.args.requests.now (counting c.in_ok-counter.counter) fresh;
       told = told_begins c.args.timing s c.args.requests.now c.numbers-numbers.result c.in_ok-told.told c.in_ok-told.ensures;
       ends = ends_begin c.args.timing s c.args.requests.now c.numbers-numbers.result c.in_ok-ends.ends c.in_ok-ends.ensures;
+      outcomes = recording_begins c.args.timing s c.args.requests.now c.in_ok-outcomes.outcomes c.in_ok-outcomes.ensures;
       sizes = λ i. s.sizes;
       time = omega (arith, time);
       next = omega (arith, next);
@@ -48,7 +51,8 @@ returns-then-is_over-clause-details g c =
     let time = sym c.loop-turn.invariant.time ∙ ap (λ r. r.schedule.round) whole in
     let ends = c.loop-turn.invariant.ends ∙ ap (λ k. ends_of k c.numbers-numbers.result start) time ∙ ap (λ z. ends_of (whole_run c.args.timing s c.args.requests.now).schedule.round z start) c.numbers-numbers.ensures in
     let in_use = c.used_registers.ensures ∙ ap (λ r. used_registers r.state) whole in
-    c.details_from.ensures ∙ details_alike _ _ _ _ _ _ _ _ table told ends in_use
+    let outcomes = c.finish.ensures ∙ ap (λ x. x.ended) c.loop-turn.invariant.outcomes ∙ all_recorded _ _ ∙ ap (λ r. outcomes_in (length c.args.requests.now) r) whole in
+    c.details_from.ensures ∙ details_alike _ _ _ _ _ _ _ _ _ _ table told ends in_use outcomes
 
 pub returns-then-is_over-clause-machine : goal.returns-then-is_over-clause-machine
 returns-then-is_over-clause-machine g c =
@@ -105,6 +109,7 @@ loop-turn-preserved g c =
       counts = counts_next c.loop-turn._turn start (g.M.AnyMachine.state c.loop-turn.machine) c.loop-turn.schedule c.loop-turn.left.now here (g.M.AnyMachine.state c.round-left.new.machine) c.round-left.new.schedule c.round-left.result.now c.round-left.new.notes.items made going (counting c.loop-turn.counter) (counting c.count_all.new.self) c.loop-turn.invariant.counts (c.count_all.ensures.counts ∙ ap (counted_all (counting c.loop-turn.counter)) c.as_slice.ensures.value);
       told = told;
       ends = ends_next c.loop-turn._turn c.numbers-numbers.result start c.loop-turn.ends c.count.new.self c.count_all-in-loop-turn.new.self c.used_registers-in-loop-turn.result c.loop-turn.invariant.ends c.count.ensures.value (c.used_registers-in-loop-turn.ensures ∙ ap (λ r. used_registers r.state) run) told;
+      outcomes = recorded_next _ _ c.round-left.new.notes.items _ c.loop-turn.outcomes c.record_all.new.self notes c.loop-turn.invariant.outcomes (c.record_all.ensures ∙ ap (with_notes c.loop-turn.outcomes) c.as_slice-in-loop-turn-2.ensures.value);
       sizes = c.round-left.ensures.sizes ∙ c.loop-turn.invariant.sizes;
       time = omega (arith, time, before);
       next = c.round-left.ensures.next;
