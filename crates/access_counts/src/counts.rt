@@ -143,7 +143,7 @@ fn behind(outcomes: &[Outcome], number: u64) -> &[Outcome]
     if number < outcomes.len() as u64 {
         &outcomes[number as usize..]
     } else {
-        &[]
+        &outcomes[outcomes.len()..]
     }
 }
 

@@ -191,13 +191,7 @@ impl<'a, F: LogFormat> LogReading<'a, F> {
             self.fault = Some(LogFault::Trace(TraceFault::TooManyLines));
             return Err(Uncollected::Halted);
         }
-        push_access(
-            &mut self.requests,
-            &self.pages,
-            self.tag,
-            number,
-            access,
-        )?;
+        push_access(&mut self.requests, &self.pages, self.tag, number, access)?;
         self.groups.push(group)?;
         self.tag = tag_after(self.tag, access);
         Ok(())

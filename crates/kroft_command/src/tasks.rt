@@ -22,8 +22,8 @@ use crate::fault::ToolFault;
 use access_logs::{Din, Lackey, LogFormat, write_requests};
 use history_text::{HistoryEnd, HistoryVerdict, judge_by_law, write_values_by_law};
 use kroft_jobs::{
-    AnsweredIn, CheckIn, LatencyRows, RequestText, Verdict, detail_requests, drive_requests, put_text, serve,
-    summarize_requests, sweep_in_rounds, sweep_latencies, sweep_registers,
+    AnsweredIn, CheckIn, LatencyRows, RequestText, Verdict, detail_requests, drive_requests,
+    put_text, serve, summarize_requests, sweep_in_rounds, sweep_latencies, sweep_registers,
 };
 use memory_images::Image;
 use named_fields::Format;

@@ -11,7 +11,9 @@ ghost use Rattle.kroft_jobs.specs.Asking as asking;
 ghost use Rattle.kroft_jobs.specs.Asking.{Asks, AsksNothing, room_of};
 
 use access_counts::{AccessCounts, count_accesses};
-use access_logs::{AccessGroup, Din, Lackey, LogFault, LogFormat, LogRequests, MAX_WORDS, read_log};
+use access_logs::{
+    AccessGroup, Din, Lackey, LogFault, LogFormat, LogRequests, MAX_WORDS, read_log,
+};
 use round_driver::Outcome;
 use shape_files::ToolShape;
 use std::alloc::Global;
