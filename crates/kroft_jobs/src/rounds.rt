@@ -57,14 +57,8 @@ pub fn drive_requests<I: Source, O: Sink>(
         input.old input.new output.old output.new result }
 {
     let asked = read_asked(alloc, from, tool, input)?;
-    match drive_all(
-        alloc,
-        tool,
-        image,
-        timing,
-        asked.requests.as_slice(),
-        output,
-    ) {
+    let requests = asked.requests.as_slice();
+    match drive_all(alloc, tool, image, timing, requests, output) {
         Ok(rounds) => Ok(rounds),
         Err(fault) => Err(LogFault::Trace(fault)),
     }
