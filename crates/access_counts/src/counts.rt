@@ -137,6 +137,7 @@ fn front(outcomes: &[Outcome], number: u64) -> &[Outcome]
 }
 
 // The outcomes behind the first ones.
+#[tactic(auto, using(crate::proofs::Cuts::none_behind))]
 fn behind(outcomes: &[Outcome], number: u64) -> &[Outcome]
     ensures { result.now ≡ drop number outcomes.now }
 {

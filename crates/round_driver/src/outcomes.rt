@@ -1,6 +1,5 @@
 //! What became of each request.
-ghost use Rattle.std.specs.Prelude.{◌≡◌, ◌≤◌, [], IfOk};
-ghost use Rattle.std.specs.Vec.{vec_capacity};
+ghost use Rattle.std.specs.Prelude.{◌≡◌, IfOk};
 ghost use Rattle.round_driver.specs.Outcomes as outcomes;
 ghost use Rattle.round_driver.specs.Walks as walks;
 
@@ -83,6 +82,8 @@ pub(crate) struct Recording {
 }
 
 impl Model for Recording {
+    ghost use Rattle.std.specs.Prelude.{◌≤◌};
+    ghost use Rattle.std.specs.Vec.{vec_capacity};
     ghost use Rattle.round_driver.specs.Recordings.{Recorded};
 
     ghost Value = { Recorded };
