@@ -1,13 +1,17 @@
 -- What was read and what was driven, as one answer.
-use Rattle.std.proofs.Common.{◌≡◌, ℕ, true, List, [], ◌∷◌, refl, inl, inr}
+use Rattle.std.proofs.Common.{◌≡◌, ℕ, true, List, [], ◌∷◌, ◌≤◌, Option, length, refl, sym, subst, inl, inr}
 use Rattle.std.specs.List.{AllByRecursion, list_all}
-use Rattle.std.specs.Prelude.{Ok, Err}
+use Rattle.std.specs.Prelude.{Result, Ok, Err}
 use Rattle.flat_model.specs.declared.Event.{Event}
 use Rattle.flat_model.specs.declared.Event.TheVariants.{Load, Store, Prefetch, Evict, Drain, Serve, Arrive, Process, Take}
 use Rattle.machine_core.specs.Machine.{MachineState}
 use Rattle.trace_text.specs.Requests.{IsRequest}
 use Rattle.trace_text.specs.declared.fault.TraceFault.{TraceFault}
 use Rattle.trace_text.specs.declared.fault.TraceFault.TheVariants.{OutOfMemory}
+use Rattle.trace_text.specs.Codes.{most_lines}
+use Rattle.trace_text.specs.declared.lines.LineFault.{LineFault}
+use Rattle.access_logs.specs.Reads.{LogSays}
+use Rattle.access_logs.specs.declared.access.Access.{Access}
 use Rattle.access_logs.specs.declared.fault.LogFault.TheVariants as log
 use Rattle.access_logs.specs.declared.reading.AccessGroup.{AccessGroup}
 use Rattle.round_driver.specs.Walks.{is_request}
@@ -29,6 +33,11 @@ all_requests (Serve bank ∷ events) all = absurd all.0
 all_requests (Arrive bank place ∷ events) all = absurd all.0
 all_requests (Process place ∷ events) all = absurd all.0
 all_requests (Take place ∷ events) all = absurd all.0
+
+-- a log has as many requests at most as a trace has lines
+pub log_few : {R : Type 0} (gave : R → List ℕ → R → Type 0) (access_in : List ℕ → Result (Option Access) LineFault) (room : ℕ) (r r' : R) (requests : List Event) (groups : List AccessGroup)
+    → LogSays gave access_in room r r' requests groups → length requests ≤ most_lines
+log_few gave access_in room r r' requests groups said = subst (λ l. length l ≤ most_lines) (sym said.requests) said.fits.requests
 
 pub driven : {R W : Type 0} (gave : R → List ℕ → R → Type 0) (failed : R → R → Type 0) (took : W → List ℕ → W → Type 0) (refused : W → W → Type 0) (from : RequestText) (room : ℕ) (timing : Timing) (s : MachineState) (input input' : R) (output output' : W) (requests : List Event) (groups : List AccessGroup) (rounds : ℕ)
     → Asks gave from room input input' requests groups → IsDriven took refused timing s requests output output' (Ok rounds)

@@ -31,6 +31,7 @@ pub enum RequestText {
 }
 
 // The requests of a log over so many words of memory.
+#[tactic(auto, using(crate::proofs::Driving::all_requests, crate::proofs::Driving::log_few))]
 fn log_requests<I: Source, F: LogFormat>(
     alloc: Global,
     format: &F,
@@ -46,10 +47,12 @@ fn log_requests<I: Source, F: LogFormat>(
     ensures fault { IfErr result
         (LogFails I.gave I.failed F.access_in (words / PAGE_WORDS) input.old input.new) }
 {
-    read_log(alloc, input, format, words)
+    let log = read_log(alloc, input, format, words)?;
+    Ok(log)
 }
 
 // The requests of a trace.
+#[tactic(auto, using(crate::proofs::Driving::all_requests))]
 fn trace_requests<I: Source>(alloc: Global, input: &mut I) -> Result<LogRequests, LogFault>
     ensures said { IfOk result
         (λ asked. Asks I.gave RequestText.Trace 0 input.old input.new asked.requests.items
