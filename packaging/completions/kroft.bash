@@ -8,6 +8,7 @@ _kroft() {
     --format) COMPREPLY=($(compgen -W 'text csv json' -- "$word")); return ;;
     --latency) COMPREPLY=($(compgen -W '' -- "$word")); return ;;
     --busy) COMPREPLY=($(compgen -W '' -- "$word")); return ;;
+    --log) COMPREPLY=($(compgen -W 'lackey din' -- "$word")); return ;;
     --from) COMPREPLY=($(compgen -W 'lackey din' -- "$word")); return ;;
     --words) COMPREPLY=($(compgen -W '' -- "$word")); return ;;
     --law) COMPREPLY=($(compgen -W 'flat atomic regular' -- "$word")); return ;;
@@ -24,7 +25,7 @@ _kroft() {
     sweep) k='--shape --latency --busy --format --svg -h --help' ;;
     explain) k='--shape --image --format -h --help' ;;
     grade) k='--shape --image --format -h --help' ;;
-    drive) k='--shape --image --latency --busy --summary --all --format --svg -h --help' ;;
+    drive) k='--shape --image --log --latency --busy --summary --all --format --svg -h --help' ;;
     requests) k='--from --words -h --help' ;;
     show) k='--shape --image --text --vcd -h --help' ;;
     history) k='--law --unit --image --unknown --all-answered --values --format -h --help' ;;

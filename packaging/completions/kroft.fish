@@ -36,6 +36,7 @@ complete -c kroft -n '__fish_seen_subcommand_from grade' -l format -x -a 'text c
 complete -c kroft -n '__fish_seen_subcommand_from grade' -l help -s h -d 'Print help'
 complete -c kroft -n '__fish_seen_subcommand_from drive' -l shape -r -F -d 'The TOML file with the machine\'s numbers'
 complete -c kroft -n '__fish_seen_subcommand_from drive' -l image -r -F -d 'What memory has in place of zeros: each word its own address, or a file\'s bytes'
+complete -c kroft -n '__fish_seen_subcommand_from drive' -l log -x -a 'lackey din' -d 'Read a log of accesses in place of a trace, and count them with --summary --all'
 complete -c kroft -n '__fish_seen_subcommand_from drive' -l latency -x -d 'Rounds from a command\'s begin to its service, 0 to 1000 [default: 10]'
 complete -c kroft -n '__fish_seen_subcommand_from drive' -l busy -x -d 'Rounds from one command that a bank begins to its next, 1 to L [default: L]'
 complete -c kroft -n '__fish_seen_subcommand_from drive' -l summary -d 'Write counts in place of the run'

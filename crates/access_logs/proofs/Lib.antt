@@ -1,3 +1,4 @@
 pub mod Asked
 pub mod Logs
 pub mod Ends
+pub mod Kept

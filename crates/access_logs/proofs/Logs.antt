@@ -8,12 +8,12 @@ use Rattle.access_logs.specs.Requests.{requests_text}
 use Rattle.access_logs.specs.Logs.{LogState, log_start, access_told, state_after, requests_for, state_behind, requests_in, Requested, Asked}
 use Rattle.access_logs.proofs.Asked.{moved_both}
 
-state_more : (access_in : List ℕ → Result (Option Access) LineFault) (s : LogState) (texts : List (List ℕ)) (text : List ℕ)
+pub state_more : (access_in : List ℕ → Result (Option Access) LineFault) (s : LogState) (texts : List (List ℕ)) (text : List ℕ)
     → state_behind access_in s (texts ++ text ∷ []) ≡ state_after (state_behind access_in s texts) (access_told (access_in text))
 state_more access_in s [] text = refl
 state_more access_in s (t ∷ ts) text = state_more access_in (state_after s (access_told (access_in t))) ts text
 
-requests_more : (access_in : List ℕ → Result (Option Access) LineFault) (s : LogState) (texts : List (List ℕ)) (text : List ℕ)
+pub requests_more : (access_in : List ℕ → Result (Option Access) LineFault) (s : LogState) (texts : List (List ℕ)) (text : List ℕ)
     → requests_in access_in s (texts ++ text ∷ []) ≡ requests_in access_in s texts ++ requests_for (state_behind access_in s texts) (access_told (access_in text))
 requests_more access_in s [] text = append-nil (requests_for s (access_told (access_in text)))
 requests_more access_in s (t ∷ ts) text =

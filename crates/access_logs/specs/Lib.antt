@@ -4,3 +4,4 @@ pub mod Pages
 pub mod Requests
 pub mod Faults
 pub mod Logs
+pub mod Reads

@@ -8,11 +8,12 @@ use Rattle.trace_text.specs.Streams.{Moves, Stopped}
 use Rattle.trace_text.specs.declared.lines.LineFault.{LineFault}
 use Rattle.trace_text.specs.declared.fault.TraceFault.TheVariants as fault
 use Rattle.access_logs.specs.declared.access.Access.{Access}
+use Rattle.access_logs.specs.declared.reading.AccessGroup.{AccessGroup}
 use Rattle.access_logs.specs.declared.fault.NoRoom.{NoRoom}
 use Rattle.access_logs.specs.declared.fault.LogFault.{LogFault}
 use Rattle.access_logs.specs.declared.fault.LogFault.TheVariants as log
 use Rattle.access_logs.specs.Pages.{pages_after}
-use Rattle.access_logs.specs.Requests.{requests_of, requests_text, tag_after}
+use Rattle.access_logs.specs.Requests.{requests_of, requests_text, tag_after, group_of}
 
 -- the pages so far, the tag of the next load, and how many lines went before
 pub record LogState : Type 0 where
@@ -52,6 +53,16 @@ abbrev pub requests_in : (List ℕ → Result (Option Access) LineFault) → Log
 requests_in access_in s [] = []
 requests_in access_in s (text ∷ texts) =
     requests_for s (access_told (access_in text)) ++ requests_in access_in (state_after s (access_told (access_in text))) texts
+
+-- the group of an access, if there is one
+abbrev pub groups_for : Option Access → List AccessGroup
+groups_for None = []
+groups_for (Some a) = group_of a ∷ []
+
+-- The groups of the requests of these lines: the first group has the first requests, and so on.
+abbrev pub groups_in : (List ℕ → Result (Option Access) LineFault) → List (List ℕ) → List AccessGroup
+groups_in access_in [] = []
+groups_in access_in (text ∷ texts) = groups_for (access_told (access_in text)) ++ groups_in access_in texts
 
 -- the fault of a line, if it has one
 abbrev pub fault_by : (List ℕ → Result (Option Access) LineFault) → List ℕ → Option LineFault

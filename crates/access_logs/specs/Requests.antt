@@ -10,6 +10,7 @@ use Rattle.access_logs.specs.declared.requests.TheConstants.{TAGS}
 use Rattle.access_logs.specs.declared.access.Access.{Access}
 use Rattle.access_logs.specs.declared.access.AccessKind.{AccessKind}
 use Rattle.access_logs.specs.declared.access.AccessKind.TheVariants.{Load, Store, Modify}
+use Rattle.access_logs.specs.declared.reading.AccessGroup.{AccessGroup}
 use Rattle.access_logs.specs.Accesses.{first_word_of, word_count_of, lanes_at, word_at}
 use Rattle.access_logs.specs.Pages.{memory_word}
 
@@ -38,6 +39,19 @@ abbrev pub requests_by : AccessKind → List ℕ → ℕ → ℕ → Access → 
 requests_by Load pages tag number a = loads_of pages tag a
 requests_by Store pages tag number a = stores_of pages number a
 requests_by Modify pages tag number a = loads_of pages tag a ++ stores_of pages number a
+
+-- How many requests an access has: one for each word that it touches, and a modification one to load it and one to store it.
+abbrev pub count_by : AccessKind → ℕ → ℕ
+count_by Load words = words
+count_by Store words = words
+count_by Modify words = words + words
+
+abbrev pub request_count_of : Access → ℕ
+request_count_of a = count_by a.kind (word_count_of a)
+
+-- the requests of an access as a group
+abbrev pub group_of : Access → AccessGroup
+group_of a = record { kind = a.kind; requests = request_count_of a }
 
 -- the requests of an access in the line of this number, over these pages, with tags from this one on
 abbrev pub requests_of : List ℕ → ℕ → ℕ → Access → List Event

@@ -1,7 +1,8 @@
 //! Accesses, and the words that they touch.
-ghost use Rattle.std.specs.Prelude.{◌≡◌, ◌<◌, ◌≤◌, ◌^◌};
+ghost use Rattle.std.specs.Prelude.{◌≡◌, ◌<◌, ◌≤◌, ◌*◌, ◌^◌, ℕ, List, length};
 ghost use Rattle.access_logs.specs.declared.access.TheConstants.{MAX_TOUCHED};
 ghost use Rattle.access_logs.specs.Accesses.{IsWithin, first_word_of, last_word_of, word_count_of, is_touched, lanes_at, word_at, byte_at, bit_at};
+ghost use Rattle.access_logs.specs.Requests.{count_by, request_count_of, requests_of};
 
 use flat_model::{Lanes, Word};
 
@@ -12,7 +13,7 @@ pub const MAX_SIZE: u32 = 512;
 const WORD_BYTES: u64 = 4;
 
 /// How many words an access touches at most: one more than its bytes fill, since it may begin within one.
-pub(crate) const MAX_TOUCHED: u64 = MAX_SIZE as u64 / WORD_BYTES + 1;
+pub const MAX_TOUCHED: u64 = MAX_SIZE as u64 / WORD_BYTES + 1;
 
 /// What an access does.
 #[derive(Clone, Copy, Debug, PartialEq, Eq)]
@@ -23,6 +24,20 @@ pub enum AccessKind {
     Store,
     /// It reads, and then writes.
     Modify,
+}
+
+impl AccessKind {
+    // How many requests an access of so many words has.
+    fn request_count(self, words: u64) -> u64
+        requires { words ≤ MAX_TOUCHED }
+        ensures count { result ≡ count_by self words }
+        ensures few { result ≤ 2 * MAX_TOUCHED }
+    {
+        match self {
+            AccessKind::Load | AccessKind::Store => words,
+            AccessKind::Modify => 2 * words,
+        }
+    }
 }
 
 /// An access of a program to its memory.
@@ -59,6 +74,17 @@ impl Access {
         ensures few { result ≤ MAX_TOUCHED }
     {
         self.last_word() - self.first_word() + 1
+    }
+
+    /// How many requests it has: one for each word that it touches, and for a modification twice as
+    /// many, which load its words and then store them.
+    pub fn request_count(self) -> u64
+        requires { IsWithin self }
+        ensures count { result ≡ request_count_of self }
+        ensures requests { (pages : List ℕ) (tag number : ℕ) → length (requests_of pages tag number self) ≡ result }
+        ensures few { result ≤ 2 * MAX_TOUCHED }
+    {
+        self.kind.request_count(self.word_count())
     }
 
     // Whether it touches the byte at this address.

@@ -15,7 +15,7 @@ use trace_text::{Failed, LineText, Sink, write_whole};
 const TAGS: u64 = u16::MAX as u64 + 1;
 
 // The tag so many loads behind this one.
-fn tag_behind(tag: u16, loads: u64) -> u16
+pub(crate) fn tag_behind(tag: u16, loads: u64) -> u16
     requires { loads ≤ MAX_TOUCHED }
     ensures { result ≡ tag_behind tag loads }
 {

@@ -24,6 +24,9 @@ use Rattle.access_logs.specs.Formats.{lackey_access, din_access}
 use Rattle.access_logs.specs.Logs as logs
 use Rattle.access_logs.specs.declared.access.Access.{Access}
 use Rattle.access_logs.specs.declared.fault.LogFault.{LogFault}
+use Rattle.access_logs.specs.declared.reading.AccessGroup.{AccessGroup}
+use Rattle.access_counts.specs.declared.counts.AccessCounts.{AccessCounts}
+use Rattle.flat_model.specs.declared.Event.{Event}
 use Rattle.access_logs.specs.declared.pages.TheConstants.{PAGE_WORDS}
 use Rattle.history_text.specs.Answers.{verdict_status as history_status}
 use Rattle.history_text.specs.Choice.{chosen_law}
@@ -58,8 +61,10 @@ use Rattle.kroft_jobs.specs.Forms.{check_in, answered_in}
 use Rattle.kroft_jobs.specs.Grading.{GradesAll}
 use Rattle.kroft_jobs.specs.Jobs as jobs
 use Rattle.kroft_jobs.specs.Jobs.{swept, verdict_status}
-use Rattle.kroft_jobs.specs.Sweeping.{IsCounted, IsDetailed, AreCounted, AreSwept, SweepFails}
+use Rattle.kroft_jobs.specs.Asking.{Asks, AsksNothing, room_of}
+use Rattle.kroft_jobs.specs.Sweeping.{IsCounted, CountsAll, AreCounted, AreSwept, SweepFails}
 use Rattle.kroft_jobs.specs.Writing.{IsPut, IsCut}
+use Rattle.kroft_jobs.specs.declared.asked.RequestText.{RequestText}
 use Rattle.kroft_jobs.specs.declared.fault.JobFault.{JobFault}
 use Rattle.kroft_jobs.specs.declared.fault.JobFault.TheVariants.{ShapeUnreadable, OutOfMemory}
 use Rattle.verdict_formats.specs.Explanations.{explanation_in}
@@ -192,10 +197,10 @@ module _ {W : Type 0} (took : W → List ℕ → W → Type 0) (refused unflushe
       ⊎ ((text : List ℕ) × (status : ℕ) × Finds text status × IsCut took refused unflushed output text output' × (fault ≡ write_fault))
 
   -- What was driven stands behind a flush, if it came to its end.
-  abbrev pub Finishes : Result ℕ TraceFault → Written W
+  abbrev pub Finishes : Result ℕ LogFault → Written W
   Finishes (Ok rounds) output output' result =
       (took output [] output' × (result ≡ Ok 0)) ⊎ (unflushed output output' × (result ≡ Err write_fault))
-  Finishes (Err fault) output output' result = (output' ≡ output) × (result ≡ Err (of_trace fault))
+  Finishes (Err fault) output output' result = (output' ≡ output) × (result ≡ Err (of_log fault))
 
   -- What became of a history is put, once it is judged.
   abbrev pub PutsVerdict : (how : HistoryTask) (judged : Result HistoryEnd TraceFault) → Written W
@@ -302,47 +307,49 @@ module _ {R W : Type 0} (gave : R → List ℕ → R → Type 0) (failed : R →
   Sweeps timings (Lines format) = sweeps_lines timings format
   Sweeps timings Figure = DrawsSweep timings
 
-  -- The requests of a trace are driven in rounds through a new machine: the run is written,
-  abbrev pub WritesRun : (timing : Timing) (shape : ToolShape) (image : Image) → Ending R W
-  WritesRun timing shape image input input' output output' result =
-      (driven : Result ℕ TraceFault) × (last : W)
-      × DrivesAll gave failed took refused timing (machine_over image shape) input input' output last driven
+  -- The requests of a trace or of a log are driven in rounds through a new machine: the run is written,
+  abbrev pub WritesRun : (from : RequestText) (timing : Timing) (shape : ToolShape) (image : Image) → Ending R W
+  WritesRun from timing shape image input input' output output' result =
+      (driven : Result ℕ LogFault) × (last : W)
+      × DrivesAll gave failed took refused from (room_of shape) timing (machine_over image shape) input input' output last driven
       × Finishes took refused unflushed driven last output' result
 
   -- or a table of its counts is put.
-  abbrev pub PutsCounts : (timing : Timing) (format : Format) (shape : ToolShape) (image : Image) → Ending R W
-  PutsCounts timing format shape image input input' =
+  abbrev pub PutsCounts : (from : RequestText) (timing : Timing) (format : Format) (shape : ToolShape) (image : Image) → Ending R W
+  PutsCounts from timing format shape image input input' =
       Answers took refused unflushed
-      (λ text status. (texts : List (List ℕ)) × (table : Table) × ReadWhole gave trace_fault MAX_LINE input input' texts
-      × IsCounted timing (machine_over image shape) (requests_of texts) table
+      (λ text status. (requests : List Event) × (groups : List AccessGroup) × (table : Table)
+      × Asks gave from (room_of shape) input input' requests groups
+      × IsCounted timing (machine_over image shape) requests table
       × (text ≡ table_head format ++ line (table_in format table)) × (status ≡ 0))
-      (λ fault. (f : TraceFault) × ReadFails gave failed trace_fault MAX_LINE input input' f × (fault ≡ of_trace f))
+      (λ fault. (f : LogFault) × AsksNothing gave failed from (room_of shape) input input' f × (fault ≡ of_log f))
 
-  -- or all details are put.
-  abbrev pub PutsDetails : (timing : Timing) (format : Format) (shape : ToolShape) (image : Image) → Ending R W
-  PutsDetails timing format shape image input input' =
+  -- or all details are put, and of a log what became of its accesses.
+  abbrev pub PutsDetails : (from : RequestText) (timing : Timing) (format : Format) (shape : ToolShape) (image : Image) → Ending R W
+  PutsDetails from timing format shape image input input' =
       Answers took refused unflushed
-      (λ text status. (texts : List (List ℕ)) × (details : Details) × ReadWhole gave trace_fault MAX_LINE input input' texts
-      × IsDetailed timing (machine_over image shape) (requests_of texts) details
-      × (text ≡ line (details_in format details)) × (status ≡ 0))
-      (λ fault. (f : TraceFault) × ReadFails gave failed trace_fault MAX_LINE input input' f × (fault ≡ of_trace f))
+      (λ text status. (details : Details) × (accesses : Option AccessCounts)
+      × CountsAll gave from (room_of shape) timing (machine_over image shape) input input' details accesses
+      × (text ≡ line (details_in format details accesses)) × (status ≡ 0))
+      (λ fault. (f : LogFault) × AsksNothing gave failed from (room_of shape) input input' f × (fault ≡ of_log f))
 
   -- or these are drawn.
-  abbrev pub DrawsCounts : (timing : Timing) (shape : ToolShape) (image : Image) → Ending R W
-  DrawsCounts timing shape image input input' =
+  abbrev pub DrawsCounts : (from : RequestText) (timing : Timing) (shape : ToolShape) (image : Image) → Ending R W
+  DrawsCounts from timing shape image input input' =
       Answers took refused unflushed
-      (λ text status. (texts : List (List ℕ)) × (table : Table) × ReadWhole gave trace_fault MAX_LINE input input' texts
-      × IsCounted timing (machine_over image shape) (requests_of texts) table × (text ≡ loss_figure table) × (status ≡ 0))
-      (λ fault. (f : TraceFault) × ReadFails gave failed trace_fault MAX_LINE input input' f × (fault ≡ of_trace f))
+      (λ text status. (requests : List Event) × (groups : List AccessGroup) × (table : Table)
+      × Asks gave from (room_of shape) input input' requests groups
+      × IsCounted timing (machine_over image shape) requests table × (text ≡ loss_figure table) × (status ≡ 0))
+      (λ fault. (f : LogFault) × AsksNothing gave failed from (room_of shape) input input' f × (fault ≡ of_log f))
 
-  abbrev pub counts_by : (form : CountForm) (all : Bool) (timing : Timing) (shape : ToolShape) (image : Image) → Ending R W
-  counts_by (Lines format) false timing = PutsCounts timing format
-  counts_by (Lines format) true timing = PutsDetails timing format
-  counts_by Figure all timing = DrawsCounts timing
+  abbrev pub counts_by : (form : CountForm) (all : Bool) (from : RequestText) (timing : Timing) (shape : ToolShape) (image : Image) → Ending R W
+  counts_by (Lines format) false from timing = PutsCounts from timing format
+  counts_by (Lines format) true from timing = PutsDetails from timing format
+  counts_by Figure all from timing = DrawsCounts from timing
 
-  unfoldable pub Drives : (timing : Timing) (summary all : Bool) (form : CountForm) (shape : ToolShape) (image : Image) → Ending R W
-  Drives timing false all form = WritesRun timing
-  Drives timing true all form = counts_by form all timing
+  unfoldable pub Drives : (from : RequestText) (timing : Timing) (summary all : Bool) (form : CountForm) (shape : ToolShape) (image : Image) → Ending R W
+  Drives from timing false all form = WritesRun from timing
+  Drives from timing true all form = counts_by form all from timing
 
   -- The requests of a log are written, whose lines say these accesses, for a memory of so many words.
   unfoldable pub WritesRequests : (access_of : List ℕ → Result (Option Access) LineFault) (words : ℕ) → Ending R W
@@ -389,7 +396,7 @@ module _ {R W : Type 0} (gave : R → List ℕ → R → Type 0) (failed : R →
   IsDone (task.Sweep timings form) shape image = Sweeps (timings_in timings) form shape
   IsDone (task.Explain format) shape image = ExplainsRun format shape image
   IsDone (task.Grade format) shape image = Grades format shape image
-  IsDone (task.Drive timing summary all form) shape image = Drives timing summary all form shape image
+  IsDone (task.Drive from timing summary all form) shape image = Drives from timing summary all form shape image
   IsDone (task.Requests log words) shape image = WritesRequests (access_in log) words
   IsDone (task.Show form) shape image = Draws form shape image
   IsDone (task.History how) shape image = FollowsHistory how (bytes_of image)

@@ -33,7 +33,7 @@ timings_in t = take (min t.given MOST_LATENCIES) t.all
 -- the numbers of what is asked for are in their ranges
 abbrev pub IsInRange : Task → Type 0
 IsInRange (Sweep timings form) = AllByRecursion IsTimely timings.all
-IsInRange (Drive timing summary all form) = IsTimely timing
+IsInRange (Drive from timing summary all form) = IsTimely timing
 IsInRange (Requests from words) = words ≤ MAX_WORDS
 IsInRange task = Unit {0}
 

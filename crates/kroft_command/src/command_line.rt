@@ -7,12 +7,13 @@ ghost use Rattle.access_logs.specs.declared.writing.TheConstants.{MAX_WORDS};
 ghost use Rattle.round_driver.specs.declared.driving.TheConstants.{MOST_LATENCY};
 ghost use Rattle.kroft_command.specs.Tool.{IsInRange, IsTimely, latency_or_usual, timing_with, timings_in, words_or_most};
 
-use crate::commands::{BUSY, FILE, LATENCY, SVG, Subcommand, program, shown};
+use crate::commands::{BUSY, FILE, LATENCY, LOG, SVG, Subcommand, program, shown};
 use access_logs::MAX_WORDS;
 use atomic_histories::{DEFAULT_LIMIT, UnitSize};
 use clap::error::ErrorKind;
 use clap::{ArgMatches, Error};
 use history_text::HistoryLaw;
+use kroft_jobs::RequestText;
 use memory_histories::Rest;
 use named_fields::Format;
 use round_driver::{MOST_LATENCY, Timing};
@@ -126,6 +127,8 @@ pub(crate) enum Task {
     },
     /// Drive its requests in rounds.
     Drive {
+        /// What they are read from.
+        from: RequestText,
         /// How long a bank takes for a command.
         timing: Timing,
         /// Whether a table of counts is written in place of the run.
@@ -314,11 +317,21 @@ fn sweep_task(rest: &ArgMatches<'_>) -> Task
     }
 }
 
+// What the requests of a drive are read from: a trace, unless a log is named.
+fn text_of(rest: &ArgMatches<'_>) -> RequestText {
+    match rest.get_str(LOG) {
+        Some("lackey") => RequestText::Lackey,
+        Some("din") => RequestText::Din,
+        _ => RequestText::Trace,
+    }
+}
+
 // What the words behind `drive` ask for.
 fn drive_task(rest: &ArgMatches<'_>) -> Task
     ensures { IsInRange result }
 {
     Task::Drive {
+        from: text_of(rest),
         timing: timing_with(
             latency_or_usual(latency_of(rest)),
             rest.get_one::<u64>(BUSY),

@@ -18,6 +18,9 @@ pub(crate) const LATENCY: &str = "latency";
 /// The name of the argument for the rounds between two begins of a bank.
 pub(crate) const BUSY: &str = "busy";
 
+/// The argument that names a log's format, where a log takes the place of a trace.
+pub(crate) const LOG: &str = "log";
+
 /// The name of the argument for a figure.
 pub(crate) const SVG: &str = "svg";
 
@@ -211,6 +214,16 @@ fn log_argument<'a>(alloc: Global, is_required: bool) -> Arg<'a> {
         .help("What wrote the log")
 }
 
+// The argument for a log in place of a trace.
+fn drive_log<'a>(alloc: Global) -> Arg<'a> {
+    Arg::new(alloc, LOG)
+        .long(LOG)
+        .value_name("FORMAT")
+        .action(ArgAction::Set)
+        .value_parser(["lackey", "din"].as_slice())
+        .help("Read a log of accesses in place of a trace, and count them with --summary --all")
+}
+
 // The argument for the words of memory.
 fn words_argument<'a>(alloc: Global) -> Arg<'a> {
     Arg::new(alloc, "words")
@@ -315,6 +328,7 @@ fn all_argument<'a>(alloc: Global) -> Result<Arg<'a>, AllocError> {
 
 // Adds the options of `drive` alone.
 fn push_drive<'a>(alloc: Global, args: &mut Vec<Arg<'a>>) -> Result<(), AllocError> {
+    args.push(drive_log(alloc))?;
     args.push(drive_latency(alloc))?;
     args.push(busy_argument(alloc))?;
     args.push(flag(alloc, "summary", "Write counts in place of the run"))?;

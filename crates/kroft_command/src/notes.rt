@@ -191,7 +191,9 @@ requests accepted and denied; of those accepted how many found their word at han
 way (joins), or asked for its block (misses); requests that stalled; rounds lost by each cause;
 loads answered, their mean and longest wait in rounds; the most registers in use at once; words
 written back. With --format csv the counts stand in a line behind one of names, with --format json
-they are an object; the names are those of the text, and 'lost_7_no_register' is 'lost 7'. An image With --svg
+they are an object; the names are those of the text, and 'lost_7_no_register' is 'lost 7'. With --svg
+the lost rounds are drawn, a bar for each cause, as a figure that a browser shows. An image ('kroft
+run --help' describes them) changes the values of the run, and no count.
 With --all a line follows for each of these: loads, stores and prefetches that were accepted, with
 their hits, joins and misses; the mean and longest wait of answered loads from the round that first
 asked for them; hits, joins and misses by set; rounds by the registers in use at their end, and by
@@ -199,8 +201,10 @@ the loads owed a value; and answered loads by their wait, from acceptance and fr
 (0 rounds, 1, 2 to 3, 4 to 7, .., of which each is told by its least). Here --format csv writes lines
 'name,index,value', and --format json arrays. All of it counts words: an access to two words is two
 requests.
-('kroft run --help' describes them) changes the values of the run, and no count.
-the lost rounds are drawn, a bar for each cause, as a figure that a browser shows.
+With --log FORMAT a log of accesses is read in place of a trace ('kroft requests --help' describes its
+formats and faults), over the words of the shape: the requests are those that 'requests' writes. Then
+--summary --all counts the log's accesses too, and reads and writes apart: each is as its worst word, a
+miss if any of its words missed, else a join if any joined, else a hit. A modification is one read.
 
 Statuses: 0 done, 2 the command line is wrong, 3 the shape file is wrong, 4 a line is faulty, the
 image is wrong or a stream failed, 5 there is too little memory.

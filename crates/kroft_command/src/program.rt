@@ -122,12 +122,13 @@ fn complete<R: AllocGlobal + Threads + Sync, I: Source, O: Sink>(
         Task::Explain { format } => explain(alloc, shape, format, image, input, output),
         Task::Grade { format } => grade(alloc, shape, format, image, input, output),
         Task::Drive {
+            from,
             timing,
             summary,
             all,
             form,
         } => drive(
-            alloc, shape, image, timing, summary, all, form, input, output,
+            alloc, shape, image, from, timing, summary, all, form, input, output,
         ),
         Task::Requests { from, words } => requests(alloc, from, words, input, output),
         Task::Show { form } => show(alloc, shape, image, form, input, output),

@@ -22,8 +22,8 @@ use crate::fault::ToolFault;
 use access_logs::{Din, Lackey, LogFormat, write_requests};
 use history_text::{HistoryEnd, HistoryVerdict, judge_by_law, write_values_by_law};
 use kroft_jobs::{
-    AnsweredIn, CheckIn, LatencyRows, Verdict, detail_requests, drive_requests, put_text, serve,
-    summarize_requests, sweep_in_rounds, sweep_latencies, sweep_registers,
+    AnsweredIn, CheckIn, LatencyRows, RequestText, Verdict, detail_requests, drive_requests,
+    put_text, serve, summarize_requests, sweep_in_rounds, sweep_latencies, sweep_registers,
 };
 use memory_images::Image;
 use named_fields::Format;
@@ -184,6 +184,7 @@ fn write_run<I: Source, O: Sink>(
     alloc: Global,
     tool: &ToolShape,
     image: &Image,
+    from: RequestText,
     timing: Timing,
     input: &mut I,
     output: &mut O,
@@ -191,10 +192,10 @@ fn write_run<I: Source, O: Sink>(
     requires shape { bad_field tool.now ≡ None }
     requires latency { timing.latency ≤ MOST_LATENCY }
     ensures few { IfOk result (λ status. status ≤ 1) }
-    ensures ends { WritesRun I.gave I.failed O.took O.refused O.unflushed timing tool.now image.now input.old input.new output.old
+    ensures ends { WritesRun I.gave I.failed O.took O.refused O.unflushed from timing tool.now image.now input.old input.new output.old
         output.new result }
 {
-    drive_requests(alloc, tool, image, timing, input, output)?;
+    drive_requests(alloc, tool, image, timing, from, input, output)?;
     finish(output)?;
     Ok(0)
 }
@@ -204,6 +205,7 @@ fn put_counts<I: Source, O: Sink>(
     alloc: Global,
     tool: &ToolShape,
     image: &Image,
+    from: RequestText,
     timing: Timing,
     format: Format,
     input: &mut I,
@@ -212,10 +214,10 @@ fn put_counts<I: Source, O: Sink>(
     requires shape { bad_field tool.now ≡ None }
     requires latency { timing.latency ≤ MOST_LATENCY }
     ensures few { IfOk result (λ status. status ≤ 1) }
-    ensures ends { PutsCounts I.gave I.failed O.took O.refused O.unflushed timing format tool.now image.now input.old input.new output.old
+    ensures ends { PutsCounts I.gave I.failed O.took O.refused O.unflushed from timing format tool.now image.now input.old input.new output.old
         output.new result }
 {
-    let table = summarize_requests(alloc, tool, image, timing, input)?;
+    let table = summarize_requests(alloc, tool, image, timing, from, input)?;
     let counts = format!(in alloc; "{}{}\n", TableHead(format), TableIn(format, table))?;
     answer(output, counts.as_str(), 0)
 }
@@ -225,6 +227,7 @@ fn put_details<I: Source, O: Sink>(
     alloc: Global,
     tool: &ToolShape,
     image: &Image,
+    from: RequestText,
     timing: Timing,
     format: Format,
     input: &mut I,
@@ -233,11 +236,11 @@ fn put_details<I: Source, O: Sink>(
     requires shape { bad_field tool.now ≡ None }
     requires latency { timing.latency ≤ MOST_LATENCY }
     ensures few { IfOk result (λ status. status ≤ 1) }
-    ensures ends { PutsDetails I.gave I.failed O.took O.refused O.unflushed timing format tool.now image.now input.old input.new output.old
+    ensures ends { PutsDetails I.gave I.failed O.took O.refused O.unflushed from timing format tool.now image.now input.old input.new output.old
         output.new result }
 {
-    let details = detail_requests(alloc, tool, image, timing, input)?;
-    let told = format!(in alloc; "{}\n", DetailsIn(format, &details))?;
+    let run = detail_requests(alloc, tool, image, timing, from, input)?;
+    let told = format!(in alloc; "{}\n", DetailsIn(format, &run.details, run.accesses))?;
     answer(output, told.as_str(), 0)
 }
 
@@ -246,6 +249,7 @@ fn draw_counts<I: Source, O: Sink>(
     alloc: Global,
     tool: &ToolShape,
     image: &Image,
+    from: RequestText,
     timing: Timing,
     input: &mut I,
     output: &mut O,
@@ -253,10 +257,10 @@ fn draw_counts<I: Source, O: Sink>(
     requires shape { bad_field tool.now ≡ None }
     requires latency { timing.latency ≤ MOST_LATENCY }
     ensures few { IfOk result (λ status. status ≤ 1) }
-    ensures ends { DrawsCounts I.gave I.failed O.took O.refused O.unflushed timing tool.now image.now input.old input.new output.old
+    ensures ends { DrawsCounts I.gave I.failed O.took O.refused O.unflushed from timing tool.now image.now input.old input.new output.old
         output.new result }
 {
-    let counted = summarize_requests(alloc, tool, image, timing, input)?;
+    let counted = summarize_requests(alloc, tool, image, timing, from, input)?;
     let figure = format!(in alloc; "{}", LossFigure(counted))?;
     answer(output, figure.as_str(), 0)
 }
@@ -266,6 +270,7 @@ fn show_counts<I: Source, O: Sink>(
     alloc: Global,
     tool: &ToolShape,
     image: &Image,
+    from: RequestText,
     timing: Timing,
     all: bool,
     form: CountForm,
@@ -275,17 +280,17 @@ fn show_counts<I: Source, O: Sink>(
     requires shape { bad_field tool.now ≡ None }
     requires latency { timing.latency ≤ MOST_LATENCY }
     ensures few { IfOk result (λ status. status ≤ 1) }
-    ensures ends { counts_by I.gave I.failed O.took O.refused O.unflushed form all timing tool.now image.now input.old input.new
+    ensures ends { counts_by I.gave I.failed O.took O.refused O.unflushed form all from timing tool.now image.now input.old input.new
         output.old output.new result }
 {
     match (form, all) {
         (CountForm::Lines(format), false) => {
-            put_counts(alloc, tool, image, timing, format, input, output)
+            put_counts(alloc, tool, image, from, timing, format, input, output)
         }
         (CountForm::Lines(format), true) => {
-            put_details(alloc, tool, image, timing, format, input, output)
+            put_details(alloc, tool, image, from, timing, format, input, output)
         }
-        (CountForm::Figure, _) => draw_counts(alloc, tool, image, timing, input, output),
+        (CountForm::Figure, _) => draw_counts(alloc, tool, image, from, timing, input, output),
     }
 }
 
@@ -295,6 +300,7 @@ pub(crate) fn drive<I: Source, O: Sink>(
     alloc: Global,
     tool: &ToolShape,
     image: &Image,
+    from: RequestText,
     timing: Timing,
     summary: bool,
     all: bool,
@@ -305,13 +311,13 @@ pub(crate) fn drive<I: Source, O: Sink>(
     requires shape { bad_field tool.now ≡ None }
     requires latency { timing.latency ≤ MOST_LATENCY }
     ensures few { IfOk result (λ status. status ≤ 1) }
-    ensures ends { Drives I.gave I.failed O.took O.refused O.unflushed timing summary all form tool.now image.now input.old input.new
+    ensures ends { Drives I.gave I.failed O.took O.refused O.unflushed from timing summary all form tool.now image.now input.old input.new
         output.old output.new result }
 {
     if summary {
-        show_counts(alloc, tool, image, timing, all, form, input, output)
+        show_counts(alloc, tool, image, from, timing, all, form, input, output)
     } else {
-        write_run(alloc, tool, image, timing, input, output)
+        write_run(alloc, tool, image, from, timing, input, output)
     }
 }
 

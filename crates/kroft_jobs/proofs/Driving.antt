@@ -1,18 +1,25 @@
 -- What was read and what was driven, as one answer.
-use Rattle.std.proofs.Common.{◌≡◌, ℕ, true, List, [], ◌∷◌, refl, subst, inr}
+use Rattle.std.proofs.Common.{◌≡◌, ℕ, true, List, [], ◌∷◌, ◌≤◌, Option, length, refl, sym, subst, inl, inr}
 use Rattle.std.specs.List.{AllByRecursion, list_all}
 use Rattle.std.specs.Prelude.{Result, Ok, Err}
 use Rattle.flat_model.specs.declared.Event.{Event}
 use Rattle.flat_model.specs.declared.Event.TheVariants.{Load, Store, Prefetch, Evict, Drain, Serve, Arrive, Process, Take}
 use Rattle.machine_core.specs.Machine.{MachineState}
-use Rattle.trace_text.specs.Reading.{ReadWhole}
-use Rattle.trace_text.specs.Requests.{IsRequest, requests_of}
-use Rattle.trace_text.specs.Serving.{trace_fault}
-use Rattle.trace_text.specs.declared.fault.TheConstants.{MAX_LINE}
+use Rattle.trace_text.specs.Requests.{IsRequest}
 use Rattle.trace_text.specs.declared.fault.TraceFault.{TraceFault}
+use Rattle.trace_text.specs.declared.fault.TraceFault.TheVariants.{OutOfMemory}
+use Rattle.trace_text.specs.Codes.{most_lines}
+use Rattle.trace_text.specs.declared.lines.LineFault.{LineFault}
+use Rattle.access_logs.specs.Reads.{LogSays}
+use Rattle.access_logs.specs.declared.access.Access.{Access}
+use Rattle.access_logs.specs.declared.fault.LogFault.TheVariants as log
+use Rattle.access_logs.specs.declared.reading.AccessGroup.{AccessGroup}
 use Rattle.round_driver.specs.Walks.{is_request}
 use Rattle.round_driver.specs.declared.timing.Timing.{Timing}
+use Rattle.kroft_jobs.specs.Asking.{Asks, AsksNothing}
 use Rattle.kroft_jobs.specs.Driving.{IsDriven, DrivesAll}
+use Rattle.kroft_jobs.specs.declared.asked.RequestText.{RequestText}
+use Rattle.kroft_jobs.specs.declared.asked.RequestText.TheVariants.{Trace, Lackey, Din}
 
 -- what is read as requests is asked as requests
 pub all_requests : (events : List Event) → AllByRecursion IsRequest events → list_all is_request events ≡ true
@@ -27,8 +34,25 @@ all_requests (Arrive bank place ∷ events) all = absurd all.0
 all_requests (Process place ∷ events) all = absurd all.0
 all_requests (Take place ∷ events) all = absurd all.0
 
-pub driven : {R W : Type 0} (gave : R → List ℕ → R → Type 0) (failed : R → R → Type 0) (took : W → List ℕ → W → Type 0) (refused : W → W → Type 0) (timing : Timing) (s : MachineState) (input input' : R) (output output' : W) (texts : List (List ℕ)) (requests : List Event) → ReadWhole gave trace_fault MAX_LINE input input' texts → requests ≡ requests_of texts → (result : Result ℕ TraceFault) → IsDriven took refused timing s requests output output' result → DrivesAll gave failed took refused timing s input input' output output' result
-driven gave failed took refused timing s input input' output output' texts requests whole same (Ok n) d =
-    (texts, whole, subst (λ r. IsDriven took refused timing s r output output' (Ok n)) same d)
-driven gave failed took refused timing s input input' output output' texts requests whole same (Err f) d =
-    inr (texts, whole, subst (λ r. IsDriven took refused timing s r output output' (Err f)) same d)
+-- a log has as many requests at most as a trace has lines
+pub log_few : {R : Type 0} (gave : R → List ℕ → R → Type 0) (access_in : List ℕ → Result (Option Access) LineFault) (room : ℕ) (r r' : R) (requests : List Event) (groups : List AccessGroup)
+    → LogSays gave access_in room r r' requests groups → length requests ≤ most_lines
+log_few gave access_in room r r' requests groups said = subst (λ l. length l ≤ most_lines) (sym said.requests) said.fits.requests
+
+pub driven : {R W : Type 0} (gave : R → List ℕ → R → Type 0) (failed : R → R → Type 0) (took : W → List ℕ → W → Type 0) (refused : W → W → Type 0) (from : RequestText) (room : ℕ) (timing : Timing) (s : MachineState) (input input' : R) (output output' : W) (requests : List Event) (groups : List AccessGroup) (rounds : ℕ)
+    → Asks gave from room input input' requests groups → IsDriven took refused timing s requests output output' (Ok rounds)
+    → DrivesAll gave failed took refused from room timing s input input' output output' (Ok rounds)
+driven gave failed took refused from room timing s input input' output output' requests groups rounds asks d = (requests, groups, asks, d)
+
+pub driven_not : {R W : Type 0} (gave : R → List ℕ → R → Type 0) (failed : R → R → Type 0) (took : W → List ℕ → W → Type 0) (refused : W → W → Type 0) (from : RequestText) (room : ℕ) (timing : Timing) (s : MachineState) (input input' : R) (output output' : W) (requests : List Event) (groups : List AccessGroup) (f : TraceFault)
+    → Asks gave from room input input' requests groups → IsDriven took refused timing s requests output output' (Err f)
+    → DrivesAll gave failed took refused from room timing s input input' output output' (Err (log.Trace f))
+driven_not gave failed took refused from room timing s input input' output output' requests groups f asks d =
+    inr (requests, groups, f, asks, refl, d)
+
+-- memory may be missing, whatever is read
+pub asks_no_memory : {R : Type 0} (gave : R → List ℕ → R → Type 0) (failed : R → R → Type 0) (from : RequestText) (room : ℕ) (input input' : R)
+    → AsksNothing gave failed from room input input' (log.Trace OutOfMemory)
+asks_no_memory gave failed Trace room input input' = (OutOfMemory, refl, inl refl)
+asks_no_memory gave failed Lackey room input input' = inl refl
+asks_no_memory gave failed Din room input input' = inl refl

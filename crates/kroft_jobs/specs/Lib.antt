@@ -1,5 +1,6 @@
 pub mod Jobs
 pub mod Writing
+pub mod Asking
 pub mod Driving
 pub mod Grading
 pub mod Sweeping

@@ -1,5 +1,5 @@
 -- What becomes of the requests of a trace that are counted in rounds, and why a sweep has no rows.
-use Rattle.std.specs.Prelude.{⊤, ◌≡◌, ℕ, List, [], ◌∷◌, map, Some, None}
+use Rattle.std.specs.Prelude.{⊤, ◌≡◌, ℕ, List, [], ◌∷◌, map, Option, Some, None}
 use Rattle.std.specs.List.{All}
 use Rattle.flat_model.specs.declared.Event.{Event}
 use Rattle.machine_core.specs.Machine.{MachineState}
@@ -18,6 +18,10 @@ use Rattle.shape_files.specs.ShapeFile.{bad_field}
 use Rattle.register_sweeps.specs.declared.rounds.RoundsRow.{RoundsRow}
 use Rattle.register_sweeps.specs.Rounds.{rounds_row_of}
 use Rattle.register_sweeps.specs.Sweep.{new_machine}
+use Rattle.access_counts.specs.declared.counts.AccessCounts.{AccessCounts}
+use Rattle.access_logs.specs.declared.reading.AccessGroup.{AccessGroup}
+use Rattle.kroft_jobs.specs.Asking.{Asks, accesses_of}
+use Rattle.kroft_jobs.specs.declared.asked.RequestText.{RequestText}
 use Rattle.kroft_jobs.specs.declared.fault.JobFault.{JobFault}
 use Rattle.kroft_jobs.specs.declared.fault.JobFault.TheVariants.{Shape, Trace, TurnLimit, OutOfMemory}
 use Rattle.kroft_jobs.specs.declared.rounds.LatencyRows.{LatencyRows}
@@ -30,6 +34,12 @@ IsCounted timing s requests table = (table ≡ table_of timing s requests) × Is
 -- the details of these requests in rounds, in a run that is over in time
 abbrev pub IsDetailed : (timing : Timing) (s : MachineState) (requests : List Event) → Details → Type 0
 IsDetailed timing s requests details = (details ≡ details_of timing s requests) × IsOverInTime timing s requests
+
+-- The requests of an input are counted in rounds: their details, and, of a log, its accesses.
+abbrev pub CountsAll : {R : Type 0} (gave : R → List ℕ → R → Type 0) (from : RequestText) (room : ℕ) (timing : Timing) (s : MachineState) (input input' : R) → Details → Option AccessCounts → Type 0
+CountsAll gave from room timing s input input' details accesses =
+    (requests : List Event) × (groups : List AccessGroup) × Asks gave from room input input' requests groups
+    × IsDetailed timing s requests details × (accesses ≡ accesses_of from groups details.outcomes)
 
 -- the rows of these requests in rounds on machines of these shapes, each of a run that is over in time
 abbrev pub AreCounted : (timing : Timing) (shapes : List ToolShape) (requests : List Event) → List RoundsRow → Type 0

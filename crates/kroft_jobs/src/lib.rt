@@ -8,6 +8,7 @@
 #![tactic(auto)]
 
 mod answered;
+mod asked;
 mod fault;
 mod forms;
 mod grades;
@@ -17,13 +18,14 @@ mod rounds;
 mod writing;
 
 pub use answered::{AnsweredVerdict, check_answered};
+pub use asked::RequestText;
 pub use fault::JobFault;
 pub use forms::{AnsweredIn, CheckIn};
 pub use grades::grade;
 pub use jobs::{Verdict, check, explain, serve, sweep_registers};
 pub use pictures::show;
 pub use rounds::{
-    LatencyRows, detail_requests, drive_requests, summarize_requests, sweep_in_rounds,
+    CountedRun, LatencyRows, detail_requests, drive_requests, summarize_requests, sweep_in_rounds,
     sweep_latencies,
 };
 pub use writing::put_text;

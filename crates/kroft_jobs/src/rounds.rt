@@ -1,4 +1,4 @@
-//! What the program does with the requests of a trace in rounds.
+//! What the program does with the requests of a trace or of a log in rounds.
 
 ghost use Rattle.std.specs.Prelude.{◌≡◌, ◌≤◌, ℕ, List, None, true, IfOk, IfErr, OnOk, length, ⊤};
 ghost use Rattle.std.specs.List.{All, list_all};
@@ -12,12 +12,18 @@ ghost use Rattle.round_driver.specs.declared.driving.TheConstants.{MOST_LATENCY}
 ghost use Rattle.round_driver.specs.Details.{details_of};
 ghost use Rattle.round_driver.specs.Rounds.{most_requests};
 ghost use Rattle.round_driver.specs.Walks.{is_request, RequestsEnd};
+ghost use Rattle.flat_model.specs.declared.Event.{Event as EventValue};
+ghost use Rattle.access_logs.specs.declared.reading.AccessGroup.{AccessGroup as Group};
+ghost use Rattle.kroft_jobs.specs.Asking.{Asks, AsksNothing, room_of};
 ghost use Rattle.kroft_jobs.specs.Driving.{IsDriven, DrivesAll};
 ghost use Rattle.kroft_jobs.specs.Jobs.{swept};
-ghost use Rattle.kroft_jobs.specs.Sweeping.{IsCounted, IsDetailed, AreCounted, AreSwept, SweepFails};
+ghost use Rattle.kroft_jobs.specs.Sweeping.{IsCounted, CountsAll, AreCounted, AreSwept, SweepFails};
 
+use crate::asked::{RequestText, accesses_of, read_asked};
 use crate::fault::JobFault;
 use crate::jobs::{SWEEP_TURNS, swept_shapes};
+use access_counts::AccessCounts;
+use access_logs::LogFault;
 use flat_model::Event;
 use memory_images::Image;
 use register_sweeps::{
@@ -30,27 +36,32 @@ use std::alloc::{AllocError, Global};
 use std::thread::Threads;
 use trace_text::{Sink, Source, TraceFault, read_requests};
 
-/// Drives the requests of a trace in rounds through a new machine of a shape whose fields are in
+/// Drives the requests of a trace or of a log in rounds through a new machine of a shape whose fields are in
 /// range, over an image, as [`drive_with`] does, and writes the run. Gives the number of rounds, behind which the
 /// requests are used up and nothing is on its way. The output isn't flushed.
 ///
-/// All requests are read before anything is written: a fault of the trace leaves the output as it is.
+/// All requests are read before anything is written: a fault of the input leaves the output as it is.
 /// A write that is refused ends the run at once. The latency of `timing` is at most `MOST_LATENCY`.
 pub fn drive_requests<I: Source, O: Sink>(
     alloc: Global,
     tool: &ToolShape,
     image: &Image,
     timing: Timing,
+    from: RequestText,
     input: &mut I,
     output: &mut O,
-) -> Result<u64, TraceFault>
+) -> Result<u64, LogFault>
     requires shape { bad_field tool.now ≡ None }
     requires latency { timing.latency ≤ MOST_LATENCY }
-    ensures { DrivesAll I.gave I.failed O.took O.refused timing (machine_over image.now tool.now) input.old input.new
-        output.old output.new result }
+    ensures { DrivesAll I.gave I.failed O.took O.refused from (room_of tool.now) timing (machine_over image.now tool.now)
+        input.old input.new output.old output.new result }
 {
-    let requests = read_requests(alloc, input)?;
-    drive_all(alloc, tool, image, timing, requests.as_slice(), output)
+    let asked = read_asked(alloc, from, tool, input)?;
+    let requests = asked.requests.as_slice();
+    match drive_all(alloc, tool, image, timing, requests, output) {
+        Ok(rounds) => Ok(rounds),
+        Err(fault) => Err(LogFault::Trace(fault)),
+    }
 }
 
 // Drives requests on a new machine.
@@ -105,7 +116,7 @@ impl<'a, O: Sink> MachineJob for DrivenRequests<'a, O> {
     }
 }
 
-/// Drives the requests of a trace in rounds through a new machine of a shape whose fields are in
+/// Drives the requests of a trace or of a log in rounds through a new machine of a shape whose fields are in
 /// range, over an image, and counts, as [`rounds_table`] does. Behind the rounds that are counted the requests
 /// are used up and nothing is on its way. The latency of `timing` is at most `MOST_LATENCY`.
 pub fn summarize_requests<I: Source>(
@@ -113,38 +124,53 @@ pub fn summarize_requests<I: Source>(
     tool: &ToolShape,
     image: &Image,
     timing: Timing,
+    from: RequestText,
     input: &mut I,
-) -> Result<Table, TraceFault>
+) -> Result<Table, LogFault>
     requires shape { bad_field tool.now ≡ None }
     requires latency { timing.latency ≤ MOST_LATENCY }
     ensures table { IfOk result
-        (λ table. (texts : List (List ℕ)) × ReadWhole I.gave trace_fault MAX_LINE input.old input.new texts
-        × IsCounted timing (machine_over image.now tool.now) (requests_of texts) table) }
+        (λ table. (requests : List EventValue) × (groups : List Group)
+        × Asks I.gave from (room_of tool.now) input.old input.new requests groups
+        × IsCounted timing (machine_over image.now tool.now) requests table) }
     ensures fault { IfErr result
-        (ReadFails I.gave I.failed trace_fault MAX_LINE input.old input.new) }
+        (AsksNothing I.gave I.failed from (room_of tool.now) input.old input.new) }
 {
-    let requests = read_requests(alloc, input)?;
-    Ok(rounds_table(alloc, tool, image, timing, requests.as_slice())?)
+    let asked = read_asked(alloc, from, tool, input)?;
+    Ok(rounds_table(alloc, tool, image, timing, asked.requests.as_slice())?)
 }
 
-/// Drives the requests of a trace as [`summarize_requests`] does, and counts more, as [`detail_with`] does.
+/// What was counted of a run.
+#[derive(Drop)]
+pub struct CountedRun {
+    /// The details.
+    pub details: Details,
+    /// The accesses, if a log told them.
+    pub accesses: Option<AccessCounts>,
+}
+
+/// Drives the requests of a trace or of a log as [`summarize_requests`] does, and counts more, as [`detail_with`] does;
+/// and of a log its accesses, as [`count_accesses`](access_counts::count_accesses) does.
 pub fn detail_requests<I: Source>(
     alloc: Global,
     tool: &ToolShape,
     image: &Image,
     timing: Timing,
+    from: RequestText,
     input: &mut I,
-) -> Result<Details, TraceFault>
+) -> Result<CountedRun, LogFault>
     requires shape { bad_field tool.now ≡ None }
     requires latency { timing.latency ≤ MOST_LATENCY }
-    ensures details { IfOk result
-        (λ details. (texts : List (List ℕ)) × ReadWhole I.gave trace_fault MAX_LINE input.old input.new texts
-        × IsDetailed timing (machine_over image.now tool.now) (requests_of texts) details) }
+    ensures counted { IfOk result
+        (λ run. CountsAll I.gave from (room_of tool.now) timing (machine_over image.now tool.now) input.old input.new
+        run.details run.accesses) }
     ensures fault { IfErr result
-        (ReadFails I.gave I.failed trace_fault MAX_LINE input.old input.new) }
+        (AsksNothing I.gave I.failed from (room_of tool.now) input.old input.new) }
 {
-    let requests = read_requests(alloc, input)?;
-    Ok(detail_all(alloc, tool, image, timing, requests.as_slice())?)
+    let asked = read_asked(alloc, from, tool, input)?;
+    let details = detail_all(alloc, tool, image, timing, asked.requests.as_slice())?;
+    let accesses = accesses_of(from, asked.groups.as_slice(), details.outcomes.as_slice());
+    Ok(CountedRun { details, accesses })
 }
 
 // Counts requests on a new machine over an image.

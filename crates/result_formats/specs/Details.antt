@@ -1,5 +1,6 @@
 -- The details of a run in a format.
-use Rattle.std.specs.Prelude.{ℕ, ◌+◌, List, [], ◌∷◌, ◌++◌, codes, take}
+use Rattle.std.specs.Prelude.{ℕ, ◌+◌, Option, Some, None, List, [], ◌∷◌, ◌++◌, codes, take}
+use Rattle.access_counts.specs.declared.counts.AccessCounts.{AccessCounts}
 use Rattle.round_driver.specs.Details.{bucket_of}
 use Rattle.round_driver.specs.Texts.{mean_of, table_text}
 use Rattle.round_driver.specs.declared.details.Details.{Details}
@@ -35,10 +36,32 @@ series_named d =
     ∷ listed (codes "rounds_by_registers") Number d.registers ∷ listed (codes "rounds_by_owed") Number d.owed
     ∷ listed (codes "waits") Doubling (buckets_of d.waits) ∷ listed (codes "waits_from_asking") Doubling (buckets_of d.waits_from_asking) ∷ []
 
--- the details, with the figures of the table
-unfoldable pub details_in : Format → Details → List ℕ
-details_in Text d = table_text d.table ++ (all_fields Text (details_named d) ++ all_series Text (series_named d))
-details_in Csv d =
-    codes "name,index,value" ++ (all_fields Csv (table_named d.table) ++ (all_fields Csv (details_named d) ++ all_series Csv (series_named d)))
-details_in Json d =
-    codes "{" ++ (joined member_text (table_named d.table) ++ (all_fields Json (details_named d) ++ (all_series Json (series_named d) ++ codes "}")))
+-- ---- accesses
+
+-- the figures of accesses: all, the reads, and the writes
+unfoldable pub accesses_named : AccessCounts → List Named
+accesses_named c =
+    count (codes "accesses") (c.reads.accesses + c.writes.accesses) ∷ count (codes "access_hits") (c.reads.hits + c.writes.hits)
+    ∷ count (codes "access_joins") (c.reads.joins + c.writes.joins) ∷ count (codes "access_misses") (c.reads.misses + c.writes.misses)
+    ∷ count (codes "access_denied") (c.reads.denied + c.writes.denied)
+    ∷ count (codes "reads") c.reads.accesses ∷ count (codes "read_hits") c.reads.hits
+    ∷ count (codes "read_joins") c.reads.joins ∷ count (codes "read_misses") c.reads.misses
+    ∷ count (codes "read_denied") c.reads.denied
+    ∷ count (codes "writes") c.writes.accesses ∷ count (codes "write_hits") c.writes.hits
+    ∷ count (codes "write_joins") c.writes.joins ∷ count (codes "write_misses") c.writes.misses
+    ∷ count (codes "write_denied") c.writes.denied ∷ []
+
+-- behind something else, if there are any
+unfoldable pub accesses_in : Format → Option AccessCounts → List ℕ
+accesses_in format None = []
+accesses_in format (Some c) = all_fields format (accesses_named c)
+
+-- ---- all of them
+
+-- the details, with the figures of the table, and with those of accesses, if they were counted
+unfoldable pub details_in : Format → Details → Option AccessCounts → List ℕ
+details_in Text d c = table_text d.table ++ (all_fields Text (details_named d) ++ (accesses_in Text c ++ all_series Text (series_named d)))
+details_in Csv d c =
+    codes "name,index,value" ++ (all_fields Csv (table_named d.table) ++ (all_fields Csv (details_named d) ++ (accesses_in Csv c ++ all_series Csv (series_named d))))
+details_in Json d c =
+    codes "{" ++ (joined member_text (table_named d.table) ++ (all_fields Json (details_named d) ++ (accesses_in Json c ++ (all_series Json (series_named d) ++ codes "}"))))

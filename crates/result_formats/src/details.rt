@@ -4,11 +4,13 @@ ghost use Rattle.std.specs.Prelude.{Some, ◌≡◌, ◌+◌, map, take};
 ghost use Rattle.std.specs.List.{flat_map};
 ghost use Rattle.std.specs.Fmt.{WritesOnOk};
 ghost use Rattle.named_fields.specs.Formats.{said};
+ghost use Rattle.result_formats.specs.Counts as counts;
 ghost use Rattle.result_formats.specs.Details as specs;
 ghost use Rattle.result_formats.specs.Series as series;
 
 use crate::counts::{count, table_fields};
 use crate::series::{AllSeries, By, Series};
+use access_counts::AccessCounts;
 use named_fields::{Field, Figure, Format, Member, Members};
 use round_driver::{Details, Waits, wait_bucket};
 use std::fmt;
@@ -93,6 +95,64 @@ pub fn detail_fields(details: &Details) -> [Field<'static>; DETAIL_FIELDS]
     ]
 }
 
+/// How many fields accesses have.
+pub const ACCESS_FIELDS: usize = 15;
+
+// A sum with its name.
+fn sum(name: &'static str, a: u64, b: u64) -> Field<'static>
+    ensures { said result ≡ counts.count name.now (a + b) }
+{
+    Field {
+        name,
+        figure: Figure::Count(u128::from(a) + u128::from(b)),
+    }
+}
+
+/// The fields of accesses: all of them by what became of them, and then the reads, and the writes.
+#[tactic(auto, unfolding(crate::specs::Details::accesses_named))]
+pub fn access_fields(accesses: AccessCounts) -> [Field<'static>; ACCESS_FIELDS]
+    ensures { map said result ≡ specs.accesses_named accesses }
+{
+    let reads = accesses.reads;
+    let writes = accesses.writes;
+    [
+        sum("accesses", reads.accesses, writes.accesses),
+        sum("access_hits", reads.hits, writes.hits),
+        sum("access_joins", reads.joins, writes.joins),
+        sum("access_misses", reads.misses, writes.misses),
+        sum("access_denied", reads.denied, writes.denied),
+        count("reads", reads.accesses),
+        count("read_hits", reads.hits),
+        count("read_joins", reads.joins),
+        count("read_misses", reads.misses),
+        count("read_denied", reads.denied),
+        count("writes", writes.accesses),
+        count("write_hits", writes.hits),
+        count("write_joins", writes.joins),
+        count("write_misses", writes.misses),
+        count("write_denied", writes.denied),
+    ]
+}
+
+// The figures of accesses in a format, behind something else, if there are any.
+#[derive(Clone, Copy)]
+struct AccessesIn(Format, Option<AccessCounts>);
+
+impl fmt::Display for AccessesIn {
+    ghost output = { λ it. Some (specs.accesses_in it.0 it.1) };
+
+    #[tactic(auto, unfolding(crate::specs::Details::accesses_in))]
+    fn fmt<W: fmt::Write>(&self, f: &mut fmt::Formatter<W>) -> fmt::Result {
+        match self.1 {
+            Some(accesses) => {
+                let fields = access_fields(accesses);
+                write_fields(f, self.0, &fields)
+            }
+            None => Ok(()),
+        }
+    }
+}
+
 // As many of the first counts, or all of them.
 fn front(counts: &[u64], number: usize) -> &[u64]
     ensures { result.now ≡ take number counts.now }
@@ -159,13 +219,14 @@ pub fn detail_series(details: &Details) -> [Series<'_>; DETAIL_SERIES]
     ]
 }
 
-/// The details of a run in a format, with the figures of its table: a line of text for each figure or
-/// series; a table with a line `NAME,NUMBER,VALUE` for each number; or an object with arrays.
+/// The details of a run in a format, with the figures of its table, and with those of its accesses, if
+/// they were counted: a line of text for each figure or series; a table with a line `NAME,NUMBER,VALUE`
+/// for each number; or an object with arrays.
 #[derive(Clone, Copy)]
-pub struct DetailsIn<'a>(pub Format, pub &'a Details);
+pub struct DetailsIn<'a>(pub Format, pub &'a Details, pub Option<AccessCounts>);
 
 impl<'a> fmt::Display for DetailsIn<'a> {
-    ghost output = { λ it. Some (specs.details_in it.0 it.1.now) };
+    ghost output = { λ it. Some (specs.details_in it.0 it.1.now it.2) };
 
     #[tactic(auto, using(named_fields::proofs::Joined::joined_said), unfolding(crate::specs::Details::details_in))]
     fn fmt<W: fmt::Write>(&self, f: &mut fmt::Formatter<W>) -> fmt::Result {
@@ -173,15 +234,16 @@ impl<'a> fmt::Display for DetailsIn<'a> {
         let fields = detail_fields(self.1);
         let series = detail_series(self.1);
         let more = AllFields(self.0, &fields);
+        let accesses = AccessesIn(self.0, self.2);
         let last = AllSeries(self.0, &series);
         match self.0 {
-            Format::Text => write!(f, "{}{more}{last}", self.1.table),
+            Format::Text => write!(f, "{}{more}{accesses}{last}", self.1.table),
             Format::Csv => write!(
                 f,
-                "name,index,value{}{more}{last}",
+                "name,index,value{}{more}{accesses}{last}",
                 AllFields(Format::Csv, &table)
             ),
-            Format::Json => write!(f, "{{{}{more}{last}}}", Members(&table)),
+            Format::Json => write!(f, "{{{}{more}{accesses}{last}}}", Members(&table)),
         }
     }
 }

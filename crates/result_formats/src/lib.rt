@@ -14,7 +14,10 @@ pub use counts::{
     LATENCY_FIELDS, PUMPS_FIELDS, ROUNDS_FIELDS, TABLE_FIELDS, latency_fields, pumps_fields,
     rounds_fields, table_fields,
 };
-pub use details::{DETAIL_FIELDS, DETAIL_SERIES, DetailsIn, detail_fields, detail_series};
+pub use details::{
+    ACCESS_FIELDS, DETAIL_FIELDS, DETAIL_SERIES, DetailsIn, access_fields, detail_fields,
+    detail_series,
+};
 pub use results::{
     LatencyHead, LatencyIn, PumpsHead, PumpsIn, RoundsHead, RoundsIn, TableHead, TableIn,
 };

@@ -9,6 +9,7 @@ use Rattle.round_driver.specs.declared.timing.Timing.{Timing}
 use Rattle.round_driver.specs.declared.table.Table.{Table}
 use Rattle.round_driver.specs.declared.details.Told.{Told}
 use Rattle.round_driver.specs.declared.details.RoundEnds.{RoundEnds}
+use Rattle.round_driver.specs.declared.outcomes.Outcome.{Outcome}
 use Rattle.round_driver.specs.Machines.{used_registers}
 use Rattle.round_driver.specs.Rounds.{Run, rounds_until_over, start_of}
 use Rattle.round_driver.specs.Details.{counted, counted_all, nothing_told, no_ends, with_end, owed_of, told_of, ends_of, ends_total, told_total}
@@ -61,6 +62,7 @@ ends_next n z r d e t used p q in_use told =
 
 -- ---- the end
 
-pub details_alike : (a b : Table) (t u : Told) (d e : RoundEnds) (m n : ℕ) → a ≡ b → t ≡ u → d ≡ e → m ≡ n → details_from a t d m ≡ details_from b u e n
-details_alike a b t u d e m n p q r s =
-    ap₂ (λ x y. details_from x y d m) p q ∙ ap₂ (λ x y. details_from b u x y) r s
+pub details_alike : (a b : Table) (t u : Told) (d e : RoundEnds) (m n : ℕ) (v w : List Outcome) → a ≡ b → t ≡ u → d ≡ e → m ≡ n → v ≡ w
+    → details_from a t d m v ≡ details_from b u e n w
+details_alike a b t u d e m n v w p q r s o =
+    ap₂ (λ x y. details_from x y d m v) p q ∙ ap₂ (λ x y. details_from b u x y v) r s ∙ ap (details_from b u e n) o

@@ -6,3 +6,4 @@ pub mod Commands
 pub mod Moves
 pub mod Ends
 pub mod Counted
+pub mod Recorded

@@ -1,5 +1,5 @@
 -- What is counted of a run beside its table: the requests by kind and set, the loads' waits, and the rounds by their ends.
-use Rattle.std.specs.Prelude.{ℕ, zero, suc, ◌+◌, ◌-◌, ◌/◌, ◌%◌, if◌then◌else◌, List, [], ◌∷◌, replicate, Option, Some, None, max, slice_set, slice_index_or}
+use Rattle.std.specs.Prelude.{ℕ, zero, suc, ◌+◌, ◌-◌, ◌/◌, ◌%◌, if◌then◌else◌, List, [], ◌∷◌, replicate, take, length, Option, Some, None, max, slice_set, slice_index_or}
 use Rattle.std.specs.List.{sum}
 use Rattle.std.specs.Int.{leading_zeros, w64}
 use Rattle.flat_model.specs.declared.Cause.{Cause}
@@ -14,6 +14,8 @@ use Rattle.cache_unit.specs.declared.Lookup.TheVariants.{Hit, Join, Miss}
 use Rattle.machine_core.specs.Machine.{MachineState}
 use Rattle.round_driver.specs.Machines.{used_registers}
 use Rattle.round_driver.specs.Rounds.{Run, rounds_until_over, start_of, whole_run}
+use Rattle.round_driver.specs.Outcomes.{outcomes_of}
+use Rattle.round_driver.specs.declared.outcomes.Outcome.{Outcome}
 use Rattle.round_driver.specs.Tables.{since_with, table_of}
 use Rattle.round_driver.specs.declared.machine.MachineNumbers.{MachineNumbers}
 use Rattle.round_driver.specs.declared.note.Note.{Note}
@@ -183,9 +185,9 @@ ends_total e = sum e.registers + sum e.owed
 abbrev pub numbers_of : Sizes → MachineNumbers
 numbers_of z = record { block_words = z.block_words; sets = z.sets; regs = z.regs; replies = z.replies }
 
--- the details of a run with this table: its last round, in which nothing moves, is counted too
-abbrev pub details_from : Table → Told → RoundEnds → ℕ → Details
-details_from table t ends registers =
+-- the details of a run with this table and these outcomes: its last round, in which nothing moves, is counted too
+abbrev pub details_from : Table → Told → RoundEnds → ℕ → List Outcome → Details
+details_from table t ends registers outcomes =
     let e = with_end ends registers (owed_of t) in
     record {
       table = table;
@@ -195,6 +197,7 @@ details_from table t ends registers =
       owed = e.owed;
       waits = t.waits;
       waits_from_asking = t.waits_from_asking;
+      outcomes = outcomes;
     }
 
 -- what was told of a run, as it is counted
@@ -208,9 +211,14 @@ ends_of (suc n) z r =
     let s = rounds_until_over (suc n) r in
     with_end (ends_of n z r) (used_registers s.state) (owed_of (told_of z s))
 
+-- what became of so many requests of a run, the first ones: no more than there are end
+abbrev pub outcomes_in : ℕ → Run → List Outcome
+outcomes_in requests r = take requests (outcomes_of r.told)
+
 -- the details of a run
 abbrev pub details_of : Timing → MachineState → List Event → Details
 details_of timing s requests =
     let z = numbers_of s.sizes in
     let r = whole_run timing s requests in
-    details_from (table_of timing s requests) (told_of z r) (ends_of r.schedule.round z (start_of timing s requests)) (used_registers r.state)
+    details_from (table_of timing s requests) (told_of z r) (ends_of r.schedule.round z (start_of timing s requests))
+    (used_registers r.state) (outcomes_in (length requests) r)

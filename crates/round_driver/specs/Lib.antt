@@ -2,6 +2,8 @@ pub mod Machines
 pub mod Timings
 pub mod Rounds
 pub mod Walks
+pub mod Recordings
+pub mod Outcomes
 pub mod Tables
 pub mod Details
 pub mod Written

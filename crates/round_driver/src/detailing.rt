@@ -10,6 +10,7 @@ ghost use Rattle.round_driver.specs.Machines as machines;
 use crate::details::{Details, RoundEnds, Told};
 use crate::driving::{is_over, most_rounds, round};
 use crate::machine::RoundMachine;
+use crate::outcomes::{Outcomes, Recording};
 use crate::round::Notes;
 use crate::schedule::Schedule;
 use crate::table::{Counter, Table};
@@ -17,10 +18,17 @@ use crate::timing::Timing;
 use flat_model::Event;
 use std::alloc::{AllocError, Global};
 
-// The details of a run with this table, whose last round ends with so many registers in use.
-fn details_from(table: Table, told: Told, mut ends: RoundEnds, registers: u32) -> Details
+// The details of a run with this table and these outcomes, whose last round ends with so many registers
+// in use.
+fn details_from(
+    table: Table,
+    told: Told,
+    mut ends: RoundEnds,
+    registers: u32,
+    outcomes: Outcomes,
+) -> Details
     requires { ends_total ends < 2 ^ 61 }
-    ensures { result ≡ details_from table told ends registers }
+    ensures { result ≡ details_from table told ends registers outcomes }
 {
     ends.count(registers, &told);
     Details {
@@ -31,6 +39,7 @@ fn details_from(table: Table, told: Told, mut ends: RoundEnds, registers: u32) -
         owed: ends.owed,
         waits: told.waits,
         waits_from_asking: told.waits_from_asking,
+        outcomes,
     }
 }
 
@@ -38,7 +47,7 @@ fn details_from(table: Table, told: Told, mut ends: RoundEnds, registers: u32) -
 /// counts what [`summarize_with`](crate::summarize_with) counts and more.
 ///
 /// `AllocError` says that there was too little memory; nothing has been asked then. As many counts are
-/// held as the machine has sets, and two rounds for each tag.
+/// held as the machine has sets, two rounds for each tag, and an outcome for each request.
 pub fn detail_with<M: RoundMachine>(
     alloc: Global,
     machine: &mut M,
@@ -61,19 +70,33 @@ pub fn detail_with<M: RoundMachine>(
     let mut counter = Counter::new(alloc)?;
     let mut told = Told::new(alloc, numbers)?;
     let mut ends = RoundEnds::new(alloc, numbers)?;
+    let mut outcomes = Recording::new(alloc, requests.len())?;
     let mut schedule = Schedule::new(timing);
     let mut notes = Notes::new();
     let mut left = requests;
     for _turn in 0..most_rounds(timing.latency, requests.len()) {
         if is_over(machine, left) {
             let table = counter.table_after(schedule.round + 1);
-            return Ok(details_from(table, told, ends, machine.used_registers()));
+            return Ok(details_from(
+                table,
+                told,
+                ends,
+                machine.used_registers(),
+                outcomes.finish(),
+            ));
         }
         left = round(machine, &mut schedule, &mut notes, left);
         counter.count_all(notes.as_slice());
         told.count_all(numbers, notes.as_slice());
+        outcomes.record_all(notes.as_slice());
         ends.count(machine.used_registers(), &told);
     }
     let table = counter.table_after(schedule.round + 1);
-    Ok(details_from(table, told, ends, machine.used_registers()))
+    Ok(details_from(
+        table,
+        told,
+        ends,
+        machine.used_registers(),
+        outcomes.finish(),
+    ))
 }

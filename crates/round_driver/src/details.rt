@@ -9,6 +9,7 @@ ghost use Rattle.round_driver.specs.Details.{finds_total, kinds_total, sets_tota
 
 use crate::machine::MachineNumbers;
 use crate::note::Note;
+use crate::outcomes::Outcomes;
 use crate::table::{TAGS, Table};
 use crate::tally::Tally;
 use crate::waits::Waits;
@@ -130,6 +131,8 @@ pub struct Details {
     pub waits: Waits,
     /// The waits of the same loads from the round that first asked for them.
     pub waits_from_asking: Waits,
+    /// What became of each request.
+    pub outcomes: Outcomes,
 }
 
 // By a load's tag, a round.

@@ -32,7 +32,7 @@ fn is_done(answer: Answer) -> bool
 }
 
 // Whether an answer ends a request.
-fn is_end(answer: Answer) -> bool
+pub(crate) fn is_end(answer: Answer) -> bool
     ensures { result ≡ rounds.is_end answer }
 {
     match answer {

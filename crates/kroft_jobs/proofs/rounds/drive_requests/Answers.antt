@@ -1,15 +1,26 @@
-use Rattle.std.proofs.Common.{ap, ◌∙◌}
+use Rattle.std.proofs.Common.{ap, sym, subst, ◌∙◌}
 use Rattle.std.specs.List.{list_all}
 use Rattle.register_sweeps.specs.Sweep.{machine_over}
 use Rattle.round_driver.specs.Walks.{is_request}
-use Rattle.kroft_jobs.proofs.Driving.{driven, all_requests}
+use Rattle.kroft_jobs.specs.Asking.{Asks, room_of}
+use Rattle.kroft_jobs.proofs.Driving.{driven, driven_not}
 use Rattle.kroft_jobs.proofs.rounds.drive_requests.Goals as goal
 
-pub returns : goal.returns
-returns g c =
-    let read = c.in_ok-requests.ensures.read in
-    driven g.I.Source.gave g.I.Source.failed g.O.Sink.took g.O.Sink.refused c.args.timing (machine_over c.args.image.now c.args.tool.now) c.args.input.now c.read_requests.new.reader c.args.output.now c.drive_all.new.output read.0 c.as_slice.result.now read.1 (c.as_slice.ensures.value ∙ read.2) c.drive_all.result c.drive_all.ensures
-
 pub drive_all-requires-clause-all : goal.drive_all-requires-clause-all
-drive_all-requires-clause-all g c =
-    ap (list_all is_request) c.as_slice.ensures.value ∙ all_requests c.in_ok-requests.requests.items c.in_ok-requests.ensures.requests
+drive_all-requires-clause-all g c = ap (list_all is_request) c.as_slice-requests.ensures.value ∙ c.in_ok-asked.ensures.requests
+
+pub returns-in-Ok : goal.returns-in-Ok
+returns-in-Ok g c =
+    let room = room_of c.args.tool.now in
+    let groups = c.in_ok-asked.asked.groups.items in
+    let asks = subst (λ r. Asks g.I.Source.gave c.args.from room c.args.input.now c.read_asked.new.input r groups) (sym c.as_slice-requests.ensures.value) c.in_ok-asked.ensures.said in
+    driven g.I.Source.gave g.I.Source.failed g.O.Sink.took g.O.Sink.refused c.args.from room c.args.timing (machine_over c.args.image.now c.args.tool.now) c.args.input.now c.read_asked.new.input c.args.output.now c.drive_all.new.output
+    c.as_slice-requests.result.now groups c.in-Ok.rounds asks c.in-Ok.ensures
+
+pub returns-in-Err : goal.returns-in-Err
+returns-in-Err g c =
+    let room = room_of c.args.tool.now in
+    let groups = c.in_ok-asked.asked.groups.items in
+    let asks = subst (λ r. Asks g.I.Source.gave c.args.from room c.args.input.now c.read_asked.new.input r groups) (sym c.as_slice-requests.ensures.value) c.in_ok-asked.ensures.said in
+    driven_not g.I.Source.gave g.I.Source.failed g.O.Sink.took g.O.Sink.refused c.args.from room c.args.timing (machine_over c.args.image.now c.args.tool.now) c.args.input.now c.read_asked.new.input c.args.output.now c.drive_all.new.output
+    c.as_slice-requests.result.now groups c.in-Err.fault asks c.in-Err.ensures

@@ -1,10 +1,12 @@
-use Rattle.std.proofs.Common.{◌≡◌, ◌+◌, ◌≤◌, sym, ap, ◌∙◌, arith}
+use Rattle.std.proofs.Common.{◌≡◌, ◌+◌, ◌≤◌, length, sym, ap, ◌∙◌, arith}
 use Rattle.round_driver.specs.Machines.{used_registers}
 use Rattle.round_driver.specs.Rounds.{start_of, rounds_until_over, is_over, whole_run}
 use Rattle.round_driver.specs.Tables.{counting, nothing, counted_all, with_rounds, total, table_of}
-use Rattle.round_driver.specs.Details.{counted_all as told_all, told_of, ends_of, told_total, told_rounds, ends_total}
+use Rattle.round_driver.specs.Details.{counted_all as told_all, told_of, ends_of, outcomes_in, told_total, told_rounds, ends_total}
 use Rattle.round_driver.proofs.Runs.{no_more, run_begins, counts_begin, over_here, run_next, told_next as notes_next, counts_next}
 use Rattle.round_driver.proofs.Ends.{requests_end}
+use Rattle.round_driver.specs.Outcomes.{nothing_recorded, with_notes}
+use Rattle.round_driver.proofs.Recorded.{all_recorded, recording_begins, recorded_next}
 use Rattle.round_driver.proofs.Counted.{nothing_is_told, nothing_has_ended, told_begins, ends_begin, told_next, ends_next, details_alike}
 use Rattle.round_driver.proofs.detailing.detail_with.Goals as goal
 
@@ -19,11 +21,15 @@ loop-turn-init g c =
     let unended : ends_total c.in_ok-ends.ends ≡ 0 = ap ends_total c.in_ok-ends.ensures ∙ nothing_has_ended c.numbers-numbers.result in
     let time : c.new-schedule.result.round ≡ 0 = ap (λ p. p.round) c.new-schedule.ensures in
     let next : c.new-schedule.result.next ≡ 0 = ap (λ p. p.next) c.new-schedule.ensures in
+    let room = length c.args.requests.now in
+    let outcomes = recording_begins c.args.timing s c.args.requests.now c.in_ok-outcomes.outcomes c.in_ok-outcomes.ensures in
     record {
       run = run_begins c.args.timing s c.args.requests.now c.new-schedule.result c.new-schedule.ensures;
       counts = counts_begin c.args.timing s c.args.requests.now (counting c.in_ok-counter.counter) fresh;
       told = told_begins c.args.timing s c.args.requests.now c.numbers-numbers.result c.in_ok-told.told c.in_ok-told.ensures;
       ends = ends_begin c.args.timing s c.args.requests.now c.numbers-numbers.result c.in_ok-ends.ends c.in_ok-ends.ensures;
+      outcomes = outcomes;
+      recorded = ap (λ x. x.ended) outcomes ∙ all_recorded room (rounds_until_over 0 (start_of c.args.timing s c.args.requests.now)).told;
       sizes = λ i. s.sizes;
       time = omega (arith, time);
       next = omega (arith, next);
@@ -48,7 +54,8 @@ returns-then-is_over-clause-details g c =
     let time = sym c.loop-turn.invariant.time ∙ ap (λ r. r.schedule.round) whole in
     let ends = c.loop-turn.invariant.ends ∙ ap (λ k. ends_of k c.numbers-numbers.result start) time ∙ ap (λ z. ends_of (whole_run c.args.timing s c.args.requests.now).schedule.round z start) c.numbers-numbers.ensures in
     let in_use = c.used_registers.ensures ∙ ap (λ r. used_registers r.state) whole in
-    c.details_from.ensures ∙ details_alike _ _ _ _ _ _ _ _ table told ends in_use
+    let outcomes = c.finish.ensures ∙ c.loop-turn.invariant.recorded ∙ ap (outcomes_in (length c.args.requests.now)) whole in
+    c.details_from.ensures ∙ details_alike _ _ _ _ _ _ _ _ _ _ table told ends in_use outcomes
 
 pub returns-then-is_over-clause-machine : goal.returns-then-is_over-clause-machine
 returns-then-is_over-clause-machine g c =
@@ -67,6 +74,15 @@ returns-then-is_over-clause-early g c =
     let le : c.loop-turn._turn ≤ c.most_rounds-turn-end.result = omega (arith, c.loop-turn-test.true) in
     let whole = over_here c.loop-turn._turn start (g.M.AnyMachine.state c.loop-turn.machine) c.loop-turn.schedule c.loop-turn.left.now here c.most_rounds-turn-end.result le over ∙ ap (λ n. rounds_until_over n start) c.most_rounds-turn-end.ensures.value in
     λ h. sym (ap is_over whole) ∙ over
+
+pub returns-clause-machine : goal.returns-clause-machine
+returns-clause-machine g c =
+    let start = start_of c.args.timing (g.M.AnyMachine.state c.args.machine.now) c.args.requests.now in
+    let here = c.loop-turn.invariant.run in
+    let turns = c.loop-turn._turn in
+    let all : turns ≡ c.most_rounds-turn-end.result = omega (arith, c.loop-turn-test.false, c.loop-turn.auto._turn-end) in
+    let whole = here ∙ ap (λ n. rounds_until_over n start) (all ∙ c.most_rounds-turn-end.ensures.value) in
+    ap (λ r. r.state) whole
 
 pub returns-clause-early : goal.returns-clause-early
 returns-clause-early g c =
@@ -94,6 +110,11 @@ loop-turn-preserved g c =
     let run = run_next c.loop-turn._turn start (g.M.AnyMachine.state c.loop-turn.machine) c.loop-turn.schedule c.loop-turn.left.now here (g.M.AnyMachine.state c.round-left.new.machine) c.round-left.new.schedule c.round-left.result.now c.round-left.new.notes.items made going in
     let notes = notes_next c.loop-turn._turn start (g.M.AnyMachine.state c.loop-turn.machine) c.loop-turn.schedule c.loop-turn.left.now here (g.M.AnyMachine.state c.round-left.new.machine) c.round-left.new.schedule c.round-left.result.now c.round-left.new.notes.items made going in
     let told = told_next c.numbers-numbers.result (rounds_until_over c.loop-turn._turn start).told c.round-left.new.notes.items (rounds_until_over (c.loop-turn._turn + 1) start).told c.loop-turn.told c.count_all-in-loop-turn.new.self notes c.loop-turn.invariant.told (c.count_all-in-loop-turn.ensures.counts ∙ ap (λ ns. told_all c.numbers-numbers.result c.loop-turn.told ns) c.as_slice-in-loop-turn.ensures.value) in
+    let room = length c.args.requests.now in
+    let before_it = rounds_until_over c.loop-turn._turn start in
+    let behind_it = rounds_until_over (c.loop-turn._turn + 1) start in
+    let recorded = c.record_all.ensures ∙ ap (with_notes c.loop-turn.outcomes) c.as_slice-in-loop-turn-2.ensures.value in
+    let outcomes = recorded_next room before_it.told c.round-left.new.notes.items behind_it.told c.loop-turn.outcomes c.record_all.new.self notes c.loop-turn.invariant.outcomes recorded in
     let few_told = c.loop-turn.invariant.few_told in
     let more_told = c.count_all-in-loop-turn.ensures.total in
     let few_rounds = c.loop-turn.invariant.few_rounds in
@@ -105,6 +126,8 @@ loop-turn-preserved g c =
       counts = counts_next c.loop-turn._turn start (g.M.AnyMachine.state c.loop-turn.machine) c.loop-turn.schedule c.loop-turn.left.now here (g.M.AnyMachine.state c.round-left.new.machine) c.round-left.new.schedule c.round-left.result.now c.round-left.new.notes.items made going (counting c.loop-turn.counter) (counting c.count_all.new.self) c.loop-turn.invariant.counts (c.count_all.ensures.counts ∙ ap (counted_all (counting c.loop-turn.counter)) c.as_slice.ensures.value);
       told = told;
       ends = ends_next c.loop-turn._turn c.numbers-numbers.result start c.loop-turn.ends c.count.new.self c.count_all-in-loop-turn.new.self c.used_registers-in-loop-turn.result c.loop-turn.invariant.ends c.count.ensures.value (c.used_registers-in-loop-turn.ensures ∙ ap (λ r. used_registers r.state) run) told;
+      outcomes = outcomes;
+      recorded = ap (λ x. x.ended) outcomes ∙ all_recorded room behind_it.told;
       sizes = c.round-left.ensures.sizes ∙ c.loop-turn.invariant.sizes;
       time = omega (arith, time, before);
       next = c.round-left.ensures.next;

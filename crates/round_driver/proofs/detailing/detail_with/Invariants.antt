@@ -2,7 +2,8 @@ use Rattle.std.proofs.Common.{◌≡◌, ◌*◌, ◌^◌, ◌≤◌, length}
 use Rattle.flat_model.specs.declared.limits.TheConstants.{MAX_BANKS}
 use Rattle.round_driver.specs.Rounds.{run_of, start_of, rounds_until_over}
 use Rattle.round_driver.specs.Tables.{counting, nothing, counted_all, total}
-use Rattle.round_driver.specs.Details.{told_of, ends_of, told_total, told_rounds, ends_total}
+use Rattle.round_driver.specs.Details.{told_of, ends_of, outcomes_in, told_total, told_rounds, ends_total}
+use Rattle.round_driver.specs.Outcomes.{nothing_recorded, with_notes}
 use Rattle.round_driver.specs.declared.round.TheConstants.{MOST_NOTES}
 use Rattle.round_driver.specs.declared.table.TheConstants.{TAGS}
 use Rattle.round_driver.proofs.detailing.detail_with.Given as goal
@@ -17,6 +18,8 @@ invariant-loop-turn g l =
       counts : counting l.counter ≡ counted_all nothing so_far.told;
       told : l.told ≡ told_of l.numbers so_far;
       ends : l.ends ≡ ends_of l._turn l.numbers start;
+      outcomes : l.outcomes ≡ with_notes (nothing_recorded (length l.requests)) so_far.told;
+      recorded : l.outcomes.ended ≡ outcomes_in (length l.requests) so_far;
       sizes : (g.M.AnyMachine.state l.machine).sizes ≡ (g.M.AnyMachine.state l.initial.machine).sizes;
       time : l.schedule.round ≡ l._turn;
       next : l.schedule.next ≤ MAX_BANKS;
