@@ -146,7 +146,7 @@ impl fmt::Display for AccessesIn {
         match self.1 {
             Some(accesses) => {
                 let fields = access_fields(accesses);
-                write_fields(f, self.0, &fields)
+                write!(f, "{}", AllFields(self.0, &fields))
             }
             None => Ok(()),
         }
