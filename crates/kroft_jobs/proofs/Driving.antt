@@ -1,7 +1,7 @@
 -- What was read and what was driven, as one answer.
 use Rattle.std.proofs.Common.{◌≡◌, ℕ, true, List, [], ◌∷◌, ◌≤◌, Option, length, refl, sym, subst, inl, inr}
 use Rattle.std.specs.List.{AllByRecursion, list_all}
-use Rattle.std.specs.Prelude.{Result, Ok, Err}
+use Rattle.std.specs.Prelude.{Result, Ok, Err, IfErr}
 use Rattle.flat_model.specs.declared.Event.{Event}
 use Rattle.flat_model.specs.declared.Event.TheVariants.{Load, Store, Prefetch, Evict, Drain, Serve, Arrive, Process, Take}
 use Rattle.machine_core.specs.Machine.{MachineState}
@@ -10,8 +10,10 @@ use Rattle.trace_text.specs.declared.fault.TraceFault.{TraceFault}
 use Rattle.trace_text.specs.declared.fault.TraceFault.TheVariants.{OutOfMemory}
 use Rattle.trace_text.specs.Codes.{most_lines}
 use Rattle.trace_text.specs.declared.lines.LineFault.{LineFault}
-use Rattle.access_logs.specs.Reads.{LogSays}
+use Rattle.access_logs.specs.Formats.{lackey_access, din_access}
+use Rattle.access_logs.specs.Reads.{LogSays, LogFails}
 use Rattle.access_logs.specs.declared.access.Access.{Access}
+use Rattle.access_logs.specs.declared.fault.LogFault.{LogFault}
 use Rattle.access_logs.specs.declared.fault.LogFault.TheVariants as log
 use Rattle.access_logs.specs.declared.reading.AccessGroup.{AccessGroup}
 use Rattle.round_driver.specs.Walks.{is_request}
@@ -56,3 +58,19 @@ pub asks_no_memory : {R : Type 0} (gave : R → List ℕ → R → Type 0) (fail
 asks_no_memory gave failed Trace room input input' = (OutOfMemory, refl, inl refl)
 asks_no_memory gave failed Lackey room input input' = inl refl
 asks_no_memory gave failed Din room input input' = inl refl
+
+-- a log that can't be read asks nothing
+module _ {A R : Type 0} (gave : R → List ℕ → R → Type 0) (failed : R → R → Type 0) (from : RequestText) (room room' : ℕ) (input input' : R) (same : room ≡ room') where
+  pub lackey_fails : from ≡ Lackey → (result : Result A LogFault) → IfErr result (LogFails gave failed lackey_access room input input')
+      → IfErr result (AsksNothing gave failed from room' input input')
+  lackey_fails is (Ok log) fails = fails
+  lackey_fails is (Err f) fails =
+      subst (λ k. AsksNothing gave failed k room' input input' f) (sym is)
+      (subst (λ n. LogFails gave failed lackey_access n input input' f) same fails)
+
+  pub din_fails : from ≡ Din → (result : Result A LogFault) → IfErr result (LogFails gave failed din_access room input input')
+      → IfErr result (AsksNothing gave failed from room' input input')
+  din_fails is (Ok log) fails = fails
+  din_fails is (Err f) fails =
+      subst (λ k. AsksNothing gave failed k room' input input' f) (sym is)
+      (subst (λ n. LogFails gave failed din_access n input input' f) same fails)

@@ -17,8 +17,8 @@ returns-in-Ok g c =
     driven g.I.Source.gave g.I.Source.failed g.O.Sink.took g.O.Sink.refused c.args.from room c.args.timing (machine_over c.args.image.now c.args.tool.now) c.args.input.now c.read_asked.new.input c.args.output.now c.drive_all.new.output
     c.as_slice-requests.result.now groups c.in-Ok.rounds asks c.in-Ok.ensures
 
-pub returns-in-Err : goal.returns-in-Err
-returns-in-Err g c =
+pub returns : goal.returns
+returns g c =
     let room = room_of c.args.tool.now in
     let groups = c.in_ok-asked.asked.groups.items in
     let asks = subst (λ r. Asks g.I.Source.gave c.args.from room c.args.input.now c.read_asked.new.input r groups) (sym c.as_slice-requests.ensures.value) c.in_ok-asked.ensures.said in
