@@ -32,8 +32,8 @@ pub lawful : (m : AtomicMemory) (a : Atomic) (event : HistoryEvent) → IsJudgeO
     → IsAtomicBut a.lost (held m).image (held m).rest (held m).size (a.events ++ event ∷ []) → IsLawful a event
 lawful m a event k t = moved (held m) a k.kept (λ i r s. IsAtomicBut a.lost i r s (a.events ++ event ∷ [])) t
 
-pub taken : (m n : AtomicMemory) (a : Atomic) (event : HistoryEvent) → IsJudgeOf m a → HasSameMemory (held n) (held m) → limit_of n ≡ limit_of m
-    → StandsBut (held n) a.lost (a.events ++ event ∷ []) → IsJudgeOf n (with_event a event)
+pub taken : (m n : AtomicMemory) (a : Atomic) (event : HistoryEvent) → IsJudgeOf m a → HasSameMemory (held n) (held m)
+    → limit_of n ≡ limit_of m → StandsBut (held n) a.lost (a.events ++ event ∷ []) → IsJudgeOf n (with_event a event)
 taken m n a event k same limit stands = record {
   kept = record {
     image = same.0 ∙ k.kept.image;

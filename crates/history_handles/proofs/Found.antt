@@ -12,7 +12,8 @@ use Rattle.history_handles.specs.History.{History, OfRegular, OfFlat, OfAtomic}
 use Rattle.history_handles.specs.Kept.{ExactFaultIs, IsExactlyFound, JudgeFaultIs, IsFound}
 use Rattle.history_handles.proofs.AtomicJudge.{formed}
 
-exact_fault : (found : Option HistoryFault) (moment : ℕ) (told : JudgeFault) → IsExactlyFound found (Some told) → ExactFaultIs found moment told
+exact_fault : (found : Option HistoryFault) (moment : ℕ) (told : JudgeFault) → IsExactlyFound found (Some told)
+    → ExactFaultIs found moment told
 exact_fault None moment told h = cc
 exact_fault (Some cause) moment told h =
     let same : told ≡ Refused cause = cc in subst (λ f. ExactFaultIs (Some cause) moment f) (sym same) refl
