@@ -1,14 +1,15 @@
 -- An event of a law lies within memory.
-use Rattle.std.proofs.Common.{◌≡◌, ℕ, Bool, true, false, Option, None, refl}
-use Rattle.std.specs.Prelude.{length}
+use Rattle.std.proofs.Common.{◌≡◌, ℕ, arith, Bool, true, false, Option, None, refl}
+use Rattle.std.specs.Prelude.{length, ◌+◌, ◌<◌}
 use Rattle.std.specs.List.{list_any}
 use Rattle.memory_histories.specs.declared.events.HistoryEvent.{HistoryEvent}
 use Rattle.memory_histories.specs.declared.events.HistoryEvent.TheVariants.{LoadRequest, LoadResponse, StoreRequest, StoreResponse}
-use Rattle.memory_histories.specs.Windows.{Windows, is_of, is_open}
+use Rattle.memory_histories.specs.Windows.{Windows, windows_after}
 use Rattle.memory_histories.specs.Regular.{fault, is_inside, has_enabled, load_request_fault, store_request_fault}
 use Rattle.memory_histories.specs.Flat.{Flat, flat_fault}
 use Rattle.atomic_histories.specs.Operations.{Opened, form_fault}
-use Rattle.history_reasons.specs.Log.{is_within}
+use Rattle.history_reasons.specs.declared.log.StoreLog.{StoreLog}
+use Rattle.history_reasons.specs.Log.{is_within, IsLogOf}
 use Rattle.history_handles.specs.History.{History, OfRegular, OfFlat, OfAtomic, Passes}
 use Rattle.history_handles.proofs.AtomicJudge.{formed}
 
@@ -42,3 +43,9 @@ pub within : (h : History) (event : HistoryEvent) → Passes h event → is_with
 within (OfRegular w) event p = by_regular w event p
 within (OfFlat f) event p = by_flat f event p
 within (OfAtomic a) event p = by_form _ event (formed a event p)
+
+-- it is noted in the log, as long as events have numbers of their own
+pub noted : (g h : StoreLog) (w : Windows) (event : HistoryEvent) → (w.moment < 18446744073709551616 → IsLogOf g w)
+    → (w.moment < 18446744073709551615 → IsLogOf g w → IsLogOf h (windows_after w event)) → w.moment + 1 < 18446744073709551616
+    → IsLogOf h (windows_after w event)
+noted g h w event k note few = note (omega arith) (k (omega arith))

@@ -28,9 +28,12 @@ reason_row place (Some (InitialOverwritten by)) =
 reason_row place (Some (StoreOverwritten s by)) =
     record { place = place; stored = s.number; stored_at = s.began; overwritten_by = by.number; overwritten_at = by.began; reason = 3 }
 
--- the address of a byte of the load that is open under a number
+-- the load that is open under a number, and the address of a byte of it
+abbrev pub load_under : List Operation → ℕ → Option Operation
+load_under loads number = find (λ o. o.number == number) loads
+
 abbrev pub address_of : List Operation → ℕ → ℕ → Option ℕ
-address_of loads number place = option_map (λ o. min (o.address + place) 18446744073709551615) (find (λ o. o.number == number) loads)
+address_of loads number place = option_map (λ o. min (o.address + place) 18446744073709551615) (load_under loads number)
 
 -- that byte, with the event that requested it
 abbrev pub load_of : Session → ℕ → ℕ → Option LoadByte

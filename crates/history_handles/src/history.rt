@@ -4,14 +4,14 @@ ghost use Rattle.history_handles.specs.History.{Passes, has_units};
 ghost use Rattle.history_handles.specs.Session.{Session, session_opening, session_after, session_refusing, session_forgetting, loads_after, stores_after, without};
 ghost use Rattle.history_handles.specs.Kept.{JudgeFaultIs, IsFound, IsSetFound, ForgetFaultIs};
 ghost use Rattle.history_handles.specs.KeptSession.{IsKept};
-ghost use Rattle.history_handles.specs.Why.{IsReasonFor, load_of};
+ghost use Rattle.history_handles.specs.Why.{IsReasonFor, load_under, address_of, load_of};
 ghost use Rattle.history_reasons.specs.Log.{HasRoom};
 
 use crate::faults::{ForgetFault, JudgeFault};
 use crate::judge::{Judge, Law};
 use crate::rows::Operation;
 use history_reasons::{Reason, StoreLog};
-use memory_histories::{ByteSet, HistoryEvent, Rest};
+use memory_histories::{ByteSet, HistoryEvent, LoadByte, Rest};
 use std::alloc::{AllocError, Global};
 
 /// A history that is judged as it goes, with the operations that are open in the order of their requests.
@@ -112,12 +112,20 @@ impl OpenHistory {
             → s.seen.moment < 18446744073709551616
             → IsReasonFor s.seen (load_of s number place) (slice_get bytes.now place) result }
     {
-        let byte = bytes.get(place)?;
-        let open = self.loads.iter().find(|load| load.number == number)?;
-        let load = self
-            .log
-            .load_at(number, open.address.saturating_add(place as u64))?;
-        self.log.why(&load, *byte)
+        let byte = byte_at(bytes, place)?;
+        let load = self.load_at(number, place)?;
+        self.log.why(&load, byte)
+    }
+
+    // The byte at a place of the load that is open under a number, with the event that requested it.
+    fn load_at(&self, number: u64, place: usize) -> Option<LoadByte>
+        ensures { (s : Session)
+            → IsKept self.now s
+            → s.seen.moment < 18446744073709551616
+            → result ≡ load_of s number place }
+    {
+        let address = address_of(self.loads.as_slice(), number, place)?;
+        self.log.load_at(number, address)
     }
 
     // Why an event isn't taken for which there is no room.
@@ -176,6 +184,28 @@ impl OpenHistory {
         self.undecided = None;
         Ok(())
     }
+}
+
+// The byte at a place.
+fn byte_at(bytes: &[u8], place: usize) -> Option<u8>
+    ensures { result ≡ slice_get bytes.now place }
+{
+    bytes.get(place).copied()
+}
+
+// The address of the byte at a place of the load that is open under a number.
+fn address_of(loads: &[Operation], number: u64, place: usize) -> Option<u64>
+    ensures { result ≡ address_of loads.now number place }
+{
+    let load = load_under(loads, number)?;
+    Some(load.address.saturating_add(place as u64))
+}
+
+// The load that is open under a number.
+fn load_under(loads: &[Operation], number: u64) -> Option<Operation>
+    ensures { result ≡ load_under loads.now number }
+{
+    loads.iter().copied().find(|load| load.number == number)
 }
 
 // Makes room for one operation more.
