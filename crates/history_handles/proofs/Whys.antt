@@ -15,8 +15,8 @@ use Rattle.history_handles.specs.Kept.{IsFound}
 use Rattle.history_handles.specs.Session.{Session}
 use Rattle.history_handles.specs.Why.{load_of, IsReasonOf, IsReasonFor, place_of, IsRowTold, IsWhyAnswered}
 
-pub is_why : (status : ℕ) (row row' : ReasonRow) (s : Session) (number : ℕ) (bytes : List ℕ) (event : HistoryEvent) (found : Option JudgeFault)
-    (reason : Option Reason) → IsFound s.history event found
+pub is_why : (status : ℕ) (row row' : ReasonRow) (s : Session) (number : ℕ) (bytes : List ℕ) (event : HistoryEvent)
+    (found : Option JudgeFault) (reason : Option Reason) → IsFound s.history event found
     → (s.seen.moment < 18446744073709551616
     → IsReasonFor s.seen (load_of s number (place_of found)) (slice_get bytes (place_of found)) reason)
     → IsRowTold status row row' reason found → IsWhyAnswered status row row' s number bytes event

@@ -18,5 +18,5 @@ pub returns : goal.returns
 returns c s k few =
     let log = k.log few in
     is_reason c.args.self.now.log s.seen c.in_ok-load.load c.in_ok-byte.byte c.why.result (load_of s c.args.number c.args.place)
-    (slice_get c.args.bytes.now c.args.place) (sym (c.load_at.ensures s k few) ∙ c.in_ok-load.was) (sym c.byte_at.ensures ∙ c.in_ok-byte.was)
-    log (c.why.ensures.reason s.seen log) (c.why.ensures.whole s.seen log)
+    (slice_get c.args.bytes.now c.args.place) (sym (c.load_at.ensures s k few) ∙ c.in_ok-load.was)
+    (sym c.byte_at.ensures ∙ c.in_ok-byte.was) log (c.why.ensures.reason s.seen log) (c.why.ensures.whole s.seen log)
