@@ -604,6 +604,35 @@ uint32_t kroft_may_return(kroft_history *handle, uint64_t number, uint64_t addre
 uint32_t kroft_wrong_place(kroft_history *handle, uint64_t number, const uint8_t *bytes, size_t nbytes, uint64_t *place);
 
 /*
+ * Why a load may not return a byte. Of a store that isn't told number and event are 0; an event's number is how many
+ * events of the history were taken before it.
+ */
+typedef struct {
+    uint64_t place;          /* of the byte in the answer, counted from 0                            */
+    uint64_t stored;         /* the number of the last store that put the byte there                 */
+    uint64_t stored_at;      /* the event that requested it                                          */
+    uint64_t overwritten_by; /* the number of the last store that overwrote it before the load's request */
+    uint64_t overwritten_at; /* the event that requested that one                                    */
+    uint32_t reason;
+} kroft_reason;
+
+/* The reasons. */
+enum {
+    KROFT_NO_REASON = 0,          /* none is told                                                          */
+    KROFT_NEVER_THERE = 1,        /* no store put the byte there, and memory hadn't it there before        */
+    KROFT_FIRST_OVERWRITTEN = 2,  /* memory had it before the first store, and that was overwritten        */
+    KROFT_STORE_OVERWRITTEN = 3   /* a store put it there, and was overwritten: both are told              */
+};
+
+/*
+ * What kroft_wrong_place says of these bytes, and why the load may not return the byte at that place; it isn't told.
+ * Returns KROFT_WRONG_BYTE, and `why` says it; or what kroft_wrong_place returns else, and then `why` is as it was.
+ * The reason is the regular law's, of that byte alone: there is none if that law allows the byte (as in new then old),
+ * or if more than 4,096 bytes were stored and the store is no longer remembered.
+ */
+uint32_t kroft_why(kroft_history *handle, uint64_t number, const uint8_t *bytes, size_t nbytes, kroft_reason *why);
+
+/*
  * Forgets the unit in which the byte at the address lies, of a history by the atomic law. From there on its bytes are
  * unknown: whatever a load returns there is allowed, what stores write there isn't followed, and no answer is
  * undecided for its sake. The other units are judged on. Returns KROFT_DONE; or KROFT_NO_LAW: the history is judged
@@ -723,6 +752,8 @@ KROFT_ASSERT(handle_size, sizeof(kroft_handle) == 16);
 KROFT_ASSERT(handle_at, offsetof(kroft_handle, at) == 8);
 KROFT_ASSERT(history_size, sizeof(kroft_history) == 16);
 KROFT_ASSERT(history_at, offsetof(kroft_history, at) == 8);
+KROFT_ASSERT(reason_size, sizeof(kroft_reason) == 48);
+KROFT_ASSERT(reason_reason, offsetof(kroft_reason, reason) == 40);
 KROFT_ASSERT(operation_size, sizeof(kroft_operation) == 24);
 KROFT_ASSERT(operation_address, offsetof(kroft_operation, address) == 8);
 KROFT_ASSERT(operation_length, offsetof(kroft_operation, length) == 16);

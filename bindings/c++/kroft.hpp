@@ -531,6 +531,14 @@ public:
         return place;
     }
 
+    /// Why the load that is open under a number may not return the first wrong one of these bytes: who stored it, and who
+    /// overwrote that; none if no byte is wrong, or no load of this length is open under the number.
+    std::optional<kroft_reason> why(uint64_t number, const uint8_t *bytes, size_t length) {
+        kroft_reason reason{};
+        if (told(kroft_why(&handle, number, bytes, length, &reason)).fault() != KROFT_WRONG_BYTE) return std::nullopt;
+        return reason;
+    }
+
     /// Where the unit begins for whose sake an answer was undecided; none if no answer was since an event was taken last,
     /// or a unit forgotten.
     std::optional<uint64_t> undecided() {

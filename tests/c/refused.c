@@ -75,37 +75,68 @@ static void histories(void) {
 }
 
 /* A question to a history by the atomic law, or a unit of it that is forgotten, and what it says. */
-static uint32_t ask(kroft_history *h, int which, uint8_t *row, uint64_t *place) {
+static uint32_t ask(kroft_history *h, int which, uint8_t *row, uint64_t *place, kroft_reason *why) {
     static const uint8_t bytes[2] = {1, 3};
     if (which == 0) return kroft_may_return(h, 1, 8, row, KROFT_SET_BYTES);
     if (which == 1) return kroft_wrong_place(h, 1, bytes, 2, place);
+    if (which == 2) return kroft_why(h, 1, bytes, 2, why);
     return kroft_forget(h, 64);
 }
 
 /* What the judge of the atomic law allocates to answer, refused in turn: it says so, and the history is as it was. */
 static void questions(void) {
-    static const uint32_t says[3] = {KROFT_FOUND, KROFT_WRONG_BYTE, KROFT_DONE};
+    static const uint32_t says[4] = {KROFT_FOUND, KROFT_WRONG_BYTE, KROFT_WRONG_BYTE, KROFT_DONE};
     static const uint8_t bytes[2] = {1, 2};
     kroft_history h = KROFT_NO_HISTORY;
     int which;
     granted = 1000000;
     CHECK(kroft_history_open(&h, KROFT_ATOMIC_LAW, 8, KROFT_ZEROS, bytes, 0) == KROFT_DONE);
     CHECK(kroft_store_request(&h, 1, 8, bytes, 2, 3) == KROFT_LAWFUL && kroft_load_request(&h, 1, 8, 2) == KROFT_LAWFUL);
-    for (which = 0; which < 3; which++) {
+    for (which = 0; which < 4; which++) {
         long refused, before = held;
         uint32_t status = KROFT_OUT_OF_MEMORY;
         for (refused = 0; refused < 1000 && status == KROFT_OUT_OF_MEMORY; refused++) {
             uint8_t row[KROFT_SET_BYTES] = {0x33};
             uint64_t place = 77;
+            kroft_reason why = {77, 0, 0, 0, 0, 77};
             granted = refused;
-            status = ask(&h, which, row, &place);
-            if (status == KROFT_OUT_OF_MEMORY) CHECK(row[0] == 0x33 && place == 77 && held == before);
+            status = ask(&h, which, row, &place, &why);
+            if (status == KROFT_OUT_OF_MEMORY)
+                CHECK(row[0] == 0x33 && place == 77 && why.place == 77 && why.reason == 77 && held == before);
+            else if (which == 2) CHECK(why.place == 0 && why.reason == KROFT_NO_REASON); /* the first byte of the unit is no wrong one */
         }
         CHECK(status == says[which]);
-        if (which < 2) CHECK(refused > 1 && held == before);
+        if (which < 3) CHECK(refused > 1 && held == before);
     }
     granted = 1000000;
     CHECK(kroft_load_response(&h, 1, bytes, 2) == KROFT_LAWFUL && kroft_history_free(&h) == KROFT_DONE && held == 0);
+}
+
+/* The request or the response of a store of 64 bytes, with each allocation refused in turn: how many were. */
+static unsigned refusals(kroft_history *h, unsigned k, int is_response) {
+    static const uint8_t bytes[64] = {0};
+    uint32_t status = KROFT_OUT_OF_MEMORY;
+    unsigned place;
+    for (place = 0; place < 1000 && status == KROFT_OUT_OF_MEMORY; place++) {
+        granted = place;
+        status = is_response ? kroft_store_response(h, k) : kroft_store_request(h, k, 0, bytes, 64, UINT64_MAX);
+    }
+    CHECK(status == KROFT_LAWFUL);
+    return place - 1;
+}
+
+/* A history of so many stores that the first ones are forgotten, which takes memory each time, twice behind the 128th. */
+static void many_stores(void) {
+    kroft_history h = KROFT_NO_HISTORY;
+    unsigned k, refused = 0;
+    granted = 1000000;
+    CHECK(kroft_history_open(&h, KROFT_REGULAR_LAW, 1, KROFT_ZEROS, NULL, 0) == KROFT_DONE);
+    for (k = 0; k < 300; k++) {
+        unsigned now = refusals(&h, k, 0) + refusals(&h, k, 1);
+        if (k >= 128) refused += now;
+    }
+    CHECK(refused >= 2);
+    CHECK(kroft_history_free(&h) == KROFT_DONE && held == 0);
 }
 
 int main(void) {
@@ -142,5 +173,6 @@ int main(void) {
     CHECK(kroft_free(&handle) == KROFT_DONE && held == 0);
     histories();
     questions();
+    many_stores();
     return checks_end("refused");
 }

@@ -62,6 +62,21 @@ void new_then_old() {
     }
 }
 
+/* Why a byte is wrong: the store that put it there, and the one that overwrote it. */
+void reasons() {
+    const uint8_t first[1] = {0x5a}, second[1] = {0x11}, other[1] = {0x33};
+    kroft::History history;
+    check(history.store_request(21, 8, first, 1) && history.store_response(21), "a store");
+    check(history.store_request(22, 8, second, 1) && history.store_response(22), "another behind it");
+    check(bool(history.load_request(1, 8, 1)), "a load behind both");
+    auto why = history.why(1, first, 1);
+    check(why && why->reason == KROFT_STORE_OVERWRITTEN && why->stored == 21 && why->stored_at == 0, "who stored it");
+    check(why && why->overwritten_by == 22 && why->overwritten_at == 2, "and who overwrote it");
+    why = history.why(1, other, 1);
+    check(why && why->reason == KROFT_NEVER_THERE && why->place == 0, "a byte of nowhere");
+    check(!history.why(1, second, 1) && !history.why(2, first, 1), "no byte is wrong");
+}
+
 /* A unit without a verdict is told as such, and forgotten; the rest is judged on. */
 void undecided() {
     kroft::History history(kroft::Law::Atomic);
@@ -170,6 +185,7 @@ long accesses_until_blame(long most, bool loses, unsigned seed) {
 int main() {
     a_load_beside_a_store();
     new_then_old();
+    reasons();
     undecided();
     for (unsigned seed = 0; seed < 5; seed++) {
         for (kroft::Law law : {kroft::Law::Regular, kroft::Law::Atomic})

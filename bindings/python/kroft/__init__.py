@@ -37,7 +37,7 @@ from .events import (
     Take,
     Value,
 )
-from .history import History, HistoryFault, Law, NotLawful, Operation, Undecided
+from .history import History, HistoryFault, Law, NotLawful, Operation, SeenStore, Undecided
 from .judge import FlatJudge, StepJudge
 from .machine import (
     SHAPES,
@@ -98,6 +98,7 @@ __all__ = [
     "Refused",
     "Register",
     "SHAPES",
+    "SeenStore",
     "Serve",
     "Shape",
     "ShapeFault",

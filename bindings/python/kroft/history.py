@@ -6,9 +6,10 @@ from types import TracebackType
 from typing import FrozenSet, List, NamedTuple, Optional, Type, Union
 
 from .errors import Access, Closed, KroftError, Unanswered
-from .library import HandleRow, OperationRow, library
+from .library import HandleRow, OperationRow, ReasonRow, library
 
 _LAWFUL, _FOUND, _CLOSED, _WRONG_BYTE, _OUT_OF_MEMORY, _NO_LAW, _UNDECIDED = 0, 1, 3, 16, 101, 103, 105
+_FIRST_OVERWRITTEN, _STORE_OVERWRITTEN = 2, 3
 _SET_BYTES = 32
 
 Buffer = Union[bytes, bytearray, memoryview]
@@ -34,6 +35,13 @@ class HistoryFault(enum.IntEnum):
     TOO_LONG = 104  #: as many events as can be counted were taken
 
 
+class SeenStore(NamedTuple):
+    """A store of a history, by its number and the event that requested it: how many events were taken before."""
+
+    number: int
+    event: int
+
+
 class NotLawful(KroftError):
     """The history with this event is none of its law. The history is as it was before."""
 
@@ -47,6 +55,8 @@ class NotLawful(KroftError):
         self.cause = cause
         self.name = cause.name
         self.place = place  #: WRONG_BYTE: the place of the first wrong byte in the response; by the atomic law, of a wrong unit's first
+        self.stored: Optional[SeenStore] = None  #: WRONG_BYTE: the last store that put the byte there, if one is known
+        self.overwritten_by: Optional[SeenStore] = None  #: and the last one that overwrote it before the load's request
         self.may = may  #: WRONG_BYTE: what the load may return there; None if the atomic law can't tell
 
 
@@ -193,15 +203,20 @@ class History:
             raise NotLawful(HistoryFault(status), event)
 
     def _with_place(self, number: int, got: bytes, event: str) -> NotLawful:
-        place = c.c_uint64()
-        if self._call("kroft_wrong_place", _word(number), c.c_char_p(got), len(got), c.byref(place)) != _WRONG_BYTE:
+        row = ReasonRow()
+        if self._call("kroft_why", _word(number), c.c_char_p(got), len(got), c.byref(row)) != _WRONG_BYTE:
             return NotLawful(HistoryFault.WRONG_BYTE, event)  # there was too little memory to say where
         load = next(it for it in self.open_loads() if it.number == number)
         try:
-            may = self.may_return(number, load.address + place.value)
+            may = self.may_return(number, load.address + row.place)
         except Undecided:
             may = None
-        return NotLawful(HistoryFault.WRONG_BYTE, event, place.value, may)
+        error = NotLawful(HistoryFault.WRONG_BYTE, event, row.place, may)
+        if row.reason == _STORE_OVERWRITTEN:
+            error.stored = SeenStore(row.stored, row.stored_at)
+        if row.reason in (_FIRST_OVERWRITTEN, _STORE_OVERWRITTEN):
+            error.overwritten_by = SeenStore(row.overwritten_by, row.overwritten_at)
+        return error
 
     def _operations(self, name: str) -> List[Operation]:
         found: List[Operation] = []

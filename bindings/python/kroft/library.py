@@ -111,6 +111,10 @@ class CountsRow(c.Structure):
     ]
 
 
+class ReasonRow(c.Structure):
+    _fields_ = [*((name, u64) for name in ("place", "stored", "stored_at", "overwritten_by", "overwritten_at")), ("reason", u32)]
+
+
 class OperationRow(c.Structure):
     _fields_ = [("number", u64), ("address", u64), ("length", u64)]
 
@@ -162,6 +166,7 @@ def declare(library: c.CDLL) -> c.CDLL:
         "kroft_store_response": [handle, u64],
         "kroft_may_return": [handle, u64, u64, out, c.c_size_t],
         "kroft_wrong_place": [handle, u64, out, c.c_size_t, out],
+        "kroft_why": [handle, u64, out, c.c_size_t, out],
         "kroft_forget": [handle, u64],
         "kroft_undecided": [handle, out],
         "kroft_unanswered": [handle, out, out],

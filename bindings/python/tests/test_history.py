@@ -4,7 +4,7 @@ import random
 import unittest
 from typing import Callable, Dict, List, Optional, Tuple
 
-from kroft import Closed, History, HistoryFault, Law, NotLawful, Operation, Unanswered, Undecided
+from kroft import Closed, History, HistoryFault, Law, NotLawful, Operation, SeenStore, Unanswered, Undecided
 
 
 class Histories(unittest.TestCase):
@@ -79,6 +79,24 @@ class Histories(unittest.TestCase):
                 else:
                     history.load_response(2, b"\0")
                 history.store_response(1)
+
+    def test_who_stored_a_wrong_byte_and_who_overwrote_it(self) -> None:
+        with History(image=b"\x80") as history:
+            history.load_request(9, 0x40, 1)
+            for number, byte in [(21, b"\x5a"), (22, b"\x11")]:
+                history.store_request(number, 0, byte)
+                history.store_response(number)
+            history.load_request(1, 0, 1)
+            for byte, stored, by in [
+                (b"\x5a", SeenStore(21, 1), SeenStore(22, 3)),
+                (b"\x80", None, SeenStore(22, 3)),
+                (b"\x33", None, None),
+            ]:
+                with self.subTest(byte=byte), self.assertRaises(NotLawful) as wrong:
+                    history.load_response(1, byte)
+                self.assertEqual((wrong.exception.stored, wrong.exception.overwritten_by), (stored, by))
+            history.load_response(1, b"\x11")
+            history.load_response(9, b"\0")
 
     def test_a_torn_word_by_the_size_of_a_unit(self) -> None:
         for unit in (1, 2, 4, 8):

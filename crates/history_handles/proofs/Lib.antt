@@ -3,5 +3,8 @@ pub mod Nonzero
 -- the judge of the atomic law
 pub mod AtomicJudge
 pub mod Found
+-- what is seen of a history
+pub mod Within
 -- how C is told
 pub mod Telling
+pub mod Whys

@@ -1,5 +1,6 @@
 -- Of which session is kept what stands behind a handle.
-use Rattle.std.specs.Prelude.{◌≡◌}
+use Rattle.std.specs.Prelude.{◌≡◌, ◌<◌}
+use Rattle.history_reasons.specs.Log.{IsLogOf}
 use Rattle.history_handles.specs.declared.history.OpenHistory.{OpenHistory}
 use Rattle.history_handles.specs.Session.{Session}
 use Rattle.history_handles.specs.Kept.{IsOf}
@@ -9,3 +10,5 @@ pub record IsKept (m : OpenHistory) (s : Session) : Type 0 where
   pub loads : m.loads.items ≡ s.loads
   pub stores : m.stores.items ≡ s.stores
   pub undecided : m.undecided ≡ s.undecided
+  -- (events have numbers of their own up to 2^64)
+  pub log : s.seen.moment < 18446744073709551616 → IsLogOf m.log s.seen

@@ -13,3 +13,4 @@ pub mod Behind
 pub mod Opening
 pub mod Status
 pub mod Calls
+pub mod Why

@@ -4,6 +4,8 @@ use Rattle.std.specs.List.{filter}
 use Rattle.memory_histories.specs.declared.events.HistoryEvent.{HistoryEvent}
 use Rattle.memory_histories.specs.declared.events.HistoryEvent.TheVariants.{LoadRequest, LoadResponse, StoreRequest, StoreResponse}
 use Rattle.memory_histories.specs.declared.events.Rest.{Rest}
+use Rattle.memory_histories.specs.Windows.{Windows, windows_after}
+use Rattle.memory_histories.specs.Windows as windows
 use Rattle.history_handles.specs.declared.judge.Law.{Law}
 use Rattle.history_handles.specs.declared.faults.JudgeFault.{JudgeFault}
 use Rattle.history_handles.specs.declared.faults.JudgeFault.TheVariants.{Refused, Undecided, TooLong, OutOfMemory}
@@ -11,16 +13,19 @@ use Rattle.history_handles.specs.declared.rows.Operation.{Operation}
 use Rattle.history_handles.specs.History.{History, opening, history_after, history_forgetting}
 
 -- the loads and the stores that are open stand in the order of their requests. `undecided` is where the unit begins for whose sake an
--- answer was undecided, if none was taken and no unit was forgotten since
+-- answer was undecided, if none was taken and no unit was forgotten since. `seen` has the bytes of all stores so far and of the open
+-- loads, whatever the law, with the events that requested and answered them
 pub record Session : Type 0 where
   pub history : History
   pub loads : List Operation
   pub stores : List Operation
   pub undecided : Option ℕ
+  pub seen : Windows
 
 -- no event yet
 abbrev pub session_opening : Law → List ℕ → Rest → Session
-session_opening law image rest = record { history = opening law image rest; loads = []; stores = []; undecided = None }
+session_opening law image rest =
+    record { history = opening law image rest; loads = []; stores = []; undecided = None; seen = windows.opening image rest }
 
 -- those that have another number
 abbrev pub without : ℕ → List Operation → List Operation
@@ -46,11 +51,13 @@ session_after s event = record {
   loads = loads_after s.loads event;
   stores = stores_after s.stores event;
   undecided = None;
+  seen = windows_after s.seen event;
 }
 
 -- it wasn't, for this fault
 abbrev pub session_refusing : Session → JudgeFault → Session
-session_refusing s (Undecided address) = record { history = s.history; loads = s.loads; stores = s.stores; undecided = Some address }
+session_refusing s (Undecided address) =
+    record { history = s.history; loads = s.loads; stores = s.stores; undecided = Some address; seen = s.seen }
 session_refusing s (Refused cause) = s
 session_refusing s TooLong = s
 session_refusing s OutOfMemory = s
@@ -58,4 +65,4 @@ session_refusing s OutOfMemory = s
 -- the unit in which the byte at an address lies is forgotten
 abbrev pub session_forgetting : ℕ → Session → Session
 session_forgetting address s =
-    record { history = history_forgetting address s.history; loads = s.loads; stores = s.stores; undecided = None }
+    record { history = history_forgetting address s.history; loads = s.loads; stores = s.stores; undecided = None; seen = s.seen }

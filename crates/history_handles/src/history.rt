@@ -1,14 +1,17 @@
 //! A history with the operations that are open.
-ghost use Rattle.std.specs.Prelude.{◌≡◌, ◌<◌, true, None, Some, IfOk, IfErr, OnOk, OnErr, vec_len, vec_capacity};
+ghost use Rattle.std.specs.Prelude.{◌≡◌, ◌<◌, true, None, Some, IfOk, IfErr, OnOk, OnErr, slice_get, vec_len, vec_capacity};
 ghost use Rattle.history_handles.specs.History.{Passes, has_units};
 ghost use Rattle.history_handles.specs.Session.{Session, session_opening, session_after, session_refusing, session_forgetting, loads_after, stores_after, without};
 ghost use Rattle.history_handles.specs.Kept.{JudgeFaultIs, IsFound, IsSetFound, ForgetFaultIs};
 ghost use Rattle.history_handles.specs.KeptSession.{IsKept};
+ghost use Rattle.history_handles.specs.Why.{IsReasonFor, load_under, address_of, load_of};
+ghost use Rattle.history_reasons.specs.Log.{HasRoom};
 
 use crate::faults::{ForgetFault, JudgeFault};
 use crate::judge::{Judge, Law};
 use crate::rows::Operation;
-use memory_histories::{ByteSet, HistoryEvent, Rest};
+use history_reasons::{Reason, StoreLog};
+use memory_histories::{ByteSet, HistoryEvent, LoadByte, Rest};
 use std::alloc::{AllocError, Global};
 
 /// A history that is judged as it goes, with the operations that are open in the order of their requests.
@@ -20,6 +23,8 @@ pub struct OpenHistory {
     /// Where the unit begins for whose sake an answer was undecided, if none was taken and no unit was
     /// forgotten since.
     pub(crate) undecided: Option<u64>,
+    /// The stores and the open loads as they were seen.
+    pub(crate) log: StoreLog,
 }
 
 impl OpenHistory {
@@ -35,11 +40,13 @@ impl OpenHistory {
         let judge = Judge::new(alloc, law, image, rest)?;
         let loads = Vec::new(alloc);
         let stores = Vec::new(alloc);
+        let log = StoreLog::new(alloc, image, rest)?;
         Ok(OpenHistory {
             judge,
             loads,
             stores,
             undecided: None,
+            log,
         })
     }
 
@@ -75,14 +82,50 @@ impl OpenHistory {
             → IfErr result (JudgeFaultIs s.history event.entry) }
         ensures unchanged { (s : Session) → IsKept self.old s → OnErr result (IsKept self.new s) }
     {
-        if make_room(&mut self.loads).is_err() || make_room(&mut self.stores).is_err() {
+        if self.make_room().is_err() {
             return Err(self.fault_without_room(event));
         }
         self.judge.step(event)?;
         note_load(&mut self.loads, event);
         note_store(&mut self.stores, event);
+        self.log.note(event);
         self.undecided = None;
         Ok(())
+    }
+
+    // Makes room for what one event adds beside the judge.
+    fn make_room(&mut self) -> Result<(), AllocError>
+        ensures same { (s : Session) → IsKept self.old s → IsKept self.new s }
+        ensures loads { OnOk result (vec_len self.new.loads < vec_capacity self.new.loads) }
+        ensures stores { OnOk result (vec_len self.new.stores < vec_capacity self.new.stores) }
+        ensures log { OnOk result (HasRoom self.new.log) }
+    {
+        make_room(&mut self.loads)?;
+        make_room(&mut self.stores)?;
+        self.log.make_room()
+    }
+
+    // Why a byte of the answer to the load that is open under this number is wrong.
+    pub(crate) fn reason(&self, number: u64, bytes: &[u8], place: usize) -> Option<Reason>
+        ensures { (s : Session)
+            → IsKept self.now s
+            → s.seen.moment < 18446744073709551616
+            → IsReasonFor s.seen (load_of s number place) (slice_get bytes.now place) result }
+    {
+        let byte = byte_at(bytes, place)?;
+        let load = self.load_at(number, place)?;
+        self.log.why(&load, byte)
+    }
+
+    // The byte at a place of the load that is open under a number, with the event that requested it.
+    fn load_at(&self, number: u64, place: usize) -> Option<LoadByte>
+        ensures { (s : Session)
+            → IsKept self.now s
+            → s.seen.moment < 18446744073709551616
+            → result ≡ load_of s number place }
+    {
+        let address = address_of(self.loads.as_slice(), number, place)?;
+        self.log.load_at(number, address)
     }
 
     // Why an event isn't taken for which there is no room.
@@ -141,6 +184,28 @@ impl OpenHistory {
         self.undecided = None;
         Ok(())
     }
+}
+
+// The byte at a place.
+fn byte_at(bytes: &[u8], place: usize) -> Option<u8>
+    ensures { result ≡ slice_get bytes.now place }
+{
+    bytes.get(place).copied()
+}
+
+// The address of the byte at a place of the load that is open under a number.
+fn address_of(loads: &[Operation], number: u64, place: usize) -> Option<u64>
+    ensures { result ≡ address_of loads.now number place }
+{
+    let load = load_under(loads, number)?;
+    Some(load.address.saturating_add(place as u64))
+}
+
+// The load that is open under a number.
+fn load_under(loads: &[Operation], number: u64) -> Option<Operation>
+    ensures { result ≡ load_under loads.now number }
+{
+    loads.iter().copied().find(|load| load.number == number)
 }
 
 // Makes room for one operation more.

@@ -17,6 +17,25 @@ pub struct Operation {
     pub length: u64,
 }
 
+/// Why a load may not return a byte. Of a store that isn't told number and event are 0.
+#[repr(C)]
+#[derive(Clone, Copy, PartialEq, Eq, Debug)]
+pub struct ReasonRow {
+    /// The place of the byte in the answer.
+    pub place: u64,
+    /// The number of the last store that put the byte there.
+    pub stored: u64,
+    /// The event that requested it: how many were taken before.
+    pub stored_at: u64,
+    /// The number of the last store that overwrote it before the load's request.
+    pub overwritten_by: u64,
+    /// The event that requested that one.
+    pub overwritten_at: u64,
+    /// 0: none is told. 1: the byte was never there. 2: memory had it before the first store, and it was
+    /// overwritten. 3: a store put it there, and it was overwritten.
+    pub reason: u32,
+}
+
 /// How many bytes the row of a set has: bit `k` of byte `n` says whether byte `8n + k` is in the set.
 pub const OCTETS: usize = 32;
 

@@ -4,9 +4,10 @@ ghost use Rattle.memory_histories.specs.declared.events.HistoryEvent.TheVariants
 ghost use Rattle.history_handles.specs.Session.{Session};
 ghost use Rattle.history_handles.specs.Behind.{behind, IsBehind};
 ghost use Rattle.history_handles.specs.Opening.{chosen, open_fault, IsTold, IsOpened, told_status};
+ghost use Rattle.history_handles.specs.Why.{IsWhyTold};
 ghost use Rattle.history_handles.specs.Calls.{IsEventTold, IsSetTold, IsPlaceTold, IsForgetStatus, forgotten_by, IsAddressTold, IsCounted, IsOperationTold, load_asked, store_asked};
 
-use history_handles::{HistoryHandle, Operation};
+use history_handles::{HistoryHandle, Operation, ReasonRow};
 use std::alloc::Global;
 
 /// Opens a history without an event behind a closed handle, to be judged by a law (0: the regular
@@ -169,6 +170,29 @@ pub extern "C" fn kroft_wrong_place(
     ensures same { behind handle.new ≡ behind handle.old }
 {
     history_handles::wrong_place(alloc, handle, number, bytes, place)
+}
+
+/// What [`kroft_wrong_place`] says of these bytes, and why the load may not return the byte at that place: who
+/// stored it last, and who overwrote that store, by the numbers of the stores and of the events that requested
+/// them (how many events were taken before). It isn't told.
+///
+/// 16: `row` has the place and the reason. 0, 14, 15, 105, 101 and 3 as of `kroft_wrong_place`, and `row` is as it
+/// was. The reason is the regular law's, of that byte alone: there is none (0) if that law allows the byte, or if
+/// more than 4,096 bytes were stored and the store is no longer remembered.
+#[unsafe(no_mangle)]
+pub extern "C" fn kroft_why(
+    alloc: Global,
+    handle: &mut HistoryHandle,
+    number: u64,
+    bytes: &[u8],
+    row: &mut ReasonRow,
+) -> u32
+    ensures why { (b : Option Session)
+        → IsBehind handle.old b
+        → IsWhyTold result row.old row.new b number bytes.now (LoadResponse number bytes.entry) }
+    ensures same { behind handle.new ≡ behind handle.old }
+{
+    history_handles::why(alloc, handle, number, bytes, row)
 }
 
 /// Forgets the unit in which the byte at an address lies, of a history by the atomic law. From there on its

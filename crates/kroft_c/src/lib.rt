@@ -18,7 +18,7 @@ mod views;
 pub use history::{
     kroft_forget, kroft_history_free, kroft_history_open, kroft_load_request, kroft_load_response,
     kroft_may_return, kroft_store_request, kroft_store_response, kroft_unanswered,
-    kroft_unanswered_load, kroft_unanswered_store, kroft_undecided, kroft_wrong_place,
+    kroft_unanswered_load, kroft_unanswered_store, kroft_undecided, kroft_why, kroft_wrong_place,
 };
 pub use judge::{
     kroft_flat_open, kroft_flat_owed, kroft_flat_step, kroft_flat_why, kroft_why_text,

@@ -1,0 +1,103 @@
+/* Why a load may not return a byte, from C99 and from C++17: each reason with its stores, by each law, where none is told, and
+   each other end. */
+#include "check.h"
+#include "kroft.h"
+
+#include <string.h>
+
+static const uint8_t image[1] = {0x80};
+
+static kroft_history opened(uint32_t law, uint32_t unit) {
+    kroft_history h = KROFT_NO_HISTORY;
+    CHECK(kroft_history_open(&h, law, unit, KROFT_ZEROS, image, 1) == KROFT_DONE);
+    return h;
+}
+
+static void store(kroft_history *h, uint64_t number, uint64_t address, uint8_t byte) {
+    CHECK(kroft_store_request(h, number, address, &byte, 1, 1) == KROFT_LAWFUL && kroft_store_response(h, number) == KROFT_LAWFUL);
+}
+
+static int is_reason(const kroft_reason *it, uint64_t place, uint64_t stored, uint64_t stored_at, uint64_t by, uint64_t at, uint32_t reason) {
+    return it->place == place && it->stored == stored && it->stored_at == stored_at && it->overwritten_by == by &&
+           it->overwritten_at == at && it->reason == reason;
+}
+
+static kroft_reason nothing_yet(void) {
+    kroft_reason why = {1, 2, 3, 4, 5, 6};
+    return why;
+}
+
+/* Two stores, one behind the other, and a load of two bytes behind both: what each wrong byte is told for. */
+static void reasons(uint32_t law, uint32_t unit) {
+    uint8_t bytes[2] = {0, 0};
+    kroft_history h = opened(law, unit);
+    kroft_reason why = nothing_yet();
+    CHECK(kroft_load_request(&h, 9, 64, 1) == KROFT_LAWFUL); /* event 0 */
+    store(&h, 21, 1, 0x5a);                                  /* events 1 and 2 */
+    store(&h, 22, 1, 0x11);                                  /* events 3 and 4 */
+    CHECK(kroft_load_request(&h, 7, 0, 2) == KROFT_LAWFUL);
+    bytes[0] = 0x80;
+    bytes[1] = 0x5a;
+    CHECK(kroft_why(&h, 7, bytes, 2, &why) == KROFT_WRONG_BYTE);
+    if (unit == 1) CHECK(is_reason(&why, 1, 21, 1, 22, 3, KROFT_STORE_OVERWRITTEN));
+    bytes[1] = 0;
+    CHECK(kroft_why(&h, 7, bytes, 2, &why) == KROFT_WRONG_BYTE);
+    if (unit == 1) CHECK(is_reason(&why, 1, 0, 0, 22, 3, KROFT_FIRST_OVERWRITTEN));
+    bytes[1] = 0x33;
+    CHECK(kroft_why(&h, 7, bytes, 2, &why) == KROFT_WRONG_BYTE);
+    if (unit == 1) CHECK(is_reason(&why, 1, 0, 0, 0, 0, KROFT_NEVER_THERE));
+    bytes[0] = 0;
+    CHECK(kroft_why(&h, 7, bytes, 2, &why) == KROFT_WRONG_BYTE && is_reason(&why, 0, 0, 0, 0, 0, KROFT_NEVER_THERE));
+    why = nothing_yet();
+    CHECK(kroft_why(&h, 7, bytes, 1, &why) == KROFT_WRONG_LENGTH && kroft_why(&h, 8, bytes, 2, &why) == KROFT_NOT_OPEN);
+    bytes[0] = 0x80;
+    bytes[1] = 0x11;
+    CHECK(kroft_why(&h, 7, bytes, 2, &why) == KROFT_LAWFUL && is_reason(&why, 1, 2, 3, 4, 5, 6));
+    CHECK(kroft_load_response(&h, 7, bytes, 2) == KROFT_LAWFUL && kroft_history_free(&h) == KROFT_DONE);
+    CHECK(kroft_why(&h, 7, bytes, 2, &why) == KROFT_CLOSED && is_reason(&why, 1, 2, 3, 4, 5, 6));
+}
+
+/* New then old: the regular law allows the byte, so that none is to blame for it alone. */
+static void no_reason(void) {
+    static const uint8_t old[1] = {0}, later[1] = {0x5a};
+    kroft_history h = opened(KROFT_ATOMIC_LAW, 8);
+    kroft_reason why = nothing_yet();
+    CHECK(kroft_store_request(&h, 1, 3, later, 1, 1) == KROFT_LAWFUL);
+    CHECK(kroft_load_request(&h, 1, 3, 1) == KROFT_LAWFUL && kroft_load_response(&h, 1, later, 1) == KROFT_LAWFUL);
+    CHECK(kroft_load_request(&h, 2, 3, 1) == KROFT_LAWFUL);
+    CHECK(kroft_why(&h, 2, old, 1, &why) == KROFT_WRONG_BYTE && is_reason(&why, 0, 0, 0, 0, 0, KROFT_NO_REASON));
+    CHECK(kroft_history_free(&h) == KROFT_DONE);
+}
+
+/* What is remembered: a store that was overwritten, until many more bytes were stored. */
+static void remembered(void) {
+    static const uint8_t first[1] = {0x5a};
+    kroft_history h = opened(KROFT_REGULAR_LAW, 1);
+    kroft_reason why = nothing_yet();
+    unsigned k;
+    store(&h, 1, 0, first[0]);
+    store(&h, 2, 0, 0x11);
+    CHECK(kroft_load_request(&h, 1, 0, 1) == KROFT_LAWFUL);
+    for (k = 0; k < 4000; k++) store(&h, 3, 8, (uint8_t)k);
+    CHECK(kroft_why(&h, 1, first, 1, &why) == KROFT_WRONG_BYTE && is_reason(&why, 0, 1, 0, 2, 2, KROFT_STORE_OVERWRITTEN));
+    for (k = 0; k < 9000; k++) store(&h, 3, 8, (uint8_t)k);
+    CHECK(kroft_why(&h, 1, first, 1, &why) == KROFT_WRONG_BYTE && is_reason(&why, 0, 0, 0, 0, 0, KROFT_NO_REASON));
+    store(&h, 4, 1, 7);
+    store(&h, 5, 1, 8);
+    CHECK(kroft_load_request(&h, 2, 1, 1) == KROFT_LAWFUL);
+    {
+        static const uint8_t seven[1] = {7};
+        CHECK(kroft_why(&h, 2, seven, 1, &why) == KROFT_WRONG_BYTE);
+        CHECK(is_reason(&why, 0, 4, 26005, 5, 26007, KROFT_STORE_OVERWRITTEN));
+    }
+    CHECK(kroft_history_free(&h) == KROFT_DONE);
+}
+
+int main(void) {
+    reasons(KROFT_REGULAR_LAW, 1);
+    reasons(KROFT_FLAT_LAW, 1);
+    reasons(KROFT_ATOMIC_LAW, 1);
+    no_reason();
+    remembered();
+    return checks_end("reasons");
+}
