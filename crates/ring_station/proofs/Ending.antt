@@ -16,7 +16,7 @@ use Rattle.station_parts.specs.declared.parts.CacheSide.{CacheSide}
 use Rattle.station_parts.specs.Ids.{port_id, bank_id, cache_id}
 use Rattle.station_parts.specs.Rest.{is_at_rest}
 use Rattle.station_parts.specs.Audited.{LeavesCache, LeavesPorts, LeavesBanks}
-use Rattle.station_parts.specs.Words.{offered, taken, received_by, journal_of, journal_limit}
+use Rattle.station_parts.specs.Words.{offered, taken, received_by, held_of, journal_limit}
 use Rattle.ring_station.specs.declared.fault.RunFault.TheVariants.{TurnLimit, OutOfMemory}
 use Rattle.ring_station.specs.declared.report.Run.{Run}
 use Rattle.ring_station.specs.declared.thread_end.ThreadEnd.{ThreadEnd}
@@ -67,16 +67,17 @@ bank_shown turns old new new' end a b h = record {
 pub cache_shown : {W B R D : ℕ} (ports turns : ℕ) (old new new' : CacheSide W B R D) (end : ThreadEnd) → cache_id new' ≡ cache_id new
     → LeavesCache new new' → CacheRan ports turns old new end → CacheRan ports turns old new' end
 cache_shown ports turns old new new' end a left h =
-    let j : length (journal_of new') ≡ length (journal_of new) = ap length left.journal in
-    let e : ended_in (journal_of new') ≡ ended_in (journal_of new) = ap ended_in left.journal in
+    let j : length (held_of new') ≡ length (held_of new) = ap length left.held in
+    let e : ended_in (held_of new') ≡ ended_in (held_of new) = ap ended_in left.held in
     let limit : journal_limit new' ≡ journal_limit new = ap (λ i. i.limit) a in
     record {
       same = a ∙ h.same;
+      earlier = left.earlier ∙ h.earlier;
       noted = let s = h.noted in omega arith;
       ended = record {
         within = h.ended.within;
-        stands = stands_along (IsServed ports old new) (IsServed ports old new') ⊥ (journal_limit new ≤ length (journal_of new))
-            (journal_limit new' ≤ length (journal_of new')) turns end.turns end.fault
+        stands = stands_along (IsServed ports old new) (IsServed ports old new') ⊥ (journal_limit new ≤ length (held_of new))
+            (journal_limit new' ≤ length (held_of new')) turns end.turns end.fault
             (λ r. record { rests = ap is_at_rest left.cache ∙ r.rests; ended = let m = r.ended in omega arith })
             (λ f. omega arith) h.ended.stands;
       };

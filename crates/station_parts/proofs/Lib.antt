@@ -12,3 +12,4 @@ pub mod AskSteps
 pub mod ReplySteps
 pub mod Auditing
 pub mod FreeSlots
+pub mod Renewing

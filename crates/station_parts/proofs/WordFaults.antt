@@ -25,7 +25,7 @@ use Rattle.station_parts.specs.SideSteps.{stray_fault, word_fault}
 module _ (z : Sizes) (in_range : InRange z) (cache : Cache) (sent : ℕ → List Command) (popped popped' : ℕ → List BankAnswer)
     (entries : List Entry) (bank : ℕ) (a : BankAnswer) (here : bank < z.banks) (more : popped' bank ≡ popped bank ++ a ∷ [])
     (others : (b : ℕ) → b ≢ bank → popped' b ≡ popped b) (taken limit : ℕ) (counted : taken ≡ length (popped bank))
-    (within : length entries ≤ limit) (small : limit ≤ 1048576) (fault : Option SideFault) (sound : fault ≡ None)
+    (within : length entries ≤ limit) (small : limit ≤ 2 ^ 56) (fault : Option SideFault) (sound : fault ≡ None)
     (faulted : SideTells z cache sent popped fault entries) where
   pub counts_called : nat_lt taken (count_by is_read (sent bank) % 2 ^ 64) ≡ true
       → nat_lt (length (popped bank)) (count_by is_read (sent bank)) ≡ true

@@ -1,5 +1,5 @@
 //! A port.
-ghost use Rattle.std.specs.Prelude.{◌≡◌};
+ghost use Rattle.std.specs.Prelude.{◌≡◌, ◌≤◌, drop, length};
 ghost use Rattle.std.specs.List.{list_any};
 ghost use Rattle.rtrb.specs.Ring.{sent};
 ghost use Rattle.station_parts.specs.Ports.{is_done};
@@ -7,6 +7,7 @@ ghost use Rattle.station_parts.specs.Ports.{is_done};
 use crate::ends::peek_end;
 use rtrb::{Consumer, Producer};
 use station_journal::{Ask, Told};
+use std::snapshot::Snapshot;
 
 /// How many asks stand at most between a port and the cache side.
 pub const ASK_PLACES: usize = 16;
@@ -19,8 +20,11 @@ pub const TELLING_PLACES: usize = 64;
 pub struct Port {
     pub(crate) asks: Producer<Ask>,
     pub(crate) tellings: Consumer<Told>,
+    // The end of the ring as it was when the port began to ask, or began again.
+    pub(crate) begun: Snapshot<Producer<Ask>>,
     pub(crate) ended: bool,
-    ghost ended_is: { ended ≡ list_any is_done (sent asks) },
+    ghost grown: { length (sent begun.value) ≤ length (sent asks) },
+    ghost ended_is: { ended ≡ list_any is_done (drop (length (sent begun.value)) (sent asks)) },
 }
 
 impl Port {
@@ -32,7 +36,7 @@ impl Port {
     /// Offers an ask to the cache side, after a look at how many free places the ring has.
     ///
     /// The ask comes back, and nothing was offered, if no free place is known, or if the port has
-    /// offered `Done` before.
+    /// offered `Done` before. Behind a renewal of its station it may offer again.
     pub fn offer(&mut self, ask: Ask) -> Result<(), Ask>
         ensures same { port_id self.new ≡ port_id self.old }
         ensures offered { OnOk result (offered self.new ≡ offered self.old ++ ask ∷ []) }
@@ -89,11 +93,24 @@ impl Port {
         self.asks.slots()
     }
 
-    /// Whether the port has offered `Done`, and so offers nothing more.
+    /// Whether the port has offered `Done`, and so offers nothing more until its station is renewed.
     pub fn has_ended(&self) -> bool
         ensures { result ≡ has_ended self.now }
     {
         self.ended
+    }
+
+    /// Begins again: the port may offer more, if it has offered `Done`.
+    pub(crate) fn resume(&mut self)
+        ensures same { port_id self.new ≡ port_id self.old }
+        ensures open { has_ended self.new ≡ false }
+        ensures offered { offered self.new ≡ offered self.old }
+        ensures taken { taken self.new ≡ taken self.old }
+        ensures places { known_places self.new ≡ known_places self.old }
+        ensures tellings { known_tellings self.new ≡ known_tellings self.old }
+    {
+        self.begun = Snapshot::of(&self.asks);
+        self.ended = false;
     }
 
     /// How many tellings are known, after a look, and not taken.

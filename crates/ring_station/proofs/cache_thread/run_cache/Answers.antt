@@ -7,6 +7,7 @@ loop-turn-preserved g c =
     let notes = turn_notes _ _ _ _ _ c.take_turn-stepped.ensures.turn in
     record {
       same = search rules;
+      earlier = notes.earlier ∙ c.loop-turn.invariant.earlier;
       noted = noted_more _ _ _ _ notes c.loop-turn.invariant.noted;
       ended = ended_more _ _ _ _ _ _ _ notes c.entries-entries.ensures c.has_ended_port.ensures c.still_open-open_ports.ensures
           c.loop-turn.invariant.ended;
@@ -21,11 +22,13 @@ returns-then-is_at_rest g c =
           (ended_more _ _ _ _ _ _ _ notes c.entries-entries.ensures c.has_ended_port.ensures c.still_open-open_ports.ensures
           c.loop-turn.invariant.ended),
     )
-    (c.take_turn-stepped.ensures.same ∙ c.loop-turn.invariant.same) (noted_more _ _ _ _ notes c.loop-turn.invariant.noted)
+    (c.take_turn-stepped.ensures.same ∙ c.loop-turn.invariant.same)
+    (notes.earlier ∙ c.loop-turn.invariant.earlier) (noted_more _ _ _ _ notes c.loop-turn.invariant.noted)
 
 pub returns-then-eq : goal.returns-then-eq
 returns-then-eq g c =
     let notes = turn_notes _ _ _ _ _ c.take_turn-stepped.ensures.turn in
     cache_ran _ _ _ _ _ _ _ c.stopped.ensures (search rules)
     (full_turn _ _ _ _ _ c.take_turn-stepped.ensures.turn (search rules))
-    (c.take_turn-stepped.ensures.same ∙ c.loop-turn.invariant.same) (noted_more _ _ _ _ notes c.loop-turn.invariant.noted)
+    (c.take_turn-stepped.ensures.same ∙ c.loop-turn.invariant.same)
+    (notes.earlier ∙ c.loop-turn.invariant.earlier) (noted_more _ _ _ _ notes c.loop-turn.invariant.noted)

@@ -4,6 +4,7 @@ use Rattle.station_parts.specs.declared.parts.Audit.{Audit}
 use Rattle.station_parts.specs.declared.parts.Audit.TheVariants.{Faulted}
 use Rattle.station_parts.proofs.Moves.{still_one}
 use Rattle.station_parts.proofs.Auditing.{prefixes_here, bank_true_here, run_here, sources_here, judged_here, never_here, answered_here, conversed_still, whole_here, paid_here, held_here}
+use Rattle.station_parts.specs.Words.{journal_of}
 use Rattle.station_parts.proofs.inspect.audit.Goals as goal
 
 pub returns-clause-never : goal.returns-clause-never
@@ -70,5 +71,5 @@ returns-clause-answered g c scripts lists talked =
     let e = c.look_everywhere.ensures in
     let one = still_one _ _ _ _ _ _ e.same_cache e.same_ports e.same_banks c.requires in
     let still = conversed_still scripts c.args.ports.now n.ports lists e.same_ports e.ports.offered e.ports.taken talked in
-    subst (λ (r : Audit). AreAnswered r n.cache.journal.items lists) (sym c.found.ensures)
+    subst (λ (r : Audit). AreAnswered r (journal_of n.cache) lists) (sym c.found.ensures)
     (answered_here n.cache n.ports n.banks one e.seen scripts lists still)

@@ -1,0 +1,38 @@
+use Rattle.std.proofs.Common.{◌≡◌, ◌≤◌, ◌+◌, ◌++◌, [], length, refl, sym, ap, ap₂, ◌∙◌, subst, arith, append-nil, length-append}
+use Rattle.std.proofs.Math.Logic.{∥∥₁_map}
+use Rattle.station_journal.specs.Side.{SideTells}
+use Rattle.station_parts.specs.Ports.{PortsTell}
+use Rattle.station_parts.specs.Rows.{sent_at, popped_at}
+use Rattle.station_parts.specs.Segments.{whole_of}
+use Rattle.station_parts.specs.Words.{journal_of}
+use Rattle.station_parts.proofs.Renewing.{handed_over}
+use Rattle.station_parts.proofs.renewal.hand_out.Goals as goal
+
+pub invariant_of-cache : goal.invariant_of-cache
+invariant_of-cache g c =
+    let s = c.args.cache.now in
+    let all = ap whole_of c.and.ensures ∙ handed_over s.earlier.values s.journal in
+    let same = ap₂ (λ xs ys. xs ++ ys) all c.requires.empty ∙ append-nil (journal_of s) in
+    record {
+      shaped = s.shaped;
+      in_range = s.in_range;
+      lines = s.lines;
+      ends = s.ends;
+      small = s.small;
+      within = let none = ap length c.requires.empty in omega arith;
+      reserved = c.requires.room;
+      handed_is = let longer = length-append (whole_of s.earlier.values) s.journal.items in let is = ap length all in
+          let handed = s.handed_is in omega arith;
+      lasts = let longer = length-append (whole_of s.earlier.values) s.journal.items in let few = c.requires.lasts in
+          let handed = s.handed_is in omega arith;
+      tells = ∥∥₁_map s.tells (subst (SideTells s.unit.sizes s.unit.cache (sent_at s.row.lines.items) (popped_at s.answers.items) s.fault)
+          (sym same));
+      counted = s.counted;
+      few_ports = s.few_ports;
+      ports = subst (PortsTell s.asks.items s.tellings.items) (sym same) s.ports;
+    }
+
+pub returns-clause-earlier : goal.returns-clause-earlier
+returns-clause-earlier g c =
+    let s = c.args.cache.now in
+    ap whole_of c.and.ensures ∙ handed_over s.earlier.values s.journal
