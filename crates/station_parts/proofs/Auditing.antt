@@ -69,6 +69,10 @@ zeros_are z b =
     let is = all_zero z.banks 0 count b z.words in
     is ∙ ap (λ n. replicate n zero_word) (sym (length-replicate count zero_word) ∙ ap length (sym is))
 
+-- as few as others that are as many
+pub few_of : {m n most : ℕ} → m ≡ n → m ≤ most → n ≤ most
+few_of {m} {n} {most} same few = subst (λ k. k ≤ most) same few
+
 -- ---- rows
 
 some_of : {X : Type 0} (xs : List X) (b : ℕ) → b < length xs → X
@@ -161,12 +165,12 @@ module _ {W B R D : ℕ} (cache : CacheSide W B R D) (ports : List Port) (banks 
   abbrev entries : List Entry
   entries = journal_of cache
 
-  bank_number : length banks ≡ cache.unit.sizes.banks
+  pub bank_number : length banks ≡ cache.unit.sizes.banks
   bank_number =
       sym (length-map banks bank_id) ∙ sym (length-map (map bank_id banks) (λ (x : BankId). x.words)) ∙ ap length one.words
       ∙ length-map-range_with_len (λ b. length (zeros_in cache.unit.sizes b)) 0 cache.unit.sizes.banks
 
-  ask_number : length cache.asks.items ≡ length ports
+  pub ask_number : length cache.asks.items ≡ length ports
   ask_number =
       sym (length-map cache.asks.items pops_from) ∙ sym (ap length one.asks) ∙ length-map (map port_id ports) (λ (x : PortId). x.asks)
       ∙ length-map ports port_id

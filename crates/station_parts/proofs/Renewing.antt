@@ -34,6 +34,22 @@ handed_over [] segment = append-nil segment.items
 handed_over (first ∷ rest) segment =
     ap (λ xs. first.items ++ xs) (handed_over rest segment) ∙ sym (append_assoc first.items (whole_of rest) segment.items)
 
+-- an empty journal is within its limit
+pub none_within : (entries : List Entry) (limit : ℕ) → entries ≡ [] → length entries ≤ limit
+none_within entries limit is = let none = ap length is in omega arith
+
+-- and the entries of the one that was handed out are counted
+pub handed_more : (before held whole : List Entry) (handed count : ℕ) → handed ≡ length before → count ≡ length held
+    → whole ≡ before ++ held → handed + count ≡ length whole
+handed_more before held whole handed count is counted all =
+    let longer = length-append before held in
+    let same = ap length all in
+    omega arith
+
+pub lasts_still : (before held : List Entry) (handed count limit : ℕ) → handed ≡ length before → count ≡ length held
+    → length (before ++ held) + limit ≤ 72057594037927936 → handed + count + limit ≤ 72057594037927936
+lasts_still before held handed count limit is counted few = let longer = length-append before held in omega arith
+
 -- ---- the ports
 
 still_told : (k : ℕ) (old new : List Port) → map known_tellings new ≡ map known_tellings old
@@ -56,14 +72,14 @@ told_alike old new e =
 module _ (old looked new : List Port) (left : LeavesPorts old looked) (offers : map offered new ≡ map offered looked)
     (takes : map taken new ≡ map taken looked) (places : map known_places new ≡ map known_places looked) where
   pub ports_resumed : All (λ p. has_ended p ≡ false) new → ResumesPorts old new
-  ports_resumed open =
+  ports_resumed all =
       record {
         left = record {
           offered = offers ∙ left.offered;
           taken = takes ∙ left.taken;
           for_asks = subst (λ ns. AreAtMost (map known_places old) ns) (sym places) left.for_asks;
         };
-        open = open;
+        again = all;
       }
 
 pub whole_still : (entries : List Entry) (looked new : List Port) → map port_id new ≡ map port_id looked

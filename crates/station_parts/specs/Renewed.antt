@@ -46,7 +46,7 @@ pub record GoesOn {W B R D : ℕ} (old new : CacheSide W B R D) : Type 0 where
 -- each port may offer again, and what it has offered and taken is as it was
 pub record ResumesPorts (old new : List Port) : Type 0 where
   pub left : LeavesPorts old new
-  pub open : All (λ p. has_ended p ≡ false) new
+  pub again : All (λ p. has_ended p ≡ false) new
 
 -- why nothing was handed out: where too many entries would be noted, or memory is short, nothing has changed; else an
 -- audit that found something has looked, and nothing else has changed

@@ -103,7 +103,7 @@ impl Port {
     /// Begins again: the port may offer more, if it has offered `Done`.
     pub(crate) fn resume(&mut self)
         ensures same { port_id self.new ≡ port_id self.old }
-        ensures open { has_ended self.new ≡ false }
+        ensures again { has_ended self.new ≡ false }
         ensures offered { offered self.new ≡ offered self.old }
         ensures taken { taken self.new ≡ taken self.old }
         ensures places { known_places self.new ≡ known_places self.old }

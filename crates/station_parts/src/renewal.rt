@@ -112,7 +112,7 @@ fn is_worn_out<const WAYS: usize, const WORDS: usize, const REGS: usize, const D
 // Lets each port offer again.
 fn resume_all(ports: &mut [Port])
     ensures same { map port_id ports.new ≡ map port_id ports.old }
-    ensures open { All (λ p. has_ended p ≡ false) ports.new }
+    ensures again { All (λ p. has_ended p ≡ false) ports.new }
     ensures offered { map offered ports.new ≡ map offered ports.old }
     ensures taken { map taken ports.new ≡ map taken ports.old }
     ensures places { map known_places ports.new ≡ map known_places ports.old }

@@ -5,7 +5,7 @@ use Rattle.station_parts.specs.Ports.{PortsTell}
 use Rattle.station_parts.specs.Rows.{sent_at, popped_at}
 use Rattle.station_parts.specs.Segments.{whole_of}
 use Rattle.station_parts.specs.Words.{journal_of}
-use Rattle.station_parts.proofs.Renewing.{handed_over}
+use Rattle.station_parts.proofs.Renewing.{handed_over, none_within, handed_more, lasts_still}
 use Rattle.station_parts.proofs.renewal.hand_out.Goals as goal
 
 pub invariant_of-cache : goal.invariant_of-cache
@@ -19,12 +19,11 @@ invariant_of-cache g c =
       lines = s.lines;
       ends = s.ends;
       small = s.small;
-      within = let none = ap length c.requires.empty in omega arith;
+      within = none_within c.args.fresh.items s.limit c.requires.empty;
       reserved = c.requires.room;
-      handed_is = let longer = length-append (whole_of s.earlier.values) s.journal.items in let is = ap length all in
-          let handed = s.handed_is in omega arith;
-      lasts = let longer = length-append (whole_of s.earlier.values) s.journal.items in let few = c.requires.lasts in
-          let handed = s.handed_is in omega arith;
+      handed_is = handed_more (whole_of s.earlier.values) s.journal.items _ s.handed _ s.handed_is (c.len.ensures ∙ s.journal.ok.0) all;
+      lasts = lasts_still (whole_of s.earlier.values) s.journal.items s.handed _ s.limit s.handed_is (c.len.ensures ∙ s.journal.ok.0)
+          c.requires.lasts;
       tells = ∥∥₁_map s.tells (subst (SideTells s.unit.sizes s.unit.cache (sent_at s.row.lines.items) (popped_at s.answers.items) s.fault)
           (sym same));
       counted = s.counted;

@@ -22,12 +22,12 @@ loop-p-preserved c =
       same_places = map-set_same known_places ports c.loop-p.p new old e.places ∙ i.same_places;
       same_tellings = map-set_same known_tellings ports c.loop-p.p new old e.tellings ∙ i.same_tellings;
       same_told = map-set_same told_in_all ports c.loop-p.p new old (ap₂ (λ a b. a ++ b) e.taken e.tellings) ∙ i.same_told;
-      open = AllWithin-more_set ports c.loop-p.p new there (λ (p : Port). has_ended p ≡ false) i.open e.open;
+      again = AllWithin-more_set ports c.loop-p.p new there (λ (p : Port). has_ended p ≡ false) i.again e.again;
     }
 
-pub returns-clause-open : goal.returns-clause-open
-returns-clause-open c =
+pub returns-clause-again : goal.returns-clause-again
+returns-clause-again c =
     let all : c.loop-p.p ≡ length c.loop-p.ports = let n = c.loop-p.auto.ports in let m = c.loop-p.auto.p-end in
     let f = c.loop-p-test.false in omega arith in
     All-from_all_within (λ (p : Port). has_ended p ≡ false) c.loop-p.ports
-    (subst (λ n. AllWithin (λ (p : Port). has_ended p ≡ false) c.loop-p.ports 0 n) all c.loop-p.invariant.open)
+    (subst (λ n. AllWithin (λ (p : Port). has_ended p ≡ false) c.loop-p.ports 0 n) all c.loop-p.invariant.again)

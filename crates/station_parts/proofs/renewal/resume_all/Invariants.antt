@@ -13,5 +13,5 @@ invariant-loop-p l =
       same_places : map known_places l.ports ≡ map known_places l.fn.ports;
       same_tellings : map known_tellings l.ports ≡ map known_tellings l.fn.ports;
       same_told : map told_in_all l.ports ≡ map told_in_all l.fn.ports;
-      open : AllWithin (λ p. has_ended p ≡ false) l.ports 0 l.p;
+      again : AllWithin (λ p. has_ended p ≡ false) l.ports 0 l.p;
     }
