@@ -8,8 +8,8 @@ use super::{LOAD_5, SHAPE, SmallCache, SmallStation, VALUE, ZEROS};
 use flat_model::{Cause, Lanes, Word};
 use memory_banks::{BankAnswer, Command};
 use ring_station::{
-    Ask, Audit, BankSide, Port, RawBank, RenewFault, Ring, SideFault, Source, Station, Stepped, Told,
-    audit, renew, station,
+    Ask, Audit, BankSide, Port, RawBank, RenewFault, Ring, SideFault, Source, Station, Stepped,
+    Told, audit, renew, station,
 };
 use std::alloc::Global;
 use std::process::Abort;

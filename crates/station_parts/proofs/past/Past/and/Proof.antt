@@ -47,9 +47,10 @@ module _ (Y : RattleType) where
   function = inst_fn (layouts (a_type ∷ []) (Y, tt)) code.function
 
   abbrev stayed : Stays (ended Y).signature.params (ended Y).kept
-  stayed =
-      (stay_dropped (RefOf (0 ∷ []) tt (plain (λ _. the_row R)) (λ _. tt)) yes,
-      (stay_dropped (RefOf (1 ∷ []) tt (plain (λ _. R)) (λ _. tt)) yes, tt))
+  stayed = (
+    stay_dropped (RefOf (0 ∷ []) tt (plain (λ _. the_row R)) (λ _. tt)) yes,
+    (stay_dropped (RefOf (1 ∷ []) tt (plain (λ _. R)) (λ _. tt)) yes, tt),
+  )
 
 module _ (Y : RattleType) (L : Laws Y) {M : Type 1} {𝓤 : Ura M} (𝓛 : Logic 𝓤) (at_mem : Memory → SProp 𝓤) (run : Routine → Fun 𝓤) where
   open 𝓛 use {H}
@@ -96,9 +97,10 @@ module _ (Y : RattleType) (L : Laws Y) {M : Type 1} {𝓤 : Ura M} (𝓛 : Logic
 
   meets : (𝓣 : Tables 𝓤 H) → Meets 𝓛 (ended Y).signature (WpFn 𝓤 H 𝓣.C 𝓣.Λ (function Y)) (closing 𝓛 (ended Y) held)
   meets 𝓣 =
-      walk_Meets 𝓛 (ended Y) (stayed Y)
-      (Goes-dropped 𝓛 3 (RefOf (0 ∷ []) tt (plain (λ _. the_row (R Y))) (λ _. tt)) yes (λ κs x f. refl),
-      (Goes-dropped 𝓛 3 (RefOf (1 ∷ []) tt (plain (λ _. R Y)) (λ _. tt)) yes (λ κs x f. refl), tt)) held
+      walk_Meets 𝓛 (ended Y) (stayed Y) (
+        Goes-dropped 𝓛 3 (RefOf (0 ∷ []) tt (plain (λ _. the_row (R Y))) (λ _. tt)) yes (λ κs x f. refl),
+        (Goes-dropped 𝓛 3 (RefOf (1 ∷ []) tt (plain (λ _. R Y)) (λ _. tt)) yes (λ κs x f. refl), tt),
+      ) held
       (WpFn 𝓤 H 𝓣.C 𝓣.Λ (function Y)) (WpFn-mono 𝓤 H 𝓛.laws 𝓣 (function Y))
       (λ z. let a = z.0.3 in let vss = z.0.4 in let Rs : List RattleType = types_at (ended Y).signature.params z.0.0 in
       let owned = owns Rs a vss in
