@@ -193,7 +193,8 @@ pub cache_ran : {W B R D : ℕ} (ports turns begun : ℕ) (old new : CacheSide W
     → cache_id new ≡ cache_id old → earlier_of new ≡ earlier_of old → length (held_of new) ≤ length (held_of old) + begun
     → CacheRan ports turns old new end
 cache_ran ports turns begun old new end fault e w s i j m =
-    subst (λ x. CacheRan ports turns old new x) (sym e) (record { same = i; earlier = j; noted = m; ended = record { within = w; stands = s } })
+    subst (λ x. CacheRan ports turns old new x) (sym e)
+    (record { same = i; earlier = j; noted = m; ended = record { within = w; stands = s } })
 
 -- all is served
 pub is_served : {W B R D : ℕ} (ports : ℕ) (old new : CacheSide W B R D) (still : ℕ) (rests : Bool) → still ≡ 0

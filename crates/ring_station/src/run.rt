@@ -47,8 +47,8 @@ use std::thread::Threads;
 /// its turns, which stops no other one, or that the cache side found its journal full; without a turn
 /// no thread comes to its end. After either the station stands where the steps left it: it may be
 /// audited, and not run again; behind a run that is `Ok` it may be renewed, and then run again.
-/// [`run_and_audit`] tells which thread it was, and what each port had taken. If a thread can't be made, the parts run one after another, and that mostly ends with
-/// `TurnLimit`.
+/// [`run_and_audit`] tells which thread it was, and what each port had taken. If a thread can't be
+/// made, the parts run one after another, and that mostly ends with `TurnLimit`.
 ///
 /// There is one script for each port. A script with `Done` in it comes to no end.
 pub fn run_threads<

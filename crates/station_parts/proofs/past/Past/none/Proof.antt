@@ -58,7 +58,9 @@ module _ (Y : RattleType) (L : Laws Y) {M : Type 1} {𝓤 : Ura M} (𝓛 : Logic
     abbrev passed : Fml
     passed = owns (types_at (ended Y).signature.params z.0.0) z.0.3 tt
 
-    walks : ent 𝓤 ((walk_of 𝓛 (ended Y) (stayed Y) held).pre z) (WpFn 𝓤 H C Λ (function Y) [] ((walk_of 𝓛 (ended Y) (stayed Y) held).post z))
+    walks :
+        ent 𝓤 ((walk_of 𝓛 (ended Y) (stayed Y) held).pre z)
+        (WpFn 𝓤 H C Λ (function Y) [] ((walk_of 𝓛 (ended Y) (stayed Y) held).post z))
     walks =
         let v : Val = vstruct (vcons (vstruct vnil) vnil) in
         let r : denote.Triple.Entry.Res (ended Y).signature z.0.0 = record { marker = record {}; values = [] } in
