@@ -21,8 +21,8 @@ use Rattle.station_parts.specs.Rows.{received_at, pushed_at}
 use Rattle.station_parts.proofs.Rows.{same_length}
 
 -- the entries that are noted stand behind those that were handed out
-pub behind : (before : List Entry) {held held' one : List Entry} → held' ≡ held ++ one → before ++ held' ≡ (before ++ held) ++ one
-behind before {held} {held'} {one} is = ap (λ xs. before ++ xs) is ∙ sym (append_assoc before held one)
+pub behind : (before held held' one : List Entry) → held' ≡ held ++ one → before ++ held' ≡ (before ++ held) ++ one
+behind before held held' one is = ap (λ xs. before ++ xs) is ∙ sym (append_assoc before held one)
 
 -- and are so few
 pub within_all : (before held : List Entry) (handed limit : ℕ) → handed ≡ length before → length held ≤ limit

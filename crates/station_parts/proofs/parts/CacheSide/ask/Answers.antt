@@ -86,14 +86,14 @@ invariant_of-self-in-Done g c =
       handed_is = s.handed_is;
       lasts = s.lasts;
       tells = ∥∥₁_map s.tells (side_ended s.unit (sent_at s.row.lines.items) (popped_at s.answers.items) s.fault (journal_of s)
-          (earlier_of s ++ c.push_reserved.new.self.items) c.args.port (behind (earlier_of s) c.push_reserved.ensures.items));
+          (earlier_of s ++ c.push_reserved.new.self.items) c.args.port (behind (earlier_of s) _ _ _ c.push_reserved.ensures.items));
       counted = s.counted;
       few_ports = subst (λ n. n ≤ 16) (sym (same_length pops_from s.asks.items c.pop_at.new.ends.items c.in-Some.ensures.pops.rings))
           s.few_ports;
       ports = ports_step s.asks.items c.pop_at.new.ends.items s.tellings.items c.look_at.new.ends.items (journal_of s)
           (earlier_of s ++ c.push_reserved.new.self.items) (Ended c.args.port ∷ []) pops.rings c.look_at.ensures.looks.rings s.ports
           (ap (λ t. t && true) (lt-ltb c.args.port (length s.asks.items) there)) asks tellings
-          (behind (earlier_of s) c.push_reserved.ensures.items);
+          (behind (earlier_of s) _ _ _ c.push_reserved.ensures.items);
     }
 
 pub verdict_of-requires : goal.verdict_of-requires
@@ -130,18 +130,20 @@ invariant_of-self-2 g c =
       lasts = s.lasts;
       tells = ∥∥₁_map s.tells (λ h. side_asked s.unit c.answer_ask-answer.new.unit (sent_at s.row.lines.items)
           (sent_at c.look_all.new.self.lines.items) (sent_at c.answer_ask-answer.new.row.lines.items) (popped_at s.answers.items) s.fault
-          (journal_of s) (earlier_of s ++ c.push_reserved-2.new.self.items) (free_at c.look_all.new.self.lines.items) c.args.port c.in-Some.ask
+          (journal_of s) (earlier_of s ++ c.push_reserved-2.new.self.items) (free_at c.look_all.new.self.lines.items) c.args.port
+          c.in-Some.ask
           c.event_for.result c.answer_ask-answer.result c.in_default-ask.not-Done c.requires.sound c.event_for.ensures.event h unit
           c.answer_ask-answer.ensures.steps.answer_is c.look_all.ensures.sent c.answer_ask-answer.ensures.steps.sent
-          (behind (earlier_of s) c.push_reserved-2.ensures.items));
+          (behind (earlier_of s) _ _ _ c.push_reserved-2.ensures.items));
       counted = λ sound b. c.answer_ask-answer.ensures.steps.kept.taken b ∙ c.look_all.ensures.kept.taken b ∙ s.counted sound b;
       few_ports = subst (λ n. n ≤ 16) (sym (same_length pops_from s.asks.items c.pop_at.new.ends.items c.in-Some.ensures.pops.rings))
           s.few_ports;
       ports = ports_step s.asks.items c.pop_at.new.ends.items s.tellings.items c.push_at.new.ends.items (journal_of s)
-          (earlier_of s ++ c.push_reserved-2.new.self.items) (Step (sources.Ask c.args.port) c.event_for.result c.answer_ask-answer.result ∷ []) pops.rings
+          (earlier_of s ++ c.push_reserved-2.new.self.items)
+          (Step (sources.Ask c.args.port) c.event_for.result c.answer_ask-answer.result ∷ []) pops.rings
           (c.push_at.ensures.rings ∙ c.look_at.ensures.looks.rings) s.ports
           (ap (λ t. t && true) (c.event_for.ensures.sourced (length s.asks.items) there)) asks tellings
-          (behind (earlier_of s) c.push_reserved-2.ensures.items);
+          (behind (earlier_of s) _ _ _ c.push_reserved-2.ensures.items);
     }
 
 -- ---- what the step makes

@@ -144,11 +144,11 @@ invariant_of-self-2 g c =
           (taken_at s.row.lines.items c.args.bank) (s.handed + s.limit) (s.counted c.requires.sound c.args.bank)
           (within_all (earlier_of s) s.journal.items s.handed s.limit s.handed_is s.within) s.lasts s.fault
           c.requires.sound h (sym c.is_called.ensures ∙ c.if-not-is_called.false)) more others c.note_word.ensures.sent
-          (sym c.in-Moved.is ∙ c.arrive.ensures.answer) refl unit (behind (earlier_of s) c.push_reserved.ensures.items) h);
+          (sym c.in-Moved.is ∙ c.arrive.ensures.answer) refl unit (behind (earlier_of s) _ _ _ c.push_reserved.ensures.items) h);
       counted = λ sound b. counts (taken_at s.row.lines.items) (taken_at c.note_word.new.self.lines.items) popped popped' c.args.bank
           c.in-Some.word (s.counted sound) more others c.note_word.ensures.here c.note_word.ensures.others b;
       ports = ports_silent _ _ (journal_of s) _ _ _ _ s.ports (word_is_of (length s.asks.items) c.args.bank) (λ p. refl) (λ p. refl)
-          (behind (earlier_of s) c.push_reserved.ensures.items);
+          (behind (earlier_of s) _ _ _ c.push_reserved.ensures.items);
     }
 
 -- ---- what the step makes
@@ -206,7 +206,8 @@ returns-then-not-is_called-clause-makes g c =
     let beyond = ∥∥₁_elim self.tells (hlevel props) (λ h. counts_uncalled self.unit.sizes self.in_range self.unit.cache s.commands s.words
     (popped_at news) (journal_of self) bank a here more others (taken_at self.row.lines.items bank)
     (self.handed + self.limit) (self.counted c.requires.sound bank)
-    (within_all (earlier_of self) self.journal.items self.handed self.limit self.handed_is self.within) self.lasts self.fault c.requires.sound h
+    (within_all (earlier_of self) self.journal.items self.handed self.limit self.handed_is self.within) self.lasts self.fault
+    c.requires.sound h
     (sym c.is_called.ensures ∙ c.if-not-is_called.true)) in
     let work = ap (brought s bank) first ∙ ap (arrives s bank a) (fault-uncalled s bank a beyond) in
     acts (sources.Word bank) s _ looked (knows_words s.known words pops.known) (arrives s bank a (Some (Uncalled bank))) Faulted some work
@@ -233,7 +234,8 @@ returns-in_default-arrive g c =
     let called = ∥∥₁_elim self.tells (hlevel props) (λ h. counts_called self.unit.sizes self.in_range self.unit.cache s.commands s.words
     (popped_at news) (journal_of self) bank a here more others (taken_at self.row.lines.items bank)
     (self.handed + self.limit) (self.counted c.requires.sound bank)
-    (within_all (earlier_of self) self.journal.items self.handed self.limit self.handed_is self.within) self.lasts self.fault c.requires.sound h
+    (within_all (earlier_of self) self.journal.items self.handed self.limit self.handed_is self.within) self.lasts self.fault
+    c.requires.sound h
     (sym c.is_called.ensures ∙ c.if-not-is_called.false)) in
     let not_moved = λ (e : (arrive_step s.sizes s.cache a.slot a.i a.word).answer ≡ Moved). c.in_default-arrive.not-Moved
     (c.arrive.ensures.answer ∙ e) in
@@ -244,7 +246,8 @@ returns-in_default-arrive g c =
     let id = cache_id self in
     record {
       makes = acts (sources.Word bank) s _ looked (knows_words s.known words pops.known) (arrives s bank a (Some (Stray bank a.slot a.i)))
-          Faulted some work refl (makes_lost s _ bank a (Stray bank a.slot a.i) words refl refl cache refl refl refl refl pops.popped (λ b. refl)
+          Faulted some work refl (makes_lost s _ bank a (Stray bank a.slot a.i) words refl refl cache refl refl refl refl pops.popped
+          (λ b. refl)
           refl refl refl) tt;
       same = λ i. record id { answers = pops.rings i; sizes = sizes i };
     }
@@ -270,7 +273,8 @@ returns-clause-makes g c =
     let called = ∥∥₁_elim self.tells (hlevel props) (λ h. counts_called self.unit.sizes self.in_range self.unit.cache s.commands s.words
     (popped_at news) (journal_of self) bank a here more others (taken_at self.row.lines.items bank)
     (self.handed + self.limit) (self.counted c.requires.sound bank)
-    (within_all (earlier_of self) self.journal.items self.handed self.limit self.handed_is self.within) self.lasts self.fault c.requires.sound h
+    (within_all (earlier_of self) self.journal.items self.handed self.limit self.handed_is self.within) self.lasts self.fault
+    c.requires.sound h
     (sym c.is_called.ensures ∙ c.if-not-is_called.false)) in
     let source = sources.Word bank in
     let d = arrive_step s.sizes s.cache a.slot a.i a.word in

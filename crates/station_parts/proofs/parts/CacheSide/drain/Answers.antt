@@ -69,10 +69,10 @@ invariant_of-self-2 g c =
       tells = ∥∥₁_map s.tells (λ h. side_drain s.unit c.drain-answer.new.self _ _ _ _ s.fault (journal_of s)
           (earlier_of s ++ c.push_reserved.new.self.items)
           _ c.drain-answer.result (omega (arith, s.in_range.some_words)) c.requires.sound h unit c.drain-answer.ensures.answer
-          c.look.ensures.looks.sent c.drain-answer.ensures.lines.queued (behind (earlier_of s) c.push_reserved.ensures.items));
+          c.look.ensures.looks.sent c.drain-answer.ensures.lines.queued (behind (earlier_of s) _ _ _ c.push_reserved.ensures.items));
       counted = λ sound b. c.drain-answer.ensures.lines.kept.taken b ∙ c.look.ensures.looks.kept.taken b ∙ s.counted sound b;
       ports = ports_silent _ _ (journal_of s) _ _ _ _ s.ports refl (λ p. refl) (λ p. refl)
-          (behind (earlier_of s) c.push_reserved.ensures.items);
+          (behind (earlier_of s) _ _ _ c.push_reserved.ensures.items);
     }
 
 -- ---- what the step makes

@@ -20,13 +20,14 @@ use Rattle.station_parts.proofs.parts.CacheSide.process.Goals as goal
 pub invariant_of-self-clause-tells : goal.invariant_of-self-clause-tells
 invariant_of-self-clause-tells g c =
     ∥∥₁_map c.args.self.now.tells (λ h. side_process c.args.self.now.unit c.process-answer.new.self _ _ c.args.self.now.fault
-    (journal_of c.args.self.now) (earlier_of c.args.self.now ++ c.push_reserved.new.self.items) c.args.place c.process-answer.result c.requires.sound h
-    c.process-answer.ensures.unit c.process-answer.ensures.answer (behind (earlier_of c.args.self.now) c.push_reserved.ensures.items))
+    (journal_of c.args.self.now) (earlier_of c.args.self.now ++ c.push_reserved.new.self.items) c.args.place
+    c.process-answer.result c.requires.sound h
+    c.process-answer.ensures.unit c.process-answer.ensures.answer (behind (earlier_of c.args.self.now) _ _ _ c.push_reserved.ensures.items))
 
 pub invariant_of-self-clause-ports : goal.invariant_of-self-clause-ports
 invariant_of-self-clause-ports g c =
     ports_silent _ _ (journal_of c.args.self.now) _ _ _ _ c.args.self.now.ports (eq-eqb c.args.place c.args.place refl) (λ p. refl)
-    (λ p. refl) (behind (earlier_of c.args.self.now) c.push_reserved.ensures.items)
+    (λ p. refl) (behind (earlier_of c.args.self.now) _ _ _ c.push_reserved.ensures.items)
 
 pub returns-then-place-stack_len-clause-makes : goal.returns-then-place-stack_len-clause-makes
 returns-then-place-stack_len-clause-makes g c =

@@ -66,7 +66,7 @@ invariant_of-self-2 g c =
       lasts = s.lasts;
       tells = ∥∥₁_map s.tells (λ h. side_replied s.unit c.take-answer.new.self (sent_at s.row.lines.items) (popped_at s.answers.items)
           s.fault (journal_of s) (earlier_of s ++ c.push_reserved.new.self.items) c.args.place c.take-answer.result c.requires.sound h unit
-          c.take-answer.ensures.answer (behind (earlier_of s) c.push_reserved.ensures.items));
+          c.take-answer.ensures.answer (behind (earlier_of s) _ _ _ c.push_reserved.ensures.items));
       counted = s.counted;
       few_ports = s.few_ports;
       ports = ports_step s.asks.items s.asks.items s.tellings.items c.push_at.new.ends.items (journal_of s)
@@ -74,7 +74,7 @@ invariant_of-self-2 g c =
           (Step (sources.Reply c.args.place) (Take c.args.place) c.take-answer.result ∷ []) refl
           (c.push_at.ensures.rings ∙ c.look_at.ensures.looks.rings) s.ports (ap (λ t. t && true) (eq-eqb c.args.place c.args.place refl))
           (λ p. sym (append-nil (received_at s.asks.items p))) tellings
-          (behind (earlier_of s) c.push_reserved.ensures.items);
+          (behind (earlier_of s) _ _ _ c.push_reserved.ensures.items);
     }
 
 -- ---- what the step makes
