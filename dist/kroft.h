@@ -479,11 +479,14 @@ uint32_t kroft_drive(kroft_handle *handle, uint32_t latency, uint32_t busy, cons
 
 /*
  * A history is what is seen of a memory from outside: each load and each store is requested, and is answered
- * later or never. It is judged as it goes, by one of two laws:
+ * later or never. It is judged as it goes, by one of three laws:
  *
  * - the regular law: an operation takes effect at some moment between its request and its response, each of its
  *   bytes for itself. Nobody has to know that moment.
  * - the flat law: an operation takes effect at its request. (A memory without caches and queues.)
+ * - the atomic law: an operation takes effect at one moment between its request and its response, in each aligned
+ *   unit of 1, 2, 4 or 8 bytes that it touches, and a load gets what stands there at its moment (linearizability).
+ *   It refuses what the regular law lets pass: new then old, and a unit that is torn between two stores.
  *
  * Addresses and numbers have 64 bits. An operation has 1 to 64 bytes, in the order of memory, and none of them
  * lies at 2^64 or beyond. A number is free again once its operation is answered; loads and stores have numbers of
@@ -505,7 +508,8 @@ typedef struct {
 /* The laws. */
 enum {
     KROFT_REGULAR_LAW = 0,
-    KROFT_FLAT_LAW = 1
+    KROFT_FLAT_LAW = 1,
+    KROFT_ATOMIC_LAW = 2
 };
 
 /* What stands beyond the image before the first store. */
@@ -517,8 +521,11 @@ enum {
 /*
  * What a call of a history says. KROFT_CLOSED (3), KROFT_FOUND (1) and KROFT_NONE (0) are those of the machine, and so
  * are KROFT_OUT_OF_MEMORY (101) and KROFT_OPEN_ALREADY (102). Of the faults of an event, 11 to 16, the first that
- * holds is told. After each number but KROFT_LAWFUL everything is as it was: an event that was refused may be told
- * again with other bytes, or left out.
+ * holds is told. After each number but KROFT_LAWFUL the history is as it was: an event that was refused may be told
+ * again with other bytes, or left out. KROFT_UNDECIDED is no fault: of an answer the judge of the atomic law can't
+ * tell, since the operations that are open may have taken effect in too many ways in one unit (more than 4,096
+ * pairs of a word and the stores in effect, or more than 65,536 words before now). kroft_undecided says in which,
+ * and once that unit is forgotten (kroft_forget) the answer may be told again.
  */
 enum {
     KROFT_LAWFUL = 0,          /* the event was taken: the history with it is one of the law                */
@@ -529,13 +536,14 @@ enum {
     KROFT_NOT_OPEN = 14,       /* no load, or no store, is open under the number                            */
     KROFT_WRONG_LENGTH = 15,   /* the load was requested with another length                                */
     KROFT_WRONG_BYTE = 16,     /* the load may not return one of the bytes                                  */
-    KROFT_NO_LAW = 103,        /* there is no such law, unit or rest                                        */
-    KROFT_TOO_LONG = 104       /* 2^64 - 1 events were taken                                                */
+    KROFT_NO_LAW = 103,        /* there is no such law, unit or rest; or the law has no units to forget     */
+    KROFT_TOO_LONG = 104,      /* 2^64 - 1 events were taken; never by the atomic law                        */
+    KROFT_UNDECIDED = 105      /* there is no verdict; by the atomic law alone                              */
 };
 
 /*
  * Opens a history without an event, to be judged by a law. `unit` is how many bytes are read and written as one: 1
- * for these two laws. Memory begins with the bytes of the image, from address 0 on, of which a copy is kept, and
+ * for the regular and the flat law, and 1, 2, 4 or 8 for the atomic one. Memory begins with the bytes of the image, from address 0 on, of which a copy is kept, and
  * beyond them as `rest` says. Returns KROFT_DONE; or, and then the handle is as it was, and no memory is kept, the
  * first that holds of KROFT_OPEN_ALREADY, KROFT_NO_LAW and KROFT_OUT_OF_MEMORY.
  */
@@ -556,7 +564,7 @@ uint32_t kroft_load_request(kroft_history *handle, uint64_t number, uint64_t add
 
 /*
  * The load that is open under the number is answered with these bytes. Returns KROFT_LAWFUL, KROFT_NOT_OPEN,
- * KROFT_WRONG_LENGTH or KROFT_WRONG_BYTE; or KROFT_CLOSED, KROFT_TOO_LONG or KROFT_OUT_OF_MEMORY.
+ * KROFT_WRONG_LENGTH or KROFT_WRONG_BYTE; or KROFT_UNDECIDED, KROFT_CLOSED, KROFT_TOO_LONG or KROFT_OUT_OF_MEMORY.
  */
 uint32_t kroft_load_response(kroft_history *handle, uint64_t number, const uint8_t *bytes, size_t nbytes);
 
@@ -569,8 +577,8 @@ uint32_t kroft_store_request(kroft_history *handle, uint64_t number, uint64_t ad
                              size_t nbytes, uint64_t enables);
 
 /*
- * The store that is open under the number is answered. Returns KROFT_LAWFUL or KROFT_NOT_OPEN; or KROFT_CLOSED,
- * KROFT_TOO_LONG or KROFT_OUT_OF_MEMORY.
+ * The store that is open under the number is answered. Returns KROFT_LAWFUL or KROFT_NOT_OPEN; or KROFT_UNDECIDED,
+ * KROFT_CLOSED, KROFT_TOO_LONG or KROFT_OUT_OF_MEMORY.
  */
 uint32_t kroft_store_response(kroft_history *handle, uint64_t number);
 
@@ -579,17 +587,65 @@ uint32_t kroft_store_response(kroft_history *handle, uint64_t number);
 
 /*
  * What the load that is open under a number may return for the byte at an address, if it is answered now. Returns
- * KROFT_FOUND, and `set` is it; KROFT_NONE: no such load asks for that byte; KROFT_NO_ROOM; or KROFT_CLOSED. After
- * each but KROFT_FOUND `set` is as it was. The history is as it was after each.
+ * KROFT_FOUND, and `set` is it; KROFT_NONE: no such load asks for that byte; KROFT_NO_ROOM; or KROFT_CLOSED. By the
+ * atomic law it is the set of this byte alone (two bytes may be allowed that aren't allowed together), and these are
+ * returned too: KROFT_UNDECIDED, and KROFT_OUT_OF_MEMORY. After each but KROFT_FOUND `set` is as it was. The history
+ * is as it was after each.
  */
 uint32_t kroft_may_return(kroft_history *handle, uint64_t number, uint64_t address, uint8_t *set, size_t nset);
 
 /*
  * What kroft_load_response would say of these bytes if there is room for it, and the first of them that the load may not
- * return; it isn't told. Returns KROFT_WRONG_BYTE, and the byte at `place`, counted from 0, is the first such; or
- * KROFT_LAWFUL, KROFT_NOT_OPEN, KROFT_WRONG_LENGTH or KROFT_CLOSED, and then `place` is as it was.
+ * return; it isn't told. Returns KROFT_WRONG_BYTE, and the byte at `place`, counted from 0, is the first such (by the
+ * atomic law the first that lies in the lowest unit whose bytes it may not return); or KROFT_LAWFUL, KROFT_NOT_OPEN,
+ * KROFT_WRONG_LENGTH or KROFT_CLOSED, or by the atomic law KROFT_UNDECIDED or KROFT_OUT_OF_MEMORY, and then `place` is
+ * as it was.
  */
 uint32_t kroft_wrong_place(kroft_history *handle, uint64_t number, const uint8_t *bytes, size_t nbytes, uint64_t *place);
+
+/*
+ * Why a load may not return a byte. Of a store that isn't told number and event are 0; an event's number is how many
+ * events of the history were taken before it.
+ */
+typedef struct {
+    uint64_t place;          /* of the byte in the answer, counted from 0                            */
+    uint64_t stored;         /* the number of the last store that put the byte there                 */
+    uint64_t stored_at;      /* the event that requested it                                          */
+    uint64_t overwritten_by; /* the number of the last store that overwrote it before the load's request */
+    uint64_t overwritten_at; /* the event that requested that one                                    */
+    uint32_t reason;
+} kroft_reason;
+
+/* The reasons. */
+enum {
+    KROFT_NO_REASON = 0,          /* none is told                                                          */
+    KROFT_NEVER_THERE = 1,        /* no store put the byte there, and memory hadn't it there before        */
+    KROFT_FIRST_OVERWRITTEN = 2,  /* memory had it before the first store, and that was overwritten        */
+    KROFT_STORE_OVERWRITTEN = 3   /* a store put it there, and was overwritten: both are told              */
+};
+
+/*
+ * What kroft_wrong_place says of these bytes, and why the load may not return the byte at that place; it isn't told.
+ * Returns KROFT_WRONG_BYTE, and `why` says it; or what kroft_wrong_place returns else, and then `why` is as it was.
+ * The reason is the regular law's, of that byte alone: there is none if that law allows the byte (as in new then old),
+ * or if more than 4,096 bytes were stored and the store is no longer remembered.
+ */
+uint32_t kroft_why(kroft_history *handle, uint64_t number, const uint8_t *bytes, size_t nbytes, kroft_reason *why);
+
+/*
+ * Forgets the unit in which the byte at the address lies, of a history by the atomic law. From there on its bytes are
+ * unknown: whatever a load returns there is allowed, what stores write there isn't followed, and no answer is
+ * undecided for its sake. The other units are judged on. Returns KROFT_DONE; or KROFT_NO_LAW: the history is judged
+ * by another law; KROFT_OUT_OF_MEMORY or KROFT_CLOSED, and then the history is as it was.
+ */
+uint32_t kroft_forget(kroft_history *handle, uint64_t address);
+
+/*
+ * Where the unit begins for whose sake an answer was KROFT_UNDECIDED. Returns KROFT_FOUND, and it begins at `address`;
+ * or, and then `address` is as it was, KROFT_NONE: no answer was undecided since an event was taken last, or a unit
+ * was forgotten; or KROFT_CLOSED. The history is as it was after each.
+ */
+uint32_t kroft_undecided(kroft_history *handle, uint64_t *address);
 
 /* How many loads and how many stores are open. Returns KROFT_DONE; or KROFT_CLOSED, and both are as they were. */
 uint32_t kroft_unanswered(kroft_history *handle, uint64_t *loads, uint64_t *stores);
@@ -696,6 +752,8 @@ KROFT_ASSERT(handle_size, sizeof(kroft_handle) == 16);
 KROFT_ASSERT(handle_at, offsetof(kroft_handle, at) == 8);
 KROFT_ASSERT(history_size, sizeof(kroft_history) == 16);
 KROFT_ASSERT(history_at, offsetof(kroft_history, at) == 8);
+KROFT_ASSERT(reason_size, sizeof(kroft_reason) == 48);
+KROFT_ASSERT(reason_reason, offsetof(kroft_reason, reason) == 40);
 KROFT_ASSERT(operation_size, sizeof(kroft_operation) == 24);
 KROFT_ASSERT(operation_address, offsetof(kroft_operation, address) == 8);
 KROFT_ASSERT(operation_length, offsetof(kroft_operation, length) == 16);
