@@ -216,17 +216,16 @@ static void say_store(history_state *h, const char *before, uint64_t id, uint64_
     add(h->text, " %s", did);
 }
 
-/* What the load may return in place of the wrong byte: at most four of it are named. */
+/* The wrong byte, and by the laws of bytes what the load may return in its place: at most four of it are named. */
 static void say_set(history_state *h, const operation *o, const uint8_t *bytes) {
     uint8_t set[KROFT_SET_BYTES] = {0};
     int byte, count = 0;
     uint64_t address = o->asked.address + h->why.place;
-    if (h->law == KROFT_ATOMIC_LAW) {
-        add(h->text, ", which stood at no moment in the unit with 0x%llx", (unsigned long long)address);
-        return;
-    }
+    if (h->law == KROFT_ATOMIC_LAW) add(h->text, ", which stood at no moment in the unit with 0x%llx", (unsigned long long)address);
+    add(h->text, ": byte %d is %02x", (int)h->why.place, bytes[h->why.place]);
+    if (h->law == KROFT_ATOMIC_LAW) return;
     kroft_may_return(&h->history, o->number, address, set, sizeof set);
-    add(h->text, ": byte %d is %02x, and may be", (int)h->why.place, bytes[h->why.place]);
+    add(h->text, ", and may be");
     for (byte = 0; byte < 256; byte++)
         if (set[byte / 8] >> byte % 8 & 1 && count++ < 4) add(h->text, "%s %02x", count > 1 ? " or" : "", byte);
     if (count > 4) add(h->text, " or others");
