@@ -188,7 +188,7 @@ int main(void) {
     long n;
     memory_stays();
     traffic();
-    for (n = 0; n < 1000000; n++) {
+    for (n = 0; n < 300000; n++) {
         if (random_bits() & 1) request(judge);
         else answer(judge);
         if (n % 1000 == 0) expect(__LINE__, judge, kroft_sv_unanswered(judge), count_open());

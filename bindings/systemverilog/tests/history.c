@@ -244,7 +244,7 @@ static void random_calls(unsigned law) {
     } loads[8] = {{0, 0, 0}};
     int is_open[8] = {0}, n;
     begin(law, 0);
-    for (n = 0; n < 20000; n++) {
+    for (n = 0; n < 8000; n++) {
         unsigned id = (unsigned)(random_bits() % 8);
         int size = 1 + (int)(random_bits() % 64);
         uint64_t address = FAR + random_bits() % 100, bytes[8], enables = random_bits() | 1;
