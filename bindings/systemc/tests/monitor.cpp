@@ -214,6 +214,7 @@ int sc_main(int argc, char **argv) {
 
     clock_t began = clock();
     while (initiator.ended < count && watch.errors() == 0 && sc_core::sc_time_stamp() < 40 * count * CYCLE) sc_core::sc_start(1000 * CYCLE);
+    if (watch.errors() == 0) sc_core::sc_stop(); // an error has stopped it
     double seconds = double(clock() - began) / CLOCKS_PER_SEC;
     size_t unanswered = watch.unanswered().size();
     printf("%s, %s, bug %d: %llu transactions, %llu wrong, %zu unanswered, %.1f s of processor time\n", argv[1], argv[2], bug,
