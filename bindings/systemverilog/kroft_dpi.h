@@ -55,7 +55,8 @@ int kroft_sv_failed_store(void *judge, unsigned long long id);
 /* How many accesses wait for their answers. */
 int kroft_sv_unanswered(void *judge);
 
-/* What the last request or answer of a judge, or of a history, is said to be, as one line. It stands until the next. */
+/* What the last request or answer of a judge, or of a history, that wasn't right is said to be, as one line. It stands until
+   the next such. */
 const char *kroft_sv_text(void *judge);
 
 /* A history by a law, with nothing but its requests and responses, as kroft.h describes it: KROFT_REGULAR_LAW,

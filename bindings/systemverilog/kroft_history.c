@@ -246,6 +246,7 @@ static void say_why(history_state *h, const operation *o, const uint8_t *bytes) 
 /* Says what an answer is. */
 static int say_answer(history_state *h, const operation *o, int reason) {
     uint64_t address;
+    if (reason == KROFT_SV_RIGHT) return reason;
     name(h->text, &o->asked, reason);
     add_moment(h->text, ", requested at ", o->now, "");
     add(h->text, ": %s", REASONS[reason]);

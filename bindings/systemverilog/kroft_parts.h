@@ -161,7 +161,9 @@ static inline void name(char *text, const access *a, int reason) {
     if (reason != KROFT_SV_NOTHING_OWED) add(text, " of %d bytes at 0x%llx", a->size, (unsigned long long)a->address);
 }
 
+/* What is right is said by no text. */
 static inline int say(char *text, const access *a, int reason) {
+    if (reason == KROFT_SV_RIGHT) return reason;
     name(text, a, reason);
     add(text, ": %s", REASONS[reason]);
     return reason;
