@@ -31,7 +31,7 @@ void a_load_beside_a_store() {
         check(history.open_loads().size() == 1 && history.open_loads()[0].address == 0x1000, "an open load");
         check(bool(history.load_response(1, right, 2)), "the right bytes");
         kroft::History moved(std::move(history));
-        check(bool(moved.store_response(1)) && moved.open_stores().empty(), "moved");
+        check(moved.law() == law && bool(moved.store_response(1)) && moved.open_stores().empty(), "moved");
         bool threw = false;
         try {
             history.load_request(1, 0, 1);
