@@ -483,20 +483,26 @@ class History {
 public:
     /// By the atomic law memory has aligned units of 1, 2, 4 or 8 bytes; the other laws have units of 1. 0: the largest
     /// that the law has.
-    explicit History(Law law = Law::Regular, const std::vector<uint8_t> &image = {}, Beyond beyond = Beyond::Zeros, unsigned unit = 0) {
+    explicit History(Law law = Law::Regular, const std::vector<uint8_t> &image = {}, Beyond beyond = Beyond::Zeros, unsigned unit = 0)
+        : judged_by(law) {
         const uint8_t none = 0;
         const uint8_t *bytes = image.empty() ? &none : image.data();
         if (unit == 0) unit = law == Law::Atomic ? 8 : 1;
         done(kroft_history_open(&handle, static_cast<uint32_t>(law), unit, static_cast<uint32_t>(beyond), bytes, image.size()));
     }
     ~History() { kroft_history_free(&handle); }
-    History(History &&other) noexcept : handle(std::exchange(other.handle, kroft_history KROFT_NO_HISTORY)) {}
+    History(History &&other) noexcept
+        : handle(std::exchange(other.handle, kroft_history KROFT_NO_HISTORY)), judged_by(other.judged_by) {}
     History &operator=(History &&other) noexcept {
         std::swap(handle, other.handle);
+        std::swap(judged_by, other.judged_by);
         return *this;
     }
     History(const History &) = delete;
     History &operator=(const History &) = delete;
+
+    /// The law by which it is judged.
+    Law law() const { return judged_by; }
 
     HistoryVerdict load_request(uint64_t number, uint64_t address, size_t length) {
         return told(kroft_load_request(&handle, number, address, length));
@@ -557,6 +563,7 @@ public:
 
 private:
     kroft_history handle = KROFT_NO_HISTORY;
+    Law judged_by;
 
     static void done(uint32_t status) {
         if (status == KROFT_OUT_OF_MEMORY) throw std::bad_alloc();

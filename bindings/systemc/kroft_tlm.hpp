@@ -7,15 +7,21 @@
 //     cpu.socket.bind(monitor.in);
 //     monitor.out.bind(memory.socket);
 //
-// b_transport and nb_transport pass it unchanged, in time too. A transaction takes effect at its request, when
-// b_transport is called or BEGIN_REQ passes; its answer is judged when the call returns, when BEGIN_RESP passes
-// or when TLM_COMPLETED is returned, in whatever order the answers come. What flat memory doesn't explain is an
-// error of the report handler under the id "kroft".
+// b_transport and nb_transport pass it unchanged, in time too. A transaction is requested when b_transport is called or
+// BEGIN_REQ passes; its answer is judged when the call returns, when BEGIN_RESP passes or when TLM_COMPLETED is
+// returned, in whatever order the answers come. To a watch over flat memory, as above, it takes effect at its request.
+// Where nobody can say when it does, a watch over a history judges by requests and answers alone, by the history's law:
+//
+//     kroft::Watch watch(kroft::History(kroft::Law::Atomic), {0x8000'0000, 0x8fff'ffff});
+//
+// What isn't explained is an error of the report handler under the id "kroft".
 #pragma once
 
 #include "kroft.hpp"
 
 #include <algorithm>
+#include <deque>
+#include <map>
 #include <string>
 #include <systemc>
 #include <tlm>
@@ -26,11 +32,213 @@
 
 namespace kroft {
 
+/// A judge of the parts of transactions: each has an id of its own, which is never used again. A call returns what is
+/// wrong, in words, or nothing.
+class PartJudge {
+public:
+    using Fault = std::optional<std::string>;
+    virtual ~PartJudge() = default;
+    virtual Fault load(uint64_t id, uint64_t address, unsigned size, uint64_t enables) = 0;
+    virtual Fault store(uint64_t id, uint64_t address, unsigned size, const uint8_t *data, uint64_t enables) = 0;
+    virtual Fault value(uint64_t id, const uint8_t *data) = 0;
+    virtual Fault stored(uint64_t id) = 0;
+    virtual Fault failed_load(uint64_t id) = 0;
+    virtual Fault failed_store(uint64_t id) = 0;
+    virtual std::vector<Access> unanswered() const = 0;
+    /// Whether a load asks for all of its bytes, so that one with byte enables has to be several.
+    virtual bool loads_whole() const = 0;
+};
+
+/// By flat memory: a part takes effect at its request.
+class FlatParts : public PartJudge {
+public:
+    FlatParts(Range addresses, Image first_bytes) : judge(addresses, std::move(first_bytes)) {}
+    Fault load(uint64_t id, uint64_t address, unsigned size, uint64_t enables) override {
+        return fault(judge.load(id, address, size, enables));
+    }
+    Fault store(uint64_t id, uint64_t address, unsigned size, const uint8_t *data, uint64_t enables) override {
+        return fault(judge.store(id, address, size, data, enables));
+    }
+    Fault value(uint64_t id, const uint8_t *data) override { return fault(judge.value(id, data)); }
+    Fault stored(uint64_t id) override { return fault(judge.stored(id)); }
+    Fault failed_load(uint64_t id) override { return fault(judge.failed_load(id)); }
+    Fault failed_store(uint64_t id) override { return fault(judge.failed_store(id)); }
+    std::vector<Access> unanswered() const override { return judge.unanswered(); }
+    bool loads_whole() const override { return false; }
+
+private:
+    FlatJudge judge;
+
+    static Fault fault(const Verdict &verdict) { return verdict ? Fault() : Fault(verdict.text()); }
+};
+
+/// By a history: a part takes effect between its request and its answer. A part that got a wrong value, or none, is
+/// answered all the same; by the atomic law it stays open in the history, since each word that it might have got would
+/// say something of the stores.
+class HistoryParts : public PartJudge {
+public:
+    explicit HistoryParts(History judge) : history(std::move(judge)) {}
+
+    Fault load(uint64_t id, uint64_t address, unsigned size, uint64_t) override {
+        open.emplace(id, Open{{Kind::Load, id, address, size, ALL_BYTES, ++calls}, sc_core::sc_time_stamp()});
+        return refused(id, history.load_request(id, address, size));
+    }
+
+    Fault store(uint64_t id, uint64_t address, unsigned size, const uint8_t *data, uint64_t enables) override {
+        open.emplace(id, Open{{Kind::Store, id, address, size, enables, ++calls}, sc_core::sc_time_stamp()});
+        if (stores.size() == KEPT_STORES) stores.pop_front();
+        stores.emplace_back(id, sc_core::sc_time_stamp());
+        return refused(id, history.store_request(id, address, data, size, enables));
+    }
+
+    Fault value(uint64_t id, const uint8_t *data) override {
+        unsigned size = open.at(id).access.size;
+        HistoryVerdict said = decided(id, [&] { return history.load_response(id, data, size); });
+        if (said) return ended(id);
+        std::string text = name(id) + (said.fault() == KROFT_WRONG_BYTE ? wrong_data(id, data) : said.text());
+        leave(id);
+        return text;
+    }
+
+    Fault stored(uint64_t id) override {
+        HistoryVerdict said = decided(id, [&] { return history.store_response(id); });
+        return said ? ended(id) : Fault(name(id) + said.text());
+    }
+
+    Fault failed_load(uint64_t id) override {
+        leave(id);
+        return {};
+    }
+
+    Fault failed_store(uint64_t id) override {
+        std::string text = name(id) + text_of(Reason::Failed);
+        stored(id);
+        return text;
+    }
+
+    /// The ids count the parts: the oldest comes first.
+    std::vector<Access> unanswered() const override {
+        std::vector<Access> found;
+        for (const auto &each : open) found.push_back(each.second.access);
+        return found;
+    }
+
+    bool loads_whole() const override { return true; }
+
+private:
+    struct Open {
+        Access access;
+        sc_core::sc_time begun;
+    };
+    static constexpr size_t KEPT_STORES = 8192; // the history remembers fewer bytes of stores
+
+    History history;
+    std::map<uint64_t, Open> open;
+    std::deque<std::pair<uint64_t, sc_core::sc_time>> stores; // when the last of them were begun, by their ids
+    uint64_t calls = 0;
+
+    Fault ended(uint64_t id) {
+        calls++;
+        open.erase(id);
+        return {};
+    }
+
+    Fault refused(uint64_t id, const HistoryVerdict &said) {
+        if (said) return {};
+        std::string text = name(id) + said.text();
+        open.erase(id);
+        return text;
+    }
+
+    // The verdict of an answer. Where there is none, the unit in question is forgotten, which is a warning.
+    template <class Tell> HistoryVerdict decided(uint64_t id, Tell tell) {
+        HistoryVerdict said = tell();
+        while (said.is_undecided()) {
+            uint64_t unit = history.undecided().value();
+            SC_REPORT_WARNING("kroft", (name(id) + said.text() + ": that at " + hex(unit) + " is forgotten").c_str());
+            history.forget(unit);
+            said = tell();
+        }
+        return said;
+    }
+
+    // Ends a load whose bytes count for nothing.
+    void leave(uint64_t id) {
+        const Access &access = open.at(id).access;
+        Bytes bytes{};
+        bool answers = history.law() != Law::Atomic;
+        for (unsigned i = 0; answers && i < access.size; i++) {
+            auto may = history.may_return(id, access.address + i);
+            for (unsigned byte = 0; may && byte < 256; byte++)
+                if (may->test(byte)) bytes[i] = static_cast<uint8_t>(byte);
+        }
+        if (answers) history.load_response(id, bytes.data(), access.size);
+        ended(id);
+    }
+
+    static std::string hex(uint64_t number) {
+        char digits[20];
+        snprintf(digits, sizeof digits, "0x%llx", static_cast<unsigned long long>(number));
+        return digits;
+    }
+
+    static std::string hex_of(uint8_t byte) {
+        char digits[4];
+        snprintf(digits, sizeof digits, "%02x", byte);
+        return digits;
+    }
+
+    std::string name(uint64_t id) const {
+        const Open &it = open.at(id);
+        return (it.access.kind == Kind::Load ? "load " : "store ") + std::to_string(id) + " of " + std::to_string(it.access.size) +
+               " bytes at " + hex(it.access.address) + ", begun at " + it.begun.to_string() + ": ";
+    }
+
+    std::string name_of_store(uint64_t id) const {
+        auto found = std::lower_bound(stores.begin(), stores.end(), id, [](const auto &each, uint64_t wanted) { return each.first < wanted; });
+        std::string text = "store " + std::to_string(id);
+        return found == stores.end() || found->first != id ? text : text + " (of " + found->second.to_string() + ")";
+    }
+
+    std::string wrong_data(uint64_t id, const uint8_t *data) {
+        const Access &access = open.at(id).access;
+        std::string text = "wrong data: got ";
+        for (unsigned i = 0; i < access.size; i++) text += hex_of(data[i]);
+        auto why = history.why(id, data, access.size);
+        if (!why) return text;
+        uint64_t address = access.address + why->place;
+        if (history.law() == Law::Atomic) text += ", which stood at no moment in the unit with " + hex(address);
+        text += ": byte " + std::to_string(why->place) + " is " + hex_of(data[why->place]);
+        if (history.law() != Law::Atomic) text += may_be(id, address);
+        if (why->reason == KROFT_NEVER_THERE) text += "; no store put it there";
+        if (why->reason == KROFT_FIRST_OVERWRITTEN) text += "; memory had it first";
+        if (why->reason == KROFT_STORE_OVERWRITTEN) text += "; " + name_of_store(why->stored) + " put it there";
+        if (why->reason >= KROFT_FIRST_OVERWRITTEN) text += ", and " + name_of_store(why->overwritten_by) + " overwrote it";
+        return text;
+    }
+
+    // The bytes that a load may return at an address: at most four of them.
+    std::string may_be(uint64_t id, uint64_t address) {
+        auto may = history.may_return(id, address);
+        std::string text = ", and may be";
+        unsigned count = 0;
+        for (unsigned byte = 0; may && byte < 256; byte++)
+            if (may->test(byte) && count++ < 4) text += (count > 1 ? " or " : " ") + hex_of(static_cast<uint8_t>(byte));
+        return count > 4 ? text + " or others" : text;
+    }
+};
+
 /// What the monitors before one memory share: the judge, and the ids that it knows their transactions by.
 /// It outlives its monitors.
 class Watch {
 public:
-    explicit Watch(Range addresses = {}, Image first_bytes = {}) : range(addresses), judge(addresses, std::move(first_bytes)) {}
+    /// By flat memory: a transaction takes effect at its request.
+    explicit Watch(Range addresses = {}, Image first_bytes = {})
+        : range(addresses), judge(std::make_unique<FlatParts>(addresses, std::move(first_bytes))) {}
+
+    /// By a history without an event, and by its law: nobody has to know when a transaction takes effect. One of more
+    /// than MAX_SIZE bytes is several operations, and so is a read with bytes that aren't enabled.
+    explicit Watch(History history, Range addresses = {}) : range(addresses), judge(std::make_unique<HistoryParts>(std::move(history))) {}
 
     /// What was wrong so far.
     uint64_t errors() const { return error_count; }
@@ -39,13 +247,13 @@ public:
     uint64_t accesses() const { return next_id; }
 
     /// The parts of transactions that wait for their answers, the oldest first. The ids count the parts.
-    std::vector<Access> unanswered() const { return judge.unanswered(); }
+    std::vector<Access> unanswered() const { return judge->unanswered(); }
 
 private:
     template <unsigned> friend class Monitor;
 
     Range range;
-    FlatJudge judge;
+    std::unique_ptr<PartJudge> judge;
     uint64_t next_id = 0;
     uint64_t error_count = 0;
 };
@@ -54,7 +262,7 @@ private:
 ///
 /// A transaction may have any length, byte enables and streaming width. A read that fails is owed nothing; a
 /// write that fails inside of the memory's range is an error, and so is an answer without a request, and a
-/// success outside of the range. There is no direct memory access through it, so that nothing passes it by. A
+/// success outside of the range. Where the atomic law has no verdict, a unit is forgotten, which is a warning. There is no direct memory access through it, so that nothing passes it by. A
 /// debug write counts as a store; a debug read isn't judged, for it may look below the caches.
 template <unsigned BUSWIDTH = 32> class Monitor : public sc_core::sc_module {
 public:
@@ -85,6 +293,7 @@ private:
     struct Request {
         bool is_read = false, is_write = false, outside = false;
         uint64_t address = 0;
+        sc_core::sc_time begun;
         std::vector<Part> parts;
     };
 
@@ -116,7 +325,10 @@ private:
         unsigned bytes = out->transport_dbg(payload);
         for (unsigned i = 0; payload.is_write() && i < bytes; i += MAX_SIZE) {
             unsigned size = std::min(MAX_SIZE, bytes - i);
-            tell(watch.judge.post(watch.next_id++, address + i, size, payload.get_data_ptr() + i));
+            uint64_t id = watch.next_id++;
+            auto fault = watch.judge->store(id, address + i, size, payload.get_data_ptr() + i, ALL_BYTES);
+            tell(fault);
+            if (!fault) tell(watch.judge->stored(id));
         }
         return bytes;
     }
@@ -127,6 +339,7 @@ private:
         request.is_read = payload.is_read();
         request.is_write = payload.is_write();
         request.address = payload.get_address();
+        request.begun = sc_core::sc_time_stamp();
         unsigned length = payload.get_data_length(), width = payload.get_streaming_width();
         if (width == 0 || width > length) width = length;
         if (length == 0 || !(request.is_read || request.is_write)) return request;
@@ -140,12 +353,22 @@ private:
 
     void begin_part(const Payload &payload, Request &request, unsigned offset, unsigned size, uint64_t address) {
         uint64_t enables = enables_of(payload, offset, size);
-        if (enables == 0) return;
+        if (request.is_read && watch.judge->loads_whole()) {
+            for (unsigned i = 0, length; i < size; i += length + 1) {
+                for (length = 0; i + length < size && enables >> (i + length) & 1;) length++;
+                if (length > 0) begin_operation(payload, request, offset + i, length, address + i, ALL_BYTES);
+            }
+        } else if (enables != 0) {
+            begin_operation(payload, request, offset, size, address, enables);
+        }
+    }
+
+    void begin_operation(const Payload &payload, Request &request, unsigned offset, unsigned size, uint64_t address, uint64_t enables) {
         uint64_t id = watch.next_id++;
         const uint8_t *data = payload.get_data_ptr() + offset;
-        request.parts.push_back({id, offset});
-        if (request.is_read) tell(watch.judge.load(id, address, size, enables));
-        else tell(watch.judge.store(id, address, size, data, enables));
+        auto fault = request.is_read ? watch.judge->load(id, address, size, enables) : watch.judge->store(id, address, size, data, enables);
+        tell(fault);
+        if (!fault) request.parts.push_back({id, offset});
     }
 
     static uint64_t enables_of(const Payload &payload, unsigned offset, unsigned size) {
@@ -164,9 +387,9 @@ private:
         if (request.outside && ok) fail("an answer from outside of memory", request.address);
         for (const Part &part : request.parts) {
             if (request.is_read) {
-                tell(ok ? watch.judge.value(part.id, payload.get_data_ptr() + part.offset) : watch.judge.failed_load(part.id));
+                tell(ok ? watch.judge->value(part.id, payload.get_data_ptr() + part.offset) : watch.judge->failed_load(part.id));
             } else {
-                tell(ok ? watch.judge.stored(part.id) : watch.judge.failed_store(part.id));
+                tell(ok ? watch.judge->stored(part.id) : watch.judge->failed_store(part.id));
             }
         }
     }
@@ -182,15 +405,17 @@ private:
         end(payload, request);
     }
 
-    void tell(const Verdict &verdict) {
-        if (!verdict) report(verdict.text());
+    void tell(const PartJudge::Fault &fault) {
+        if (fault) report(*fault);
     }
 
-    void fail(const std::string &what, uint64_t address) {
-        char at[32];
-        snprintf(at, sizeof at, ", at 0x%llx", static_cast<unsigned long long>(address));
-        report(what + at);
+    static std::string at(uint64_t address) {
+        char text[32];
+        snprintf(text, sizeof text, ", at 0x%llx", static_cast<unsigned long long>(address));
+        return text;
     }
+
+    void fail(const std::string &what, uint64_t address) { report(what + at(address)); }
 
     void report(const std::string &text) {
         watch.error_count++;
@@ -200,7 +425,11 @@ private:
     // A simulation that stops may have stopped before an answer: a warning.
     void end_of_simulation() override {
         if (pending.empty()) return;
-        std::string text = std::to_string(pending.size()) + " transactions had no answer, in " + name();
+        const Request *oldest = &pending.begin()->second;
+        for (const auto &each : pending)
+            if (each.second.begun < oldest->begun) oldest = &each.second;
+        std::string text = std::to_string(pending.size()) + " transactions had no answer, the oldest of which began at " +
+                           oldest->begun.to_string() + at(oldest->address) + ", in " + name();
         SC_REPORT_WARNING("kroft", text.c_str());
     }
 

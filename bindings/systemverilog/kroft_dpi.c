@@ -5,118 +5,18 @@
  * for its value holds a tag of the library's judge for each of its words. Compile it with the simulation, and link
  * with libkroft. C99, and C++ for simulators that compile it so.
  */
-#include "kroft_dpi.h"
-
-#include "kroft.h"
-
-#include <stdio.h>
-#include <stdlib.h>
-#include <string.h>
+#include "kroft_parts.h"
 
 enum {
-    MAX_SIZE = 64,
-    WORD = 4,
-    MAX_WORDS = MAX_SIZE / WORD + 1, /* not aligned, 64 bytes lie in 17 words */
     PAGE_BYTES = 4096,
-    PAGE_WORDS = PAGE_BYTES / WORD,
-    TEXT_BYTES = 512
+    PAGE_WORDS = PAGE_BYTES / WORD
 };
-
-static void *must(void *memory) {
-    if (!memory) {
-        fputs("kroft: there is no more memory\n", stderr);
-        exit(2);
-    }
-    return memory;
-}
-
-/* ---- a map from 64-bit keys to pointers ---------------------------------------------------------- */
-
-typedef struct {
-    uint64_t key;
-    void *value; /* NULL: the place is free */
-} entry;
-
-/* A table whose places are a power of two, at most half of them taken. An entry stands at the place of its key or,
-   if that is taken, at one of those behind it, with none free between. */
-typedef struct {
-    entry *entries;
-    size_t places;
-    size_t count;
-} map;
-
-static size_t home_of(const map *m, uint64_t key) {
-    key *= UINT64_C(0x9e3779b97f4a7c15);
-    return (size_t)(key >> 32) & (m->places - 1);
-}
-
-/* The entry of a key, or the free place at which it would stand. */
-static entry *place_of(const map *m, uint64_t key) {
-    size_t at = home_of(m, key);
-    while (m->entries[at].value && m->entries[at].key != key) at = (at + 1) & (m->places - 1);
-    return &m->entries[at];
-}
-
-static void *map_get(const map *m, uint64_t key) { return m->places ? place_of(m, key)->value : NULL; }
-
-static void map_grow(map *m) {
-    map larger;
-    size_t at;
-    larger.places = m->places ? 2 * m->places : 64;
-    larger.count = m->count;
-    larger.entries = (entry *)must(calloc(larger.places, sizeof(entry)));
-    for (at = 0; at < m->places; at++)
-        if (m->entries[at].value) *place_of(&larger, m->entries[at].key) = m->entries[at];
-    free(m->entries);
-    *m = larger;
-}
-
-/* Puts in a key that isn't there. */
-static void map_put(map *m, uint64_t key, void *value) {
-    entry *place;
-    if (2 * (m->count + 1) > m->places) map_grow(m);
-    place = place_of(m, key);
-    place->key = key;
-    place->value = value;
-    m->count++;
-}
-
-/* Takes out a key; NULL if it isn't there. Entries behind it move up, so that each stays within reach of its place. */
-static void *map_take(map *m, uint64_t key) {
-    entry *found = m->places ? place_of(m, key) : NULL;
-    void *value = found ? found->value : NULL;
-    size_t hole, at, mask = m->places - 1;
-    if (!value) return NULL;
-    hole = (size_t)(found - m->entries);
-    for (at = (hole + 1) & mask; m->entries[at].value; at = (at + 1) & mask) {
-        size_t home = home_of(m, m->entries[at].key);
-        if (((at - home) & mask) < ((at - hole) & mask)) continue;
-        m->entries[hole] = m->entries[at];
-        hole = at;
-    }
-    m->entries[hole].value = NULL;
-    m->count--;
-    return value;
-}
-
-static void map_free(map *m) {
-    size_t at;
-    for (at = 0; at < m->places; at++) free(m->entries[at].value);
-    free(m->entries);
-}
 
 /* ---- the judge ----------------------------------------------------------------------------------- */
 
 typedef struct {
     kroft_word words[PAGE_WORDS];
 } page;
-
-typedef struct {
-    int is_store;
-    uint64_t id, address, enables;
-    int size;
-    uint32_t tags[MAX_WORDS]; /* of a load, one for each word that has an enabled byte */
-} access;
 
 /* The part of an access in one word. */
 typedef struct {
@@ -127,13 +27,13 @@ typedef struct {
 } part;
 
 typedef struct {
+    char text[TEXT_BYTES]; /* as a history's, it stands first */
     uint64_t first, last;
     map pages, loads, stores;
     kroft_due **tables; /* what the tags are owed: the low 16 bits of a tag are the library's, the others the table */
     uint32_t table_count, new_tag;
     uint32_t *free_tags;
     size_t free_count, free_places;
-    char text[TEXT_BYTES];
 } judge_state;
 
 static kroft_due *table_of(const judge_state *j, uint32_t tag) { return j->tables[tag / KROFT_TAGS]; }
@@ -188,69 +88,7 @@ static int parts_of(judge_state *j, const access *a, part *parts) {
     return count;
 }
 
-static uint8_t byte_of(const kroft_four_states *data, int i) { return (uint8_t)(data[i / 4].bits >> i % 4 * 8); }
-
-static int has_unknown(const kroft_four_states *data, const access *a) {
-    int i;
-    for (i = 0; i < a->size; i++)
-        if (a->enables >> i & 1 && (data[i / 4].unknown >> i % 4 * 8 & 255)) return 1;
-    return 0;
-}
-
-/* ---- what is said -------------------------------------------------------------------------------- */
-
-static const char *const REASONS[] = {
-    "right", "an access is of 1 to 64 bytes", "bytes outside of memory", "a store of no byte",
-    "the id still waits for its answer", "an answer that nobody waits for", "wrong data", "X or Z in the data",
-    "a store inside of memory failed", "not the library of this header"};
-
-static int say(judge_state *j, const access *a, int reason) {
-    int length = snprintf(j->text, TEXT_BYTES, "%s %llu", a->is_store ? "store" : "load", (unsigned long long)a->id);
-    if (reason != KROFT_SV_NOTHING_OWED)
-        length += snprintf(j->text + length, (size_t)(TEXT_BYTES - length), " of %d bytes at 0x%llx", a->size,
-                           (unsigned long long)a->address);
-    snprintf(j->text + length, (size_t)(TEXT_BYTES - length), ": %s", REASONS[reason]);
-    return reason;
-}
-
-/* The enabled bytes after a name; `--` is a byte that isn't enabled. 512 bytes have room for two times 64 of them. */
-static void say_bytes(judge_state *j, const access *a, const char *name, const uint8_t *bytes) {
-    size_t length = strlen(j->text);
-    int i;
-    length += (size_t)snprintf(j->text + length, TEXT_BYTES - length, "%s", name);
-    for (i = 0; i < a->size; i++, length += 2) {
-        if (a->enables >> i & 1) snprintf(j->text + length, TEXT_BYTES - length, "%02x", bytes[i]);
-        else snprintf(j->text + length, TEXT_BYTES - length, "--");
-    }
-}
-
-static int say_stray(judge_state *j, int is_store, uint64_t id) {
-    access a;
-    memset(&a, 0, sizeof a);
-    a.is_store = is_store;
-    a.id = id;
-    return say(j, &a, KROFT_SV_NOTHING_OWED);
-}
-
 /* ---- requests ------------------------------------------------------------------------------------ */
-
-static access request(int is_store, uint64_t id, uint64_t address, int size, uint64_t enables) {
-    access a;
-    memset(&a, 0, sizeof a);
-    a.is_store = is_store;
-    a.id = id;
-    a.address = address;
-    a.size = size;
-    a.enables = size >= 0 && size < MAX_SIZE ? enables & ((UINT64_C(1) << size) - 1) : enables;
-    return a;
-}
-
-static int fault_of(const judge_state *j, const access *a, const map *waiting) {
-    if (a->size < 1 || a->size > MAX_SIZE) return KROFT_SV_BAD_SIZE;
-    if (a->address < j->first || a->address > j->last || (uint64_t)a->size - 1 > j->last - a->address) return KROFT_SV_OUTSIDE;
-    if (a->is_store && !a->enables) return KROFT_SV_NO_BYTES;
-    return waiting && map_get(waiting, a->id) ? KROFT_SV_ID_IN_USE : KROFT_SV_RIGHT;
-}
 
 static void wait_for_answer(map *waiting, const access *a) {
     access *kept = (access *)must(malloc(sizeof *kept));
@@ -262,8 +100,8 @@ int kroft_sv_load(void *judge, unsigned long long id, unsigned long long address
     judge_state *j = (judge_state *)judge;
     access a = request(0, id, address, size, enables);
     part parts[MAX_WORDS];
-    int reason = fault_of(j, &a, &j->loads), count, i;
-    if (reason != KROFT_SV_RIGHT) return say(j, &a, reason);
+    int reason = fault_of(&a, j->first, j->last, &j->loads), count, i;
+    if (reason != KROFT_SV_RIGHT) return say(j->text, &a, reason);
     count = parts_of(j, &a, parts);
     for (i = 0; i < count; i++) {
         kroft_event event;
@@ -278,7 +116,7 @@ int kroft_sv_load(void *judge, unsigned long long id, unsigned long long address
         if (!step(j, parts[i].in, a.tags[i], &event, &answer)) reason = KROFT_SV_BROKEN_LIBRARY;
     }
     wait_for_answer(&j->loads, &a);
-    return say(j, &a, reason);
+    return say(j->text, &a, reason);
 }
 
 /* Writes the enabled bytes. An X is written as 1 and a Z as 0, once the caller said so. */
@@ -303,12 +141,12 @@ static int write_bytes(judge_state *j, const access *a, const kroft_four_states 
 }
 
 static int store(judge_state *j, const access *a, const kroft_four_states *data, map *waiting) {
-    int reason = fault_of(j, a, waiting);
-    if (reason != KROFT_SV_RIGHT) return say(j, a, reason);
+    int reason = fault_of(a, j->first, j->last, waiting);
+    if (reason != KROFT_SV_RIGHT) return say(j->text, a, reason);
     reason = write_bytes(j, a, data);
     if (waiting) wait_for_answer(waiting, a);
     if (reason == KROFT_SV_RIGHT && has_unknown(data, a)) reason = KROFT_SV_UNKNOWN_DATA;
-    return say(j, a, reason);
+    return say(j->text, a, reason);
 }
 
 int kroft_sv_store(void *judge, unsigned long long id, unsigned long long address, int size, const kroft_four_states *data,
@@ -359,7 +197,7 @@ static int end_load(judge_state *j, uint64_t id, const kroft_four_states *data) 
     part parts[MAX_WORDS];
     uint8_t owed[MAX_SIZE], got[MAX_SIZE];
     int reason = KROFT_SV_RIGHT, count, i, unknown;
-    if (!a) return say_stray(j, 0, id);
+    if (!a) return say_stray(j->text, 0, id);
     count = parts_of(j, a, parts);
     unknown = data && has_unknown(data, a);
     for (i = 0; i < count; i++) {
@@ -367,10 +205,10 @@ static int end_load(judge_state *j, uint64_t id, const kroft_four_states *data) 
         if (now > reason) reason = now;
     }
     if (unknown && reason == KROFT_SV_RIGHT) reason = KROFT_SV_UNKNOWN_DATA;
-    say(j, a, reason);
+    say(j->text, a, reason);
     if (reason == KROFT_SV_WRONG_DATA) {
-        say_bytes(j, a, ": owed ", owed);
-        say_bytes(j, a, ", got ", got);
+        say_bytes(j->text, a, ": owed ", owed);
+        say_bytes(j->text, a, ", got ", got);
     }
     free(a);
     return reason;
@@ -378,8 +216,8 @@ static int end_load(judge_state *j, uint64_t id, const kroft_four_states *data) 
 
 static int end_store(judge_state *j, uint64_t id, int reason) {
     access *a = (access *)map_take(&j->stores, id);
-    if (!a) return say_stray(j, 1, id);
-    say(j, a, reason);
+    if (!a) return say_stray(j->text, 1, id);
+    say(j->text, a, reason);
     free(a);
     return reason;
 }
@@ -424,22 +262,24 @@ int kroft_sv_unanswered(void *judge) {
     return (int)(j->loads.count + j->stores.count);
 }
 
-const char *kroft_sv_text(void *judge) { return ((const judge_state *)judge)->text; }
+const char *kroft_sv_text(void *judge) { return (const char *)judge; }
+
+/* ---- traffic --------------------------------------------------------------------------------------- */
 
 int kroft_sv_traffic(unsigned long long base, unsigned blocks, unsigned block_bytes, unsigned widest, unsigned sets,
                      unsigned conflicts, unsigned burst, unsigned requesters, unsigned apart, unsigned stores, unsigned partial,
                      unsigned long long seed, unsigned long long number, unsigned *requester, unsigned *size,
                      unsigned long long *turn, unsigned long long *address, unsigned long long *enables, uint32_t *data) {
     kroft_plan plan = {base, blocks, block_bytes, widest, sets, conflicts, burst, requesters, apart, stores, partial};
-    kroft_access access = {0, 0, 0, 0, 0};
+    kroft_access drawn = {0, 0, 0, 0, 0};
     uint8_t bytes[64] = {0};
-    int is_drawn = kroft_traffic(&plan, seed, number, &access, bytes, sizeof bytes) == KROFT_DRAWN;
+    int is_drawn = kroft_traffic(&plan, seed, number, &drawn, bytes, sizeof bytes) == KROFT_DRAWN;
     int i;
-    *requester = access.requester;
-    *size = access.length;
-    *turn = access.turn;
-    *address = access.address;
-    *enables = access.enables;
+    *requester = drawn.requester;
+    *size = drawn.length;
+    *turn = drawn.turn;
+    *address = drawn.address;
+    *enables = drawn.enables;
     for (i = 0; i < 16; i++)
         data[i] = bytes[4 * i] | (uint32_t)bytes[4 * i + 1] << 8 | (uint32_t)bytes[4 * i + 2] << 16 | (uint32_t)bytes[4 * i + 3] << 24;
     return is_drawn;

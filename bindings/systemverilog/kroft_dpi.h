@@ -26,7 +26,8 @@ enum {
     KROFT_SV_WRONG_DATA = 6,    /* a value that isn't the one that is owed                              */
     KROFT_SV_UNKNOWN_DATA = 7,  /* X or Z in a byte that is enabled                                     */
     KROFT_SV_FAILED = 8,        /* a store inside of memory that was answered with an error             */
-    KROFT_SV_BROKEN_LIBRARY = 9 /* the library refuses a step of flat memory: it isn't this header's    */
+    KROFT_SV_BROKEN_LIBRARY = 9, /* the library says what its header doesn't: it isn't the one         */
+    KROFT_SV_UNDECIDED = 10     /* no fault: by the atomic law there is no verdict                      */
 };
 
 /* A judge over the addresses `first` to `last`, both included, all bytes zero. It is given up by kroft_sv_close. A
@@ -54,8 +55,67 @@ int kroft_sv_failed_store(void *judge, unsigned long long id);
 /* How many accesses wait for their answers. */
 int kroft_sv_unanswered(void *judge);
 
-/* What the last call said, as one line. It stands until the next call. */
+/* What the last request or answer of a judge, or of a history, that wasn't right is said to be, as one line. It stands until
+   the next such. */
 const char *kroft_sv_text(void *judge);
+
+/* A history by a law, with nothing but its requests and responses, as kroft.h describes it: KROFT_REGULAR_LAW,
+   KROFT_FLAT_LAW or KROFT_ATOMIC_LAW, a unit of 1, 2, 4 or 8 bytes, or 0 for the largest that the law has, and
+   KROFT_ZEROS or KROFT_UNKNOWN beyond the image. Returns NULL if there is no such law, unit or rest. */
+void *kroft_sv_history_open(unsigned law, unsigned unit, unsigned rest);
+void kroft_sv_history_close(void *history);
+
+/* Puts at most 64 bytes behind the image that memory has from address 0 on. Returns 1; or 0, and nothing is put there:
+   there are more, or a request was told. */
+int kroft_sv_image(void *history, const kroft_four_states *data, int size);
+
+/* A load, or a store of the bytes that are enabled, is requested. `now` is the moment, as the caller counts it: it is
+   said of what is wrong later, unless it is 0. */
+int kroft_sv_load_request(void *history, unsigned long long id, unsigned long long address, int size, unsigned long long now);
+int kroft_sv_store_request(void *history, unsigned long long id, unsigned long long address, int size, const kroft_four_states *data,
+                           unsigned long long enables, unsigned long long now);
+
+/* It is answered, and its id is free again, whatever is said; but after KROFT_SV_UNDECIDED all is as it was before. By
+   the atomic law a load with a wrong answer or with none isn't looked at any more. */
+int kroft_sv_load_response(void *history, unsigned long long id, const kroft_four_states *data);
+int kroft_sv_store_response(void *history, unsigned long long id);
+
+/* It is answered with an error: a load is owed nothing any more, and of a store that is KROFT_SV_FAILED. */
+int kroft_sv_load_error(void *history, unsigned long long id);
+int kroft_sv_store_error(void *history, unsigned long long id);
+
+/* What the load that is open under an id may return for the byte at an address, if it is answered now: bit k of the 256
+   says it of byte k. Returns 1; or 0, and no bit is set: no such load asks for that byte, or there is no verdict. */
+int kroft_sv_may_return(void *history, unsigned long long id, unsigned long long address, uint32_t *set);
+
+/* Of the last answer that was KROFT_SV_WRONG_DATA: the place of the first wrong byte, or -1 if none was, and why it is wrong.
+   Returns one of the reasons of kroft.h: of KROFT_STORE_OVERWRITTEN both stores are told, of KROFT_FIRST_OVERWRITTEN the
+   second, by their ids and the moments of their requests; else these are 0. */
+int kroft_sv_why(void *history, int *place, unsigned long long *stored, unsigned long long *stored_at, unsigned long long *overwritten_by,
+                 unsigned long long *overwritten_at);
+
+/* Where the unit begins for whose sake an answer was KROFT_SV_UNDECIDED. Returns 1; or 0, and 0 is the address: no
+   answer was, since an event was taken last or a unit forgotten. */
+int kroft_sv_undecided(void *history, unsigned long long *address);
+
+/* Forgets the unit with this address. Returns 1; or 0: the law isn't the atomic one. */
+int kroft_sv_forget(void *history, unsigned long long address);
+
+/* How many operations are open, and the one at a place in the order of their requests: 0 is the first. Returns 1; or 0,
+   and all are 0: there are no more. */
+int kroft_sv_open_count(void *history);
+int kroft_sv_open_operation(void *history, int n, int *is_store, unsigned long long *id, unsigned long long *address, int *size,
+                            unsigned long long *now);
+
+/* What makes a history tell something, and how often it was seen. The numbers are those of kroft_history_point. */
+enum {
+    KROFT_SV_LOAD_BESIDE_STORE = 0,  /* a load and a store that are open at once, at one byte                 */
+    KROFT_SV_STORES_AT_ONCE = 1,     /* two stores that are open at once, at one byte                         */
+    KROFT_SV_PARTIAL_UNDER_LOAD = 2, /* a store that leaves out a byte of its own, to a byte of an open load  */
+    KROFT_SV_OVERTAKEN = 3,          /* an answer before that of an older request, at one byte                */
+    KROFT_SV_POINTS = 4
+};
+unsigned long long kroft_sv_seen(void *history, int point);
 
 /* The access of a number in the traffic of a plan and a seed, as kroft.h describes them: 64 bytes of data, byte 0 in the
    lowest bits. Returns 1; or 0, and all is 0, if one of the plan's numbers isn't as described. */

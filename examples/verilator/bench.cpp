@@ -1,7 +1,7 @@
-// Random requests to the cache, each answer judged in its cycle: `bench [CYCLES] [RECORD]`.
+// Random requests to the cache, each answer judged in its cycle: `bench [CYCLES [BUG [RECORD]]]`.
 //
 // What passes the cache's ports is given to the judge of libkroft step by step: a request with whether it
-// was accepted, and a response as a take of a value. With a second word the run is also recorded in the
+// was accepted, and a response as a take of a value. With a third word the run is also recorded in the
 // file of this name, a step a line, as `kroft check` reads it. With NO_JUDGE defined nothing is judged, to
 // measure what the judge costs. Behind the last request the cache has time for its answers. The status is 1 if an
 // answer is none of flat memory, or one never came.
@@ -139,8 +139,9 @@ uint32_t random_bits() {
 
 int main(int argc, char **argv) {
     uint64_t cycles = argc > 1 ? strtoull(argv[1], nullptr, 10) : 10000;
-    Judge judge(argc > 2 ? argv[2] : nullptr);
+    Judge judge(argc > 3 ? argv[3] : nullptr);
     Vcache cache;
+    cache.bug = static_cast<uint8_t>(argc > 2 ? strtoul(argv[2], nullptr, 10) : 0);
     auto tick = [&] {
         cache.clk = 1;
         cache.eval();

@@ -31,7 +31,7 @@ void a_load_beside_a_store() {
         check(history.open_loads().size() == 1 && history.open_loads()[0].address == 0x1000, "an open load");
         check(bool(history.load_response(1, right, 2)), "the right bytes");
         kroft::History moved(std::move(history));
-        check(bool(moved.store_response(1)) && moved.open_stores().empty(), "moved");
+        check(moved.law() == law && bool(moved.store_response(1)) && moved.open_stores().empty(), "moved");
         bool threw = false;
         try {
             history.load_request(1, 0, 1);
@@ -189,13 +189,13 @@ int main() {
     undecided();
     for (unsigned seed = 0; seed < 5; seed++) {
         for (kroft::Law law : {kroft::Law::Regular, kroft::Law::Atomic})
-            check(copies_until_blame(5000, law, false, seed) == 5000, "copies that change at once are not blamed");
-        check(copies_until_blame(5000, kroft::Law::Regular, true, seed) == 5000, "the regular law lets new then old pass");
-        check(copies_until_blame(5000, kroft::Law::Atomic, true, seed) < 1000, "the atomic law blames it soon");
+            check(copies_until_blame(2000, law, false, seed) == 2000, "copies that change at once are not blamed");
+        check(copies_until_blame(2000, kroft::Law::Regular, true, seed) == 2000, "the regular law lets new then old pass");
+        check(copies_until_blame(2000, kroft::Law::Atomic, true, seed) < 1000, "the atomic law blames it soon");
     }
     for (unsigned seed = 0; seed < 5; seed++) {
-        check(accesses_until_blame(20000, false, seed) == 20000, "a right memory is not blamed");
-        check(accesses_until_blame(20000, true, seed) < 2000, "a wrong memory is blamed soon");
+        check(accesses_until_blame(8000, false, seed) == 8000, "a right memory is not blamed");
+        check(accesses_until_blame(8000, true, seed) < 2000, "a wrong memory is blamed soon");
     }
     std::printf("history: %d failed\n", failures);
     return failures != 0;

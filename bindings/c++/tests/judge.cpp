@@ -121,15 +121,15 @@ void many_owed() {
     }
 }
 
-// A judge that is asked for long takes no more memory: 4,800,000 words, of which each would leave 8 bytes.
+// A judge that is asked for long takes no more memory: 2,400,000 words, of which each would leave 8 bytes.
 void memory_stays() {
     kroft::FlatJudge judge;
     const uint8_t zeros[64] = {};
     rusage before{}, after{};
     getrusage(RUSAGE_SELF, &before);
-    for (unsigned i = 0; i < 300000; i++) EXPECT(bool(judge.load(i, 0x40, 64)) && bool(judge.value(i, zeros)));
+    for (unsigned i = 0; i < 150000; i++) EXPECT(bool(judge.load(i, 0x40, 64)) && bool(judge.value(i, zeros)));
     getrusage(RUSAGE_SELF, &after);
-    EXPECT(after.ru_maxrss - before.ru_maxrss < 16000); // KiB
+    EXPECT(after.ru_maxrss - before.ru_maxrss < 10000); // KiB
 }
 
 struct Run {

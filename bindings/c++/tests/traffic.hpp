@@ -1,6 +1,6 @@
 // Random requests from a seed, of the kind that finds bugs in caches: most go to a few lines that share sets,
 // in bursts, so that bytes of one word are loaded and stored by turns. Half of them are the library's traffic, and
-// the others may begin at any byte, and run over the end of a line.
+// the others may begin at any byte, and run over the end of a line. Of a plan that is given, all are the library's.
 #pragma once
 
 #include "../kroft.hpp"
@@ -12,16 +12,19 @@ namespace replay {
 
 class Traffic {
 public:
-    explicit Traffic(uint64_t seed) : random(seed), planned(PLAN, seed) {}
+    static constexpr uint64_t BASE = 0xffff'8000'0000'1000;
 
-    Request next() { return ++count / 16 % 2 ? by_plan() : anywhere(); }
+    explicit Traffic(uint64_t seed) : random(seed), planned(PLAN, seed) {}
+    Traffic(uint64_t seed, const kroft_plan &plan) : random(seed), planned(plan, seed), is_mixed(false) {}
+
+    Request next() { return ++count / 16 % 2 || !is_mixed ? by_plan() : anywhere(); }
 
 private:
-    static constexpr uint64_t BASE = 0xffff'8000'0000'1000;
     // (three lines for each of eight sets)
     static constexpr kroft_plan PLAN = {BASE, 24, 64, 64, 8, 64, 4, 4, 0, 128, 96};
     std::mt19937_64 random;
     kroft::Traffic planned;
+    bool is_mixed = true;
     uint64_t near = BASE, count = 0;
 
     uint64_t id() const { return (uint64_t{0xfeed} << 48) + count; }

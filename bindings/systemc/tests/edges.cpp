@@ -1,5 +1,6 @@
 // What a monitor makes of transactions that are long, streamed, outside of memory, failed, or not as they
-// should be: each with the number of errors that it has to be. The status is 0 only if all is so.
+// should be: each with the number of errors that it has to be, whether flat memory judges it or a history. The status is
+// 0 only if all is so.
 #include "../kroft_tlm.hpp"
 
 #include <cstring>
@@ -63,13 +64,13 @@ struct Memory : sc_core::sc_module {
 
 struct Bench : sc_core::sc_module {
     tlm_utils::simple_initiator_socket<Bench> socket{"socket"};
-    kroft::Watch watch{{0, 4095}};
+    kroft::Watch watch;
     kroft::Monitor<> monitor{"monitor", watch};
     Memory memory{"memory"};
     uint8_t data[300] = {};
     int wrong = 0;
 
-    explicit Bench(sc_core::sc_module_name name) : sc_module(name) {
+    Bench(sc_core::sc_module_name name, kroft::Watch watch) : sc_module(name), watch(std::move(watch)) {
         socket.bind(monitor.in);
         monitor.out.bind(memory.socket);
         socket.register_nb_transport_bw(this, &Bench::nb_transport_bw);
@@ -121,6 +122,24 @@ struct Bench : sc_core::sc_module {
         check(__LINE__, watch.unanswered().empty());
     }
 
+    // A read that doesn't ask for all of its bytes: those that it asks for are judged, and no other.
+    void enables() {
+        uint8_t some[] = {TLM_BYTE_ENABLED, TLM_BYTE_ENABLED, TLM_BYTE_DISABLED, TLM_BYTE_ENABLED, TLM_BYTE_DISABLED};
+        for (bool last : {false, true}) {
+            uint64_t before = watch.errors();
+            tlm_generic_payload payload;
+            sc_core::sc_time delay;
+            shape(payload, false, 0x108, 5, 5);
+            some[4] = last ? TLM_BYTE_ENABLED : TLM_BYTE_DISABLED;
+            payload.set_byte_enable_ptr(some);
+            payload.set_byte_enable_length(5);
+            memory.corrupts = true; // the last byte
+            socket->b_transport(payload, delay);
+            memory.corrupts = false;
+            check(__LINE__, watch.errors() - before == last);
+        }
+    }
+
     void debug() {
         tlm_generic_payload payload;
         tlm::tlm_dmi dmi;
@@ -136,8 +155,8 @@ struct Bench : sc_core::sc_module {
         socket->nb_transport_fw(payload, phase, delay);
     }
 
-    // Answers in another order than the requests; one that comes twice; a request that is repeated before its
-    // answer; and one that gets none.
+    // Answers in another order than the requests; one that comes twice; and a request that is repeated before its
+    // answer.
     void non_blocking() {
         uint64_t before = watch.errors();
         uint8_t first[8] = {}, second[8] = {};
@@ -159,23 +178,71 @@ struct Bench : sc_core::sc_module {
         check(__LINE__, watch.errors() == before + 2 && monitor.open() == 1);
         memory.answer(0);
         check(__LINE__, watch.errors() == before + 2 && monitor.open() == 0);
-        begin(b);
     }
+
+    // By the atomic law: what stood at a byte while a load is open, and eight stores to it that may have any order, are
+    // too many ways. The answer is judged once the unit is forgotten.
+    void undecided() {
+        uint64_t before = watch.errors();
+        int warnings = sc_core::sc_report_handler::get_count(sc_core::SC_WARNING);
+        uint8_t load_data[1] = {}, bytes[8] = {1, 2, 3, 4, 5, 6, 7, 8};
+        tlm_generic_payload load, stores[8];
+        memory.held.clear();
+        shape(load, false, 0x43, 1, 1);
+        load.set_data_ptr(load_data);
+        begin(load);
+        for (int i = 0; i < 2000; i++) {
+            data[0] = uint8_t(100 + i % 100);
+            expect(__LINE__, 0, true, 0x43, 1, 1);
+        }
+        for (int i = 0; i < 8; i++) {
+            shape(stores[i], true, 0x43, 1, 1);
+            stores[i].set_data_ptr(bytes + i);
+            begin(stores[i]);
+        }
+        for (size_t i = 9; i-- > 0;) memory.answer(i);
+        check(__LINE__, watch.errors() == before && watch.unanswered().empty());
+        check(__LINE__, sc_core::sc_report_handler::get_count(sc_core::SC_WARNING) == warnings + 1);
+        expect(__LINE__, 0, false, 0x48, 8, 8);
+        memory.corrupts = true;
+        expect(__LINE__, 0, false, 0x43, 1, 1); // nothing is known there any more
+        expect(__LINE__, 1, false, 0x48, 8, 8);
+        memory.corrupts = false;
+    }
+
+    // One that gets no answer.
+    void no_answer() {
+        shape(lost, false, 0x44, 8, 8);
+        lost.set_data_ptr(data);
+        begin(lost);
+        check(__LINE__, watch.unanswered().size() == 1 && watch.unanswered()[0].address == 0x44 && watch.unanswered()[0].size == 8);
+    }
+
+    tlm_generic_payload lost;
 };
 
 } // namespace
 
 int sc_main(int, char **) {
-    Bench bench("bench");
+    const kroft::Range range{0, 4095};
+    Bench flat("flat", kroft::Watch(range)), regular("regular", kroft::Watch(kroft::History(), range));
+    Bench atomic("atomic", kroft::Watch(kroft::History(kroft::Law::Atomic), range));
+    Bench *const benches[] = {&flat, &regular, &atomic};
     sc_core::sc_report_handler::set_actions(sc_core::SC_ERROR, sc_core::SC_DO_NOTHING);
     sc_core::sc_report_handler::set_actions(sc_core::SC_WARNING, sc_core::SC_DO_NOTHING);
     sc_core::sc_start(sc_core::SC_ZERO_TIME);
-    bench.blocking();
-    bench.debug();
-    bench.non_blocking();
+    for (Bench *bench : benches) {
+        bench->blocking();
+        bench->enables();
+        bench->debug();
+        bench->non_blocking();
+    }
+    atomic.undecided();
+    int warnings = sc_core::sc_report_handler::get_count(sc_core::SC_WARNING), wrong = 0;
+    for (Bench *bench : benches) bench->no_answer();
     sc_core::sc_stop();
-    int warnings = sc_core::sc_report_handler::get_count(sc_core::SC_WARNING);
-    bench.check(__LINE__, warnings == 1); // the transactions without an answer
-    printf(bench.wrong ? "%d wrong\n" : "all right\n", bench.wrong);
-    return bench.wrong != 0;
+    flat.check(__LINE__, sc_core::sc_report_handler::get_count(sc_core::SC_WARNING) == warnings + 3); // of the transactions without an answer
+    for (const Bench *bench : benches) wrong += bench->wrong;
+    printf(wrong ? "%d wrong\n" : "all right\n", wrong);
+    return wrong != 0;
 }

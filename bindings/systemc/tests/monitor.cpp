@@ -1,8 +1,11 @@
-// The monitor before a cache: `monitor STYLE BUG [TRANSACTIONS [SEED]]`.
+// The monitor before a design: `monitor STYLE LAW BUG [TRANSACTIONS [SEED]]`.
 //
 // STYLE is `nb`: one initiator of nb_transport with many transactions on their way, answered in any order; or
-// `b`: eight initiators of b_transport. BUG is a number of replay::Bug. The status is 0 if nothing was wrong, 3
-// if something was, and 1 if the run wasn't as it should be.
+// `b`: eight initiators of b_transport. LAW is `flat`, and then the design is a cache, and BUG a number of replay::Bug;
+// or `regular` or `atomic`, and then it is a memory in which nobody sees when a transaction takes effect, and BUG a
+// number of replay::HiddenBug. The status is 0 if nothing was wrong, 3 if something was, and 1 if the run wasn't as it
+// should be.
+#include "../../c++/tests/hidden_memory.hpp"
 #include "../../c++/tests/traffic.hpp"
 #include "../kroft_tlm.hpp"
 
@@ -16,20 +19,30 @@ namespace {
 using tlm::tlm_generic_payload;
 const sc_core::sc_time CYCLE(1, sc_core::SC_NS);
 
-// The cache behind a socket: it takes requests in the order in which they come, and answers as its own answers do.
-struct CacheTarget : sc_core::sc_module {
-    tlm_utils::simple_target_socket<CacheTarget> socket{"socket"};
-    SC_HAS_PROCESS(CacheTarget);
+// What a design does in a cycle.
+struct Design {
+    std::function<bool(const replay::Request &)> accept;
+    std::function<std::optional<replay::Answer>()> tick;
 
-    CacheTarget(sc_core::sc_module_name name, replay::Bug bug) : sc_module(name), cache(bug) {
-        socket.register_b_transport(this, &CacheTarget::b_transport);
-        socket.register_nb_transport_fw(this, &CacheTarget::nb_transport_fw);
+    template <class Memory> static Design of(Memory &memory) {
+        return {[&](const replay::Request &request) { return memory.accept(request); }, [&] { return memory.tick(); }};
+    }
+};
+
+// The design behind a socket: it takes requests in the order in which they come, and answers as its own answers do.
+struct Target : sc_core::sc_module {
+    tlm_utils::simple_target_socket<Target> socket{"socket"};
+    SC_HAS_PROCESS(Target);
+
+    Target(sc_core::sc_module_name name, Design design) : sc_module(name), design(std::move(design)) {
+        socket.register_b_transport(this, &Target::b_transport);
+        socket.register_nb_transport_fw(this, &Target::nb_transport_fw);
         SC_THREAD(run);
     }
 
-    replay::Cache cache;
-
 private:
+    Design design;
+
     struct Entry {
         tlm_generic_payload *payload;
         sc_core::sc_event *done; // of b_transport; else the answer goes back by nb_transport_bw
@@ -70,8 +83,8 @@ private:
     void run() {
         for (;;) {
             wait(CYCLE);
-            if (!waiting.empty() && cache.accept(waiting.front())) waiting.pop_front();
-            if (auto answer = cache.tick()) give(*answer);
+            if (!waiting.empty() && design.accept(waiting.front())) waiting.pop_front();
+            if (auto answer = design.tick()) give(*answer);
         }
     }
 
@@ -131,8 +144,8 @@ struct Initiator : sc_core::sc_module {
     uint64_t begun = 0, ended = 0;
     SC_HAS_PROCESS(Initiator);
 
-    Initiator(sc_core::sc_module_name name, bool blocking, uint64_t count, uint64_t seed)
-        : sc_module(name), traffic(seed), count(count), transactions(24) {
+    Initiator(sc_core::sc_module_name name, bool blocking, uint64_t count, replay::Traffic traffic, size_t at_once)
+        : sc_module(name), traffic(std::move(traffic)), count(count), transactions(at_once) {
         socket.register_nb_transport_bw(this, &Initiator::nb_transport_bw);
         if (blocking) {
             for (unsigned i = 0; i < 8; i++) sc_core::sc_spawn([this, i] { run_blocking(transactions[i]); });
@@ -181,26 +194,34 @@ private:
 } // namespace
 
 int sc_main(int argc, char **argv) {
-    bool blocking = argc > 1 && !strcmp(argv[1], "b");
-    replay::Bug bug = replay::Bug(argc > 2 ? atoi(argv[2]) : 0);
-    uint64_t count = argc > 3 ? strtoull(argv[3], nullptr, 10) : 100000;
-    uint64_t seed = argc > 4 ? strtoull(argv[4], nullptr, 10) : 1;
-    Initiator initiator("initiator", blocking, count, seed);
-    kroft::Watch watch;
+    if (argc < 4) return 1;
+    bool blocking = !strcmp(argv[1], "b"), flat = !strcmp(argv[2], "flat");
+    int bug = atoi(argv[3]);
+    uint64_t count = argc > 4 ? strtoull(argv[4], nullptr, 10) : 100000;
+    uint64_t seed = argc > 5 ? strtoull(argv[5], nullptr, 10) : 1;
+    // (few lines, that transactions meet often, and a judge of the atomic law that isn't asked for too many orders)
+    const kroft_plan few_lines = {replay::Traffic::BASE, 2, 64, 16, 2, 0, 8, 2, 0, 128, 96};
+    Initiator initiator("initiator", blocking, count, flat ? replay::Traffic(seed) : replay::Traffic(seed, few_lines), flat ? 24 : 8);
+    kroft::Law law = !strcmp(argv[2], "atomic") ? kroft::Law::Atomic : kroft::Law::Regular;
+    kroft::Watch watch = flat ? kroft::Watch() : kroft::Watch(kroft::History(law));
     kroft::Monitor<> monitor("monitor", watch);
-    CacheTarget target("target", bug);
+    replay::Cache cache{replay::Bug(bug)};
+    replay::HiddenMemory memory{replay::HiddenBug(bug)};
+    Target target("target", flat ? Design::of(cache) : Design::of(memory));
     initiator.socket.bind(monitor.in);
     monitor.out.bind(target.socket);
     sc_core::sc_report_handler::set_actions(sc_core::SC_ERROR, sc_core::SC_DISPLAY | sc_core::SC_STOP);
 
     clock_t began = clock();
     while (initiator.ended < count && watch.errors() == 0 && sc_core::sc_time_stamp() < 40 * count * CYCLE) sc_core::sc_start(1000 * CYCLE);
+    if (watch.errors() == 0) sc_core::sc_stop(); // an error has stopped it
     double seconds = double(clock() - began) / CLOCKS_PER_SEC;
     size_t unanswered = watch.unanswered().size();
-    printf("%s, bug %d: %llu transactions, %llu wrong, %zu unanswered, %.1f s of processor time\n", argv[1], int(bug),
+    printf("%s, %s, bug %d: %llu transactions, %llu wrong, %zu unanswered, %.1f s of processor time\n", argv[1], argv[2], bug,
            (unsigned long long)initiator.begun, (unsigned long long)watch.errors(), unanswered, seconds);
     if (watch.errors() > 0 || unanswered > 0) return 3;
     bool fast = seconds < double(count) * 60 / 1000000; // a million a minute
-    bool busy = target.cache.hits_under_miss > count / 20 && target.cache.secondary_misses > count / 50;
+    bool busy = flat ? cache.hits_under_miss > count / 20 && cache.secondary_misses > count / 50
+                     : memory.beside > count / 2 && memory.passed > count / 5;
     return initiator.ended == count && watch.accesses() > count * 9 / 10 && fast && busy ? 0 : 1;
 }

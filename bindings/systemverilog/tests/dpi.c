@@ -143,7 +143,7 @@ static void many_owed(void) {
     kroft_sv_close(judge);
 }
 
-/* A judge that is asked for long takes no more memory: 4,800,000 words, of which each would leave 8 bytes. */
+/* A judge that is asked for long takes no more memory: 2,400,000 words, of which each would leave 8 bytes. */
 static void memory_stays(void) {
     void *judge = kroft_sv_open(0, ~0ULL);
     kroft_four_states data[16];
@@ -151,12 +151,12 @@ static void memory_stays(void) {
     int i;
     memset(data, 0, sizeof data);
     getrusage(RUSAGE_SELF, &before);
-    for (i = 0; i < 300000; i++) {
+    for (i = 0; i < 150000; i++) {
         expect(__LINE__, judge, kroft_sv_load(judge, 1, 64, 64, ~0ULL), KROFT_SV_RIGHT);
         expect(__LINE__, judge, kroft_sv_value(judge, 1, data), KROFT_SV_RIGHT);
     }
     getrusage(RUSAGE_SELF, &after);
-    expect(__LINE__, judge, after.ru_maxrss - before.ru_maxrss < 16000, 1); /* KiB */
+    expect(__LINE__, judge, after.ru_maxrss - before.ru_maxrss < 10000, 1); /* KiB */
     kroft_sv_close(judge);
 }
 
@@ -188,7 +188,7 @@ int main(void) {
     long n;
     memory_stays();
     traffic();
-    for (n = 0; n < 1000000; n++) {
+    for (n = 0; n < 300000; n++) {
         if (random_bits() & 1) request(judge);
         else answer(judge);
         if (n % 1000 == 0) expect(__LINE__, judge, kroft_sv_unanswered(judge), count_open());

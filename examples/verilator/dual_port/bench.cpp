@@ -1,13 +1,15 @@
-// Random loads and stores at both ports of memory.v, with each request and each response told to a history of the regular
-// law in its cycle. The first that isn't lawful ends the run, and so does a request without an answer at its end: status 1.
+// Random loads and stores at both ports of memory.v, with each request and each response told to a history in its cycle, by
+// the regular law or, in units of a word, the atomic law. The first that isn't lawful ends the run, and so does a request
+// without an answer at its end: status 1.
 //
-//     bench CYCLES [SEED]
+//     bench [CYCLES [BUG [regular|atomic [SEED]]]]
 #include "Vmemory.h"
 #include "kroft.hpp"
 
 #include <array>
 #include <cstdio>
 #include <cstdlib>
+#include <cstring>
 #include <random>
 
 namespace {
@@ -24,7 +26,10 @@ struct Request {
 
 class Bench {
 public:
-    Bench(uint64_t cycles, uint64_t seed) : cycles(cycles), random(seed) {}
+    Bench(uint64_t cycles, unsigned bug, kroft::Law law, uint64_t seed)
+        : cycles(cycles), random(seed), history(law, {}, kroft::Beyond::Zeros, law == kroft::Law::Atomic ? 4 : 1) {
+        memory.bug = static_cast<uint8_t>(bug);
+    }
 
     bool goes_well() {
         reset();
@@ -155,6 +160,8 @@ private:
 
 int main(int argc, char **argv) {
     uint64_t cycles = argc > 1 ? std::strtoull(argv[1], nullptr, 10) : 100000;
-    uint64_t seed = argc > 2 ? std::strtoull(argv[2], nullptr, 10) : 1;
-    return Bench(cycles, seed).goes_well() ? 0 : 1;
+    unsigned bug = argc > 2 ? static_cast<unsigned>(std::strtoul(argv[2], nullptr, 10)) : 0;
+    kroft::Law law = argc > 3 && std::strcmp(argv[3], "atomic") == 0 ? kroft::Law::Atomic : kroft::Law::Regular;
+    uint64_t seed = argc > 4 ? std::strtoull(argv[4], nullptr, 10) : 1;
+    return Bench(cycles, bug, law, seed).goes_well() ? 0 : 1;
 }
