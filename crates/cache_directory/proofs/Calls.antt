@@ -12,6 +12,9 @@ use Rattle.cache_directory.proofs.Misses.{MayInstall}
 use Rattle.cache_directory.proofs.Choices.{look_in_set, chosen-all_pending}
 use Rattle.cache_directory.proofs.Whole.{held_there, slot_in, order_short, order_there, whole-filled, whole-written, whole-settled, whole-installed, whole-released}
 
+pub whole_inside : (ways words : ℕ) (d v : Frames) → d ≡ v → IsWhole ways words v → IsWhole ways words d
+whole_inside ways words d v e h = rw e h
+
 -- the frame that an index gives
 frame_read : (d : Frames) (f : ℕ) (x : Frame) → is_held d f ≡ true → x ≡ get_or d.frames f x → x ≡ frame_at d.frames f
 frame_read d f x held e = e ∙ get_or_default d.frames f x empty_frame (held_there d f held)

@@ -21,6 +21,17 @@ held_there d f h = go (cases_lt f (length d.frames))
         let e : frame_at d.frames f ≡ empty_frame = get_or_past d.frames f empty_frame l in
         absurd (false≢true (sym (ap (λ (x : Frame). is_some x.block) e) ∙ h))
 
+-- a frame that has a word holds a block
+pub cells_held : (ways words : ℕ) (d : Frames) (f i : ℕ) → IsWhole ways words d
+    → i < length (frame_at d.frames f).cells → is_held d f ≡ true
+cells_held ways words d f i h l = go (frame_at d.frames f).block refl
+  where
+    go : (o : Option ℕ) → (frame_at d.frames f).block ≡ o → is_held d f ≡ true
+    go (Some b) e = ap is_some e
+    go None e =
+        let none : length (frame_at d.frames f).cells ≡ 0 = ap (λ (x : Frame). length x.cells) (h.empty f e) in
+        absurd (omega arith)
+
 -- a frame is there where its set is
 pub slot_in : (f ways sets n : ℕ) → n ≡ sets * ways → 0 < ways → f < n → f / ways < sets
 slot_in f ways sets n e w h = grind (arith, rows)

@@ -80,6 +80,11 @@ pub record IsWhole (ways words : ℕ) (d : Frames) : Type 0 where
   pub alone : (f g block : ℕ) → (frame_at d.frames f).block ≡ Some block → (frame_at d.frames g).block ≡ Some block → f ≡ g
   pub ordered : (set f : ℕ) → times_in (order_of d set) f ≡ (if is_held d f && (f / ways == set) then 1 else 0)
 
+-- the same, however many words a block has: what a call needs that counts ways alone
+pub record IsWholeFor (ways : ℕ) (d : Frames) : Type 0 where
+  pub words : ℕ
+  pub whole : IsWhole ways words d
+
 -- ---- a new directory
 
 -- the first number that is out of its range

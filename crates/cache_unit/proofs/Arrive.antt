@@ -16,7 +16,8 @@ use Rattle.cache_unit.specs.declared.Reply.{Reply}
 use Rattle.write_queue.specs.declared.Queued.{Queued}
 use Rattle.input_stack.specs.Stack.{stack_word}
 use Rattle.write_queue.specs.Queue.{Queue}
-use Rattle.cache_unit.specs.State.{Sizes, UnitState, Field, Register, Cache}
+use Rattle.cache_unit.specs.declared.Sizes.{Sizes}
+use Rattle.cache_unit.specs.State.{UnitState, Field, Register, Cache}
 use Rattle.cache_unit.specs.Causes.{is_stray, arrive_cause}
 use Rattle.flat_model.specs.declared.Cause.TheVariants.{StrayWord, StackFull}
 use Rattle.flat_model.specs.declared.Answer.TheVariants.{Refused}

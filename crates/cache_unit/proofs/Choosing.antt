@@ -17,7 +17,8 @@ use Rattle.cache_directory.specs.Frames as dir
 use Rattle.cache_directory.proofs.Whole.{order_held}
 use Rattle.miss_registers.specs.Registers as regs
 use Rattle.cache_unit.specs.declared.Reply.{Reply}
-use Rattle.cache_unit.specs.State.{Sizes, Frame, Register, frame_at, free_slot, is_pending, is_pending_block}
+use Rattle.cache_unit.specs.declared.Sizes.{Sizes}
+use Rattle.cache_unit.specs.State.{Frame, Register, frame_at, free_slot, is_pending, is_pending_block}
 use Rattle.cache_unit.specs.Causes.{first_cause, is_resident_block, ways_of, order_of, choose, lacks_room, lacks_places}
 use Rattle.cache_unit.specs.Shown.{as_register, as_cache}
 use Rattle.cache_unit.specs.Sound.{IsSound}

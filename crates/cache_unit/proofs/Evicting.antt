@@ -2,10 +2,12 @@
 use Rattle.std.proofs.Common.{◌≡◌, ℕ, ◌+◌, ◌*◌, ◌<◌, ◌≤◌, nat_lt, true, false, Some, None, [], refl, sym, arith, subst}
 use Rattle.std.proofs.lemmas.Bool.Decides.{nat_tests}
 use Rattle.std.proofs.Math.Nat.{mul-le-mul_left}
+use Rattle.flat_model.specs.declared.limits.TheConstants.{MAX_BLOCK_WORDS}
 use Rattle.flat_model.specs.declared.Cause.{Cause}
 use Rattle.flat_model.specs.declared.Cause.TheVariants.{OutOfRange, NotPresent, QueueFull}
 use Rattle.flat_model.specs.declared.Answer.TheVariants.{Accepted, Refused}
-use Rattle.cache_unit.specs.State.{Sizes, UnitState, Cache, frame_of}
+use Rattle.cache_unit.specs.declared.Sizes.{Sizes}
+use Rattle.cache_unit.specs.State.{UnitState, Cache, frame_of}
 use Rattle.cache_unit.specs.Causes.{evict_cause, lacks_places}
 use Rattle.cache_unit.specs.Steps.{Stepped, evict_step, evicted}
 
@@ -13,7 +15,7 @@ use Rattle.cache_unit.specs.Steps.{Stepped, evict_step, evicted}
 abbrev pub refused : Cause → Cache → Stepped
 refused cause c = record { answer = Refused cause; cache = c; sent = [] }
 
-pub product_fits : (a b : ℕ) → a < 4294967296 → b ≤ 16 → a * b < 18446744073709551616
+pub product_fits : (a b : ℕ) → a < 4294967296 → b ≤ MAX_BLOCK_WORDS → a * b < 18446744073709551616
 product_fits a b p q = omega (arith, mul-le-mul_left a q)
 
 below : (a b : ℕ) → a < b → nat_lt (a + 0) b ≡ true

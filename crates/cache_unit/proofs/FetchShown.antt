@@ -7,7 +7,8 @@ use Rattle.write_queue.specs.declared.Queued.{Queued}
 use Rattle.cache_directory.specs.Frames as dir
 use Rattle.miss_registers.specs.Registers as regs
 use Rattle.cache_unit.specs.declared.Reply.{Reply}
-use Rattle.cache_unit.specs.State.{Sizes, Frame, Field, Register, empty_frame, is_present, free_slot}
+use Rattle.cache_unit.specs.declared.Sizes.{Sizes}
+use Rattle.cache_unit.specs.State.{Frame, Field, Register, empty_frame, is_present, free_slot}
 use Rattle.cache_unit.specs.Causes.{choose, order_of, dirty_from, dirty_of_block, dirty_words}
 use Rattle.cache_unit.specs.Steps.{without, released, fresh_frame, fresh_register, installed, missed, fetched}
 use Rattle.cache_unit.specs.Shown.{as_frame, as_field, as_register, as_cache}

@@ -10,7 +10,8 @@ use Rattle.std.proofs.lemmas.List.{set-set}
 use Rattle.flat_model.specs.Places.{place_of}
 use Rattle.flat_model.proofs.Places.{place_of-passes}
 use Rattle.write_queue.specs.declared.Queued.{Queued}
-use Rattle.cache_unit.specs.State.{Sizes, Frame, Register, Cache, empty_frame, free_register, frame_at, frame_of, is_present, register_at}
+use Rattle.cache_unit.specs.declared.Sizes.{Sizes}
+use Rattle.cache_unit.specs.State.{Frame, Register, Cache, empty_frame, free_register, frame_at, frame_of, is_present, register_at}
 use Rattle.cache_unit.specs.State.{is_live, live_for, is_pending, is_pending_block, free_slot}
 use Rattle.cache_unit.specs.Causes.{choose, ways_of, order_of, is_resident_block, dirty_words}
 use Rattle.cache_unit.specs.Steps.{fresh_frame, fresh_register, released, installed, missed, reads, fetched, fetches}

@@ -16,7 +16,8 @@ use Rattle.input_stack.specs.Stack.{stack_word}
 use Rattle.write_queue.specs.declared.Queued.{Queued}
 use Rattle.memory_banks.specs.declared.Command.TheVariants.{Write}
 use Rattle.cache_unit.specs.declared.Reply.{Reply}
-use Rattle.cache_unit.specs.State.{Sizes, Target, Cache, field_at, live_for, frame_of, targets, cell_of, block_of, place_in}
+use Rattle.cache_unit.specs.declared.Sizes.{Sizes}
+use Rattle.cache_unit.specs.State.{Target, Cache, field_at, live_for, frame_of, targets, cell_of, block_of, place_in}
 use Rattle.cache_unit.specs.Causes.{arrive_cause}
 use Rattle.cache_unit.specs.Steps.{Stepped, unless, moved, drain_first, arrived, arrive_step, take_reply, take_step}
 use Rattle.cache_unit.specs.Forms.{Byte, Asked, Form, bytes_of, missing_form, coming_form, over_form, form_in, form, target_form, owed}

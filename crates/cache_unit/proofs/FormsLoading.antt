@@ -8,7 +8,8 @@ use Rattle.flat_model.proofs.Lanewise.{byte-merged, all_from_all}
 use Rattle.input_stack.specs.Stack.{stack_word}
 use Rattle.miss_registers.specs.declared.Owed.{Owed}
 use Rattle.cache_unit.specs.declared.Reply.{Reply}
-use Rattle.cache_unit.specs.State.{Sizes, Field, Register, Target, Cache, frame_of, register_at, field_at, live_for, cell_in, cell_of}
+use Rattle.cache_unit.specs.declared.Sizes.{Sizes}
+use Rattle.cache_unit.specs.State.{Field, Register, Target, Cache, frame_of, register_at, field_at, live_for, cell_in, cell_of}
 use Rattle.cache_unit.specs.State.{targets, tags, targets_of_field, with_field, block_of, place_in}
 use Rattle.cache_unit.specs.Causes.{Found, Here, found_missing, found_in, found}
 use Rattle.cache_unit.specs.Steps.{replied, awaited, loaded}

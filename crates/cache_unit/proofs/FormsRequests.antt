@@ -12,7 +12,8 @@ use Rattle.memory_banks.specs.declared.Command.{Command}
 use Rattle.cache_unit.specs.declared.Reply.{Reply}
 use Rattle.cache_unit.specs.declared.Request.{Request}
 use Rattle.cache_unit.specs.declared.Request.TheVariants.{Load, Store, Prefetch}
-use Rattle.cache_unit.specs.State.{Sizes, Target, Cache, is_present, cell_of, tags, block_of, place_in}
+use Rattle.cache_unit.specs.declared.Sizes.{Sizes}
+use Rattle.cache_unit.specs.State.{Target, Cache, is_present, cell_of, tags, block_of, place_in}
 use Rattle.cache_unit.specs.Causes.{first_cause, miss_causes, is_in_use, found, load_cause, store_cause, prefetch_cause}
 use Rattle.cache_unit.specs.Steps.{unless, fetched, loaded, written, load_step, store_step, prefetch_step, request_step}
 use Rattle.cache_unit.specs.Forms.{over_form, owed}

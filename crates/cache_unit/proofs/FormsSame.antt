@@ -9,7 +9,8 @@ use Rattle.flat_model.specs.declared.Word.{Word}
 use Rattle.input_stack.specs.declared.Entry.{Entry}
 use Rattle.input_stack.specs.Stack.{stack_word}
 use Rattle.cache_unit.specs.declared.Reply.{Reply}
-use Rattle.cache_unit.specs.State.{Sizes, Target, Cache, field_at, frame_of, live_for, cell_in, cell_of, targets, tags, block_of, place_in}
+use Rattle.cache_unit.specs.declared.Sizes.{Sizes}
+use Rattle.cache_unit.specs.State.{Target, Cache, field_at, frame_of, live_for, cell_in, cell_of, targets, tags, block_of, place_in}
 use Rattle.cache_unit.specs.Forms.{Form, bytes_of, missing_form, coming_form, over_form, form_in, target_form, owed}
 use Rattle.cache_unit.specs.FormLaws.{form_where, form_at, forms}
 use Rattle.cache_unit.specs.Counts.{tally}

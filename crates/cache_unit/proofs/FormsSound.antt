@@ -12,7 +12,8 @@ use Rattle.miss_registers.specs.declared.Owed.{Owed}
 use Rattle.cache_directory.specs.Frames as dir
 use Rattle.miss_registers.specs.Registers as regs
 use Rattle.cache_unit.specs.declared.Reply.{Reply}
-use Rattle.cache_unit.specs.State.{Sizes, UnitState, Frame, Field, Register, Target, frame_at, register_at, is_live, gathered, targets_of}
+use Rattle.cache_unit.specs.declared.Sizes.{Sizes}
+use Rattle.cache_unit.specs.State.{UnitState, Frame, Field, Register, Target, frame_at, register_at, is_live, gathered, targets_of}
 use Rattle.cache_unit.specs.State.{targets_of_field, targets, tags}
 use Rattle.cache_unit.specs.Shown.{as_frame, as_field, as_register, as_cache}
 use Rattle.cache_unit.specs.Sound.{IsSound, loads_of_field, loads_of, owing}

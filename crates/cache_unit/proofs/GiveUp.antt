@@ -14,7 +14,8 @@ use Rattle.input_stack.specs.declared.Entry.{Entry}
 use Rattle.write_queue.specs.declared.Queued.{Queued}
 use Rattle.write_queue.specs.Queue.{Queue, queue}
 use Rattle.cache_unit.specs.declared.Reply.{Reply}
-use Rattle.cache_unit.specs.State.{Sizes, Frame, Field, Register, Cache, empty_frame, frame_at, live_for}
+use Rattle.cache_unit.specs.declared.Sizes.{Sizes}
+use Rattle.cache_unit.specs.State.{Frame, Field, Register, Cache, empty_frame, frame_at, live_for}
 use Rattle.cache_unit.specs.Causes.{dirty_from, dirty_words, dirty_of_block, lacks_places}
 use Rattle.cache_unit.specs.Steps.{without_code, made_obsolete, obsoleted, without, released, evicted}
 use Rattle.cache_unit.specs.Parts.{retired}

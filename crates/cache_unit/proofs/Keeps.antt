@@ -11,11 +11,12 @@ use Rattle.miss_registers.specs.Registers as regs
 use Rattle.input_stack.specs.declared.Entry.{Entry}
 use Rattle.cache_unit.specs.declared.Reply.{Reply}
 use Rattle.std.proofs.lemmas.Option.{none-some, same_Some}
+use Rattle.flat_model.specs.declared.limits.TheConstants.{MAX_REPLIES}
 use Rattle.cache_unit.specs.Parts.{filled_live, settled_if, CanFill}
 use Rattle.write_queue.specs.Queue.{Queue}
 use Rattle.flat_model.specs.Places.{is_number}
 use Rattle.flat_model.proofs.Places.{place_of-passes}
-use Rattle.cache_unit.specs.State.{Sizes}
+use Rattle.cache_unit.specs.declared.Sizes.{Sizes}
 use Rattle.cache_unit.specs.Sound.{no_entry, entry_at, HasInStack, Stands, HasFrame, FilledBy, IsSound}
 use Rattle.cache_unit.specs.Steps.{answered}
 use Rattle.miss_registers.specs.Whole.{IsWhole}
@@ -384,19 +385,20 @@ held-filled d f i word keep h = ap is_some (read_set (λ (x : dir.Frame). x.bloc
 pub held_from : (d : dir.Frames) (f b : ℕ) → (dir.frame_at d.frames f).block ≡ Some b → dir.is_held d f ≡ true
 held_from d f b e = ap is_some e
 
-CanFill-by : (words : ℕ) (o : Bool) (d : dir.Frames) (r : regs.Register) (i : ℕ) → r.obsolete ≡ o → r.valid ≡ true → length r.fields ≡ words → i < length r.fields → (regs.is_live r ≡ true → HasFrame d.frames r) → CanFill words d (if o then None else Some r.frame) i
-CanFill-by words true d r i e v n l h = tt
-CanFill-by words false d r i e v n l h =
+CanFill-by : (o : Bool) (d : dir.Frames) (r : regs.Register) (i : ℕ) → r.obsolete ≡ o → r.valid ≡ true → i < length r.fields
+    → (regs.is_live r ≡ true → HasFrame d.frames r) → CanFill d (if o then None else Some r.frame) i
+CanFill-by true d r i e v l h = tt
+CanFill-by false d r i e v l h =
     let f = h (rw (v, e) refl) in
-    (held_from d r.frame r.block (frame_of-some d.frames r.block r.frame f.holds).1, omega (arith, n))
+    (held_from d r.frame r.block (frame_of-some d.frames r.block r.frame f.holds).1, subst (λ n. i < n) (sym f.cells) l)
 
-pub CanFill-live : (z : Sizes) (d : dir.Frames) (rs : List regs.Register) (st : List Entry) (q : Queue) (ready : List Reply) (k : ℕ) → IsSound z d rs st q ready → k < length st → CanFill z.block_words d (live_of (regs.register_at rs (entry_at st k).slot)) (entry_at st k).i
+pub CanFill-live : (z : Sizes) (d : dir.Frames) (rs : List regs.Register) (st : List Entry) (q : Queue) (ready : List Reply) (k : ℕ) → IsSound z d rs st q ready → k < length st → CanFill d (live_of (regs.register_at rs (entry_at st k).slot)) (entry_at st k).i
 CanFill-live z d rs st q ready k h p =
     let r = regs.register_at rs (entry_at st k).slot in
     let e = h.stack_sound.entries k p in
-    CanFill-by z.block_words r.obsolete d r (entry_at st k).i refl e.valid ((h.registers.each (entry_at st k).slot).fields_there e.valid) e.there (h.tied.frames (entry_at st k).slot)
+    CanFill-by r.obsolete d r (entry_at st k).i refl e.valid e.there (h.tied.frames (entry_at st k).slot)
 
-pub room_for : (z : Sizes) (d : dir.Frames) (rs : List regs.Register) (st : List Entry) (q : Queue) (ready : List Reply) (k : ℕ) → IsSound z d rs st q ready → k < length st → length ready + length (regs.field_of (regs.register_at rs (entry_at st k).slot) (entry_at st k).i).waiting ≤ 64
+pub room_for : (z : Sizes) (d : dir.Frames) (rs : List regs.Register) (st : List Entry) (q : Queue) (ready : List Reply) (k : ℕ) → IsSound z d rs st q ready → k < length st → length ready + length (regs.field_of (regs.register_at rs (entry_at st k).slot) (entry_at st k).i).waiting ≤ MAX_REPLIES
 room_for z d rs st q ready k h p =
     let e = entry_at st k in
     let within = slot_within rs e.slot e.i (h.stack_sound.entries k p) in

@@ -13,7 +13,8 @@ use Rattle.cache_directory.specs.Frames as dir
 use Rattle.miss_registers.specs.Registers as regs
 use Rattle.miss_registers.specs.Whole.{IsWhole}
 use Rattle.write_queue.specs.Queue.{Queue, queue as queue_of}
-use Rattle.cache_unit.specs.State.{Sizes, Frame, Register, Cache, empty_frame, opening_cache}
+use Rattle.cache_unit.specs.declared.Sizes.{Sizes}
+use Rattle.cache_unit.specs.State.{Frame, Register, Cache, empty_frame, opening_cache}
 use Rattle.cache_unit.specs.Shown.{as_frame, as_register, as_cache}
 use Rattle.cache_unit.specs.Sound.{InRange, owing, loads_of, IsSound}
 

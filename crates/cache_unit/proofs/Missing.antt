@@ -9,7 +9,8 @@ use Rattle.memory_banks.specs.declared.Command.TheVariants.{Read}
 use Rattle.cache_directory.specs.Frames as dir
 use Rattle.miss_registers.specs.Registers as regs
 use Rattle.cache_unit.specs.declared.Reply.{Reply}
-use Rattle.cache_unit.specs.State.{Sizes, Cache, is_present, free_slot}
+use Rattle.cache_unit.specs.declared.Sizes.{Sizes}
+use Rattle.cache_unit.specs.State.{Cache, is_present, free_slot}
 use Rattle.cache_unit.specs.Steps.{reads, fetches}
 use Rattle.cache_unit.specs.Shown.{as_cache}
 use Rattle.cache_unit.specs.Sound.{Tied}

@@ -8,7 +8,7 @@ use Rattle.miss_registers.specs.Registers as regs
 use Rattle.miss_registers.specs.declared.Owed.{Owed}
 use Rattle.miss_registers.proofs.Tags.{count_by-append, count_by-map}
 use Rattle.cache_unit.specs.declared.Reply.{Reply}
-use Rattle.cache_unit.specs.State.{Sizes}
+use Rattle.cache_unit.specs.declared.Sizes.{Sizes}
 use Rattle.cache_unit.specs.Steps.{answered}
 use Rattle.cache_unit.specs.Sound.{loads_of_field, loads_of, owing, OwesSound}
 

@@ -9,7 +9,8 @@ use Rattle.miss_registers.specs.Registers as regs
 use Rattle.miss_registers.proofs.Places.{free_slot-found}
 use Rattle.cache_unit.specs.declared.Reply.{Reply}
 use Rattle.cache_unit.specs.declared.Places.{Places}
-use Rattle.cache_unit.specs.State.{Sizes, Register, is_pending}
+use Rattle.cache_unit.specs.declared.Sizes.{Sizes}
+use Rattle.cache_unit.specs.State.{Register, is_pending}
 use Rattle.cache_unit.specs.Causes.{first_cause, ways_of, choose, lacks_places, miss_causes}
 use Rattle.cache_unit.specs.Shown.{as_cache}
 use Rattle.cache_unit.specs.Sound.{IsSound}

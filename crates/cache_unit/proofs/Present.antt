@@ -19,7 +19,8 @@ use Rattle.write_queue.specs.Queue.{Queue}
 use Rattle.cache_unit.specs.declared.Reply.{Reply}
 use Rattle.cache_unit.specs.declared.unit.present.Finding.{Finding}
 use Rattle.cache_unit.specs.declared.unit.present.Finding.TheVariants as finding
-use Rattle.cache_unit.specs.State.{Sizes, Frame, Field, Register, Cache, zero_cell, register_at, field_at, live_for, cell_in, cell_of, with_cell, with_field}
+use Rattle.cache_unit.specs.declared.Sizes.{Sizes}
+use Rattle.cache_unit.specs.State.{Frame, Field, Register, Cache, zero_cell, register_at, field_at, live_for, cell_in, cell_of, with_cell, with_field}
 use Rattle.cache_unit.specs.Causes.{Found, Here, Coming, found, found_in, found_missing, targets_full}
 use Rattle.cache_unit.proofs.Arrive.{in_stack-shown}
 use Rattle.cache_unit.specs.Steps.{awaited, noted, written_in, written}

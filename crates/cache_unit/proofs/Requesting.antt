@@ -10,7 +10,8 @@ use Rattle.flat_model.specs.Words.{has_any, has_all}
 use Rattle.input_stack.specs.Stack.{stack_word}
 use Rattle.memory_banks.specs.declared.Command.{Command}
 use Rattle.memory_banks.specs.Banks.{HasSent}
-use Rattle.cache_unit.specs.State.{Sizes, Cache, UnitState, is_present, free_slot, field_at, live_for, cell_of, tags, block_of, place_in}
+use Rattle.cache_unit.specs.declared.Sizes.{Sizes}
+use Rattle.cache_unit.specs.State.{Cache, UnitState, is_present, free_slot, field_at, live_for, cell_of, tags, block_of, place_in}
 use Rattle.cache_unit.specs.Causes.{first_cause, miss_causes, Found, Here, Coming, found_missing, found_in, found, targets_full, choose, is_in_use, load_cause, store_cause, prefetch_cause}
 use Rattle.cache_unit.specs.Steps.{Stepped, unless, missed, reads, fetched, fetches, loaded, written, load_step, store_step, prefetch_step}
 use Rattle.cache_unit.specs.Requests.{absence_cause, is_full_for, load_answer, load_present}

@@ -9,7 +9,8 @@ use Rattle.miss_registers.specs.Registers as regs
 use Rattle.input_stack.specs.declared.Entry.{Entry}
 use Rattle.write_queue.specs.Queue.{Queue}
 use Rattle.cache_unit.specs.declared.Reply.{Reply}
-use Rattle.cache_unit.specs.State.{Sizes, Cache, UnitState}
+use Rattle.cache_unit.specs.declared.Sizes.{Sizes}
+use Rattle.cache_unit.specs.State.{Cache, UnitState}
 use Rattle.cache_unit.specs.Steps.{Stepped, take_step, take_reply}
 use Rattle.cache_unit.specs.Sound.{OwesSound, IsSound}
 

@@ -13,7 +13,8 @@ use Rattle.cache_directory.specs.Frames as dir
 use Rattle.input_stack.specs.declared.Entry.{Entry}
 use Rattle.write_queue.specs.declared.Queued.{Queued}
 use Rattle.cache_unit.specs.declared.Reply.{Reply}
-use Rattle.cache_unit.specs.State.{Sizes, Target, gathered, targets_of_field, targets_of, targets, tags}
+use Rattle.cache_unit.specs.declared.Sizes.{Sizes}
+use Rattle.cache_unit.specs.State.{Target, gathered, targets_of_field, targets_of, targets, tags}
 use Rattle.cache_unit.specs.Causes.{is_in_use}
 use Rattle.cache_unit.specs.Shown.{as_field, as_register, as_cache}
 use Rattle.cache_unit.specs.Sound.{loads_of_field, loads_of, owing, OwesSound}

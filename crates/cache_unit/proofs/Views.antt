@@ -19,7 +19,8 @@ use Rattle.cache_directory.specs.Frames as dir
 use Rattle.miss_registers.specs.Registers as regs
 use Rattle.miss_registers.specs.Views as shows
 use Rattle.cache_unit.specs.declared.Reply.{Reply}
-use Rattle.cache_unit.specs.State.{Sizes, Frame, Field, Register, Cache, UnitState, frame_of}
+use Rattle.cache_unit.specs.declared.Sizes.{Sizes}
+use Rattle.cache_unit.specs.State.{Frame, Field, Register, Cache, UnitState, frame_of}
 use Rattle.cache_unit.specs.Shown.{as_frame, as_field, as_register, as_cache}
 use Rattle.cache_unit.specs.Causes.{dirty_from}
 use Rattle.cache_unit.specs.Sound.{IsSound}

@@ -3,7 +3,8 @@ use Rattle.std.proofs.Common.{◌≡◌, ℕ, Bool, true, not, ◌&&◌, nat_lt,
 use Rattle.std.proofs.Common.{inl, inr, ⊎_elim, get_or-set_same, get_or-set_other}
 use Rattle.std.proofs.lemmas.Bool.{cases_eq, cases_lt}
 use Rattle.std.proofs.lemmas.List.{set_past}
-use Rattle.cache_unit.specs.State.{Sizes, Frame, Register, Cache, empty_frame, free_register, frame_at, register_at, field_at, is_live}
+use Rattle.cache_unit.specs.declared.Sizes.{Sizes}
+use Rattle.cache_unit.specs.State.{Frame, Register, Cache, empty_frame, free_register, frame_at, register_at, field_at, is_live}
 
 -- whether a register waits for a word
 abbrev pub waits_for : Sizes → Cache → ℕ → ℕ → Bool

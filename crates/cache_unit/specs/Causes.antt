@@ -11,7 +11,8 @@ use Rattle.flat_model.specs.Words.{zero_word, has_any, has_all, merged}
 use Rattle.write_queue.specs.declared.Queued.{Queued}
 use Rattle.input_stack.specs.Stack.{stack_word}
 use Rattle.cache_directory.specs.declared.Cell.{Cell}
-use Rattle.cache_unit.specs.State.{Sizes, Cache, frame_at, frame_of, is_present, register_at, field_at, live_for, is_pending, cell_of, tags, block_of, place_in, address}
+use Rattle.cache_unit.specs.declared.Sizes.{Sizes}
+use Rattle.cache_unit.specs.State.{Cache, frame_at, frame_of, is_present, register_at, field_at, live_for, is_pending, cell_of, tags, block_of, place_in, address}
 
 -- the first of the causes that holds
 abbrev pub first_cause : List (Bool × Cause) → Option Cause

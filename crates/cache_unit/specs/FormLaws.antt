@@ -11,7 +11,8 @@ use Rattle.write_queue.specs.declared.Queued.{Queued}
 use Rattle.write_queue.specs.Queue.{overlaid, queued_lanes}
 use Rattle.cache_unit.specs.declared.Request.{Request}
 use Rattle.cache_unit.specs.declared.Request.TheVariants.{Load, Store, Prefetch}
-use Rattle.cache_unit.specs.State.{Sizes, Cache, frame_at, frame_of, is_present, free_slot, block_of, place_in}
+use Rattle.cache_unit.specs.declared.Sizes.{Sizes}
+use Rattle.cache_unit.specs.State.{Cache, frame_at, frame_of, is_present, free_slot, block_of, place_in}
 use Rattle.cache_unit.specs.Causes.{choose, dirty_words}
 use Rattle.cache_unit.specs.Forms.{Asked, Form, bytes_of, over_form, form, fill, owed}
 

@@ -2,7 +2,8 @@
 use Rattle.std.specs.Prelude.{ℕ, if◌then◌else◌, nat_lt, Option, Some, None}
 use Rattle.cache_unit.specs.declared.Lookup.{Lookup}
 use Rattle.cache_unit.specs.declared.Lookup.TheVariants.{Hit, Join, Miss}
-use Rattle.cache_unit.specs.State.{Sizes, Cache, is_present, block_of, place_in}
+use Rattle.cache_unit.specs.declared.Sizes.{Sizes}
+use Rattle.cache_unit.specs.State.{Cache, is_present, block_of, place_in}
 use Rattle.cache_unit.specs.Causes.{Found, Here, Coming, found}
 
 -- in a present block: the word is at hand, or on its way to a register

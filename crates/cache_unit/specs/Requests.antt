@@ -4,7 +4,8 @@ use Rattle.flat_model.specs.declared.Cause.{Cause}
 use Rattle.flat_model.specs.declared.Cause.TheVariants.{TargetsFull}
 use Rattle.flat_model.specs.declared.Answer.{Answer}
 use Rattle.flat_model.specs.declared.Answer.TheVariants.{Accepted, Refused}
-use Rattle.cache_unit.specs.State.{Sizes, Cache, is_present, cell_of}
+use Rattle.cache_unit.specs.declared.Sizes.{Sizes}
+use Rattle.cache_unit.specs.State.{Cache, is_present, cell_of}
 use Rattle.cache_unit.specs.Steps.{loaded}
 use Rattle.cache_unit.specs.Causes.{first_cause, miss_causes, found, targets_full}
 

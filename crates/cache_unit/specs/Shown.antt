@@ -6,7 +6,20 @@ use Rattle.flat_model.specs.declared.Shape.{Shape}
 use Rattle.cache_unit.specs.declared.Reply.{Reply}
 use Rattle.cache_directory.specs.Frames as dir
 use Rattle.miss_registers.specs.Registers as regs
-use Rattle.cache_unit.specs.State.{Sizes, Frame, Field, Register, Cache}
+use Rattle.cache_unit.specs.declared.Sizes.{Sizes}
+use Rattle.cache_unit.specs.State.{Frame, Field, Register, Cache}
+
+-- those of the numbers that a shape has
+abbrev pub shape_of : Sizes → Shape
+shape_of z =
+    record {
+      words = z.words;
+      sets = z.sets;
+      banks = z.banks;
+      bank_queue = z.bank_queue;
+      write_queue = z.write_queue;
+      replies = z.replies;
+    }
 
 -- the numbers of a unit, by its parameters and its shape
 abbrev pub sizes_of : ℕ → ℕ → ℕ → ℕ → Shape → Sizes

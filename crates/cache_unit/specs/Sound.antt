@@ -1,7 +1,7 @@
 -- What holds of the parts of a unit.
 use Rattle.std.specs.Prelude.{ℕ, ◌+◌, ◌*◌, ◌%◌, ◌<◌, ◌≤◌, ◌≡◌, Bool, true, false, ◌==◌, List, length, Some, slice_index_or}
 use Rattle.std.specs.List.{sum_by, count_by, All}
-use Rattle.flat_model.specs.declared.limits.TheConstants.{MAX_BLOCK_WORDS, MAX_WAYS, MAX_REGS, MAX_DEPTH, MAX_WORDS, MAX_SETS, MAX_BANKS, MAX_BANK_QUEUE, MAX_WRITE_QUEUE, MAX_REPLIES}
+use Rattle.flat_model.specs.declared.limits.TheConstants.{MAX_BLOCK_WORDS, MAX_WAYS, MAX_REGS, MAX_DEPTH, MAX_MEMORY, MAX_SETS, MAX_BANKS, MAX_BANK_QUEUE, MAX_WRITE_QUEUE, MAX_REPLIES}
 use Rattle.flat_model.specs.Words.{zero_word}
 use Rattle.input_stack.specs.declared.Entry.{Entry}
 use Rattle.write_queue.specs.Queue.{Queue}
@@ -9,7 +9,7 @@ use Rattle.cache_unit.specs.declared.Reply.{Reply}
 use Rattle.cache_directory.specs.Frames as dir
 use Rattle.miss_registers.specs.Registers as regs
 use Rattle.miss_registers.specs.Whole.{IsWhole}
-use Rattle.cache_unit.specs.State.{Sizes}
+use Rattle.cache_unit.specs.declared.Sizes.{Sizes}
 
 -- each number of a unit is in its range
 pub record InRange (z : Sizes) : Type 0 where
@@ -22,7 +22,7 @@ pub record InRange (z : Sizes) : Type 0 where
   pub some_depth : 1 ≤ z.depth
   pub few_depth : z.depth ≤ MAX_DEPTH
   pub some_memory : 1 ≤ z.words
-  pub little_memory : z.words ≤ MAX_WORDS
+  pub little_memory : z.words ≤ MAX_MEMORY
   pub whole_blocks : z.words % z.block_words ≡ 0
   pub some_sets : 1 ≤ z.sets
   pub few_sets : z.sets ≤ MAX_SETS

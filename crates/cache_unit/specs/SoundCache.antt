@@ -2,7 +2,8 @@
 use Rattle.std.specs.Prelude.{ℕ, ◌≡◌, ◌<◌, ◌≤◌, ◌*◌, ◌/◌, true, false, ◌==◌, length, Some, slice_get}
 use Rattle.std.specs.List.{filter, list_any}
 use Rattle.input_stack.specs.declared.Entry.{Entry}
-use Rattle.cache_unit.specs.State.{Sizes, Cache, frame_at, register_at, field_at, is_live, tags}
+use Rattle.cache_unit.specs.declared.Sizes.{Sizes}
+use Rattle.cache_unit.specs.State.{Cache, frame_at, register_at, field_at, is_live, tags}
 use Rattle.cache_unit.specs.Causes.{order_of}
 
 -- the register of an entry of the stack has the word, and hasn't processed it

@@ -8,19 +8,7 @@ use Rattle.miss_registers.specs.declared.Owed.{Owed}
 use Rattle.flat_model.specs.Words.{zero_word, no_lanes}
 use Rattle.flat_model.specs.Places.{place_of, is_number}
 use Rattle.cache_directory.specs.declared.Cell.{Cell}
-
--- the numbers of a machine
-pub record Sizes : Type 0 where
-  pub ways : ℕ
-  pub block_words : ℕ
-  pub regs : ℕ
-  pub depth : ℕ
-  pub words : ℕ
-  pub sets : ℕ
-  pub banks : ℕ
-  pub bank_queue : ℕ
-  pub write_queue : ℕ
-  pub replies : ℕ
+use Rattle.cache_unit.specs.declared.Sizes.{Sizes}
 
 -- a frame: the block that it holds, if it holds one, and that block's words
 pub record Frame : Type 0 where

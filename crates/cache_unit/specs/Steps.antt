@@ -17,7 +17,8 @@ use Rattle.input_stack.specs.declared.Entry.{Entry}
 use Rattle.write_queue.specs.declared.Queued.{Queued}
 use Rattle.write_queue.specs.Queue.{overlaid, queued_lanes}
 use Rattle.miss_registers.specs.declared.Owed.{Owed}
-use Rattle.cache_unit.specs.State.{Sizes, Frame, Field, Register, Cache, zero_cell, empty_frame, clear_field, free_register, frame_at, frame_of, is_present, register_at, field_at, is_live, live_for, free_slot, cell_of, with_cell, with_field, block_of, place_in}
+use Rattle.cache_unit.specs.declared.Sizes.{Sizes}
+use Rattle.cache_unit.specs.State.{Frame, Field, Register, Cache, zero_cell, empty_frame, clear_field, free_register, frame_at, frame_of, is_present, register_at, field_at, is_live, live_for, free_slot, cell_of, with_cell, with_field, block_of, place_in}
 use Rattle.cache_unit.specs.Causes.{choose, order_of, dirty_words, addresses, Found, Here, Coming, found, load_cause, store_cause, prefetch_cause, evict_cause, arrive_cause}
 
 -- an answer, the unit after it, and the commands sent, each with its bank

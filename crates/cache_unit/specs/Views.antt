@@ -13,7 +13,8 @@ use Rattle.miss_registers.specs.declared.RegisterView.{RegisterView}
 use Rattle.miss_registers.specs.declared.FieldView.{FieldView}
 use Rattle.miss_registers.specs.Views.{load_at_front}
 use Rattle.input_stack.specs.Stack.{stack_word}
-use Rattle.cache_unit.specs.State.{Sizes, Field, Register, Cache, frame_at, frame_of, field_at, is_live}
+use Rattle.cache_unit.specs.declared.Sizes.{Sizes}
+use Rattle.cache_unit.specs.State.{Field, Register, Cache, frame_at, frame_of, field_at, is_live}
 
 -- a live register's frame is the one that holds its block
 abbrev pub frame_shown : Cache → Register → ℕ

@@ -5,37 +5,39 @@ ghost use Rattle.miss_registers.specs.Registers.{register_at, fresh};
 ghost use Rattle.miss_registers.specs.Whole as file;
 ghost use Rattle.cache_unit.specs.Begun.{begun_frame, begun_register};
 
-use cache_directory::Directory;
+use crate::Sizes;
+use cache_directory::FrameTable;
 use flat_model::Lanes;
-use miss_registers::RegisterFile;
+use miss_registers::RegisterTable;
 use write_queue::WriteQueue;
 
 /// Gives each word of a block that was just installed its newest queued bytes: they go into the
 /// buffer, and the arriving word mustn't change them.
-pub(crate) fn begin_words<const WAYS: usize, const WORDS: usize, const REGS: usize>(
-    directory: &mut Directory<WAYS, WORDS>,
-    registers: &mut RegisterFile<WORDS, REGS>,
+pub(crate) fn begin_words(
+    directory: &mut FrameTable,
+    registers: &mut RegisterTable,
     queue: &WriteQueue,
+    sizes: &Sizes,
     frame: u32,
     slot: u32,
     block: u32,
 )
-    requires whole { IsWhole WAYS WORDS directory.old }
-    requires whole_file { file.IsWhole WORDS REGS registers.old }
-    requires fits { block * WORDS + WORDS < 2 ^ 32 }
+    requires whole { IsWhole sizes.now.ways sizes.now.block_words directory.old }
+    requires whole_file { file.IsWhole sizes.now.block_words sizes.now.regs registers.old }
+    requires fits { block * sizes.now.block_words + sizes.now.block_words < 2 ^ 32 }
     requires frame { frame < length directory.old.frames }
-    requires fresh { frame_at directory.old.frames frame ≡ fresh_frame WORDS block }
+    requires fresh { frame_at directory.old.frames frame ≡ fresh_frame sizes.now.block_words block }
     requires slot { slot < length registers.old }
-    requires allocated { register_at registers.old slot ≡ fresh WORDS block frame }
+    requires allocated { register_at registers.old slot ≡ fresh sizes.now.block_words block frame }
     ensures directory { directory.new
-        ≡ with_frame directory.old frame (begun_frame WORDS queue.now.entries block) }
-    ensures whole { IsWhole WAYS WORDS directory.new }
-    ensures whole_file { file.IsWhole WORDS REGS registers.new }
+        ≡ with_frame directory.old frame (begun_frame sizes.now.block_words queue.now.entries block) }
+    ensures whole { IsWhole sizes.now.ways sizes.now.block_words directory.new }
+    ensures whole_file { file.IsWhole sizes.now.block_words sizes.now.regs registers.new }
     ensures registers { registers.new
-        ≡ slice_set registers.old slot (begun_register WORDS queue.now.entries block frame) }
+        ≡ slice_set registers.old slot (begun_register sizes.now.block_words queue.now.entries block frame) }
 {
-    for i in 0..WORDS as u32 {
-        let newest = queue.newest(block * WORDS as u32 + i);
+    for i in 0..sizes.block_words {
+        let newest = queue.newest(block * sizes.block_words + i);
         directory.fill(frame, i, newest.word, Lanes::none());
         registers.note_store(slot, i, newest.lanes);
     }

@@ -9,25 +9,23 @@ ghost use Rattle.cache_unit.specs.Reads.{block_reads};
 ghost use Rattle.cache_unit.specs.Miss.{chosen_frame};
 ghost use Rattle.cache_unit.specs.GivenUp.{owed_words, missed_frames, missed_registers};
 
-use crate::Places;
+use crate::{Places, Sizes};
 use crate::begin::begin_words;
 use crate::reads::send_reads;
 use crate::victim::{dirty_words, vacate};
-use cache_directory::{Choice, Directory};
+use cache_directory::{Choice, FrameTable};
 use memory_banks::Lines;
-use miss_registers::RegisterFile;
+use miss_registers::RegisterTable;
 use write_queue::WriteQueue;
 
 /// The frame that the absent block takes: a free one of its set, else the resident one that was
 /// allocated longest ago; `None` where all are pending.
-pub(crate) fn choose_frame<const WAYS: usize, const WORDS: usize>(
-    directory: &Directory<WAYS, WORDS>,
-    block: u32,
-) -> Option<u32>
+pub(crate) fn choose_frame(directory: &FrameTable, sizes: &Sizes, block: u32) -> Option<u32>
+    requires { dir.IsWhole sizes.now.ways sizes.now.block_words directory.now }
     ensures { result ≡ chosen_frame
-        (dir.chosen WAYS directory.now (dir.set_of directory.now block)) }
+        (dir.chosen sizes.now.ways directory.now (dir.set_of directory.now block)) }
 {
-    match directory.choose(block) {
+    match directory.choose(sizes.ways, block) {
         Choice::Free(frame) => Some(frame),
         Choice::Victim(frame) => Some(frame),
         Choice::AllPending => None,
@@ -36,64 +34,61 @@ pub(crate) fn choose_frame<const WAYS: usize, const WORDS: usize>(
 
 /// How many words the frame owes to memory.
 #[inline(always)]
-pub(crate) fn words_owed<const WAYS: usize, const WORDS: usize>(
-    directory: &Directory<WAYS, WORDS>,
-    frame: u32,
-) -> u32
-    requires whole { dir.IsWhole WAYS WORDS directory.now }
+pub(crate) fn words_owed(directory: &FrameTable, sizes: &Sizes, frame: u32) -> u32
+    requires whole { dir.IsWhole sizes.now.ways sizes.now.block_words directory.now }
     requires frame { frame < length directory.now.frames }
-    ensures { result ≡ length (owed_words WORDS directory.now frame) }
+    ensures { result ≡ length (owed_words sizes.now.block_words directory.now frame) }
 {
     match directory.block_of(frame) {
-        Some(_) => dirty_words(directory, frame),
+        Some(_) => dirty_words(directory, sizes, frame),
         None => 0,
     }
 }
 
 /// Brings an absent block in: the frame is vacated and holds the block, with the newest queued
 /// bytes of its words; the register waits for them; and the reads go to the banks.
-pub(crate) fn bring_in<L: Lines, const WAYS: usize, const WORDS: usize, const REGS: usize>(
-    directory: &mut Directory<WAYS, WORDS>,
-    registers: &mut RegisterFile<WORDS, REGS>,
+pub(crate) fn bring_in<L: Lines>(
+    directory: &mut FrameTable,
+    registers: &mut RegisterTable,
     queue: &mut WriteQueue,
     lines: &mut L,
-    banks: u32,
+    sizes: &Sizes,
     block: u32,
     places: Places,
 )
-    requires whole { dir.IsWhole WAYS WORDS directory.old }
-    requires whole_file { whole.IsWhole WORDS REGS registers.old }
+    requires whole { dir.IsWhole sizes.now.ways sizes.now.block_words directory.old }
+    requires whole_file { whole.IsWhole sizes.now.block_words sizes.now.regs registers.old }
     requires absent { dir.frame_of directory.old.frames block ≡ None }
     requires frame { places.frame < length directory.old.frames }
-    requires of_set { places.frame / WAYS ≡ dir.set_of directory.old block }
+    requires of_set { places.frame / sizes.now.ways ≡ dir.set_of directory.old block }
     requires slot { places.slot < length registers.old }
     requires free { (regs.register_at registers.old places.slot).valid ≡ false }
     requires no_live { regs.live_for registers.old block ≡ None }
-    requires fits { block * WORDS + WORDS < 2 ^ 32 }
+    requires fits { block * sizes.now.block_words + sizes.now.block_words < 2 ^ 32 }
     requires held_fits { (b : ℕ) → (dir.frame_at directory.old.frames places.frame).block ≡ Some b
-        → b * WORDS + WORDS < 2 ^ 32 }
-    requires room { length queue.old.entries + length (owed_words WORDS directory.old places.frame)
+        → b * sizes.now.block_words + sizes.now.block_words < 2 ^ 32 }
+    requires room { length queue.old.entries + length (owed_words sizes.now.block_words directory.old places.frame)
         ≤ queue.old.limit }
-    requires some_banks { 0 < banks }
+    requires some_banks { 0 < sizes.now.banks }
     requires bank_room { (b : ℕ)
-        → length (commands_for b (block_reads places.slot (block * WORDS) WORDS banks WORDS))
+        → length (commands_for b (block_reads places.slot (block * sizes.now.block_words) sizes.now.block_words sizes.now.banks sizes.now.block_words))
         ≤ L.room_of lines.old b }
     ensures directory { directory.new
-        ≡ missed_frames WAYS WORDS directory.old (queue.old.entries ++ owed_words WORDS directory.old places.frame) places.frame block }
+        ≡ missed_frames sizes.now.ways sizes.now.block_words directory.old (queue.old.entries ++ owed_words sizes.now.block_words directory.old places.frame) places.frame block }
     ensures registers { registers.new
-        ≡ missed_registers WORDS registers.old (queue.old.entries ++ owed_words WORDS directory.old places.frame) places.frame places.slot block }
+        ≡ missed_registers sizes.now.block_words registers.old (queue.old.entries ++ owed_words sizes.now.block_words directory.old places.frame) places.frame places.slot block }
     ensures queue { queue.new
-        ≡ queue_of (queue.old.entries ++ owed_words WORDS directory.old places.frame)
+        ≡ queue_of (queue.old.entries ++ owed_words sizes.now.block_words directory.old places.frame)
         queue.old.limit }
     ensures lines { HasSent L.sent_to L.room_of L.same lines.old lines.new
-        (block_reads places.slot (block * WORDS) WORDS banks WORDS) }
-    ensures whole { dir.IsWhole WAYS WORDS directory.new }
-    ensures whole_file { whole.IsWhole WORDS REGS registers.new }
+        (block_reads places.slot (block * sizes.now.block_words) sizes.now.block_words sizes.now.banks sizes.now.block_words) }
+    ensures whole { dir.IsWhole sizes.now.ways sizes.now.block_words directory.new }
+    ensures whole_file { whole.IsWhole sizes.now.block_words sizes.now.regs registers.new }
 {
     let Places { frame, slot } = places;
-    vacate(directory, queue, frame);
-    directory.install(frame, block);
-    registers.allocate(slot, block, frame);
-    begin_words(directory, registers, queue, frame, slot, block);
-    send_reads(lines, slot, block * WORDS as u32, WORDS as u32, banks);
+    vacate(directory, queue, sizes, frame);
+    directory.install(sizes.ways, sizes.block_words, frame, block);
+    registers.allocate(sizes.block_words, slot, block, frame);
+    begin_words(directory, registers, queue, sizes, frame, slot, block);
+    send_reads(lines, slot, block * sizes.block_words, sizes.block_words, sizes.banks);
 }

@@ -3,14 +3,41 @@
 
 mod begin;
 mod fetch;
+mod fixed;
 mod limits;
 mod reads;
 mod unit;
 mod victim;
 
 use flat_model::{Lanes, Word};
-pub use limits::bad_field;
-pub use unit::CacheUnit;
+pub use fixed::CacheUnit;
+pub use limits::{bad_field, bad_size, sizes_of};
+pub use unit::ShapedUnit;
+
+/// The numbers of a unit, and of the machine around it.
+#[derive(Clone, Copy, PartialEq, Eq, Debug)]
+pub struct Sizes {
+    /// Frames of each set: 1 to 8.
+    pub ways: u32,
+    /// Words of a block: 1 to 16.
+    pub block_words: u32,
+    /// Registers for missing blocks: 1 to 16.
+    pub regs: u32,
+    /// Places of the stack of words that came from memory: 1 to 16.
+    pub depth: u32,
+    /// Words of memory: 1 to 4,294,967,295, and a multiple of the words of a block.
+    pub words: u32,
+    /// Sets of frames: 1 to 1024.
+    pub sets: u32,
+    /// Banks of memory: 1 to 16.
+    pub banks: u32,
+    /// Commands that may wait at a bank: at most 64, and enough for a bank's share of a block.
+    pub bank_queue: u32,
+    /// Words that may wait to be written: at least those of a block, at most 256.
+    pub write_queue: u32,
+    /// Loads that may be awaited or stand ready: 1 to 64.
+    pub replies: u32,
+}
 
 /// What the processor asks of the cache.
 #[derive(Clone, Copy, PartialEq, Eq, Debug)]

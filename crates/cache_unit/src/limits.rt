@@ -1,17 +1,36 @@
 //! The ranges of a unit's numbers.
 ghost use Rattle.std.specs.Prelude.{◌≡◌, ◌<◌, ◌≤◌};
-ghost use Rattle.flat_model.specs.declared.limits.TheConstants.{MAX_BLOCK_WORDS};
-ghost use Rattle.cache_unit.specs.Shown.{sizes_of};
+ghost use Rattle.flat_model.specs.declared.limits.TheConstants.{MAX_BLOCK_WORDS, MAX_WAYS, MAX_REGS, MAX_DEPTH};
+ghost use Rattle.cache_unit.specs.Shown.{sizes_of, shape_of};
 ghost use Rattle.cache_unit.specs.Limits as limits;
 
+use crate::Sizes;
 use flat_model::{
-    MAX_BANK_QUEUE, MAX_BANKS, MAX_BLOCK_WORDS, MAX_DEPTH, MAX_REGS, MAX_REPLIES, MAX_SETS,
-    MAX_WAYS, MAX_WORDS, MAX_WRITE_QUEUE, Shape, ShapeField,
+    MAX_BANK_QUEUE, MAX_BANKS, MAX_BLOCK_WORDS, MAX_DEPTH, MAX_MEMORY, MAX_REGS, MAX_REPLIES,
+    MAX_SETS, MAX_WAYS, MAX_WORDS, MAX_WRITE_QUEUE, Shape, ShapeField,
 };
 
 /// The first number that is out of its range for a unit, in the order of the checks: the words of a
 /// block (1 to 16), the ways (1 to 8), the registers (1 to 16), the places of the input stack (1 to
-/// 16), and then those of the shape. `None` says that there is such a unit.
+/// 16), and then words, sets, banks, the queues and replies. `None` says that there is such a unit.
+pub fn bad_size(sizes: &Sizes) -> Option<ShapeField>
+    ensures { result ≡ limits.bad_size sizes.now }
+{
+    if sizes.block_words < 1 || sizes.block_words > MAX_BLOCK_WORDS as u32 {
+        Some(ShapeField::BlockWords)
+    } else if sizes.ways < 1 || sizes.ways > MAX_WAYS as u32 {
+        Some(ShapeField::Ways)
+    } else if sizes.regs < 1 || sizes.regs > MAX_REGS as u32 {
+        Some(ShapeField::Regs)
+    } else if sizes.depth < 1 || sizes.depth > MAX_DEPTH as u32 {
+        Some(ShapeField::Depth)
+    } else {
+        bad_number(MAX_MEMORY, sizes)
+    }
+}
+
+/// The same of a unit whose ways, words of a block, registers and places of the stack stand in its
+/// type, and whose memory has at most 1,048,576 words.
 pub fn bad_field<const WAYS: usize, const WORDS: usize, const REGS: usize, const DEPTH: usize>(
     shape: &Shape,
 ) -> Option<ShapeField>
@@ -26,32 +45,70 @@ pub fn bad_field<const WAYS: usize, const WORDS: usize, const REGS: usize, const
     } else if DEPTH < 1 || DEPTH > MAX_DEPTH {
         Some(ShapeField::Depth)
     } else {
-        bad_number::<WAYS, WORDS, REGS, DEPTH>(shape)
+        bad_number(MAX_WORDS, &sizes_of::<WAYS, WORDS, REGS, DEPTH>(shape))
     }
 }
 
-// The first number of the shape that is out of its range, for blocks of so many words.
-fn bad_number<const WAYS: usize, const WORDS: usize, const REGS: usize, const DEPTH: usize>(
+/// The numbers of a unit, four of which stand in its type and fit into 32 bits.
+pub fn sizes_of<const WAYS: usize, const WORDS: usize, const REGS: usize, const DEPTH: usize>(
     shape: &Shape,
-) -> Option<ShapeField>
-    requires some { 1 ≤ WORDS }
-    requires few { WORDS ≤ MAX_BLOCK_WORDS }
-    ensures { result ≡ limits.bad_number (sizes_of WAYS WORDS REGS DEPTH shape.now) }
+) -> Sizes
+    requires ways { WAYS ≤ MAX_WAYS }
+    requires words { WORDS ≤ MAX_BLOCK_WORDS }
+    requires registers { REGS ≤ MAX_REGS }
+    requires places { DEPTH ≤ MAX_DEPTH }
+    ensures { result ≡ sizes_of WAYS WORDS REGS DEPTH shape.now }
 {
-    let words = WORDS as u32;
-    if shape.words < 1 || shape.words > MAX_WORDS || shape.words % words != 0 {
+    Sizes {
+        ways: WAYS as u32,
+        block_words: WORDS as u32,
+        regs: REGS as u32,
+        depth: DEPTH as u32,
+        words: shape.words,
+        sets: shape.sets,
+        banks: shape.banks,
+        bank_queue: shape.bank_queue,
+        write_queue: shape.write_queue,
+        replies: shape.replies,
+    }
+}
+
+impl Sizes {
+    /// Those of the numbers that a [`Shape`] has.
+    pub fn shape(&self) -> Shape
+        ensures { result ≡ shape_of self.now }
+    {
+        Shape {
+            words: self.words,
+            sets: self.sets,
+            banks: self.banks,
+            bank_queue: self.bank_queue,
+            write_queue: self.write_queue,
+            replies: self.replies,
+        }
+    }
+}
+
+// The first number behind these that is out of its range, where memory has so many words at most.
+fn bad_number(most: u32, sizes: &Sizes) -> Option<ShapeField>
+    requires some { 1 ≤ sizes.now.block_words }
+    requires few { sizes.now.block_words ≤ MAX_BLOCK_WORDS }
+    ensures { result ≡ limits.bad_number_within most sizes.now }
+{
+    let block = sizes.block_words;
+    if sizes.words < 1 || sizes.words > most || sizes.words % block != 0 {
         Some(ShapeField::Words)
-    } else if shape.sets < 1 || shape.sets > MAX_SETS {
+    } else if sizes.sets < 1 || sizes.sets > MAX_SETS {
         Some(ShapeField::Sets)
-    } else if shape.banks < 1 || shape.banks > MAX_BANKS {
+    } else if sizes.banks < 1 || sizes.banks > MAX_BANKS {
         Some(ShapeField::Banks)
-    } else if shape.bank_queue < (words + shape.banks - 1) / shape.banks
-        || shape.bank_queue > MAX_BANK_QUEUE
+    } else if sizes.bank_queue < (block + sizes.banks - 1) / sizes.banks
+        || sizes.bank_queue > MAX_BANK_QUEUE
     {
         Some(ShapeField::BankQueue)
-    } else if shape.write_queue < words || shape.write_queue > MAX_WRITE_QUEUE {
+    } else if sizes.write_queue < block || sizes.write_queue > MAX_WRITE_QUEUE {
         Some(ShapeField::WriteQueue)
-    } else if shape.replies < 1 || shape.replies > MAX_REPLIES {
+    } else if sizes.replies < 1 || sizes.replies > MAX_REPLIES {
         Some(ShapeField::Replies)
     } else {
         None

@@ -1,5 +1,6 @@
 //! The cache unit.
-ghost use Rattle.std.specs.Prelude.{◌≡◌, ◌+◌, ◌≤◌, ◌++◌, length, false, Some};
+ghost use Rattle.std.specs.Prelude.{◌≡◌, ℕ, ◌+◌, ◌≤◌, ◌++◌, length, false, Some};
+ghost use Rattle.flat_model.specs.declared.limits.TheConstants.{MAX_REGS};
 ghost use Rattle.cache_unit.specs.declared.unit.TheConstants.{REPLY_PLACES};
 ghost use Rattle.memory_banks.specs.Banks.{HasSent};
 ghost use Rattle.cache_directory.specs.Frames as dir;
@@ -18,39 +19,38 @@ mod present;
 mod request;
 mod views;
 
-use crate::Reply;
+use crate::{Reply, Sizes};
 use crate::victim::{dirty_words, vacate};
 use arrayvec::ArrayVec;
-use cache_directory::Directory;
-use flat_model::{Answer, Cause, Lanes, MAX_REPLIES, Shape, Word, merge};
-use input_stack::{Entry, InputStack};
+use cache_directory::FrameTable;
+use flat_model::{Answer, Cause, Lanes, MAX_REPLIES, Word, merge};
+use input_stack::{ArrivalStack, Entry};
 use memory_banks::{Command, Lines};
-use miss_registers::{OwedList, RegisterFile};
+use miss_registers::{OwedList, RegisterTable};
 use std::marker::Model;
 use write_queue::{Queued, WriteQueue};
 
 // Room for every load that may be ready.
 const REPLY_PLACES: usize = MAX_REPLIES as usize;
 
-/// A cache of `WAYS` (1 to 8) frames of `WORDS` (1 to 16) words in each set, with `REGS` (1 to 16)
-/// registers for missing blocks and a stack of `DEPTH` (1 to 16) words that came from memory.
+/// A cache of as many sets, frames a set (ways), words a block, registers for missing blocks and
+/// places for words that came from memory as its [`Sizes`] say.
 ///
-/// Words, blocks, sets and frames are numbered from 0: block `b` has the words from `b * WORDS` on,
-/// and set `s` the frames from `s * WAYS` on. The unit sends its reads and writes to banks over
-/// [`Lines`], and is given the words that come back by [`CacheUnit::arrive`]. All memory is taken
-/// by [`CacheUnit::new`]; no other call asks for any.
+/// Words, blocks, sets and frames are numbered from 0: block `b` has the words from
+/// `b * block_words` on, and set `s` the frames from `s * ways` on. The unit sends its reads and
+/// writes to banks over [`Lines`], and is given the words that come back by [`ShapedUnit::arrive`].
+/// All memory is taken by [`ShapedUnit::new`]; no other call asks for any.
 #[derive(Drop)]
-pub struct CacheUnit<const WAYS: usize, const WORDS: usize, const REGS: usize, const DEPTH: usize> {
-    shape: Shape,
-    directory: Directory<WAYS, WORDS>,
-    registers: RegisterFile<WORDS, REGS>,
-    stack: InputStack<DEPTH>,
+pub struct ShapedUnit {
+    sizes: Sizes,
+    directory: FrameTable,
+    registers: RegisterTable,
+    stack: ArrivalStack,
     queue: WriteQueue,
     ready: ArrayVec<Reply, REPLY_PLACES>,
 }
 
-impl<const WAYS: usize, const WORDS: usize, const REGS: usize, const DEPTH: usize> Model
-    for CacheUnit<WAYS, WORDS, REGS, DEPTH> {
+impl Model for ShapedUnit {
     ghost use Rattle.cache_unit.specs.State.{UnitState};
 
     ghost Value = { UnitState };
@@ -62,12 +62,7 @@ impl<const WAYS: usize, const WORDS: usize, const REGS: usize, const DEPTH: usiz
     ghost invariant = { IsSoundUnit };
 }
 
-impl<const WAYS: usize, const WORDS: usize, const REGS: usize, const DEPTH: usize> CacheUnit<
-    WAYS,
-    WORDS,
-    REGS,
-    DEPTH,
-> {
+impl ShapedUnit {
     /// Sends the front of the write queue to its bank. `Nothing` says that the queue is empty, and
     /// a refusal (10) that the bank has no room; both leave everything unchanged.
     #[tactic(auto, unfolding(crate::specs::Steps::drain_step))]
@@ -83,12 +78,12 @@ impl<const WAYS: usize, const WORDS: usize, const REGS: usize, const DEPTH: usiz
         let Some(front) = self.queue.front() else {
             return Answer::Nothing;
         };
-        let bank = front.at % self.shape.banks;
+        let bank = front.at % self.sizes.banks;
         if lines.room(bank) == 0 {
             return Answer::Refused(Cause::BankFull);
         }
         self.queue.pop();
-        let place = front.at / self.shape.banks;
+        let place = front.at / self.sizes.banks;
         lines.send(
             bank,
             Command::Write {
@@ -110,15 +105,15 @@ impl<const WAYS: usize, const WORDS: usize, const REGS: usize, const DEPTH: usiz
             ≡ record self.old { cache = (steps.evict_step self.old.sizes self.old.cache block).cache } }
         ensures forms { laws.EvictForms self.old.sizes self.old.cache block result self.new.cache }
     {
-        let words = u64::from(self.shape.words);
-        let first = u64::from(block) * WORDS as u64;
+        let words = u64::from(self.sizes.words);
+        let first = u64::from(block) * u64::from(self.sizes.block_words);
         if first >= words {
             return Answer::Refused(Cause::OutOfRange);
         }
-        let Some(frame) = self.directory.look(block) else {
+        let Some(frame) = self.directory.look(self.sizes.ways, block) else {
             return Answer::Refused(Cause::NotPresent);
         };
-        let dirty = dirty_words(&self.directory, frame);
+        let dirty = dirty_words(&self.directory, &self.sizes, frame);
         if self.queue.room() < dirty {
             return Answer::Refused(Cause::QueueFull);
         }
@@ -133,7 +128,7 @@ impl<const WAYS: usize, const WORDS: usize, const REGS: usize, const DEPTH: usiz
         ensures { self.new ≡ record self.old
             { cache = steps.evicted self.old.sizes self.old.cache block frame } }
     {
-        vacate(&mut self.directory, &mut self.queue, frame);
+        vacate(&mut self.directory, &mut self.queue, &self.sizes, frame);
         retire(&mut self.registers, block);
     }
 
@@ -172,7 +167,7 @@ impl<const WAYS: usize, const WORDS: usize, const REGS: usize, const DEPTH: usiz
         if !self.registers.expects(slot, i) {
             return Answer::Refused(Cause::StrayWord);
         }
-        match self.stack.push(Entry { slot, i, word }) {
+        match self.stack.push(self.sizes.depth, Entry { slot, i, word }) {
             Ok(()) => {
                 self.registers.mark_in_stack(slot, i);
                 Answer::Moved
@@ -203,13 +198,11 @@ impl<const WAYS: usize, const WORDS: usize, const REGS: usize, const DEPTH: usiz
 }
 
 // The block's live register, where it has one, becomes obsolete.
-fn retire<const WORDS: usize, const REGS: usize>(
-    registers: &mut RegisterFile<WORDS, REGS>,
-    block: u32,
-)
-    requires { IsWhole WORDS REGS registers.old }
+fn retire(registers: &mut RegisterTable, block: u32)
+    requires { length registers.old ≤ MAX_REGS }
     ensures retired { registers.new ≡ retired registers.old (regs.live_for registers.old block) }
-    ensures whole { IsWhole WORDS REGS registers.new }
+    ensures whole { (words regs : ℕ) → IsWhole words regs registers.old
+        → IsWhole words regs registers.new }
 {
     if let Some(slot) = registers.live_for(block) {
         registers.make_obsolete(slot);
@@ -218,17 +211,17 @@ fn retire<const WORDS: usize, const REGS: usize>(
 
 // A live register's word goes into its frame.
 #[tactic(auto, unfolding(crate::specs::Parts::filled_live))]
-fn fill_live<const WAYS: usize, const WORDS: usize>(
-    directory: &mut Directory<WAYS, WORDS>,
+fn fill_live(
+    directory: &mut FrameTable,
     e: &Entry,
     live: Option<u32>,
     keep: Lanes,
     last: bool,
 )
-    requires there { CanFill WORDS directory.old live e.now.i }
-    requires whole { dir.IsWhole WAYS WORDS directory.old }
+    requires there { CanFill directory.old live e.now.i }
     ensures filled { directory.new ≡ filled_live directory.old live e.now.i e.now.word keep last }
-    ensures whole { dir.IsWhole WAYS WORDS directory.new }
+    ensures whole { (ways words : ℕ) → dir.IsWhole ways words directory.old
+        → dir.IsWhole ways words directory.new }
 {
     if let Some(frame) = live {
         directory.fill(frame, e.i, e.word, keep);

@@ -6,24 +6,22 @@ ghost use Rattle.write_queue.specs.Queue.{queue as queue_of};
 ghost use Rattle.cache_unit.specs.Causes.{dirty_from};
 ghost use Rattle.cache_unit.specs.GivenUp.{given_up, owed_words};
 
-use cache_directory::Directory;
+use crate::Sizes;
+use cache_directory::FrameTable;
 use flat_model::{Lanes, Word, merge};
 use write_queue::{Queued, WriteQueue};
 
 /// How many words with dirty lanes the frame has.
 #[inline(always)]
-pub(crate) fn dirty_words<const WAYS: usize, const WORDS: usize>(
-    directory: &Directory<WAYS, WORDS>,
-    frame: u32,
-) -> u32
-    requires whole { IsWhole WAYS WORDS directory.now }
+pub(crate) fn dirty_words(directory: &FrameTable, sizes: &Sizes, frame: u32) -> u32
+    requires whole { IsWhole sizes.now.ways sizes.now.block_words directory.now }
     requires held { IsTrue (is_held directory.now frame) }
     ensures count { (block at : ℕ)
         → result ≡ length (dirty_from block at (frame_at directory.now.frames frame).cells) }
     ensures small { result ≤ MAX_BLOCK_WORDS }
 {
     let mut count = 0;
-    for i in 0..WORDS as u32 {
+    for i in 0..sizes.block_words {
         if directory.dirty(frame, i).has_any() {
             count += 1;
         }
@@ -32,28 +30,29 @@ pub(crate) fn dirty_words<const WAYS: usize, const WORDS: usize>(
 }
 
 // Queues the frame's words with dirty lanes, in word order, each with these lanes.
-fn queue_dirty_words<const WAYS: usize, const WORDS: usize>(
-    directory: &Directory<WAYS, WORDS>,
+fn queue_dirty_words(
+    directory: &FrameTable,
     queue: &mut WriteQueue,
+    sizes: &Sizes,
     frame: u32,
     block: u32,
 )
-    requires whole { IsWhole WAYS WORDS directory.now }
+    requires whole { IsWhole sizes.now.ways sizes.now.block_words directory.now }
     requires held { IsTrue (is_held directory.now frame) }
-    requires fits { block * WORDS + WORDS < 2 ^ 32 }
+    requires fits { block * sizes.now.block_words + sizes.now.block_words < 2 ^ 32 }
     requires room { length queue.old.entries + length
-        (dirty_from block (block * WORDS) (frame_at directory.now.frames frame).cells)
+        (dirty_from block (block * sizes.now.block_words) (frame_at directory.now.frames frame).cells)
         ≤ queue.old.limit }
     ensures { queue.new ≡ queue_of
-        (queue.old.entries ++ dirty_from block (block * WORDS)
+        (queue.old.entries ++ dirty_from block (block * sizes.now.block_words)
         (frame_at directory.now.frames frame).cells) queue.old.limit }
 {
-    for i in 0..WORDS as u32 {
+    for i in 0..sizes.block_words {
         let lanes = directory.dirty(frame, i);
         if lanes.has_any() {
             queue.push(Queued {
                 block,
-                at: block * WORDS as u32 + i,
+                at: block * sizes.block_words + i,
                 word: merge(Word::default(), directory.word(frame, i), lanes),
                 lanes,
             });
@@ -63,24 +62,25 @@ fn queue_dirty_words<const WAYS: usize, const WORDS: usize>(
 
 /// Vacates the frame: where it holds a block, the block's dirty words are queued and the frame is
 /// released.
-pub(crate) fn vacate<const WAYS: usize, const WORDS: usize>(
-    directory: &mut Directory<WAYS, WORDS>,
+pub(crate) fn vacate(
+    directory: &mut FrameTable,
     queue: &mut WriteQueue,
+    sizes: &Sizes,
     frame: u32,
 )
-    requires whole { IsWhole WAYS WORDS directory.old }
+    requires whole { IsWhole sizes.now.ways sizes.now.block_words directory.old }
     requires frame { frame < length directory.old.frames }
     requires fits { (block : ℕ) → (frame_at directory.old.frames frame).block ≡ Some block
-        → block * WORDS + WORDS < 2 ^ 32 }
-    requires room { length queue.old.entries + length (owed_words WORDS directory.old frame)
+        → block * sizes.now.block_words + sizes.now.block_words < 2 ^ 32 }
+    requires room { length queue.old.entries + length (owed_words sizes.now.block_words directory.old frame)
         ≤ queue.old.limit }
-    ensures directory { directory.new ≡ given_up WAYS directory.old frame }
+    ensures directory { directory.new ≡ given_up sizes.now.ways directory.old frame }
     ensures queue { queue.new
-        ≡ queue_of (queue.old.entries ++ owed_words WORDS directory.old frame) queue.old.limit }
-    ensures whole { IsWhole WAYS WORDS directory.new }
+        ≡ queue_of (queue.old.entries ++ owed_words sizes.now.block_words directory.old frame) queue.old.limit }
+    ensures whole { IsWhole sizes.now.ways sizes.now.block_words directory.new }
 {
     if let Some(block) = directory.block_of(frame) {
-        queue_dirty_words(directory, queue, frame, block);
-        directory.release(frame);
+        queue_dirty_words(directory, queue, sizes, frame, block);
+        directory.release(sizes.ways, frame);
     }
 }

@@ -20,8 +20,8 @@ mod operators;
 pub use answers::may_answer;
 use bitflags::{Flag, Flags};
 pub use limits::{
-    MAX_BANK_QUEUE, MAX_BANKS, MAX_BLOCK_WORDS, MAX_DEPTH, MAX_REGS, MAX_REPLIES, MAX_SETS,
-    MAX_WAYS, MAX_WORDS, MAX_WRITE_QUEUE,
+    MAX_BANK_QUEUE, MAX_BANKS, MAX_BLOCK_WORDS, MAX_DEPTH, MAX_MEMORY, MAX_REGS, MAX_REPLIES,
+    MAX_SETS, MAX_WAYS, MAX_WORDS, MAX_WRITE_QUEUE,
 };
 pub use memory::{FlatMemory, ReplayFault, StepFault};
 use std::alloc::AllocError;

@@ -13,8 +13,11 @@ pub const MAX_REGS: usize = 16;
 /// Places of the input stack.
 pub const MAX_DEPTH: usize = 16;
 
-/// Words of memory.
+/// Words of memory of a machine of the program, and of one whose type has its numbers.
 pub const MAX_WORDS: u32 = 1_048_576;
+
+/// Words of memory of a machine whose numbers are all given at run time: as many as 32 bits count.
+pub const MAX_MEMORY: u32 = u32::MAX;
 
 /// Sets of the cache.
 pub const MAX_SETS: u32 = 1024;

@@ -12,7 +12,8 @@ use Rattle.memory_banks.specs.Banks.{Bank, bank_at, no_bank, pending, all_pendin
 use Rattle.input_stack.specs.declared.Entry.{Entry}
 use Rattle.input_stack.specs.Stack.{stack_word}
 use Rattle.write_queue.specs.Queue.{overlaid}
-use Rattle.cache_unit.specs.State.{Sizes, frame_of, register_at, field_at}
+use Rattle.cache_unit.specs.declared.Sizes.{Sizes}
+use Rattle.cache_unit.specs.State.{frame_of, register_at, field_at}
 use Rattle.cache_unit.specs.Causes.{is_stray, first_cause, arrive_cause}
 use Rattle.cache_unit.specs.Steps.{arrived}
 use Rattle.cache_unit.specs.Forms.{Form, filled_by, owed}

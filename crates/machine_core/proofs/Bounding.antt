@@ -23,7 +23,8 @@ use Rattle.input_stack.specs.declared.Entry.{Entry}
 use Rattle.write_queue.specs.declared.Queued.{Queued}
 use Rattle.write_queue.specs.Queue.{queued_lanes}
 use Rattle.cache_unit.specs.declared.Reply.{Reply}
-use Rattle.cache_unit.specs.State.{Sizes, Field, Register, Cache, clear_field, free_register, frame_of, is_present, register_at, field_at}
+use Rattle.cache_unit.specs.declared.Sizes.{Sizes}
+use Rattle.cache_unit.specs.State.{Field, Register, Cache, clear_field, free_register, frame_of, is_present, register_at, field_at}
 use Rattle.cache_unit.specs.State.{live_for, free_slot, with_cell, with_field, block_of, place_in, address, tags, is_pending}
 use Rattle.cache_unit.specs.Causes.{first_cause, ways_of, targets_full, found, is_in_use, choose, dirty_words, addresses, lacks_places}
 use Rattle.cache_unit.specs.Causes.{lacks_room, miss_causes, Found, Here, Coming, load_cause, store_cause, prefetch_cause, evict_cause}

@@ -2,7 +2,7 @@
 use Rattle.std.proofs.Common.{◌≡◌, Some}
 use Rattle.flat_model.specs.declared.Event.{Event}
 use Rattle.flat_model.specs.Flat.{flat_step}
-use Rattle.cache_unit.specs.State.{Sizes}
+use Rattle.cache_unit.specs.declared.Sizes.{Sizes}
 use Rattle.machine_core.specs.Law.{IsLawful}
 use Rattle.machine_core.specs.Machine.{Machine, apply, flat_of}
 use Rattle.machine_core.specs.Sound.{IsSound}

@@ -13,7 +13,8 @@ use Rattle.memory_banks.specs.Banks.{Bank, bank_at, pending, all_pending, answer
 use Rattle.input_stack.specs.declared.Entry.{Entry}
 use Rattle.miss_registers.specs.declared.Owed.{Owed}
 use Rattle.cache_unit.specs.declared.Reply.{Reply}
-use Rattle.cache_unit.specs.State.{Sizes, Cache, Field, Register, Target, free_register, register_at, field_at, gathered, targets_of}
+use Rattle.cache_unit.specs.declared.Sizes.{Sizes}
+use Rattle.cache_unit.specs.State.{Cache, Field, Register, Target, free_register, register_at, field_at, gathered, targets_of}
 use Rattle.cache_unit.specs.State.{targets_of_field, targets, tags}
 use Rattle.cache_unit.specs.Counts.{tally, bit}
 use Rattle.cache_unit.proofs.FormsParts.{in_range}

@@ -14,7 +14,8 @@ use Rattle.memory_banks.specs.declared.Command.{Command}
 use Rattle.memory_banks.specs.declared.Command.TheVariants.{Read, Write}
 use Rattle.memory_banks.specs.Banks.{Bank, bank_at, no_bank, pending, all_pending, words_after, answers_to, after, with_command, room_in}
 use Rattle.write_queue.specs.declared.Queued.{Queued}
-use Rattle.cache_unit.specs.State.{Sizes, frame_of, live_for, register_at}
+use Rattle.cache_unit.specs.declared.Sizes.{Sizes}
+use Rattle.cache_unit.specs.State.{frame_of, live_for, register_at}
 use Rattle.cache_unit.specs.FormLaws.{form_at, forms}
 use Rattle.write_queue.specs.Queue.{overlaid}
 use Rattle.cache_unit.specs.Steps.{Stepped, drain_first, drain_step}

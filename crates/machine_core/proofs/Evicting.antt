@@ -4,7 +4,8 @@ use Rattle.std.proofs.lemmas.Bool.{cases_eq}
 use Rattle.flat_model.specs.Words.{merged, zero_word}
 use Rattle.flat_model.proofs.Lanewise.{merged-none}
 use Rattle.memory_banks.specs.Banks.{all_pending}
-use Rattle.cache_unit.specs.State.{Sizes, frame_at, frame_of, tags, cell_in, block_of, place_in}
+use Rattle.cache_unit.specs.declared.Sizes.{Sizes}
+use Rattle.cache_unit.specs.State.{frame_at, frame_of, tags, cell_in, block_of, place_in}
 use Rattle.cache_unit.specs.Causes.{dirty_words}
 use Rattle.cache_unit.specs.Steps.{released, evicted}
 use Rattle.cache_unit.specs.Forms.{filled_by}

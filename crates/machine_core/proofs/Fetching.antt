@@ -14,7 +14,8 @@ use Rattle.write_queue.specs.Queue.{overlaid, queued_lanes}
 use Rattle.cache_directory.specs.declared.Cell.{Cell}
 use Rattle.memory_banks.specs.declared.Command.{Command}
 use Rattle.cache_unit.specs.declared.Reply.{Reply}
-use Rattle.cache_unit.specs.State.{Sizes, Frame, Field, Register, Cache, clear_field, frame_at, frame_of, is_present, register_at, field_at}
+use Rattle.cache_unit.specs.declared.Sizes.{Sizes}
+use Rattle.cache_unit.specs.State.{Frame, Field, Register, Cache, clear_field, frame_at, frame_of, is_present, register_at, field_at}
 use Rattle.cache_unit.specs.State.{is_live, live_for, free_slot, cell_of, Target, tags, block_of, place_in, address}
 use Rattle.cache_unit.specs.Causes.{addresses, dirty_words, choose}
 use Rattle.cache_unit.specs.Steps.{fresh_frame, released, installed, reads, missed, fetched, fetches}

@@ -14,7 +14,8 @@ use Rattle.memory_banks.specs.declared.BankAnswer.{BankAnswer}
 use Rattle.memory_banks.specs.Banks.{all_pending}
 use Rattle.input_stack.specs.Stack.{stack_word}
 use Rattle.cache_unit.specs.declared.Reply.{Reply}
-use Rattle.cache_unit.specs.State.{Sizes, Cache, Target, tags, targets, register_at, field_at, is_live, live_for, frame_of, cell_of}
+use Rattle.cache_unit.specs.declared.Sizes.{Sizes}
+use Rattle.cache_unit.specs.State.{Cache, Target, tags, targets, register_at, field_at, is_live, live_for, frame_of, cell_of}
 use Rattle.cache_unit.specs.State.{block_of, place_in}
 use Rattle.cache_unit.specs.Forms.{LaneForm, Byte, Asked, Form, bytes_of, missing_form, coming_form, over_form, form_in, form, target_form}
 use Rattle.cache_unit.specs.Forms.{fill, value, filled_by, owed}

@@ -10,7 +10,7 @@ use Rattle.flat_model.specs.declared.Answer.TheVariants.{Refused}
 use Rattle.flat_model.specs.Flat.{flat_step}
 use Rattle.memory_banks.specs.declared.BankAnswer.{BankAnswer}
 use Rattle.memory_banks.specs.Banks.{Bank, bank_at, pending}
-use Rattle.cache_unit.specs.State.{Sizes}
+use Rattle.cache_unit.specs.declared.Sizes.{Sizes}
 use Rattle.cache_unit.specs.Counts.{tally}
 use Rattle.cache_unit.proofs.FormsLists.{tally-append}
 use Rattle.machine_core.specs.Law.{IsLawful, IsKept, WalkIsKept}

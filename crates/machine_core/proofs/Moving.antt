@@ -3,6 +3,7 @@ use Rattle.std.proofs.Common.{◌≡◌, ℕ, ◌-◌, ◌*◌, ◌/◌, ◌%◌
 use Rattle.std.proofs.Common.{slice_get, refl, ap, ◌∙◌, arith, ◌⊎◌, inl, inr, ⊎_elim, lt-ltb, le-ltb, mod-lt}
 use Rattle.std.proofs.lemmas.Bool.{cases_lt}
 use Rattle.std.proofs.lemmas.Nat.{mul-le}
+use Rattle.flat_model.specs.declared.limits.TheConstants.{MAX_REGS, MAX_BLOCK_WORDS, MAX_BANKS, MAX_BANK_QUEUE}
 use Rattle.flat_model.specs.declared.Event.{Event}
 use Rattle.flat_model.specs.declared.Event.TheVariants.{Drain, Serve, Process, Take}
 use Rattle.flat_model.specs.declared.Answer.TheVariants.{Moved, Refused}
@@ -13,24 +14,24 @@ use Rattle.memory_banks.specs.Banks.{bank_at, room_in}
 use Rattle.input_stack.specs.declared.Entry.{Entry}
 use Rattle.write_queue.specs.declared.Queued.{Queued}
 use Rattle.cache_unit.specs.declared.Reply.{Reply}
-use Rattle.cache_unit.specs.State.{Sizes}
+use Rattle.cache_unit.specs.declared.Sizes.{Sizes}
 use Rattle.cache_unit.specs.Sound.{InRange}
 use Rattle.cache_unit.specs.Steps.{Stepped, drain_first, drain_step, process_entry}
 use Rattle.cache_unit.specs.Steps.{process_step, take_reply, take_step}
 use Rattle.machine_core.specs.Machine.{Machine, apply, joined_with}
 use Rattle.machine_core.specs.Pump.{weight, has_items}
-use Rattle.machine_core.specs.Law.{IsLawful, HasRoom}
+use Rattle.machine_core.specs.Law.{IsLawful, HasRoom, greatest_weight}
 use Rattle.machine_core.specs.Sound.{IsSound, IsBounded}
 use Rattle.machine_core.proofs.Weighing.{some_queue, take_lowers, process_lowers, serve_lowers, drain_lowers}
 use Rattle.machine_core.proofs.Counting.{weight_bound}
 
 -- ---- the weight of any machine
 
-pub weighs_little : (z : Sizes) (m : Machine) → InRange z → IsSound z m → IsBounded z m → weight m ≤ 2624
+pub weighs_little : (z : Sizes) (m : Machine) → InRange z → IsSound z m → IsBounded z m → weight m ≤ greatest_weight
 weighs_little z m r sound bounded =
     let few = weight_bound z m sound bounded in
-    let registers = mul-le z.regs z.block_words 16 16 r.few_regs r.few_words in
-    let banks = mul-le z.banks z.bank_queue 16 64 r.few_banks r.few_commands in
+    let registers = mul-le z.regs z.block_words MAX_REGS MAX_BLOCK_WORDS r.few_regs r.few_words in
+    let banks = mul-le z.banks z.bank_queue MAX_BANKS MAX_BANK_QUEUE r.few_banks r.few_commands in
     let four : 4 * z.regs * z.block_words ≡ 4 * (z.regs * z.block_words) = omega arith in
     omega (arith, few, registers, banks, four, r.few_replies, r.short_queue)
 

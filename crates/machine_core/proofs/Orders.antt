@@ -4,7 +4,8 @@ use Rattle.std.proofs.Common.{refl, sym, ap, ap₂, ◌∙◌, arith, length-set
 use Rattle.std.proofs.Common.{get_or-set_same, get_or-set_other}
 use Rattle.std.proofs.lemmas.Bool.{cases_eq, cases_lt, or_cases, or_left, or_right}
 use Rattle.std.proofs.lemmas.List.{get_or_past, set_past}
-use Rattle.cache_unit.specs.State.{Sizes, Frame, empty_frame}
+use Rattle.cache_unit.specs.declared.Sizes.{Sizes}
+use Rattle.cache_unit.specs.State.{Frame, empty_frame}
 use Rattle.cache_unit.specs.Causes.{order_of}
 use Rattle.cache_unit.specs.Steps.{without}
 use Rattle.machine_core.specs.Sound.{is_in, block_at, InOrder}

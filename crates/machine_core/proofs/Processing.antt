@@ -9,7 +9,8 @@ use Rattle.flat_model.proofs.Lanewise.{merged_held}
 use Rattle.memory_banks.specs.Banks.{bank_at, all_pending, words_after}
 use Rattle.input_stack.specs.declared.Entry.{Entry}
 use Rattle.write_queue.specs.Queue.{overlaid}
-use Rattle.cache_unit.specs.State.{Sizes, Register, free_register, register_at, tags, cell_of, block_of, place_in}
+use Rattle.cache_unit.specs.declared.Sizes.{Sizes}
+use Rattle.cache_unit.specs.State.{Register, free_register, register_at, tags, cell_of, block_of, place_in}
 use Rattle.cache_unit.specs.Steps.{processed, process_entry, process_step}
 use Rattle.cache_unit.specs.Counts.{tally, bit}
 use Rattle.cache_unit.proofs.FormsLists.{Adds-tally, Adds-remove}

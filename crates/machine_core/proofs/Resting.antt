@@ -20,7 +20,8 @@ use Rattle.memory_banks.specs.declared.Command.TheVariants.{Read, Write}
 use Rattle.memory_banks.specs.Banks.{bank_at, no_bank, all_pending, room_in}
 use Rattle.cache_directory.specs.declared.Cell.{Cell}
 use Rattle.cache_unit.specs.declared.Reply.{Reply}
-use Rattle.cache_unit.specs.State.{Sizes, Field, Register, Target, Cache, clear_field, free_register, frame_at, frame_of, is_present}
+use Rattle.cache_unit.specs.declared.Sizes.{Sizes}
+use Rattle.cache_unit.specs.State.{Field, Register, Target, Cache, clear_field, free_register, frame_at, frame_of, is_present}
 use Rattle.cache_unit.specs.State.{register_at, is_live, live_for, is_pending_block, is_pending, cell_of, gathered, targets_of, targets}
 use Rattle.cache_unit.specs.State.{tags, block_of, place_in, address}
 use Rattle.cache_unit.specs.Causes.{first_cause, ways_of, choose, dirty_from, dirty_of_block, dirty_words, addresses, lacks_places}

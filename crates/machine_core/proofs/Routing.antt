@@ -21,7 +21,8 @@ use Rattle.memory_banks.specs.Banks.{Bank, bank_at, no_bank, pending, all_pendin
 use Rattle.input_stack.specs.declared.Entry.{Entry}
 use Rattle.write_queue.specs.declared.Queued.{Queued}
 use Rattle.cache_unit.specs.declared.Reply.{Reply}
-use Rattle.cache_unit.specs.State.{Sizes, Field, Register, Cache, free_register, frame_of, is_present, register_at, field_at, live_for}
+use Rattle.cache_unit.specs.declared.Sizes.{Sizes}
+use Rattle.cache_unit.specs.State.{Field, Register, Cache, free_register, frame_of, is_present, register_at, field_at, live_for}
 use Rattle.cache_unit.specs.State.{free_slot, with_cell, with_field, block_of, address}
 use Rattle.cache_unit.specs.Causes.{choose, Found, Here, Coming, load_cause, store_cause, prefetch_cause, evict_cause, arrive_cause}
 use Rattle.cache_unit.specs.Steps.{Stepped, unless, made_obsolete, obsoleted, released, evicted, evicted_from, fresh_register, installed}

@@ -11,7 +11,7 @@ use Rattle.memory_banks.specs.declared.Command.{Command}
 use Rattle.memory_banks.specs.declared.Command.TheVariants.{Read, Write}
 use Rattle.memory_banks.specs.declared.BankAnswer.{BankAnswer}
 use Rattle.memory_banks.specs.Banks.{Bank, bank_at, no_bank, pending, all_pending, words_after, answers_to, after, with_command, all_sent}
-use Rattle.cache_unit.specs.State.{Sizes}
+use Rattle.cache_unit.specs.declared.Sizes.{Sizes}
 use Rattle.cache_unit.specs.Counts.{tally, bit}
 use Rattle.cache_unit.proofs.FormsLists.{Adds, Adds-tally, Adds-find_other, Adds-find_same, Adds-push, Adds-left, Adds-right, Adds-same}
 use Rattle.cache_unit.proofs.FormsLists.{find_none, flat_map_part, read_set, map-same}

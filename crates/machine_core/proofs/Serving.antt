@@ -8,7 +8,8 @@ use Rattle.flat_model.specs.declared.Event.TheVariants.{Serve}
 use Rattle.memory_banks.specs.declared.Command.{Command}
 use Rattle.memory_banks.specs.declared.Command.TheVariants.{Read, Write}
 use Rattle.memory_banks.specs.Banks.{Bank, bank_at, no_bank, pending, all_pending, words_after, answers_to, after, served}
-use Rattle.cache_unit.specs.State.{Sizes, register_at}
+use Rattle.cache_unit.specs.declared.Sizes.{Sizes}
+use Rattle.cache_unit.specs.State.{register_at}
 use Rattle.cache_unit.specs.Counts.{tally}
 use Rattle.cache_unit.proofs.FormsLists.{flat_map_part, read_set}
 use Rattle.write_queue.specs.Queue.{overlaid}

@@ -11,7 +11,8 @@ use Rattle.memory_banks.specs.Memory.{Memory, with_banks, SameButQueues}
 use Rattle.memory_banks.proofs.Sending.{banks_sent}
 use Rattle.input_stack.specs.declared.Entry.{Entry}
 use Rattle.cache_unit.specs.declared.Reply.{Reply}
-use Rattle.cache_unit.specs.State.{Sizes, Cache, UnitState, frame_of}
+use Rattle.cache_unit.specs.declared.Sizes.{Sizes}
+use Rattle.cache_unit.specs.State.{Cache, UnitState, frame_of}
 use Rattle.cache_unit.specs.Causes.{arrive_cause, evict_cause}
 use Rattle.cache_unit.specs.Steps.{Stepped, unless, evicted_from, moved, arrived, arrive_step, evict_step, process_step, process_entry}
 use Rattle.cache_unit.specs.Steps.{take_step, take_reply}

@@ -8,7 +8,8 @@ use Rattle.flat_model.specs.declared.Answer.TheVariants.{Value}
 use Rattle.flat_model.specs.Flat.{with_due, same_word, is_owed, flat_after}
 use Rattle.memory_banks.specs.Banks.{all_pending}
 use Rattle.cache_unit.specs.declared.Reply.{Reply}
-use Rattle.cache_unit.specs.State.{Sizes, Target, tags, targets, frame_of}
+use Rattle.cache_unit.specs.declared.Sizes.{Sizes}
+use Rattle.cache_unit.specs.State.{Target, tags, targets, frame_of}
 use Rattle.cache_unit.specs.Steps.{take_reply, take_step}
 use Rattle.cache_unit.specs.Forms.{Form, filled_by, owed}
 use Rattle.cache_unit.specs.Counts.{tally}

@@ -7,7 +7,8 @@ use Rattle.flat_model.specs.Words.{merged}
 use Rattle.memory_banks.specs.Banks.{Bank, bank_at, all_pending}
 use Rattle.input_stack.specs.declared.Entry.{Entry}
 use Rattle.cache_directory.specs.declared.Cell.{Cell}
-use Rattle.cache_unit.specs.State.{Sizes, Cache, tags, frame_of, cell_of, block_of, place_in, register_at, field_at}
+use Rattle.cache_unit.specs.declared.Sizes.{Sizes}
+use Rattle.cache_unit.specs.State.{Cache, tags, frame_of, cell_of, block_of, place_in, register_at, field_at}
 use Rattle.cache_unit.specs.SoundCache.{HasWord, IsSoundCache}
 use Rattle.cache_unit.specs.Counts.{tally, bit}
 use Rattle.cache_unit.proofs.FormsLists.{Adds-tally, Adds-remove, tally-filter}

@@ -16,7 +16,8 @@ use Rattle.cache_unit.specs.declared.Reply.{Reply}
 use Rattle.input_stack.specs.declared.Entry.{Entry}
 use Rattle.write_queue.specs.declared.Queued.{Queued}
 use Rattle.miss_registers.specs.declared.Owed.{Owed}
-use Rattle.cache_unit.specs.State.{Sizes, Field, Cache, clear_field, free_register, register_at, field_at}
+use Rattle.cache_unit.specs.declared.Sizes.{Sizes}
+use Rattle.cache_unit.specs.State.{Field, Cache, clear_field, free_register, register_at, field_at}
 use Rattle.cache_unit.specs.Causes.{arrive_cause}
 use Rattle.cache_unit.specs.Steps.{answered, filled, finished, processed, process_entry, arrived, drain_first, take_step, process_step}
 use Rattle.cache_unit.specs.Steps.{drain_step}

@@ -5,10 +5,12 @@ use Rattle.std.proofs.Common.{flat_map}
 use Rattle.std.proofs.lemmas.Nat.{mul-le}
 use Rattle.std.proofs.lemmas.Bool.{eqb-true, le-leb}
 use Rattle.std.specs.Option.{IsNone, option_or}
+use Rattle.memory_banks.specs.declared.bank.TheConstants.{MAX_ANSWERS}
+use Rattle.flat_model.specs.declared.limits.TheConstants.{MAX_REGS, MAX_BLOCK_WORDS}
 use Rattle.flat_model.specs.declared.Word.{Word}
 use Rattle.flat_model.specs.declared.Shape.{Shape}
 use Rattle.flat_model.specs.declared.ShapeField.{ShapeField}
-use Rattle.flat_model.specs.declared.ShapeField.TheVariants.{Words, Banks, BankQueue, Image}
+use Rattle.flat_model.specs.declared.ShapeField.TheVariants.{Image}
 use Rattle.flat_model.specs.declared.Event.{Event}
 use Rattle.flat_model.specs.declared.Event.TheVariants.{Load, Store, Prefetch, Evict, Drain, Serve, Arrive, Process, Take}
 use Rattle.flat_model.specs.declared.Answer.{Answer}
@@ -20,17 +22,18 @@ use Rattle.flat_model.specs.Flat.{flat_run}
 use Rattle.flat_model.specs.Ranges.{is_between}
 use Rattle.memory_banks.specs.Banks.{Bank, bank_at, pending, all_pending, answers_to, opening_banks}
 use Rattle.memory_banks.specs.Memory.{Memory, with_banks}
-use Rattle.cache_unit.specs.State.{Sizes, UnitState, opening_cache}
-use Rattle.cache_unit.specs.Shown.{sizes_of}
+use Rattle.cache_unit.specs.declared.Sizes.{Sizes}
+use Rattle.cache_unit.specs.State.{UnitState, opening_cache}
+use Rattle.cache_unit.specs.Shown.{shape_of}
 use Rattle.cache_unit.specs.Sound.{InRange}
 use Rattle.cache_unit.specs.Limits as limits
 use Rattle.memory_banks.specs.Memory as mem
-use Rattle.cache_unit.proofs.Numbers.{in_range}
+use Rattle.cache_unit.proofs.Numbers.{in_size}
 use Rattle.machine_core.specs.Machine.{Machine, MachineState, apply, walked, told, flat_of, settled, bank_word}
 use Rattle.machine_core.specs.Pump.{pumped, weight}
 use Rattle.machine_core.specs.Law.{IsLawful, HasRoom, IsKept, IsDriven, IsServed, ServesRequests}
 use Rattle.machine_core.specs.Sound.{IsSound, IsBounded}
-use Rattle.machine_core.specs.Whole.{machine_of, state_of, IsWhole, IsWholeState, Serves, bad_field}
+use Rattle.machine_core.specs.Whole.{machine_of, state_of, IsWhole, IsWholeState, Serves, or_image}
 use Rattle.machine_core.proofs.Counting.{on_their_way}
 use Rattle.machine_core.proofs.Contract.{sound_opening, flat_opening, bounded_opening, sound_apply, bounded_apply, flat_apply, flat_walked}
 use Rattle.machine_core.proofs.Contract.{pumped_lowers, pumped_rests, pumped_at_rest, bound_at_rest, served_after_pumps}
@@ -73,24 +76,23 @@ answers_below (x ∷ banks) (suc b) =
     omega arith
 
 -- no bank has more answers than there are words to wait for
-pub few_answers : (z : Sizes) (m : Machine) → InRange z → IsSound z m → (b : ℕ) → length (bank_at m.banks b).answers ≤ 256
+pub few_answers : (z : Sizes) (m : Machine) → InRange z → IsSound z m → (b : ℕ) → length (bank_at m.banks b).answers ≤ MAX_ANSWERS
 few_answers z m r sound b =
     let below = answers_below m.banks b in
     let way = on_their_way z m sound in
-    let most = mul-le z.regs z.block_words 16 16 r.few_regs r.few_words in
+    let most = mul-le z.regs z.block_words MAX_REGS MAX_BLOCK_WORDS r.few_regs r.few_words in
     omega arith
 
 -- ---- after some events
 
-module _ {ways words regs depth : ℕ} {shape : Shape} {unit : UnitState} {memory : Memory}
-    (whole : IsWhole ways words regs depth shape unit memory) where
+module _ {unit : UnitState} {memory : Memory}
+    (whole : IsWhole unit memory) where
   -- the same shape, with another machine
   changed : (m : Machine) → IsSound unit.sizes m → IsBounded unit.sizes m
       → (let u : UnitState = record { sizes = unit.sizes; cache = m.cache } in
-      IsWhole ways words regs depth shape u (with_banks memory m.banks))
+      IsWhole u (with_banks memory m.banks))
   changed m sound bounded =
       record {
-        sizes = whole.sizes;
         memory_words = whole.memory_words;
         limit = whole.limit;
         in_range = whole.in_range;
@@ -100,15 +102,15 @@ module _ {ways words regs depth : ℕ} {shape : Shape} {unit : UnitState} {memor
       }
 
   moved : (m : Machine) → IsSound unit.sizes m → IsBounded unit.sizes m → (u : UnitState) (n : Memory)
-      → u ≡ record unit { cache = m.cache } → n ≡ with_banks memory m.banks → IsWhole ways words regs depth shape u n
+      → u ≡ record unit { cache = m.cache } → n ≡ with_banks memory m.banks → IsWhole u n
   moved m sound bounded u n e f =
-      let P : UnitState → Type 0 = λ v. IsWhole ways words regs depth shape v n in
-      let Q : Memory → Type 0 = λ k. IsWhole ways words regs depth shape (record unit { cache = m.cache }) k in
+      let P : UnitState → Type 0 = λ v. IsWhole v n in
+      let Q : Memory → Type 0 = λ k. IsWhole (record unit { cache = m.cache }) k in
       subst P (sym e) (subst Q (sym f) (changed m sound bounded))
 
   pub whole_applied : (event : Event) (u : UnitState) (n : Memory)
       → u ≡ record unit { cache = (apply unit.sizes (machine_of unit memory) event).machine.cache }
-      → n ≡ with_banks memory (apply unit.sizes (machine_of unit memory) event).machine.banks → IsWhole ways words regs depth shape u n
+      → n ≡ with_banks memory (apply unit.sizes (machine_of unit memory) event).machine.banks → IsWhole u n
   whole_applied event u n e f =
       let sound = sound_apply unit.sizes (lawful unit.sizes whole.in_range) (machine_of unit memory) whole.sound event in
       let bounded = bounded_apply unit.sizes (lawful unit.sizes whole.in_range) (machine_of unit memory) whole.sound whole.bounded event in
@@ -116,7 +118,7 @@ module _ {ways words regs depth : ℕ} {shape : Shape} {unit : UnitState} {memor
 
   pub whole_walked : (events : List Event) (u : UnitState) (n : Memory)
       → u ≡ record unit { cache = (walked unit.sizes (machine_of unit memory) events).cache }
-      → n ≡ with_banks memory (walked unit.sizes (machine_of unit memory) events).banks → IsWhole ways words regs depth shape u n
+      → n ≡ with_banks memory (walked unit.sizes (machine_of unit memory) events).banks → IsWhole u n
   whole_walked events u n e f =
       let h = held_walked unit.sizes (lawful unit.sizes whole.in_range) (machine_of unit memory)
       (record { sound = whole.sound; bounded = whole.bounded }) events in
@@ -124,79 +126,65 @@ module _ {ways words regs depth : ℕ} {shape : Shape} {unit : UnitState} {memor
 
 -- ---- a new machine
 
-module _ (ways words regs depth : ℕ) (shape : Shape) (image : List Word) where
-  abbrev new_sizes : Sizes
-  new_sizes = sizes_of ways words regs depth shape
+-- the banks of a shape before the first event
+abbrev pub memory_of_shape : List Word → Shape → Memory
+memory_of_shape image s = record { words = s.words; limit = s.bank_queue; banks = opening_banks image s.banks }
 
+module _ (z : Sizes) (image : List Word) where
   abbrev new_unit : UnitState
-  new_unit = record { sizes = new_sizes; cache = opening_cache new_sizes }
+  new_unit = record { sizes = z; cache = opening_cache z }
 
   abbrev new_memory : Memory
-  new_memory = record { words = shape.words; limit = shape.bank_queue; banks = opening_banks image shape.banks }
+  new_memory = memory_of_shape image (shape_of z)
 
-  made : limits.bad_field new_sizes ≡ None → length image ≡ shape.words → IsWhole ways words regs depth shape new_unit new_memory
+  made : limits.bad_size z ≡ None → length image ≡ z.words → IsWhole new_unit new_memory
   made none fits =
-      let range = in_range new_sizes none in
+      let range = in_size z none in
       record {
-        sizes = refl;
         memory_words = refl;
         limit = refl;
         in_range = range;
-        sound = sound_opening new_sizes (lawful new_sizes range) image fits;
-        bounded = bounded_opening new_sizes (lawful new_sizes range) image fits;
+        sound = sound_opening z (lawful z range) image fits;
+        bounded = bounded_opening z (lawful z range) image fits;
       }
 
-  pub whole_opening : (unit : UnitState) (memory : Memory) → limits.bad_field new_sizes ≡ None → length image ≡ shape.words
-      → unit ≡ new_unit → memory ≡ new_memory → IsWhole ways words regs depth shape unit memory
+  pub whole_opening : (unit : UnitState) (memory : Memory) → limits.bad_size z ≡ None → length image ≡ z.words
+      → unit ≡ new_unit → memory ≡ new_memory → IsWhole unit memory
   whole_opening unit memory none fits e f =
-      let P : UnitState → Type 0 = λ u. IsWhole ways words regs depth shape u memory in
-      let Q : Memory → Type 0 = λ n. IsWhole ways words regs depth shape new_unit n in
+      let P : UnitState → Type 0 = λ u. IsWhole u memory in
+      let Q : Memory → Type 0 = λ n. IsWhole new_unit n in
       subst P (sym e) (subst Q (sym f) (made none fits))
 
   -- it stands for the image, and owes nothing
-  pub flat_new : (unit : UnitState) (memory : Memory) → limits.bad_field new_sizes ≡ None → length image ≡ shape.words → unit ≡ new_unit
+  pub flat_new : (unit : UnitState) (memory : Memory) → limits.bad_size z ≡ None → length image ≡ z.words → unit ≡ new_unit
       → memory ≡ new_memory → flat_of unit.sizes (machine_of unit memory) ≡ record { mem = image; due = λ tag. None }
   flat_new unit memory none fits e f =
       ap₂ (λ (u : UnitState) (n : Memory). flat_of u.sizes (machine_of u n)) e f
-      ∙ flat_opening new_sizes (lawful new_sizes (in_range new_sizes none)) image fits
-
-is_there : (n low high : ℕ) → low ≤ n → n ≤ high → is_between n low high ≡ true
-is_there n low high l h = ap₂ (λ a b. a && b) (le-leb low n l) (le-leb n high h)
+      ∙ flat_opening z (lawful z (in_size z none)) image fits
 
 -- the numbers of a unit are in range for its banks, too
-pub banks_fit : (z : Sizes) (image : ℕ) (shape : Shape) → InRange z → z.words ≡ shape.words → z.banks ≡ shape.banks
-    → z.bank_queue ≡ shape.bank_queue → image ≡ z.words → mem.bad_field image shape ≡ None
-banks_fit z image shape r w b q e =
-    let words = is_there shape.words 1 1048576 (omega (arith, r.some_memory)) (omega (arith, r.little_memory)) in
-    let banks = is_there shape.banks 1 16 (omega (arith, r.some_banks)) (omega (arith, r.few_banks)) in
-    let queue = is_there shape.bank_queue 1 64 (subst (λ n. 1 ≤ n) q (some_queue z r)) (omega (arith, r.few_commands)) in
-    let fits = eq-eqb image shape.words (e ∙ w) in
-    ap₂ (λ s t. cond (not s) (Some Words) (cond (not t) (Some Banks)
-    (cond (not (is_between shape.bank_queue 1 64)) (Some BankQueue) (cond (not (image == shape.words)) (Some Image) None)))) words banks
-    ∙ ap₂ (λ s t. cond (not s) (Some BankQueue) (cond (not t) (Some Image) None)) queue fits
+pub some_queue : (z : Sizes) → InRange z → 1 ≤ z.bank_queue
+some_queue z h = go z.bank_queue refl
   where
-    some_queue : (y : Sizes) → InRange y → 1 ≤ y.bank_queue
-    some_queue y h = go y.bank_queue refl
-      where
-        go : (n : ℕ) → y.bank_queue ≡ n → 1 ≤ y.bank_queue
-        go zero p = let none = ap (λ n. n * y.banks) p in let zeros = zero-mul y.banks in
-            absurd (omega (arith, h.enough_commands, h.some_words))
-        go (suc n) p = omega arith
+    go : (n : ℕ) → z.bank_queue ≡ n → 1 ≤ z.bank_queue
+    go zero p = let none = ap (λ n. n * z.banks) p in let zeros = zero-mul z.banks in
+        absurd (omega (arith, h.enough_commands, h.some_words))
+    go (suc n) p = omega arith
 
 -- what a shape and an image with no bad number give
-pub fits_image : (z : Sizes) (image : ℕ) → bad_field z image ≡ None → (limits.bad_field z ≡ None) × (image ≡ z.words)
-fits_image z image e = go (limits.bad_field z) refl (image == z.words) refl e
+pub fits_image : (bad : Option ShapeField) (z : Sizes) (image : ℕ) → or_image bad z image ≡ None → (bad ≡ None) × (image ≡ z.words)
+fits_image bad z image e = go bad (image == z.words) refl e
   where
-    go : (o : Option ShapeField) → limits.bad_field z ≡ o → (t : Bool) → (image == z.words) ≡ t
-        → option_or o (cond t None (Some Image)) ≡ None → (limits.bad_field z ≡ None) × (image ≡ z.words)
-    go None p true q h = (p, eqb-true image z.words q)
-    go None p false q h = cc
-    go (Some field) p t q h = cc
+    go : (o : Option ShapeField) (t : Bool) → (image == z.words) ≡ t → option_or o (cond t None (Some Image)) ≡ None
+        → (o ≡ None) × (image ≡ z.words)
+    go None true q h = (refl, eqb-true image z.words q)
+    go None false q h = cc
+    go (Some field) t q h = cc
 
 -- ---- what each machine promises
 
-module _ {ways words regs depth : ℕ} {shape : Shape} {unit : UnitState} {memory : Memory}
-    (whole : IsWhole ways words regs depth shape unit memory) where
+module _ {unit : UnitState} {memory : Memory}
+    (whole : IsWhole unit memory) where
   abbrev now : Machine
   now = machine_of unit memory
 
@@ -220,7 +208,7 @@ module _ {ways words regs depth : ℕ} {shape : Shape} {unit : UnitState} {memor
   pub is_whole : IsWholeState (state_of unit memory)
   is_whole = record { in_range = whole.in_range; sound = whole.sound; bounded = whole.bounded }
 
-  pub takes_answers : (b : ℕ) → length (bank_at memory.banks b).answers ≤ 256
+  pub takes_answers : (b : ℕ) → length (bank_at memory.banks b).answers ≤ MAX_ANSWERS
   takes_answers b = few_answers unit.sizes now whole.in_range whole.sound b
 
   pub serves : (event : Event) → weight now ≡ 0 → Serves unit.sizes event (apply unit.sizes now event).answer
@@ -258,7 +246,7 @@ module _ {ways words regs depth : ℕ} {shape : Shape} {unit : UnitState} {memor
       ∙ sym (ap₂ (λ (v : UnitState) (k : Memory). Some (flat_of v.sizes (machine_of v k))) e f)
 
   -- wherever a walk stands, no bank has more answers
-  pub takes_answers_walked : (events : List Event) (b : ℕ) → length (bank_at (walked unit.sizes now events).banks b).answers ≤ 256
+  pub takes_answers_walked : (events : List Event) (b : ℕ) → length (bank_at (walked unit.sizes now events).banks b).answers ≤ MAX_ANSWERS
   takes_answers_walked events b =
       let h = held_walked unit.sizes (lawful unit.sizes whole.in_range) now
       (record { sound = whole.sound; bounded = whole.bounded }) events in

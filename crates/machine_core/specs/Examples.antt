@@ -12,7 +12,8 @@ use Rattle.flat_model.specs.declared.Answer.TheVariants.{Accepted, Moved, Value,
 use Rattle.flat_model.specs.Words.{has, joined, merged}
 use Rattle.input_stack.specs.Stack.{stack_word}
 use Rattle.memory_banks.specs.Banks.{with_command, served}
-use Rattle.cache_unit.specs.State.{Sizes, frame_of, live_for, targets, with_cell, with_field}
+use Rattle.cache_unit.specs.declared.Sizes.{Sizes}
+use Rattle.cache_unit.specs.State.{frame_of, live_for, targets, with_cell, with_field}
 use Rattle.cache_unit.specs.Causes.{choose, load_cause, store_cause, prefetch_cause, evict_cause, arrive_cause}
 use Rattle.cache_unit.specs.Steps.{released, evicted, installed, fetched, fetches, load_step, store_step, prefetch_step, evict_step, drain_step, arrived, processed, process_step, take_step}
 use Rattle.machine_core.specs.Machine.{Machine, opening, walked, told, bank_word, settled}

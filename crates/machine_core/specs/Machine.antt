@@ -12,7 +12,8 @@ use Rattle.flat_model.specs.Flat.{Flat, word_at}
 use Rattle.memory_banks.specs.declared.Command.{Command}
 use Rattle.memory_banks.specs.declared.BankAnswer.{BankAnswer}
 use Rattle.memory_banks.specs.Banks.{Bank, bank_at, words_after, all_pending, served, room_in, all_sent, opening_banks}
-use Rattle.cache_unit.specs.State.{Sizes, Cache, opening_cache, frame_of, block_of, place_in}
+use Rattle.cache_unit.specs.declared.Sizes.{Sizes}
+use Rattle.cache_unit.specs.State.{Cache, opening_cache, frame_of, block_of, place_in}
 use Rattle.write_queue.specs.Queue.{overlaid}
 use Rattle.cache_unit.specs.Views.{is_empty, is_clean}
 use Rattle.cache_unit.specs.Causes.{arrive_cause}

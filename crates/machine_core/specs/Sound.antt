@@ -7,7 +7,8 @@ use Rattle.memory_banks.specs.declared.BankAnswer.{BankAnswer}
 use Rattle.memory_banks.specs.Banks.{bank_at, pending, all_pending}
 use Rattle.input_stack.specs.declared.Entry.{Entry}
 use Rattle.write_queue.specs.declared.Queued.{Queued}
-use Rattle.cache_unit.specs.State.{Sizes, Frame, Register, empty_frame, clear_field, frame_at, register_at, is_live, cell_of, tags, block_of, place_in, address}
+use Rattle.cache_unit.specs.declared.Sizes.{Sizes}
+use Rattle.cache_unit.specs.State.{Frame, Register, empty_frame, clear_field, frame_at, register_at, is_live, cell_of, tags, block_of, place_in, address}
 use Rattle.cache_unit.specs.Counts.{bit, tally}
 use Rattle.cache_unit.specs.Causes.{order_of}
 use Rattle.machine_core.specs.Machine.{Machine, backing, flat_word}

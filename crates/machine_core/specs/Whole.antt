@@ -2,7 +2,6 @@
 use Rattle.std.specs.Prelude.{◌≡◌, ℕ, ◌<◌, nat_lt, if◌then◌else◌, ◌==◌, IsTrue, Option, Some, None}
 use Rattle.std.specs.Option.{option_or}
 use Rattle.flat_model.specs.declared.Word.{Word}
-use Rattle.flat_model.specs.declared.Shape.{Shape}
 use Rattle.flat_model.specs.declared.ShapeField.{ShapeField}
 use Rattle.flat_model.specs.declared.ShapeField.TheVariants.{Image}
 use Rattle.flat_model.specs.declared.Event.{Event}
@@ -11,8 +10,9 @@ use Rattle.flat_model.specs.declared.Answer.{Answer}
 use Rattle.flat_model.specs.declared.Answer.TheVariants.{Accepted}
 use Rattle.flat_model.specs.Words.{has_any}
 use Rattle.memory_banks.specs.Memory.{Memory}
-use Rattle.cache_unit.specs.State.{Sizes, UnitState}
-use Rattle.cache_unit.specs.Shown.{sizes_of}
+use Rattle.cache_unit.specs.declared.Sizes.{Sizes}
+use Rattle.cache_unit.specs.State.{UnitState}
+use Rattle.cache_unit.specs.Shown.{sizes_of, shape_of}
 use Rattle.cache_unit.specs.Sound.{InRange}
 use Rattle.cache_unit.specs.Limits as limits
 use Rattle.machine_core.specs.Machine.{Machine, MachineState, apply, bank_word}
@@ -27,9 +27,12 @@ machine_of unit memory = record { cache = unit.cache; banks = memory.banks }
 abbrev pub state_of : UnitState → Memory → MachineState
 state_of unit memory = record { sizes = unit.sizes; machine = machine_of unit memory }
 
+-- the numbers of a machine whose type has four of them
+abbrev pub IsOfType : ℕ → ℕ → ℕ → ℕ → Sizes → Type 0
+IsOfType ways words regs depth z = z ≡ sizes_of ways words regs depth (shape_of z)
+
 -- a unit and a memory of one shape, whose numbers are in their ranges
-pub record IsWhole (ways words regs depth : ℕ) (shape : Shape) (unit : UnitState) (memory : Memory) : Type 0 where
-  pub sizes : unit.sizes ≡ sizes_of ways words regs depth shape
+pub record IsWhole (unit : UnitState) (memory : Memory) : Type 0 where
   pub memory_words : memory.words ≡ unit.sizes.words
   pub limit : memory.limit ≡ unit.sizes.bank_queue
   pub in_range : InRange unit.sizes
@@ -42,9 +45,17 @@ pub record IsWholeState (s : MachineState) : Type 0 where
   pub sound : IsSound s.sizes s.machine
   pub bounded : IsBounded s.sizes s.machine
 
--- the first number of a machine that is out of its range; the image's length comes last
+-- the first number of a machine that is out of its range, given the first one of its unit; the image's length comes last
+abbrev pub or_image : Option ShapeField → Sizes → ℕ → Option ShapeField
+or_image bad z image = option_or bad (if image == z.words then None else Some Image)
+
+-- the same of a machine whose type has four of its numbers
 abbrev pub bad_field : Sizes → ℕ → Option ShapeField
-bad_field z image = option_or (limits.bad_field z) (if image == z.words then None else Some Image)
+bad_field z image = or_image (limits.bad_field z) z image
+
+-- and of one whose numbers are all given at run time
+abbrev pub bad_size : Sizes → ℕ → Option ShapeField
+bad_size z image = or_image (limits.bad_size z) z image
 
 -- the word of memory at an address, where there is one
 abbrev pub bank_word_view : Sizes → Machine → ℕ → Option Word

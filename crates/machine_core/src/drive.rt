@@ -6,18 +6,12 @@ ghost use Rattle.cache_unit.specs.Views.{is_empty};
 ghost use Rattle.machine_core.specs.Whole.{machine_of};
 ghost use Rattle.machine_core.specs.Pump.{has_items, pumped};
 
-use cache_unit::CacheUnit;
+use cache_unit::ShapedUnit;
 use flat_model::Event;
 use memory_banks::Banks;
 
 /// The event that the driver makes now, if there is one.
-pub(crate) fn next_event<
-    const WAYS: usize,
-    const WORDS: usize,
-    const REGS: usize,
-    const DEPTH: usize,
->(unit: &CacheUnit<WAYS, WORDS, REGS, DEPTH>, banks: &Banks, number: u32) -> Option<Event>
-    requires { number ≡ unit.now.sizes.banks }
+pub(crate) fn next_event(unit: &ShapedUnit, banks: &Banks) -> Option<Event>
     ensures { result ≡ pumped unit.now.sizes (machine_of unit.now banks.now) }
 {
     if unit.replies_len() > 0 {
@@ -26,6 +20,7 @@ pub(crate) fn next_event<
     if unit.stack_len() > 0 {
         return Some(Event::Process { place: 0 });
     }
+    let number = unit.sizes().banks;
     if let Some(bank) = first_with_answer(banks, number) {
         return Some(Event::Arrive { bank, place: 0 });
     }

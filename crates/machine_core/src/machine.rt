@@ -4,20 +4,19 @@ ghost use Rattle.std.specs.Option.{option_map};
 ghost use Rattle.flat_model.specs.Flat.{flat_step, flat_run, word_at};
 ghost use Rattle.flat_model.specs.declared.Cause.TheVariants.{StrayWord};
 ghost use Rattle.memory_banks.specs.Memory.{fault_of};
-ghost use Rattle.cache_unit.specs.Shown.{sizes_of};
 ghost use Rattle.cache_unit.specs.Views as views;
 ghost use Rattle.cache_unit.specs.Lookups.{lookup};
 ghost use Rattle.memory_banks.specs.Banks.{bank_at};
 ghost use Rattle.machine_core.specs.Machine as machine;
 ghost use Rattle.machine_core.specs.Pump as driver;
 ghost use Rattle.machine_core.specs.Law.{most_weight, IsKept, IsServed};
-ghost use Rattle.machine_core.specs.Whole.{bad_field, bank_word_view, with_answer, Serves, IsWholeState};
+ghost use Rattle.machine_core.specs.Whole.{bad_size, bank_word_view, with_answer, Serves, IsWholeState};
 
 use crate::drive::{all_served, next_event};
 use crate::step::{step, walk};
 use crate::weigh::{weight_of_banks, weight_of_registers};
-use cache_unit::{CacheUnit, Lookup};
-use flat_model::{Answer, Event, Lanes, MakeFault, Shape, ShapeField, Word};
+use cache_unit::{Lookup, ShapedUnit, Sizes, bad_size};
+use flat_model::{Answer, Event, Lanes, MakeFault, ShapeField, Word};
 use input_stack::Entry;
 use memory_banks::{BankAnswer, Banks, Command};
 use miss_registers::{FieldView, Owed, RegisterView};
@@ -25,17 +24,14 @@ use std::alloc::{AllocError, Global};
 use std::marker::Model;
 use write_queue::Queued;
 
-/// A cache unit over the banks of its memory: `WAYS` (1 to 8) ways a set, `WORDS` (1 to 16) words a
-/// block, `REGS` (1 to 16) registers and `DEPTH` (1 to 16) places in the input stack.
+/// A cache unit over the banks of its memory, with the numbers that its [`Sizes`] say.
 #[derive(Drop)]
-pub struct Machine<const WAYS: usize, const WORDS: usize, const REGS: usize, const DEPTH: usize> {
-    shape: Shape,
-    unit: CacheUnit<WAYS, WORDS, REGS, DEPTH>,
+pub struct ShapedMachine {
+    unit: ShapedUnit,
     banks: Banks,
 }
 
-impl<const WAYS: usize, const WORDS: usize, const REGS: usize, const DEPTH: usize> Model
-    for Machine<WAYS, WORDS, REGS, DEPTH> {
+impl Model for ShapedMachine {
     ghost use Rattle.machine_core.specs.Machine.{MachineState};
 
     ghost Value = { MachineState };
@@ -44,40 +40,31 @@ impl<const WAYS: usize, const WORDS: usize, const REGS: usize, const DEPTH: usiz
 
     ghost view = { λ a. state_of a.unit a.banks };
 
-    ghost invariant = { λ a. IsWhole WAYS WORDS REGS DEPTH a.shape a.unit a.banks };
+    ghost invariant = { λ a. IsWhole a.unit a.banks };
 }
 
-impl<const WAYS: usize, const WORDS: usize, const REGS: usize, const DEPTH: usize> Machine<
-    WAYS,
-    WORDS,
-    REGS,
-    DEPTH,
-> {
+impl ShapedMachine {
     /// A machine in which nothing has happened, over the words of the image. `BadShape` names the
     /// first number that is out of its range, the image's length last, before any memory is asked
     /// for; `OutOfMemory` says that there was too little memory. After either nothing is made.
-    pub fn new(alloc: Global, shape: Shape, image: &[Word]) -> Result<Self, MakeFault>
+    pub fn new(alloc: Global, sizes: &Sizes, image: &[Word]) -> Result<Self, MakeFault>
         ensures ok { IfOk result
-            (λ m. m ≡ record {
-              sizes = sizes_of WAYS WORDS REGS DEPTH shape;
-              machine = machine.opening (sizes_of WAYS WORDS REGS DEPTH shape) image.now;
-            }) }
+            (λ m. m ≡ record { sizes = sizes.now; machine = machine.opening sizes.now image.now }) }
         ensures in_range { OnOk result
-            (bad_field (sizes_of WAYS WORDS REGS DEPTH shape) (length image.now) ≡ None) }
+            (bad_size sizes.now (length image.now) ≡ None) }
         ensures fault { IfErr result
-            (λ e. e ≡ fault_of (bad_field (sizes_of WAYS WORDS REGS DEPTH shape)
-            (length image.now))) }
+            (λ e. e ≡ fault_of (bad_size sizes.now (length image.now))) }
         ensures flat { IfOk result
             (λ m. machine.flat_of m.sizes m.machine
             ≡ record { mem = image.now; due = λ tag. None }) }
         ensures kept { IfOk result (λ m. IsKept m.sizes m.machine) }
     {
-        if let Some(field) = bad_field::<WAYS, WORDS, REGS, DEPTH>(&shape, image.len()) {
+        if let Some(field) = bad_field(sizes, image.len()) {
             return Err(MakeFault::BadShape(field));
         }
-        let unit = CacheUnit::new(alloc, &shape)?;
-        let banks = Banks::new(alloc, image, &shape)?;
-        Ok(Machine { shape, unit, banks })
+        let unit = ShapedUnit::new(alloc, sizes)?;
+        let banks = Banks::over(alloc, image, &sizes.shape())?;
+        Ok(ShapedMachine { unit, banks })
     }
 
     /// Makes one event. A refusal names its cause and leaves everything unchanged; a stray word (13)
@@ -114,15 +101,14 @@ impl<const WAYS: usize, const WORDS: usize, const REGS: usize, const DEPTH: usiz
             answers.items ≡ Some (machine.flat_of self.new.sizes self.new.machine)) }
         ensures kept { IsKept self.new.sizes self.new.machine }
     {
-        let Machine { unit, banks, .. } = self;
+        let ShapedMachine { unit, banks } = self;
         let mut answers = Vec::with_capacity(alloc, events.len())?;
         walk(unit, banks, events, &mut answers);
         Ok(answers)
     }
 
     /// What is on its way, each word and load weighed by the pumps that it may still take at most:
-    /// from 0 to `4 * REGS * WORDS + replies + 2 * write_queue + banks * bank_queue`, with the numbers
-    /// of the shape.
+    /// from 0 to `4 * regs * block_words + replies + 2 * write_queue + banks * bank_queue`.
     ///
     /// After as many pumps the weight is 0. Then each load, each prefetch and each store with a lane
     /// that points into memory is accepted, and an eviction is accepted or refused because there is
@@ -136,7 +122,7 @@ impl<const WAYS: usize, const WORDS: usize, const REGS: usize, const DEPTH: usiz
         let unit = 2 * u64::from(self.unit.stack_len())
             + u64::from(self.unit.replies_len())
             + 2 * u64::from(self.unit.queue_len());
-        weight_of_banks(&self.banks, self.shape.banks) + unit + weight_of_registers(&self.unit)
+        weight_of_banks(&self.banks, self.unit.sizes().banks) + unit + weight_of_registers(&self.unit)
     }
 
     /// Makes the driver's event, the first of these that is possible: the first ready reply is
@@ -161,7 +147,7 @@ impl<const WAYS: usize, const WORDS: usize, const REGS: usize, const DEPTH: usiz
             ≡ Some (machine.flat_of self.new.sizes self.new.machine)) }
         ensures kept { IsKept self.new.sizes self.new.machine }
     {
-        let event = next_event(&self.unit, &self.banks, self.shape.banks)?;
+        let event = next_event(&self.unit, &self.banks)?;
         Some((event, self.apply(event)))
     }
 
@@ -173,7 +159,7 @@ impl<const WAYS: usize, const WORDS: usize, const REGS: usize, const DEPTH: usiz
             → machine.bank_word self.now.sizes self.now.machine at
             ≡ word_at (machine.flat_of self.now.sizes self.now.machine).mem at }
     {
-        self.unit.clean() && all_served(&self.banks, self.shape.banks)
+        self.unit.clean() && all_served(&self.banks, self.unit.sizes().banks)
     }
 
     /// The word of memory at `at`, as it now stands in its bank; `None` exactly if memory has no such
@@ -208,10 +194,10 @@ impl<const WAYS: usize, const WORDS: usize, const REGS: usize, const DEPTH: usiz
     }
 
     /// The numbers that the machine was made with.
-    pub fn shape(&self) -> Shape
-        ensures { sizes_of WAYS WORDS REGS DEPTH result ≡ self.now.sizes }
+    pub fn sizes(&self) -> &Sizes
+        ensures { result.now ≡ self.now.sizes }
     {
-        self.shape
+        self.unit.sizes()
     }
 
     /// What a request for the word at `at` would find now: a hit, a miss that is under way already,
@@ -297,7 +283,7 @@ impl<const WAYS: usize, const WORDS: usize, const REGS: usize, const DEPTH: usiz
     }
 
     /// The block that a frame holds; `None` where it is free or there is no such frame. Set `s` has
-    /// the frames from `s * WAYS` on.
+    /// the frames from `s * ways` on.
     pub fn frame_block(&self, frame: u32) -> Option<u32>
         ensures { result ≡ views.frame_view self.now.machine.cache frame }
     {
@@ -323,16 +309,13 @@ impl<const WAYS: usize, const WORDS: usize, const REGS: usize, const DEPTH: usiz
 }
 
 // The first number that is out of its range, the image's length last.
-fn bad_field<const WAYS: usize, const WORDS: usize, const REGS: usize, const DEPTH: usize>(
-    shape: &Shape,
-    image: usize,
-) -> Option<ShapeField>
-    ensures { result ≡ bad_field (sizes_of WAYS WORDS REGS DEPTH shape.now) image }
+fn bad_field(sizes: &Sizes, image: usize) -> Option<ShapeField>
+    ensures { result ≡ bad_size sizes.now image }
 {
-    if let Some(field) = cache_unit::bad_field::<WAYS, WORDS, REGS, DEPTH>(shape) {
+    if let Some(field) = bad_size(sizes) {
         return Some(field);
     }
-    if image == shape.words as usize {
+    if image == sizes.words as usize {
         None
     } else {
         Some(ShapeField::Image)

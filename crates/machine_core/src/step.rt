@@ -7,7 +7,7 @@ ghost use Rattle.cache_unit.specs.Steps as steps;
 ghost use Rattle.machine_core.specs.Machine as machine;
 ghost use Rattle.machine_core.specs.Whole.{machine_of};
 
-use cache_unit::{CacheUnit, Request};
+use cache_unit::{ShapedUnit, Request};
 use flat_model::{Answer, Event};
 use memory_banks::Banks;
 
@@ -15,8 +15,8 @@ use memory_banks::Banks;
 // Each kind of event is a function that isn't inlined: a function pays at its entry for all its
 // locals, and so an event pays for its own alone.
 #[inline(always)]
-pub(crate) fn step<const WAYS: usize, const WORDS: usize, const REGS: usize, const DEPTH: usize>(
-    unit: &mut CacheUnit<WAYS, WORDS, REGS, DEPTH>,
+pub(crate) fn step(
+    unit: &mut ShapedUnit,
     banks: &mut Banks,
     event: Event,
 ) -> Answer
@@ -47,8 +47,8 @@ pub(crate) fn step<const WAYS: usize, const WORDS: usize, const REGS: usize, con
 }
 
 /// Makes the events, one after another, and puts their answers into the list.
-pub(crate) fn walk<const WAYS: usize, const WORDS: usize, const REGS: usize, const DEPTH: usize>(
-    unit: &mut CacheUnit<WAYS, WORDS, REGS, DEPTH>,
+pub(crate) fn walk(
+    unit: &mut ShapedUnit,
     banks: &mut Banks,
     events: &[Event],
     answers: &mut Vec<Answer>,
@@ -78,8 +78,8 @@ pub(crate) fn walk<const WAYS: usize, const WORDS: usize, const REGS: usize, con
 
 // A request goes to the unit, and what it sends to the banks.
 #[inline(always)]
-fn ask<const WAYS: usize, const WORDS: usize, const REGS: usize, const DEPTH: usize>(
-    unit: &mut CacheUnit<WAYS, WORDS, REGS, DEPTH>,
+fn ask(
+    unit: &mut ShapedUnit,
     banks: &mut Banks,
     request: Request,
 ) -> Answer
@@ -104,8 +104,8 @@ fn ask<const WAYS: usize, const WORDS: usize, const REGS: usize, const DEPTH: us
 
 // The front of the write queue goes to its bank.
 #[inline(never)]
-fn drain<const WAYS: usize, const WORDS: usize, const REGS: usize, const DEPTH: usize>(
-    unit: &mut CacheUnit<WAYS, WORDS, REGS, DEPTH>,
+fn drain(
+    unit: &mut ShapedUnit,
     banks: &mut Banks,
 ) -> Answer
     requires { banks.old.limit ≡ unit.old.sizes.bank_queue }
@@ -148,8 +148,8 @@ fn serve(banks: &mut Banks, bank: u32) -> Answer
 
 // The bank's answer at a place goes to the unit, and stays where the unit refuses it.
 #[inline(never)]
-fn bring<const WAYS: usize, const WORDS: usize, const REGS: usize, const DEPTH: usize>(
-    unit: &mut CacheUnit<WAYS, WORDS, REGS, DEPTH>,
+fn bring(
+    unit: &mut ShapedUnit,
     banks: &mut Banks,
     bank: u32,
     place: u32,

@@ -5,7 +5,7 @@ ghost use Rattle.memory_banks.specs.Banks.{bank_at};
 ghost use Rattle.cache_unit.specs.State.{register_at, field_at};
 ghost use Rattle.machine_core.specs.Pump.{total, bank_weight, field_weight, register_weight};
 
-use cache_unit::CacheUnit;
+use cache_unit::ShapedUnit;
 use memory_banks::Banks;
 
 /// What is on its way at the banks: 4 for each queued read, 1 for each queued write and 3 for each
@@ -33,18 +33,12 @@ fn weight_of_bank(banks: &Banks, bank: u32) -> u64
 
 /// What the loads add that wait for the words of valid registers: 1 for each load that waits for a
 /// word beyond the first.
-pub(crate) fn weight_of_registers<
-    const WAYS: usize,
-    const WORDS: usize,
-    const REGS: usize,
-    const DEPTH: usize,
->(unit: &CacheUnit<WAYS, WORDS, REGS, DEPTH>) -> u64
-    requires few { REGS ≤ MAX_REGS }
-    requires few_words { WORDS ≤ MAX_BLOCK_WORDS }
-    requires registers { length unit.now.cache.registers ≡ REGS }
-    requires words { unit.now.sizes.block_words ≡ WORDS }
+pub(crate) fn weight_of_registers(unit: &ShapedUnit) -> u64
+    requires few { unit.now.sizes.regs ≤ MAX_REGS }
+    requires few_words { unit.now.sizes.block_words ≤ MAX_BLOCK_WORDS }
+    requires registers { length unit.now.cache.registers ≡ unit.now.sizes.regs }
     requires fields { (s : ℕ) → (register_at unit.now.cache s).valid ≡ true
-        → length (register_at unit.now.cache s).fields ≡ WORDS }
+        → length (register_at unit.now.cache s).fields ≡ unit.now.sizes.block_words }
     ensures value { result ≡ total register_weight unit.now.cache.registers }
     ensures small { result < 2 ^ 48 }
 {
@@ -53,21 +47,20 @@ pub(crate) fn weight_of_registers<
         return 0;
     }
     let mut weight = 0;
-    for slot in 0..REGS as u32 {
+    for slot in 0..unit.sizes().regs {
         weight += weight_of_register(unit, slot);
     }
     weight
 }
 
-fn weight_of_register<const WAYS: usize, const WORDS: usize, const REGS: usize, const DEPTH: usize>(
-    unit: &CacheUnit<WAYS, WORDS, REGS, DEPTH>,
+fn weight_of_register(
+    unit: &ShapedUnit,
     slot: u32,
 ) -> u64
-    requires few_words { WORDS ≤ MAX_BLOCK_WORDS }
+    requires few_words { unit.now.sizes.block_words ≤ MAX_BLOCK_WORDS }
     requires slot { slot < length unit.now.cache.registers }
-    requires words { unit.now.sizes.block_words ≡ WORDS }
     requires fields { (register_at unit.now.cache slot).valid ≡ true
-        → length (register_at unit.now.cache slot).fields ≡ WORDS }
+        → length (register_at unit.now.cache slot).fields ≡ unit.now.sizes.block_words }
     ensures value { result ≡ register_weight (register_at unit.now.cache slot) }
     ensures small { result < 2 ^ 40 }
 {
@@ -77,26 +70,25 @@ fn weight_of_register<const WAYS: usize, const WORDS: usize, const REGS: usize, 
     }
 }
 
-fn weight_of_fields<const WAYS: usize, const WORDS: usize, const REGS: usize, const DEPTH: usize>(
-    unit: &CacheUnit<WAYS, WORDS, REGS, DEPTH>,
+fn weight_of_fields(
+    unit: &ShapedUnit,
     slot: u32,
 ) -> u64
-    requires few_words { WORDS ≤ MAX_BLOCK_WORDS }
+    requires few_words { unit.now.sizes.block_words ≤ MAX_BLOCK_WORDS }
     requires slot { slot < length unit.now.cache.registers }
-    requires words { unit.now.sizes.block_words ≡ WORDS }
-    requires fields { length (register_at unit.now.cache slot).fields ≡ WORDS }
+    requires fields { length (register_at unit.now.cache slot).fields ≡ unit.now.sizes.block_words }
     ensures value { result ≡ total field_weight (register_at unit.now.cache slot).fields }
     ensures small { result < 2 ^ 40 }
 {
     let mut weight = 0;
-    for i in 0..WORDS as u32 {
+    for i in 0..unit.sizes().block_words {
         weight += weight_of_field(unit, slot, i);
     }
     weight
 }
 
-fn weight_of_field<const WAYS: usize, const WORDS: usize, const REGS: usize, const DEPTH: usize>(
-    unit: &CacheUnit<WAYS, WORDS, REGS, DEPTH>,
+fn weight_of_field(
+    unit: &ShapedUnit,
     slot: u32,
     i: u32,
 ) -> u64

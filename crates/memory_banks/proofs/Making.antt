@@ -3,6 +3,7 @@ use Rattle.std.proofs.Common.{◌≡◌, ℕ, zero, suc, ◌+◌, ◌-◌, ◌*�
 use Rattle.std.specs.List.{range_with_len}
 use Rattle.std.proofs.lemmas.Bool.{eqb-true}
 use Rattle.std.proofs.lemmas.List.FromFn.{map-range_with_len_more, length-map-range_with_len, get_or-map-range_with_len}
+use Rattle.flat_model.specs.declared.limits.TheConstants.{MAX_WORDS, MAX_MEMORY, MAX_BANKS, MAX_BANK_QUEUE}
 use Rattle.flat_model.specs.declared.Word.{Word}
 use Rattle.flat_model.specs.declared.Shape.{Shape}
 use Rattle.flat_model.specs.declared.ShapeField.TheVariants.{Words, Banks, BankQueue, Image}
@@ -36,28 +37,28 @@ opening-spread image n b h =
 -- what a shape with no bad number gives
 pub record InRange (image : ℕ) (shape : Shape) : Type 0 where
   pub some_words : 1 ≤ shape.words
-  pub most_words : shape.words ≤ 1048576
+  pub most_words : shape.words ≤ MAX_MEMORY
   pub some_banks : 1 ≤ shape.banks
-  pub most_banks : shape.banks ≤ 16
+  pub most_banks : shape.banks ≤ MAX_BANKS
   pub some_queue : 1 ≤ shape.bank_queue
-  pub most_queue : shape.bank_queue ≤ 64
+  pub most_queue : shape.bank_queue ≤ MAX_BANK_QUEUE
   pub image_fits : image ≡ shape.words
 
 pub in_range : (image : ℕ) (shape : Shape) → bad_field image shape ≡ None → InRange image shape
-in_range image shape e = go (is_between shape.words 1 1048576) refl (is_between shape.banks 1 16) refl (is_between shape.bank_queue 1 64) refl (image == shape.words) refl e
+in_range image shape e = go (is_between shape.words 1 MAX_WORDS) refl (is_between shape.banks 1 MAX_BANKS) refl (is_between shape.bank_queue 1 MAX_BANK_QUEUE) refl (image == shape.words) refl e
   where
-    go : (a : Bool) → is_between shape.words 1 1048576 ≡ a → (b : Bool) → is_between shape.banks 1 16 ≡ b → (c : Bool) → is_between shape.bank_queue 1 64 ≡ c → (d : Bool) → (image == shape.words) ≡ d → cond (not a) (Some Words) (cond (not b) (Some Banks) (cond (not c) (Some BankQueue) (cond (not d) (Some Image) None))) ≡ None → InRange image shape
+    go : (a : Bool) → is_between shape.words 1 MAX_WORDS ≡ a → (b : Bool) → is_between shape.banks 1 MAX_BANKS ≡ b → (c : Bool) → is_between shape.bank_queue 1 MAX_BANK_QUEUE ≡ c → (d : Bool) → (image == shape.words) ≡ d → cond (not a) (Some Words) (cond (not b) (Some Banks) (cond (not c) (Some BankQueue) (cond (not d) (Some Image) None))) ≡ None → InRange image shape
     go false p b q c r d t h = cc
     go true p false q c r d t h = cc
     go true p true q false r d t h = cc
     go true p true q true r false t h = cc
     go true p true q true r true t h =
-        let words = between shape.words 1 1048576 p in
-        let banks = between shape.banks 1 16 q in
-        let queue = between shape.bank_queue 1 64 r in
+        let words = between shape.words 1 MAX_WORDS p in
+        let banks = between shape.banks 1 MAX_BANKS q in
+        let queue = between shape.bank_queue 1 MAX_BANK_QUEUE r in
         record {
           some_words = words.0;
-          most_words = words.1;
+          most_words = (let few = words.1 in omega arith);
           some_banks = banks.0;
           most_banks = banks.1;
           some_queue = queue.0;
@@ -88,7 +89,7 @@ made_memory image shape banks r e = subst Is (sym e) made
           some_words = r.some_words;
           most_words = r.most_words;
           some_banks = subst (λ n. 1 ≤ n) (sym number) r.some_banks;
-          most_banks = subst (λ n. n ≤ 16) (sym number) r.most_banks;
+          most_banks = subst (λ n. n ≤ MAX_BANKS) (sym number) r.most_banks;
           some_queue = r.some_queue;
           most_queue = r.most_queue;
           spread = λ b h. spread b (subst (λ n. b < n) number h);

@@ -1,6 +1,7 @@
 -- A row of banks, and one of them changed.
 use Rattle.std.proofs.Common.{◌≡◌, ℕ, zero, suc, ◌<◌, ◌≤◌, List, [], ◌∷◌, length, get_or, set, refl, sym, ap, ◌∙◌, subst, length-set}
 use Rattle.std.proofs.lemmas.List.{get_or_default}
+use Rattle.flat_model.specs.declared.limits.TheConstants.{MAX_BANKS}
 use Rattle.memory_banks.specs.Banks.{Bank, no_bank, bank_at}
 use Rattle.memory_banks.specs.Memory.{Memory, IsMemory, with_banks, share_length}
 
@@ -24,7 +25,7 @@ kept_memory m b y h ew eq =
       some_words = h.some_words;
       most_words = h.most_words;
       some_banks = subst (λ n. 1 ≤ n) (sym number) h.some_banks;
-      most_banks = subst (λ n. n ≤ 16) (sym number) h.most_banks;
+      most_banks = subst (λ n. n ≤ MAX_BANKS) (sym number) h.most_banks;
       some_queue = h.some_queue;
       most_queue = h.most_queue;
       spread = λ k l. spread k (subst (λ n. k < n) number l) ∙ ap (λ n. share_length m.words n k) (sym number);

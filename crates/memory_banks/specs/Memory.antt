@@ -2,7 +2,7 @@
 use Rattle.std.specs.Prelude.{◌≡◌, ℕ, ◌+◌, ◌-◌, ◌/◌, ◌%◌, ◌<◌, ◌≤◌, Bool, true, false, ◌&&◌, not, nat_lt, ◌==◌, if◌then◌else◌, List, [], ◌∷◌, length, slice_set, Option, Some, None, refl}
 use Rattle.std.proofs.Common.{◌∙◌}
 use Rattle.std.specs.List.{remove}
-use Rattle.flat_model.specs.declared.limits.TheConstants.{MAX_WORDS, MAX_BANKS, MAX_BANK_QUEUE}
+use Rattle.flat_model.specs.declared.limits.TheConstants.{MAX_WORDS, MAX_MEMORY, MAX_BANKS, MAX_BANK_QUEUE}
 use Rattle.flat_model.specs.declared.Word.{Word}
 use Rattle.flat_model.specs.declared.Shape.{Shape}
 use Rattle.flat_model.specs.declared.ShapeField.{ShapeField}
@@ -32,7 +32,7 @@ share_length words n b = (words + n - 1 - b) / n
 -- what is so of every memory
 pub record IsMemory (m : Memory) : Type 0 where
   pub some_words : 1 ≤ m.words
-  pub most_words : m.words ≤ MAX_WORDS
+  pub most_words : m.words ≤ MAX_MEMORY
   pub some_banks : 1 ≤ length m.banks
   pub most_banks : length m.banks ≤ MAX_BANKS
   pub some_queue : 1 ≤ m.limit

@@ -1,7 +1,7 @@
 //! One bank of memory.
 ghost use Rattle.std.specs.Prelude.{◌≡◌, ◌<◌, ◌≤◌, ◌↔◌, [], length, slice_get, IfOk, IsTrue};
 ghost use Rattle.std.specs.List.{count_by};
-ghost use Rattle.flat_model.specs.declared.limits.TheConstants.{MAX_BANKS, MAX_WORDS, MAX_BANK_QUEUE};
+ghost use Rattle.flat_model.specs.declared.limits.TheConstants.{MAX_BANKS, MAX_MEMORY, MAX_BANK_QUEUE};
 ghost use Rattle.flat_model.specs.Flat.{word_at, stored};
 ghost use Rattle.memory_banks.specs.declared.bank.TheConstants.{MAX_ANSWERS};
 ghost use Rattle.memory_banks.specs.Banks.{with_command, share_of};
@@ -62,7 +62,7 @@ impl MemoryBank {
     ) -> Result<Self, AllocError>
         requires here { bank < banks }
         requires few { banks ≤ MAX_BANKS }
-        requires fits { length image.now ≤ MAX_WORDS }
+        requires fits { length image.now ≤ MAX_MEMORY }
         ensures { IfOk result (λ b. b
             ≡ record { words = share_of image.now banks bank; queue = []; answers = [] }) }
     {
@@ -199,7 +199,7 @@ fn store(words: &mut Vec<Word>, place: u32, word: Word, lanes: Lanes)
 fn share(alloc: Global, image: &[Word], banks: usize, bank: usize) -> Result<Vec<Word>, AllocError>
     requires here { bank < banks }
     requires few { banks ≤ MAX_BANKS }
-    requires fits { length image.now ≤ MAX_WORDS }
+    requires fits { length image.now ≤ MAX_MEMORY }
     ensures { IfOk result (λ v. v.items ≡ share_of image.now banks bank) }
 {
     let count = (image.len() + banks - 1 - bank) / banks;

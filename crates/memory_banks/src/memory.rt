@@ -1,7 +1,7 @@
 //! The banks of a machine.
 ghost use Rattle.std.specs.Prelude.{◌≡◌, ℕ, ◌<◌, ◌≤◌, ◌↔◌, length, slice_get, slice_set, IfOk, IfErr, OnOk, IsTrue, None};
 ghost use Rattle.std.specs.List.{count_by, list_all};
-ghost use Rattle.flat_model.specs.declared.limits.TheConstants.{MAX_BANKS, MAX_WORDS};
+ghost use Rattle.flat_model.specs.declared.limits.TheConstants.{MAX_BANKS, MAX_BANK_QUEUE, MAX_MEMORY};
 ghost use Rattle.memory_banks.specs.declared.bank.TheConstants.{MAX_ANSWERS};
 ghost use Rattle.memory_banks.specs.Banks.{bank_at, words_after, pending, opening_banks, room_in};
 ghost use Rattle.memory_banks.specs.Memory.{with_banks, IsMemory, word_in, is_read, is_idle, serve_in, without_answer, SameButQueues, bad_field, fault_of};
@@ -48,6 +48,26 @@ impl Banks {
         if let Some(field) = bad_field(image.len(), shape) {
             return Err(MakeFault::BadShape(field));
         }
+        Ok(Banks::over(alloc, image, shape)?)
+    }
+
+    /// Banks that hold the image, for a shape that fits it and whose numbers are in their ranges: the
+    /// words of memory may be as many as 32 bits count. An error says that there was too little
+    /// memory; nothing is made then.
+    pub fn over(alloc: Global, image: &[Word], shape: &Shape) -> Result<Self, AllocError>
+        requires some_words { 1 ≤ shape.now.words }
+        requires few_words { shape.now.words ≤ MAX_MEMORY }
+        requires image { length image.now ≡ shape.now.words }
+        requires some_banks { 1 ≤ shape.now.banks }
+        requires few_banks { shape.now.banks ≤ MAX_BANKS }
+        requires some_commands { 1 ≤ shape.now.bank_queue }
+        requires few_commands { shape.now.bank_queue ≤ MAX_BANK_QUEUE }
+        ensures { IfOk result (λ m. m ≡ record {
+          words = shape.now.words;
+          limit = shape.now.bank_queue;
+          banks = opening_banks image.now shape.now.banks;
+        }) }
+    {
         let banks = opening_banks(alloc, image, shape.banks as usize)?;
         Ok(Banks {
             words: shape.words,
@@ -207,7 +227,7 @@ fn bad_field(image: usize, shape: &Shape) -> Option<ShapeField>
 // The banks of an image, each with its share.
 fn opening_banks(alloc: Global, image: &[Word], banks: usize) -> Result<Vec<MemoryBank>, AllocError>
     requires few { banks ≤ MAX_BANKS }
-    requires fits { length image.now ≤ MAX_WORDS }
+    requires fits { length image.now ≤ MAX_MEMORY }
     ensures { IfOk result (λ v. v.items ≡ opening_banks image.now banks) }
 {
     let mut made = Vec::with_capacity(alloc, banks)?;

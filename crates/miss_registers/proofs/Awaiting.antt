@@ -1,5 +1,5 @@
 -- How many loads wait.
-use Rattle.std.proofs.Common.{◌≡◌, ℕ, ◌*◌, ◌≤◌, false, List, length, get_or, ap, inl, inr, arith}
+use Rattle.std.proofs.Common.{◌≡◌, ℕ, ◌+◌, ◌*◌, ◌<◌, ◌≤◌, true, false, List, [], ◌∷◌, length, set, get_or, refl, ap, inl, inr, arith}
 use Rattle.std.specs.List.{flat_map}
 use Rattle.std.proofs.lemmas.Bool.{cases_Bool}
 use Rattle.std.proofs.lemmas.List.{length-map, nil_from_length}
@@ -7,11 +7,18 @@ use Rattle.std.proofs.lemmas.List.Concat.{length-flat_map}
 use Rattle.std.proofs.lemmas.List.Elements.{All-from_get_or}
 use Rattle.std.proofs.lemmas.List.Sums.{sum_by-le}
 use Rattle.flat_model.specs.declared.limits.TheConstants.{MAX_BLOCK_WORDS, MAX_REGS}
+use Rattle.flat_model.specs.declared.Lanes.{Lanes}
+use Rattle.flat_model.specs.Words.{joined}
 use Rattle.miss_registers.specs.declared.Owed.{Owed}
 use Rattle.miss_registers.specs.declared.TheConstants.{MAX_WAITING}
-use Rattle.miss_registers.specs.Registers.{Register, free_register, clear_field, register_at, field_of, tags_of, tags_of_field}
-use Rattle.miss_registers.specs.Registers.{waiting_tags, tag_waits, has_tag}
+use Rattle.miss_registers.specs.Registers.{Field, Register, free_register, clear_field, register_at, field_of, with_field, finished_field}
+use Rattle.miss_registers.specs.Registers.{tags_of, tags_of_field, waiting_tags, tag_waits, has_tag}
+use Rattle.miss_registers.specs.Registers.{fresh, noted, marked, made_obsolete, awaited, finished}
 use Rattle.miss_registers.specs.Whole.{IsWholeRegister, IsWhole}
+use Rattle.miss_registers.proofs.Words.{in_stack_there}
+use Rattle.miss_registers.proofs.Tags.{Changes, Changes-length}
+use Rattle.miss_registers.proofs.Counts.{same_loads-changes, fresh-changes, obsolete-changes, awaited-changes}
+use Rattle.miss_registers.proofs.Counts.{finished-changes, file-changes}
 
 length-flat_map-le : {X : Type 0} (f : X → List ℕ) (xs : List X) (d : X) (m : ℕ) → ((k : ℕ) → length (f (get_or xs k d)) ≤ m)
     → length (flat_map f xs) ≤ length xs * m
@@ -40,6 +47,67 @@ few_wait words regs rs h =
     let there = h.registers_there in
     let few = h.few_registers in
     omega arith
+
+-- ---- what each step makes of their number
+
+-- a register is another, which lost these tags and got those
+count-set : (rs : List Register) (slot : ℕ) (r : Register) (gone come : List ℕ) → slot < length rs
+    → Changes (tags_of (register_at rs slot)) (tags_of r) gone come
+    → length (waiting_tags (set rs slot r)) + length gone ≡ length (waiting_tags rs) + length come
+count-set rs slot r gone come p changes =
+    Changes-length (waiting_tags rs) (waiting_tags (set rs slot r)) gone come (file-changes rs slot r gone come p changes)
+
+-- and it lost and got none
+count-same : (rs : List Register) (slot : ℕ) (r : Register) → slot < length rs → Changes (tags_of (register_at rs slot)) (tags_of r) [] []
+    → length (waiting_tags rs) ≡ length (waiting_tags (set rs slot r))
+count-same rs slot r p changes = omega (arith, count-set rs slot r [] [] p changes)
+
+pub allocated-count : (rs : List Register) (slot words block frame : ℕ) → slot < length rs → register_at rs slot ≡ free_register
+    → length (waiting_tags rs) ≡ length (waiting_tags (set rs slot (fresh words block frame)))
+allocated-count rs slot words block frame p free =
+    count-same rs slot (fresh words block frame) p (fresh-changes (register_at rs slot) words block frame free)
+
+pub noted-count : (rs : List Register) (slot i : ℕ) (lanes : Lanes) → slot < length rs → i < length (register_at rs slot).fields
+    → length (waiting_tags rs) ≡ length (waiting_tags (set rs slot (noted (register_at rs slot) i lanes)))
+unfolding noted
+noted-count rs slot i lanes p there =
+    let r = register_at rs slot in
+    let f : Field = record (field_of r i) { code = joined (field_of r i).code lanes } in
+    count-same rs slot (with_field r i f) p (same_loads-changes r i f there refl)
+
+pub marked-count : (rs : List Register) (slot i : ℕ) → slot < length rs → i < length (register_at rs slot).fields
+    → length (waiting_tags rs) ≡ length (waiting_tags (set rs slot (marked (register_at rs slot) i)))
+unfolding marked
+marked-count rs slot i p there =
+    let r = register_at rs slot in
+    let f : Field = record (field_of r i) { in_stack = true } in
+    count-same rs slot (with_field r i f) p (same_loads-changes r i f there refl)
+
+pub obsolete-count : (rs : List Register) (slot : ℕ) → slot < length rs
+    → length (waiting_tags rs) ≡ length (waiting_tags (set rs slot (made_obsolete (register_at rs slot))))
+obsolete-count rs slot p =
+    count-same rs slot (made_obsolete (register_at rs slot)) p (obsolete-changes (register_at rs slot))
+
+pub awaited-count : (rs : List Register) (slot i : ℕ) (owed : Owed) → slot < length rs → i < length (register_at rs slot).fields
+    → length (waiting_tags rs) + 1 ≡ length (waiting_tags (set rs slot (awaited (register_at rs slot) i owed)))
+awaited-count rs slot i owed p there =
+    let r = register_at rs slot in
+    omega (arith, count-set rs slot (awaited r i owed) [] (owed.tag ∷ []) p (awaited-changes r i owed there))
+
+-- the loads of the word wait no longer
+pub finished-count : (rs : List Register) (slot i : ℕ) → slot < length rs
+    → ((k : ℕ) → (field_of (register_at rs slot) k).processed ≡ true → field_of (register_at rs slot) k ≡ finished_field)
+    → (field_of (register_at rs slot) i).in_stack ≡ true
+    → length (waiting_tags (set rs slot (finished (register_at rs slot) i))) + length (field_of (register_at rs slot) i).waiting
+    ≡ length (waiting_tags rs)
+finished-count rs slot i p done s =
+    let r = register_at rs slot in
+    let f = field_of r i in
+    let changes = finished-changes r i done (in_stack_there r i s) in
+    let n = count-set rs slot (finished r i) (tags_of_field f) [] p changes in
+    omega (arith, n, length-map f.waiting (λ (w : Owed). w.tag))
+
+-- ---- none
 
 pub none_has_tag : (rs : List Register) (tag : ℕ) → length (waiting_tags rs) ≡ 0 → tag_waits rs tag ≡ false
 none_has_tag rs tag e = ap (λ tags. has_tag tags tag) (nil_from_length (waiting_tags rs) e)

@@ -1,21 +1,20 @@
 -- What each step makes of the tags that wait.
 use Rattle.std.proofs.Common.{◌≡◌, ℕ, suc, zero, ◌<◌, Bool, true, false, cond, if◌then◌else◌, List, [], ◌∷◌, ◌++◌, length, set, get_or}
-use Rattle.std.proofs.Common.{replicate, refl, ap, arith}
+use Rattle.std.proofs.Common.{◌+◌, map, replicate, refl, ap, sym, ◌∙◌, arith}
 use Rattle.std.specs.List.{flat_map, count_by}
 use Rattle.std.proofs.lemmas.Bool.{and_parts}
 use Rattle.std.proofs.lemmas.List.Sums.{sum_by-cons}
 use Rattle.std.proofs.lemmas.List.Folds.{flat_map-map}
 use Rattle.miss_registers.specs.declared.Owed.{Owed}
-use Rattle.miss_registers.specs.Registers.{Field, Register, free_register, clear_field, register_at, field_of, is_done, awaited, finished}
-use Rattle.miss_registers.specs.Registers.{finished_field, finished_fields, made_obsolete, without_code, fresh, tags_of, tags_of_field}
-use Rattle.miss_registers.specs.Registers.{waiting_tags}
-use Rattle.miss_registers.specs.Whole.{IsWholeRegister}
+use Rattle.miss_registers.specs.Registers.{Field, Register, free_register, clear_field, register_at, field_of, with_field, is_done}
+use Rattle.miss_registers.specs.Registers.{awaited, finished, finished_field, finished_fields, made_obsolete, without_code, fresh}
+use Rattle.miss_registers.specs.Registers.{tags_of, tags_of_field, waiting_tags}
 use Rattle.miss_registers.proofs.Each.{set-each}
 use Rattle.miss_registers.proofs.Tags.{count_by-append, count_by-map, Changes, Changes-set}
 
 -- ---- of a register
 
-pub tags_of-fresh : (words block frame : ℕ) → tags_of (fresh words block frame) ≡ []
+tags_of-fresh : (words block frame : ℕ) → tags_of (fresh words block frame) ≡ []
 unfolding fresh
 tags_of-fresh words block frame = go words
   where
@@ -23,9 +22,25 @@ tags_of-fresh words block frame = go words
     go zero = refl
     go (suc n) = go n
 
-pub tags_of-obsolete : (r : Register) → tags_of (made_obsolete r) ≡ tags_of r
+tags_of-obsolete : (r : Register) → tags_of (made_obsolete r) ≡ tags_of r
 unfolding made_obsolete
 tags_of-obsolete r = flat_map-map tags_of_field without_code r.fields
+
+-- a register whose field is another, for which the same loads wait
+pub same_loads-changes : (r : Register) (i : ℕ) (f : Field) → i < length r.fields → f.waiting ≡ (field_of r i).waiting
+    → Changes (tags_of r) (tags_of (with_field r i f)) [] []
+same_loads-changes r i f h e =
+    Changes-set tags_of_field r.fields i f clear_field [] [] h
+    (λ p. ap (λ ws. count_by p (map (λ (x : Owed). x.tag) ws) + count_by p []) e)
+
+-- a register that was free stands for a block
+pub fresh-changes : (r : Register) (words block frame : ℕ) → r ≡ free_register
+    → Changes (tags_of r) (tags_of (fresh words block frame)) [] []
+fresh-changes r words block frame free p =
+    ap (λ ts. count_by p ts + count_by p []) (tags_of-fresh words block frame ∙ sym (ap tags_of free))
+
+pub obsolete-changes : (r : Register) → Changes (tags_of r) (tags_of (made_obsolete r)) [] []
+obsolete-changes r p = ap (λ ts. count_by p ts + count_by p []) (tags_of-obsolete r)
 
 pub awaited-changes : (r : Register) (i : ℕ) (owed : Owed) → i < length r.fields
     → Changes (tags_of r) (tags_of (awaited r i owed)) [] (owed.tag ∷ [])
@@ -53,17 +68,18 @@ none_wait (f ∷ fs) h d =
     rw (e, r) refl
 
 -- the word's loads wait no longer
-pub finished-changes : (words : ℕ) (r : Register) (i : ℕ) → IsWholeRegister words r → i < length r.fields
+pub finished-changes : (r : Register) (i : ℕ)
+    → ((k : ℕ) → (field_of r k).processed ≡ true → field_of r k ≡ finished_field) → i < length r.fields
     → Changes (tags_of r) (tags_of (finished r i)) (tags_of_field (field_of r i)) []
 unfolding finished
-finished-changes words r i h t = go (is_done (finished_fields r i)) refl
+finished-changes r i h t = go (is_done (finished_fields r i)) refl
   where
     lost : Changes (tags_of r) (flat_map tags_of_field (finished_fields r i)) (tags_of_field (field_of r i)) []
     lost = Changes-set tags_of_field r.fields i finished_field clear_field (tags_of_field (field_of r i)) [] t (λ p. omega arith)
 
     all : (j : ℕ) → (get_or (finished_fields r i) j clear_field).processed ≡ true
         → get_or (finished_fields r i) j clear_field ≡ finished_field
-    all = set-each (λ (f : Field). f.processed ≡ true → f ≡ finished_field) r.fields i finished_field clear_field t h.done (λ d. refl)
+    all = set-each (λ (f : Field). f.processed ≡ true → f ≡ finished_field) r.fields i finished_field clear_field t h (λ d. refl)
 
     go : (b : Bool) → is_done (finished_fields r i) ≡ b
         → Changes (tags_of r) (tags_of (if b then free_register else record r { fields = finished_fields r i }))
@@ -79,3 +95,8 @@ pub file-changes : (rs : List Register) (slot : ℕ) (r : Register) (gone come :
     → Changes (tags_of (register_at rs slot)) (tags_of r) gone come → Changes (waiting_tags rs) (waiting_tags (set rs slot r)) gone come
 unfolding waiting_tags
 file-changes rs slot r gone come h c = Changes-set tags_of rs slot r free_register gone come h c
+
+pub waiting_tags-new : (regs : ℕ) → waiting_tags (replicate regs free_register) ≡ []
+unfolding waiting_tags
+waiting_tags-new zero = refl
+waiting_tags-new (suc regs) = waiting_tags-new regs

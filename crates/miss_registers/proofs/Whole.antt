@@ -1,5 +1,5 @@
--- Each step keeps the registers whole, and the number of the loads that wait.
-use Rattle.std.proofs.Common.{◌≡◌, ℕ, suc, zero, ◌+◌, ◌<◌, ◌≤◌, ◌==◌, Bool, true, false, cond, if◌then◌else◌, List, [], ◌∷◌, ◌++◌, map}
+-- Each step keeps the registers whole.
+use Rattle.std.proofs.Common.{◌≡◌, ℕ, suc, zero, ◌+◌, ◌<◌, ◌≤◌, ◌==◌, Bool, true, false, cond, if◌then◌else◌, List, [], ◌∷◌, ◌++◌}
 use Rattle.std.proofs.Common.{length, set, replicate, None, refl, ap, sym, ◌∙◌, inl, inr, arith, length-set, length-append}
 use Rattle.std.specs.List.{count_by}
 use Rattle.std.proofs.lemmas.Bool.{cases_eq, cases_Bool, false≢true, and_parts, and_right, both_ways, not-true, ne_eqb}
@@ -19,8 +19,9 @@ use Rattle.miss_registers.specs.Whole.{IsWholeRegister, IsWhole}
 use Rattle.miss_registers.proofs.Each.{set-each, replicate-each}
 use Rattle.miss_registers.proofs.Places.{live_for-missing}
 use Rattle.miss_registers.proofs.Words.{in_stack_there, expects-parts}
-use Rattle.miss_registers.proofs.Tags.{none_counted, Changes, Changes-length, Changes-set}
-use Rattle.miss_registers.proofs.Counts.{tags_of-fresh, tags_of-obsolete, awaited-changes, finished-changes, file-changes}
+use Rattle.miss_registers.proofs.Tags.{none_counted, Changes}
+use Rattle.miss_registers.proofs.Counts.{same_loads-changes, fresh-changes, obsolete-changes, awaited-changes}
+use Rattle.miss_registers.proofs.Counts.{finished-changes, file-changes, waiting_tags-new}
 
 -- ---- a register
 
@@ -139,10 +140,6 @@ obsolete_not_live r = and_right r.valid false refl
 
 -- ---- the file
 
--- its registers are whole, and so many loads wait
-abbrev pub IsKept : (words regs n : ℕ) → List Register → Type 0
-IsKept words regs n rs = IsWhole words regs rs × (n ≡ length (waiting_tags rs))
-
 -- no other live register stands for the block of this one
 abbrev IsAlone : List Register → ℕ → Register → Type 0
 IsAlone rs slot r =
@@ -155,18 +152,16 @@ stays_alone words regs rs slot r h stays k n a b s =
     n (sym (h.one_live slot k q.0 b (sym q.1 ∙ s)))
 
 -- a register is another, which lost these tags and got those
-set-kept : (words regs n m : ℕ) (rs : List Register) (slot : ℕ) (r : Register) (gone come : List ℕ) → IsKept words regs n rs
-    → slot < length rs
+set-kept : (words regs : ℕ) (rs : List Register) (slot : ℕ) (r : Register) (gone come : List ℕ) → IsWhole words regs rs → slot < length rs
     → IsWholeRegister words r → IsAlone rs slot r → Changes (tags_of (register_at rs slot)) (tags_of r) gone come
-    → ((tag : ℕ) → count_by (λ t. t == tag) (waiting_tags rs) + count_by (λ t. t == tag) come ≤ 1) → m + length gone ≡ n + length come
-    → IsKept words regs m (set rs slot r)
-set-kept words regs n m rs slot r gone come kept p w alone changes once count =
-    let h = kept.0 in
+    → ((tag : ℕ) → count_by (λ t. t == tag) (waiting_tags rs) + count_by (λ t. t == tag) come ≤ 1)
+    → IsWhole words regs (set rs slot r)
+set-kept words regs rs slot r gone come h p w alone changes once =
     let all = file-changes rs slot r gone come p changes in
     let here : register_at (set rs slot r) slot ≡ r = get_or-set_same rs slot r free_register p in
     let there : (k : ℕ) → (k ≡ slot → ⊥) → register_at (set rs slot r) k ≡ register_at rs k =
     λ k n. get_or-set_other rs slot k r free_register n in
-    let whole : IsWhole words regs (set rs slot r) = record {
+    record {
       registers_there = length-set rs slot r ∙ h.registers_there;
       some_register = h.some_register;
       few_registers = h.few_registers;
@@ -184,74 +179,69 @@ set-kept words regs n m rs slot r gone come kept p w alone changes once count =
         ]
       ];
       once = λ tag. (let z = all (λ t. t == tag) in let o = once tag in omega arith);
-    } in
-    let counted = kept.1 in
-    let l = Changes-length (waiting_tags rs) (waiting_tags (set rs slot r)) gone come all in
-    (whole, omega arith)
+    }
 
 -- and it got none
-lost-kept : (words regs n m : ℕ) (rs : List Register) (slot : ℕ) (r : Register) (gone : List ℕ) → IsKept words regs n rs → slot < length rs
+lost-kept : (words regs : ℕ) (rs : List Register) (slot : ℕ) (r : Register) (gone : List ℕ) → IsWhole words regs rs → slot < length rs
     → IsWholeRegister words r → StaysLive (register_at rs slot) r → Changes (tags_of (register_at rs slot)) (tags_of r) gone []
-    → m + length gone ≡ n → IsKept words regs m (set rs slot r)
-lost-kept words regs n m rs slot r gone kept p w stays changes count =
-    let alone = stays_alone words regs rs slot r kept.0 stays in
-    set-kept words regs n m rs slot r gone [] kept p w alone changes (λ tag. omega (arith, kept.0.once tag)) (omega arith)
+    → IsWhole words regs (set rs slot r)
+lost-kept words regs rs slot r gone h p w stays changes =
+    let alone = stays_alone words regs rs slot r h stays in
+    set-kept words regs rs slot r gone [] h p w alone changes (λ tag. omega (arith, h.once tag))
 
 -- an unprocessed word's field is another, for which the same loads wait
-same_loads-kept : (words regs n : ℕ) (rs : List Register) (slot i : ℕ) (f : Field) → IsKept words regs n rs → slot < length rs
+same_loads-kept : (words regs : ℕ) (rs : List Register) (slot i : ℕ) (f : Field) → IsWhole words regs rs → slot < length rs
     → (register_at rs slot).valid ≡ true → i < length (register_at rs slot).fields → f.processed ≡ false
     → ((register_at rs slot).obsolete ≡ true → f.code ≡ no_lanes) → f.waiting ≡ (field_of (register_at rs slot) i).waiting
-    → IsKept words regs n (set rs slot (with_field (register_at rs slot) i f))
-same_loads-kept words regs n rs slot i f kept p v t u c e =
+    → IsWhole words regs (set rs slot (with_field (register_at rs slot) i f))
+same_loads-kept words regs rs slot i f whole p v t u c e =
     let r = register_at rs slot in
-    let h = kept.0.each slot in
+    let h = whole.each slot in
     let w = unprocessed-whole words r i f h v t u c (rw e (h.few_loads i)) in
-    let same = λ (q : ℕ → Bool). ap (λ ws. count_by q (map (λ (x : Owed). x.tag) ws) + count_by q []) e in
-    let changes = Changes-set tags_of_field r.fields i f clear_field [] [] t same in
-    lost-kept words regs n n rs slot (with_field r i f) [] kept p w (λ l. (l, refl)) changes (omega arith)
+    lost-kept words regs rs slot (with_field r i f) [] whole p w (λ l. (l, refl)) (same_loads-changes r i f t e)
 
 -- ---- each step
 
-pub marked-kept : (words regs n : ℕ) (rs : List Register) (slot i : ℕ) → IsKept words regs n rs → slot < length rs
+pub marked-kept : (words regs : ℕ) (rs : List Register) (slot i : ℕ) → IsWhole words regs rs → slot < length rs
     → expects (register_at rs slot) i ≡ true
-    → IsKept words regs n (set rs slot (marked (register_at rs slot) i))
+    → IsWhole words regs (set rs slot (marked (register_at rs slot) i))
 unfolding marked
-marked-kept words regs n rs slot i kept p x =
+marked-kept words regs rs slot i whole p x =
     let r = register_at rs slot in
     let e = expects-parts r i x in
     let f : Field = record (field_of r i) { in_stack = true } in
-    same_loads-kept words regs n rs slot i f kept p e.valid e.there e.unprocessed (λ o. (kept.0.each slot).codes o i) refl
+    same_loads-kept words regs rs slot i f whole p e.valid e.there e.unprocessed (λ o. (whole.each slot).codes o i) refl
 
-pub noted-kept : (words regs n : ℕ) (rs : List Register) (slot i : ℕ) (lanes : Lanes) → IsKept words regs n rs → slot < length rs
+pub noted-kept : (words regs : ℕ) (rs : List Register) (slot i : ℕ) (lanes : Lanes) → IsWhole words regs rs → slot < length rs
     → is_live (register_at rs slot) ≡ true → i < length (register_at rs slot).fields → (field_of (register_at rs slot) i).processed ≡ false
-    → IsKept words regs n (set rs slot (noted (register_at rs slot) i lanes))
+    → IsWhole words regs (set rs slot (noted (register_at rs slot) i lanes))
 unfolding noted
-noted-kept words regs n rs slot i lanes kept p l t u =
+noted-kept words regs rs slot i lanes whole p l t u =
     let r = register_at rs slot in
     let q = live-parts r l in
     let f : Field = record (field_of r i) { code = joined (field_of r i).code lanes } in
-    same_loads-kept words regs n rs slot i f kept p q.0 t u (λ o. absurd (both_ways r.obsolete q.1 o)) refl
+    same_loads-kept words regs rs slot i f whole p q.0 t u (λ o. absurd (both_ways r.obsolete q.1 o)) refl
 
-pub obsolete-kept : (words regs n : ℕ) (rs : List Register) (slot : ℕ) → IsKept words regs n rs → slot < length rs
+pub obsolete-kept : (words regs : ℕ) (rs : List Register) (slot : ℕ) → IsWhole words regs rs → slot < length rs
     → is_live (register_at rs slot) ≡ true
-    → IsKept words regs n (set rs slot (made_obsolete (register_at rs slot)))
-obsolete-kept words regs n rs slot kept p l =
+    → IsWhole words regs (set rs slot (made_obsolete (register_at rs slot)))
+obsolete-kept words regs rs slot h p l =
     let r = register_at rs slot in
-    let w = obsolete-whole words r (kept.0.each slot) (live-parts r l).0 in
+    let w = obsolete-whole words r (h.each slot) (live-parts r l).0 in
     let stays = λ (v : is_live (made_obsolete r) ≡ true). absurd (both_ways (is_live (made_obsolete r)) (obsolete_not_live r) v) in
-    lost-kept words regs n n rs slot (made_obsolete r) [] kept p w stays (λ q. rw (tags_of-obsolete r) refl) (omega arith)
+    lost-kept words regs rs slot (made_obsolete r) [] h p w stays (obsolete-changes r)
 
-pub awaited-kept : (words regs n : ℕ) (rs : List Register) (slot i : ℕ) (owed : Owed) → IsKept words regs n rs → slot < length rs
+pub awaited-kept : (words regs : ℕ) (rs : List Register) (slot i : ℕ) (owed : Owed) → IsWhole words regs rs → slot < length rs
     → is_live (register_at rs slot) ≡ true → expects (register_at rs slot) i ≡ true
     → length (field_of (register_at rs slot) i).waiting < MAX_WAITING
-    → tag_waits rs owed.tag ≡ false → IsKept words regs (n + 1) (set rs slot (awaited (register_at rs slot) i owed))
-awaited-kept words regs n rs slot i owed kept p l x room new =
+    → tag_waits rs owed.tag ≡ false → IsWhole words regs (set rs slot (awaited (register_at rs slot) i owed))
+awaited-kept words regs rs slot i owed h p l x room new =
     let r = register_at rs slot in
     let e = expects-parts r i x in
-    let w = awaited-whole words r i owed (kept.0.each slot) e.valid e.there e.unprocessed room in
-    let alone = stays_alone words regs rs slot (awaited r i owed) kept.0 (awaited-live r i owed) in
+    let w = awaited-whole words r i owed (h.each slot) e.valid e.there e.unprocessed room in
+    let alone = stays_alone words regs rs slot (awaited r i owed) h (awaited-live r i owed) in
     let changes = awaited-changes r i owed e.there in
-    set-kept words regs n (n + 1) rs slot (awaited r i owed) [] (owed.tag ∷ []) kept p w alone changes once (omega arith)
+    set-kept words regs rs slot (awaited r i owed) [] (owed.tag ∷ []) h p w alone changes once
   where
     once : (tag : ℕ) → count_by (λ t. t == tag) (waiting_tags rs) + count_by (λ t. t == tag) (owed.tag ∷ []) ≤ 1
     once tag = elim (cases_eq owed.tag tag) [
@@ -261,64 +251,43 @@ awaited-kept words regs n rs slot i owed kept p l x room new =
       | inr m ↦ (
           let s = sum_by-cons (λ (t : ℕ). cond (t == tag) 1 0) owed.tag [] in
           let c : cond {A = ℕ} (owed.tag == tag) 1 0 ≡ 0 = rw (ne_eqb owed.tag tag m) refl in
-          omega (arith, kept.0.once tag))
+          omega (arith, h.once tag))
     ]
 
--- the loads of a word are among those that wait
-pub few_finish : (words regs n : ℕ) (rs : List Register) (slot i : ℕ) → IsKept words regs n rs → slot < length rs
-    → (field_of (register_at rs slot) i).in_stack ≡ true → length (field_of (register_at rs slot) i).waiting ≤ n
-few_finish words regs n rs slot i kept p s =
+pub finished-kept : (words regs : ℕ) (rs : List Register) (slot i : ℕ) → IsWhole words regs rs → slot < length rs
+    → (field_of (register_at rs slot) i).in_stack ≡ true
+    → IsWhole words regs (set rs slot (finished (register_at rs slot) i))
+finished-kept words regs rs slot i h p s =
     let r = register_at rs slot in
-    let f = field_of r i in
-    let changes = finished-changes words r i (kept.0.each slot) (in_stack_there r i s) in
-    let all = file-changes rs slot (finished r i) (tags_of_field f) [] p changes in
-    let l = Changes-length (waiting_tags rs) (waiting_tags (set rs slot (finished r i))) (tags_of_field f) [] all in
-    omega (arith, kept.1, length-map f.waiting (λ (w : Owed). w.tag))
-
-pub finished-kept : (words regs n m : ℕ) (rs : List Register) (slot i : ℕ) → IsKept words regs n rs → slot < length rs
-    → (field_of (register_at rs slot) i).in_stack ≡ true → m + length (field_of (register_at rs slot) i).waiting ≡ n
-    → IsKept words regs m (set rs slot (finished (register_at rs slot) i))
-finished-kept words regs n m rs slot i kept p s count =
-    let r = register_at rs slot in
-    let h = kept.0.each slot in
+    let each = h.each slot in
     let there = in_stack_there r i s in
-    let w = finished-whole words r i h (in_stack-valid words r i h s) there in
-    let c : m + length (tags_of_field (field_of r i)) ≡ n = omega (arith, length-map (field_of r i).waiting (λ (x : Owed). x.tag)) in
-    let changes = finished-changes words r i h there in
-    lost-kept words regs n m rs slot (finished r i) (tags_of_field (field_of r i)) kept p w (finished-live r i) changes c
+    let w = finished-whole words r i each (in_stack-valid words r i each s) there in
+    let changes = finished-changes r i each.done there in
+    lost-kept words regs rs slot (finished r i) (tags_of_field (field_of r i)) h p w (finished-live r i) changes
 
 fresh-alone : (rs : List Register) (slot words block frame : ℕ) → live_for rs block ≡ None → IsAlone rs slot (fresh words block frame)
 unfolding fresh
 fresh-alone rs slot words block frame n k m a b s = live_for-missing rs block k n b (sym s)
 
-pub allocated-kept : (words regs n : ℕ) (rs : List Register) (slot block frame : ℕ) → IsKept words regs n rs → slot < length rs
-    → (register_at rs slot).valid ≡ false → live_for rs block ≡ None → IsKept words regs n (set rs slot (fresh words block frame))
-allocated-kept words regs n rs slot block frame kept p v absent =
-    let h = kept.0 in
-    let none : tags_of (register_at rs slot) ≡ [] = ap tags_of ((h.each slot).free v) in
-    let same = λ (q : ℕ → Bool). ap (λ ts. count_by q ts + count_by q []) (tags_of-fresh words block frame ∙ sym none) in
+pub allocated-kept : (words regs : ℕ) (rs : List Register) (slot block frame : ℕ) → IsWhole words regs rs → slot < length rs
+    → register_at rs slot ≡ free_register → live_for rs block ≡ None → IsWhole words regs (set rs slot (fresh words block frame))
+allocated-kept words regs rs slot block frame h p free absent =
+    let changes = fresh-changes (register_at rs slot) words block frame free in
     let w = fresh-whole words block frame h.some_word in
     let alone = fresh-alone rs slot words block frame absent in
-    set-kept words regs n n rs slot (fresh words block frame) [] [] kept p w alone same (λ tag. omega (arith, h.once tag)) refl
+    set-kept words regs rs slot (fresh words block frame) [] [] h p w alone changes (λ tag. omega (arith, h.once tag))
 
 -- ---- a new file
 
-waiting_tags-new : (regs : ℕ) → waiting_tags (replicate regs free_register) ≡ []
-unfolding waiting_tags
-waiting_tags-new zero = refl
-waiting_tags-new (suc regs) = waiting_tags-new regs
-
 pub new-kept : (words regs : ℕ) → 1 ≤ words → words ≤ MAX_BLOCK_WORDS → 1 ≤ regs → regs ≤ MAX_REGS
-    → IsKept words regs 0 (replicate regs free_register)
-new-kept words regs a b c d =
-    let whole : IsWhole words regs (replicate regs free_register) = record {
-      registers_there = length-replicate regs free_register;
-      some_register = c;
-      few_registers = d;
-      some_word = a;
-      few_words = b;
-      each = λ k. rw (replicate-each regs k free_register) (free-whole words);
-      one_live = λ j k l m s. absurd (false≢true (sym (ap is_live (replicate-each regs j free_register)) ∙ l));
-      once = λ tag. rw (waiting_tags-new regs) (omega arith);
-    } in
-    (whole, sym (ap length (waiting_tags-new regs)))
+    → IsWhole words regs (replicate regs free_register)
+new-kept words regs a b c d = record {
+  registers_there = length-replicate regs free_register;
+  some_register = c;
+  few_registers = d;
+  some_word = a;
+  few_words = b;
+  each = λ k. rw (replicate-each regs k free_register) (free-whole words);
+  one_live = λ j k l m s. absurd (false≢true (sym (ap is_live (replicate-each regs j free_register)) ∙ l));
+  once = λ tag. rw (waiting_tags-new regs) (omega arith);
+}

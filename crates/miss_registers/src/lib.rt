@@ -9,12 +9,14 @@ ghost use Rattle.miss_registers.specs.Views.{load_at_front};
 mod field;
 mod file;
 mod slot;
+mod table;
 
 use arrayvec::ArrayVec;
 pub use file::RegisterFile;
 use flat_model::{Lanes, Word};
 use std::marker::Model;
 use std::mem;
+pub use table::RegisterTable;
 
 /// A load that waits for a word, and the bytes that it has already.
 #[derive(Clone, Copy, PartialEq, Eq, Debug, Default)]

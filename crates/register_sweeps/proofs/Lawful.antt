@@ -1,32 +1,27 @@
 -- A shape whose fields are in range makes a machine that keeps what machines keep.
-use Rattle.std.proofs.Common.{◌≡◌, ℕ, ◌≤◌, Bool, true, false, ◌==◌, not, cond, List, length, map, get_or, replicate, Option, Some, None, is_some, Result, Ok, Err, IfOk, OnOk, Vec, Global, refl, sym, ap, ap₂, subst, ◌∙◌, arith}
+use Rattle.std.proofs.Common.{◌≡◌, ℕ, ◌≤◌, Bool, true, false, ◌==◌, not, cond, List, length, map, get_or, replicate, Option, Some, None, is_some, Result, Ok, Err, IfOk, OnOk, Vec, Global, refl, sym, ap, subst, ◌∙◌, arith}
 use Rattle.std.specs.List.{list_all}
 use Rattle.std.proofs.lemmas.Grind.{common_steps}
 use Rattle.std.proofs.lemmas.List.{length-replicate, get_or-map}
-use Rattle.std.proofs.lemmas.Bool.{le-leb, true≢false as no}
-use Rattle.flat_model.specs.declared.Word.{Word}
+use Rattle.std.proofs.lemmas.Bool.{true≢false as no}
 use Rattle.flat_model.specs.declared.Event.{Event}
 use Rattle.flat_model.specs.declared.ShapeField.{ShapeField}
 use Rattle.flat_model.specs.declared.ShapeField.TheVariants.{Ways, Regs}
 use Rattle.flat_model.specs.Words.{zero_word}
 use Rattle.flat_model.specs.Ranges.{is_between}
-use Rattle.flat_model.proofs.Ranges.{between}
-use Rattle.cache_unit.specs.Shown as shown
+use Rattle.flat_model.proofs.Ranges.{between, inside}
 use Rattle.cache_unit.specs.Limits as limits
 use Rattle.cache_unit.specs.Sound.{InRange}
 use Rattle.cache_unit.proofs.Numbers as numbers
-use Rattle.memory_images.specs.declared.image.Image.{Image}
-use Rattle.memory_images.specs.Images.{memory_from}
-use Rattle.machine_core.specs.Machine.{MachineState, opening}
 use Rattle.machine_core.proofs.Contract.{sound_opening, bounded_opening, flat_opening}
 use Rattle.machine_core.proofs.Whole.{lawful, roomy}
-use Rattle.shape_files.specs.declared.shape_file.TheConstants.{BLOCK_WORDS, DEPTH, MOST_WAYS}
+use Rattle.shape_files.specs.declared.shape_file.TheConstants.{MOST_WAYS}
 use Rattle.shape_files.specs.declared.shape_file.ToolShape.{ToolShape}
 use Rattle.round_driver.specs.Walks.{is_request}
 use Rattle.register_sweeps.specs.declared.row.Row.{Row}
 use Rattle.register_sweeps.specs.declared.sweeps.SweepFault.{SweepFault}
 use Rattle.shape_files.specs.ShapeFile.{is_register_count, sizes_of, bad_field}
-use Rattle.register_sweeps.specs.Sweep.{machine_over, new_machine, row_of, CountsAll, EachCountsAll, bad_from}
+use Rattle.register_sweeps.specs.Sweep.{new_machine, row_of, CountsAll, EachCountsAll, bad_from}
 use Rattle.register_sweeps.proofs.Ending.{Good, row_counts}
 use Rattle.register_sweeps.proofs.Shapes.{good_shape}
 
@@ -34,9 +29,6 @@ use Rattle.register_sweeps.proofs.Shapes.{good_shape}
 passed : (test : Bool) (field : ShapeField) (rest : Option ShapeField) → cond (not test) (Some field) rest ≡ None → (test ≡ true) × (rest ≡ None)
 passed true field rest e = (refl, e)
 passed false field rest e = cc
-
-inside : (n low high : ℕ) → low ≤ n → n ≤ high → is_between n low high ≡ true
-inside n low high above below = rw (le-leb low n above, le-leb n high below) refl
 
 some_registers : (n : ℕ) → is_register_count n ≡ true → (1 ≤ n) × (n ≤ 8)
 some_registers n h = go (1 == n) refl (2 == n) refl (4 == n) refl (8 == n) refl
@@ -91,16 +83,3 @@ rows_count_all events ts (Err e) good said = tt
 rows_count_all events ts (Ok rows) good said = λ requests i t row inside.
     let each = ap (λ xs. get_or xs i row) said ∙ get_or-map (row_of events) ts i t row inside in
     subst (CountsAll events (get_or ts i t)) (sym each) (counts_all (get_or ts i t) events (good_shape ts 0 i t good inside) requests)
-
--- what is made of these sizes over these words
-abbrev state_of : (t : ToolShape) (ways regs : ℕ) (memory : List Word) → MachineState
-state_of t ways regs memory =
-    let sizes = shown.sizes_of ways BLOCK_WORDS regs DEPTH t.shape in
-    record { sizes = sizes; machine = opening sizes memory }
-
--- a machine that is made over what an image gives is that of its shape over the image
-pub made : (t : ToolShape) (image : Image) (ways regs : ℕ) (memory : List Word) (m : MachineState)
-    → t.ways ≡ ways → t.regs ≡ regs → memory ≡ memory_from image t.shape.words → m ≡ state_of t ways regs memory
-    → m ≡ machine_over image t
-made t image ways regs memory m w r given h =
-    h ∙ ap (state_of t ways regs) given ∙ sym (ap₂ (λ a b. state_of t a b (memory_from image t.shape.words)) w r)

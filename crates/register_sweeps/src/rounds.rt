@@ -1,6 +1,6 @@
 //! The rows of a sweep in rounds: a machine is driven with times of memory, and its table counted.
 
-ghost use Rattle.std.specs.Prelude.{⊤, ◌≡◌, ◌≤◌, length, map, Some, None, IfOk, IfErr, OnOk};
+ghost use Rattle.std.specs.Prelude.{◌≡◌, ◌≤◌, length, map, Some, None, IfOk, IfErr, OnOk};
 ghost use Rattle.round_driver.specs.declared.driving.TheConstants.{MOST_LATENCY};
 ghost use Rattle.round_driver.specs.Rounds.{most_requests};
 ghost use Rattle.round_driver.specs.Tables.{table_of};
@@ -9,13 +9,12 @@ ghost use Rattle.shape_files.specs.ShapeFile.{bad_field};
 ghost use Rattle.register_sweeps.specs.Sweep.{FaultSays, bad_from, machine_over};
 ghost use Rattle.register_sweeps.specs.Rounds.{RunEnds, EachRunEnds, rounds_row_of, rounds_row_text};
 
-use crate::choice::{MachineJob, with_machine};
+use crate::machines::new_machine;
 use crate::sweeps::{SweepFault, SweepGate};
 use crate::threads::{RowMaker, rows_on_threads};
 use flat_model::Event;
 use memory_images::Image;
 use round_driver::{Table, Timing, summarize_with};
-use run_pictures::PictureMachine;
 use shape_files::ToolShape;
 use std::alloc::{AllocError, Global};
 use std::fmt;
@@ -57,38 +56,8 @@ pub fn rounds_table(
         (λ table. table ≡ table_of timing (machine_over image.now tool.now) requests.now) }
     ensures over { OnOk result (RequestsEnd timing (machine_over image.now tool.now) requests.now) }
 {
-    let mut job = CountedRounds {
-        alloc,
-        timing,
-        requests,
-    };
-    with_machine(alloc, tool, image, &mut job)
-}
-
-// The counting of requests.
-#[derive(Drop)]
-struct CountedRounds<'a> {
-    alloc: Global,
-    timing: Timing,
-    requests: &'a [Event],
-}
-
-impl MachineJob for CountedRounds<'_> {
-    type Done = Result<Table, AllocError>;
-
-    ghost can = { λ s. (s.timing.latency ≤ MOST_LATENCY) × (length s.requests.now ≤ most_requests) };
-
-    ghost done = { λ s machine t result. (IfOk result (λ table. table ≡ table_of s.timing machine s.requests.now)) × OnOk result (RequestsEnd s.timing machine s.requests.now) };
-
-    ghost holds_same = { λ s t. ⊤ };
-
-    fn work<M: PictureMachine>(&mut self, machine: &mut M) -> Result<Table, AllocError> {
-        summarize_with(self.alloc, machine, self.timing, self.requests)
-    }
-
-    fn give_up(&mut self) -> Result<Table, AllocError> {
-        Err(AllocError)
-    }
+    let mut machine = new_machine(alloc, tool, image)?;
+    summarize_with(alloc, &mut machine, timing, requests)
 }
 
 // What makes the row of these requests for each shape, with these times of memory.

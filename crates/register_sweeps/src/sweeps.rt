@@ -8,12 +8,11 @@ ghost use Rattle.register_sweeps.specs.declared.sweeps.SweepFault.TheVariants.{T
 ghost use Rattle.shape_files.specs.ShapeFile.{bad_field};
 ghost use Rattle.register_sweeps.specs.Sweep.{FaultSays, CountsAll, EachCountsAll, bad_from, row_from, row_of, sweep_fault_text};
 
-use crate::choice::{MachineJob, with_machine};
+use crate::machines::new_machine;
 use crate::row::{Row, row_from};
 use crate::threads::{RowMaker, rows_on_threads};
 use flat_model::{Event, MakeFault, ShapeField};
 use memory_images::Image;
-use run_pictures::PictureMachine;
 use shape_files::{ToolShape, bad_field};
 use std::alloc::{AllocError, Global};
 use std::error::Error;
@@ -90,36 +89,8 @@ fn row_of(alloc: Global, tool: &ToolShape, events: &[Event]) -> Result<Row, Allo
     requires shape { bad_field tool.now ≡ None }
     ensures { IfOk result (λ row. row ≡ row_of events.now tool.now) }
 {
-    let mut job = CountedRow {
-        regs: tool.regs,
-        events,
-    };
-    with_machine(alloc, tool, &Image::Zeros, &mut job)
-}
-
-// The row of these requests.
-#[derive(Clone, Copy)]
-struct CountedRow<'a> {
-    regs: u32,
-    events: &'a [Event],
-}
-
-impl MachineJob for CountedRow<'_> {
-    type Done = Result<Row, AllocError>;
-
-    ghost can = { λ s. length s.events.now ≤ most_requests };
-
-    ghost done = { λ s machine t result. IfOk result (λ row. row ≡ row_from machine s.regs s.events.now) };
-
-    ghost holds_same = { λ s t. ⊤ };
-
-    fn work<M: PictureMachine>(&mut self, machine: &mut M) -> Result<Row, AllocError> {
-        Ok(row_from(machine, self.regs, self.events))
-    }
-
-    fn give_up(&mut self) -> Result<Row, AllocError> {
-        Err(AllocError)
-    }
+    let mut machine = new_machine(alloc, tool, &Image::Zeros)?;
+    Ok(row_from(&mut machine, tool.regs, events))
 }
 
 // What makes the row of these requests for each shape.

@@ -17,7 +17,7 @@ use Rattle.memory_banks.specs.Banks.{bank_at, room_in}
 use Rattle.input_stack.specs.declared.Entry.{Entry}
 use Rattle.write_queue.specs.declared.Queued.{Queued}
 use Rattle.cache_unit.specs.declared.Reply.{Reply}
-use Rattle.cache_unit.specs.State.{Sizes}
+use Rattle.cache_unit.specs.declared.Sizes.{Sizes}
 use Rattle.cache_unit.specs.Causes.{load_cause, store_cause, prefetch_cause, evict_cause, arrive_cause}
 use Rattle.cache_unit.specs.Steps.{Stepped, unless, load_step, store_step, prefetch_step, evict_step, drain_step, drain_first, process_step, process_entry, take_step, take_reply}
 use Rattle.machine_core.specs.Machine.{Machine, MachineState, Outcome, apply, joined_with, serve_from, take_in, arrive_from}

@@ -1,6 +1,6 @@
 -- How much there is to draw of a machine, and where things lie in it.
 use Rattle.std.specs.Prelude.{ℕ, ◌*◌, ◌/◌, ◌%◌, if◌then◌else◌, nat_lt}
-use Rattle.cache_unit.specs.State.{Sizes}
+use Rattle.cache_unit.specs.declared.Sizes.{Sizes}
 use Rattle.run_pictures.specs.declared.machine.Extent.{Extent}
 
 -- a number as 32 bits hold it, the greatest one for any beyond
@@ -12,11 +12,11 @@ unfoldable pub extent_of : Sizes → Extent
 extent_of z =
     record {
       words = z.words;
-      block_words = fitted z.block_words;
+      block_words = z.block_words;
       sets = z.sets;
-      ways = fitted z.ways;
-      regs = fitted z.regs;
-      depth = fitted z.depth;
+      ways = z.ways;
+      regs = z.regs;
+      depth = z.depth;
       banks = z.banks;
       bank_queue = z.bank_queue;
       write_queue = z.write_queue;

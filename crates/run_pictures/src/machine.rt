@@ -6,7 +6,7 @@ ghost use Rattle.run_pictures.specs.Extents.{extent_of, fitted, frames_in, block
 
 use flat_model::{Answer, Lanes, Word};
 use input_stack::Entry;
-use machine_core::Machine;
+use machine_core::ShapedMachine;
 use memory_banks::{BankAnswer, Command};
 use round_driver::RoundMachine;
 use write_queue::Queued;
@@ -84,32 +84,21 @@ impl Extent {
     }
 }
 
-// A number of a machine's type, as 32 bits hold it: a machine has no greater one.
-fn fitted(n: usize) -> u32
-    ensures { result ≡ fitted n }
-{
-    if n < 4_294_967_296 {
-        n as u32
-    } else {
-        u32::MAX
-    }
-}
-
-/// A machine that can be drawn, whatever its four const numbers are.
+/// A machine that can be drawn, whatever it is made of.
 pub trait PictureMachine: RoundMachine {
     /// How much there is to draw.
     fn extent(&self) -> Extent
         ensures { result ≡ extent_of (Self.state self.now).sizes };
 
-    /// The block that a frame holds, as [`Machine::frame_block`].
+    /// The block that a frame holds, as [`ShapedMachine::frame_block`].
     fn frame_block(&self, frame: u32) -> Option<u32>
         ensures { result ≡ views.frame_view (Self.state self.now).machine.cache frame };
 
-    /// A word of the block that a frame holds, as [`Machine::buffer_word`].
+    /// A word of the block that a frame holds, as [`ShapedMachine::buffer_word`].
     fn buffer_word(&self, frame: u32, i: u32) -> Option<Word>
         ensures { result ≡ views.word_view (Self.state self.now).machine.cache frame i };
 
-    /// The lanes of that word that memory doesn't have yet, as [`Machine::dirty`].
+    /// The lanes of that word that memory doesn't have yet, as [`ShapedMachine::dirty`].
     fn dirty(&self, frame: u32, i: u32) -> Option<Lanes>
         ensures { result ≡ views.dirty_view (Self.state self.now).machine.cache frame i };
 
@@ -117,7 +106,7 @@ pub trait PictureMachine: RoundMachine {
     fn stack_len(&self) -> u32
         ensures { result ≡ length (Self.state self.now).machine.cache.stack };
 
-    /// A word of the input stack, as [`Machine::stack_entry`].
+    /// A word of the input stack, as [`ShapedMachine::stack_entry`].
     fn stack_entry(&self, place: u32) -> Option<Entry>
         ensures { result ≡ slice_get (Self.state self.now).machine.cache.stack place };
 
@@ -125,7 +114,7 @@ pub trait PictureMachine: RoundMachine {
     fn queue_len(&self) -> u32
         ensures { result ≡ length (Self.state self.now).machine.cache.queue };
 
-    /// A word of the write queue, as [`Machine::queue_entry`].
+    /// A word of the write queue, as [`ShapedMachine::queue_entry`].
     fn queue_entry(&self, place: u32) -> Option<Queued>
         ensures { result ≡ slice_get (Self.state self.now).machine.cache.queue place };
 
@@ -133,7 +122,7 @@ pub trait PictureMachine: RoundMachine {
     fn replies_len(&self) -> u32
         ensures { result ≡ length (Self.state self.now).machine.cache.ready };
 
-    /// A value that stands ready, as [`Machine::reply`].
+    /// A value that stands ready, as [`ShapedMachine::reply`].
     fn reply(&self, place: u32) -> Option<Answer>
         ensures { result ≡ views.reply_view (Self.state self.now).machine.cache place };
 
@@ -141,7 +130,7 @@ pub trait PictureMachine: RoundMachine {
     fn commands(&self, bank: u32) -> u32
         ensures { result ≡ length (bank_at (Self.state self.now).machine.banks bank).queue };
 
-    /// A command that waits at a bank, as [`Machine::command_at`].
+    /// A command that waits at a bank, as [`ShapedMachine::command_at`].
     fn command(&self, bank: u32, place: u32) -> Option<Command>
         ensures { result ≡ slice_get (bank_at (Self.state self.now).machine.banks bank).queue place };
 
@@ -149,78 +138,77 @@ pub trait PictureMachine: RoundMachine {
     fn answers(&self, bank: u32) -> u32
         ensures { result ≡ length (bank_at (Self.state self.now).machine.banks bank).answers };
 
-    /// An answer that stands in a bank, as [`Machine::answer_at`].
+    /// An answer that stands in a bank, as [`ShapedMachine::answer_at`].
     fn answer(&self, bank: u32, place: u32) -> Option<BankAnswer>
         ensures { result ≡ slice_get (bank_at (Self.state self.now).machine.banks bank).answers place };
 }
 
-impl<const WAYS: usize, const WORDS: usize, const REGS: usize, const DEPTH: usize> PictureMachine
-    for Machine<WAYS, WORDS, REGS, DEPTH> {
+impl PictureMachine for ShapedMachine {
     fn extent(&self) -> Extent {
-        let shape = self.shape();
+        let sizes = self.sizes();
         Extent {
-            words: shape.words,
-            block_words: fitted(WORDS),
-            sets: shape.sets,
-            ways: fitted(WAYS),
-            regs: fitted(REGS),
-            depth: fitted(DEPTH),
-            banks: shape.banks,
-            bank_queue: shape.bank_queue,
-            write_queue: shape.write_queue,
-            replies: shape.replies,
+            words: sizes.words,
+            block_words: sizes.block_words,
+            sets: sizes.sets,
+            ways: sizes.ways,
+            regs: sizes.regs,
+            depth: sizes.depth,
+            banks: sizes.banks,
+            bank_queue: sizes.bank_queue,
+            write_queue: sizes.write_queue,
+            replies: sizes.replies,
         }
     }
 
     fn frame_block(&self, frame: u32) -> Option<u32> {
-        Machine::frame_block(self, frame)
+        ShapedMachine::frame_block(self, frame)
     }
 
     fn buffer_word(&self, frame: u32, i: u32) -> Option<Word> {
-        Machine::buffer_word(self, frame, i)
+        ShapedMachine::buffer_word(self, frame, i)
     }
 
     fn dirty(&self, frame: u32, i: u32) -> Option<Lanes> {
-        Machine::dirty(self, frame, i)
+        ShapedMachine::dirty(self, frame, i)
     }
 
     fn stack_len(&self) -> u32 {
-        Machine::stack_len(self)
+        ShapedMachine::stack_len(self)
     }
 
     fn stack_entry(&self, place: u32) -> Option<Entry> {
-        Machine::stack_entry(self, place)
+        ShapedMachine::stack_entry(self, place)
     }
 
     fn queue_len(&self) -> u32 {
-        Machine::queue_len(self)
+        ShapedMachine::queue_len(self)
     }
 
     fn queue_entry(&self, place: u32) -> Option<Queued> {
-        Machine::queue_entry(self, place)
+        ShapedMachine::queue_entry(self, place)
     }
 
     fn replies_len(&self) -> u32 {
-        Machine::replies_len(self)
+        ShapedMachine::replies_len(self)
     }
 
     fn reply(&self, place: u32) -> Option<Answer> {
-        Machine::reply(self, place)
+        ShapedMachine::reply(self, place)
     }
 
     fn commands(&self, bank: u32) -> u32 {
-        Machine::commands(self, bank)
+        ShapedMachine::commands(self, bank)
     }
 
     fn command(&self, bank: u32, place: u32) -> Option<Command> {
-        Machine::command_at(self, bank, place)
+        ShapedMachine::command_at(self, bank, place)
     }
 
     fn answers(&self, bank: u32) -> u32 {
-        Machine::answers(self, bank)
+        ShapedMachine::answers(self, bank)
     }
 
     fn answer(&self, bank: u32, place: u32) -> Option<BankAnswer> {
-        Machine::answer_at(self, bank, place)
+        ShapedMachine::answer_at(self, bank, place)
     }
 }

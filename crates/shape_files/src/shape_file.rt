@@ -6,8 +6,9 @@ ghost use Rattle.toml.specs.Errors.{IsBlank};
 ghost use Rattle.toml.specs.Parse.{parse_document};
 ghost use Rattle.toml.specs.View.{table_view};
 ghost use Rattle.shape_files.specs.declared.shape_file.ShapeFault.TheVariants.{OutOfMemory};
-ghost use Rattle.shape_files.specs.ShapeFile.{is_key, key_of, has_other_key, integer_at, whole, numbers_of, is_register_count, bad_field, fitted, shape_of, table_says, text_says};
+ghost use Rattle.shape_files.specs.ShapeFile.{is_key, key_of, has_other_key, integer_at, whole, numbers_of, is_register_count, bad_field, fitted, shape_of, sizes_of, table_says, text_says};
 
+use cache_unit::Sizes;
 use flat_model::{Shape, ShapeField};
 use std::alloc::Global;
 use std::error::Error;
@@ -49,6 +50,26 @@ pub struct ToolShape {
     pub ways: u32,
     /// Registers: one of [`REGISTER_COUNTS`].
     pub regs: u32,
+}
+
+impl ToolShape {
+    /// All numbers of the machine that is made of it.
+    pub fn sizes(&self) -> Sizes
+        ensures { result ≡ sizes_of self.now }
+    {
+        Sizes {
+            ways: self.ways,
+            block_words: BLOCK_WORDS as u32,
+            regs: self.regs,
+            depth: DEPTH as u32,
+            words: self.shape.words,
+            sets: self.shape.sets,
+            banks: self.shape.banks,
+            bank_queue: self.shape.bank_queue,
+            write_queue: self.shape.write_queue,
+            replies: self.shape.replies,
+        }
+    }
 }
 
 impl Default for ToolShape {

@@ -8,20 +8,15 @@ ghost use Rattle.cache_unit.specs.Miss.{MayTake};
 
 use crate::fetch::{bring_in, choose_frame, words_owed};
 use crate::reads::lacks_room;
-use crate::{CacheUnit, Places};
+use crate::{Places, ShapedUnit};
 use flat_model::Cause;
 use memory_banks::Lines;
 
-impl<const WAYS: usize, const WORDS: usize, const REGS: usize, const DEPTH: usize> CacheUnit<
-    WAYS,
-    WORDS,
-    REGS,
-    DEPTH,
-> {
+impl ShapedUnit {
     // The frame and the register that a miss on the block takes, or the first cause against it.
     #[inline(always)]
     pub(super) fn find_places<L: Lines>(&self, lines: &L, block: u32) -> Result<Places, Cause>
-        requires { block * WORDS + WORDS ≤ self.now.sizes.words }
+        requires { block * self.now.sizes.block_words + self.now.sizes.block_words ≤ self.now.sizes.words }
         ensures refused { IfErr result
             (λ cause. first_cause
             (miss_causes self.now.sizes (L.room_of lines.now) self.now.cache block)
@@ -32,14 +27,14 @@ impl<const WAYS: usize, const WORDS: usize, const REGS: usize, const DEPTH: usiz
         let Some(slot) = self.registers.free_slot() else {
             return Err(Cause::NoRegister);
         };
-        let Some(frame) = choose_frame(&self.directory, block) else {
+        let Some(frame) = choose_frame(&self.directory, &self.sizes, block) else {
             return Err(Cause::SetPending);
         };
-        if self.queue.room() < words_owed(&self.directory, frame) {
+        if self.queue.room() < words_owed(&self.directory, &self.sizes, frame) {
             return Err(Cause::QueueFull);
         }
-        let first = block * WORDS as u32;
-        if lacks_room(lines, first, WORDS as u32, self.shape.banks) {
+        let words = self.sizes.block_words;
+        if lacks_room(lines, block * words, words, self.sizes.banks) {
             return Err(Cause::BankFull);
         }
         Ok(Places { frame, slot })
@@ -50,7 +45,7 @@ impl<const WAYS: usize, const WORDS: usize, const REGS: usize, const DEPTH: usiz
     #[inline(never)]
     pub(super) fn fetch<L: Lines>(&mut self, lines: &mut L, block: u32, places: Places)
         requires absent { is_present self.old.cache block ≡ false }
-        requires in_memory { block * WORDS + WORDS ≤ self.old.sizes.words }
+        requires in_memory { block * self.old.sizes.block_words + self.old.sizes.block_words ≤ self.old.sizes.words }
         requires may_take { MayTake self.old.sizes
             (L.room_of lines.old) self.old.cache block places }
         ensures unit { self.new
@@ -63,7 +58,7 @@ impl<const WAYS: usize, const WORDS: usize, const REGS: usize, const DEPTH: usiz
             &mut self.registers,
             &mut self.queue,
             lines,
-            self.shape.banks,
+            &self.sizes,
             block,
             places,
         );

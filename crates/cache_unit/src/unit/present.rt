@@ -10,9 +10,9 @@ ghost use Rattle.cache_unit.specs.Steps.{written};
 ghost use Rattle.cache_unit.specs.Requests.{load_answer, load_present};
 ghost use Rattle.cache_unit.specs.Parts.{finding_of, noted_for};
 
-use crate::{CacheUnit, Reply};
+use crate::{Reply, ShapedUnit, Sizes};
 use flat_model::{Answer, Cause, Lanes, Word, merge};
-use miss_registers::{MAX_WAITING, RegisterFile};
+use miss_registers::{MAX_WAITING, RegisterTable};
 
 /// Where a load finds its word.
 #[derive(Clone, Copy)]
@@ -29,12 +29,7 @@ pub(crate) enum Finding {
     },
 }
 
-impl<const WAYS: usize, const WORDS: usize, const REGS: usize, const DEPTH: usize> CacheUnit<
-    WAYS,
-    WORDS,
-    REGS,
-    DEPTH,
-> {
+impl ShapedUnit {
     /// How many loads are awaited or stand ready: at most the shape's replies. Of every unit it is
     /// so, besides, that no tag is owed two values, that a block lies in one frame at most and has
     /// one live register at most, and that each word in the stack is one that its register awaits.
@@ -121,7 +116,7 @@ impl<const WAYS: usize, const WORDS: usize, const REGS: usize, const DEPTH: usiz
         ensures { self.new ≡ record self.old { cache = written self.old.cache block i word lanes } }
     {
         self.directory.write(frame, i, word, lanes);
-        note_code(&mut self.registers, block, i, lanes);
+        note_code(&mut self.registers, &self.sizes, block, i, lanes);
     }
 }
 
@@ -133,17 +128,18 @@ fn has_tag(ready: &[Reply], tag: u16) -> bool
 }
 
 // The lanes join the word's code, where it is still on its way to a live register.
-fn note_code<const WORDS: usize, const REGS: usize>(
-    registers: &mut RegisterFile<WORDS, REGS>,
+fn note_code(
+    registers: &mut RegisterTable,
+    sizes: &Sizes,
     block: u32,
     i: u32,
     lanes: Lanes,
 )
-    requires whole { IsWhole WORDS REGS registers.old }
-    requires there { i < WORDS }
+    requires whole { IsWhole sizes.now.block_words sizes.now.regs registers.old }
+    requires there { i < sizes.now.block_words }
     ensures noted { registers.new
         ≡ noted_for registers.old (regs.live_for registers.old block) i lanes }
-    ensures whole { IsWhole WORDS REGS registers.new }
+    ensures whole { IsWhole sizes.now.block_words sizes.now.regs registers.new }
 {
     let Some(slot) = registers.live_for(block) else {
         return;

@@ -10,16 +10,11 @@ ghost use Rattle.cache_unit.specs.Requests.{absence_cause, is_full_for};
 ghost use Rattle.cache_unit.specs.Steps.{fetched, fetches, load_step, store_step, prefetch_step, request_step};
 
 use crate::unit::present::Finding;
-use crate::{CacheUnit, Lookup, Request};
+use crate::{Lookup, Request, ShapedUnit};
 use flat_model::{Answer, Cause, Lanes, Word};
 use memory_banks::Lines;
 
-impl<const WAYS: usize, const WORDS: usize, const REGS: usize, const DEPTH: usize> CacheUnit<
-    WAYS,
-    WORDS,
-    REGS,
-    DEPTH,
-> {
+impl ShapedUnit {
     /// Serves a request of the processor. A block that no frame holds is brought in first, which
     /// takes a frame and a register and sends a read for each of its words to the lines; then a
     /// load is answered or waits for its word, and a store's bytes go into the buffer.
@@ -66,7 +61,7 @@ impl<const WAYS: usize, const WORDS: usize, const REGS: usize, const DEPTH: usiz
         requires { i < self.now.sizes.block_words }
         ensures { result ≡ lookup_of self.now.cache block i }
     {
-        let Some(frame) = self.directory.look(block) else {
+        let Some(frame) = self.directory.look(self.sizes.ways, block) else {
             return Lookup::Miss;
         };
         match self.find_word(block, i, frame) {
@@ -156,14 +151,14 @@ impl<const WAYS: usize, const WORDS: usize, const REGS: usize, const DEPTH: usiz
         ensures outside { result ≡ not (nat_lt at self.now.sizes.words) }
         ensures sound { IsSoundCache self.now.sizes self.now.cache }
     {
-        at >= self.shape.words
+        at >= self.sizes.words
     }
 
     // Whether as many loads are awaited and ready as may be.
     fn owes_all(&self) -> bool
         ensures { result ≡ nat_le self.now.sizes.replies (length (tags self.now.cache)) }
     {
-        self.owed() >= self.shape.replies
+        self.owed() >= self.sizes.replies
     }
 
     // The block of a word, which lies in memory whole where the word does.
@@ -173,9 +168,7 @@ impl<const WAYS: usize, const WORDS: usize, const REGS: usize, const DEPTH: usiz
             → result * self.now.sizes.block_words + self.now.sizes.block_words
             ≤ self.now.sizes.words }
     {
-        // Reading a field opens the unit's invariant, which says that a block has `WORDS` words.
-        let _shape = &self.shape;
-        at / WORDS as u32
+        at / self.sizes.block_words
     }
 
     // The place of a word in its block.
@@ -183,9 +176,7 @@ impl<const WAYS: usize, const WORDS: usize, const REGS: usize, const DEPTH: usiz
         ensures value { result ≡ place_in self.now.sizes at }
         ensures small { result < self.now.sizes.block_words }
     {
-        // Reading a field opens the unit's invariant, which says that a block has `WORDS` words.
-        let _shape = &self.shape;
-        at % WORDS as u32
+        at % self.sizes.block_words
     }
 
     // The block's frame; where no frame holds the block it is brought in first, or the first cause
@@ -213,7 +204,7 @@ impl<const WAYS: usize, const WORDS: usize, const REGS: usize, const DEPTH: usiz
             ≡ is_full_for self.old.cache block i) }
         ensures held { IfOk result (λ frame. frame_of self.new.cache block ≡ Some frame) }
     {
-        if let Some(frame) = self.directory.look(block) {
+        if let Some(frame) = self.directory.look(self.sizes.ways, block) {
             return Ok(frame);
         }
         let places = self.find_places(lines, block)?;

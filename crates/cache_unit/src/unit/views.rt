@@ -1,5 +1,5 @@
 //! What the unit shows.
-ghost use Rattle.std.specs.Prelude.{◌≡◌, ◌<◌, length, slice_get, is_some, not};
+ghost use Rattle.std.specs.Prelude.{◌≡◌, ◌*◌, ◌<◌, length, slice_get, is_some, not};
 ghost use Rattle.std.specs.List.{list_all};
 ghost use Rattle.flat_model.specs.Words.{has_any};
 ghost use Rattle.cache_directory.specs.Frames as dir;
@@ -8,19 +8,21 @@ ghost use Rattle.miss_registers.specs.Whole.{IsWhole};
 ghost use Rattle.cache_unit.specs.Views as views;
 
 use crate::victim::dirty_words;
-use crate::{CacheUnit, Reply};
-use cache_directory::Directory;
+use crate::{Reply, ShapedUnit, Sizes};
+use cache_directory::FrameTable;
 use flat_model::{Answer, Lanes, Word};
 use input_stack::Entry;
-use miss_registers::{FieldView, Owed, RegisterFile, RegisterView};
+use miss_registers::{FieldView, Owed, RegisterTable, RegisterView};
 use write_queue::Queued;
 
-impl<const WAYS: usize, const WORDS: usize, const REGS: usize, const DEPTH: usize> CacheUnit<
-    WAYS,
-    WORDS,
-    REGS,
-    DEPTH,
-> {
+impl ShapedUnit {
+    /// The numbers that the unit was made with.
+    pub fn sizes(&self) -> &Sizes
+        ensures { result.now ≡ self.now.sizes }
+    {
+        &self.sizes
+    }
+
     /// How many words stand in the input stack.
     pub fn stack_len(&self) -> u32
         ensures { result ≡ length self.now.cache.stack }
@@ -75,7 +77,7 @@ impl<const WAYS: usize, const WORDS: usize, const REGS: usize, const DEPTH: usiz
     pub fn field(&self, slot: u32, i: u32) -> Option<FieldView>
         ensures { result ≡ views.field_view self.now.sizes self.now.cache slot i }
     {
-        self.registers.field(slot, i)
+        self.registers.field(self.sizes.block_words, slot, i)
     }
 
     /// The load at `place` among those that wait for word `i` of the register in `slot`, in the
@@ -90,7 +92,7 @@ impl<const WAYS: usize, const WORDS: usize, const REGS: usize, const DEPTH: usiz
     fn frames(&self) -> u32
         ensures { result ≡ length self.now.cache.frames }
     {
-        self.shape.sets * WAYS as u32
+        self.sizes.sets * self.sizes.ways
     }
 
     /// The block that the frame holds; `None` where it is free or there is no such frame.
@@ -108,7 +110,7 @@ impl<const WAYS: usize, const WORDS: usize, const REGS: usize, const DEPTH: usiz
     fn has_word(&self, frame: u32, i: u32) -> bool
         ensures { result ≡ is_some (views.cell_view self.now.cache frame i) }
     {
-        frame < self.frames() && self.directory.block_of(frame).is_some() && (i as usize) < WORDS
+        frame < self.frames() && self.directory.block_of(frame).is_some() && i < self.sizes.block_words
     }
 
     /// The buffer's word `i` of the block that the frame holds; `None` where it holds none or
@@ -139,17 +141,14 @@ impl<const WAYS: usize, const WORDS: usize, const REGS: usize, const DEPTH: usiz
     pub fn clean(&self) -> bool
         ensures { result ≡ views.is_clean self.now.cache }
     {
-        are_free(&self.registers)
-            && are_clean(&self.directory, self.frames())
+        are_free(&self.registers, self.sizes.regs)
+            && are_clean(&self.directory, &self.sizes)
             && self.queue.len() == 0
     }
 }
 
 // Whether the register in `slot` is valid.
-fn is_valid<const WORDS: usize, const REGS: usize>(
-    registers: &RegisterFile<WORDS, REGS>,
-    slot: u32,
-) -> bool
+fn is_valid(registers: &RegisterTable, slot: u32) -> bool
     ensures { result ≡ (regs.register_at registers.now slot).valid }
 {
     match registers.register(slot) {
@@ -159,11 +158,11 @@ fn is_valid<const WORDS: usize, const REGS: usize>(
 }
 
 // Whether no register is valid.
-fn are_free<const WORDS: usize, const REGS: usize>(registers: &RegisterFile<WORDS, REGS>) -> bool
-    requires { IsWhole WORDS REGS registers.now }
+fn are_free(registers: &RegisterTable, count: u32) -> bool
+    requires { length registers.now ≡ count }
     ensures { result ≡ list_all (λ r. not r.valid) registers.now }
 {
-    for slot in 0..REGS as u32 {
+    for slot in 0..count {
         if is_valid(registers, slot) {
             return false;
         }
@@ -172,33 +171,27 @@ fn are_free<const WORDS: usize, const REGS: usize>(registers: &RegisterFile<WORD
 }
 
 // Whether the frame has no dirty lane.
-fn is_clean<const WAYS: usize, const WORDS: usize>(
-    directory: &Directory<WAYS, WORDS>,
-    frame: u32,
-) -> bool
-    requires whole { dir.IsWhole WAYS WORDS directory.now }
+fn is_clean(directory: &FrameTable, sizes: &Sizes, frame: u32) -> bool
+    requires whole { dir.IsWhole sizes.now.ways sizes.now.block_words directory.now }
     requires frame { frame < length directory.now.frames }
     ensures { result ≡ list_all (λ cell. not (has_any cell.dirty))
         (dir.frame_at directory.now.frames frame).cells }
 {
     match directory.block_of(frame) {
-        Some(_) => dirty_words(directory, frame) == 0,
+        Some(_) => dirty_words(directory, sizes, frame) == 0,
         None => true,
     }
 }
 
 // Whether no frame has a dirty lane.
-fn are_clean<const WAYS: usize, const WORDS: usize>(
-    directory: &Directory<WAYS, WORDS>,
-    frames: u32,
-) -> bool
-    requires whole { dir.IsWhole WAYS WORDS directory.now }
-    requires frames { frames ≡ length directory.now.frames }
+fn are_clean(directory: &FrameTable, sizes: &Sizes) -> bool
+    requires whole { dir.IsWhole sizes.now.ways sizes.now.block_words directory.now }
+    requires frames { sizes.now.sets * sizes.now.ways ≡ length directory.now.frames }
     ensures { result ≡ list_all
         (λ f. list_all (λ cell. not (has_any cell.dirty)) f.cells) directory.now.frames }
 {
-    for frame in 0..frames {
-        if !is_clean(directory, frame) {
+    for frame in 0..sizes.sets * sizes.ways {
+        if !is_clean(directory, sizes, frame) {
             return false;
         }
     }

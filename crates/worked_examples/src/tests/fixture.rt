@@ -1,7 +1,7 @@
 //! What the examples share: shapes, images, machines, and the stored run.
 
 use flat_model::{MakeFault, Shape, Word};
-use machine_core::Machine;
+use machine_core::{Machine, ShapedMachine};
 use std::alloc::{AllocError, Global};
 use std::fmt::Debug;
 use std::io;
@@ -107,9 +107,9 @@ pub fn small_machine(alloc: Global) -> Result<Machine<1, 4, 2, 2>, MakeFault> {
 }
 
 /// A machine of the program's default shape.
-pub fn default_machine(alloc: Global) -> Result<Machine<2, 4, 4, 4>, Fail> {
+pub fn default_machine(alloc: Global) -> Result<ShapedMachine, Fail> {
     let image = vec![in alloc; Word::default(); 64]?;
-    Ok(Machine::new(alloc, PROGRAM_SHAPE, &image)?)
+    Ok(Machine::<2, 4, 4, 4>::new(alloc, PROGRAM_SHAPE, &image)?.into_shaped())
 }
 
 /// What a reader does in a read behind its text.

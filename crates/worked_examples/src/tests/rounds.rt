@@ -1,7 +1,8 @@
 //! Runs of rounds.
 
 use super::fixture::{ZERO, same};
-use machine_core::{Event, Machine, Shape};
+use cache_unit::{Sizes, sizes_of};
+use machine_core::{Event, Shape, ShapedMachine};
 use round_driver::{
     LostRounds, MOST_LATENCY, Table, Timing, drive, drive_with, summarize, summarize_with,
 };
@@ -10,9 +11,13 @@ use std::test::Fail;
 use trace_text::{CheckEnd, check_text, read_requests};
 
 // A new machine over zeros.
-fn machine<const REGS: usize>(alloc: Global, shape: Shape) -> Result<Machine<2, 4, REGS, 4>, Fail> {
+fn machine(alloc: Global, regs: u32, shape: Shape) -> Result<ShapedMachine, Fail> {
     let image = vec![in alloc; ZERO; shape.words as usize]?;
-    Ok(Machine::new(alloc, shape, &image)?)
+    let sizes = Sizes {
+        regs,
+        ..sizes_of::<2, 4, 1, 4>(&shape)
+    };
+    Ok(ShapedMachine::new(alloc, &sizes, &image)?)
 }
 
 // The program's shape with shorter queues.
@@ -35,8 +40,8 @@ const WIDE_SHAPE: Shape = Shape {
 };
 
 // The rounds of these requests with latency 20 and this many registers.
-fn rounds_of<const REGS: usize>(alloc: Global, requests: &[Event; 400]) -> Result<u64, Fail> {
-    let mut machine = machine::<REGS>(alloc, WIDE_SHAPE)?;
+fn rounds_of(alloc: Global, regs: u32, requests: &[Event; 400]) -> Result<u64, Fail> {
+    let mut machine = machine(alloc, regs, WIDE_SHAPE)?;
     let table = summarize(alloc, &mut machine, 20, requests)?;
     Ok(table.rounds)
 }
@@ -50,12 +55,7 @@ fn one_stream_of_misses(rt: HostRuntime) -> Result<(), Fail> {
         *request = Event::Load { tag, at };
     }
     for (registers, wanted) in [(1, 9602), (2, 4806), (4, 2414), (8, 2117)] {
-        let rounds = match registers {
-            1 => rounds_of::<1>(rt.alloc(), &requests),
-            2 => rounds_of::<2>(rt.alloc(), &requests),
-            4 => rounds_of::<4>(rt.alloc(), &requests),
-            _ => rounds_of::<8>(rt.alloc(), &requests),
-        }?;
+        let rounds = rounds_of(rt.alloc(), registers, &requests)?;
         same(&rt, "rounds", rounds, wanted);
     }
     Ok(())
@@ -168,7 +168,7 @@ fn tables_of_rounds(rt: HostRuntime) -> Result<(), Fail> {
     for rounds in TABLES {
         let name = rounds.name;
         assert!(rt; rounds.requests.len() <= 4);
-        let mut machine = machine::<1>(rt.alloc(), NARROW_SHAPE)?;
+        let mut machine = machine(rt.alloc(), 1, NARROW_SHAPE)?;
         let table = summarize(rt.alloc(), &mut machine, rounds.latency, rounds.requests)?;
         same(&rt, name, table, rounds.table);
         let shown = format!(in rt.alloc(); "{table}")?;
@@ -179,7 +179,7 @@ fn tables_of_rounds(rt: HostRuntime) -> Result<(), Fail> {
 
 #[test]
 fn a_load_without_latency(rt: HostRuntime) -> Result<(), Fail> {
-    let mut machine = machine::<1>(rt.alloc(), NARROW_SHAPE)?;
+    let mut machine = machine(rt.alloc(), 1, NARROW_SHAPE)?;
     let requests = [Event::Load { tag: 1, at: 0 }];
     let mut written = Vec::new(rt.alloc());
     let rounds = drive(rt.alloc(), &mut machine, 0, &requests, &mut written)?;
@@ -312,7 +312,7 @@ fn one_load_through_one_bank(rt: HostRuntime) -> Result<(), Fail> {
         (9, 9, 42),
         (1, 1, 10),
     ] {
-        let mut machine = machine::<1>(rt.alloc(), shape)?;
+        let mut machine = machine(rt.alloc(), 1, shape)?;
         let timing = Timing { latency, busy };
         assert!(rt; timing.latency <= MOST_LATENCY);
         let table = summarize_with(rt.alloc(), &mut machine, timing, &requests)?;
@@ -326,7 +326,7 @@ fn runs_are_flat(rt: HostRuntime) -> Result<(), Fail> {
     let requests = read_requests(rt.alloc(), &mut LOADS_AND_EVICTIONS.as_bytes())?;
     assert!(rt; requests.len() == 80);
     for (latency, busy) in [(3, 3), (3, 1), (9, 2), (1_000, 1)] {
-        let mut machine = machine::<2>(rt.alloc(), NARROW_SHAPE)?;
+        let mut machine = machine(rt.alloc(), 2, NARROW_SHAPE)?;
         let mut written = Vec::new(rt.alloc());
         let timing = Timing { latency, busy };
         assert!(rt; timing.latency <= MOST_LATENCY);

@@ -4,8 +4,9 @@
 //! tells what is on its way, and `pump` makes the driver's event and tells it with its answer.
 
 use super::fixture::{SMALL_SHAPE, image, same};
+use cache_unit::{Sizes, sizes_of};
 use flat_model::{Answer, Event, Shape};
-use machine_core::{AnyMachine, Machine};
+use machine_core::{AnyMachine, Machine, ShapedMachine};
 use std::alloc::Global;
 use std::io::Write;
 use std::process::Abort;
@@ -711,7 +712,7 @@ fn plays<R: Abort, const WAYS: usize, const WORDS: usize, const REGS: usize, con
     rt: &R,
     alloc: Global,
     story: &Story,
-    machine: &mut Machine<WAYS, WORDS, REGS, DEPTH>,
+    machine: &mut ShapedMachine,
     other: &mut Machine<WAYS, WORDS, REGS, DEPTH>,
 ) -> Result<(), Fail> {
     let lines = joined(alloc, story.lines)?;
@@ -736,7 +737,12 @@ fn plays_of<R: Abort, const WAYS: usize, const REGS: usize>(
     shape: Shape,
 ) -> Result<(), Fail> {
     let image = image(alloc, 32)?;
-    let mut machine = Machine::<WAYS, 4, REGS, 2>::new(alloc, shape, &image)?;
+    let sizes = Sizes {
+        ways: WAYS as u32,
+        regs: REGS as u32,
+        ..sizes_of::<1, 4, 1, 2>(&shape)
+    };
+    let mut machine = ShapedMachine::new(alloc, &sizes, &image)?;
     let mut other = Machine::<WAYS, 4, REGS, 2>::new(alloc, shape, &image)?;
     plays(rt, alloc, story, &mut machine, &mut other)
 }
@@ -744,7 +750,8 @@ fn plays_of<R: Abort, const WAYS: usize, const REGS: usize>(
 /// Asserts the story of the smallest machines.
 fn plays_of_smallest<R: Abort>(rt: &R, alloc: Global, story: &Story) -> Result<(), Fail> {
     let image = image(alloc, 8)?;
-    let mut machine = Machine::<1, 1, 1, 1>::new(alloc, SMALLEST_SHAPE, &image)?;
+    let sizes = sizes_of::<1, 1, 1, 1>(&SMALLEST_SHAPE);
+    let mut machine = ShapedMachine::new(alloc, &sizes, &image)?;
     let mut other = Machine::<1, 1, 1, 1>::new(alloc, SMALLEST_SHAPE, &image)?;
     plays(rt, alloc, story, &mut machine, &mut other)
 }

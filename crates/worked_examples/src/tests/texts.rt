@@ -4,7 +4,7 @@ use super::fixture::{
     Behind, STORED_COUNTS, STORED_INPUT, STORED_OUTPUT, Script, ZERO, default_machine, same,
 };
 use flat_model::{Answer, Cause, Event, Lanes, Word};
-use machine_core::Machine;
+use machine_core::ShapedMachine;
 use std::alloc::Global;
 use std::io;
 use std::io::Write;
@@ -385,7 +385,7 @@ fn serves_until<R: Abort>(
     alloc: Global,
     room: usize,
     fails: bool,
-) -> Result<Machine<2, 4, 4, 4>, Fail> {
+) -> Result<ShapedMachine, Fail> {
     let mut machine = default_machine(alloc)?;
     let mut writer = Limited {
         taken: Vec::new(alloc),

@@ -1,8 +1,8 @@
-use Rattle.std.proofs.Common.{sym, lit<}
+use Rattle.std.proofs.Common.{sym}
 use Rattle.cache_unit.proofs.Same.{live_for-some}
 use Rattle.cache_unit.proofs.unit.retire.Goals as goal
 
 pub make_obsolete-requires : goal.make_obsolete-requires
-make_obsolete-requires g c =
+make_obsolete-requires c =
     let p = live_for-some c.args.registers.now c.args.block c.in-Some.slot (sym c.in-Some.ensures.answer) in
-    (lit< tt, (p.0, p.1))
+    record { slot = p.0; live = p.1 }

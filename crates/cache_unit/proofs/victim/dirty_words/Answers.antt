@@ -1,4 +1,4 @@
-use Rattle.std.proofs.Common.{◌+◌, ◌<◌, true, false, [], ◌∷◌, length, take, get_or, sym, ap, ◌∙◌, arith, length-append, append-nil}
+use Rattle.std.proofs.Common.{◌+◌, ◌<◌, true, false, [], ◌∷◌, length, take, get_or, sym, ap, ◌∙◌, subst, arith, length-append, append-nil}
 use Rattle.flat_model.specs.Words.{has_any}
 use Rattle.cache_directory.specs.Frames.{frame_at, zero_cell}
 use Rattle.cache_unit.specs.Causes.{dirty_from}
@@ -6,10 +6,16 @@ use Rattle.cache_unit.proofs.DirtyWords.{queued_cell, held-cells, dirty_more, di
 use Rattle.cache_unit.proofs.victim.dirty_words.Goals as goal
 use Rattle.cache_unit.proofs.victim.dirty_words.Goals.{then-has_any, else-has_any}
 
+pub dirty-requires : goal.dirty-requires
+dirty-requires c =
+    let d = c.args.directory.now in
+    let n = held-cells c.args.sizes.now.ways c.args.sizes.now.block_words d c.args.frame c.requires.whole c.requires.held in
+    subst (λ k. c.loop-i.i < k) (sym n) c.loop-i-test.true
+
 pub loop-i-preserved : goal.loop-i-preserved
-loop-i-preserved g c =
+loop-i-preserved c =
     let cells = (frame_at c.args.directory.now.frames c.args.frame).cells in
-    let n = held-cells g.row.WAYS g.row.WORDS c.args.directory.now c.args.frame c.requires.whole c.requires.held in
+    let n = held-cells c.args.sizes.now.ways c.args.sizes.now.block_words c.args.directory.now c.args.frame c.requires.whole c.requires.held in
     let there : c.loop-i.i < length cells = omega arith in
     let test = sym (ap has_any c.dirty.ensures.dirty) ∙ sym c.has_any.ensures in
     let cell = get_or cells c.loop-i.i zero_cell in
@@ -17,8 +23,8 @@ loop-i-preserved g c =
     elim c.if-has_any.branch [ then-has_any w ↦ (let e = ap length (dirty_more 0 0 cells c.loop-i.i true there (test ∙ w.if-has_any.true)) ∙ length-append front (queued_cell 0 (0 + c.loop-i.i) cell ∷ []) in (omega arith, omega arith)) | else-has_any w ↦ (let e = ap length (dirty_more 0 0 cells c.loop-i.i false there (test ∙ w.if-has_any.false)) ∙ ap length (append-nil front) in (omega arith, omega arith)) ]
 
 pub returns-clause-count : goal.returns-clause-count
-returns-clause-count g c block at =
+returns-clause-count c block at =
     let cells = (frame_at c.args.directory.now.frames c.args.frame).cells in
-    let n = held-cells g.row.WAYS g.row.WORDS c.args.directory.now c.args.frame c.requires.whole c.requires.held in
+    let n = held-cells c.args.sizes.now.ways c.args.sizes.now.block_words c.args.directory.now c.args.frame c.requires.whole c.requires.held in
     let all = take_all cells c.loop-i.i (omega arith) in
     c.loop-i.invariant.0 ∙ ap (λ xs. length (dirty_from 0 0 xs)) all ∙ dirty-length 0 0 block at cells

@@ -1,4 +1,4 @@
-use Rattle.std.proofs.Common.{◌≡◌, ◌+◌, ◌*◌, ◌<◌, ◌++◌, true, false, [], ◌∷◌, List, length, take, get_or, sym, ap, ◌∙◌, arith, length-append, append-nil}
+use Rattle.std.proofs.Common.{◌≡◌, ◌+◌, ◌*◌, ◌<◌, ◌++◌, true, false, [], ◌∷◌, List, length, take, get_or, sym, ap, ◌∙◌, subst, arith, length-append, append-nil}
 use Rattle.flat_model.specs.Words.{has_any, merged, zero_word}
 use Rattle.cache_directory.specs.Frames.{frame_at, zero_cell}
 use Rattle.flat_model.specs.declared.Word.{Word}
@@ -9,12 +9,24 @@ use Rattle.cache_unit.proofs.DirtyWords.{queue_one_more, queued_cell, held-cells
 use Rattle.cache_unit.proofs.victim.queue_dirty_words.Goals as goal
 use Rattle.cache_unit.proofs.victim.queue_dirty_words.Goals.{then-has_any, else-has_any}
 
+pub dirty-lanes-requires : goal.dirty-lanes-requires
+dirty-lanes-requires c =
+    let d = c.args.directory.now in
+    let n = held-cells c.args.sizes.now.ways c.args.sizes.now.block_words d c.args.frame c.requires.whole c.requires.held in
+    subst (λ k. c.loop-i.i < k) (sym n) c.loop-i-test.true
+
+pub word-requires : goal.word-requires
+word-requires c =
+    let d = c.args.directory.now in
+    let n = held-cells c.args.sizes.now.ways c.args.sizes.now.block_words d c.args.frame c.requires.whole c.requires.held in
+    subst (λ k. c.loop-i.i < k) (sym n) c.loop-i-test.true
+
 pub push-requires : goal.push-requires
-push-requires g c =
+push-requires c =
     let cells = (frame_at c.args.directory.now.frames c.args.frame).cells in
     let block = c.args.block in
-    let first = c.args.block * g.row.WORDS in
-    let n = held-cells g.row.WAYS g.row.WORDS c.args.directory.now c.args.frame c.requires.whole c.requires.held in
+    let first = c.args.block * c.args.sizes.now.block_words in
+    let n = held-cells c.args.sizes.now.ways c.args.sizes.now.block_words c.args.directory.now c.args.frame c.requires.whole c.requires.held in
     let there : c.loop-i.i < length cells = omega arith in
     let test = sym (ap has_any c.dirty-lanes.ensures.dirty) ∙ sym c.has_any.ensures ∙ c.if-has_any.true in
     let front = dirty_from block first (take c.loop-i.i cells) in
@@ -25,20 +37,20 @@ push-requires g c =
     omega arith
 
 pub loop-i-preserved : goal.loop-i-preserved
-loop-i-preserved g c =
+loop-i-preserved c =
     let cells = (frame_at c.args.directory.now.frames c.args.frame).cells in
     let block = c.args.block in
-    let first = c.args.block * g.row.WORDS in
+    let first = c.args.block * c.args.sizes.now.block_words in
     let old = c.args.queue.now in
-    let n = held-cells g.row.WAYS g.row.WORDS c.args.directory.now c.args.frame c.requires.whole c.requires.held in
+    let n = held-cells c.args.sizes.now.ways c.args.sizes.now.block_words c.args.directory.now c.args.frame c.requires.whole c.requires.held in
     let there : c.loop-i.i < length cells = omega arith in
     let test = sym (ap has_any c.dirty-lanes.ensures.dirty) ∙ sym c.has_any.ensures in
     let front = dirty_from block first (take c.loop-i.i cells) in
     elim c.if-has_any.branch [ then-has_any w ↦ queue_one_more c.loop-i.queue old c.if-has_any.queue block first c.loop-i.i cells w.merge.result c.dirty-lanes.result there (test ∙ w.if-has_any.true) c.dirty-lanes.ensures.dirty (let none : w.default.result ≡ zero_word = λ i. let d = w.default.ensures in record { b0 = d.0 i; b1 = d.1.0 i; b2 = d.1.1.0 i; b3 = d.1.1.1 i } in w.merge.ensures ∙ ap (λ (v : Word). merged v w.word.result c.dirty-lanes.result) none ∙ ap (λ (v : Word). merged zero_word v c.dirty-lanes.result) w.word.ensures.word) c.loop-i.invariant (w.queue-is ∙ w.push.ensures) | else-has_any w ↦ w.queue-is ∙ c.loop-i.invariant ∙ ap (λ (l : List Queued). queue_of (old.entries ++ l) old.limit) (sym (dirty_more block first cells c.loop-i.i false there (test ∙ w.if-has_any.false) ∙ append-nil front)) ]
 
 pub returns : goal.returns
-returns g c =
+returns c =
     let cells = (frame_at c.args.directory.now.frames c.args.frame).cells in
-    let n = held-cells g.row.WAYS g.row.WORDS c.args.directory.now c.args.frame c.requires.whole c.requires.held in
+    let n = held-cells c.args.sizes.now.ways c.args.sizes.now.block_words c.args.directory.now c.args.frame c.requires.whole c.requires.held in
     let all = take_all cells c.loop-i.i (omega arith) in
-    c.loop-i.invariant ∙ ap (λ xs. queue_of (c.args.queue.now.entries ++ dirty_from c.args.block (c.args.block * g.row.WORDS) xs) c.args.queue.now.limit) all
+    c.loop-i.invariant ∙ ap (λ xs. queue_of (c.args.queue.now.entries ++ dirty_from c.args.block (c.args.block * c.args.sizes.now.block_words) xs) c.args.queue.now.limit) all

@@ -5,7 +5,7 @@ use Rattle.machine_core.proofs.Stepping.{brought_answer, brought_cache, brought_
 use Rattle.machine_core.proofs.step.bring.Goals as goal
 
 pub returns-in-Moved-clause-answer : goal.returns-in-Moved-clause-answer
-returns-in-Moved-clause-answer g c =
+returns-in-Moved-clause-answer c =
     let unit = c.args.unit.now in
     let old = c.args.banks.now in
     let m = machine_of unit old in
@@ -13,7 +13,7 @@ returns-in-Moved-clause-answer g c =
     brought_answer unit.sizes m c.args.bank c.args.place _ c.in-Some.answer _ is c.arrive-told.ensures.answer
 
 pub returns-in-Moved-clause-unit : goal.returns-in-Moved-clause-unit
-returns-in-Moved-clause-unit g c =
+returns-in-Moved-clause-unit c =
     let unit = c.args.unit.now in
     let old = c.args.banks.now in
     let m = machine_of unit old in
@@ -22,7 +22,7 @@ returns-in-Moved-clause-unit g c =
     (brought_cache unit.sizes m c.args.bank c.args.place _ c.in-Some.answer is)
 
 pub returns-in-Moved-clause-banks : goal.returns-in-Moved-clause-banks
-returns-in-Moved-clause-banks g c =
+returns-in-Moved-clause-banks c =
     let unit = c.args.unit.now in
     let old = c.args.banks.now in
     let m = machine_of unit old in
@@ -31,7 +31,7 @@ returns-in-Moved-clause-banks g c =
     c.take_answer.ensures.banks ∙ ap (with_banks old) (brought_taken unit.sizes m c.args.bank c.args.place _ c.in-Some.answer is moved)
 
 pub returns-in_default-told : goal.returns-in_default-told
-returns-in_default-told g c =
+returns-in_default-told c =
     let unit = c.args.unit.now in
     let old = c.args.banks.now in
     let m = machine_of unit old in

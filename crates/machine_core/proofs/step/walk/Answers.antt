@@ -4,7 +4,7 @@ use Rattle.machine_core.proofs.Stepping.{walk_told, walk_unit, walk_banks}
 use Rattle.machine_core.proofs.step.walk.Goals as goal
 
 pub loop-event-preserved : goal.loop-event-preserved
-loop-event-preserved g c =
+loop-event-preserved c =
     let inv = c.loop-event.invariant in
     let next = take_more c.args.events.now c.loop-event.event-index _ c.loop-event-test.true in
     record {

@@ -5,7 +5,7 @@ use Rattle.machine_core.specs.Whole.{machine_of}
 use Rattle.machine_core.proofs.step.walk.Given as goal
 
 abbrev pub invariant-loop-event : goal.invariant-loop-event
-invariant-loop-event g l =
+invariant-loop-event l =
     let m = machine_of l.initial.unit l.initial.banks in
     let so_far = take l.event-index l.events in
     record {

@@ -1,4 +1,5 @@
 use Rattle.std.proofs.Common.{◌+◌, ap, sym, arith}
+use Rattle.cache_unit.specs.declared.Sizes.{Sizes}
 use Rattle.cache_unit.specs.State.{free_register}
 use Rattle.machine_core.specs.Pump.{register_weight}
 use Rattle.machine_core.proofs.Totals.{total_more}
@@ -6,7 +7,8 @@ use Rattle.machine_core.proofs.Counting.{none_behind}
 use Rattle.machine_core.proofs.weigh.weight_of_registers.Goals as goal
 
 pub loop-slot-preserved : goal.loop-slot-preserved
-loop-slot-preserved g c =
+loop-slot-preserved c =
+    let regs = ap (λ (z : Sizes). z.regs) c.sizes.ensures in
     let own = ap (λ n. c.loop-slot.weight + n) c.weight_of_register-weight.ensures.value in
     record {
       counted = total_more register_weight c.args.unit.now.cache.registers c.loop-slot.slot free_register c.loop-slot.weight
@@ -15,7 +17,7 @@ loop-slot-preserved g c =
     }
 
 pub returns-then-owed-replies_len-lt2-clause-value : goal.returns-then-owed-replies_len-lt2-clause-value
-returns-then-owed-replies_len-lt2-clause-value g c =
+returns-then-owed-replies_len-lt2-clause-value c =
     let owed = c.owed.ensures.value in
     let ready = c.replies_len.ensures in
     sym (none_behind c.args.unit.now.cache (omega arith))

@@ -1,8 +1,7 @@
-use Rattle.cache_directory.proofs.Calls.{fill_whole}
 use Rattle.cache_directory.proofs.directory.Directory.fill.Goals as goal
 
 pub invariant_of-self : goal.invariant_of-self
-invariant_of-self g c = fill_whole _ _ _ _ _ _ _ _ _ _ c.self.invariant c.self.view_is c.requires.held c.index_mut-way.ensures.value c.fill.ensures
+invariant_of-self g c = c.fill.ensures.whole _ _ c.self.invariant
 
 pub returns-clause-whole : goal.returns-clause-whole
-returns-clause-whole g c = fill_whole _ _ _ _ _ _ _ _ _ _ c.self.invariant c.self.view_is c.requires.held c.index_mut-way.ensures.value c.fill.ensures
+returns-clause-whole g c = c.fill.ensures.whole _ _ c.self.invariant

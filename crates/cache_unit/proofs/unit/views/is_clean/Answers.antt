@@ -4,5 +4,5 @@ use Rattle.cache_unit.proofs.Views.{none_dirty}
 use Rattle.cache_unit.proofs.unit.views.is_clean.Goals as goal
 
 pub returns-in-Some : goal.returns-in-Some
-returns-in-Some g c =
+returns-in-Some c =
     ap (λ n. n == 0) (c.dirty_words.ensures.count 0 0) ∙ none_dirty 0 0 (frame_at c.args.directory.now.frames c.args.frame).cells

@@ -4,5 +4,5 @@ use Rattle.cache_unit.proofs.Views.{not_shown}
 use Rattle.cache_unit.proofs.unit.views.is_valid.Goals as goal
 
 pub returns-in-None : goal.returns-in-None
-returns-in-None g c =
+returns-in-None c =
     sym (ap (λ (r : Register). r.valid) (not_shown c.args.registers.now c.args.slot (sym c.in-None.ensures.answer)))

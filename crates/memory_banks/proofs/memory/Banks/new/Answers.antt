@@ -1,7 +1,16 @@
-use Rattle.std.proofs.Common.{sym}
-use Rattle.memory_banks.proofs.Making.{in_range, made_memory}
+use Rattle.std.proofs.Common.{length, sym, ◌∙◌}
+use Rattle.memory_banks.proofs.Making.{in_range}
 use Rattle.memory_banks.proofs.memory.Banks.new.Goals as goal
 
-pub invariant_of-result : goal.invariant_of-result
-invariant_of-result c =
-    made_memory c.args.image.now c.args.shape.now c.in_ok-banks.banks.items (in_range _ _ (sym c.in_default.ensures)) c.in_ok-banks.ensures
+pub over-requires : goal.over-requires
+over-requires c =
+    let r = in_range (length c.args.image.now) c.args.shape.now (sym c.bad_field.ensures ∙ c.in_default.is) in
+    record {
+      some_words = r.some_words;
+      few_words = r.most_words;
+      image = r.image_fits;
+      some_banks = r.some_banks;
+      few_banks = r.most_banks;
+      some_commands = r.some_queue;
+      few_commands = r.most_queue;
+    }

@@ -1,22 +1,11 @@
-use Rattle.std.proofs.Common.{◌≡◌, arith}
-use Rattle.miss_registers.specs.Registers.{free_register}
-use Rattle.miss_registers.proofs.Each.{element_is}
-use Rattle.miss_registers.proofs.Whole.{awaited-kept}
 use Rattle.miss_registers.proofs.Awaiting.{few_wait}
 use Rattle.miss_registers.proofs.file.RegisterFile.await_word.Goals as goal
 
-pub invariant_of-self : goal.invariant_of-self
-invariant_of-self g c =
-    let xs = c.self.inside.slots.items in
-    let v : xs ≡ c.args.self.now = c.self.view_is in
-    let register = c.index_mut-register in
-    let e = element_is xs c.args.self.now c.args.slot register.result.now free_register v c.requires.slot register.ensures.value in
-    let q = c.requires in
-    let kept = rw v at c.self.invariant in
-    rw (c.await_word.ensures, e, v) (awaited-kept _ _ _ _ c.args.slot c.args.i _ kept q.slot q.live q.expected q.room q.new_tag)
+pub await_word-requires-clause-few : goal.await_word-requires-clause-few
+await_word-requires-clause-few g c = few_wait _ _ _ c.self.invariant
 
-pub overflow_add-self : goal.overflow_add-self
-overflow_add-self g c = omega (arith, few_wait _ _ _ c.self.invariant.0, c.self.invariant.1)
+pub invariant_of-self : goal.invariant_of-self
+invariant_of-self g c = c.await_word.ensures.whole g.row.WORDS g.row.REGS c.self.invariant
 
 pub returns-clause-whole : goal.returns-clause-whole
-returns-clause-whole g c = (invariant_of-self g c).0
+returns-clause-whole g c = invariant_of-self g c

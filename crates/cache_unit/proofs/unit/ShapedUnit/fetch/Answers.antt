@@ -1,0 +1,100 @@
+use Rattle.std.proofs.Common.{◌≡◌, ◌+◌, ◌*◌, ◌%◌, ◌<◌, ◌≤◌, ℕ, List, Some, arith, ap, sym, ◌∙◌, subst}
+use Rattle.memory_banks.specs.Banks.{HasSent}
+use Rattle.memory_banks.specs.declared.Command.{Command}
+use Rattle.cache_directory.specs.Frames as dir
+use Rattle.miss_registers.specs.Registers as regs
+use Rattle.miss_registers.specs.Whole.{IsWhole}
+use Rattle.cache_unit.specs.State.{UnitState, is_present}
+use Rattle.cache_unit.specs.Steps.{fetched, fetches}
+use Rattle.cache_unit.specs.Shown.{as_cache}
+use Rattle.cache_unit.specs.Miss.{MayTake}
+use Rattle.cache_unit.proofs.Stepping.{cache_by, value_by}
+use Rattle.cache_unit.proofs.SentReads.{room_for_all}
+use Rattle.cache_unit.proofs.FetchShown.{fetched-shown}
+use Rattle.cache_unit.proofs.FetchSound.{IsSound-missed}
+use Rattle.cache_unit.proofs.Placing.{takes_from}
+use Rattle.cache_unit.proofs.Missing.{absent_frame, no_live, fetches-shown}
+use Rattle.cache_unit.proofs.unit.ShapedUnit.fetch.Goals as goal
+
+pub bring_in-requires : goal.bring_in-requires
+bring_in-requires g c =
+    let s = c.self.inside in
+    let h = c.self.invariant in
+    let z = s.sizes in
+    let room = g.L.Lines.room_of c.args.lines.now in
+    let P : UnitState → Type 0 = λ v. MayTake v.sizes room v.cache c.args.block c.args.places in
+    let t = takes_from z s.directory s.registers s.stack s.queue s.ready.items h room c.args.block c.args.places (subst P (sym c.self.view_is) c.requires.may_take) in
+    let absent = absent_frame s.directory s.registers s.stack s.queue.entries s.ready.items c.args.block (ap (λ (v : UnitState). is_present v.cache c.args.block) c.self.view_is ∙ c.requires.absent) in
+    let live = no_live s.directory.frames s.registers c.args.block h.tied absent in
+    let in_memory : c.args.block * s.sizes.block_words + s.sizes.block_words ≤ s.sizes.words =
+    subst (λ (v : UnitState). c.args.block * v.sizes.block_words + v.sizes.block_words ≤ v.sizes.words) (sym c.self.view_is) c.requires.in_memory in
+    let little = h.ranges.little_memory in
+    let small : c.args.block * s.sizes.block_words + s.sizes.block_words < 4294967296 = omega arith in
+    let held : (b : ℕ) → (dir.frame_at s.directory.frames c.args.places.frame).block ≡ Some b → b * s.sizes.block_words + s.sizes.block_words < 4294967296 = λ b e. (let m = h.in_memory c.args.places.frame b e in omega arith) in
+    let banks = room_for_all room c.args.places.slot (c.args.block * s.sizes.block_words) s.sizes.block_words s.sizes.banks h.ranges.some_banks t.banks in
+    record {
+      whole = h.directory;
+      whole_file = h.registers;
+      absent = absent;
+      frame = t.there;
+      of_set = t.of_set;
+      slot = t.slot;
+      free = t.free;
+      no_live = live;
+      fits = small;
+      held_fits = held;
+      room = t.queue;
+      some_banks = h.ranges.some_banks;
+      bank_room = banks;
+    }
+
+pub invariant_of-self : goal.invariant_of-self
+invariant_of-self g c =
+    let s = c.self.inside in
+    let h = c.self.invariant in
+    let z = s.sizes in
+    let room = g.L.Lines.room_of c.args.lines.now in
+    let f = c.args.places.frame in
+    let slot = c.args.places.slot in
+    let P : UnitState → Type 0 = λ v. MayTake v.sizes room v.cache c.args.block c.args.places in
+    let t = takes_from z s.directory s.registers s.stack s.queue s.ready.items h room c.args.block c.args.places (subst P (sym c.self.view_is) c.requires.may_take) in
+    let absent = absent_frame s.directory s.registers s.stack s.queue.entries s.ready.items c.args.block (ap (λ (v : UnitState). is_present v.cache c.args.block) c.self.view_is ∙ c.requires.absent) in
+    let in_memory : c.args.block * s.sizes.block_words + s.sizes.block_words ≤ s.sizes.words =
+    subst (λ (v : UnitState). c.args.block * v.sizes.block_words + v.sizes.block_words ≤ v.sizes.words) (sym c.self.view_is) c.requires.in_memory in
+    let b = c.bring_in.ensures in
+    let D : dir.Frames → Type 0 = dir.IsWhole s.sizes.ways s.sizes.block_words in
+    let R : List regs.Register → Type 0 = IsWhole s.sizes.block_words s.sizes.regs in
+    let all = IsSound-missed z s.directory s.registers s.stack s.queue s.ready.items c.args.block f slot h t.there t.idle absent t.slot t.free in_memory t.queue (subst D b.directory b.whole) (subst R b.registers b.whole_file) in
+    rw (b.directory, b.registers, b.queue) all
+
+pub returns-clause-unit : goal.returns-clause-unit
+returns-clause-unit g c =
+    let s = c.self.inside in
+    let h = c.self.invariant in
+    let z = s.sizes in
+    let now = as_cache s.directory s.registers s.stack s.queue.entries s.ready.items in
+    let room = g.L.Lines.room_of c.args.lines.now in
+    let f = c.args.places.frame in
+    let slot = c.args.places.slot in
+    let P : UnitState → Type 0 = λ v. MayTake v.sizes room v.cache c.args.block c.args.places in
+    let may = subst P (sym c.self.view_is) c.requires.may_take in
+    let t = takes_from z s.directory s.registers s.stack s.queue s.ready.items h room c.args.block c.args.places may in
+    let absent = ap (λ (v : UnitState). is_present v.cache c.args.block) c.self.view_is ∙ c.requires.absent in
+    let of_set = t.of_set ∙ ap (λ n. c.args.block % n) h.sets in
+    let shown = fetched-shown z s.directory s.registers s.stack s.queue.entries s.ready.items c.args.block f slot h.directory of_set absent may.frame may.slot in
+    let b = c.bring_in.ensures in
+    rw (b.directory, b.registers, b.queue) (cache_by z now _ _ (λ y k. fetched y k c.args.block) c.self.view_is shown)
+
+pub returns-clause-lines : goal.returns-clause-lines
+returns-clause-lines g c =
+    let s = c.self.inside in
+    let z = s.sizes in
+    let now = as_cache s.directory s.registers s.stack s.queue.entries s.ready.items in
+    let room = g.L.Lines.room_of c.args.lines.now in
+    let P : UnitState → Type 0 = λ v. MayTake v.sizes room v.cache c.args.block c.args.places in
+    let may = subst P (sym c.self.view_is) c.requires.may_take in
+    let absent = ap (λ (v : UnitState). is_present v.cache c.args.block) c.self.view_is ∙ c.requires.absent in
+    let sent = fetches-shown z now c.args.block c.args.places.slot absent may.slot in
+    let all = value_by z now _ (λ y k. fetches y k c.args.block) _ c.self.view_is sent in
+    let Q : List (ℕ × Command) → Type 0 = HasSent g.L.Lines.sent_to g.L.Lines.room_of g.L.Lines.same c.args.lines.now c.bring_in.new.lines in
+    subst Q all c.bring_in.ensures.lines

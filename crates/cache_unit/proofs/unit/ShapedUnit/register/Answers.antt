@@ -1,0 +1,14 @@
+use Rattle.std.proofs.Common.{◌∙◌}
+use Rattle.cache_unit.specs.Shown.{as_cache}
+use Rattle.cache_unit.specs.Views as views
+use Rattle.cache_unit.proofs.Stepping.{value_by}
+use Rattle.cache_unit.proofs.Views.{register-shown}
+use Rattle.cache_unit.proofs.unit.ShapedUnit.register.Goals as goal
+
+pub returns : goal.returns
+returns c =
+    let s = c.self.inside in
+    let sizes = s.sizes in
+    let now = as_cache s.directory s.registers s.stack s.queue.entries s.ready.items in
+    let shown = register-shown sizes s.directory s.registers s.stack s.queue s.ready.items c.args.slot c.self.invariant in
+    value_by sizes now _ (λ z k. views.register_view k c.args.slot) _ c.self.view_is (c.register.ensures.answer ∙ shown)

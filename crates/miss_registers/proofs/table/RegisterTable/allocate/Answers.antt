@@ -1,0 +1,19 @@
+use Rattle.std.proofs.Common.{◌≡◌, ◌∙◌}
+use Rattle.miss_registers.proofs.Awaiting.{allocated-count}
+use Rattle.miss_registers.proofs.Whole.{allocated-kept}
+use Rattle.miss_registers.proofs.table.RegisterTable.allocate.Goals as goal
+
+pub invariant_of-self : goal.invariant_of-self
+invariant_of-self c =
+    let xs = c.self.inside.slots.items in
+    let v : xs ≡ c.args.self.now = c.self.view_is in
+    let a = c.args in
+    let counted = rw v at c.self.invariant in
+    rw (c.allocate.ensures, v) (counted ∙ allocated-count c.args.self.now a.slot a.words a.block a.frame c.requires.slot c.requires.free)
+
+pub returns-clause-whole : goal.returns-clause-whole
+returns-clause-whole c =
+    let v : c.self.inside.slots.items ≡ c.args.self.now = c.self.view_is in
+    let a = c.args in
+    let q = c.requires in
+    rw (c.allocate.ensures, v) (λ regs h. allocated-kept a.words regs _ a.slot a.block a.frame h q.slot q.free q.absent)
