@@ -307,14 +307,7 @@ module _ {R W : Type 0} (gave : R → List ℕ → R → Type 0) (failed : R →
   Sweeps timings (Lines format) = sweeps_lines timings format
   Sweeps timings Figure = DrawsSweep timings
 
-  -- The requests of a trace or of a log are driven in rounds through a new machine: the run is written,
-  abbrev pub WritesRun : (from : RequestText) (timing : Timing) (shape : ToolShape) (image : Image) → Ending R W
-  WritesRun from timing shape image input input' output output' result =
-      (driven : Result ℕ LogFault) × (last : W)
-      × DrivesAll gave failed took refused from (room_of shape) timing (machine_over image shape) input input' output last driven
-      × Finishes took refused unflushed driven last output' result
-
-  -- or a table of its counts is put.
+  -- The requests of a trace or of a log are driven in rounds through a new machine: a table of its counts is put,
   abbrev pub PutsCounts : (from : RequestText) (timing : Timing) (format : Format) (shape : ToolShape) (image : Image) → Ending R W
   PutsCounts from timing format shape image input input' =
       Answers took refused unflushed
@@ -346,10 +339,6 @@ module _ {R W : Type 0} (gave : R → List ℕ → R → Type 0) (failed : R →
   counts_by (Lines format) false from timing = PutsCounts from timing format
   counts_by (Lines format) true from timing = PutsDetails from timing format
   counts_by Figure all from timing = DrawsCounts from timing
-
-  unfoldable pub Drives : (from : RequestText) (timing : Timing) (summary all : Bool) (form : CountForm) (shape : ToolShape) (image : Image) → Ending R W
-  Drives from timing false all form = WritesRun from timing
-  Drives from timing true all form = counts_by form all from timing
 
   -- The requests of a log are written, whose lines say these accesses, for a memory of so many words.
   unfoldable pub WritesRequests : (access_of : List ℕ → Result (Option Access) LineFault) (words : ℕ) → Ending R W
@@ -387,31 +376,64 @@ module _ {R W : Type 0} (gave : R → List ℕ → R → Type 0) (failed : R →
   unfoldable pub FollowsHistory : (how : HistoryTask) (image : List ℕ) → Ending R W
   FollowsHistory how = judges_or_writes how.values how
 
+-- What holds of an output, of an input and of the errors, too.
+abbrev pub Telling : Type 0 → Type 0 → Type 0 → Type 1
+Telling R W E = (errors errors' : E) → Ending R W
+
+-- Of the errors: what they may take, and how they may refuse a write or a flush.
+module _ {R W E : Type 0} (gave : R → List ℕ → R → Type 0) (failed : R → R → Type 0)
+    (took : W → List ℕ → W → Type 0) (refused unflushed : W → W → Type 0)
+    (noted : E → List ℕ → E → Type 0) (unnoted unsettled : E → E → Type 0) where
+  -- Nothing is told while a task is done.
+  abbrev pub Silently : Ending R W → Telling R W E
+  Silently ends errors errors' input input' output output' result =
+      (errors' ≡ errors) × ends input input' output output' result
+
+  -- The requests of a trace or of a log are driven in rounds through a new machine, and the run is written. Before that it
+  -- is told of a run that is too long for a check.
+  abbrev pub WritesRun : (from : RequestText) (timing : Timing) (shape : ToolShape) (image : Image) → Telling R W E
+  WritesRun from timing shape image errors errors' input input' output output' result =
+      (driven : Result ℕ LogFault) × (last : W)
+      × DrivesAll gave failed took refused noted unnoted unsettled from (room_of shape) timing (machine_over image shape)
+      input input' output last errors errors' driven
+      × Finishes took refused unflushed driven last output' result
+
+  -- The run is written, or what it counts is put.
+  unfoldable pub Drives : (from : RequestText) (timing : Timing) (summary all : Bool) (form : CountForm) (shape : ToolShape)
+      (image : Image) → Telling R W E
+  Drives from timing false all form shape image = WritesRun from timing shape image
+  Drives from timing true all form shape image =
+      Silently (counts_by gave failed took refused unflushed form all from timing shape image)
+
   -- ---- the whole program
 
   -- What becomes of each task.
-  unfoldable pub IsDone : Task → (shape : ToolShape) (image : Image) → Ending R W
-  IsDone task.Run shape image = Runs shape image
-  IsDone (task.Check all_answered format) shape image = checks_by all_answered format shape image
-  IsDone (task.Sweep timings form) shape image = Sweeps (timings_in timings) form shape
-  IsDone (task.Explain format) shape image = ExplainsRun format shape image
-  IsDone (task.Grade format) shape image = Grades format shape image
+  unfoldable pub IsDone : Task → (shape : ToolShape) (image : Image) → Telling R W E
+  IsDone task.Run shape image = Silently (Runs gave failed took refused unflushed shape image)
+  IsDone (task.Check all_answered format) shape image =
+      Silently (checks_by gave failed took refused unflushed all_answered format shape image)
+  IsDone (task.Sweep timings form) shape image =
+      Silently (Sweeps gave failed took refused unflushed (timings_in timings) form shape)
+  IsDone (task.Explain format) shape image = Silently (ExplainsRun gave failed took refused unflushed format shape image)
+  IsDone (task.Grade format) shape image = Silently (Grades gave failed took refused unflushed format shape image)
   IsDone (task.Drive from timing summary all form) shape image = Drives from timing summary all form shape image
-  IsDone (task.Requests log words) shape image = WritesRequests (access_in log) words
-  IsDone (task.Show form) shape image = Draws form shape image
-  IsDone (task.History how) shape image = FollowsHistory how (bytes_of image)
+  IsDone (task.Requests log words) shape image =
+      Silently (WritesRequests gave failed took refused unflushed (access_in log) words)
+  IsDone (task.Show form) shape image = Silently (Draws gave failed took refused unflushed form shape image)
+  IsDone (task.History how) shape image =
+      Silently (FollowsHistory gave failed took refused unflushed how (bytes_of image))
 
   -- The files that are named are read, and the task is done with what they say. Or one can't be read, or the image is too
   -- long, and nothing is done.
-  unfoldable pub Performs : CommandLine → Ending R W
-  Performs asked input input' output output' result =
+  unfoldable pub Performs : CommandLine → Telling R W E
+  Performs asked errors errors' input input' output output' result =
       ((shape : ToolShape) × (image : Image) × IsShapeOf asked.shape_file shape × IsImageOf asked.image image
-      × HasRoom asked.task shape image × IsDone asked.task shape image input input' output output' result)
-      ⊎ ((fault : ToolFault) × (result ≡ Err fault) × (input' ≡ input) × (output' ≡ output)
+      × HasRoom asked.task shape image × IsDone asked.task shape image errors errors' input input' output output' result)
+      ⊎ ((fault : ToolFault) × (result ≡ Err fault) × (input' ≡ input) × (output' ≡ output) × (errors' ≡ errors)
       × (((f : JobFault) × ShapeFails asked.shape_file f × (fault ≡ Job f)) ⊎ (ImageFails asked.image fault ⊎ ImageIsTooLong asked fault)))
 
   -- The words are understood as a task that there may be, which is performed, or they ask for none, and nothing is read.
-  unfoldable pub Works : Ending R W
-  Works input input' output output' result =
-      ((asked : CommandLine) × IsInRange asked.task × Performs asked input input' output output' result)
-      ⊎ ((said : Error) × (input' ≡ input) × TellsWords took refused unflushed said output output' result)
+  unfoldable pub Works : Telling R W E
+  Works errors errors' input input' output output' result =
+      ((asked : CommandLine) × IsInRange asked.task × Performs asked errors errors' input input' output output' result)
+      ⊎ ((said : Error) × (input' ≡ input) × (errors' ≡ errors) × TellsWords took refused unflushed said output output' result)

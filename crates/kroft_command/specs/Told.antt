@@ -1,18 +1,15 @@
 -- What is told of the program's end, and by which status it ends.
 use Rattle.std.specs.Prelude.{◌≡◌, ◌⊎◌, ℕ, List, Result, Ok, Err}
-use Rattle.kroft_jobs.specs.Writing.{IsPut, IsCut}
+use Rattle.kroft_jobs.specs.Writing.{IsOffered}
 use Rattle.kroft_command.specs.declared.fault.ToolFault.{ToolFault}
 use Rattle.kroft_command.specs.Tool.{IsLineOf, no_memory, status_of}
 
 -- Of the errors: what they may take, and how they may refuse a write or a flush.
 module _ {E : Type 0} (took : E → List ℕ → E → Type 0) (refused unflushed : E → E → Type 0) where
-  -- A line was offered to them: it was put, or cut.
-  abbrev pub IsOffered : (old : E) (text : List ℕ) (new : E) → Type 0
-  IsOffered old text new = IsPut took old text new ⊎ IsCut took refused unflushed old text new
-
   -- A fault is told by its line and its status.
   abbrev pub IsTold : (fault : ToolFault) (old new : E) (status : ℕ) → Type 0
-  IsTold fault old new status = (text : List ℕ) × IsLineOf fault text × IsOffered old text new × (status ≡ status_of fault)
+  IsTold fault old new status =
+      (text : List ℕ) × IsLineOf fault text × IsOffered took refused unflushed old text new × (status ≡ status_of fault)
 
   -- If there is no memory for its line, that is told in its place.
   abbrev pub TellsFault : (fault : ToolFault) (old new : E) (status : ℕ) → Type 0

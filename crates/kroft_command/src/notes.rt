@@ -186,7 +186,9 @@ A bank is busy until it has served its command. With --busy B, fewer rounds than
 it begins its next command B rounds behind the last one that it began, or later, and serves each
 of them L rounds behind its begin.
 Writes each request with its answer, and each other event that did something, as 'check' reads
-them. With --summary, in their place, one line of counts: rounds, the last of which moves nothing;
+them. Before a run of more than 16777216 lines, which 'check' doesn't read whole, it tells so in a line
+on standard error, 'note: ..', and writes the run all the same; 'explain' reads any number of lines.
+With --summary, in their place, one line of counts: rounds, the last of which moves nothing;
 requests accepted and denied; of those accepted how many found their word at hand (hits) or on its
 way (joins), or asked for its block (misses); requests that stalled; rounds lost by each cause;
 loads answered, their mean and longest wait in rounds; the most registers in use at once; words
@@ -205,6 +207,7 @@ With --log FORMAT a log of accesses is read in place of a trace ('kroft requests
 formats and faults), over the words of the shape: the requests are those that 'requests' writes. Then
 --summary --all counts the log's accesses too, and reads and writes apart: each is as its worst word, a
 miss if any of its words missed, else a join if any joined, else a hit. A modification is one read.
+A log with a fault isn't driven in part, as it is if 'requests' reads it in front of a pipe.
 
 Statuses: 0 done, 2 the command line is wrong, 3 the shape file is wrong, 4 a line is faulty, the
 image is wrong or a stream failed, 5 there is too little memory.

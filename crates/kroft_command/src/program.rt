@@ -25,7 +25,8 @@ use trace_text::{Sink, Source};
 /// Does what the words behind the program's name ask for, and gives the status that the program
 /// ends with: 0 done, 1 a mismatch or a wrong prediction was found, 2 the words were refused, 3 a fault of the shape
 /// file, 4 a fault of the trace or a failed write of the output, 5 want of memory or the turn limit
-/// of a sweep, 6 a history of which it can't be told. A fault is told in one line on `errors`.
+/// of a sweep, 6 a history of which it can't be told. A fault is told in one line on `errors`; so is, before
+/// anything else, that a run which is to be written has more lines than a check reads.
 pub fn tool<R: AllocGlobal + Files + Threads + Sync, I: Source, O: Sink, E: Sink>(
     rt: &R,
     words: &[&str],
@@ -34,11 +35,12 @@ pub fn tool<R: AllocGlobal + Files + Threads + Sync, I: Source, O: Sink, E: Sink
     errors: &mut E,
 ) -> u8
     ensures few { result ≤ 6 }
-    ensures ends { (end : Result ℕ FaultValue)
-        × Works I.gave I.failed O.took O.refused O.unflushed input.old input.new output.old output.new end
-        × EndsBy E.took E.refused E.unflushed end errors.old errors.new result }
+    ensures ends { (end : Result ℕ FaultValue) × (noted : E)
+        × Works I.gave I.failed O.took O.refused O.unflushed E.took E.refused E.unflushed errors.old noted
+        input.old input.new output.old output.new end
+        × EndsBy E.took E.refused E.unflushed end noted errors.new result }
 {
-    match work(rt, words, input, output) {
+    match work(rt, words, input, output, errors) {
         Ok(status) => status,
         Err(fault) => fault.tell(rt.alloc(), errors),
     }
@@ -46,17 +48,19 @@ pub fn tool<R: AllocGlobal + Files + Threads + Sync, I: Source, O: Sink, E: Sink
 
 // Does what the words ask for.
 #[tactic(auto, unfolding(crate::specs::Program::Works))]
-fn work<R: AllocGlobal + Files + Threads + Sync, I: Source, O: Sink>(
+fn work<R: AllocGlobal + Files + Threads + Sync, I: Source, O: Sink, E: Sink>(
     rt: &R,
     words: &[&str],
     input: &mut I,
     output: &mut O,
+    errors: &mut E,
 ) -> Result<u8, ToolFault>
     ensures few { IfOk result (λ status. status ≤ 6) }
-    ensures ends { Works I.gave I.failed O.took O.refused O.unflushed input.old input.new output.old output.new result }
+    ensures ends { Works I.gave I.failed O.took O.refused O.unflushed E.took E.refused E.unflushed errors.old errors.new
+        input.old input.new output.old output.new result }
 {
     match read_words(rt.alloc(), words) {
-        Ok(asked) => perform(rt, asked, input, output),
+        Ok(asked) => perform(rt, asked, input, output, errors),
         Err(error) => told(rt.alloc(), error, output),
     }
 }
@@ -78,38 +82,40 @@ fn told<O: Sink>(alloc: Global, said: clap::Error, output: &mut O) -> Result<u8,
 
 // Reads the files that are named, and does the task.
 #[tactic(auto, unfolding(crate::specs::Program::Performs))]
-fn perform<R: AllocGlobal + Files + Threads + Sync, I: Source, O: Sink>(
+fn perform<R: AllocGlobal + Files + Threads + Sync, I: Source, O: Sink, E: Sink>(
     rt: &R,
     asked: CommandLine<'_>,
     input: &mut I,
     output: &mut O,
+    errors: &mut E,
 ) -> Result<u8, ToolFault>
     requires { IsInRange asked.task }
     ensures few { IfOk result (λ status. status ≤ 6) }
-    ensures ends { Performs I.gave I.failed O.took O.refused O.unflushed asked.entry input.old input.new output.old
-        output.new result }
+    ensures ends { Performs I.gave I.failed O.took O.refused O.unflushed E.took E.refused E.unflushed asked.entry
+        errors.old errors.new input.old input.new output.old output.new result }
 {
     let shape = shape_of(rt, asked.shape_file)?;
     let image = image_of(rt, asked.image)?;
     find_room(asked.task, &shape, &image)?;
-    complete(rt, asked.task, &shape, &image, input, output)
+    complete(rt, asked.task, &shape, &image, input, output, errors)
 }
 
 // Does the task on a machine of the shape or on a history, of a memory that began with the image.
 #[tactic(auto, unfolding(crate::specs::Program::IsDone))]
-fn complete<R: AllocGlobal + Threads + Sync, I: Source, O: Sink>(
+fn complete<R: AllocGlobal + Threads + Sync, I: Source, O: Sink, E: Sink>(
     rt: &R,
     task: Task,
     shape: &ToolShape,
     image: &Image,
     input: &mut I,
     output: &mut O,
+    errors: &mut E,
 ) -> Result<u8, ToolFault>
     requires range { IsInRange task }
     requires shape { bad_field shape.now ≡ None }
     ensures few { IfOk result (λ status. status ≤ 6) }
-    ensures ends { IsDone I.gave I.failed O.took O.refused O.unflushed task shape.now image.now input.old input.new
-        output.old output.new result }
+    ensures ends { IsDone I.gave I.failed O.took O.refused O.unflushed E.took E.refused E.unflushed task shape.now image.now
+        errors.old errors.new input.old input.new output.old output.new result }
 {
     let alloc = rt.alloc();
     match task {
@@ -128,7 +134,7 @@ fn complete<R: AllocGlobal + Threads + Sync, I: Source, O: Sink>(
             all,
             form,
         } => drive(
-            alloc, shape, image, from, timing, summary, all, form, input, output,
+            alloc, shape, image, from, timing, summary, all, form, input, output, errors,
         ),
         Task::Requests { from, words } => requests(alloc, from, words, input, output),
         Task::Show { form } => show(alloc, shape, image, form, input, output),

@@ -179,8 +179,8 @@ pub(crate) fn grade<I: Source, O: Sink>(
     Ok(score.status())
 }
 
-// Drives the requests in rounds, and writes the run.
-fn write_run<I: Source, O: Sink>(
+// Drives the requests in rounds, and writes the run, of which it tells if it is too long for a check.
+fn write_run<I: Source, O: Sink, E: Sink>(
     alloc: Global,
     tool: &ToolShape,
     image: &Image,
@@ -188,14 +188,15 @@ fn write_run<I: Source, O: Sink>(
     timing: Timing,
     input: &mut I,
     output: &mut O,
+    errors: &mut E,
 ) -> Result<u8, ToolFault>
     requires shape { bad_field tool.now ≡ None }
     requires latency { timing.latency ≤ MOST_LATENCY }
     ensures few { IfOk result (λ status. status ≤ 1) }
-    ensures ends { WritesRun I.gave I.failed O.took O.refused O.unflushed from timing tool.now image.now input.old input.new output.old
-        output.new result }
+    ensures ends { WritesRun I.gave I.failed O.took O.refused O.unflushed E.took E.refused E.unflushed from timing tool.now image.now
+        errors.old errors.new input.old input.new output.old output.new result }
 {
-    drive_requests(alloc, tool, image, timing, from, input, output)?;
+    drive_requests(alloc, tool, image, timing, from, input, output, errors)?;
     finish(output)?;
     Ok(0)
 }
@@ -296,7 +297,7 @@ fn show_counts<I: Source, O: Sink>(
 
 /// Drives the requests in rounds, and writes the run or what it counts.
 #[tactic(auto, unfolding(crate::specs::Program::Drives))]
-pub(crate) fn drive<I: Source, O: Sink>(
+pub(crate) fn drive<I: Source, O: Sink, E: Sink>(
     alloc: Global,
     tool: &ToolShape,
     image: &Image,
@@ -307,17 +308,18 @@ pub(crate) fn drive<I: Source, O: Sink>(
     form: CountForm,
     input: &mut I,
     output: &mut O,
+    errors: &mut E,
 ) -> Result<u8, ToolFault>
     requires shape { bad_field tool.now ≡ None }
     requires latency { timing.latency ≤ MOST_LATENCY }
     ensures few { IfOk result (λ status. status ≤ 1) }
-    ensures ends { Drives I.gave I.failed O.took O.refused O.unflushed from timing summary all form tool.now image.now input.old input.new
-        output.old output.new result }
+    ensures ends { Drives I.gave I.failed O.took O.refused O.unflushed E.took E.refused E.unflushed from timing summary all form
+        tool.now image.now errors.old errors.new input.old input.new output.old output.new result }
 {
     if summary {
         show_counts(alloc, tool, image, from, timing, all, form, input, output)
     } else {
-        write_run(alloc, tool, image, from, timing, input, output)
+        write_run(alloc, tool, image, from, timing, input, output, errors)
     }
 }
 

@@ -19,7 +19,7 @@ use Rattle.access_logs.specs.declared.reading.AccessGroup.{AccessGroup}
 use Rattle.round_driver.specs.Walks.{is_request}
 use Rattle.round_driver.specs.declared.timing.Timing.{Timing}
 use Rattle.kroft_jobs.specs.Asking.{Asks, AsksNothing}
-use Rattle.kroft_jobs.specs.Driving.{IsDriven, DrivesAll}
+use Rattle.kroft_jobs.specs.Driving.{IsToldAndDriven, DrivesAll}
 use Rattle.kroft_jobs.specs.declared.asked.RequestText.{RequestText}
 use Rattle.kroft_jobs.specs.declared.asked.RequestText.TheVariants.{Trace, Lackey, Din}
 
@@ -41,16 +41,20 @@ pub log_few : {R : Type 0} (gave : R → List ℕ → R → Type 0) (access_in :
     → LogSays gave access_in room r r' requests groups → length requests ≤ most_lines
 log_few gave access_in room r r' requests groups said = subst (λ l. length l ≤ most_lines) (sym said.requests) said.fits.requests
 
-pub driven : {R W : Type 0} (gave : R → List ℕ → R → Type 0) (failed : R → R → Type 0) (took : W → List ℕ → W → Type 0) (refused : W → W → Type 0) (from : RequestText) (room : ℕ) (timing : Timing) (s : MachineState) (input input' : R) (output output' : W) (requests : List Event) (groups : List AccessGroup) (rounds : ℕ)
-    → Asks gave from room input input' requests groups → IsDriven took refused timing s requests output output' (Ok rounds)
-    → DrivesAll gave failed took refused from room timing s input input' output output' (Ok rounds)
-driven gave failed took refused from room timing s input input' output output' requests groups rounds asks d = (requests, groups, asks, d)
+module _ {R W E : Type 0} (gave : R → List ℕ → R → Type 0) (failed : R → R → Type 0) (took : W → List ℕ → W → Type 0)
+    (refused : W → W → Type 0) (noted : E → List ℕ → E → Type 0) (unnoted unsettled : E → E → Type 0) (from : RequestText)
+    (room : ℕ) (timing : Timing) (s : MachineState) (input input' : R) (output output' : W) (errors errors' : E)
+    (requests : List Event) (groups : List AccessGroup) (asks : Asks gave from room input input' requests groups) where
+  pub driven : (rounds : ℕ)
+      → IsToldAndDriven took refused noted unnoted unsettled timing s requests output output' errors errors' (Ok rounds)
+      → DrivesAll gave failed took refused noted unnoted unsettled from room timing s input input' output output' errors errors' (Ok rounds)
+  driven rounds d = (requests, groups, asks, d)
 
-pub driven_not : {R W : Type 0} (gave : R → List ℕ → R → Type 0) (failed : R → R → Type 0) (took : W → List ℕ → W → Type 0) (refused : W → W → Type 0) (from : RequestText) (room : ℕ) (timing : Timing) (s : MachineState) (input input' : R) (output output' : W) (requests : List Event) (groups : List AccessGroup) (f : TraceFault)
-    → Asks gave from room input input' requests groups → IsDriven took refused timing s requests output output' (Err f)
-    → DrivesAll gave failed took refused from room timing s input input' output output' (Err (log.Trace f))
-driven_not gave failed took refused from room timing s input input' output output' requests groups f asks d =
-    inr (requests, groups, f, asks, refl, d)
+  pub driven_not : (f : TraceFault)
+      → IsToldAndDriven took refused noted unnoted unsettled timing s requests output output' errors errors' (Err f)
+      → DrivesAll gave failed took refused noted unnoted unsettled from room timing s input input' output output' errors errors'
+      (Err (log.Trace f))
+  driven_not f d = inr (requests, groups, f, asks, refl, d)
 
 -- memory may be missing, whatever is read
 pub asks_no_memory : {R : Type 0} (gave : R → List ℕ → R → Type 0) (failed : R → R → Type 0) (from : RequestText) (room : ℕ) (input input' : R)

@@ -1,3 +1,4 @@
+pub mod Measured
 pub mod Driving
 pub mod Sweeping
 pub mod Owed

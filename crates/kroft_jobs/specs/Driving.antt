@@ -13,22 +13,43 @@ use Rattle.access_logs.specs.declared.fault.LogFault.{LogFault}
 use Rattle.access_logs.specs.declared.fault.LogFault.TheVariants as log
 use Rattle.access_logs.specs.declared.reading.AccessGroup.{AccessGroup}
 use Rattle.kroft_jobs.specs.Asking.{Asks, AsksNothing}
+use Rattle.kroft_jobs.specs.Lengths.{whole_text, TellsLength}
 use Rattle.kroft_jobs.specs.declared.asked.RequestText.{RequestText}
 
 -- The run of these requests is written, is over in time, and its rounds are told. Or the writing broke off behind a
 -- round, or nothing is written for want of memory.
-abbrev pub IsDriven : {W : Type 0} (took : W → List ℕ → W → Type 0) (refused : W → W → Type 0) (timing : Timing) (s : MachineState) (requests : List Event) (old new : W) → Result ℕ TraceFault → Type 0
+abbrev pub IsDriven : {W : Type 0} (took : W → List ℕ → W → Type 0) (refused : W → W → Type 0) (timing : Timing)
+    (s : MachineState) (requests : List Event) (old new : W) → Result ℕ TraceFault → Type 0
 IsDriven took refused timing s requests old new (Ok rounds) =
-    Moves took old (run_text (whole_run timing s requests).told) new × IsOverInTime timing s requests × (rounds ≡ (whole_run timing s requests).schedule.round + 1)
+    Moves took old (whole_text timing s requests) new × IsOverInTime timing s requests
+    × (rounds ≡ (whole_run timing s requests).schedule.round + 1)
 IsDriven took refused timing s requests old new (Err fault) =
-    ((fault ≡ OutOfMemory) × (new ≡ old)) ⊎ ((n : ℕ) × BreaksOff took refused old (run_text (rounds_until_over n (start_of timing s requests)).told) new fault)
+    ((fault ≡ OutOfMemory) × (new ≡ old))
+    ⊎ ((n : ℕ) × BreaksOff took refused old (run_text (rounds_until_over n (start_of timing s requests)).told) new fault
+    × IsOverInTime timing s requests)
 
--- The requests of the input are driven, or it couldn't be read to its end, and then nothing is written.
-abbrev pub DrivesAll : {R W : Type 0} (gave : R → List ℕ → R → Type 0) (failed : R → R → Type 0) (took : W → List ℕ → W → Type 0) (refused : W → W → Type 0) (from : RequestText) (room : ℕ) (timing : Timing) (s : MachineState) (input input' : R) (output output' : W) → Result ℕ LogFault → Type 0
-DrivesAll gave failed took refused from room timing s input input' output output' (Ok rounds) =
-    (requests : List Event) × (groups : List AccessGroup) × Asks gave from room input input' requests groups
-    × IsDriven took refused timing s requests output output' (Ok rounds)
-DrivesAll gave failed took refused from room timing s input input' output output' (Err fault) =
-    (AsksNothing gave failed from room input input' fault × (output' ≡ output))
-    ⊎ ((requests : List Event) × (groups : List AccessGroup) × (f : TraceFault) × Asks gave from room input input' requests groups
-    × (fault ≡ log.Trace f) × IsDriven took refused timing s requests output output' (Err f))
+-- Of the output what it takes and how it may refuse a write, and of the errors, too, how they may refuse a flush.
+module _ {W E : Type 0} (took : W → List ℕ → W → Type 0) (refused : W → W → Type 0)
+    (noted : E → List ℕ → E → Type 0) (unnoted unsettled : E → E → Type 0) where
+  -- The run of these requests is written, as if it weren't told of; and it is told of if it is too long for a check,
+  -- whether or not its writing comes to an end. Or memory is missing before either.
+  abbrev pub IsToldAndDriven : (timing : Timing) (s : MachineState) (requests : List Event) (output output' : W)
+      (errors errors' : E) → Result ℕ TraceFault → Type 0
+  IsToldAndDriven timing s requests output output' errors errors' result =
+      (TellsLength noted unnoted unsettled (whole_text timing s requests) errors errors'
+      × IsDriven took refused timing s requests output output' result)
+      ⊎ ((result ≡ Err OutOfMemory) × (output' ≡ output) × (errors' ≡ errors))
+
+-- The requests of the input are driven, or it couldn't be read to its end, and then nothing is written or told.
+module _ {R W E : Type 0} (gave : R → List ℕ → R → Type 0) (failed : R → R → Type 0) (took : W → List ℕ → W → Type 0)
+    (refused : W → W → Type 0) (noted : E → List ℕ → E → Type 0) (unnoted unsettled : E → E → Type 0) where
+  abbrev pub DrivesAll : (from : RequestText) (room : ℕ) (timing : Timing) (s : MachineState) (input input' : R)
+      (output output' : W) (errors errors' : E) → Result ℕ LogFault → Type 0
+  DrivesAll from room timing s input input' output output' errors errors' (Ok rounds) =
+      (requests : List Event) × (groups : List AccessGroup) × Asks gave from room input input' requests groups
+      × IsToldAndDriven took refused noted unnoted unsettled timing s requests output output' errors errors' (Ok rounds)
+  DrivesAll from room timing s input input' output output' errors errors' (Err fault) =
+      (AsksNothing gave failed from room input input' fault × (output' ≡ output) × (errors' ≡ errors))
+      ⊎ ((requests : List Event) × (groups : List AccessGroup) × (f : TraceFault) × Asks gave from room input input' requests groups
+      × (fault ≡ log.Trace f)
+      × IsToldAndDriven took refused noted unnoted unsettled timing s requests output output' errors errors' (Err f))

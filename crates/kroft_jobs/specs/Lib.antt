@@ -1,6 +1,7 @@
 pub mod Jobs
 pub mod Writing
 pub mod Asking
+pub mod Lengths
 pub mod Driving
 pub mod Grading
 pub mod Sweeping

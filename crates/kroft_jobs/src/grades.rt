@@ -1,6 +1,6 @@
 //! What the program does with a sheet.
 
-ghost use Rattle.std.specs.Prelude.{⊤, ◌≡◌, None, IfOk};
+ghost use Rattle.std.specs.Prelude.{◌≡◌, None, IfOk};
 ghost use Rattle.shape_files.specs.ShapeFile.{bad_field};
 ghost use Rattle.register_sweeps.specs.Sweep.{machine_over};
 ghost use Rattle.trace_sheets.specs.Grades.{grade_text};
@@ -10,8 +10,7 @@ ghost use Rattle.kroft_jobs.specs.Writing.{IsWritten};
 use crate::writing::put_text;
 use memory_images::Image;
 use named_fields::Format;
-use register_sweeps::{MachineJob, with_machine};
-use run_pictures::PictureMachine;
+use register_sweeps::new_machine;
 use shape_files::ToolShape;
 use std::alloc::Global;
 use trace_sheets::{Grade, GradeHead, Score, ScoreIn, grade_sheet};
@@ -34,39 +33,9 @@ pub fn grade<I: Source, O: Sink>(
     ensures { GradesAll I.gave I.failed O.took O.refused O.unflushed format (machine_over image.now tool.now) input.old input.new
         output.old output.new result }
 {
-    let mut job = GradedSheet {
-        alloc,
-        format,
-        input,
-    };
-    let grade = with_machine(alloc, tool, image, &mut job)?;
+    let mut machine = new_machine(alloc, tool, image)?;
+    let grade = grade_sheet(alloc, format, input, &mut machine)?;
     write_grade(alloc, format, grade, output)
-}
-
-// The grading of a sheet.
-#[derive(Drop)]
-struct GradedSheet<'a, I> {
-    alloc: Global,
-    format: Format,
-    input: &'a mut I,
-}
-
-impl<'a, I: Source> MachineJob for GradedSheet<'a, I> {
-    type Done = Result<Grade, TraceFault>;
-
-    ghost can = { λ s. ⊤ };
-
-    ghost done = { λ s machine t result. SheetGraded I.gave I.failed s.format machine s.input.now t.input.now result };
-
-    ghost holds_same = { λ s t. t.input.ghost_name ≡ s.input.ghost_name };
-
-    fn work<M: PictureMachine>(&mut self, machine: &mut M) -> Result<Grade, TraceFault> {
-        grade_sheet(self.alloc, self.format, self.input, machine)
-    }
-
-    fn give_up(&mut self) -> Result<Grade, TraceFault> {
-        Err(TraceFault::OutOfMemory)
-    }
 }
 
 // Writes a grade, and flushes it.

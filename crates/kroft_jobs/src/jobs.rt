@@ -1,6 +1,6 @@
 //! What is done with a trace, for the shape that was read.
 
-ghost use Rattle.std.specs.Prelude.{⊤, ◌≡◌, ◌≤◌, ℕ, List, None, Some, IfOk, IfErr, map, ◌++◌};
+ghost use Rattle.std.specs.Prelude.{◌≡◌, ◌≤◌, ℕ, List, None, Some, IfOk, IfErr, map, ◌++◌};
 ghost use Rattle.flat_model.specs.Flat.{Flat};
 ghost use Rattle.memory_images.specs.Images.{memory_from, flat_from};
 ghost use Rattle.machine_core.specs.Machine.{MachineState};
@@ -17,8 +17,7 @@ ghost use Rattle.kroft_jobs.specs.Sweeping.{SweepFails};
 
 use crate::fault::JobFault;
 use memory_images::Image;
-use register_sweeps::{MachineJob, OpenGate, Row, sweep, with_machine};
-use run_pictures::PictureMachine;
+use register_sweeps::{OpenGate, Row, new_machine, sweep};
 use run_reasons::{Explanation, explain_text};
 use shape_files::{REGISTER_COUNTS, ToolShape};
 use std::alloc::Global;
@@ -45,38 +44,10 @@ pub fn serve<I: Source, O: Sink>(
         × Ends I.gave I.failed O.took O.refused O.unflushed input.old input.new output.old output.new
         (machine_over image.now tool.now) after result }
 {
-    let mut job = ServedTrace {
-        alloc,
-        input,
-        output,
+    let Ok(mut machine) = new_machine(alloc, tool, image) else {
+        return Err(TraceFault::OutOfMemory);
     };
-    with_machine(alloc, tool, image, &mut job)
-}
-
-// The serving of a trace.
-#[derive(Drop)]
-struct ServedTrace<'a, I, O> {
-    alloc: Global,
-    input: &'a mut I,
-    output: &'a mut O,
-}
-
-impl<'a, I: Source, O: Sink> MachineJob for ServedTrace<'a, I, O> {
-    type Done = Result<Counts, TraceFault>;
-
-    ghost can = { λ s. ⊤ };
-
-    ghost done = { λ s machine t result. (after : MachineState) × Ends I.gave I.failed O.took O.refused O.unflushed s.input.now t.input.now s.output.now t.output.now machine after result };
-
-    ghost holds_same = { λ s t. (t.input.ghost_name ≡ s.input.ghost_name) × (t.output.ghost_name ≡ s.output.ghost_name) };
-
-    fn work<M: PictureMachine>(&mut self, machine: &mut M) -> Result<Counts, TraceFault> {
-        serve_text(self.alloc, self.input, self.output, machine)
-    }
-
-    fn give_up(&mut self) -> Result<Counts, TraceFault> {
-        Err(TraceFault::OutOfMemory)
-    }
+    serve_text(alloc, input, output, &mut machine)
 }
 
 /// Judges what a run wrote, over as many words of an image as the shape says, as `check_from` does.

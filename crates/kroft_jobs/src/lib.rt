@@ -9,23 +9,25 @@
 
 mod answered;
 mod asked;
+mod drive;
 mod fault;
 mod forms;
 mod grades;
 mod jobs;
+mod lengths;
 mod pictures;
 mod rounds;
 mod writing;
 
 pub use answered::{AnsweredVerdict, check_answered};
 pub use asked::RequestText;
+pub use drive::drive_requests;
 pub use fault::JobFault;
 pub use forms::{AnsweredIn, CheckIn};
 pub use grades::grade;
 pub use jobs::{Verdict, check, explain, serve, sweep_registers};
 pub use pictures::show;
 pub use rounds::{
-    CountedRun, LatencyRows, detail_requests, drive_requests, summarize_requests, sweep_in_rounds,
-    sweep_latencies,
+    CountedRun, LatencyRows, detail_requests, summarize_requests, sweep_in_rounds, sweep_latencies,
 };
 pub use writing::put_text;

@@ -1,6 +1,6 @@
 //! What the program does with the requests of a trace or of a log in rounds.
 
-ghost use Rattle.std.specs.Prelude.{◌≡◌, ◌≤◌, ℕ, List, None, true, IfOk, IfErr, OnOk, length, ⊤};
+ghost use Rattle.std.specs.Prelude.{◌≡◌, ◌≤◌, ℕ, List, None, true, IfOk, IfErr, OnOk, length};
 ghost use Rattle.std.specs.List.{All, list_all};
 ghost use Rattle.trace_text.specs.declared.fault.TheConstants.{MAX_LINE};
 ghost use Rattle.trace_text.specs.Reading.{ReadWhole, ReadFails};
@@ -15,7 +15,6 @@ ghost use Rattle.round_driver.specs.Walks.{is_request, RequestsEnd};
 ghost use Rattle.flat_model.specs.declared.Event.{Event as EventValue};
 ghost use Rattle.access_logs.specs.declared.reading.AccessGroup.{AccessGroup as Group};
 ghost use Rattle.kroft_jobs.specs.Asking.{Asks, AsksNothing, room_of};
-ghost use Rattle.kroft_jobs.specs.Driving.{IsDriven, DrivesAll};
 ghost use Rattle.kroft_jobs.specs.Jobs.{swept};
 ghost use Rattle.kroft_jobs.specs.Sweeping.{IsCounted, CountsAll, AreCounted, AreSwept, SweepFails};
 
@@ -27,94 +26,13 @@ use access_logs::LogFault;
 use flat_model::Event;
 use memory_images::Image;
 use register_sweeps::{
-    MachineJob, OpenGate, RoundsRow, SweepFault, rounds_table, sweep_rounds, with_machine,
+    OpenGate, RoundsRow, SweepFault, new_machine, rounds_table, sweep_rounds,
 };
-use round_driver::{Details, Table, Timing, detail_with, drive_with};
-use run_pictures::PictureMachine;
+use round_driver::{Details, Table, Timing, detail_with};
 use shape_files::ToolShape;
 use std::alloc::{AllocError, Global};
 use std::thread::Threads;
-use trace_text::{Sink, Source, TraceFault, read_requests};
-
-/// Drives the requests of a trace or of a log in rounds through a new machine of a shape whose fields are in
-/// range, over an image, as [`drive_with`] does, and writes the run. Gives the number of rounds, behind which the
-/// requests are used up and nothing is on its way. The output isn't flushed.
-///
-/// All requests are read before anything is written: a fault of the input leaves the output as it is.
-/// A write that is refused ends the run at once. The latency of `timing` is at most `MOST_LATENCY`.
-pub fn drive_requests<I: Source, O: Sink>(
-    alloc: Global,
-    tool: &ToolShape,
-    image: &Image,
-    timing: Timing,
-    from: RequestText,
-    input: &mut I,
-    output: &mut O,
-) -> Result<u64, LogFault>
-    requires shape { bad_field tool.now ≡ None }
-    requires latency { timing.latency ≤ MOST_LATENCY }
-    ensures { DrivesAll I.gave I.failed O.took O.refused from (room_of tool.now) timing (machine_over image.now tool.now)
-        input.old input.new output.old output.new result }
-{
-    let asked = read_asked(alloc, from, tool, input)?;
-    let requests = asked.requests.as_slice();
-    match drive_all(alloc, tool, image, timing, requests, output) {
-        Ok(rounds) => Ok(rounds),
-        Err(fault) => Err(LogFault::Trace(fault)),
-    }
-}
-
-// Drives requests on a new machine.
-fn drive_all<O: Sink>(
-    alloc: Global,
-    tool: &ToolShape,
-    image: &Image,
-    timing: Timing,
-    requests: &[Event],
-    output: &mut O,
-) -> Result<u64, TraceFault>
-    requires shape { bad_field tool.now ≡ None }
-    requires latency { timing.latency ≤ MOST_LATENCY }
-    requires few { length requests.now ≤ most_requests }
-    requires all { list_all is_request requests.now ≡ true }
-    ensures { IsDriven O.took O.refused timing (machine_over image.now tool.now) requests.now output.old output.new
-        result }
-{
-    let mut job = DrivenRequests {
-        alloc,
-        timing,
-        requests,
-        output,
-    };
-    with_machine(alloc, tool, image, &mut job)
-}
-
-// The driving of requests.
-#[derive(Drop)]
-struct DrivenRequests<'a, O> {
-    alloc: Global,
-    timing: Timing,
-    requests: &'a [Event],
-    output: &'a mut O,
-}
-
-impl<'a, O: Sink> MachineJob for DrivenRequests<'a, O> {
-    type Done = Result<u64, TraceFault>;
-
-    ghost can = { λ s. (s.timing.latency ≤ MOST_LATENCY) × (length s.requests.now ≤ most_requests) × (list_all is_request s.requests.now ≡ true) };
-
-    ghost done = { λ s machine t result. IsDriven O.took O.refused s.timing machine s.requests.now s.output.now t.output.now result };
-
-    ghost holds_same = { λ s t. t.output.ghost_name ≡ s.output.ghost_name };
-
-    fn work<M: PictureMachine>(&mut self, machine: &mut M) -> Result<u64, TraceFault> {
-        drive_with(self.alloc, machine, self.timing, self.requests, self.output)
-    }
-
-    fn give_up(&mut self) -> Result<u64, TraceFault> {
-        Err(TraceFault::OutOfMemory)
-    }
-}
+use trace_text::{Source, read_requests};
 
 /// Drives the requests of a trace or of a log in rounds through a new machine of a shape whose fields are in
 /// range, over an image, and counts, as [`rounds_table`] does. Behind the rounds that are counted the requests
@@ -188,38 +106,8 @@ fn detail_all(
         (λ details. details ≡ details_of timing (machine_over image.now tool.now) requests.now) }
     ensures over { OnOk result (RequestsEnd timing (machine_over image.now tool.now) requests.now) }
 {
-    let mut counting = DetailedRequests {
-        alloc,
-        timing,
-        requests,
-    };
-    with_machine(alloc, tool, image, &mut counting)
-}
-
-// The counting of requests.
-#[derive(Drop)]
-struct DetailedRequests<'a> {
-    alloc: Global,
-    timing: Timing,
-    requests: &'a [Event],
-}
-
-impl MachineJob for DetailedRequests<'_> {
-    type Done = Result<Details, AllocError>;
-
-    ghost can = { λ s. (s.timing.latency ≤ MOST_LATENCY) × (length s.requests.now ≤ most_requests) };
-
-    ghost done = { λ s machine t result. (IfOk result (λ details. details ≡ details_of s.timing machine s.requests.now)) × OnOk result (RequestsEnd s.timing machine s.requests.now) };
-
-    ghost holds_same = { λ s t. ⊤ };
-
-    fn work<M: PictureMachine>(&mut self, machine: &mut M) -> Result<Details, AllocError> {
-        detail_with(self.alloc, machine, self.timing, self.requests)
-    }
-
-    fn give_up(&mut self) -> Result<Details, AllocError> {
-        Err(AllocError)
-    }
+    let mut machine = new_machine(alloc, tool, image)?;
+    detail_with(alloc, &mut machine, timing, requests)
 }
 
 /// The rows of the requests of a trace in rounds, with 1, 2, 4 and 8 registers and all else as the shape

@@ -4,6 +4,7 @@ use Rattle.kroft_command.proofs.program.perform.Goals as goal
 pub returns-in_err-find_room-clause-ends : goal.returns-in_err-find_room-clause-ends
 returns-in_err-find_room-clause-ends g c =
     let told = c.from_residual-in_err-find_room in
-    long_image g.I.Source.gave g.I.Source.failed g.O.Sink.took g.O.Sink.refused g.O.Sink.unflushed c.args.asked
-    c.args.input.now c.args.output.now c.in_ok-shape.shape c.in_ok-image.image c.in_err-find_room.field-0.0
+    long_image g.I.Source.gave g.I.Source.failed g.O.Sink.took g.O.Sink.refused g.O.Sink.unflushed
+    g.E.Sink.took g.E.Sink.refused g.E.Sink.unflushed c.args.asked
+    c.args.errors.now c.args.input.now c.args.output.now c.in_ok-shape.shape c.in_ok-image.image c.in_err-find_room.field-0.0
     c.in_ok-shape.ensures.shape c.in_ok-image.ensures.image c.in_err-find_room.ensures.fault told.result told.ensures.1
