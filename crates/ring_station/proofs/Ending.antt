@@ -16,7 +16,7 @@ use Rattle.station_parts.specs.declared.parts.CacheSide.{CacheSide}
 use Rattle.station_parts.specs.Ids.{port_id, bank_id, cache_id}
 use Rattle.station_parts.specs.Rest.{is_at_rest}
 use Rattle.station_parts.specs.Audited.{LeavesCache, LeavesPorts, LeavesBanks}
-use Rattle.station_parts.specs.Words.{offered, taken, received_by, journal_of, journal_limit}
+use Rattle.station_parts.specs.Words.{offered, offered_before, taken, received_by, held_of, journal_limit}
 use Rattle.ring_station.specs.declared.fault.RunFault.TheVariants.{TurnLimit, OutOfMemory}
 use Rattle.ring_station.specs.declared.report.Run.{Run}
 use Rattle.ring_station.specs.declared.thread_end.ThreadEnd.{ThreadEnd}
@@ -38,16 +38,17 @@ stands_along A B memory full full' turns begun (Some faults.OutOfMemory) f g h =
 stands_along A B memory full full' turns begun (Some faults.JournalFull) f g h = g h
 
 port_shown : (script : List Ask) (turns : ℕ) (old new new' : Port) (list : List Told) (end : ThreadEnd) → port_id new' ≡ port_id new
-    → offered new' ≡ offered new → taken new' ≡ taken new → PortRan script turns old new list end
+    → offered_before new' ≡ offered_before new → offered new' ≡ offered new → taken new' ≡ taken new → PortRan script turns old new list end
     → PortRan script turns old new' list end
-port_shown script turns old new new' list end a b c h = record {
+port_shown script turns old new new' list end a d b c h = record {
   same = a ∙ h.same;
+  before = d ∙ h.before;
   took = c ∙ h.took;
   moved = let o = ap length b in let t = ap length c in let m = h.moved in omega arith;
   ended = record {
     within = h.ended.within;
     stands = stands_along (HasRun script old new list) (HasRun script old new' list) (0 < end.turns) ⊥ ⊥ turns end.turns end.fault
-        (λ r. record { said = r.said; offered_is = b ∙ r.offered_is; taken_is = c ∙ r.taken_is; converses = r.converses })
+        (λ r. record { before = d ∙ r.before; said = r.said; offered_is = b ∙ r.offered_is; taken_is = c ∙ r.taken_is; converses = r.converses })
         (λ x. x) h.ended.stands;
   };
 }
@@ -67,16 +68,17 @@ bank_shown turns old new new' end a b h = record {
 pub cache_shown : {W B R D : ℕ} (ports turns : ℕ) (old new new' : CacheSide W B R D) (end : ThreadEnd) → cache_id new' ≡ cache_id new
     → LeavesCache new new' → CacheRan ports turns old new end → CacheRan ports turns old new' end
 cache_shown ports turns old new new' end a left h =
-    let j : length (journal_of new') ≡ length (journal_of new) = ap length left.journal in
-    let e : ended_in (journal_of new') ≡ ended_in (journal_of new) = ap ended_in left.journal in
+    let j : length (held_of new') ≡ length (held_of new) = ap length left.held in
+    let e : ended_in (held_of new') ≡ ended_in (held_of new) = ap ended_in left.held in
     let limit : journal_limit new' ≡ journal_limit new = ap (λ i. i.limit) a in
     record {
       same = a ∙ h.same;
+      earlier = left.earlier ∙ h.earlier;
       noted = let s = h.noted in omega arith;
       ended = record {
         within = h.ended.within;
-        stands = stands_along (IsServed ports old new) (IsServed ports old new') ⊥ (journal_limit new ≤ length (journal_of new))
-            (journal_limit new' ≤ length (journal_of new')) turns end.turns end.fault
+        stands = stands_along (IsServed ports old new) (IsServed ports old new') ⊥ (journal_limit new ≤ length (held_of new))
+            (journal_limit new' ≤ length (held_of new')) turns end.turns end.fault
             (λ r. record { rests = ap is_at_rest left.cache ∙ r.rests; ended = let m = r.ended in omega arith })
             (λ f. omega arith) h.ended.stands;
       };
@@ -96,6 +98,7 @@ pub ports_shown : (scripts : List (Vec Ask)) (turns : ℕ) (old ran looked new :
     → PortsRan scripts turns old new lists ends
 ports_shown scripts turns old ran looked new lists ends same ids left h =
     let same_ids : map port_id new ≡ map port_id ran = ids ∙ same_shown port_id looked ran same in
+    let same_before : map offered_before new ≡ map offered_before ran = left.before ∙ same_shown offered_before looked ran same in
     let same_offered : map offered new ≡ map offered ran = left.offered ∙ same_shown offered looked ran same in
     let same_taken : map taken new ≡ map taken ran = left.taken ∙ same_shown taken looked ran same in
     record {
@@ -105,7 +108,7 @@ ports_shown scripts turns old ran looked new lists ends same ids left h =
       each = λ p s d l e less.
           port_shown (slice_index_or scripts p s).items turns (slice_index_or old p d) (slice_index_or ran p d) (slice_index_or new p d)
           (slice_index_or lists p l).items (slice_index_or ends p e) (shown_alike port_id new ran same_ids p d)
-          (shown_alike offered new ran same_offered p d) (shown_alike taken new ran same_taken p d) (h.each p s d l e less);
+          (shown_alike offered_before new ran same_before p d) (shown_alike offered new ran same_offered p d) (shown_alike taken new ran same_taken p d) (h.each p s d l e less);
     }
 
 pub banks_shown : (turns : ℕ) (old ran looked new : List BankSide) (ends : List ThreadEnd) → looked ≡ ran

@@ -5,3 +5,5 @@ pub mod Enlisting
 pub mod CrewRunning
 pub mod StationRunning
 pub mod Ending
+pub mod Fitting
+pub mod Crossing

@@ -6,7 +6,7 @@ use Rattle.station_journal.specs.declared.asks.Ask.{Ask}
 use Rattle.station_journal.specs.declared.asks.Told.{Told}
 use Rattle.station_journal.specs.Conversation.{Converses}
 use Rattle.station_parts.specs.declared.port.Port.{Port}
-use Rattle.station_parts.specs.Words.{offered, taken}
+use Rattle.station_parts.specs.Words.{offered, offered_before, taken}
 use Rattle.ring_station.specs.declared.talk.Talk.{Talk}
 use Rattle.ring_station.specs.Scripts.{HasTalked}
 use Rattle.ring_station.specs.declared.idle.Turn.{Turn}
@@ -23,6 +23,7 @@ pub on_its_way_at_first : (script : List Ask) (talk : Talk) (port : Port) (list 
 on_its_way_at_first script talk port list empty talked =
     record {
       same = refl;
+      before = refl;
       said = [];
       offered_is = sym (append-nil (offered port));
       taken_is = sym (ap (λ l. taken port ++ l) empty ∙ append-nil (taken port));
@@ -33,10 +34,10 @@ on_its_way_at_first script talk port list empty talked =
 pub port_ran : (script : List Ask) (turns begun : ℕ) (old new : Port) (list : List Told) (end : ThreadEnd) (fault : Option ThreadFault)
     → end ≡ record { turns = begun; fault = fault } → begun ≤ turns
     → Stands (HasRun script old new list) (0 < begun) ⊥ turns begun fault → port_id new ≡ port_id old
-    → taken new ≡ taken old ++ list → moves_of new ≤ moves_of old + begun → PortRan script turns old new list end
-port_ran script turns begun old new list end fault e w s i t m =
+    → offered_before new ≡ offered_before old → taken new ≡ taken old ++ list → moves_of new ≤ moves_of old + begun → PortRan script turns old new list end
+port_ran script turns begun old new list end fault e w s i b t m =
     subst (λ x. PortRan script turns old new list x) (sym e)
-    (record { same = i; took = t; moved = m; ended = record { within = w; stands = s } })
+    (record { same = i; before = b; took = t; moved = m; ended = record { within = w; stands = s } })
 
 -- a turn moves at most one item
 pub moved_more : (result : Result Turn AllocError) (before after first turn : ℕ) → IfOk result (λ made. after ≡ before + moves_in made)
@@ -53,6 +54,7 @@ pub has_run : (script : List Ask) (talk : Talk) (first port : Port) (list : List
     → HasRun script first port list
 has_run script talk first port list on over =
     record {
+      before = on.before;
       said = on.said;
       offered_is = on.offered_is;
       taken_is = on.taken_is;

@@ -18,7 +18,7 @@ use Rattle.station_parts.specs.SideState.{SideState, Known, state_of}
 use Rattle.station_parts.specs.SideSteps.{Effect, asked, arrives, brought, work_of, has_work, nothing, effect_of, refusal_of, answer_of, word_fault, StepMakes}
 use Rattle.station_parts.specs.Ids.{bank_id, cache_id}
 use Rattle.station_parts.specs.Rest.{is_at_rest}
-use Rattle.station_parts.specs.Words.{journal_of, journal_limit, cache_in, fault_in, received_by}
+use Rattle.station_parts.specs.Words.{earlier_of, held_of, journal_limit, cache_in, fault_in, received_by}
 use Rattle.ring_station.specs.Turns.{IsTurn, SideSteps, BankSteps, IsStuck}
 use Rattle.ring_station.specs.declared.thread_end.ThreadEnd.{ThreadEnd}
 use Rattle.ring_station.specs.declared.thread_end.ThreadFault.{ThreadFault}
@@ -66,13 +66,15 @@ effect_few source s k = either_few (has_work source s k) (work_of source s k) (n
 -- these entries, one at most, are new in the journal
 pub record Notes {W B R D : ℕ} (old new : CacheSide W B R D) : Type 0 where
   pub entries : List Entry
-  pub journal : journal_of new ≡ journal_of old ++ entries
+  pub earlier : earlier_of new ≡ earlier_of old
+  pub held : held_of new ≡ held_of old ++ entries
   pub few : length entries ≤ 1
 
 notes_nothing : {W B R D : ℕ} (old new : CacheSide W B R D) → new ≡ old → Notes old new
 notes_nothing old new same = record {
   entries = [];
-  journal = ap journal_of same ∙ sym (append-nil (journal_of old));
+  earlier = ap earlier_of same;
+  held = ap held_of same ∙ sym (append-nil (held_of old));
   few = no_entry_is_few _ refl;
 }
 
@@ -82,7 +84,8 @@ step_notes : {W B R D : ℕ} (source : Source) (old new : CacheSide W B R D) (st
 step_notes source old new stepped (Some r) refused makes = notes_nothing old new refused.1
 step_notes source old new stepped None refused makes = record {
   entries = (effect_of source (state_of old) makes.looked).entries;
-  journal = makes.makes.journal;
+  earlier = makes.makes.earlier;
+  held = makes.makes.held;
   few = effect_few source (state_of old) makes.looked;
 }
 
@@ -94,10 +97,10 @@ turn_notes source false old new (Some stepped) h = absurd h
 turn_notes source true old new None h = absurd h
 
 pub noted_more : {W B R D : ℕ} (old new : CacheSide W B R D) (first turn : ℕ) → Notes old new
-    → length (journal_of old) ≤ first + turn → length (journal_of new) ≤ first + (turn + 1)
+    → length (held_of old) ≤ first + turn → length (held_of new) ≤ first + (turn + 1)
 noted_more old new first turn h before =
-    let l : length (journal_of new) ≡ length (journal_of old) + length h.entries =
-    ap length h.journal ∙ length-append (journal_of old) h.entries in
+    let l : length (held_of new) ≡ length (held_of old) + length h.entries =
+    ap length h.held ∙ length-append (held_of old) h.entries in
     let f = h.few in
     omega arith
 
@@ -124,15 +127,15 @@ open_after false still still' first now now' o n h = omega arith
 
 -- so many ports are still to end
 pub ended_more : {W B R D : ℕ} (old new : CacheSide W B R D) (place : ℕ) (ended : Bool) (still still' first : ℕ) → Notes old new
-    → place ≡ length (journal_of old) → ended ≡ ends_at (journal_of new) place → still' ≡ cond ended (still - 1) still
-    → first ≤ ended_in (journal_of old) + still → first ≤ ended_in (journal_of new) + still'
+    → place ≡ length (held_of old) → ended ≡ ends_at (held_of new) place → still' ≡ cond ended (still - 1) still
+    → first ≤ ended_in (held_of old) + still → first ≤ ended_in (held_of new) + still'
 ended_more old new place ended still still' first h at is o before =
-    let js = journal_of old in
+    let js = held_of old in
     let there : ended ≡ ends_at (js ++ h.entries) (length js) =
-    is ∙ ap (λ l. ends_at l place) h.journal ∙ ap (λ n. ends_at (js ++ h.entries) n) at in
-    let more : ended_in (journal_of new) ≡ ended_in js + cond ended 1 0 =
-    ap ended_in h.journal ∙ counted js h.entries h.few ∙ ap (λ b. ended_in js + cond b 1 0) (sym there) in
-    open_after ended still still' first (ended_in js) (ended_in (journal_of new)) o more before
+    is ∙ ap (λ l. ends_at l place) h.held ∙ ap (λ n. ends_at (js ++ h.entries) n) at in
+    let more : ended_in (held_of new) ≡ ended_in js + cond ended 1 0 =
+    ap ended_in h.held ∙ counted js h.entries h.few ∙ ap (λ b. ended_in js + cond b 1 0) (sym there) in
+    open_after ended still still' first (ended_in js) (ended_in (held_of new)) o more before
 
 -- ---- a step of a bank serves at most one command
 
@@ -186,15 +189,17 @@ bank_ran turns begun old new end fault e w s i m =
 
 pub cache_ran : {W B R D : ℕ} (ports turns begun : ℕ) (old new : CacheSide W B R D) (end : ThreadEnd) (fault : Option ThreadFault)
     → end ≡ record { turns = begun; fault = fault } → begun ≤ turns
-    → Stands (IsServed ports old new) ⊥ (journal_limit new ≤ length (journal_of new)) turns begun fault
-    → cache_id new ≡ cache_id old → length (journal_of new) ≤ length (journal_of old) + begun → CacheRan ports turns old new end
-cache_ran ports turns begun old new end fault e w s i m =
-    subst (λ x. CacheRan ports turns old new x) (sym e) (record { same = i; noted = m; ended = record { within = w; stands = s } })
+    → Stands (IsServed ports old new) ⊥ (journal_limit new ≤ length (held_of new)) turns begun fault
+    → cache_id new ≡ cache_id old → earlier_of new ≡ earlier_of old → length (held_of new) ≤ length (held_of old) + begun
+    → CacheRan ports turns old new end
+cache_ran ports turns begun old new end fault e w s i j m =
+    subst (λ x. CacheRan ports turns old new x) (sym e)
+    (record { same = i; earlier = j; noted = m; ended = record { within = w; stands = s } })
 
 -- all is served
 pub is_served : {W B R D : ℕ} (ports : ℕ) (old new : CacheSide W B R D) (still : ℕ) (rests : Bool) → still ≡ 0
     → rests ≡ is_at_rest (cache_in new) → rests ≡ true
-    → ended_in (journal_of old) + ports ≤ ended_in (journal_of new) + still → IsServed ports old new
+    → ended_in (held_of old) + ports ≤ ended_in (held_of new) + still → IsServed ports old new
 is_served ports old new still rests none is rest h = record { rests = sym is ∙ rest; ended = omega arith }
 
 -- a step that is refused for a full journal found it full
@@ -211,24 +216,24 @@ full_by false false limit count h e = cc
 
 full_step : {W B R D : ℕ} (source : Source) (old new : CacheSide W B R D) (refusal : Option Stepped)
     → refusal_of (state_of old) ≡ refusal → IfSome refusal (λ r. (JournalFull ≡ r) × (new ≡ old))
-    → IfNone refusal (StepMakes source (state_of old) (state_of new) JournalFull) → journal_limit new ≤ length (journal_of new)
+    → IfNone refusal (StepMakes source (state_of old) (state_of new) JournalFull) → journal_limit new ≤ length (held_of new)
 full_step source old new (Some r) is refused makes =
     let e : refusal_of (state_of old) ≡ Some JournalFull = is ∙ ap (λ x. Some x) (sym refused.0) in
-    let l : journal_limit old ≤ length (journal_of old) =
-    full_by (is_some (fault_in old)) (nat_le (journal_limit old) (length (journal_of old))) (journal_limit old) (length (journal_of old))
-    (leb-true (journal_limit old) (length (journal_of old))) e in
-    subst (λ x. journal_limit x ≤ length (journal_of x)) (sym refused.1) l
+    let l : journal_limit old ≤ length (held_of old) =
+    full_by (is_some (fault_in old)) (nat_le (journal_limit old) (length (held_of old))) (journal_limit old) (length (held_of old))
+    (leb-true (journal_limit old) (length (held_of old))) e in
+    subst (λ x. journal_limit x ≤ length (held_of x)) (sym refused.1) l
 full_step source old new None is refused makes =
     absurd (never_full (has_work source (state_of old) makes.looked) (effect_of source (state_of old) makes.looked).fault makes.answer)
 
 full_one : {W B R D : ℕ} (source : Source) (old new : CacheSide W B R D) (stepped : Stepped) → SideSteps source old new stepped
-    → stepped ≡ JournalFull → journal_limit new ≤ length (journal_of new)
+    → stepped ≡ JournalFull → journal_limit new ≤ length (held_of new)
 full_one source old new stepped h e =
     let found : SideSteps source old new JournalFull = subst (λ s. SideSteps source old new s) e h in
     full_step source old new (refusal_of (state_of old)) refl found.refused found.makes
 
 pub full_turn : {W B R D : ℕ} (source : Source) (may : Bool) (old new : CacheSide W B R D) (result : Option Stepped)
-    → IsTurn (SideSteps source) may old new result → result ≡ Some JournalFull → journal_limit new ≤ length (journal_of new)
+    → IsTurn (SideSteps source) may old new result → result ≡ Some JournalFull → journal_limit new ≤ length (held_of new)
 full_turn source true old new (Some stepped) h e = full_one source old new stepped h (stepped_so stepped JournalFull e)
 full_turn source false old new (Some stepped) h e = absurd h
 full_turn source true old new None h e = absurd h

@@ -6,7 +6,7 @@ use Rattle.station_parts.specs.declared.bank.BankSide.{BankSide}
 use Rattle.station_parts.specs.declared.parts.CacheSide.{CacheSide}
 use Rattle.station_parts.specs.Ids.{bank_id, cache_id}
 use Rattle.station_parts.specs.Rest.{is_at_rest}
-use Rattle.station_parts.specs.Words.{received_by, journal_of, journal_limit, cache_in}
+use Rattle.station_parts.specs.Words.{received_by, earlier_of, held_of, journal_limit, cache_in}
 use Rattle.ring_station.specs.declared.thread_end.ThreadEnd.{ThreadEnd}
 use Rattle.ring_station.specs.Ends.{HasEnded}
 use Rattle.ring_station.specs.Turns.{IsStuck}
@@ -57,11 +57,12 @@ ended_in (Step source event answer ∷ rest) = ended_in rest
 -- nothing is under way, and so many ports have said since the run began that they offer no more
 pub record IsServed {W B R D : ℕ} (ports : ℕ) (old new : CacheSide W B R D) : Type 0 where
   pub rests : is_at_rest (cache_in new) ≡ true
-  pub ended : ended_in (journal_of old) + ports ≤ ended_in (journal_of new)
+  pub ended : ended_in (held_of old) + ports ≤ ended_in (held_of new)
 
--- the thread of a cache side with so many ports and turns: at most one entry was noted in each that it began. It takes no
--- memory
+-- the thread of a cache side with so many ports and turns: at most one entry was noted in each that it began, and none was
+-- handed out. It takes no memory
 pub record CacheRan {W B R D : ℕ} (ports turns : ℕ) (old new : CacheSide W B R D) (end : ThreadEnd) : Type 0 where
   pub same : cache_id new ≡ cache_id old
-  pub noted : length (journal_of new) ≤ length (journal_of old) + end.turns
-  pub ended : HasEnded (IsServed ports old new) ⊥ (journal_limit new ≤ length (journal_of new)) turns end
+  pub earlier : earlier_of new ≡ earlier_of old
+  pub noted : length (held_of new) ≤ length (held_of old) + end.turns
+  pub ended : HasEnded (IsServed ports old new) ⊥ (journal_limit new ≤ length (held_of new)) turns end

@@ -6,7 +6,7 @@ use Rattle.station_journal.specs.declared.asks.Told.{Told}
 use Rattle.station_journal.specs.Conversation.{Converses}
 use Rattle.station_parts.specs.declared.port.Port.{Port}
 use Rattle.station_parts.specs.Ids.{port_id}
-use Rattle.station_parts.specs.Words.{offered, taken, known_places, known_tellings, has_ended}
+use Rattle.station_parts.specs.Words.{offered, offered_before, taken, known_places, known_tellings, has_ended}
 use Rattle.ring_station.specs.declared.idle.Turn.{Turn}
 use Rattle.ring_station.specs.declared.idle.Turn.TheVariants.{Moved, Held, Idle}
 use Rattle.ring_station.specs.declared.talk.Phase.{Phase}
@@ -40,13 +40,15 @@ FindsNothing Held phase port = ⊥
 -- call for, and what it has taken since then stands in the list
 pub record IsOnItsWay (script : List Ask) (talk : Talk) (first port : Port) (list : List Told) : Type 0 where
   pub same : port_id port ≡ port_id first
+  pub before : offered_before port ≡ offered_before first
   pub said : List Ask
   pub offered_is : offered port ≡ offered first ++ said
   pub taken_is : taken port ≡ taken first ++ list
   pub talked : HasTalked script talk.phase talk.next talk.owed said list
 
--- between these two the port offered its whole script, then Done, and took these tellings
+-- between these two the port offered its whole script, then Done, and took these tellings. It didn't begin again
 pub record HasRun (script : List Ask) (first port : Port) (list : List Told) : Type 0 where
+  pub before : offered_before port ≡ offered_before first
   pub said : List Ask
   pub offered_is : offered port ≡ offered first ++ said
   pub taken_is : taken port ≡ taken first ++ list
@@ -62,6 +64,7 @@ pub record HaveRun (scripts : List (Vec Ask)) (old new : List Port) (lists : Lis
 -- rings in each turn that it began; if it came to its end it has run its script. It has no journal
 pub record PortRan (script : List Ask) (turns : ℕ) (old new : Port) (list : List Told) (end : ThreadEnd) : Type 0 where
   pub same : port_id new ≡ port_id old
+  pub before : offered_before new ≡ offered_before old
   pub took : taken new ≡ taken old ++ list
   pub moved : moves_of new ≤ moves_of old + end.turns
   pub ended : HasEnded (HasRun script old new list) (0 < end.turns) ⊥ turns end

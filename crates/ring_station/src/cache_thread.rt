@@ -2,7 +2,7 @@
 ghost use Rattle.std.specs.Prelude.{◌≡◌, ◌-◌, if◌then◌else◌};
 ghost use Rattle.station_parts.specs.Ids.{cache_id};
 ghost use Rattle.ring_station.specs.Turns.{IsTurn, SideSteps};
-ghost use Rattle.station_parts.specs.Words.{journal_of};
+ghost use Rattle.station_parts.specs.Words.{held_of};
 ghost use Rattle.ring_station.specs.PartRuns.{CacheRan, ends_at};
 
 use crate::gate::{Actor, Gate};
@@ -74,7 +74,7 @@ fn has_ended_port<const WAYS: usize, const WORDS: usize, const REGS: usize, cons
     cache: &CacheSide<WAYS, WORDS, REGS, DEPTH>,
     place: u32,
 ) -> bool
-    ensures { result ≡ ends_at (journal_of cache.now) place }
+    ensures { result ≡ ends_at (held_of cache.now) place }
 {
     matches!(cache.entry(place), Some(Entry::Ended { .. }))
 }

@@ -26,7 +26,8 @@ pub use report::{Run, Stop};
 pub use run::{run_and_audit, run_threads};
 pub use station_journal::laws;
 pub use station_parts::{
-    ASK_PLACES, Ask, Audit, BankSide, CacheSide, Entry, MAX_ENTRIES, MAX_PORTS, PORT_TAGS, Port,
-    RawBank, Ring, SideFault, Source, Station, Stepped, TELLING_PLACES, Told, audit, station,
+    ASK_PLACES, Ask, Audit, BankSide, CacheSide, Entry, MAX_ENTRIES, MAX_NOTED, MAX_PORTS,
+    PORT_TAGS, Port, RawBank, RenewFault, Ring, SideFault, Source, Station, Stepped,
+    TELLING_PLACES, Told, audit, renew, station,
 };
 pub use thread_end::{ThreadEnd, ThreadFault};

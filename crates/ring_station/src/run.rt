@@ -31,8 +31,8 @@ use std::mem::replace;
 use std::rt::Clock;
 use std::thread::Threads;
 
-/// Runs a new station to the end of its scripts: a thread for each port, which offers its script and
-/// then `Done`; one for the cache side; and one for each bank. All threads have ended when it
+/// Runs a station, new or renewed, to the end of its scripts: a thread for each port, which offers its
+/// script and then `Done`; one for the cache side; and one for each bank. All threads have ended when it
 /// returns. The result has a list for each port: what it took in the run, in order. It comes only
 /// where an audit behind the threads is `Clean`, and then the journal is a run of flat memory that
 /// has all that was offered and told, and nothing is due.
@@ -46,9 +46,9 @@ use std::thread::Threads;
 /// `OutOfMemory` says that there was too little memory, and then `TurnLimit` that a thread used up
 /// its turns, which stops no other one, or that the cache side found its journal full; without a turn
 /// no thread comes to its end. After either the station stands where the steps left it: it may be
-/// audited, and not run again. [`run_and_audit`] tells which thread it was, and what each port had
-/// taken. If a thread can't be made, the parts run one after another, and that mostly ends with
-/// `TurnLimit`.
+/// audited, and not run again; behind a run that is `Ok` it may be renewed, and then run again.
+/// [`run_and_audit`] tells which thread it was, and what each port had taken. If a thread can't be
+/// made, the parts run one after another, and that mostly ends with `TurnLimit`.
 ///
 /// There is one script for each port. A script with `Done` in it comes to no end.
 pub fn run_threads<

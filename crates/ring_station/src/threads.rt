@@ -65,7 +65,7 @@ pub(crate) fn run_all<
     cache_end
 }
 
-// Runs the ports and the banks.
+// Runs the banks, and beside them the ports.
 fn run_sides<R: Clock + Threads + Sync, G: Gate>(
     rt: &R,
     gate: &G,
@@ -85,14 +85,14 @@ fn run_sides<R: Clock + Threads + Sync, G: Gate>(
     join_mut(
         rt,
         &mut ||
+            requires { IsSync R.row × (vec_len banks.now ≤ MAX_BANKS) }
+            ensures { EachServed turns banks.entry.now.items banks.exit.now.items }
+        { run_banks(rt, gate, turns, done, banks) },
+        &mut ||
             requires { IsSync R.row × (length scripts.now ≡ vec_len ports.now)
                 × (vec_len ports.now ≤ MAX_PORTS) × All (λ r. r.list.items ≡ []) ports.now.items }
             ensures { EachRanScript scripts.entry.now turns ports.entry.now.items ports.exit.now.items }
         { run_ports(rt, gate, scripts, turns, ports) },
-        &mut ||
-            requires { IsSync R.row × (vec_len banks.now ≤ MAX_BANKS) }
-            ensures { EachServed turns banks.entry.now.items banks.exit.now.items }
-        { run_banks(rt, gate, turns, done, banks) },
     );
 }
 

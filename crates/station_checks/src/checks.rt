@@ -2,7 +2,7 @@
 ghost use Rattle.std.specs.Prelude.{◌≡◌, ◌↔◌, ◌∷◌, [], true, IfOk};
 ghost use Rattle.station_journal.specs.Journal.{events_of, answers_of};
 ghost use Rattle.station_journal.specs.Parts.{told_of};
-ghost use Rattle.station_parts.specs.Words.{journal_of};
+ghost use Rattle.station_parts.specs.Words.{held_of};
 ghost use Rattle.station_checks.specs.Checks.{is_flat, AreTold, told_list};
 
 use flat_model::{Answer, Event, FlatMemory, ReplayFault, Word};
@@ -10,12 +10,12 @@ use station_journal::{Entry, Source, Told};
 use station_parts::{CacheSide, PORT_TAGS};
 use std::alloc::{AllocError, Global};
 
-/// The entries of a journal, oldest first. `AllocError` says that there was too little memory.
+/// The entries of the journal at hand, oldest first. `AllocError` says that there was too little memory.
 pub fn read_journal<const WAYS: usize, const WORDS: usize, const REGS: usize, const DEPTH: usize>(
     alloc: Global,
     cache: &CacheSide<WAYS, WORDS, REGS, DEPTH>,
 ) -> Result<Vec<Entry>, AllocError>
-    ensures { IfOk result (λ entries. entries.items ≡ journal_of cache.now) }
+    ensures { IfOk result (λ entries. entries.items ≡ held_of cache.now) }
 {
     let mut entries = Vec::new(alloc);
     for place in 0..cache.entries() {

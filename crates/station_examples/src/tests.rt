@@ -13,6 +13,7 @@ mod gates;
 mod largest;
 mod on_threads;
 mod refused;
+mod renewed;
 
 type SmallStation = Station<1, 4, 2, 2>;
 

@@ -11,7 +11,7 @@ use Rattle.flat_model.specs.declared.Event.TheVariants as events
 use Rattle.flat_model.specs.declared.Answer.{Answer}
 use Rattle.flat_model.specs.declared.Answer.TheVariants as answers
 use Rattle.flat_model.specs.Flat.{Flat, opening}
-use Rattle.cache_unit.specs.State.{Sizes}
+use Rattle.cache_unit.specs.declared.Sizes.{Sizes}
 use Rattle.station_journal.specs.declared.journal.Source.{Source}
 use Rattle.station_journal.specs.declared.journal.Source.TheVariants as sources
 use Rattle.station_journal.specs.declared.journal.Entry.{Entry}

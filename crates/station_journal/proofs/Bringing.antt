@@ -9,7 +9,8 @@ use Rattle.flat_model.specs.declared.Answer.TheVariants.{Moved}
 use Rattle.memory_banks.specs.declared.Command.{Command}
 use Rattle.memory_banks.specs.declared.BankAnswer.{BankAnswer}
 use Rattle.memory_banks.specs.Memory.{is_read}
-use Rattle.cache_unit.specs.State.{Sizes, Cache, UnitState}
+use Rattle.cache_unit.specs.declared.Sizes.{Sizes}
+use Rattle.cache_unit.specs.State.{Cache, UnitState}
 use Rattle.cache_unit.specs.Causes.{first_cause, is_stray, arrive_cause}
 use Rattle.cache_unit.specs.Steps.{unless, moved, arrived, arrive_step}
 use Rattle.cache_unit.specs.Sound.{InRange}
@@ -63,7 +64,7 @@ refused z c a room not_moved =
 module _ (z : Sizes) (in_range : InRange z) (cache : Cache) (sent : ℕ → List Command) (popped popped' : ℕ → List BankAnswer)
     (entries : List Entry) (bank : ℕ) (a : BankAnswer) (here : bank < z.banks) (more : popped' bank ≡ popped bank ++ a ∷ [])
     (others : (b : ℕ) → b ≢ bank → popped' b ≡ popped b) (taken limit : ℕ) (counted : taken ≡ length (popped bank))
-    (within : length entries ≤ limit) (small : limit ≤ 1048576) (fault : Option SideFault) (sound : fault ≡ None)
+    (within : length entries ≤ limit) (small : limit ≤ 2 ^ 56) (fault : Option SideFault) (sound : fault ≡ None)
     (faulted : SideTells z cache sent popped fault entries) where
   h : SideTells z cache sent popped None entries
   h = subst (λ f. SideTells z cache sent popped f entries) sound faulted

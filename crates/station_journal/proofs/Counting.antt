@@ -15,7 +15,8 @@ use Rattle.memory_banks.specs.Banks.{commands_for}
 use Rattle.memory_banks.specs.Memory.{is_read}
 use Rattle.miss_registers.proofs.Tags.{count_by-append}
 use Rattle.write_queue.specs.declared.Queued.{Queued}
-use Rattle.cache_unit.specs.State.{Sizes, Cache, is_present, free_slot, address}
+use Rattle.cache_unit.specs.declared.Sizes.{Sizes}
+use Rattle.cache_unit.specs.State.{Cache, is_present, free_slot, address}
 use Rattle.cache_unit.specs.Steps.{Stepped, unless, reads, fetches, moved, arrived, load_step, store_step, prefetch_step, drain_step, drain_first, arrive_step}
 use Rattle.cache_unit.specs.Causes.{arrive_cause}
 use Rattle.machine_core.proofs.Stepping.{evict_silent, process_silent, take_silent}

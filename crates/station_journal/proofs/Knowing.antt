@@ -14,7 +14,7 @@ use Rattle.memory_banks.specs.declared.Command.TheVariants.{Read, Write}
 use Rattle.memory_banks.specs.declared.BankAnswer.{BankAnswer}
 use Rattle.memory_banks.specs.Banks.{after, answers_to, commands_for}
 use Rattle.memory_banks.specs.Memory.{is_read}
-use Rattle.cache_unit.specs.State.{Sizes}
+use Rattle.cache_unit.specs.declared.Sizes.{Sizes}
 use Rattle.cache_unit.specs.Steps.{Stepped}
 use Rattle.station_journal.specs.declared.journal.Entry.{Entry}
 use Rattle.station_journal.specs.declared.journal.Entry.TheVariants.{Step, Ended}

@@ -17,7 +17,8 @@ use Rattle.write_queue.specs.declared.Queued.{Queued}
 use Rattle.cache_unit.specs.declared.Reply.{Reply}
 use Rattle.cache_unit.specs.declared.Request.{Request}
 use Rattle.cache_unit.specs.declared.Request.TheVariants as requests
-use Rattle.cache_unit.specs.State.{Sizes, Cache, frame_of, is_present, is_pending, block_of, place_in, cell_of, tags}
+use Rattle.cache_unit.specs.declared.Sizes.{Sizes}
+use Rattle.cache_unit.specs.State.{Cache, frame_of, is_present, is_pending, block_of, place_in, cell_of, tags}
 use Rattle.cache_unit.specs.Views.{is_empty}
 use Rattle.cache_unit.specs.Causes.{first_cause, is_in_use, found, targets_full, ways_of, choose, lacks_places, lacks_room, load_cause, store_cause, prefetch_cause, evict_cause, arrive_cause}
 use Rattle.cache_unit.specs.Steps.{Stepped, unless, loaded, written, fetched, fetches, evicted_from, arrived, moved, request_step, load_step, store_step, prefetch_step, evict_step, drain_step, drain_first, arrive_step, process_step, process_entry, take_step, take_reply}

@@ -11,7 +11,8 @@ use Rattle.flat_model.specs.declared.Answer.{Answer}
 use Rattle.flat_model.specs.declared.Answer.TheVariants.{Accepted, Refused}
 use Rattle.flat_model.specs.Words.{has_any}
 use Rattle.flat_model.specs.Flat.{Flat, flat_step, flat_after, load_refusals, store_refusals, prefetch_refusals}
-use Rattle.cache_unit.specs.State.{Sizes, is_present, block_of, place_in, cell_of}
+use Rattle.cache_unit.specs.declared.Sizes.{Sizes}
+use Rattle.cache_unit.specs.State.{is_present, block_of, place_in, cell_of}
 use Rattle.cache_unit.specs.Causes.{found, load_cause, store_cause, prefetch_cause}
 use Rattle.cache_unit.specs.Steps.{unless, load_step, store_step, prefetch_step, fetched, fetches, loaded, written}
 use Rattle.station_journal.specs.Journal.{Stand, ample, true_word, step, may_be_full, is_full}

@@ -9,7 +9,8 @@ use Rattle.flat_model.specs.Words.{has_any}
 use Rattle.memory_banks.specs.declared.Command.TheVariants.{Write}
 use Rattle.memory_banks.specs.Banks.{Bank, bank_at, room_in}
 use Rattle.write_queue.specs.declared.Queued.{Queued}
-use Rattle.cache_unit.specs.State.{Sizes, Cache, is_present, is_pending, block_of, place_in, address, tags, cell_of}
+use Rattle.cache_unit.specs.declared.Sizes.{Sizes}
+use Rattle.cache_unit.specs.State.{Cache, is_present, is_pending, block_of, place_in, address, tags, cell_of}
 use Rattle.cache_unit.specs.Causes.{first_cause, is_in_use, found, targets_full, ways_of, choose, lacks_places, addresses, lacks_room, load_cause, store_cause, prefetch_cause}
 use Rattle.cache_unit.specs.Steps.{load_step, store_step, prefetch_step, drain_step, drain_first, unless, loaded, written, fetched, fetches}
 use Rattle.machine_core.proofs.Resting.{spread_evenly, any_false}

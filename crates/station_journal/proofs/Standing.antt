@@ -12,7 +12,8 @@ use Rattle.memory_banks.specs.declared.Command.{Command}
 use Rattle.memory_banks.specs.declared.Command.TheVariants.{Read, Write}
 use Rattle.memory_banks.specs.Banks.{Bank, no_bank, bank_at, after, answers_to, commands_for, share_of}
 use Rattle.memory_banks.proofs.Sending.{extended, all_sent-length, all_sent-at}
-use Rattle.cache_unit.specs.State.{Sizes, Cache}
+use Rattle.cache_unit.specs.declared.Sizes.{Sizes}
+use Rattle.cache_unit.specs.State.{Cache}
 use Rattle.cache_unit.specs.Steps.{Stepped}
 use Rattle.machine_core.specs.Machine.{Machine, opening, flat_of, joined_with, without_answer}
 use Rattle.station_journal.specs.Journal.{Stand, opening_stand, zeros, zeros_in}

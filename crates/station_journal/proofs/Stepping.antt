@@ -10,7 +10,8 @@ use Rattle.flat_model.specs.declared.Answer.TheVariants.{Nothing, Refused}
 use Rattle.flat_model.specs.Flat.{flat_step}
 use Rattle.memory_banks.specs.declared.BankAnswer.{BankAnswer}
 use Rattle.memory_banks.specs.Banks.{Bank, bank_at, answers_to, room_in}
-use Rattle.cache_unit.specs.State.{Sizes, Cache, block_of}
+use Rattle.cache_unit.specs.declared.Sizes.{Sizes}
+use Rattle.cache_unit.specs.State.{Cache, block_of}
 use Rattle.cache_unit.specs.Causes.{arrive_cause}
 use Rattle.cache_unit.specs.Steps.{Stepped, unless, moved as unit_moved, arrived, arrive_step, load_step, store_step, prefetch_step, evict_step, drain_step, process_step, take_step}
 use Rattle.machine_core.specs.Law.{IsLawful}

@@ -11,7 +11,8 @@ use Rattle.memory_banks.specs.declared.Command.{Command}
 use Rattle.memory_banks.specs.declared.BankAnswer.{BankAnswer}
 use Rattle.memory_banks.specs.Banks.{answers_to, commands_for}
 use Rattle.memory_banks.specs.Memory.{is_read}
-use Rattle.cache_unit.specs.State.{Sizes, Cache, opening_cache}
+use Rattle.cache_unit.specs.declared.Sizes.{Sizes}
+use Rattle.cache_unit.specs.State.{Cache, opening_cache}
 use Rattle.cache_unit.specs.Steps.{Stepped, arrive_step}
 use Rattle.machine_core.specs.Law.{IsLawful}
 use Rattle.station_journal.specs.declared.journal.Source.{Source}

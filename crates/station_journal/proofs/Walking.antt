@@ -15,7 +15,8 @@ use Rattle.flat_model.specs.Words.{zero_word}
 use Rattle.flat_model.specs.Flat.{word_at, flat_step, flat_run}
 use Rattle.flat_model.specs.Flat.{opening as flat_opening}
 use Rattle.memory_banks.specs.Banks.{Bank, no_bank, all_pending}
-use Rattle.cache_unit.specs.State.{Sizes, Cache}
+use Rattle.cache_unit.specs.declared.Sizes.{Sizes}
+use Rattle.cache_unit.specs.State.{Cache}
 use Rattle.cache_unit.specs.Causes.{arrive_cause}
 use Rattle.cache_unit.specs.Steps.{unless, moved, arrived, arrive_step}
 use Rattle.cache_unit.specs.Views.{is_clean, is_empty}

@@ -8,7 +8,8 @@ use Rattle.flat_model.specs.declared.Answer.{Answer}
 use Rattle.flat_model.specs.declared.Answer.TheVariants.{Accepted, Moved, Value, Refused}
 use Rattle.flat_model.specs.Words.{has, joined, merged}
 use Rattle.input_stack.specs.Stack.{stack_word}
-use Rattle.cache_unit.specs.State.{Sizes, frame_of, live_for, targets, with_cell, with_field}
+use Rattle.cache_unit.specs.declared.Sizes.{Sizes}
+use Rattle.cache_unit.specs.State.{frame_of, live_for, targets, with_cell, with_field}
 use Rattle.cache_unit.specs.Causes.{choose, load_cause, store_cause, prefetch_cause, evict_cause, arrive_cause}
 use Rattle.cache_unit.specs.Steps.{released, evicted, installed, fetched, fetches, load_step, store_step, prefetch_step, evict_step, drain_step, arrive_step, arrived, processed, process_step, take_step}
 use Rattle.station_journal.specs.declared.journal.Source.TheVariants as sources

@@ -18,7 +18,8 @@ use Rattle.flat_model.specs.Flat.{Flat, word_at}
 use Rattle.memory_banks.specs.declared.Command.{Command}
 use Rattle.memory_banks.specs.declared.BankAnswer.{BankAnswer}
 use Rattle.memory_banks.specs.Banks.{after, answers_to}
-use Rattle.cache_unit.specs.State.{Sizes, Cache, tags}
+use Rattle.cache_unit.specs.declared.Sizes.{Sizes}
+use Rattle.cache_unit.specs.State.{Cache, tags}
 use Rattle.cache_unit.specs.Views.{is_clean}
 use Rattle.machine_core.specs.Law.{IsLawful}
 use Rattle.machine_core.proofs.Whole.{lawful}
@@ -41,7 +42,7 @@ use Rattle.station_parts.specs.declared.parts.CacheSide.{CacheSide}
 use Rattle.station_parts.specs.Rings.{pops_from}
 use Rattle.station_parts.specs.Ids.{PortId, BankId, port_id, bank_id}
 use Rattle.station_parts.specs.Rows.{sent_at, popped_at, come_to}
-use Rattle.station_parts.specs.Words.{offered, taken, told_in_all, known_tellings, received_by, sent_by, words_of, known_commands, commanded}
+use Rattle.station_parts.specs.Words.{offered, taken, told_in_all, known_tellings, received_by, sent_by, words_of, known_commands, commanded, journal_of}
 use Rattle.station_parts.specs.Station.{AreOneStation}
 use Rattle.station_parts.specs.Audited.{IsSeen, holds_item, first_ring, first_left, finding, audit_of}
 use Rattle.station_parts.specs.declared.parts.Ring.{Ring}
@@ -68,6 +69,10 @@ zeros_are z b =
     let count = (length (zeros z) + z.banks - 1 - b) / z.banks in
     let is = all_zero z.banks 0 count b z.words in
     is ∙ ap (λ n. replicate n zero_word) (sym (length-replicate count zero_word) ∙ ap length (sym is))
+
+-- as few as others that are as many
+pub few_of : {m n most : ℕ} → m ≡ n → m ≤ most → n ≤ most
+few_of {m} {n} {most} same few = subst (λ k. k ≤ most) same few
 
 -- ---- rows
 
@@ -159,14 +164,14 @@ module _ {W B R D : ℕ} (cache : CacheSide W B R D) (ports : List Port) (banks 
   z = cache.unit.sizes
 
   abbrev entries : List Entry
-  entries = cache.journal.items
+  entries = journal_of cache
 
-  bank_number : length banks ≡ cache.unit.sizes.banks
+  pub bank_number : length banks ≡ cache.unit.sizes.banks
   bank_number =
       sym (length-map banks bank_id) ∙ sym (length-map (map bank_id banks) (λ (x : BankId). x.words)) ∙ ap length one.words
       ∙ length-map-range_with_len (λ b. length (zeros_in cache.unit.sizes b)) 0 cache.unit.sizes.banks
 
-  ask_number : length cache.asks.items ≡ length ports
+  pub ask_number : length cache.asks.items ≡ length ports
   ask_number =
       sym (length-map cache.asks.items pops_from) ∙ sym (ap length one.asks) ∙ length-map (map port_id ports) (λ (x : PortId). x.asks)
       ∙ length-map ports port_id
@@ -208,7 +213,7 @@ module _ {W B R D : ℕ} (cache : CacheSide W B R D) (ports : List Port) (banks 
   law : IsLawful cache.unit.sizes
   law = lawful cache.unit.sizes cache.in_range
 
-  pub bank_true_here : IsBankTrue cache.unit.sizes cache.journal.items
+  pub bank_true_here : IsBankTrue cache.unit.sizes (journal_of cache)
   bank_true_here =
       ∥∥₁_elim cache.tells (fit_prop z (true_word z) entries (opening_stand z))
       (λ h. bank_true z law cache.in_range.enough_commands cache.unit.cache (sent_at cache.row.lines.items)
@@ -220,25 +225,25 @@ module _ {W B R D : ℕ} (cache : CacheSide W B R D) (ports : List Port) (banks 
       (λ h. never_faulted z law cache.in_range.enough_commands cache.unit.cache (sent_at cache.row.lines.items)
       (popped_at cache.answers.items) cache.fault entries h comes_of)
 
-  ends_prop : IsProp (EndsAs cache.unit.sizes cache.journal.items cache.unit.cache (sent_at cache.row.lines.items))
+  ends_prop : IsProp (EndsAs cache.unit.sizes (journal_of cache) cache.unit.cache (sent_at cache.row.lines.items))
   ends_prop = hlevel props
 
-  ends_here : EndsAs cache.unit.sizes cache.journal.items cache.unit.cache (sent_at cache.row.lines.items)
+  ends_here : EndsAs cache.unit.sizes (journal_of cache) cache.unit.cache (sent_at cache.row.lines.items)
   ends_here =
       ∥∥₁_elim cache.tells ends_prop
       (λ h. ends_as z law cache.in_range.enough_commands cache.unit.cache (sent_at cache.row.lines.items)
       (popped_at cache.answers.items) cache.fault entries h comes_of)
 
-  flat_here : IsFlatJournal cache.unit.sizes cache.journal.items (true_stand cache.unit.sizes cache.journal.items)
+  flat_here : IsFlatJournal cache.unit.sizes (journal_of cache) (true_stand cache.unit.sizes (journal_of cache))
   flat_here = journal_is_flat z entries law cache.in_range.enough_commands bank_true_here
 
-  pub run_here : IsFlatRun cache.unit.sizes cache.journal.items
+  pub run_here : IsFlatRun cache.unit.sizes (journal_of cache)
   run_here = record { flat = flat_here.flat; runs = flat_here.runs }
 
-  pub sources_here : IsOfPorts (length ports) cache.journal.items
-  sources_here = subst (λ n. IsOfPorts n cache.journal.items) ask_number cache.ports.sources
+  pub sources_here : IsOfPorts (length ports) (journal_of cache)
+  sources_here = subst (λ n. IsOfPorts n (journal_of cache)) ask_number cache.ports.sources
 
-  pub judged_here : AreJudged cache.journal.items
+  pub judged_here : AreJudged (journal_of cache)
   judged_here before rest p e =
       asks_are_judged cache.unit.sizes before rest (length ports) p law cache.in_range.enough_commands
       (subst (IsBankTrue cache.unit.sizes) e bank_true_here)
@@ -251,7 +256,7 @@ module _ {W B R D : ℕ} (cache : CacheSide W B R D) (ports : List Port) (banks 
 
   -- a port's asks in the journal, and those that are left in its ring
   asks_and_left : (p : ℕ) (l : p < length ports) (end : Consumer Ask Global AnyItems)
-      → asks_of p cache.journal.items ++ known_items (slice_index_or cache.asks.items p end) ≡ offered_by ports p
+      → asks_of p (journal_of cache) ++ known_items (slice_index_or cache.asks.items p end) ≡ offered_by ports p
   asks_and_left p l end =
       let here = ask_there p l in
       let its_end = slice_index_or cache.asks.items p end in
@@ -261,14 +266,14 @@ module _ {W B R D : ℕ} (cache : CacheSide W B R D) (ports : List Port) (banks 
 
   -- what a port took, and what is left in the ring to it
   taken_and_left : (p : ℕ) (l : p < length ports) (port : Port)
-      → taken_by ports p ++ known_tellings (slice_index_or ports p port) ≡ told_of p cache.journal.items
+      → taken_by ports p ++ known_tellings (slice_index_or ports p port) ≡ told_of p (journal_of cache)
   taken_and_left p l port =
       ap (λ xs. xs ++ known_tellings (slice_index_or ports p port)) (at_row taken [] ports p port l)
       ∙ sym (at_row told_in_all [] ports p port l)
       ∙ ap (λ zs. slice_index_or zs p []) seen.told
       ∙ cache.ports.told p (ask_there p l)
 
-  pub prefixes_here : ArePrefixes cache.journal.items ports
+  pub prefixes_here : ArePrefixes (journal_of cache) ports
   prefixes_here =
       record {
         asks = λ p l. let end = some_of cache.asks.items p (ask_there p l) in
@@ -280,7 +285,7 @@ module _ {W B R D : ℕ} (cache : CacheSide W B R D) (ports : List Port) (banks 
 
   module _ (scripts : List (Vec Ask)) (lists : List (Vec Told)) (talked : HaveConversed scripts ports lists) where
     heard : (p : ℕ) → p < length ports
-        → IsHeard p (list_in scripts p) (offered_by ports p) (list_in lists p) cache.journal.items
+        → IsHeard p (list_in scripts p) (offered_by ports p) (list_in lists p) (journal_of cache)
     heard p l =
         let end = some_of cache.asks.items p (ask_there p l) in
         let port = some_of ports p l in
@@ -292,7 +297,7 @@ module _ {W B R D : ℕ} (cache : CacheSide W B R D) (ports : List Port) (banks 
           tellings = ap (λ xs. xs ++ known_tellings (slice_index_or ports p port)) (sym (talked.took p l)) ∙ taken_and_left p l port;
         }
 
-    all_heard : IsAnswered (length ports) (list_in lists) cache.journal.items (true_stand cache.unit.sizes cache.journal.items).cache
+    all_heard : IsAnswered (length ports) (list_in lists) (journal_of cache) (true_stand cache.unit.sizes (journal_of cache)).cache
     all_heard =
         run_is_answered z entries (length ports) (list_in scripts) (offered_by ports) (list_in lists) law cache.in_range.enough_commands
         bank_true_here sources_here heard
@@ -306,7 +311,7 @@ module _ {W B R D : ℕ} (cache : CacheSide W B R D) (ports : List Port) (banks 
         ∙ taken_and_left p l port ∙ sym (all_heard.all_taken p l) in
         ap holds_item (nothing_behind (list_in lists p) (known_tellings (slice_index_or ports p port)) whole))
 
-    pub answered_here : AreAnswered (audit_of cache ports banks) cache.journal.items lists
+    pub answered_here : AreAnswered (audit_of cache ports banks) (journal_of cache) lists
     answered_here =
         record {
           none_owed = λ count. not_owed cache.fault (first_left cache ports banks) (length (tags cache.unit.cache)) count
@@ -364,14 +369,14 @@ module _ {W B R D : ℕ} (cache : CacheSide W B R D) (ports : List Port) (banks 
         (position (λ c. holds_item (known_items c)) cache.answers.items ≡ None)
     none = found_none _ _ _ _ parts.0
 
-    pub whole_here : AreWhole cache.journal.items ports
+    pub whole_here : AreWhole (journal_of cache) ports
     whole_here =
         record {
           asks = λ p l.
               let end = some_of cache.asks.items p (ask_there p l) in
               let empty = empty_if (known_items (slice_index_or cache.asks.items p end))
               (none_at (λ c. holds_item (known_items c)) cache.asks.items none.0 p end (ask_there p l)) in
-              sym (append-nil (asks_of p cache.journal.items)) ∙ ap (λ xs. asks_of p cache.journal.items ++ xs) (sym empty)
+              sym (append-nil (asks_of p (journal_of cache))) ∙ ap (λ xs. asks_of p (journal_of cache) ++ xs) (sym empty)
               ∙ asks_and_left p l end;
           told = λ p l.
               let port = some_of ports p l in
@@ -380,14 +385,14 @@ module _ {W B R D : ℕ} (cache : CacheSide W B R D) (ports : List Port) (banks 
               sym (append-nil (taken_by ports p)) ∙ ap (λ xs. taken_by ports p ++ xs) (sym empty) ∙ taken_and_left p l port;
         }
 
-    pub paid_here : PaysLoads cache.unit.sizes cache.journal.items
+    pub paid_here : PaysLoads cache.unit.sizes (journal_of cache)
     paid_here flat runs =
-        subst (λ f. IsPaid f cache.journal.items) (some_same flat_here.flat flat (sym flat_here.runs ∙ runs))
+        subst (λ f. IsPaid f (journal_of cache)) (some_same flat_here.flat flat (sym flat_here.runs ∙ runs))
         (flat_here.ends (ends_here.owed ∙ parts.1))
 
     -- a bank has served all that it was sent
     bank_holds : (b : ℕ) → b < cache.unit.sizes.banks
-        → words_by banks b ≡ bank_after cache.unit.sizes (true_stand cache.unit.sizes cache.journal.items) b
+        → words_by banks b ≡ bank_after cache.unit.sizes (true_stand cache.unit.sizes (journal_of cache)) b
     bank_holds b l =
         let in_banks : b < length banks = subst (λ n. b < n) (sym bank_number) l in
         let bank = some_of banks b in_banks in
@@ -421,7 +426,7 @@ module _ {W B R D : ℕ} (cache : CacheSide W B R D) (ports : List Port) (banks 
         let most = le-div (at / n + 1) (cache.unit.sizes.words + n - 1 - b) n some enough in
         omega arith
 
-    pub held_here : IsTrue (is_clean cache.unit.cache) → HoldFlat cache.unit.sizes cache.journal.items banks
+    pub held_here : IsTrue (is_clean cache.unit.cache) → HoldFlat cache.unit.sizes (journal_of cache) banks
     held_here settled flat runs at l =
         let n = cache.unit.sizes.banks in
         let b = at % n in

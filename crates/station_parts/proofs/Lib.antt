@@ -12,3 +12,6 @@ pub mod AskSteps
 pub mod ReplySteps
 pub mod Auditing
 pub mod FreeSlots
+pub mod Renewing
+pub mod PortAsking
+pub mod Crossing

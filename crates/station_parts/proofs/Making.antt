@@ -20,7 +20,8 @@ use Rattle.flat_model.specs.declared.ShapeField.{ShapeField}
 use Rattle.flat_model.specs.declared.ShapeField.TheVariants.{Ports, Journal}
 use Rattle.flat_model.specs.Ranges.{is_between}
 use Rattle.flat_model.proofs.Ranges.{between}
-use Rattle.cache_unit.specs.State.{Sizes, UnitState, opening_cache}
+use Rattle.cache_unit.specs.declared.Sizes.{Sizes}
+use Rattle.cache_unit.specs.State.{UnitState, opening_cache}
 use Rattle.cache_unit.specs.Sound.{InRange}
 use Rattle.cache_unit.specs.Limits as limits
 use Rattle.cache_unit.proofs.Numbers.{in_range}
@@ -39,6 +40,7 @@ use Rattle.station_parts.specs.Station.{AreOneStation, words_by_bank}
 use Rattle.station_parts.specs.Rings.{pushes_to, pops_from}
 use Rattle.station_parts.specs.Ids.{PortId, BankId, line_ring, port_id, bank_id}
 use Rattle.station_parts.specs.New.{bad_field, IsNewPort, IsNewBank, IsNewPopper, IsNewPusher, IsNewLine, IsNewCache, IsNewStation, AreNewPorts, AreNewBanks}
+use Rattle.station_parts.specs.Segments.{whole_of}
 
 -- the two ends of a ring belong to it
 pub ring_of_pair : {T : Type 0} (p : Producer T Global AnyItems) (c : Consumer T Global AnyItems) → IsPair p c → pops_from c ≡ pushes_to p
@@ -206,7 +208,8 @@ module _ (s : Shape) (z : Sizes) (count : ℕ) (ports : List Port) (asks : List 
   module _ {W B R D : ℕ} (c : CacheSide W B R D) (entries : ℕ) (words_same : s.words ≡ z.words) (banks_same : s.banks ≡ z.banks)
       (queue_same : s.bank_queue ≡ z.bank_queue) (asks_is : c.asks.items ≡ asks) (tellings_is : c.tellings.items ≡ tellings)
       (lines_is : c.row.lines.items ≡ lines) (answers_is : c.answers.items ≡ answers)
-      (unit_is : c.unit ≡ record { sizes = z; cache = opening_cache z }) (empty : c.journal.items ≡ []) (limit_is : c.limit ≡ entries)
+      (unit_is : c.unit ≡ record { sizes = z; cache = opening_cache z }) (first : c.earlier.values ≡ [])
+      (empty : c.journal.items ≡ []) (limit_is : c.limit ≡ entries)
       (sound : c.fault ≡ None) where
     shares : map (λ (b : BankId). b.words) (map bank_id banks) ≡ words_by_bank z
     shares =
@@ -227,7 +230,7 @@ module _ (s : Shape) (z : Sizes) (count : ℕ) (ports : List Port) (asks : List 
     new_cache : IsNewCache z count entries c
     new_cache =
         record {
-          journal = empty;
+          journal = ap₂ (λ vs xs. whole_of vs ++ xs) first empty;
           limit = limit_is;
           fault = sound;
           sizes = ap (λ (u : UnitState). u.sizes) unit_is;

@@ -1,5 +1,5 @@
 -- One more entry, as the ports see it.
-use Rattle.std.proofs.Common.{◌≡◌, ℕ, ◌<◌, Bool, true, ◌&&◌, List, [], ◌∷◌, ◌++◌, length, map, refl, sym, ap, ap₂, ◌∙◌, subst, append-nil}
+use Rattle.std.proofs.Common.{◌≡◌, ℕ, ◌+◌, ◌<◌, ◌≤◌, Bool, true, ◌&&◌, List, [], ◌∷◌, ◌++◌, length, map, refl, sym, ap, ap₂, ◌∙◌, subst, arith, append-nil, append_assoc, length-append}
 use Rattle.std.specs.List.{list_all}
 use Rattle.std.proofs.lemmas.List.Folds.{list_all-append}
 use Rattle.std.specs.declared.alloc.Global.{Global}
@@ -19,6 +19,15 @@ use Rattle.station_parts.specs.Ports.{PortsTell}
 use Rattle.station_parts.specs.Rings.{pops_from, pushes_to}
 use Rattle.station_parts.specs.Rows.{received_at, pushed_at}
 use Rattle.station_parts.proofs.Rows.{same_length}
+
+-- the entries that are noted stand behind those that were handed out
+pub behind : (before held held' one : List Entry) → held' ≡ held ++ one → before ++ held' ≡ (before ++ held) ++ one
+behind before held held' one is = ap (λ xs. before ++ xs) is ∙ sym (append_assoc before held one)
+
+-- and are so few
+pub within_all : (before held : List Entry) (handed limit : ℕ) → handed ≡ length before → length held ≤ limit
+    → length (before ++ held) ≤ handed + limit
+within_all before held handed limit is within = let l = length-append before held in omega arith
 
 -- entries that tell what was popped of the ports' asks, and what the ports were told
 pub ports_step : (asks asks' : List (Consumer Ask Global AnyItems)) (tellings tellings' : List (Producer Told Global AnyItems))

@@ -14,7 +14,8 @@ use Rattle.memory_banks.specs.declared.BankAnswer.{BankAnswer}
 use Rattle.memory_banks.specs.Banks.{commands_for}
 use Rattle.write_queue.specs.declared.Queued.{Queued}
 use Rattle.cache_unit.specs.declared.Reply.{Reply}
-use Rattle.cache_unit.specs.State.{Sizes, Cache}
+use Rattle.cache_unit.specs.declared.Sizes.{Sizes}
+use Rattle.cache_unit.specs.State.{Cache}
 use Rattle.cache_unit.specs.Views.{is_empty, reply_view}
 use Rattle.cache_unit.specs.Steps as unit
 use Rattle.station_journal.specs.declared.asks.Ask.{Ask}
@@ -71,12 +72,13 @@ module _ (source : Source) (s t : SideState) (looked : Known) (looks : KnowsMore
       }
 
 -- nothing but looks
-pub makes_nothing : (s t : SideState) → t.journal ≡ s.journal → t.cache ≡ s.cache → t.fault ≡ s.fault → ((p : ℕ) → t.asked p ≡ s.asked p)
+pub makes_nothing : (s t : SideState) → t.earlier ≡ s.earlier → t.held ≡ s.held → t.cache ≡ s.cache → t.fault ≡ s.fault → ((p : ℕ) → t.asked p ≡ s.asked p)
     → ((p : ℕ) → t.told p ≡ s.told p) → ((b : ℕ) → t.commands b ≡ s.commands b) → ((b : ℕ) → t.words b ≡ s.words b)
     → Makes (nothing s) s t.known t
-makes_nothing s t journal cache fault asked told commands words =
+makes_nothing s t earlier held cache fault asked told commands words =
     record {
-      journal = journal ∙ sym (append-nil s.journal);
+      earlier = earlier;
+      held = held ∙ sym (append-nil s.held);
       cache = cache;
       fault = fault;
       asked = λ p. asked p ∙ sym (append-nil (s.asked p));
@@ -177,13 +179,14 @@ answered_so entries entries' source event answer answer' is same =
 -- a step of the unit of which no port hears, and for which no word is popped
 pub makes_unit : (s t : SideState) (source : Source) (event : Event) (d : unit.Stepped) (answer : Answer) (places : ℕ → ℕ)
     → ((p : ℕ) → asked_by p source event ≡ []) → ((p : ℕ) → told_by p source d.answer ≡ [])
-    → t.journal ≡ s.journal ++ Step source event answer ∷ [] → answer ≡ d.answer → t.cache ≡ d.cache → t.fault ≡ s.fault → t.asked ≡ s.asked
+    → t.earlier ≡ s.earlier → t.held ≡ s.held ++ Step source event answer ∷ [] → answer ≡ d.answer → t.cache ≡ d.cache → t.fault ≡ s.fault → t.asked ≡ s.asked
     → t.told ≡ s.told → t.words ≡ s.words → ((b : ℕ) → t.commands b ≡ s.commands b ++ commands_for b d.sent)
     → ((b : ℕ) → places b ≡ t.known.command_places b + length (commands_for b d.sent))
     → Makes (noted s source event d no_words) s (record t.known { command_places = places }) t
-makes_unit s t source event d answer places unasked untold journal answer_is cache fault asked told words commands free =
+makes_unit s t source event d answer places unasked untold earlier held answer_is cache fault asked told words commands free =
     record {
-      journal = answered_so s.journal t.journal source event answer d.answer journal answer_is;
+      earlier = earlier;
+      held = answered_so s.held t.held source event answer d.answer held answer_is;
       cache = cache;
       fault = fault;
       asked = λ p. ap (λ f. f p) asked ∙ sym (ap (λ l. s.asked p ++ (l ++ [])) (unasked p) ∙ append-nil (s.asked p));
@@ -289,14 +292,15 @@ not_idle_at_work source s t result m work e =
     not_idle (effect_of source s m.looked).fault (ap (λ w. answer_of w (effect_of source s m.looked).fault) (sym still) ∙ sym m.answer ∙ e)
 
 -- a word is lost, and the side is faulted
-pub makes_lost : (s t : SideState) (bank : ℕ) (a : BankAnswer) (fault : SideFault) (words : ℕ → List BankAnswer) → t.journal ≡ s.journal
-    → t.cache ≡ s.cache → t.fault ≡ Some fault → t.asked ≡ s.asked → t.told ≡ s.told → t.commands ≡ s.commands
+pub makes_lost : (s t : SideState) (bank : ℕ) (a : BankAnswer) (fault : SideFault) (words : ℕ → List BankAnswer) → t.earlier ≡ s.earlier
+    → t.held ≡ s.held → t.cache ≡ s.cache → t.fault ≡ Some fault → t.asked ≡ s.asked → t.told ≡ s.told → t.commands ≡ s.commands
     → ((b : ℕ) → t.words b ≡ s.words b ++ only bank (a ∷ []) b) → ((b : ℕ) → words b ≡ only bank (a ∷ []) b ++ t.known.words b)
     → t.known.asks ≡ s.known.asks → t.known.telling_places ≡ s.known.telling_places → t.known.command_places ≡ s.known.command_places
     → Makes (arrives s bank a (Some fault)) s (record s.known { words = words }) t
-makes_lost s t bank a fault words journal cache is asked told commands popped known asks tellings free =
+makes_lost s t bank a fault words earlier held cache is asked told commands popped known asks tellings free =
     record {
-      journal = journal ∙ sym (append-nil s.journal);
+      earlier = earlier;
+      held = held ∙ sym (append-nil s.held);
       cache = cache;
       fault = is;
       asked = λ p. ap (λ f. f p) asked ∙ sym (append-nil (s.asked p));

@@ -9,7 +9,8 @@ use Rattle.flat_model.specs.declared.Word.{Word}
 use Rattle.memory_banks.specs.declared.Command.{Command}
 use Rattle.memory_banks.specs.declared.BankAnswer.{BankAnswer}
 use Rattle.memory_banks.specs.Memory.{is_read}
-use Rattle.cache_unit.specs.State.{Sizes, Cache}
+use Rattle.cache_unit.specs.declared.Sizes.{Sizes}
+use Rattle.cache_unit.specs.State.{Cache}
 use Rattle.cache_unit.specs.Sound.{InRange}
 use Rattle.cache_unit.specs.Causes.{arrive_cause}
 use Rattle.cache_unit.specs.Steps.{unless, moved, arrived, arrive_step}
@@ -25,7 +26,7 @@ use Rattle.station_parts.specs.SideSteps.{stray_fault, word_fault}
 module _ (z : Sizes) (in_range : InRange z) (cache : Cache) (sent : ℕ → List Command) (popped popped' : ℕ → List BankAnswer)
     (entries : List Entry) (bank : ℕ) (a : BankAnswer) (here : bank < z.banks) (more : popped' bank ≡ popped bank ++ a ∷ [])
     (others : (b : ℕ) → b ≢ bank → popped' b ≡ popped b) (taken limit : ℕ) (counted : taken ≡ length (popped bank))
-    (within : length entries ≤ limit) (small : limit ≤ 1048576) (fault : Option SideFault) (sound : fault ≡ None)
+    (within : length entries ≤ limit) (small : limit ≤ 2 ^ 56) (fault : Option SideFault) (sound : fault ≡ None)
     (faulted : SideTells z cache sent popped fault entries) where
   pub counts_called : nat_lt taken (count_by is_read (sent bank) % 2 ^ 64) ≡ true
       → nat_lt (length (popped bank)) (count_by is_read (sent bank)) ≡ true

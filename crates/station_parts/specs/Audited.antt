@@ -12,7 +12,7 @@ use Rattle.station_parts.specs.declared.parts.Ring.TheVariants.{Asks, Told, Comm
 use Rattle.station_parts.specs.declared.parts.Audit.{Audit}
 use Rattle.station_parts.specs.declared.parts.Audit.TheVariants.{Faulted, Left, Owed, Clean}
 use Rattle.station_parts.specs.Rows.{come_to, sent_over}
-use Rattle.station_parts.specs.Words.{told_in_all, commanded, offered, taken, known_tellings, received_by, sent_by, words_of, known_commands, known_places, answer_places, journal_of, fault_in, cache_in, asked_at, told_at, commands_at, words_at, telling_places, command_places}
+use Rattle.station_parts.specs.Words.{told_in_all, commanded, offered, offered_before, taken, known_tellings, received_by, sent_by, words_of, known_commands, known_places, answer_places, earlier_of, held_of, journal_of, fault_in, cache_in, asked_at, told_at, commands_at, words_at, telling_places, command_places}
 
 -- ---- at each ring, what was received and then what is known is what was sent
 
@@ -34,6 +34,8 @@ AreAtMost xs ys = (p : ℕ) → slice_index_or xs p 0 ≤ slice_index_or ys p 0
 
 pub record LeavesCache {W B R D : ℕ} (old new : CacheSide W B R D) : Type 0 where
   pub journal : journal_of new ≡ journal_of old
+  pub earlier : earlier_of new ≡ earlier_of old
+  pub held : held_of new ≡ held_of old
   pub fault : fault_in new ≡ fault_in old
   pub cache : cache_in new ≡ cache_in old
   pub asked : (p : ℕ) → asked_at new p ≡ asked_at old p
@@ -45,6 +47,7 @@ pub record LeavesCache {W B R D : ℕ} (old new : CacheSide W B R D) : Type 0 wh
 
 pub record LeavesPorts (old new : List Port) : Type 0 where
   pub offered : map offered new ≡ map offered old
+  pub before : map offered_before new ≡ map offered_before old
   pub taken : map taken new ≡ map taken old
   pub for_asks : AreAtMost (map known_places old) (map known_places new)
 

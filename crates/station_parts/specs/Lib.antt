@@ -1,6 +1,7 @@
 pub mod Rings
 pub mod Rows
 pub mod Ports
+pub mod Segments
 pub mod Asking
 pub mod Promises
 pub mod Runs
@@ -12,4 +13,5 @@ pub mod SideState
 pub mod SideSteps
 pub mod New
 pub mod Audited
+pub mod Renewed
 pub mod Rest

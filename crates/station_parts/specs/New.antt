@@ -14,7 +14,8 @@ use Rattle.flat_model.specs.declared.ShapeField.TheVariants.{Ports, Journal}
 use Rattle.flat_model.specs.Ranges.{is_between}
 use Rattle.memory_banks.specs.declared.BankAnswer.{BankAnswer}
 use Rattle.memory_banks.specs.Banks.{share_of}
-use Rattle.cache_unit.specs.State.{Sizes, opening_cache}
+use Rattle.cache_unit.specs.declared.Sizes.{Sizes}
+use Rattle.cache_unit.specs.State.{opening_cache}
 use Rattle.cache_unit.specs.Limits as limits
 use Rattle.station_journal.specs.declared.asks.Ask.{Ask}
 use Rattle.station_journal.specs.declared.asks.Told.{Told}
@@ -27,7 +28,7 @@ use Rattle.station_parts.specs.declared.parts.CacheSide.{CacheSide}
 use Rattle.station_parts.specs.Rings.{pushes_to, pops_from}
 use Rattle.station_parts.specs.Ids.{PortId, BankId, line_ring, port_id, bank_id}
 use Rattle.station_parts.specs.Station.{AreOneStation}
-use Rattle.station_parts.specs.Words.{offered, taken, known_places, known_tellings, received_by, sent_by, words_of, known_commands, answer_places, journal_of, journal_limit, fault_in, sizes_in, cache_in, ports_in, asked_at, told_at, known_asks, telling_places, commands_at, words_at, known_words, command_places}
+use Rattle.station_parts.specs.Words.{offered, offered_before, taken, known_places, known_tellings, received_by, sent_by, words_of, known_commands, answer_places, journal_of, journal_limit, fault_in, sizes_in, cache_in, ports_in, asked_at, told_at, known_asks, telling_places, commands_at, words_at, known_words, command_places}
 
 -- the first number that is out of its range: those of the unit, then the ports, then the journal
 abbrev pub bad_field : Sizes → ℕ → ℕ → Option ShapeField
@@ -37,6 +38,7 @@ bad_field z ports journal =
 
 pub record IsNewPort (p : Port) : Type 0 where
   pub offered : offered p ≡ []
+  pub before : offered_before p ≡ []
   pub taken : taken p ≡ []
   pub tellings : known_tellings p ≡ []
   pub places : known_places p ≡ ASK_PLACES

@@ -3,13 +3,14 @@ use Rattle.std.specs.Prelude.{◌≡◌, ℕ, ◌≤◌, List, Option}
 use mathlib.Core.List.{IsPrefix}
 use Rattle.memory_banks.specs.declared.Command.{Command}
 use Rattle.memory_banks.specs.declared.BankAnswer.{BankAnswer}
-use Rattle.cache_unit.specs.State.{Sizes, Cache}
+use Rattle.cache_unit.specs.declared.Sizes.{Sizes}
+use Rattle.cache_unit.specs.State.{Cache}
 use Rattle.station_journal.specs.declared.asks.Ask.{Ask}
 use Rattle.station_journal.specs.declared.asks.Told.{Told}
 use Rattle.station_journal.specs.declared.journal.Entry.{Entry}
 use Rattle.station_journal.specs.declared.journal.SideFault.{SideFault}
 use Rattle.station_parts.specs.declared.parts.CacheSide.{CacheSide}
-use Rattle.station_parts.specs.Words.{journal_of, journal_limit, fault_in, sizes_in, cache_in, asked_at, told_at, known_asks, telling_places, commands_at, words_at, command_places, known_words}
+use Rattle.station_parts.specs.Words.{earlier_of, held_of, journal_limit, fault_in, sizes_in, cache_in, asked_at, told_at, known_asks, telling_places, commands_at, words_at, command_places, known_words}
 
 -- the asks and words that can be popped, by port and by bank, and for how many tellings and commands there are free
 -- places. Of a port or a bank that isn't there nothing is known
@@ -29,7 +30,9 @@ pub record KnowsMore (old new : Known) : Type 0 where
 pub record SideState : Type 0 where
   pub sizes : Sizes
   pub cache : Cache
-  pub journal : List Entry
+  -- the entries that were handed out, those noted since, and how many of these it holds
+  pub earlier : List Entry
+  pub held : List Entry
   pub limit : ℕ
   pub fault : Option SideFault
   -- what was popped of each port's asks, and what the port was told
@@ -45,7 +48,8 @@ state_of side =
     record {
       sizes = sizes_in side;
       cache = cache_in side;
-      journal = journal_of side;
+      earlier = earlier_of side;
+      held = held_of side;
       limit = journal_limit side;
       fault = fault_in side;
       asked = asked_at side;
@@ -63,7 +67,8 @@ state_of side =
 
 -- more may be known, and nothing else has changed
 pub record OnlyLooks (old new : SideState) : Type 0 where
-  pub journal : new.journal ≡ old.journal
+  pub earlier : new.earlier ≡ old.earlier
+  pub held : new.held ≡ old.held
   pub cache : new.cache ≡ old.cache
   pub fault : new.fault ≡ old.fault
   pub asked : (p : ℕ) → new.asked p ≡ old.asked p

@@ -13,7 +13,8 @@ use Rattle.memory_banks.specs.Memory.{is_read}
 use Rattle.write_queue.specs.declared.Queued.{Queued}
 use Rattle.cache_unit.specs.declared.Reply.{Reply}
 use Rattle.cache_unit.specs.declared.Request.TheVariants as requests
-use Rattle.cache_unit.specs.State.{Sizes, Cache}
+use Rattle.cache_unit.specs.declared.Sizes.{Sizes}
+use Rattle.cache_unit.specs.State.{Cache}
 use Rattle.cache_unit.specs.Views.{is_empty}
 use Rattle.cache_unit.specs.Causes.{arrive_cause}
 use Rattle.cache_unit.specs.Steps as unit
@@ -126,11 +127,12 @@ answer_of true (Some fault) = Faulted
 
 -- a faulted side, and one whose journal is full, do nothing
 abbrev pub refusal_of : SideState → Option Stepped
-refusal_of s = if is_some s.fault then Some Faulted else if nat_le s.limit (length s.journal) then Some JournalFull else None
+refusal_of s = if is_some s.fault then Some Faulted else if nat_le s.limit (length s.held) then Some JournalFull else None
 
 -- an effect on a side that knew this once it had looked. What it knows becomes less by its own pops and pushes only
 pub record Makes (e : Effect) (old : SideState) (looked : Known) (new : SideState) : Type 0 where
-  pub journal : new.journal ≡ old.journal ++ e.entries
+  pub earlier : new.earlier ≡ old.earlier
+  pub held : new.held ≡ old.held ++ e.entries
   pub cache : new.cache ≡ e.cache
   pub fault : new.fault ≡ e.fault
   pub asked : (p : ℕ) → new.asked p ≡ old.asked p ++ asks_of p e.entries

@@ -1,11 +1,12 @@
 -- What a user says of the parts of a station: the lists of what went over their rings, and what their ends know.
-use Rattle.std.specs.Prelude.{ℕ, Bool, List, ◌++◌, Option, length}
+use Rattle.std.specs.Prelude.{ℕ, Bool, List, ◌++◌, drop, Option, length}
 use Rattle.std.specs.List.{list_any}
 use Rattle.rtrb.specs.Ring.{sent, received, known_free, known_items}
 use Rattle.flat_model.specs.declared.Word.{Word}
 use Rattle.memory_banks.specs.declared.Command.{Command}
 use Rattle.memory_banks.specs.declared.BankAnswer.{BankAnswer}
-use Rattle.cache_unit.specs.State.{Sizes, Cache}
+use Rattle.cache_unit.specs.declared.Sizes.{Sizes}
+use Rattle.cache_unit.specs.State.{Cache}
 use Rattle.station_journal.specs.declared.asks.Ask.{Ask}
 use Rattle.station_journal.specs.declared.asks.Told.{Told}
 use Rattle.station_journal.specs.declared.journal.Entry.{Entry}
@@ -15,6 +16,7 @@ use Rattle.station_parts.specs.declared.bank.BankSide.{BankSide}
 use Rattle.station_parts.specs.declared.raw.RawBank.{RawBank}
 use Rattle.station_parts.specs.declared.parts.CacheSide.{CacheSide}
 use Rattle.station_parts.specs.Ports.{is_done}
+use Rattle.station_parts.specs.Segments.{whole_of}
 use Rattle.station_parts.specs.Rows.{sent_at, free_at, popped_at, received_at, pushed_at, room_at, known_at}
 
 -- ---- a port
@@ -27,9 +29,16 @@ offered p = sent p.asks
 abbrev pub taken : Port → List Told
 taken p = received p.tellings
 
--- it has offered Done
+-- what it had offered when it began to ask, or began again behind a renewal; and what it has offered since then
+abbrev pub offered_before : Port → List Ask
+offered_before p = sent p.begun.value
+
+abbrev pub offered_since : Port → List Ask
+offered_since p = drop (length (offered_before p)) (offered p)
+
+-- it has offered Done since then
 abbrev pub has_ended : Port → Bool
-has_ended p = list_any is_done (offered p)
+has_ended p = list_any is_done (offered_since p)
 
 -- for how many more asks it knows a free place
 abbrev pub known_places : Port → ℕ
@@ -86,11 +95,18 @@ raw_places b = known_free b.answers
 -- ---- the cache side
 
 module _ {W B R D : ℕ} where
-  -- what it has noted of its steps, oldest first
-  abbrev pub journal_of : CacheSide W B R D → List Entry
-  journal_of c = c.journal.items
+  -- the entries that were handed out, oldest first, and those that were noted since
+  abbrev pub earlier_of : CacheSide W B R D → List Entry
+  earlier_of c = whole_of c.earlier.values
 
-  -- how many entries the journal takes
+  abbrev pub held_of : CacheSide W B R D → List Entry
+  held_of c = c.journal.items
+
+  -- all that it has noted of its steps, oldest first
+  abbrev pub journal_of : CacheSide W B R D → List Entry
+  journal_of c = earlier_of c ++ held_of c
+
+  -- how many entries it holds at most
   abbrev pub journal_limit : CacheSide W B R D → ℕ
   journal_limit c = c.limit
 

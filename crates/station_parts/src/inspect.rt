@@ -17,7 +17,7 @@ ghost use Rattle.station_parts.specs.Rings.{pushes_to, pops_from};
 ghost use Rattle.station_parts.specs.Ids.{PortId, BankId, port_id, bank_id, cache_id, line_ring};
 ghost use Rattle.station_parts.specs.Station.{AreOneStation};
 ghost use Rattle.station_parts.specs.Rows.{come_to, sent_over, brought_by};
-ghost use Rattle.station_parts.specs.Words.{journal_of, sizes_in, cache_in, told_in_all, commanded, offered, taken, known_tellings, known_places, answer_places, received_by, sent_by, words_of, known_commands};
+ghost use Rattle.station_parts.specs.Words.{journal_of, sizes_in, cache_in, told_in_all, commanded, offered, offered_before, taken, known_tellings, known_places, answer_places, received_by, sent_by, words_of, known_commands};
 ghost use Rattle.station_parts.specs.Audited.{IsSeen, AreAtMost, line_places, LeavesCache, LeavesPorts, LeavesBanks, holds_item, first_ring, first_left, audit_of};
 
 use crate::bank::BankSide;
@@ -104,6 +104,7 @@ fn look_asks(ports: &mut [Port], asks: &mut Vec<Consumer<Ask>>)
     requires { map (λ (p : PortId). p.asks) (map port_id ports.old) ≡ map pops_from asks.old.items }
     ensures same { map port_id ports.new ≡ map port_id ports.old }
     ensures offered { map offered ports.new ≡ map offered ports.old }
+    ensures before { map offered_before ports.new ≡ map offered_before ports.old }
     ensures taken { map taken ports.new ≡ map taken ports.old }
     ensures places { AreAtMost (map known_places ports.old) (map known_places ports.new) }
     ensures rings { map pops_from asks.new.items ≡ map pops_from asks.old.items }
@@ -119,6 +120,7 @@ fn look_ask(port: &mut Port, asks: &mut Consumer<Ask>)
     requires { (port_id port.old).asks ≡ pops_from asks.old }
     ensures same { port_id port.new ≡ port_id port.old }
     ensures offered { offered port.new ≡ offered port.old }
+    ensures before { offered_before port.new ≡ offered_before port.old }
     ensures taken { taken port.new ≡ taken port.old }
     ensures places { known_places port.old ≤ known_places port.new }
     ensures ring { pops_from asks.new ≡ pops_from asks.old }
@@ -133,6 +135,7 @@ fn look_tellings(ports: &mut [Port], tellings: &mut Vec<Producer<Told>>)
         ≡ map pushes_to tellings.old.items }
     ensures same { map port_id ports.new ≡ map port_id ports.old }
     ensures offered { map offered ports.new ≡ map offered ports.old }
+    ensures before { map offered_before ports.new ≡ map offered_before ports.old }
     ensures taken { map taken ports.new ≡ map taken ports.old }
     ensures places { AreAtMost (map known_places ports.old) (map known_places ports.new) }
     ensures rings { map pushes_to tellings.new.items ≡ map pushes_to tellings.old.items }
@@ -150,6 +153,7 @@ fn look_telling(port: &mut Port, tellings: &mut Producer<Told>)
     requires { (port_id port.old).told ≡ pushes_to tellings.old }
     ensures same { port_id port.new ≡ port_id port.old }
     ensures offered { offered port.new ≡ offered port.old }
+    ensures before { offered_before port.new ≡ offered_before port.old }
     ensures taken { taken port.new ≡ taken port.old }
     ensures places { known_places port.old ≤ known_places port.new }
     ensures ring { pushes_to tellings.new ≡ pushes_to tellings.old }

@@ -11,6 +11,7 @@ ghost use Rattle.station_parts.specs.New.{bad_field, IsNewStation, AreNewPorts, 
 use crate::bank::BankSide;
 use crate::lines::Row;
 use crate::parts::{CacheSide, Station};
+use crate::past::Past;
 use crate::port::{ASK_PLACES, Port, TELLING_PLACES};
 use crate::row::Line;
 use cache_unit::CacheUnit;
@@ -19,12 +20,16 @@ use memory_banks::BankAnswer;
 use rtrb::{Consumer, Producer, RingBuffer};
 use station_journal::{Ask, Told};
 use std::alloc::{AllocError, Global};
+use std::snapshot::Snapshot;
 
 /// How many ports a station has at most.
 pub const MAX_PORTS: u32 = 16;
 
 /// How many entries a journal takes at most.
 pub const MAX_ENTRIES: u32 = 1_048_576;
+
+/// How many entries a station notes at most, in all its journals one behind the other: 2^56.
+pub const MAX_NOTED: u64 = 72_057_594_037_927_936;
 
 /// A station of this shape, over a memory of zeros: so many ports (1 to 16), a bank side for each
 /// bank, and a cache side whose journal takes so many entries (1 to 1,048,576).
@@ -61,6 +66,8 @@ pub fn station<const WAYS: usize, const WORDS: usize, const REGS: usize, const D
             tellings: ports.tellings,
             row: Row { lines: banks.lines },
             answers: banks.answers,
+            earlier: Past::none(),
+            handed: 0,
             journal: entries,
             limit: journal,
             fault: None,
@@ -139,11 +146,13 @@ fn add_port(alloc: Global, ends: &mut PortEnds) -> Result<(), AllocError>
 {
     let (asks, from_port) = RingBuffer::new(alloc, ASK_PLACES)?;
     let (to_port, tellings) = RingBuffer::new(alloc, TELLING_PLACES)?;
+    let begun = Snapshot::of(&asks);
     ends.asks.push(from_port)?;
     ends.tellings.push(to_port)?;
     ends.ports.push(Port {
         asks,
         tellings,
+        begun,
         ended: false,
     })?;
     Ok(())

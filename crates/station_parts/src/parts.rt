@@ -1,14 +1,16 @@
 //! The parts of a station.
-ghost use Rattle.std.specs.Prelude.{◌≡◌, ◌≤◌, ℕ, length, vec_capacity, None};
-ghost use Rattle.station_parts.specs.declared.make.TheConstants.{MAX_ENTRIES, MAX_PORTS};
+ghost use Rattle.std.specs.Prelude.{◌≡◌, ◌+◌, ◌≤◌, ◌++◌, ℕ, length, vec_capacity, None};
+ghost use Rattle.station_parts.specs.declared.make.TheConstants.{MAX_ENTRIES, MAX_NOTED, MAX_PORTS};
 ghost use Rattle.cache_unit.specs.Shown.{sizes_of};
 ghost use Rattle.cache_unit.specs.Sound.{InRange};
 ghost use Rattle.station_parts.specs.Rows.{sent_at, popped_at, taken_at};
 ghost use Rattle.station_journal.specs.Side.{SideTells};
 ghost use Rattle.station_parts.specs.Ports.{PortsTell};
+ghost use Rattle.station_parts.specs.Segments.{whole_of};
 
 use crate::bank::BankSide;
 use crate::lines::Row;
+use crate::past::Past;
 use crate::port::Port;
 use cache_unit::CacheUnit;
 use flat_model::Shape;
@@ -38,6 +40,9 @@ pub struct CacheSide<const WAYS: usize, const WORDS: usize, const REGS: usize, c
     pub(crate) tellings: Vec<Producer<Told>>,
     pub(crate) row: Row,
     pub(crate) answers: Vec<Consumer<BankAnswer>>,
+    // The journals that were handed out, and how many entries they had.
+    pub(crate) earlier: Past<Vec<Entry>>,
+    pub(crate) handed: u64,
     pub(crate) journal: Vec<Entry>,
     pub(crate) limit: u32,
     pub(crate) fault: Option<SideFault>,
@@ -48,12 +53,14 @@ pub struct CacheSide<const WAYS: usize, const WORDS: usize, const REGS: usize, c
     ghost small: { limit ≤ MAX_ENTRIES },
     ghost within: { length journal.items ≤ limit },
     ghost reserved: { limit ≤ vec_capacity journal },
+    ghost handed_is: { handed ≡ length (whole_of earlier.values) },
+    ghost lasts: { handed + limit ≤ MAX_NOTED },
     ghost tells: { ∥ SideTells unit.sizes unit.cache (sent_at row.lines.items)
-        (popped_at answers.items) fault journal.items ∥₁ },
+        (popped_at answers.items) fault (whole_of earlier.values ++ journal.items) ∥₁ },
     ghost counted: { fault ≡ None → (b : ℕ) → taken_at row.lines.items b
         ≡ length (popped_at answers.items b) },
     ghost few_ports: { length asks.items ≤ MAX_PORTS },
-    ghost ports: { PortsTell asks.items tellings.items journal.items },
+    ghost ports: { PortsTell asks.items tellings.items (whole_of earlier.values ++ journal.items) },
 }
 
 /// A cache side with its ports and its banks, each in the order of their numbers.

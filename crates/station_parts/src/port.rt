@@ -1,5 +1,5 @@
 //! A port.
-ghost use Rattle.std.specs.Prelude.{◌≡◌};
+ghost use Rattle.std.specs.Prelude.{◌≡◌, ◌≤◌, drop, length};
 ghost use Rattle.std.specs.List.{list_any};
 ghost use Rattle.rtrb.specs.Ring.{sent};
 ghost use Rattle.station_parts.specs.Ports.{is_done};
@@ -7,6 +7,7 @@ ghost use Rattle.station_parts.specs.Ports.{is_done};
 use crate::ends::peek_end;
 use rtrb::{Consumer, Producer};
 use station_journal::{Ask, Told};
+use std::snapshot::Snapshot;
 
 /// How many asks stand at most between a port and the cache side.
 pub const ASK_PLACES: usize = 16;
@@ -19,22 +20,26 @@ pub const TELLING_PLACES: usize = 64;
 pub struct Port {
     pub(crate) asks: Producer<Ask>,
     pub(crate) tellings: Consumer<Told>,
+    // The end of the ring as it was when the port began to ask, or began again.
+    pub(crate) begun: Snapshot<Producer<Ask>>,
     pub(crate) ended: bool,
-    ghost ended_is: { ended ≡ list_any is_done (sent asks) },
+    ghost grown: { length (sent begun.value) ≤ length (sent asks) },
+    ghost ended_is: { ended ≡ list_any is_done (drop (length (sent begun.value)) (sent asks)) },
 }
 
 impl Port {
     ghost use Rattle.std.specs.Prelude.{◌≡◌, ◌<◌, ◌≤◌, ◌+◌, ◌++◌, ◌∷◌, [], true, false, length, OnOk, OnErr, IfErr, IsOk, IsErr, IfSome, IfNone, IsSome, slice_get};
     ghost use mathlib.Core.List.{IsPrefix};
     ghost use Rattle.station_parts.specs.Ids.{port_id};
-    ghost use Rattle.station_parts.specs.Words.{offered, taken, has_ended, known_places, known_tellings};
+    ghost use Rattle.station_parts.specs.Words.{offered, offered_before, taken, has_ended, known_places, known_tellings};
 
     /// Offers an ask to the cache side, after a look at how many free places the ring has.
     ///
     /// The ask comes back, and nothing was offered, if no free place is known, or if the port has
-    /// offered `Done` before.
+    /// offered `Done` before. Behind a renewal of its station it may offer again.
     pub fn offer(&mut self, ask: Ask) -> Result<(), Ask>
         ensures same { port_id self.new ≡ port_id self.old }
+        ensures before { offered_before self.new ≡ offered_before self.old }
         ensures offered { OnOk result (offered self.new ≡ offered self.old ++ ask ∷ []) }
         ensures back { IfErr result (λ given. given ≡ ask) }
         ensures kept { OnErr result (offered self.new ≡ offered self.old) }
@@ -63,6 +68,7 @@ impl Port {
     /// known.
     pub fn take(&mut self) -> Option<Told>
         ensures same { port_id self.new ≡ port_id self.old }
+        ensures before { offered_before self.new ≡ offered_before self.old }
         ensures taken { IfSome result (λ told. taken self.new ≡ taken self.old ++ told ∷ []) }
         ensures first { IfSome result
             (λ told. IsPrefix (known_tellings self.old) (told ∷ known_tellings self.new)) }
@@ -80,6 +86,7 @@ impl Port {
     /// by `offer`, if the port hasn't offered `Done`.
     pub fn known_places(&mut self) -> usize
         ensures same { port_id self.new ≡ port_id self.old }
+        ensures before { offered_before self.new ≡ offered_before self.old }
         ensures places { result ≡ known_places self.new }
         ensures more { known_places self.old ≤ known_places self.new }
         ensures offered { offered self.new ≡ offered self.old }
@@ -89,16 +96,31 @@ impl Port {
         self.asks.slots()
     }
 
-    /// Whether the port has offered `Done`, and so offers nothing more.
+    /// Whether the port has offered `Done`, and so offers nothing more until its station is renewed.
     pub fn has_ended(&self) -> bool
         ensures { result ≡ has_ended self.now }
     {
         self.ended
     }
 
+    /// Begins again: the port may offer more, if it has offered `Done`.
+    pub(crate) fn resume(&mut self)
+        ensures same { port_id self.new ≡ port_id self.old }
+        ensures before { offered_before self.new ≡ offered self.new }
+        ensures again { has_ended self.new ≡ false }
+        ensures offered { offered self.new ≡ offered self.old }
+        ensures taken { taken self.new ≡ taken self.old }
+        ensures places { known_places self.new ≡ known_places self.old }
+        ensures tellings { known_tellings self.new ≡ known_tellings self.old }
+    {
+        self.begun = Snapshot::of(&self.asks);
+        self.ended = false;
+    }
+
     /// How many tellings are known, after a look, and not taken.
     pub fn known_tellings(&mut self) -> usize
         ensures same { port_id self.new ≡ port_id self.old }
+        ensures before { offered_before self.new ≡ offered_before self.old }
         ensures tellings { result ≡ length (known_tellings self.new) }
         ensures more { IsPrefix (known_tellings self.old) (known_tellings self.new) }
         ensures offered { offered self.new ≡ offered self.old }
@@ -112,6 +134,7 @@ impl Port {
     /// known.
     pub fn peek(&mut self) -> Option<Told>
         ensures same { port_id self.new ≡ port_id self.old }
+        ensures before { offered_before self.new ≡ offered_before self.old }
         ensures first { result ≡ slice_get (known_tellings self.new) 0 }
         ensures more { IsPrefix (known_tellings self.old) (known_tellings self.new) }
         ensures offered { offered self.new ≡ offered self.old }

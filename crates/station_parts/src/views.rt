@@ -1,7 +1,7 @@
 //! What the cache side shows.
 ghost use Rattle.std.specs.Prelude.{◌≡◌, length, slice_get};
 ghost use Rattle.cache_unit.specs.Views.{is_clean};
-ghost use Rattle.station_parts.specs.Words.{journal_of, fault_in, cache_in};
+ghost use Rattle.station_parts.specs.Words.{held_of, fault_in, cache_in};
 
 use crate::parts::CacheSide;
 use station_journal::{Entry, SideFault};
@@ -12,16 +12,16 @@ impl<const WAYS: usize, const WORDS: usize, const REGS: usize, const DEPTH: usiz
     REGS,
     DEPTH,
 > {
-    /// How many entries the journal has.
+    /// How many entries the journal has: those since it was begun, or renewed.
     pub fn entries(&self) -> u32
-        ensures { result ≡ length (journal_of self.now) }
+        ensures { result ≡ length (held_of self.now) }
     {
         self.journal.len() as u32
     }
 
     /// The entry of the journal at `place`, oldest first; `None` if there is none.
     pub fn entry(&self, place: u32) -> Option<Entry>
-        ensures { result ≡ slice_get (journal_of self.now) place }
+        ensures { result ≡ slice_get (held_of self.now) place }
     {
         self.journal.get(place as usize).copied()
     }

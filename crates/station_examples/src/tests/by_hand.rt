@@ -8,9 +8,10 @@ use super::{LOAD_5, SHAPE, SmallCache, SmallStation, VALUE, ZEROS};
 use flat_model::{Cause, Lanes, Word};
 use memory_banks::{BankAnswer, Command};
 use ring_station::{
-    Ask, Audit, BankSide, Port, RawBank, Ring, SideFault, Source, Station, Stepped, Told, audit,
-    station,
+    Ask, Audit, BankSide, Port, RawBank, RenewFault, Ring, SideFault, Source, Station, Stepped,
+    Told, audit, renew, station,
 };
+use std::alloc::Global;
 use std::process::Abort;
 use std::test::Fail;
 
@@ -46,12 +47,15 @@ enum RawMove {
     Back(BankAnswer),
 }
 
-/// Moves that are made so many times, and what an audit finds behind them, if there is one.
+/// Moves that are made so many times, and what comes behind them of an audit and of a renewal, if there
+/// is one.
 #[derive(Clone, Copy)]
 struct Stage {
     times: u32,
     moves: &'static [Move],
     audit: Option<Audit>,
+    /// How many entries the renewal hands out, or why it doesn't.
+    renewal: Option<Result<usize, RenewFault>>,
 }
 
 /// A station with one port, and what is done with it.
@@ -69,11 +73,12 @@ struct Story {
     settled: bool,
 }
 
-// Each stage is once and without an audit, if it doesn't say otherwise.
+// Each stage is once, without an audit and without a renewal, if it doesn't say otherwise.
 const ONCE: Stage = Stage {
     times: 1,
     moves: &[],
     audit: None,
+    renewal: None,
 };
 
 const ACCEPTED: Move = Move::Take(Some(Told::Accepted));
@@ -135,6 +140,71 @@ const LOAD: [Stage; 6] = [
     },
     Stage {
         moves: &[Move::Did(Source::Reply(0)), Move::Take(Some(VALUE))],
+        audit: Some(Audit::Clean),
+        ..ONCE
+    },
+];
+
+// A word is loaded three times, and each time the journal is handed out. The first journal has just room
+// for a miss. While something is left or owed it stays; a renewed one is empty, the word's block is still
+// there, and a port that has ended may offer again.
+const RENEWED_TWICE: [Stage; 6] = [
+    Stage {
+        moves: &[Move::Offer(LOAD_5), Move::Did(Source::Ask(0)), ACCEPTED],
+        renewal: Some(Err(RenewFault::NotClean(Audit::Left {
+            ring: Ring::Commands(0),
+        }))),
+        ..ONCE
+    },
+    Stage {
+        moves: &BANKS_SERVE,
+        ..ONCE
+    },
+    Stage {
+        moves: &WORDS_COME,
+        audit: Some(Audit::Owed { count: 1 }),
+        renewal: Some(Err(RenewFault::NotClean(Audit::Owed { count: 1 }))),
+        ..ONCE
+    },
+    Stage {
+        moves: &[
+            Move::Entries(9),
+            Move::Did(Source::Reply(0)),
+            Move::Take(Some(VALUE)),
+            Move::Entries(10),
+            Move::DidNot(Source::Drain, Stepped::JournalFull),
+        ],
+        audit: Some(Audit::Clean),
+        renewal: Some(Ok(10)),
+        ..ONCE
+    },
+    Stage {
+        moves: &[
+            Move::Entries(0),
+            Move::Offer(LOAD_5),
+            Move::Did(Source::Ask(0)),
+            ACCEPTED,
+            Move::Did(Source::Reply(0)),
+            Move::Take(Some(VALUE)),
+            Move::Offer(Ask::Done),
+            Move::Did(Source::Ask(0)),
+            Move::Back(LOAD_5),
+            Move::Entries(3),
+        ],
+        audit: Some(Audit::Clean),
+        renewal: Some(Ok(3)),
+        ..ONCE
+    },
+    Stage {
+        moves: &[
+            Move::Entries(0),
+            Move::Offer(LOAD_5),
+            Move::Did(Source::Ask(0)),
+            ACCEPTED,
+            Move::Did(Source::Reply(0)),
+            Move::Take(Some(VALUE)),
+            Move::Entries(2),
+        ],
         audit: Some(Audit::Clean),
         ..ONCE
     },
@@ -410,10 +480,17 @@ const STORY: Story = Story {
     settled: false,
 };
 
-static STORIES: [Story; 10] = [
+static STORIES: [Story; 11] = [
     Story {
         name: "a load, audited at each step",
         stages: &LOAD,
+        settled: true,
+        ..STORY
+    },
+    Story {
+        name: "a journal, renewed twice",
+        journal: 10,
+        stages: &RENEWED_TWICE,
         settled: true,
         ..STORY
     },
@@ -564,8 +641,48 @@ fn make_stage(
     true
 }
 
-// Makes a stage's moves with a whole station, and its audit.
-fn make_audited(station: &mut SmallStation, stage: &Stage) -> bool
+// Whether an audit finds what it has to, if there is one.
+fn is_audited(
+    cache: &mut SmallCache,
+    ports: &mut [Port],
+    banks: &mut [BankSide],
+    wanted: Option<Audit>,
+) -> bool
+    requires { AreOneStation cache.old ports.old banks.old }
+    ensures cache { cache_id cache.new ≡ cache_id cache.old }
+    ensures ports { map port_id ports.new ≡ map port_id ports.old }
+    ensures banks { map bank_id banks.new ≡ map bank_id banks.old }
+{
+    match wanted {
+        Some(found) => audit(cache, ports, banks) == found,
+        None => true,
+    }
+}
+
+// Whether that comes of a renewal which has to, if there is one.
+fn is_renewed(
+    alloc: Global,
+    cache: &mut SmallCache,
+    ports: &mut [Port],
+    banks: &mut [BankSide],
+    wanted: Option<Result<usize, RenewFault>>,
+) -> bool
+    requires { AreOneStation cache.old ports.old banks.old }
+    ensures cache { cache_id cache.new ≡ cache_id cache.old }
+    ensures ports { map port_id ports.new ≡ map port_id ports.old }
+    ensures banks { map bank_id banks.new ≡ map bank_id banks.old }
+{
+    let Some(wanted) = wanted else {
+        return true;
+    };
+    match renew(alloc, cache, ports, banks) {
+        Ok(segment) => wanted == Ok(segment.len()),
+        Err(fault) => wanted == Err(fault),
+    }
+}
+
+// Makes a stage's moves with a whole station, its audit and its renewal.
+fn make_audited(alloc: Global, station: &mut SmallStation, stage: &Stage) -> bool
     requires one { AreOneStation station.old.cache station.old.ports.items station.old.banks.items }
     requires ports { vec_len station.old.ports ≡ 1 }
     ensures one { AreOneStation station.new.cache station.new.ports.items station.new.banks.items }
@@ -577,19 +694,17 @@ fn make_audited(station: &mut SmallStation, stage: &Stage) -> bool
         banks,
     } = station;
     let did = make_stage(cache, &mut ports[0], banks, &mut None, stage);
-    match stage.audit {
-        Some(found) => did && audit(cache, ports, banks) == found,
-        None => did,
-    }
+    did && is_audited(cache, ports, banks, stage.audit)
+        && is_renewed(alloc, cache, ports, banks, stage.renewal)
 }
 
 // Goes through a story with a whole station.
-fn walk(rt: &impl Abort, station: &mut SmallStation, story: &Story)
+fn walk(rt: &impl Abort, alloc: Global, station: &mut SmallStation, story: &Story)
     requires one { AreOneStation station.old.cache station.old.ports.items station.old.banks.items }
     requires ports { vec_len station.old.ports ≡ 1 }
 {
     for stage in story.stages {
-        assert!(rt; make_audited(station, stage), "{}", story.name);
+        assert!(rt; make_audited(alloc, station, stage), "{}", story.name);
     }
 }
 
@@ -616,7 +731,7 @@ fn stations_by_hand(rt: HostRuntime) -> Result<(), Fail> {
     for story in &STORIES {
         let mut all = station::<1, 4, 2, 2>(rt.alloc(), SHAPE, 1, story.journal)?;
         match story.raw {
-            None => walk(&rt, &mut all, story),
+            None => walk(&rt, rt.alloc(), &mut all, story),
             Some(bank) => walk_raw(&rt, &mut all, bank, story),
         }
         assert_eq!(rt; all.cache.fault(), story.fault, "{}", story.name);

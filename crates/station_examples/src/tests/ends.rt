@@ -164,7 +164,8 @@ fn turns_of(run: &Run) -> Option<[u64; 5]> {
     ])
 }
 
-fn are_lists(lists: &[Vec<Told>], wanted: &[&[Told]]) -> bool {
+/// Whether the ports took just these.
+pub(crate) fn are_lists(lists: &[Vec<Told>], wanted: &[&[Told]]) -> bool {
     lists.len() == wanted.len()
         && lists
             .iter()

@@ -1,4 +1,5 @@
 use Rattle.std.proofs.Common.{rules, ◌∙◌}
+use Rattle.ring_station.proofs.Fitting.{side_fits, few_deep}
 use Rattle.ring_station.proofs.Turning.{turn_notes, noted_more, ended_more, cache_ran, is_served, full_turn}
 use Rattle.ring_station.proofs.cache_thread.run_cache.Goals as goal
 
@@ -6,7 +7,8 @@ pub loop-turn-preserved : goal.loop-turn-preserved
 loop-turn-preserved g c =
     let notes = turn_notes _ _ _ _ _ c.take_turn-stepped.ensures.turn in
     record {
-      same = search rules;
+      same = c.take_turn-stepped.ensures.same ∙ c.loop-turn.invariant.same;
+      earlier = notes.earlier ∙ c.loop-turn.invariant.earlier;
       noted = noted_more _ _ _ _ notes c.loop-turn.invariant.noted;
       ended = ended_more _ _ _ _ _ _ _ notes c.entries-entries.ensures c.has_ended_port.ensures c.still_open-open_ports.ensures
           c.loop-turn.invariant.ended;
@@ -21,11 +23,25 @@ returns-then-is_at_rest g c =
           (ended_more _ _ _ _ _ _ _ notes c.entries-entries.ensures c.has_ended_port.ensures c.still_open-open_ports.ensures
           c.loop-turn.invariant.ended),
     )
-    (c.take_turn-stepped.ensures.same ∙ c.loop-turn.invariant.same) (noted_more _ _ _ _ notes c.loop-turn.invariant.noted)
+    (c.take_turn-stepped.ensures.same ∙ c.loop-turn.invariant.same)
+    (notes.earlier ∙ c.loop-turn.invariant.earlier) (noted_more _ _ _ _ notes c.loop-turn.invariant.noted)
 
 pub returns-then-eq : goal.returns-then-eq
 returns-then-eq g c =
     let notes = turn_notes _ _ _ _ _ c.take_turn-stepped.ensures.turn in
     cache_ran _ _ _ _ _ _ _ c.stopped.ensures (search rules)
     (full_turn _ _ _ _ _ c.take_turn-stepped.ensures.turn (search rules))
-    (c.take_turn-stepped.ensures.same ∙ c.loop-turn.invariant.same) (noted_more _ _ _ _ notes c.loop-turn.invariant.noted)
+    (c.take_turn-stepped.ensures.same ∙ c.loop-turn.invariant.same)
+    (notes.earlier ∙ c.loop-turn.invariant.earlier) (noted_more _ _ _ _ notes c.loop-turn.invariant.noted)
+
+pub entries-entries-requires : goal.entries-entries-requires
+entries-entries-requires g c = side_fits _ (few_deep c.loop-turn.cache)
+
+pub take_turn-stepped-requires : goal.take_turn-stepped-requires
+take_turn-stepped-requires g c = side_fits _ (few_deep c.loop-turn.cache)
+
+pub has_ended_port-requires : goal.has_ended_port-requires
+has_ended_port-requires g c = side_fits _ (few_deep c.loop-turn.cache)
+
+pub is_at_rest-requires : goal.is_at_rest-requires
+is_at_rest-requires g c = side_fits _ (few_deep c.loop-turn.cache)

@@ -15,12 +15,12 @@ loop-turn-init g c = record {
 pub returns-in_default : goal.returns-in_default
 returns-in_default g c =
     let on = c.take_turn.ensures.on c.args.port.now c.loop-turn.invariant.on in
-    port_ran _ _ _ _ _ _ _ _ c.stopped.ensures (search rules) (search rules) on.same on.taken_is
+    port_ran _ _ _ _ _ _ _ _ c.stopped.ensures (search rules) (search rules) on.same on.before on.taken_is
     (moved_more _ _ _ _ _ c.take_turn.ensures.one c.take_turn.ensures.none c.loop-turn.invariant.moved)
 
 pub returns-then-is_over : goal.returns-then-is_over
 returns-then-is_over g c =
     let on = c.take_turn.ensures.on c.args.port.now c.loop-turn.invariant.on in
     port_ran _ _ _ _ _ _ _ _ c.over.ensures (search rules)
-    (search rules, has_run _ _ _ _ _ on (c.is_over.ensures c.if-is_over.true)) on.same on.taken_is
+    (search rules, has_run _ _ _ _ _ on (c.is_over.ensures c.if-is_over.true)) on.same on.before on.taken_is
     (moved_more _ _ _ _ _ c.take_turn.ensures.one c.take_turn.ensures.none c.loop-turn.invariant.moved)

@@ -1,10 +1,20 @@
-use Rattle.std.proofs.Common.{◌≢◌, subst, sym, ◌∙◌}
+use Rattle.std.proofs.Common.{rules, ◌≢◌, ◌≤◌, length, subst, sym, ◌∙◌}
 use Rattle.station_parts.specs.Runs.{AreAnswered}
 use Rattle.station_parts.specs.declared.parts.Audit.{Audit}
 use Rattle.station_parts.specs.declared.parts.Audit.TheVariants.{Faulted}
 use Rattle.station_parts.proofs.Moves.{still_one}
-use Rattle.station_parts.proofs.Auditing.{prefixes_here, bank_true_here, run_here, sources_here, judged_here, never_here, answered_here, conversed_still, whole_here, paid_here, held_here}
+use Rattle.station_parts.proofs.Auditing.{few_of, ask_number, bank_number, prefixes_here, bank_true_here, run_here, sources_here, judged_here, never_here, answered_here, conversed_still, whole_here, paid_here, held_here}
+use Rattle.station_parts.specs.Words.{journal_of}
 use Rattle.station_parts.proofs.inspect.audit.Goals as goal
+
+pub found-requires : goal.found-requires
+found-requires g c =
+    let n = c.look_everywhere.new in
+    let e = c.look_everywhere.ensures in
+    let one = still_one _ _ _ _ _ _ e.same_cache e.same_ports e.same_banks c.requires in
+    let ports : length n.ports ≤ 16 = few_of (ask_number n.cache n.ports n.banks one e.seen) n.cache.few_ports in
+    let banks : length n.banks ≤ 16 = few_of (sym (bank_number n.cache n.ports n.banks one e.seen)) n.cache.in_range.few_banks in
+    (search rules, (ports, banks))
 
 pub returns-clause-never : goal.returns-clause-never
 returns-clause-never g c =
@@ -70,5 +80,5 @@ returns-clause-answered g c scripts lists talked =
     let e = c.look_everywhere.ensures in
     let one = still_one _ _ _ _ _ _ e.same_cache e.same_ports e.same_banks c.requires in
     let still = conversed_still scripts c.args.ports.now n.ports lists e.same_ports e.ports.offered e.ports.taken talked in
-    subst (λ (r : Audit). AreAnswered r n.cache.journal.items lists) (sym c.found.ensures)
+    subst (λ (r : Audit). AreAnswered r (journal_of n.cache) lists) (sym c.found.ensures)
     (answered_here n.cache n.ports n.banks one e.seen scripts lists still)

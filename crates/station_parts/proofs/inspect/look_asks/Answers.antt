@@ -4,7 +4,7 @@ use Rattle.rtrb.specs.Ring.{received}
 use Rattle.station_parts.specs.Rings.{pops_from}
 use Rattle.station_parts.specs.Ids.{PortId, port_id}
 use Rattle.station_parts.specs.Rows.{come_to}
-use Rattle.station_parts.specs.Words.{offered, taken, known_places}
+use Rattle.station_parts.specs.Words.{offered, offered_before, taken, known_places}
 use Rattle.station_parts.specs.declared.port.Port.{Port}
 use Rattle.station_parts.proofs.Moves.{moved}
 use Rattle.station_parts.proofs.Looking.{matched_at, as_long, seen_more, seen_all, at_most_more}
@@ -32,6 +32,8 @@ loop-p-preserved c =
     record {
       same_ids = map-set_same port_id c.loop-p.ports c.loop-p.p c.look_ask.new.port c.index-ports-p.result e.same ∙ i.same_ids;
       same_offered = map-set_same offered c.loop-p.ports c.loop-p.p c.look_ask.new.port c.index-ports-p.result e.offered ∙ i.same_offered;
+      same_before = map-set_same offered_before c.loop-p.ports c.loop-p.p c.look_ask.new.port c.index-ports-p.result e.before
+          ∙ i.same_before;
       same_taken = map-set_same taken c.loop-p.ports c.loop-p.p c.look_ask.new.port c.index-ports-p.result e.taken ∙ i.same_taken;
       same_rings = moved pops_from c.loop-p.asks.items c.loop-p.p c.index_mut.result.now c.look_ask.new.asks c.index_mut.ensures.value
           e.ring ∙ i.same_rings;

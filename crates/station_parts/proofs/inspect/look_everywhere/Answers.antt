@@ -3,6 +3,7 @@ use Rattle.std.proofs.Math.Logic.{∥∥₁_map}
 use Rattle.station_parts.specs.Rings.{pops_from}
 use Rattle.station_parts.specs.Ids.{line_ring}
 use Rattle.station_parts.proofs.Looking.{row_length, tells_looked, ports_looked, counted_looked}
+use Rattle.station_parts.specs.Words.{journal_of}
 use Rattle.station_parts.proofs.inspect.look_everywhere.Goals as goal
 
 pub invariant_of-cache : goal.invariant_of-cache
@@ -20,14 +21,16 @@ invariant_of-cache g c =
       small = s.small;
       within = s.within;
       reserved = s.reserved;
+      handed_is = s.handed_is;
+      lasts = s.lasts;
       tells =
           ∥∥₁_map s.tells
           (tells_looked s.row.lines.items c.look_commands.new.lines.items s.answers.items c.look_answers.new.answers.items s.unit s.fault
-          s.journal.items lines.sent answers.received);
+          (journal_of s) lines.sent answers.received);
       counted = λ sound. counted_looked s.row.lines.items c.look_commands.new.lines.items s.answers.items c.look_answers.new.answers.items
           lines.taken answers.received (s.counted sound);
       few_ports = let n = row_length pops_from s.asks.items c.look_asks.new.asks.items asks.rings in let few = s.few_ports in omega arith;
-      ports = ports_looked s.asks.items c.look_asks.new.asks.items s.tellings.items c.look_tellings.new.tellings.items s.journal.items
+      ports = ports_looked s.asks.items c.look_asks.new.asks.items s.tellings.items c.look_tellings.new.tellings.items (journal_of s)
           asks.rings tellings.rings asks.received tellings.sent s.ports;
     }
 
@@ -39,6 +42,8 @@ returns-clause-cache g c =
     let answers = c.look_answers.ensures in
     record {
       journal = refl;
+      earlier = refl;
+      held = refl;
       fault = refl;
       cache = refl;
       asked = λ p. ap (λ l. slice_index_or l p []) asks.received;
@@ -55,6 +60,7 @@ returns-clause-ports g c =
     let tellings = c.look_tellings.ensures in
     record {
       offered = tellings.offered ∙ asks.offered;
+      before = tellings.before ∙ asks.before;
       taken = tellings.taken ∙ asks.taken;
       for_asks = λ p. let more = asks.places p in let still = tellings.places p in omega arith;
     }

@@ -3,7 +3,7 @@ use Rattle.std.proofs.Math.Seq.{map-set_same}
 use Rattle.rtrb.specs.Ring.{sent, known_free}
 use Rattle.station_parts.specs.Rings.{pushes_to}
 use Rattle.station_parts.specs.Ids.{PortId, port_id}
-use Rattle.station_parts.specs.Words.{offered, taken, told_in_all, known_places}
+use Rattle.station_parts.specs.Words.{offered, offered_before, taken, told_in_all, known_places}
 use Rattle.station_parts.specs.declared.port.Port.{Port}
 use Rattle.station_parts.proofs.Moves.{moved}
 use Rattle.station_parts.proofs.Looking.{matched_at, as_long, seen_more, seen_all, at_most_more, at_most_moved}
@@ -32,6 +32,8 @@ loop-p-preserved c =
       same_ids = map-set_same port_id c.loop-p.ports c.loop-p.p c.look_telling.new.port c.index-ports-p.result e.same ∙ i.same_ids;
       same_offered = map-set_same offered c.loop-p.ports c.loop-p.p c.look_telling.new.port c.index-ports-p.result e.offered
           ∙ i.same_offered;
+      same_before = map-set_same offered_before c.loop-p.ports c.loop-p.p c.look_telling.new.port c.index-ports-p.result e.before
+          ∙ i.same_before;
       same_taken = map-set_same taken c.loop-p.ports c.loop-p.p c.look_telling.new.port c.index-ports-p.result e.taken ∙ i.same_taken;
       same_rings = moved pushes_to c.loop-p.tellings.items c.loop-p.p c.index_mut.result.now c.look_telling.new.tellings
           c.index_mut.ensures.value e.ring ∙ i.same_rings;

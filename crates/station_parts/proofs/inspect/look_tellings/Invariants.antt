@@ -3,7 +3,7 @@ use Rattle.rtrb.specs.Ring.{sent, known_free}
 use Rattle.station_parts.specs.Rings.{pushes_to}
 use Rattle.station_parts.specs.Ids.{port_id}
 use Rattle.station_parts.specs.Audited.{AreAtMost}
-use Rattle.station_parts.specs.Words.{offered, taken, told_in_all, known_places}
+use Rattle.station_parts.specs.Words.{offered, offered_before, taken, told_in_all, known_places}
 use Rattle.station_parts.proofs.inspect.look_tellings.Given as goal
 
 abbrev pub invariant-loop-p : goal.invariant-loop-p
@@ -11,6 +11,7 @@ invariant-loop-p l =
     record {
       same_ids : map port_id l.ports ≡ map port_id l.fn.ports;
       same_offered : map offered l.ports ≡ map offered l.fn.ports;
+      same_before : map offered_before l.ports ≡ map offered_before l.fn.ports;
       same_taken : map taken l.ports ≡ map taken l.fn.ports;
       same_rings : map pushes_to l.tellings.items ≡ map pushes_to l.fn.tellings.items;
       same_sent : map sent l.tellings.items ≡ map sent l.fn.tellings.items;

@@ -1,9 +1,10 @@
-use Rattle.std.proofs.Common.{◌≡◌, refl, sym, ◌∙◌, ap, subst, arith}
+use Rattle.std.proofs.Common.{◌≡◌, refl, sym, ◌∙◌, ap, subst, arith, length}
 use Rattle.std.proofs.lemmas.Grind.{merely}
 use Rattle.cache_unit.specs.State.{UnitState}
 use Rattle.cache_unit.specs.Sound.{InRange}
 use Rattle.cache_unit.specs.Shown.{sizes_of}
 use Rattle.station_parts.proofs.Making.{are_in_range, asks_number, lines_number, answers_number, new_counted, new_tells, new_ports, new_station}
+use Rattle.station_parts.specs.Segments.{whole_of}
 use Rattle.station_parts.proofs.make.station.Goals as goal
 
 pub make_unit-requires : goal.make_unit-requires
@@ -25,6 +26,7 @@ invariant_of-result g c =
     let b = c.in_ok-banks.banks in
     let pn = c.in_ok-ports.ensures in
     let bn = c.in_ok-banks.ensures in
+    let first = c.none.ensures in
     let empty = c.in_ok-entries.ensures.items in
     let many = asks_number s z c.args.ports p.ports.items p.asks.items p.tellings.items b.banks.items b.lines.items b.answers.items pn.new
     pn.number bn.new bn.number in
@@ -38,18 +40,20 @@ invariant_of-result g c =
       small = fits.few_entries;
       within = rw empty (omega arith);
       reserved = c.in_ok-entries.ensures.capacity;
+      handed_is = ap (λ vs. length (whole_of vs)) (sym first);
+      lasts = let few = fits.few_entries in omega arith;
       tells =
-          rw empty
+          rw first (rw empty
           (merely
           (new_tells s z c.args.ports p.ports.items p.asks.items p.tellings.items b.banks.items b.lines.items b.answers.items pn.new
-          pn.number bn.new bn.number u is));
+          pn.number bn.new bn.number u is)));
       counted = λ _. new_counted s z c.args.ports p.ports.items p.asks.items p.tellings.items b.banks.items b.lines.items b.answers.items
           pn.new pn.number bn.new bn.number;
       few_ports = let few = fits.few_ports in omega arith;
       ports =
-          rw empty
+          rw first (rw empty
           (new_ports s z c.args.ports p.ports.items p.asks.items p.tellings.items b.banks.items b.lines.items b.answers.items pn.new
-          pn.number bn.new bn.number);
+          pn.number bn.new bn.number));
     }
 
 pub returns-clause-ok : goal.returns-clause-ok
@@ -61,4 +65,4 @@ returns-clause-ok g c =
     let bn = c.in_ok-banks.ensures in
     new_station c.args.shape z c.args.ports p.ports.items p.asks.items p.tellings.items b.banks.items b.lines.items b.answers.items pn.new
     pn.number bn.new bn.number
-    _ c.args.journal refl refl refl refl refl refl refl c.in_ok-unit.ensures.ok c.in_ok-entries.ensures.items refl refl
+    _ c.args.journal refl refl refl refl refl refl refl c.in_ok-unit.ensures.ok c.none.ensures c.in_ok-entries.ensures.items refl refl

@@ -3,7 +3,8 @@ use Rattle.std.proofs.Math.Bool.{and-false}
 use Rattle.std.proofs.Math.Logic.{∥∥₁_map}
 use Rattle.std.proofs.lemmas.Bool.{lt-ltb, le-ltb}
 use Rattle.memory_banks.specs.Banks.{commands_for}
-use Rattle.cache_unit.specs.State.{Sizes, UnitState}
+use Rattle.cache_unit.specs.declared.Sizes.{Sizes}
+use Rattle.cache_unit.specs.State.{UnitState}
 use Rattle.cache_unit.specs.Sound.{InRange}
 use Rattle.cache_unit.specs.Views.{is_empty}
 use Rattle.station_journal.specs.declared.journal.Source.TheVariants as sources
@@ -18,8 +19,9 @@ use Rattle.station_parts.specs.SideState.{state_of}
 use Rattle.station_parts.specs.SideSteps.{no_words, nothing, noted, asked, answer_of, Makes, EventForms}
 use Rattle.station_parts.proofs.Rows.{same_length}
 use Rattle.station_parts.proofs.SideMakes.{idles, acts, makes_nothing, knows_tellings, knows_asks, popped_none, known_more, first_is, there_popped, noted_so, asked_first}
-use Rattle.station_parts.proofs.Porting.{ports_step, ports_looked}
+use Rattle.station_parts.proofs.Porting.{ports_step, ports_looked, behind}
 use Rattle.station_parts.proofs.AskSteps.{asked_verdict, side_asked, side_ended, only_asked, only_told, only_ended}
+use Rattle.station_parts.specs.Words.{earlier_of, journal_of}
 use Rattle.station_parts.proofs.parts.CacheSide.ask.Goals as goal
 
 pub invariant_of-self : goal.invariant_of-self
@@ -33,10 +35,12 @@ invariant_of-self g c =
       small = s.small;
       within = s.within;
       reserved = s.reserved;
+      handed_is = s.handed_is;
+      lasts = s.lasts;
       tells = s.tells;
       counted = s.counted;
       few_ports = s.few_ports;
-      ports = ports_looked s.asks.items s.asks.items s.tellings.items c.look_at.new.ends.items s.journal.items refl
+      ports = ports_looked s.asks.items s.asks.items s.tellings.items c.look_at.new.ends.items (journal_of s) refl
           c.look_at.ensures.looks.rings s.ports (λ p. refl) c.look_at.ensures.looks.pushed;
     }
 
@@ -51,11 +55,13 @@ invariant_of-self-in_default g c =
       small = s.small;
       within = s.within;
       reserved = s.reserved;
+      handed_is = s.handed_is;
+      lasts = s.lasts;
       tells = s.tells;
       counted = s.counted;
       few_ports = subst (λ n. n ≤ 16) (sym (same_length pops_from s.asks.items c.pop_at.new.ends.items c.in_default.ensures.pops.rings))
           s.few_ports;
-      ports = ports_looked s.asks.items c.pop_at.new.ends.items s.tellings.items c.look_at.new.ends.items s.journal.items
+      ports = ports_looked s.asks.items c.pop_at.new.ends.items s.tellings.items c.look_at.new.ends.items (journal_of s)
           c.in_default.ensures.pops.rings c.look_at.ensures.looks.rings s.ports
           (popped_none s.asks.items c.pop_at.new.ends.items c.args.port c.in_default.ensures.pops) c.look_at.ensures.looks.pushed;
     }
@@ -78,14 +84,17 @@ invariant_of-self-in-Done g c =
       small = s.small;
       within = omega arith;
       reserved = omega (arith, s.reserved, c.push_reserved.ensures.capacity);
-      tells = ∥∥₁_map s.tells (side_ended s.unit (sent_at s.row.lines.items) (popped_at s.answers.items) s.fault s.journal.items
-          c.push_reserved.new.self.items c.args.port c.push_reserved.ensures.items);
+      handed_is = s.handed_is;
+      lasts = s.lasts;
+      tells = ∥∥₁_map s.tells (side_ended s.unit (sent_at s.row.lines.items) (popped_at s.answers.items) s.fault (journal_of s)
+          (earlier_of s ++ c.push_reserved.new.self.items) c.args.port (behind (earlier_of s) _ _ _ c.push_reserved.ensures.items));
       counted = s.counted;
       few_ports = subst (λ n. n ≤ 16) (sym (same_length pops_from s.asks.items c.pop_at.new.ends.items c.in-Some.ensures.pops.rings))
           s.few_ports;
-      ports = ports_step s.asks.items c.pop_at.new.ends.items s.tellings.items c.look_at.new.ends.items s.journal.items
-          c.push_reserved.new.self.items (Ended c.args.port ∷ []) pops.rings c.look_at.ensures.looks.rings s.ports
-          (ap (λ t. t && true) (lt-ltb c.args.port (length s.asks.items) there)) asks tellings c.push_reserved.ensures.items;
+      ports = ports_step s.asks.items c.pop_at.new.ends.items s.tellings.items c.look_at.new.ends.items (journal_of s)
+          (earlier_of s ++ c.push_reserved.new.self.items) (Ended c.args.port ∷ []) pops.rings c.look_at.ensures.looks.rings s.ports
+          (ap (λ t. t && true) (lt-ltb c.args.port (length s.asks.items) there)) asks tellings
+          (behind (earlier_of s) _ _ _ c.push_reserved.ensures.items);
     }
 
 pub verdict_of-requires : goal.verdict_of-requires
@@ -118,18 +127,24 @@ invariant_of-self-2 g c =
       small = s.small;
       within = omega arith;
       reserved = omega (arith, s.reserved, c.push_reserved-2.ensures.capacity);
+      handed_is = s.handed_is;
+      lasts = s.lasts;
       tells = ∥∥₁_map s.tells (λ h. side_asked s.unit c.answer_ask-answer.new.unit (sent_at s.row.lines.items)
           (sent_at c.look_all.new.self.lines.items) (sent_at c.answer_ask-answer.new.row.lines.items) (popped_at s.answers.items) s.fault
-          s.journal.items c.push_reserved-2.new.self.items (free_at c.look_all.new.self.lines.items) c.args.port c.in-Some.ask
+          (journal_of s) (earlier_of s ++ c.push_reserved-2.new.self.items) (free_at c.look_all.new.self.lines.items) c.args.port
+          c.in-Some.ask
           c.event_for.result c.answer_ask-answer.result c.in_default-ask.not-Done c.requires.sound c.event_for.ensures.event h unit
-          c.answer_ask-answer.ensures.steps.answer_is c.look_all.ensures.sent c.answer_ask-answer.ensures.steps.sent c.push_reserved-2.ensures.items);
+          c.answer_ask-answer.ensures.steps.answer_is c.look_all.ensures.sent c.answer_ask-answer.ensures.steps.sent
+          (behind (earlier_of s) _ _ _ c.push_reserved-2.ensures.items));
       counted = λ sound b. c.answer_ask-answer.ensures.steps.kept.taken b ∙ c.look_all.ensures.kept.taken b ∙ s.counted sound b;
       few_ports = subst (λ n. n ≤ 16) (sym (same_length pops_from s.asks.items c.pop_at.new.ends.items c.in-Some.ensures.pops.rings))
           s.few_ports;
-      ports = ports_step s.asks.items c.pop_at.new.ends.items s.tellings.items c.push_at.new.ends.items s.journal.items
-          c.push_reserved-2.new.self.items (Step (sources.Ask c.args.port) c.event_for.result c.answer_ask-answer.result ∷ []) pops.rings
+      ports = ports_step s.asks.items c.pop_at.new.ends.items s.tellings.items c.push_at.new.ends.items (journal_of s)
+          (earlier_of s ++ c.push_reserved-2.new.self.items)
+          (Step (sources.Ask c.args.port) c.event_for.result c.answer_ask-answer.result ∷ []) pops.rings
           (c.push_at.ensures.rings ∙ c.look_at.ensures.looks.rings) s.ports
-          (ap (λ t. t && true) (c.event_for.ensures.sourced (length s.asks.items) there)) asks tellings c.push_reserved-2.ensures.items;
+          (ap (λ t. t && true) (c.event_for.ensures.sourced (length s.asks.items) there)) asks tellings
+          (behind (earlier_of s) _ _ _ c.push_reserved-2.ensures.items);
     }
 
 -- ---- what the step makes
@@ -142,7 +157,7 @@ returns-then-look_at-eq0-clause-makes g c =
     let none = le-ltb 0 (places c.args.port) (omega (arith, c.look_at.ensures.room)) in
     idles (sources.Ask c.args.port) s _ (record s.known { telling_places = places }) (knows_tellings s.known places looks.places)
     (ap (λ t. t && not (is_empty (s.known.asks c.args.port))) none)
-    (makes_nothing s _ refl refl refl (λ p. refl) looks.pushed (λ b. refl) (λ b. refl))
+    (makes_nothing s _ refl refl refl refl (λ p. refl) looks.pushed (λ b. refl) (λ b. refl))
 
 pub returns-in_default-clause-makes : goal.returns-in_default-clause-makes
 returns-in_default-clause-makes g c =
@@ -157,7 +172,7 @@ returns-in_default-clause-makes g c =
     ∙ and-false (nat_lt 0 (places c.args.port)) in
     idles (sources.Ask c.args.port) s _ looked (knows_asks s.known (known_at news) places s.known.command_places
     (known_more olds news c.args.port pops) looks.places (λ b. omega arith)) none
-    (makes_nothing s _ refl refl refl (popped_none olds news c.args.port pops) looks.pushed (λ b. refl) (λ b. refl))
+    (makes_nothing s _ refl refl refl refl (popped_none olds news c.args.port pops) looks.pushed (λ b. refl) (λ b. refl))
 
 pub returns-in-Done-clause-makes : goal.returns-in-Done-clause-makes
 returns-in-Done-clause-makes g c =
@@ -177,7 +192,8 @@ returns-in-Done-clause-makes g c =
     let mine = λ (p : ℕ). ap (λ a. only port (a ∷ []) p) c.in-Done.is ∙ only_ended port p in
     let e = record (nothing s) { entries = Ended port ∷ [] } in
     let makes : Makes _ s looked _ = record {
-      journal = c.push_reserved.ensures.items;
+      earlier = refl;
+      held = c.push_reserved.ensures.items;
       cache = refl;
       fault = refl;
       asked = λ p. pops.popped p ∙ ap (λ l. s.asked p ++ l) (mine p);
@@ -228,7 +244,8 @@ returns-clause-makes g c =
     let mine = only_asked port ask event d.answer not_done refl in
     let told = only_told port event d.answer c.verdict_of.result (ap verdict (sym unit.answer_is) ∙ c.verdict_of.ensures) in
     let makes : Makes _ s looked _ = record {
-      journal = noted_so s.journal c.push_reserved-2.new.self.items (sources.Ask port) c.event_for.result event c.answer_ask-answer.result
+      earlier = refl;
+      held = noted_so s.held c.push_reserved-2.new.self.items (sources.Ask port) c.event_for.result event c.answer_ask-answer.result
           d.answer c.push_reserved-2.ensures.items c.event_for.ensures.event unit.answer_is;
       cache = cache;
       fault = refl;

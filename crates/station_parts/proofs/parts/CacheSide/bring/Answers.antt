@@ -6,7 +6,8 @@ use Rattle.std.proofs.lemmas.Bool.{lt-ltb, le-ltb}
 use Rattle.flat_model.specs.declared.Event.TheVariants.{Arrive}
 use Rattle.flat_model.specs.declared.Answer.TheVariants.{Moved}
 use Rattle.memory_banks.specs.Banks.{commands_for}
-use Rattle.cache_unit.specs.State.{Sizes, UnitState}
+use Rattle.cache_unit.specs.declared.Sizes.{Sizes}
+use Rattle.cache_unit.specs.State.{UnitState}
 use Rattle.cache_unit.specs.Steps.{arrive_step}
 use Rattle.cache_unit.specs.FormLaws.{ArriveForms}
 use Rattle.cache_unit.specs.Sound.{InRange}
@@ -25,7 +26,8 @@ use Rattle.station_parts.specs.SideSteps.{noted, brought, arrives, answer_of, Ma
 use Rattle.station_parts.proofs.Rows.{same_length, only-here}
 use Rattle.station_parts.proofs.WordFaults.{arrive_silent, counts_called, counts_uncalled, fault-uncalled, fault-stray, fault-none}
 use Rattle.station_parts.proofs.SideMakes.{knows_same, knows_words, idles, acts, makes_nothing, makes_lost, answered_so, popped_none, popped_one, popped_others, known_more, first_is, there_popped}
-use Rattle.station_parts.proofs.Porting.{ports_silent}
+use Rattle.station_parts.proofs.Porting.{ports_silent, behind, within_all}
+use Rattle.station_parts.specs.Words.{earlier_of, journal_of}
 use Rattle.station_parts.proofs.parts.CacheSide.bring.Goals as goal
 
 pub invariant_of-self : goal.invariant_of-self
@@ -41,8 +43,10 @@ invariant_of-self g c =
       few_ports = s.few_ports;
       within = s.within;
       reserved = s.reserved;
+      handed_is = s.handed_is;
+      lasts = s.lasts;
       tells = ∥∥₁_map s.tells (none_popped s.unit (sent_at s.row.lines.items) (popped_at s.answers.items)
-          (popped_at c.pop_at.new.ends.items) s.fault s.journal.items same);
+          (popped_at c.pop_at.new.ends.items) s.fault (journal_of s) same);
       counted = λ sound b. s.counted sound b ∙ ap length (sym (same b));
       ports = s.ports;
     }
@@ -63,9 +67,12 @@ invariant_of-self-then-not-is_called g c =
       few_ports = s.few_ports;
       within = s.within;
       reserved = s.reserved;
+      handed_is = s.handed_is;
+      lasts = s.lasts;
       tells = ∥∥₁_map s.tells (λ h. uncalled s.unit.sizes s.in_range s.unit.cache (sent_at s.row.lines.items) (popped_at s.answers.items)
-          (popped_at c.pop_at.new.ends.items) s.journal.items c.args.bank c.in-Some.word here more others
-          (taken_at s.row.lines.items c.args.bank) s.limit (s.counted c.requires.sound c.args.bank) s.within s.small s.fault
+          (popped_at c.pop_at.new.ends.items) (journal_of s) c.args.bank c.in-Some.word here more others
+          (taken_at s.row.lines.items c.args.bank) (s.handed + s.limit) (s.counted c.requires.sound c.args.bank)
+          (within_all (earlier_of s) s.journal.items s.handed s.limit s.handed_is s.within) s.lasts s.fault
           c.requires.sound h (sym c.is_called.ensures ∙ c.if-not-is_called.true));
       counted = λ sound b. cc;
       ports = s.ports;
@@ -94,10 +101,13 @@ invariant_of-self-in_default-arrive g c =
       few_ports = s.few_ports;
       within = s.within;
       reserved = s.reserved;
+      handed_is = s.handed_is;
+      lasts = s.lasts;
       tells = ∥∥₁_map s.tells (λ h. side_stray s.unit c.arrive.new.self (sent_at s.row.lines.items) (popped_at c.pop_at.new.ends.items) _
-          s.journal.items c.in-Some.word no_register unit (stray s.unit.sizes s.in_range s.unit.cache (sent_at s.row.lines.items)
-          (popped_at s.answers.items) (popped_at c.pop_at.new.ends.items) s.journal.items c.args.bank c.in-Some.word here more others
-          (taken_at s.row.lines.items c.args.bank) s.limit (s.counted c.requires.sound c.args.bank) s.within s.small s.fault
+          (journal_of s) c.in-Some.word no_register unit (stray s.unit.sizes s.in_range s.unit.cache (sent_at s.row.lines.items)
+          (popped_at s.answers.items) (popped_at c.pop_at.new.ends.items) (journal_of s) c.args.bank c.in-Some.word here more others
+          (taken_at s.row.lines.items c.args.bank) (s.handed + s.limit) (s.counted c.requires.sound c.args.bank)
+          (within_all (earlier_of s) s.journal.items s.handed s.limit s.handed_is s.within) s.lasts s.fault
           c.requires.sound h (sym c.is_called.ensures ∙ c.if-not-is_called.false) no_register.cause));
       counted = λ sound b. cc;
       ports = s.ports;
@@ -127,16 +137,19 @@ invariant_of-self-2 g c =
       few_ports = s.few_ports;
       within = omega arith;
       reserved = omega (arith, s.reserved, c.push_reserved.ensures.capacity);
+      handed_is = s.handed_is;
+      lasts = s.lasts;
       tells = ∥∥₁_map s.tells (λ h. side_word s.unit c.arrive.new.self sent (sent_at c.note_word.new.self.lines.items) popped popped'
-          s.fault s.journal.items c.push_reserved.new.self.items c.args.bank c.in-Some.word Moved c.requires.sound here
-          (called s.unit.sizes s.in_range s.unit.cache sent popped popped' s.journal.items c.args.bank c.in-Some.word here more others
-          (taken_at s.row.lines.items c.args.bank) s.limit (s.counted c.requires.sound c.args.bank) s.within s.small s.fault
+          s.fault (journal_of s) (earlier_of s ++ c.push_reserved.new.self.items) c.args.bank c.in-Some.word Moved c.requires.sound here
+          (called s.unit.sizes s.in_range s.unit.cache sent popped popped' (journal_of s) c.args.bank c.in-Some.word here more others
+          (taken_at s.row.lines.items c.args.bank) (s.handed + s.limit) (s.counted c.requires.sound c.args.bank)
+          (within_all (earlier_of s) s.journal.items s.handed s.limit s.handed_is s.within) s.lasts s.fault
           c.requires.sound h (sym c.is_called.ensures ∙ c.if-not-is_called.false)) more others c.note_word.ensures.sent
-          (sym c.in-Moved.is ∙ c.arrive.ensures.answer) refl unit c.push_reserved.ensures.items h);
+          (sym c.in-Moved.is ∙ c.arrive.ensures.answer) refl unit (behind (earlier_of s) _ _ _ c.push_reserved.ensures.items) h);
       counted = λ sound b. counts (taken_at s.row.lines.items) (taken_at c.note_word.new.self.lines.items) popped popped' c.args.bank
           c.in-Some.word (s.counted sound) more others c.note_word.ensures.here c.note_word.ensures.others b;
-      ports = ports_silent _ _ s.journal.items _ _ _ _ s.ports (word_is_of (length s.asks.items) c.args.bank) (λ p. refl) (λ p. refl)
-          c.push_reserved.ensures.items;
+      ports = ports_silent _ _ (journal_of s) _ _ _ _ s.ports (word_is_of (length s.asks.items) c.args.bank) (λ p. refl) (λ p. refl)
+          (behind (earlier_of s) _ _ _ c.push_reserved.ensures.items);
     }
 
 -- ---- what the step makes
@@ -159,7 +172,7 @@ returns-then-stack_len-clause-makes g c =
     let depth : s.sizes.depth ≡ g.row.DEPTH = ap (λ (z : Sizes). z.depth) c.args.self.now.shaped in
     let full = le-ltb (length s.cache.stack) s.sizes.depth (omega (arith, c.stack_len.ensures)) in
     idles (sources.Word c.args.bank) s s s.known (knows_same s.known) (ap (λ t. t && not (is_empty (s.known.words c.args.bank))) full)
-    (makes_nothing s s refl refl refl (λ p. refl) (λ p. refl) (λ b. refl) (λ b. refl))
+    (makes_nothing s s refl refl refl refl (λ p. refl) (λ p. refl) (λ b. refl) (λ b. refl))
 
 pub returns-in_default-clause-makes : goal.returns-in_default-clause-makes
 returns-in_default-clause-makes g c =
@@ -171,7 +184,7 @@ returns-in_default-clause-makes g c =
     let none = ap (λ l. room && not (is_empty l)) c.in_default.ensures.none ∙ and-false room in
     idles (sources.Word c.args.bank) s _ (record s.known { words = known_at news })
     (knows_words s.known (known_at news) (known_more olds news c.args.bank pops)) none
-    (makes_nothing s _ refl refl refl (λ p. refl) (λ p. refl) (λ b. refl) (popped_none olds news c.args.bank pops))
+    (makes_nothing s _ refl refl refl refl (λ p. refl) (λ p. refl) (λ b. refl) (popped_none olds news c.args.bank pops))
 
 pub returns-then-not-is_called-clause-makes : goal.returns-then-not-is_called-clause-makes
 returns-then-not-is_called-clause-makes g c =
@@ -192,12 +205,14 @@ returns-then-not-is_called-clause-makes g c =
     let more = popped_one olds news bank a pops in
     let others = popped_others olds news bank a pops in
     let beyond = ∥∥₁_elim self.tells (hlevel props) (λ h. counts_uncalled self.unit.sizes self.in_range self.unit.cache s.commands s.words
-    (popped_at news) self.journal.items bank a here more others (taken_at self.row.lines.items bank) self.limit
-    (self.counted c.requires.sound bank) self.within self.small self.fault c.requires.sound h
+    (popped_at news) (journal_of self) bank a here more others (taken_at self.row.lines.items bank)
+    (self.handed + self.limit) (self.counted c.requires.sound bank)
+    (within_all (earlier_of self) self.journal.items self.handed self.limit self.handed_is self.within) self.lasts self.fault
+    c.requires.sound h
     (sym c.is_called.ensures ∙ c.if-not-is_called.true)) in
     let work = ap (brought s bank) first ∙ ap (arrives s bank a) (fault-uncalled s bank a beyond) in
     acts (sources.Word bank) s _ looked (knows_words s.known words pops.known) (arrives s bank a (Some (Uncalled bank))) Faulted some work
-    refl (makes_lost s _ bank a (Uncalled bank) words refl refl refl refl refl refl pops.popped (λ b. refl) refl refl refl) tt
+    refl (makes_lost s _ bank a (Uncalled bank) words refl refl refl refl refl refl refl pops.popped (λ b. refl) refl refl refl) tt
 
 pub returns-in_default-arrive : goal.returns-in_default-arrive
 returns-in_default-arrive g c =
@@ -218,8 +233,10 @@ returns-in_default-arrive g c =
     let more = popped_one olds news bank a pops in
     let others = popped_others olds news bank a pops in
     let called = ∥∥₁_elim self.tells (hlevel props) (λ h. counts_called self.unit.sizes self.in_range self.unit.cache s.commands s.words
-    (popped_at news) self.journal.items bank a here more others (taken_at self.row.lines.items bank) self.limit
-    (self.counted c.requires.sound bank) self.within self.small self.fault c.requires.sound h
+    (popped_at news) (journal_of self) bank a here more others (taken_at self.row.lines.items bank)
+    (self.handed + self.limit) (self.counted c.requires.sound bank)
+    (within_all (earlier_of self) self.journal.items self.handed self.limit self.handed_is self.within) self.lasts self.fault
+    c.requires.sound h
     (sym c.is_called.ensures ∙ c.if-not-is_called.false)) in
     let not_moved = λ (e : (arrive_step s.sizes s.cache a.slot a.i a.word).answer ≡ Moved). c.in_default-arrive.not-Moved
     (c.arrive.ensures.answer ∙ e) in
@@ -230,7 +247,8 @@ returns-in_default-arrive g c =
     let id = cache_id self in
     record {
       makes = acts (sources.Word bank) s _ looked (knows_words s.known words pops.known) (arrives s bank a (Some (Stray bank a.slot a.i)))
-          Faulted some work refl (makes_lost s _ bank a (Stray bank a.slot a.i) words refl cache refl refl refl refl pops.popped (λ b. refl)
+          Faulted some work refl (makes_lost s _ bank a (Stray bank a.slot a.i) words refl refl cache refl refl refl refl pops.popped
+          (λ b. refl)
           refl refl refl) tt;
       same = λ i. record id { answers = pops.rings i; sizes = sizes i };
     }
@@ -254,8 +272,10 @@ returns-clause-makes g c =
     let more = popped_one olds news bank a pops in
     let others = popped_others olds news bank a pops in
     let called = ∥∥₁_elim self.tells (hlevel props) (λ h. counts_called self.unit.sizes self.in_range self.unit.cache s.commands s.words
-    (popped_at news) self.journal.items bank a here more others (taken_at self.row.lines.items bank) self.limit
-    (self.counted c.requires.sound bank) self.within self.small self.fault c.requires.sound h
+    (popped_at news) (journal_of self) bank a here more others (taken_at self.row.lines.items bank)
+    (self.handed + self.limit) (self.counted c.requires.sound bank)
+    (within_all (earlier_of self) self.journal.items self.handed self.limit self.handed_is self.within) self.lasts self.fault
+    c.requires.sound h
     (sym c.is_called.ensures ∙ c.if-not-is_called.false)) in
     let source = sources.Word bank in
     let d = arrive_step s.sizes s.cache a.slot a.i a.word in
@@ -265,7 +285,8 @@ returns-clause-makes g c =
     let work = ap (brought s bank) first ∙ ap (arrives s bank a) (fault-none s bank a called moves) in
     let silent = arrive_silent s.sizes s.cache a.slot a.i a.word in
     let makes : Makes _ s looked _ = record {
-      journal = answered_so s.journal c.push_reserved.new.self.items source (Arrive bank 0) Moved d.answer c.push_reserved.ensures.items
+      earlier = refl;
+      held = answered_so s.held c.push_reserved.new.self.items source (Arrive bank 0) Moved d.answer c.push_reserved.ensures.items
           (sym moves);
       cache = cache;
       fault = refl;

@@ -8,6 +8,7 @@ use Rattle.station_parts.specs.Rows.{free_at}
 use Rattle.station_parts.specs.SideState.{state_of}
 use Rattle.station_parts.proofs.Rows.{same_length}
 use Rattle.station_parts.proofs.SideMakes.{knows_lines}
+use Rattle.station_parts.specs.Words.{journal_of}
 use Rattle.station_parts.proofs.parts.CacheSide.command_places.Goals as goal
 
 pub invariant_of-self : goal.invariant_of-self
@@ -22,7 +23,9 @@ invariant_of-self g c =
       few_ports = s.few_ports;
       within = s.within;
       reserved = s.reserved;
-      tells = ∥∥₁_map s.tells (side_looked s.unit _ _ _ s.fault s.journal.items c.look.ensures.looks.sent);
+      handed_is = s.handed_is;
+      lasts = s.lasts;
+      tells = ∥∥₁_map s.tells (side_looked s.unit _ _ _ s.fault (journal_of s) c.look.ensures.looks.sent);
       counted = λ sound b. c.look.ensures.looks.kept.taken b ∙ s.counted sound b;
       ports = s.ports;
     }
@@ -32,7 +35,8 @@ returns-clause-looks g c =
     let s = state_of c.args.self.now in
     let looks = c.look.ensures.looks in
     record {
-      journal = refl;
+      earlier = refl;
+      held = refl;
       cache = refl;
       fault = refl;
       asked = λ p. refl;

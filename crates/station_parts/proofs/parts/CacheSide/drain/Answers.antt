@@ -3,7 +3,8 @@ use Rattle.std.proofs.Math.Logic.{∥∥₁_map}
 use Rattle.std.proofs.lemmas.Bool.{lt-ltb, le-ltb}
 use Rattle.flat_model.specs.declared.Event.TheVariants as events
 use Rattle.memory_banks.specs.Banks.{commands_for}
-use Rattle.cache_unit.specs.State.{Sizes, UnitState}
+use Rattle.cache_unit.specs.declared.Sizes.{Sizes}
+use Rattle.cache_unit.specs.State.{UnitState}
 use Rattle.cache_unit.specs.Steps.{drain_step}
 use Rattle.cache_unit.specs.FormLaws.{DrainForms}
 use Rattle.cache_unit.specs.Sound.{InRange}
@@ -17,7 +18,8 @@ use Rattle.station_parts.specs.SideState.{state_of}
 use Rattle.station_parts.specs.SideSteps.{no_words, noted, answer_of}
 use Rattle.station_parts.proofs.Rows.{same_length}
 use Rattle.station_parts.proofs.SideMakes.{knows_same, knows_lines, idles, acts, makes_nothing, makes_unit, drains_none, drains_first}
-use Rattle.station_parts.proofs.Porting.{ports_silent}
+use Rattle.station_parts.proofs.Porting.{ports_silent, behind}
+use Rattle.station_parts.specs.Words.{earlier_of, journal_of}
 use Rattle.station_parts.proofs.parts.CacheSide.drain.Goals as goal
 
 pub nonzero_rem-front : goal.nonzero_rem-front
@@ -38,7 +40,9 @@ invariant_of-self g c =
       few_ports = s.few_ports;
       within = s.within;
       reserved = s.reserved;
-      tells = ∥∥₁_map s.tells (side_looked s.unit _ _ _ s.fault s.journal.items c.look.ensures.looks.sent);
+      handed_is = s.handed_is;
+      lasts = s.lasts;
+      tells = ∥∥₁_map s.tells (side_looked s.unit _ _ _ s.fault (journal_of s) c.look.ensures.looks.sent);
       counted = λ sound b. c.look.ensures.looks.kept.taken b ∙ s.counted sound b;
       ports = s.ports;
     }
@@ -61,11 +65,15 @@ invariant_of-self-2 g c =
       few_ports = s.few_ports;
       within = omega arith;
       reserved = omega (arith, s.reserved, c.push_reserved.ensures.capacity);
-      tells = ∥∥₁_map s.tells (λ h. side_drain s.unit c.drain-answer.new.self _ _ _ _ s.fault s.journal.items c.push_reserved.new.self.items
+      handed_is = s.handed_is;
+      lasts = s.lasts;
+      tells = ∥∥₁_map s.tells (λ h. side_drain s.unit c.drain-answer.new.self _ _ _ _ s.fault (journal_of s)
+          (earlier_of s ++ c.push_reserved.new.self.items)
           _ c.drain-answer.result (omega (arith, s.in_range.some_words)) c.requires.sound h unit c.drain-answer.ensures.answer
-          c.look.ensures.looks.sent c.drain-answer.ensures.lines.queued c.push_reserved.ensures.items);
+          c.look.ensures.looks.sent c.drain-answer.ensures.lines.queued (behind (earlier_of s) _ _ _ c.push_reserved.ensures.items));
       counted = λ sound b. c.drain-answer.ensures.lines.kept.taken b ∙ c.look.ensures.looks.kept.taken b ∙ s.counted sound b;
-      ports = ports_silent _ _ s.journal.items _ _ _ _ s.ports refl (λ p. refl) (λ p. refl) c.push_reserved.ensures.items;
+      ports = ports_silent _ _ (journal_of s) _ _ _ _ s.ports refl (λ p. refl) (λ p. refl)
+          (behind (earlier_of s) _ _ _ c.push_reserved.ensures.items);
     }
 
 -- ---- what the step makes
@@ -74,7 +82,7 @@ pub returns-in_default-clause-makes : goal.returns-in_default-clause-makes
 returns-in_default-clause-makes g c =
     let s = state_of c.args.self.now in
     let none = drains_none s.sizes s.known.command_places s.cache.queue (sym c.queue_entry.ensures ∙ c.in_default.is) in
-    idles sources.Drain s s s.known (knows_same s.known) none (makes_nothing s s refl refl refl (λ p. refl) (λ p. refl) (λ b. refl)
+    idles sources.Drain s s s.known (knows_same s.known) none (makes_nothing s s refl refl refl refl (λ p. refl) (λ p. refl) (λ b. refl)
     (λ b. refl))
 
 pub returns-then-look-eq0-clause-makes : goal.returns-then-look-eq0-clause-makes
@@ -89,7 +97,7 @@ returns-then-look-eq0-clause-makes g c =
     let none = drains_first s.sizes free s.cache.queue front (sym c.queue_entry.ensures ∙ c.in-Some.is) ∙ ap (λ b. nat_lt 0 (free b)) bank
     ∙ full in
     idles sources.Drain s _ (record s.known { command_places = free }) (knows_lines s.known free looks.free) none
-    (makes_nothing s _ refl refl refl (λ p. refl) (λ p. refl) looks.sent (λ b. refl))
+    (makes_nothing s _ refl refl refl refl (λ p. refl) (λ p. refl) looks.sent (λ b. refl))
 
 pub returns-clause-makes : goal.returns-clause-makes
 returns-clause-makes g c =
@@ -107,7 +115,8 @@ returns-clause-makes g c =
     let unit = c.drain-answer.ensures in
     let cache = ap (λ (u : UnitState). u.cache) unit.unit in
     let commands = λ (b : ℕ). unit.lines.queued b ∙ ap (λ l. l ++ commands_for b d.sent) (looks.sent b) in
-    let makes = makes_unit s _ sources.Drain events.Drain d c.drain-answer.result free (λ p. refl) (λ p. refl) c.push_reserved.ensures.items
+    let makes = makes_unit s _ sources.Drain events.Drain d c.drain-answer.result free (λ p. refl) (λ p. refl) refl
+    c.push_reserved.ensures.items
     unit.answer cache refl refl refl refl commands (λ b. sym (unit.lines.rooms b)) in
     let forms = subst₂ (λ a k. DrainForms s.sizes s.cache a k) unit.answer cache unit.forms in
     acts sources.Drain s _ looked (knows_lines s.known free looks.free) (noted s sources.Drain events.Drain d no_words) Did some refl

@@ -6,6 +6,7 @@ use Rattle.station_parts.specs.SideState.{state_of}
 use Rattle.station_parts.proofs.Rows.{same_length}
 use Rattle.station_parts.proofs.SideMakes.{knows_asks, popped_none, known_more}
 use Rattle.station_parts.proofs.Porting.{ports_looked}
+use Rattle.station_parts.specs.Words.{journal_of}
 use Rattle.station_parts.proofs.parts.CacheSide.known_asks.Goals as goal
 
 pub invariant_of-self : goal.invariant_of-self
@@ -20,10 +21,12 @@ invariant_of-self g c =
       small = s.small;
       within = s.within;
       reserved = s.reserved;
+      handed_is = s.handed_is;
+      lasts = s.lasts;
       tells = s.tells;
       counted = s.counted;
       few_ports = subst (λ n. n ≤ 16) (sym (same_length pops_from s.asks.items c.count_at.new.ends.items pops.rings)) s.few_ports;
-      ports = ports_looked s.asks.items c.count_at.new.ends.items s.tellings.items s.tellings.items s.journal.items pops.rings refl s.ports
+      ports = ports_looked s.asks.items c.count_at.new.ends.items s.tellings.items s.tellings.items (journal_of s) pops.rings refl s.ports
           (popped_none s.asks.items c.count_at.new.ends.items c.args.port pops) (λ p. refl);
     }
 
@@ -34,7 +37,8 @@ returns-clause-looks g c =
     let new = c.count_at.new.ends.items in
     let pops = c.count_at.ensures.looks in
     record {
-      journal = refl;
+      earlier = refl;
+      held = refl;
       cache = refl;
       fault = refl;
       asked = popped_none old new c.args.port pops;

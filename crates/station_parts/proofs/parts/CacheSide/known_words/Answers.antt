@@ -7,6 +7,7 @@ use Rattle.station_parts.specs.Rows.{sent_at, popped_at, known_at}
 use Rattle.station_parts.specs.SideState.{state_of}
 use Rattle.station_parts.proofs.Rows.{same_length}
 use Rattle.station_parts.proofs.SideMakes.{knows_words, popped_none, known_more}
+use Rattle.station_parts.specs.Words.{journal_of}
 use Rattle.station_parts.proofs.parts.CacheSide.known_words.Goals as goal
 
 pub invariant_of-self : goal.invariant_of-self
@@ -23,8 +24,10 @@ invariant_of-self g c =
       few_ports = s.few_ports;
       within = s.within;
       reserved = s.reserved;
+      handed_is = s.handed_is;
+      lasts = s.lasts;
       tells = ∥∥₁_map s.tells (none_popped s.unit (sent_at s.row.lines.items) (popped_at s.answers.items)
-          (popped_at c.count_at.new.ends.items) s.fault s.journal.items same);
+          (popped_at c.count_at.new.ends.items) s.fault (journal_of s) same);
       counted = λ sound b. s.counted sound b ∙ ap length (sym (same b));
       ports = s.ports;
     }
@@ -36,7 +39,8 @@ returns-clause-looks g c =
     let new = c.count_at.new.ends.items in
     let pops = c.count_at.ensures.looks in
     record {
-      journal = refl;
+      earlier = refl;
+      held = refl;
       cache = refl;
       fault = refl;
       asked = λ p. refl;

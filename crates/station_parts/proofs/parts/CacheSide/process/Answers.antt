@@ -13,26 +13,28 @@ use Rattle.station_parts.specs.declared.parts.Stepped.TheVariants.{Did}
 use Rattle.station_parts.specs.SideState.{state_of}
 use Rattle.station_parts.specs.SideSteps.{no_words, noted, answer_of}
 use Rattle.station_parts.proofs.SideMakes.{knows_same, idles, acts, makes_nothing, makes_unit}
-use Rattle.station_parts.proofs.Porting.{ports_silent}
+use Rattle.station_parts.proofs.Porting.{ports_silent, behind}
+use Rattle.station_parts.specs.Words.{earlier_of, journal_of}
 use Rattle.station_parts.proofs.parts.CacheSide.process.Goals as goal
 
 pub invariant_of-self-clause-tells : goal.invariant_of-self-clause-tells
 invariant_of-self-clause-tells g c =
     ∥∥₁_map c.args.self.now.tells (λ h. side_process c.args.self.now.unit c.process-answer.new.self _ _ c.args.self.now.fault
-    c.args.self.now.journal.items c.push_reserved.new.self.items c.args.place c.process-answer.result c.requires.sound h
-    c.process-answer.ensures.unit c.process-answer.ensures.answer c.push_reserved.ensures.items)
+    (journal_of c.args.self.now) (earlier_of c.args.self.now ++ c.push_reserved.new.self.items) c.args.place
+    c.process-answer.result c.requires.sound h
+    c.process-answer.ensures.unit c.process-answer.ensures.answer (behind (earlier_of c.args.self.now) _ _ _ c.push_reserved.ensures.items))
 
 pub invariant_of-self-clause-ports : goal.invariant_of-self-clause-ports
 invariant_of-self-clause-ports g c =
-    ports_silent _ _ c.args.self.now.journal.items _ _ _ _ c.args.self.now.ports (eq-eqb c.args.place c.args.place refl) (λ p. refl)
-    (λ p. refl) c.push_reserved.ensures.items
+    ports_silent _ _ (journal_of c.args.self.now) _ _ _ _ c.args.self.now.ports (eq-eqb c.args.place c.args.place refl) (λ p. refl)
+    (λ p. refl) (behind (earlier_of c.args.self.now) _ _ _ c.push_reserved.ensures.items)
 
 pub returns-then-place-stack_len-clause-makes : goal.returns-then-place-stack_len-clause-makes
 returns-then-place-stack_len-clause-makes g c =
     let s = state_of c.args.self.now in
     let none : length s.cache.stack ≤ c.args.place = omega (arith, c.stack_len.ensures) in
     idles (Stack c.args.place) s s s.known (knows_same s.known) (le-ltb c.args.place (length s.cache.stack) none)
-    (makes_nothing s s refl refl refl (λ p. refl) (λ p. refl) (λ b. refl) (λ b. refl))
+    (makes_nothing s s refl refl refl refl (λ p. refl) (λ p. refl) (λ b. refl) (λ b. refl))
 
 pub returns-clause-makes : goal.returns-clause-makes
 returns-clause-makes g c =
@@ -49,5 +51,5 @@ returns-clause-makes g c =
     acts source s _ s.known (knows_same s.known) (noted s source (Process c.args.place) d no_words) Did
     (lt-ltb c.args.place (length s.cache.stack) there) refl (ap (answer_of true) (sym c.requires.sound))
     (makes_unit s _ source (Process c.args.place) d c.process-answer.result s.known.command_places (λ p. refl) (λ p. refl)
-    c.push_reserved.ensures.items unit.answer cache refl refl refl refl commands free)
+    refl c.push_reserved.ensures.items unit.answer cache refl refl refl refl commands free)
     (subst₂ (λ a k. ProcessForms s.sizes s.cache a k) unit.answer cache unit.forms, tt)

@@ -3,7 +3,8 @@ use Rattle.std.proofs.Math.Logic.{∥∥₁_map}
 use Rattle.std.proofs.lemmas.Bool.{lt-ltb, le-ltb}
 use Rattle.flat_model.specs.declared.Event.TheVariants.{Take}
 use Rattle.memory_banks.specs.Banks.{commands_for}
-use Rattle.cache_unit.specs.State.{Sizes, UnitState}
+use Rattle.cache_unit.specs.declared.Sizes.{Sizes}
+use Rattle.cache_unit.specs.State.{UnitState}
 use Rattle.cache_unit.specs.Steps.{take_step}
 use Rattle.cache_unit.specs.FormLaws.{TakenForms}
 use Rattle.cache_unit.specs.Sound.{InRange}
@@ -16,8 +17,9 @@ use Rattle.station_parts.specs.Rows.{sent_at, popped_at, received_at, room_at}
 use Rattle.station_parts.specs.SideState.{state_of}
 use Rattle.station_parts.specs.SideSteps.{no_words, noted, answer_of, Makes}
 use Rattle.station_parts.proofs.SideMakes.{knows_same, knows_tellings, idles, acts, makes_nothing, answered_so, tells_none, tells_first}
-use Rattle.station_parts.proofs.Porting.{ports_step, ports_looked}
+use Rattle.station_parts.proofs.Porting.{ports_step, ports_looked, behind}
 use Rattle.station_parts.proofs.ReplySteps.{shown_taken, side_replied, only_value}
+use Rattle.station_parts.specs.Words.{earlier_of, journal_of}
 use Rattle.station_parts.proofs.parts.CacheSide.reply.Goals as goal
 
 pub invariant_of-self : goal.invariant_of-self
@@ -31,10 +33,12 @@ invariant_of-self g c =
       small = s.small;
       within = s.within;
       reserved = s.reserved;
+      handed_is = s.handed_is;
+      lasts = s.lasts;
       tells = s.tells;
       counted = s.counted;
       few_ports = s.few_ports;
-      ports = ports_looked s.asks.items s.asks.items s.tellings.items c.look_at.new.ends.items s.journal.items refl
+      ports = ports_looked s.asks.items s.asks.items s.tellings.items c.look_at.new.ends.items (journal_of s) refl
           c.look_at.ensures.looks.rings s.ports (λ p. refl) c.look_at.ensures.looks.pushed;
     }
 
@@ -59,15 +63,19 @@ invariant_of-self-2 g c =
       small = s.small;
       within = omega arith;
       reserved = omega (arith, s.reserved, c.push_reserved.ensures.capacity);
+      handed_is = s.handed_is;
+      lasts = s.lasts;
       tells = ∥∥₁_map s.tells (λ h. side_replied s.unit c.take-answer.new.self (sent_at s.row.lines.items) (popped_at s.answers.items)
-          s.fault s.journal.items c.push_reserved.new.self.items c.args.place c.take-answer.result c.requires.sound h unit
-          c.take-answer.ensures.answer c.push_reserved.ensures.items);
+          s.fault (journal_of s) (earlier_of s ++ c.push_reserved.new.self.items) c.args.place c.take-answer.result c.requires.sound h unit
+          c.take-answer.ensures.answer (behind (earlier_of s) _ _ _ c.push_reserved.ensures.items));
       counted = s.counted;
       few_ports = s.few_ports;
-      ports = ports_step s.asks.items s.asks.items s.tellings.items c.push_at.new.ends.items s.journal.items c.push_reserved.new.self.items
+      ports = ports_step s.asks.items s.asks.items s.tellings.items c.push_at.new.ends.items (journal_of s)
+          (earlier_of s ++ c.push_reserved.new.self.items)
           (Step (sources.Reply c.args.place) (Take c.args.place) c.take-answer.result ∷ []) refl
           (c.push_at.ensures.rings ∙ c.look_at.ensures.looks.rings) s.ports (ap (λ t. t && true) (eq-eqb c.args.place c.args.place refl))
-          (λ p. sym (append-nil (received_at s.asks.items p))) tellings c.push_reserved.ensures.items;
+          (λ p. sym (append-nil (received_at s.asks.items p))) tellings
+          (behind (earlier_of s) _ _ _ c.push_reserved.ensures.items);
     }
 
 -- ---- what the step makes
@@ -77,7 +85,7 @@ returns-in_default-2-clause-makes g c =
     let s = state_of c.args.self.now in
     let none = tells_none s.known.telling_places s.cache c.args.place (sym c.reply.ensures ∙ c.in_default.is) in
     idles (sources.Reply c.args.place) s s s.known (knows_same s.known) none
-    (makes_nothing s s refl refl refl (λ p. refl) (λ p. refl) (λ b. refl) (λ b. refl))
+    (makes_nothing s s refl refl refl refl (λ p. refl) (λ p. refl) (λ b. refl) (λ b. refl))
 
 pub returns-then-look_at-eq0-clause-makes : goal.returns-then-look_at-eq0-clause-makes
 returns-then-look_at-eq0-clause-makes g c =
@@ -89,7 +97,7 @@ returns-then-look_at-eq0-clause-makes g c =
     let none = tells_first places s.cache c.args.place v.tag v.word (sym c.reply.ensures ∙ v.is ∙ ap Some v.field-0-is)
     ∙ ap (λ p. nat_lt 0 (places p)) (sym c.from-port.ensures) ∙ full in
     idles (sources.Reply c.args.place) s _ (record s.known { telling_places = places }) (knows_tellings s.known places looks.places) none
-    (makes_nothing s _ refl refl refl (λ p. refl) looks.pushed (λ b. refl) (λ b. refl))
+    (makes_nothing s _ refl refl refl refl (λ p. refl) looks.pushed (λ b. refl) (λ b. refl))
 
 pub returns-clause-makes : goal.returns-clause-makes
 returns-clause-makes g c =
@@ -110,7 +118,8 @@ returns-clause-makes g c =
     let told = only_value c.args.place v.tag c.from-port.result v.word d.answer c.value_told.result c.from-port.ensures
     (shown_taken s.cache c.args.place v.tag v.word value) c.value_told.ensures in
     let makes : Makes _ s looked _ = record {
-      journal = answered_so s.journal c.push_reserved.new.self.items source (Take c.args.place) c.take-answer.result d.answer
+      earlier = refl;
+      held = answered_so s.held c.push_reserved.new.self.items source (Take c.args.place) c.take-answer.result d.answer
           c.push_reserved.ensures.items unit.answer;
       cache = cache;
       fault = refl;

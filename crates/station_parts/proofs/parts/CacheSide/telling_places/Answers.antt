@@ -4,6 +4,7 @@ use Rattle.station_parts.specs.Rows.{room_at}
 use Rattle.station_parts.specs.SideState.{state_of}
 use Rattle.station_parts.proofs.SideMakes.{knows_tellings}
 use Rattle.station_parts.proofs.Porting.{ports_looked}
+use Rattle.station_parts.specs.Words.{journal_of}
 use Rattle.station_parts.proofs.parts.CacheSide.telling_places.Goals as goal
 
 pub invariant_of-self : goal.invariant_of-self
@@ -18,10 +19,12 @@ invariant_of-self g c =
       small = s.small;
       within = s.within;
       reserved = s.reserved;
+      handed_is = s.handed_is;
+      lasts = s.lasts;
       tells = s.tells;
       counted = s.counted;
       few_ports = s.few_ports;
-      ports = ports_looked s.asks.items s.asks.items s.tellings.items c.look_at.new.ends.items s.journal.items refl looks.rings s.ports
+      ports = ports_looked s.asks.items s.asks.items s.tellings.items c.look_at.new.ends.items (journal_of s) refl looks.rings s.ports
           (λ p. refl) looks.pushed;
     }
 
@@ -30,7 +33,8 @@ returns-clause-looks g c =
     let s = state_of c.args.self.now in
     let looks = c.look_at.ensures.looks in
     record {
-      journal = refl;
+      earlier = refl;
+      held = refl;
       cache = refl;
       fault = refl;
       asked = λ p. refl;

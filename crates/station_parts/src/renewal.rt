@@ -1,0 +1,144 @@
+//! How a station goes on with a new journal.
+ghost use Rattle.std.specs.Prelude.{◌≡◌, ◌≢◌, ◌≤◌, ◌<◌, ◌+◌, [], nat_lt, false, length, map, vec_capacity, IsTrue, IfOk, IfErr, OnOk};
+ghost use Rattle.std.specs.List.{All};
+ghost use Rattle.cache_unit.specs.Views.{is_clean};
+ghost use Rattle.station_journal.specs.Journal.{IsBankTrue};
+ghost use Rattle.station_parts.specs.declared.make.TheConstants.{MAX_NOTED};
+ghost use Rattle.station_parts.specs.declared.parts.Audit.TheVariants.{Clean};
+ghost use Rattle.station_parts.specs.Audited.{IsSeen, LeavesPorts, LeavesBanks, audit_of};
+ghost use Rattle.station_parts.specs.Ids.{port_id, bank_id, cache_id};
+ghost use Rattle.station_parts.specs.Promises.{IsFlatRun, AreWhole, PaysLoads, HoldFlat};
+ghost use Rattle.station_parts.specs.Renewed.{noted_after, GoesOn, RenewsCache, ResumesPorts, IsRefused};
+ghost use Rattle.station_parts.specs.Station.{AreOneStation};
+ghost use Rattle.station_parts.specs.Words.{offered, offered_before, taken, has_ended, known_places, known_tellings, told_in_all, journal_of, earlier_of, held_of, cache_in, sizes_in};
+
+use crate::bank::BankSide;
+use crate::inspect::audit;
+use crate::make::MAX_NOTED;
+use crate::parts::{Audit, CacheSide};
+use crate::port::Port;
+use station_journal::Entry;
+use std::alloc::{AllocError, Global};
+use std::mem::replace;
+
+/// Why a station wasn't renewed.
+#[derive(Clone, Copy, PartialEq, Eq, Debug)]
+pub enum RenewFault {
+    /// With one full journal more the station would have noted more than [`MAX_NOTED`] entries.
+    WornOut,
+    /// There was too little memory for a new journal.
+    OutOfMemory,
+    /// The audit found this.
+    NotClean(Audit),
+}
+
+impl From<AllocError> for RenewFault {
+    ghost use Rattle.std.specs.Prelude.{◌≡◌};
+    ghost use Rattle.station_parts.specs.declared.renewal.RenewFault.TheVariants.{OutOfMemory};
+
+    ghost from_gives = { λ e f. f ≡ OutOfMemory };
+
+    fn from(_fault: AllocError) -> RenewFault {
+        RenewFault::OutOfMemory
+    }
+}
+
+/// Audits a station, of which all parts are at hand in the order of their numbers, and if the audit is
+/// `Clean`, hands its journal out and begins a new one, which is empty and takes as many entries.
+/// Each port may then offer again, if it has offered `Done`. All else goes on as it stood.
+///
+/// The journals that were handed out and the one at hand, one behind the other, are one journal of one
+/// station: what an audit says of the journal it says of all of them together.
+///
+/// In this order:
+/// - `WornOut` if with one full journal more the station would have noted more than [`MAX_NOTED`]
+///   entries, and then nothing changes;
+/// - `OutOfMemory` if there was too little memory for a new journal, and then nothing changes;
+/// - `NotClean` with what the audit found, and then nothing changes, but that more may be known of the
+///   rings' far ends.
+pub fn renew<const WAYS: usize, const WORDS: usize, const REGS: usize, const DEPTH: usize>(
+    alloc: Global,
+    cache: &mut CacheSide<WAYS, WORDS, REGS, DEPTH>,
+    ports: &mut [Port],
+    banks: &mut [BankSide],
+) -> Result<Vec<Entry>, RenewFault>
+    requires { AreOneStation cache.old ports.old banks.old }
+
+    // They are the same parts.
+    ensures same_cache { cache_id cache.new ≡ cache_id cache.old }
+    ensures same_ports { map port_id ports.new ≡ map port_id ports.old }
+    ensures same_banks { map bank_id banks.new ≡ map bank_id banks.old }
+
+    // The journal at hand is handed out, and nothing else has changed.
+    ensures cache { IfOk result (λ segment. RenewsCache cache.old cache.new segment.items) }
+    ensures ports { OnOk result (ResumesPorts ports.old ports.new) }
+    ensures banks { LeavesBanks banks.old banks.new }
+    ensures lasts { OnOk result (noted_after cache.old ≤ MAX_NOTED) }
+    ensures refused { IfErr result
+        (λ fault. IsRefused fault cache.old cache.new ports.old ports.new banks.old banks.new) }
+
+    // It comes only behind an audit that found nothing left and nothing owed.
+    ensures seen { OnOk result (IsSeen cache.new ports.new banks.new) }
+    ensures clean { OnOk result (audit_of cache.new ports.new banks.new ≡ Clean) }
+    ensures bank_true { OnOk result (IsBankTrue (sizes_in cache.new) (journal_of cache.new)) }
+    ensures flat { OnOk result (IsFlatRun (sizes_in cache.new) (journal_of cache.new)) }
+    ensures whole { OnOk result (AreWhole (journal_of cache.new) ports.new) }
+    ensures paid { OnOk result (PaysLoads (sizes_in cache.new) (journal_of cache.new)) }
+    ensures settled { OnOk result (IsTrue (is_clean (cache_in cache.new))
+        → HoldFlat (sizes_in cache.new) (journal_of cache.new) banks.new) }
+{
+    if is_worn_out(cache) {
+        return Err(RenewFault::WornOut);
+    }
+    let fresh = Vec::with_capacity(alloc, cache.limit as usize)?;
+    match audit(cache, ports, banks) {
+        Audit::Clean => {
+            resume_all(ports);
+            Ok(hand_out(cache, fresh))
+        }
+        found => Err(RenewFault::NotClean(found)),
+    }
+}
+
+// Whether one journal more could bring the station beyond the entries that it notes at most.
+fn is_worn_out<const WAYS: usize, const WORDS: usize, const REGS: usize, const DEPTH: usize>(
+    cache: &CacheSide<WAYS, WORDS, REGS, DEPTH>,
+) -> bool
+    ensures { result ≡ nat_lt MAX_NOTED (noted_after cache.now) }
+{
+    cache.handed + cache.journal.len() as u64 + u64::from(cache.limit) > MAX_NOTED
+}
+
+// Lets each port offer again.
+fn resume_all(ports: &mut [Port])
+    ensures same { map port_id ports.new ≡ map port_id ports.old }
+    ensures before { All (λ p. offered_before p ≡ offered p) ports.new }
+    ensures again { All (λ p. has_ended p ≡ false) ports.new }
+    ensures offered { map offered ports.new ≡ map offered ports.old }
+    ensures taken { map taken ports.new ≡ map taken ports.old }
+    ensures places { map known_places ports.new ≡ map known_places ports.old }
+    ensures tellings { map known_tellings ports.new ≡ map known_tellings ports.old }
+    ensures told { map told_in_all ports.new ≡ map told_in_all ports.old }
+{
+    for p in 0..ports.len() {
+        ports[p].resume();
+    }
+}
+
+// Hands the journal out, and goes on with this one.
+fn hand_out<const WAYS: usize, const WORDS: usize, const REGS: usize, const DEPTH: usize>(
+    cache: &mut CacheSide<WAYS, WORDS, REGS, DEPTH>,
+    fresh: Vec<Entry>,
+) -> Vec<Entry>
+    requires empty { fresh.items ≡ [] }
+    requires room { cache.old.limit ≤ vec_capacity fresh }
+    requires lasts { noted_after cache.old ≤ MAX_NOTED }
+    ensures segment { result.items ≡ held_of cache.old }
+    ensures earlier { earlier_of cache.new ≡ journal_of cache.old }
+    ensures held { held_of cache.new ≡ [] }
+    ensures rest { GoesOn cache.old cache.new }
+{
+    cache.earlier = cache.earlier.and(&cache.journal);
+    cache.handed += cache.journal.len() as u64;
+    replace(&mut cache.journal, fresh)
+}
