@@ -673,10 +673,13 @@ class Machine {
 public:
     /// A machine over the words of an image, or over zeros. BadShape, or std::bad_alloc.
     explicit Machine(const kroft_shape &shape = USUAL_SHAPE, const std::vector<kroft_word> &image = {}) {
-        // (a memory larger than there may be is refused by its number alone)
-        const std::vector<kroft_word> zeros(image.empty() && shape.words <= MOST_WORDS ? shape.words : 1);
-        const std::vector<kroft_word> &words = image.empty() ? zeros : image;
-        uint32_t status = kroft_open(&handle, &shape, words.data(), words.size());
+        // (numbers are judged before any zeros are made for them)
+        const kroft_word none{};
+        uint32_t status = kroft_open(&handle, &shape, image.empty() ? &none : image.data(), image.size());
+        if (status == KROFT_BAD_IMAGE && image.empty()) {
+            const std::vector<kroft_word> zeros(shape.words);
+            status = kroft_open(&handle, &shape, zeros.data(), zeros.size());
+        }
         if (status == KROFT_OUT_OF_MEMORY) throw std::bad_alloc();
         if (status != KROFT_DONE) throw BadShape(status);
     }
@@ -732,6 +735,35 @@ public:
     }
     kroft_counts drive(const std::vector<kroft_event> &requests, uint32_t latency = 10) { return drive(requests, latency, latency); }
 
+    /// Begins rounds, which are those of `drive` and are made one at a time by `round`: nothing is counted yet. Rounds that
+    /// were begun before end. Until `end_rounds` they alone make the machine's events: `apply`, `pump` and `drive` throw
+    /// std::logic_error. std::invalid_argument, with everything as it was: the latency is more than 1000. Or std::bad_alloc.
+    void begin_rounds(uint32_t latency, uint32_t busy) {
+        uint32_t status = told(kroft_rounds_begin(&handle, latency, busy));
+        if (status == KROFT_OUT_OF_MEMORY) throw std::bad_alloc();
+        if (status != KROFT_DONE) throw std::invalid_argument("a latency of more than 1000 rounds");
+    }
+    void begin_rounds(uint32_t latency = 10) { begin_rounds(latency, latency); }
+
+    /// Makes one round, in which this request is offered, or none; the row tells what became of it, and which load was
+    /// answered. std::invalid_argument, with no round made: it is no load, store, prefetch or eviction. std::logic_error: no
+    /// rounds were begun, or 2^48 were made.
+    kroft_round_row round(const kroft_event &request) { return round(&request, 1); }
+    kroft_round_row round() {
+        const kroft_event none{};
+        return round(&none, 0);
+    }
+
+    /// What was counted since the rounds were begun. std::logic_error: none were.
+    kroft_counts round_counts() {
+        kroft_counts counts{};
+        told(kroft_round_counts(&handle, &counts));
+        return counts;
+    }
+
+    /// Ends the rounds; the machine stays as it is. std::logic_error: none were begun.
+    void end_rounds() { told(kroft_rounds_end(&handle)); }
+
     /// What a request for a word would find now. Nothing is asked.
     std::optional<Lookup> find(uint32_t at) {
         std::optional<uint32_t> found = view<uint32_t>(kroft_find, at);
@@ -760,12 +792,21 @@ public:
     std::optional<kroft_answer> reply(uint32_t place) { return view<kroft_answer>(kroft_reply, place); }
 
 private:
-    static constexpr uint32_t MOST_WORDS = 1048576;
     kroft_handle handle = KROFT_NO_MACHINE;
 
     static uint32_t told(uint32_t status) {
         if (status == KROFT_CLOSED) throw std::logic_error("a machine that was moved from");
+        if (status == KROFT_IN_ROUNDS) throw std::logic_error("rounds are under way, and make the events");
+        if (status == KROFT_NO_ROUNDS) throw std::logic_error("no rounds were begun");
         return status;
+    }
+
+    kroft_round_row round(const kroft_event *request, size_t offered) {
+        kroft_round_row row{};
+        uint32_t status = told(kroft_round(&handle, request, offered, &row));
+        if (status == KROFT_NO_EVENT) throw std::invalid_argument("no request");
+        if (status != KROFT_DONE) throw std::logic_error("as many rounds as may be were made");
+        return row;
     }
 
     template <class Row, class Ask, class... Places> std::optional<Row> view(Ask ask, Places... places) {

@@ -6,12 +6,13 @@
 #include <stdlib.h>
 #include <string.h>
 
-enum { WORDS = 32, MOST_WORDS = 1048576 };
+/* More words than 20 bits count. */
+enum { WORDS = 32, MANY_WORDS = 2097160 };
 
 /* 32 words, of which word `a` is the byte `a` and three zero bytes; 2 sets and 2 banks. */
 static const kroft_shape small = {1, 4, 4, 4, WORDS, 2, 2, 4, 4, 4};
 static kroft_word image[WORDS];
-static kroft_word large_image[MOST_WORDS];
+static kroft_word large_image[MANY_WORDS];
 static const kroft_handle no_machine = KROFT_NO_MACHINE;
 
 /* The judge beside the machine. */
@@ -250,8 +251,10 @@ static void ranges(void) {
     kroft_shape s = small;
     s.words = 0, is_no_machine(s, 0, KROFT_BAD_WORDS);
     s.words = 30, is_no_machine(s, 30, KROFT_BAD_WORDS);
-    s.words = MOST_WORDS + 4, is_no_machine(s, 0, KROFT_BAD_WORDS);
-    s.words = MOST_WORDS, is_a_machine(s);
+    s.words = MANY_WORDS + 2, is_no_machine(s, MANY_WORDS, KROFT_BAD_WORDS);
+    s.words = 4294967292u, is_no_machine(s, MANY_WORDS, KROFT_BAD_IMAGE);
+    s.words = 4294967295u, is_no_machine(s, MANY_WORDS, KROFT_BAD_WORDS);
+    s.words = MANY_WORDS, is_a_machine(s);
     s.words = 4, is_a_machine(s);
     is_no_machine(s, 3, KROFT_BAD_IMAGE);
     is_no_machine(s, 5, KROFT_BAD_IMAGE);
@@ -275,14 +278,45 @@ static void ranges(void) {
     s.banks = 0, is_no_machine(s, 4, KROFT_BAD_BANKS);
     s.sets = 0, is_no_machine(s, 4, KROFT_BAD_SETS);
     s.words = 0, is_no_machine(s, 4, KROFT_BAD_WORDS);
-    s.ways = 3, is_no_machine(s, 4, KROFT_NOT_LISTED);
+    s.ways = 9, is_no_machine(s, 4, KROFT_NOT_LISTED);
+}
+
+/* Makes an event that the judge isn't told of, since it has fewer words. */
+static uint32_t kind_of(kroft_handle *handle, kroft_event e) {
+    kroft_answer a;
+    CHECK(kroft_apply(handle, &e, &a) == KROFT_DONE);
+    return a.kind;
+}
+
+static void pumped_dry(kroft_handle *handle) {
+    kroft_event e;
+    kroft_answer a;
+    while (kroft_pump(handle, &e, &a) == KROFT_FOUND) {}
+}
+
+/* The last word of a large memory: it is stored, given up, and written to its bank. */
+static void a_large_memory(void) {
+    kroft_handle handle = no_machine;
+    kroft_shape s = small;
+    kroft_word w;
+    s.words = MANY_WORDS;
+    CHECK(kroft_open(&handle, &s, large_image, MANY_WORDS) == KROFT_DONE);
+    CHECK(kind_of(&handle, store(MANY_WORDS - 1, 15, word(1, 2, 3, 4))) == KROFT_ACCEPTED);
+    CHECK(kind_of(&handle, load(1, MANY_WORDS)) == KROFT_REFUSED);
+    pumped_dry(&handle);
+    CHECK(kroft_bank_word(&handle, MANY_WORDS - 1, &w) == KROFT_FOUND && is_word(w, 0, 0, 0, 0));
+    CHECK(kind_of(&handle, event(KROFT_EVICT, MANY_WORDS / 4 - 1, 0)) == KROFT_ACCEPTED);
+    pumped_dry(&handle);
+    CHECK(kroft_bank_word(&handle, MANY_WORDS - 1, &w) == KROFT_FOUND && is_word(w, 1, 2, 3, 4));
+    CHECK(kroft_bank_word(&handle, MANY_WORDS, &w) == KROFT_NONE);
+    freed(&handle);
 }
 
 /* A machine behind a handle stays there when another one is asked for. */
 static void open_already(void) {
     kroft_handle handle = opened();
     kroft_shape unlisted = small;
-    unlisted.ways = 3;
+    unlisted.ways = 9;
     CHECK(is_accepted(&handle, store(5, 15, word(1, 2, 3, 4))));
     CHECK(kroft_open(&handle, &small, image, WORDS) == KROFT_OPEN_ALREADY);
     CHECK(kroft_open(&handle, &unlisted, image, 0) == KROFT_OPEN_ALREADY);
@@ -293,8 +327,8 @@ static void open_already(void) {
     freed(&handle);
 }
 
-/* A machine of the list has as many registers, words of a block, ways and places as its row says. */
-static void is_as_listed(const uint32_t *row) {
+/* A machine has as many registers, words of a block, ways and places as its row says. */
+static void is_as_asked(const uint32_t *row) {
     kroft_handle handle = no_machine;
     kroft_shape s = small;
     kroft_register_view r;
@@ -303,8 +337,8 @@ static void is_as_listed(const uint32_t *row) {
     kroft_answer a;
     kroft_event e;
     s.ways = row[0], s.block_words = row[1], s.regs = row[2], s.depth = row[3];
-    s.words = 1024, s.sets = 1, s.banks = 1, s.bank_queue = 64, s.write_queue = 64, s.replies = 64;
-    CHECK(kroft_open(&handle, &s, large_image, 1024) == KROFT_DONE);
+    s.words = 64 * row[1], s.sets = 1, s.banks = 1, s.bank_queue = 64, s.write_queue = 64, s.replies = 64;
+    CHECK(kroft_open(&handle, &s, large_image, s.words) == KROFT_DONE);
     CHECK(kroft_register(&handle, row[2] - 1, &r) == KROFT_FOUND && kroft_register(&handle, row[2], &r) == KROFT_NONE);
     CHECK(kroft_field(&handle, 0, row[1] - 1, &f) == KROFT_FOUND && kroft_field(&handle, 0, row[1], &f) == KROFT_NONE);
     for (way = 0; way <= row[0]; way++) { /* as many blocks of the one set stay as there are ways */
@@ -327,19 +361,20 @@ static void is_as_listed(const uint32_t *row) {
     freed(&handle);
 }
 
-/* The twelve machines of the list; a machine whose numbers differ from each of them in one isn't there. */
-static void the_list(void) {
-    static const uint32_t list[12][4] = {{1, 4, 1, 1},   {1, 4, 4, 4}, {1, 8, 8, 8},    {2, 4, 4, 4},
-                                         {2, 4, 8, 4},   {2, 8, 8, 8}, {2, 16, 16, 16}, {4, 4, 8, 8},
-                                         {4, 8, 8, 8},   {4, 16, 16, 16}, {8, 8, 16, 16}, {8, 16, 16, 16}};
-    static const uint32_t unlisted[10][4] = {{0, 0, 0, 0}, {1, 4, 1, 2},  {1, 4, 2, 1},  {1, 16, 16, 16}, {2, 4, 1, 1},
-                                             {3, 4, 4, 4}, {4, 4, 4, 4}, {8, 8, 8, 8}, {16, 16, 16, 16}, {9, 17, 17, 17}};
+/* Any numbers within their ranges make a machine, and none beyond them does. */
+static void first_four(void) {
+    static const uint32_t some[16][4] = {{1, 4, 1, 1},    {1, 4, 4, 4},    {1, 8, 8, 8},   {2, 4, 4, 4},
+                                         {2, 4, 8, 4},    {2, 8, 8, 8},    {2, 16, 16, 16}, {4, 4, 8, 8},
+                                         {4, 8, 8, 8},    {4, 16, 16, 16}, {8, 8, 16, 16}, {8, 16, 16, 16},
+                                         {8, 16, 10, 16}, {3, 5, 7, 2},    {1, 1, 1, 1},   {7, 3, 15, 1}};
+    static const uint32_t none[8][4] = {{0, 4, 4, 4},  {1, 0, 4, 4},  {1, 4, 0, 4},  {1, 4, 4, 0},
+                                        {9, 4, 4, 4},  {1, 17, 4, 4}, {1, 4, 17, 4}, {1, 4, 4, 17}};
     unsigned i;
-    for (i = 0; i < 12; i++)
-        is_as_listed(list[i]);
-    for (i = 0; i < 10; i++) {
+    for (i = 0; i < 16; i++)
+        is_as_asked(some[i]);
+    for (i = 0; i < 8; i++) {
         kroft_shape s = small;
-        s.ways = unlisted[i][0], s.block_words = unlisted[i][1], s.regs = unlisted[i][2], s.depth = unlisted[i][3];
+        s.ways = none[i][0], s.block_words = none[i][1], s.regs = none[i][2], s.depth = none[i][3];
         is_no_machine(s, WORDS, KROFT_NOT_LISTED);
     }
 }
@@ -355,7 +390,8 @@ int main(void) {
     views();
     a_closed_handle();
     ranges();
+    a_large_memory();
     open_already();
-    the_list();
+    first_four();
     return checks_end("machine");
 }

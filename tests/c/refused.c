@@ -1,4 +1,4 @@
-/* Each allocation of kroft_open, of kroft_drive and of a history by each law, refused in turn: it says so, keeps no memory, and what
+/* Each allocation of kroft_open, kroft_drive, kroft_rounds_begin and of a history by each law, refused in turn: it says so, keeps no memory, and what
    is behind the handle is as it was. Linked with the C library's calls wrapped (-Wl,--wrap=malloc and so on). */
 #include "check.h"
 #include "kroft.h"
@@ -139,6 +139,33 @@ static void many_stores(void) {
     CHECK(kroft_history_free(&h) == KROFT_DONE && held == 0);
 }
 
+/* Rounds that are begun in a machine with rounds, each allocation refused in turn: those that were begun before go on. No round
+   allocates, and what ends gives its memory back. */
+static void rounds(kroft_handle *handle) {
+    kroft_event e = {KROFT_LOAD, 1, 0, 5, 0, {{0, 0, 0, 0}}};
+    kroft_round_row row;
+    kroft_counts c;
+    uint32_t status = KROFT_OUT_OF_MEMORY;
+    long refused, before = held, begun;
+    granted = 1000000;
+    CHECK(kroft_rounds_begin(handle, 3, 3) == KROFT_DONE && held > before);
+    begun = held;
+    CHECK(kroft_round(handle, &e, 1, &row) == KROFT_DONE && row.round == 1);
+    for (refused = 0; refused < 1000 && status == KROFT_OUT_OF_MEMORY; refused++) {
+        granted = refused;
+        status = kroft_rounds_begin(handle, 0, 0);
+        if (status == KROFT_OUT_OF_MEMORY) CHECK(kroft_round(handle, &e, 0, &row) == KROFT_DONE && row.round == 2 + (uint64_t)refused);
+        CHECK(held == begun);
+    }
+    CHECK(status == KROFT_DONE && refused > 1);
+    granted = 0;
+    CHECK(kroft_round(handle, &e, 1, &row) == KROFT_DONE && row.round == 1);
+    CHECK(kroft_round_counts(handle, &c) == KROFT_DONE && c.rounds == 1);
+    CHECK(kroft_rounds_end(handle) == KROFT_DONE && held == before);
+    granted = 1000000;
+    CHECK(kroft_rounds_begin(handle, 3, 3) == KROFT_DONE); /* (given back by kroft_free) */
+}
+
 int main(void) {
     static const kroft_shape shape = {2, 4, 8, 4, 64, 4, 4, 8, 8, 8};
     static kroft_word image[64];
@@ -170,6 +197,7 @@ int main(void) {
     CHECK(kroft_apply(&handle, &e, &a) == KROFT_DONE && a.kind == KROFT_ACCEPTED);
     while (kroft_pump(&handle, &e, &a) == KROFT_FOUND) {}
     CHECK(kroft_settled(&handle) == KROFT_FOUND);
+    rounds(&handle);
     CHECK(kroft_free(&handle) == KROFT_DONE && held == 0);
     histories();
     questions();

@@ -1,5 +1,5 @@
-/* The machine in rounds, from C99 and from C++17. What is counted is what `./kroft drive --summary` writes of the same
-   requests (tests/runs/drive, examples/README.md). */
+/* The machine in rounds, from C99 and from C++17, a list of requests and one round at a time. What is counted of a list is what
+   `./kroft drive --summary` writes of the same requests (tests/runs/drive, examples/README.md). */
 #include "check.h"
 #include "kroft.h"
 #include "words.h"
@@ -150,6 +150,253 @@ static void lost_rounds(void) {
     CHECK(lost_to(KROFT_BANK_FULL, counted(&shape, 10, e, 2)) > 0);
 }
 
+/* What a round tells that offers this request, or none. */
+static kroft_round_row a_round(kroft_handle *handle, const kroft_event *offered) {
+    kroft_event none = request(KROFT_TAKE, 0, 0);
+    kroft_round_row row;
+    memset(&row, 0x77, sizeof row);
+    CHECK(kroft_round(handle, offered ? offered : &none, offered != NULL, &row) == KROFT_DONE);
+    return row;
+}
+
+static void tells(kroft_round_row row, uint64_t round, uint32_t outcome, uint32_t cause, uint32_t found) {
+    CHECK(row.round == round && row.outcome == outcome && row.cause == cause && row.found == found);
+}
+
+/* The load that was answered, or none where the tag is 0. */
+static void answers(kroft_round_row row, uint16_t tag, uint8_t first) {
+    CHECK(row.answered == (tag ? 1u : 0u) && row.tag == tag && is_word(row.word, first, 0, 0, 0));
+}
+
+/* A scene by hand, with banks that serve two rounds after they began. The load of round 1 misses, and its four words' commands
+   come to the four banks, which begin them in round 2 and serve them in round 4. In round 4 word 0 arrives too, is processed
+   for both loads that wait, and the first of them is answered; in round 5 the second one. The block's other words are
+   processed in rounds 5, 6 and 7, one in each. */
+static void a_scene(void) {
+    kroft_word words[WORDS];
+    kroft_handle handle = KROFT_NO_MACHINE;
+    kroft_event first = request(KROFT_LOAD, 1, 0), second = request(KROFT_LOAD, 2, 0), outside = request(KROFT_LOAD, 3, WORDS);
+    kroft_event absent = request(KROFT_EVICT, 0, 3), no_lane = request(KROFT_STORE, 0, 0), last = request(KROFT_LOAD, 5, 3);
+    kroft_counts c, expected;
+    kroft_round_row row;
+    uint64_t weight = 77;
+    memset(words, 0, sizeof words);
+    words[0] = word(10, 0, 0, 0);
+    words[3] = word(13, 0, 0, 0);
+    no_lane.lanes = 0xf0;
+    CHECK(kroft_open(&handle, &usual, words, WORDS) == KROFT_DONE);
+    CHECK(kroft_rounds_begin(&handle, 2, 2) == KROFT_DONE);
+    row = a_round(&handle, &first);
+    tells(row, 1, KROFT_ROUND_ACCEPTED, 0, KROFT_MISS);
+    answers(row, 0, 0);
+    row = a_round(&handle, &first);
+    tells(row, 2, KROFT_ROUND_LOST, KROFT_TAG_IN_USE, KROFT_JOIN);
+    answers(row, 0, 0);
+    row = a_round(&handle, &second);
+    tells(row, 3, KROFT_ROUND_ACCEPTED, 0, KROFT_JOIN);
+    answers(row, 0, 0);
+    row = a_round(&handle, &outside);
+    tells(row, 4, KROFT_ROUND_DENIED, KROFT_OUT_OF_RANGE, KROFT_NO_LOOKUP);
+    answers(row, 1, 10);
+    row = a_round(&handle, &absent);
+    tells(row, 5, KROFT_ROUND_DENIED, KROFT_NOT_PRESENT, KROFT_NO_LOOKUP);
+    answers(row, 2, 10);
+    row = a_round(&handle, &no_lane);
+    tells(row, 6, KROFT_ROUND_DENIED, KROFT_NO_LANES, KROFT_HIT);
+    answers(row, 0, 0);
+    CHECK(kroft_weight(&handle, &weight) == KROFT_DONE && weight > 0);
+    row = a_round(&handle, NULL);
+    tells(row, 7, KROFT_ROUND_IDLE, 0, KROFT_NO_LOOKUP);
+    answers(row, 0, 0);
+    CHECK(kroft_weight(&handle, &weight) == KROFT_DONE && weight == 0);
+    memset(&expected, 0, sizeof expected);
+    expected.rounds = 7;
+    expected.accepted = 2;
+    expected.denied = 3;
+    expected.joins = expected.misses = expected.stalled = expected.lost_tag_in_use = expected.registers = 1;
+    expected.values = 2;
+    expected.waited = 3 + 2;
+    expected.longest = 3;
+    memset(&c, 0x77, sizeof c);
+    CHECK(kroft_round_counts(&handle, &c) == KROFT_DONE);
+    CHECK(memcmp(&c, &expected, offsetof(kroft_counts, registers)) == 0 && c.registers == 1);
+    /* a hit is ready at once, and taken in the next round */
+    row = a_round(&handle, &last);
+    tells(row, 8, KROFT_ROUND_ACCEPTED, 0, KROFT_HIT);
+    answers(row, 0, 0);
+    answers(a_round(&handle, NULL), 5, 13);
+    CHECK(kroft_free(&handle) == KROFT_DONE);
+}
+
+/* One bank, which begins a command each round (or each second one) and serves it five rounds later: the words of the block come
+   in rounds 7, 8, 9 and 10 (or 7, 9, 11 and 13), and a load of the last one is answered then. */
+static void pipelines(void) {
+    unsigned busy, at, round;
+    for (busy = 1; busy <= 2; busy++) {
+        for (at = 0; at < 4; at++) {
+            kroft_handle handle = opened(1);
+            kroft_event load = request(KROFT_LOAD, 9, at);
+            kroft_round_row row;
+            CHECK(kroft_rounds_begin(&handle, 5, busy) == KROFT_DONE);
+            row = a_round(&handle, &load);
+            tells(row, 1, KROFT_ROUND_ACCEPTED, 0, KROFT_MISS);
+            for (round = 2; round < 20; round++) answers(a_round(&handle, NULL), round == 7 + busy * at ? 9 : 0, 0);
+            CHECK(kroft_free(&handle) == KROFT_DONE);
+        }
+    }
+}
+
+/* Whether two machines show the same blocks, words and dirty lanes, and the same words of memory. */
+static int are_alike(kroft_handle *one, kroft_handle *other, const kroft_shape *shape) {
+    uint32_t frame, i, at;
+    int alike = 1;
+    for (frame = 0; frame < shape->sets * shape->ways; frame++) {
+        kroft_frame_view a = {7, 7}, b = {7, 7};
+        alike &= kroft_frame(one, frame, &a) == KROFT_FOUND && kroft_frame(other, frame, &b) == KROFT_FOUND;
+        alike &= a.valid == b.valid && a.block == b.block;
+        for (i = 0; i < shape->block_words; i++) {
+            kroft_frame_word_view v, w;
+            memset(&v, 0, sizeof v);
+            memset(&w, 0, sizeof w);
+            alike &= kroft_frame_word(one, frame, i, &v) == kroft_frame_word(other, frame, i, &w);
+            alike &= memcmp(&v.word, &w.word, sizeof v.word) == 0 && v.dirty == w.dirty;
+        }
+    }
+    for (at = 0; at < shape->words; at++) {
+        kroft_word v, w;
+        alike &= kroft_bank_word(one, at, &v) == KROFT_FOUND && kroft_bank_word(other, at, &w) == KROFT_FOUND;
+        alike &= memcmp(&v, &w, sizeof v) == 0;
+    }
+    return alike;
+}
+
+/* Offers these requests, each until it ends, until nothing is on its way. Each load gets the word that an array has for it. */
+static void offer_all(kroft_handle *handle, const kroft_event *requests, size_t n) {
+    kroft_word memory[WORDS], owed[256];
+    uint64_t weight = 1, round = 0, lost = 0;
+    size_t done = 0;
+    memcpy(memory, image, sizeof memory);
+    for (; done < n || weight > 0; round++) {
+        kroft_round_row row;
+        CHECK(kroft_round(handle, requests + done, n - done, &row) == KROFT_DONE && row.round == round + 1);
+        CHECK(row.outcome == KROFT_ROUND_IDLE ? done == n : done < n);
+        if (row.answered) CHECK(memcmp(&row.word, &owed[row.tag], sizeof row.word) == 0);
+        if (row.outcome == KROFT_ROUND_ACCEPTED) {
+            const kroft_event *e = requests + done;
+            unsigned lane;
+            if (e->kind == KROFT_LOAD) owed[e->tag] = memory[e->at];
+            for (lane = 0; lane < 4; lane++)
+                if (e->kind == KROFT_STORE && e->lanes >> lane & 1) memory[e->at].b[lane] = e->word.b[lane];
+        }
+        if (row.outcome == KROFT_ROUND_ACCEPTED || row.outcome == KROFT_ROUND_DENIED) done++;
+        lost += row.outcome == KROFT_ROUND_LOST;
+        CHECK(kroft_weight(handle, &weight) == KROFT_DONE);
+        if (round > 100000) return;
+    }
+}
+
+/* A list of random requests, driven and one round at a time: the same machine and the same counts, once the round in which
+   nothing moves is made too. */
+static void same_run(const kroft_shape *shape, uint32_t latency, uint32_t busy, uint32_t seed) {
+    enum { REQUESTS = 300 };
+    static kroft_event e[REQUESTS];
+    kroft_handle driven = KROFT_NO_MACHINE, stepped = KROFT_NO_MACHINE;
+    kroft_counts c, d;
+    kroft_round_row row;
+    uint64_t weight = 77;
+    unsigned n;
+    for (n = 0; n < REQUESTS; n++) {
+        seed = seed * 1664525 + 1013904223;
+        e[n] = request(seed >> 30, (uint16_t)(seed >> 20 & 15), seed >> 10 & 63);
+        if (n % 8 == 0) e[n].at += WORDS;
+        if (e[n].kind == KROFT_EVICT) e[n].at %= WORDS / shape->block_words;
+        e[n].lanes = (uint8_t)(seed >> 4 & 15);
+        e[n].word = word(n, seed & 255, seed >> 8 & 255, 7);
+    }
+    CHECK(kroft_open(&driven, shape, image, WORDS) == KROFT_DONE && kroft_open(&stepped, shape, image, WORDS) == KROFT_DONE);
+    CHECK(kroft_drive(&driven, latency, busy, e, REQUESTS, &c) == KROFT_DONE);
+    CHECK(c.accepted + c.denied == REQUESTS && c.values > 0 && c.denied > 0 && c.misses > 0);
+    CHECK(c.stalled > 0 || latency < 3);
+    CHECK(kroft_rounds_begin(&stepped, latency, busy) == KROFT_DONE);
+    offer_all(&stepped, e, REQUESTS);
+    CHECK(kroft_round_counts(&stepped, &d) == KROFT_DONE && d.rounds + 1 == c.rounds);
+    row = a_round(&stepped, NULL);
+    CHECK(row.round == c.rounds && row.answered == 0);
+    CHECK(kroft_round_counts(&stepped, &d) == KROFT_DONE);
+    CHECK(memcmp(&c, &d, offsetof(kroft_counts, registers)) == 0 && c.registers == d.registers);
+    CHECK(are_alike(&driven, &stepped, shape) && kroft_weight(&stepped, &weight) == KROFT_DONE && weight == 0);
+    CHECK(kroft_free(&driven) == KROFT_DONE && kroft_free(&stepped) == KROFT_DONE);
+}
+
+static void same_runs(void) {
+    static const uint32_t timings[][2] = {{0, 0}, {1, 1}, {3, 0}, {3, 1}, {7, 2}, {10, 10}, {10, UINT32_MAX}, {100, 7}};
+    static const kroft_shape small = {1, 4, 1, 1, WORDS, 2, 3, 2, 4, 1}, large = {4, 8, 8, 8, WORDS, 2, 8, 16, 16, 8};
+    const kroft_shape *shapes[3];
+    unsigned n, k;
+    shapes[0] = &usual;
+    shapes[1] = &small;
+    shapes[2] = &large;
+    for (n = 0; n < sizeof timings / sizeof timings[0]; n++)
+        for (k = 0; k < 3; k++) same_run(shapes[k], timings[n][0], timings[n][1], 3 * n + k);
+}
+
+/* Rounds have the machine to themselves, may be begun anew, and end. */
+static void beginnings(void) {
+    kroft_handle handle = KROFT_NO_MACHINE;
+    kroft_event load = request(KROFT_LOAD, 1, 0), e = request(KROFT_SERVE, 0, 0);
+    kroft_event kinds = load;
+    kroft_answer a;
+    kroft_counts c;
+    kroft_round_row row;
+    uint32_t lookup = 77;
+    memset(&a, 0x77, sizeof a);
+    memset(&c, 0x77, sizeof c);
+    memset(&row, 0x77, sizeof row);
+    kinds.kind = KROFT_DRAIN;
+    /* no machine, and then no rounds */
+    CHECK(kroft_rounds_begin(&handle, 1001, 0) == KROFT_CLOSED && kroft_rounds_end(&handle) == KROFT_CLOSED);
+    CHECK(kroft_round(&handle, &kinds, 1, &row) == KROFT_CLOSED && kroft_round_counts(&handle, &c) == KROFT_CLOSED);
+    handle = opened(4);
+    CHECK(kroft_rounds_begin(&handle, 1001, 0) == KROFT_BAD_LATENCY && kroft_rounds_begin(&handle, UINT32_MAX, 0) == KROFT_BAD_LATENCY);
+    CHECK(kroft_round(&handle, &kinds, 1, &row) == KROFT_NO_ROUNDS && kroft_round(&handle, &load, 1, &row) == KROFT_NO_ROUNDS);
+    CHECK(kroft_round_counts(&handle, &c) == KROFT_NO_ROUNDS && kroft_rounds_end(&handle) == KROFT_NO_ROUNDS);
+    CHECK(row.round == 0x7777777777777777 && c.rounds == 0x7777777777777777);
+    /* rounds: only requests are offered, and only the first is looked at */
+    CHECK(kroft_rounds_begin(&handle, 1000, UINT32_MAX) == KROFT_DONE);
+    for (kinds.kind = KROFT_DRAIN; kinds.kind < 12; kinds.kind++) CHECK(kroft_round(&handle, &kinds, 1, &row) == KROFT_NO_EVENT);
+    CHECK(row.round == 0x7777777777777777);
+    CHECK(kroft_round_counts(&handle, &c) == KROFT_DONE && c.rounds == 0 && c.accepted == 0);
+    CHECK(kroft_round(&handle, &kinds, 0, &row) == KROFT_DONE && row.round == 1 && row.outcome == KROFT_ROUND_IDLE);
+    {
+        kroft_event two[2];
+        two[0] = load;
+        two[1] = kinds;
+        CHECK(kroft_round(&handle, two, 2, &row) == KROFT_DONE && row.round == 2 && row.outcome == KROFT_ROUND_ACCEPTED);
+    }
+    /* nobody else makes events, or drives, and everybody may look */
+    c.rounds = 77;
+    CHECK(kroft_apply(&handle, &e, &a) == KROFT_IN_ROUNDS && kroft_pump(&handle, &e, &a) == KROFT_IN_ROUNDS);
+    CHECK(kroft_apply(&handle, &kinds, &a) == KROFT_IN_ROUNDS && a.kind == 0x77777777 && e.kind == KROFT_SERVE);
+    CHECK(kroft_drive(&handle, 1001, 1, &load, 1, &c) == KROFT_IN_ROUNDS && c.rounds == 77);
+    CHECK(kroft_find(&handle, 0, &lookup) == KROFT_FOUND && lookup == KROFT_JOIN);
+    /* (latency 1001 leaves the rounds that were begun before) */
+    CHECK(kroft_rounds_begin(&handle, 1001, 0) == KROFT_BAD_LATENCY && kroft_round_counts(&handle, &c) == KROFT_DONE && c.rounds == 2);
+    /* begun anew, with banks that serve at once: the load that is on its way is answered in the first round */
+    CHECK(kroft_rounds_begin(&handle, 0, 0) == KROFT_DONE && kroft_round_counts(&handle, &c) == KROFT_DONE);
+    CHECK(c.rounds == 0 && c.accepted == 0 && c.misses == 0);
+    row = a_round(&handle, NULL);
+    tells(row, 1, KROFT_ROUND_IDLE, 0, KROFT_NO_LOOKUP);
+    answers(row, 1, 0);
+    CHECK(kroft_round_counts(&handle, &c) == KROFT_DONE && c.rounds == 1 && c.values == 1 && c.waited == 1 && c.accepted == 0);
+    /* ended: the caller makes the events again */
+    CHECK(kroft_rounds_end(&handle) == KROFT_DONE && kroft_rounds_end(&handle) == KROFT_NO_ROUNDS);
+    CHECK(kroft_round(&handle, &load, 1, &row) == KROFT_NO_ROUNDS && row.round == 1);
+    CHECK(kroft_apply(&handle, &load, &a) == KROFT_DONE && a.kind == KROFT_ACCEPTED && kroft_pump(&handle, &e, &a) == KROFT_FOUND);
+    CHECK(a.kind == KROFT_VALUE && a.tag == 1);
+    CHECK(kroft_drive(&handle, 1, 1, &load, 1, &c) == KROFT_DONE && c.hits == 1);
+    CHECK(kroft_rounds_begin(&handle, 1, 1) == KROFT_DONE && kroft_free(&handle) == KROFT_DONE);
+}
+
 static void is_refused(kroft_handle *handle, uint32_t latency, const kroft_event *requests, size_t n, uint32_t status) {
     kroft_counts c;
     uint32_t lookup = 77;
@@ -198,5 +445,9 @@ int main(void) {
     ends();
     lost_rounds();
     refusals();
+    a_scene();
+    pipelines();
+    same_runs();
+    beginnings();
     return checks_end("rounds");
 }

@@ -125,6 +125,51 @@ void a_drive() {
     check(threw && machine.drive({}).accepted == 0, "no request");
 }
 
+/* The same load one round at a time: accepted in round 1 and answered in round 12, and the rest of its block comes in the three
+   rounds behind that. */
+void rounds_one_at_a_time() {
+    kroft::Machine machine(kroft::USUAL_SHAPE, std::vector<kroft_word>(1024, kroft_word{{5, 6, 7, 8}}));
+    machine.begin_rounds();
+    kroft_round_row row = machine.round(kroft::load_of(3, 0));
+    check(row.round == 1 && row.outcome == KROFT_ROUND_ACCEPTED && row.found == KROFT_MISS && !row.answered, "accepted");
+    row = machine.round(kroft::load_of(3, 1));
+    check(row.round == 2 && row.outcome == KROFT_ROUND_LOST && row.cause == KROFT_TAG_IN_USE, "lost");
+    for (uint64_t round = 3; round < 16; round++) {
+        row = machine.round();
+        check(row.round == round && row.outcome == KROFT_ROUND_IDLE && row.answered == (round == 12), "answered in its round");
+        check(!row.answered || (row.tag == 3 && same(row.word, {{5, 6, 7, 8}})), "with its word");
+    }
+    kroft_counts counts = machine.round_counts();
+    check(counts.rounds == 15 && counts.values == 1 && counts.waited == 11 && counts.lost_tag_in_use == 1, "counted");
+    check(machine.weight() == 0 && machine.find(3) == kroft::Lookup::Hit, "all came");
+    int threw = 0;
+    for (auto misuse : {+[](kroft::Machine &m) { m.load(1, 0); }, +[](kroft::Machine &m) { m.pump(); }, +[](kroft::Machine &m) { m.drive({}); }}) {
+        try {
+            misuse(machine);
+        } catch (const std::logic_error &) {
+            threw++;
+        }
+    }
+    for (auto misuse : {+[](kroft::Machine &m) { m.round(kroft::event_of(KROFT_DRAIN, 0)); }, +[](kroft::Machine &m) { m.begin_rounds(1001); }}) {
+        try {
+            misuse(machine);
+        } catch (const std::invalid_argument &) {
+            threw++;
+        }
+    }
+    check(threw == 5 && machine.round_counts().rounds == 15, "rounds are under way");
+    machine.end_rounds();
+    threw = 0;
+    for (auto misuse : {+[](kroft::Machine &m) { m.round(); }, +[](kroft::Machine &m) { m.round_counts(); }, +[](kroft::Machine &m) { m.end_rounds(); }}) {
+        try {
+            misuse(machine);
+        } catch (const std::logic_error &) {
+            threw++;
+        }
+    }
+    check(threw == 3 && machine.load(1, 0).kind == KROFT_ACCEPTED, "they ended");
+}
+
 void what_is_refused() {
     kroft_shape shape = kroft::USUAL_SHAPE;
     for (auto [number, fault] : {std::pair<uint32_t, uint32_t>{0, KROFT_BAD_WORDS}, {0xffffffff, KROFT_BAD_WORDS}, {6, KROFT_BAD_WORDS}}) {
@@ -167,6 +212,7 @@ int main() {
     random_accesses();
     a_scene();
     a_drive();
+    rounds_one_at_a_time();
     what_is_refused();
     return failures == 0 ? 0 : 1;
 }

@@ -49,7 +49,7 @@ class ShapeFault(enum.IntEnum):
     WRITE_QUEUE = 9
     REPLIES = 10
     IMAGE = 13  #: the image hasn't as many words as memory
-    NOT_LISTED = 100  #: ways, block_words, regs and depth are no row of `SHAPES`
+    NOT_LISTED = 100  #: one of ways, block_words, regs and depth is out of its range
     OUT_OF_MEMORY = 101
     OPEN_ALREADY = 102
 
@@ -65,6 +65,14 @@ class BadShape(KroftError, ValueError):
 
 class Closed(KroftError, ValueError):
     """The machine was closed."""
+
+
+class InRounds(KroftError):
+    """Rounds are under way in the machine, and they alone make its events."""
+
+
+class NoRounds(KroftError):
+    """No rounds were begun in the machine."""
 
 
 class Reason(enum.Enum):

@@ -111,6 +111,15 @@ class CountsRow(c.Structure):
     ]
 
 
+class RoundRow(c.Structure):
+    _fields_ = [
+        ("round", u64),
+        *((name, u32) for name in ("outcome", "cause", "found", "answered")),
+        ("tag", u16),
+        ("word", Word),
+    ]
+
+
 class ReasonRow(c.Structure):
     _fields_ = [*((name, u64) for name in ("place", "stored", "stored_at", "overwritten_by", "overwritten_at")), ("reason", u32)]
 
@@ -191,6 +200,10 @@ def declare(library: c.CDLL) -> c.CDLL:
         "kroft_reply": [handle, u32, out],
         "kroft_find": [handle, u32, out],
         "kroft_drive": [handle, u32, u32, out, c.c_size_t, out],
+        "kroft_rounds_begin": [handle, u32, u32],
+        "kroft_round": [handle, out, c.c_size_t, out],
+        "kroft_round_counts": [handle, out],
+        "kroft_rounds_end": [handle],
         "kroft_traffic": [out, u64, u64, out, out, c.c_size_t],
         "kroft_version": [out, c.c_size_t],
     }

@@ -5,7 +5,7 @@ import enum
 from types import TracebackType
 from typing import Dict, Iterable, Iterator, List, NamedTuple, Optional, Tuple, Type, TypeVar, Union
 
-from .errors import BadShape, Cause, Closed, KroftError, Refused, ShapeFault
+from .errors import BadShape, Cause, Closed, InRounds, KroftError, NoRounds, Refused, ShapeFault
 from .events import (
     Accepted,
     Answer,
@@ -30,6 +30,7 @@ from .library import (
     HandleRow,
     QueuedRow,
     RegisterRow,
+    RoundRow,
     ShapeRow,
     TargetRow,
     Word,
@@ -41,6 +42,7 @@ _Row = TypeVar("_Row", bound=c.Structure)
 _DONE, _NONE, _FOUND, _CLOSED = 0, 0, 1, 3
 _EVENT_BYTES, _ANSWER_BYTES = 20, 16
 _OUT_OF_MEMORY = 101
+_NO_ROUNDS, _IN_ROUNDS = 106, 107
 _NOT_DRIVEN = {
     2: "a request is a load, a store, a prefetch or an eviction",
     104: "more than 16777216 requests",
@@ -56,31 +58,15 @@ _LOST = (
     Cause.BANK_FULL,
 )
 
-#: The rows of (ways, block_words, regs, depth) that a machine may have.
-SHAPES = (
-    (1, 4, 1, 1),
-    (1, 4, 4, 4),
-    (1, 8, 8, 8),
-    (2, 4, 4, 4),
-    (2, 4, 8, 4),
-    (2, 8, 8, 8),
-    (2, 16, 16, 16),
-    (4, 4, 8, 8),
-    (4, 8, 8, 8),
-    (4, 16, 16, 16),
-    (8, 8, 16, 16),
-    (8, 16, 16, 16),
-)
-
 
 class Shape(NamedTuple):
-    """The numbers of a machine. The first four are a row of `SHAPES`."""
+    """The numbers of a machine: 1 to 8 ways, and 1 to 16 words of a block, registers and places of the input stack."""
 
     ways: int = 2
     block_words: int = 4
     regs: int = 8  #: miss registers (MSHRs)
     depth: int = 4  #: places of the input stack
-    words: int = 1024  #: words of memory: 1 to 1048576, and a multiple of block_words
+    words: int = 1024  #: words of memory: 1 to 4294967295, and a multiple of block_words
     sets: int = 4  #: sets of the cache: 1 to 1024
     banks: int = 4  #: banks of memory: 1 to 16
     bank_queue: int = 8  #: commands that wait at a bank at most: block_words / banks, rounded up, to 64
@@ -191,6 +177,25 @@ class Lookup(enum.IntEnum):
     MISS = 2  #: no frame holds the block: it would be asked for, under a register of its own
 
 
+class Outcome(enum.IntEnum):
+    """What became of the request that was offered in a round."""
+
+    IDLE = 0  #: none was offered
+    ACCEPTED = 1
+    LOST = 2  #: it was refused for now: offer it again
+    DENIED = 3  #: it was refused for what no round changes
+
+
+class Round(NamedTuple):
+    """What is told of one round."""
+
+    number: int  #: counted from 1
+    outcome: Outcome
+    cause: Optional[Cause]  #: why the request was refused
+    found: Optional[Lookup]  #: what a load, a store or a prefetch of a word of memory found, accepted or not
+    answered: Optional[Value]  #: the load that was answered: one at most
+
+
 class Machine:
     """A machine over an image of memory: four bytes for each word, or zeros.
 
@@ -272,9 +277,43 @@ class Machine:
             raise MemoryError("too little memory to drive these requests")
         if status != _DONE:
             raise ValueError(_NOT_DRIVEN[status])
-        lost = {cause: getattr(row, f"lost_{cause.name.lower()}") for cause in _LOST}
-        first = (row.rounds, row.accepted, row.denied, row.hits, row.joins, row.misses, row.stalled)
-        return Counts(*first, lost, row.values, row.waited, row.longest, row.written, row.registers)
+        return _counts(row)
+
+    def begin_rounds(self, latency: int = 10, busy: Optional[int] = None) -> None:
+        """Begins rounds, which are those of `drive` and are made one at a time by `round`: nothing is counted yet.
+
+        Rounds that were begun before end. Until `end_rounds` they alone make the machine's events: all else that makes one
+        raises InRounds. ValueError if the latency isn't 0 to 1000, with everything as it was."""
+        busy = latency if busy is None else busy
+        if not (0 <= latency < 2**32 and 0 <= busy < 2**32):
+            raise ValueError("a number of rounds is out of its range")
+        status = self._call("kroft_rounds_begin", latency, busy)
+        if status == _OUT_OF_MEMORY:
+            raise MemoryError("too little memory to begin rounds")
+        if status != _DONE:
+            raise ValueError(_NOT_DRIVEN[status])
+
+    def round(self, request: Optional[Request] = None) -> Round:
+        """Makes one round, in which this request is offered, or none. A request that is lost isn't remembered: it is the
+        caller's to offer again. NoRounds if none were begun; ValueError if it is no request, with no round made."""
+        row, event = RoundRow(), b"" if request is None else event_row(request)
+        status = self._call("kroft_round", event, len(event) // _EVENT_BYTES, c.byref(row))
+        if status != _DONE:
+            raise ValueError(_NOT_DRIVEN[2] if status == 2 else "as many rounds as may be were made")
+        cause = Cause(row.cause) if row.cause else None
+        found = Lookup(row.found) if row.found in iter(Lookup) else None
+        answered = Value(row.tag, bytes(row.word)) if row.answered else None
+        return Round(row.round, Outcome(row.outcome), cause, found, answered)
+
+    def round_counts(self) -> Counts:
+        """What was counted since the rounds were begun; `rounds` are those that were made. NoRounds if none were begun."""
+        row = CountsRow()
+        self._call("kroft_round_counts", c.byref(row))
+        return _counts(row)
+
+    def end_rounds(self) -> None:
+        """Ends the rounds that were begun; the machine stays as it is. NoRounds if none were."""
+        self._call("kroft_rounds_end")
 
     @property
     def weight(self) -> int:
@@ -415,6 +454,10 @@ class Machine:
         status: int = getattr(self._library, name)(c.byref(self._handle), *arguments)
         if status == _CLOSED:
             raise Closed("the machine was closed")
+        if status == _IN_ROUNDS:
+            raise InRounds("rounds are under way, and make the machine's events")
+        if status == _NO_ROUNDS:
+            raise NoRounds("no rounds were begun")
         return status
 
     def _find(self, name: str, *arguments: object) -> None:
@@ -422,6 +465,12 @@ class Machine:
             raise IndexError("there is none")
         if self._call(name, *arguments) == _NONE:
             raise IndexError("there is none")
+
+
+def _counts(row: CountsRow) -> Counts:
+    lost = {cause: getattr(row, f"lost_{cause.name.lower()}") for cause in _LOST}
+    first = (row.rounds, row.accepted, row.denied, row.hits, row.joins, row.misses, row.stalled)
+    return Counts(*first, lost, row.values, row.waited, row.longest, row.written, row.registers)
 
 
 def _arrival(row: ArrivalRow) -> Arrival:

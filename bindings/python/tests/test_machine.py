@@ -131,10 +131,47 @@ class Machines(unittest.TestCase):
             with Machine(usual._replace(banks=1)) as machine:
                 self.assertEqual(machine.drive([Load(1, 0)], latency, busy).rounds, rounds)
 
+    def test_rounds_one_at_a_time(self) -> None:
+        """A load that misses is accepted in round 1, its word's command begins in round 2, and with banks that serve two rounds
+        after that it is answered in round 4; the block's other words come in rounds 5 to 7."""
+        with Machine(SMALL, bytes([5, 6, 7, 8]) * SMALL.words) as machine:
+            machine.begin_rounds(latency=2)
+            accepted = kroft.Round(1, Outcome.ACCEPTED, None, Lookup.MISS, None)
+            self.assertEqual(machine.round(Load(tag=1, at=0)), accepted)
+            lost = kroft.Round(2, Outcome.LOST, Cause.TAG_IN_USE, Lookup.JOIN, None)
+            self.assertEqual(machine.round(Load(tag=1, at=0)), lost)
+            self.assertEqual(machine.round(), kroft.Round(3, Outcome.IDLE, None, None, None))
+            value = Value(tag=1, word=bytes([5, 6, 7, 8]))
+            self.assertEqual(machine.round(Evict(3)), kroft.Round(4, Outcome.DENIED, Cause.NOT_PRESENT, None, value))
+            self.assertEqual([machine.round().answered for _ in range(3)], [None, None, None])
+            counts = machine.round_counts()
+            self.assertEqual((counts.rounds, counts.accepted, counts.denied, counts.values, counts.waited), (7, 1, 1, 1, 3))
+            self.assertEqual((counts.lost[Cause.TAG_IN_USE], sum(counts.lost.values())), (1, 1))
+            with self.assertRaises(kroft.InRounds):
+                machine.load(1, 0)
+            with self.assertRaises(kroft.InRounds):
+                list(machine.pump())
+            with self.assertRaises(kroft.InRounds):
+                machine.drive([])
+            with self.assertRaises(ValueError):
+                machine.round(Drain())  # type: ignore[arg-type]
+            with self.assertRaises(ValueError):
+                machine.begin_rounds(1001)
+            self.assertEqual((machine.round_counts().rounds, machine.weight), (7, 0))
+            machine.end_rounds()
+            with self.assertRaises(kroft.NoRounds):
+                machine.round()
+            with self.assertRaises(kroft.NoRounds):
+                machine.round_counts()
+            with self.assertRaises(kroft.NoRounds):
+                machine.end_rounds()
+            machine.load(1, 0)
+            self.assertEqual(list(machine.values()), [value])
+
     def test_shapes(self) -> None:
         faults = kroft.ShapeFault
         for shape, image, fault in [
-            (SMALL._replace(ways=3), None, faults.NOT_LISTED),
+            (SMALL._replace(ways=9), None, faults.NOT_LISTED),
             (SMALL._replace(words=63), None, faults.WORDS),
             (SMALL._replace(sets=0), None, faults.SETS),
             (SMALL._replace(banks=17), None, faults.BANKS),
@@ -148,7 +185,7 @@ class Machines(unittest.TestCase):
             self.assertEqual((bad.exception.cause, bad.exception.name), (fault, fault.name))
         with self.assertRaises(ValueError):
             Machine(SMALL._replace(ways=2**32 + 2))
-        for ways, block_words, regs, depth in kroft.SHAPES:
+        for ways, block_words, regs, depth in [(1, 4, 1, 1), (8, 16, 10, 16), (3, 2, 7, 5)]:
             shape = Shape(ways, block_words, regs, depth, 64, 4, 4, 64, 64, 8)
             with self.subTest(shape=shape), Machine(shape):
                 pass

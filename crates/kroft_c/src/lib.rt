@@ -28,7 +28,9 @@ pub use parts::{
     kroft_bank_answer, kroft_bank_command, kroft_find, kroft_frame, kroft_frame_word,
     kroft_queue_entry, kroft_reply, kroft_stack_entry,
 };
-pub use rounds::kroft_drive;
+pub use rounds::{
+    kroft_drive, kroft_round, kroft_round_counts, kroft_rounds_begin, kroft_rounds_end,
+};
 pub use traffic::kroft_traffic;
 pub use version::kroft_version;
 pub use views::{kroft_bank_word, kroft_field, kroft_register, kroft_target};

@@ -1,12 +1,13 @@
 //! The machine behind a handle: it is opened, makes its events, and is given up.
 ghost use Rattle.std.specs.Prelude.{◌≡◌, ◌≢◌, None, length};
 ghost use Rattle.std.specs.Option.{option_map, unwrap_or};
-ghost use Rattle.machine_core.specs.AnyMachine.{weight_of, is_settled, pump_tells, pump_leaves};
+ghost use Rattle.machine_core.specs.AnyMachine.{weight_of, is_settled, pump_tells};
 ghost use Rattle.flat_judge.specs.Rows.{event_of};
-ghost use Rattle.machine_handles.specs.Behind.{behind};
-ghost use Rattle.machine_handles.specs.Listed as list;
+ghost use Rattle.machine_handles.specs.Behind.{standing, behind, idle, alone};
+ghost use Rattle.machine_handles.specs.Made as made;
+ghost use Rattle.machine_handles.specs.Rows.{sizes_of};
 ghost use Rattle.machine_handles.specs.Opening.{open_fault, IsTold};
-ghost use Rattle.machine_handles.specs.Calls.{apply_status, apply_row, applied, IsFlat, told_status, test_status, found_status, found_row, pumped_event, pumped_answer};
+ghost use Rattle.machine_handles.specs.Calls.{apply_status, apply_row, applied, IsFlat, pump_status, pumped, told_status, test_status, found_row, pumped_event, pumped_answer};
 
 use flat_judge::{AnswerRow, EventRow};
 use flat_model::Word;
@@ -16,7 +17,7 @@ use std::alloc::Global;
 /// Opens a machine over the words of an image, behind a closed handle.
 ///
 /// 0: it stands behind the handle, and nothing has happened in it. 102: a machine is behind the
-/// handle already. 100: the list has no machine of these ways, words a block, registers and places.
+/// handle already. 100: no machine has these ways, words a block, registers and places.
 /// 5 to 10 and 13: the number of the first member of the shape that is out of its range, 13 that the
 /// image hasn't as many words as memory. 101: there was too little memory. They are looked for in
 /// this order, and after each of them the handle is as it was, and no memory is kept.
@@ -30,26 +31,26 @@ pub extern "C" fn kroft_open(
     ensures status { IsTold result
         (open_fault (behind handle.old) shape.now (length image.now)) }
     ensures machine { result ≡ 0
-        → behind handle.new ≡ list.opened (list.numbers shape.now) image.now }
-    ensures unchanged { result ≢ 0 → behind handle.new ≡ behind handle.old }
+        → standing handle.new ≡ Some (alone (made.opened (sizes_of shape.now) image.now)) }
+    ensures unchanged { result ≢ 0 → standing handle.new ≡ standing handle.old }
 {
     machine_handles::open_machine(alloc, handle, shape, image)
 }
 
-/// Gives the machine up, with all its memory. 0: it is given up, and the handle is closed. 3: the
+/// Gives the machine up, with its rounds and all its memory. 0: it is given up, and the handle is closed. 3: the
 /// handle was closed already.
 #[unsafe(no_mangle)]
 pub extern "C" fn kroft_free(alloc: Global, handle: &mut Handle) -> u32
-    ensures status { result ≡ told_status (behind handle.old) }
-    ensures closed { behind handle.new ≡ None }
+    ensures status { result ≡ told_status (standing handle.old) }
+    ensures closed { standing handle.new ≡ None }
 {
     machine_handles::free_machine(alloc, handle)
 }
 
 /// Makes one event.
 ///
-/// 0: it was made, and `answer` is the machine's. 2: the row is no event. 3: the handle is closed.
-/// After 2 and 3 all is as it was.
+/// 0: it was made, and `answer` is the machine's. 3: the handle is closed. 107: rounds are under way.
+/// 2: the row is no event. They are looked for in this order, and after each of them all is as it was.
 #[unsafe(no_mangle)]
 pub extern "C" fn kroft_apply(
     alloc: Global,
@@ -57,11 +58,12 @@ pub extern "C" fn kroft_apply(
     event: &EventRow,
     answer: &mut AnswerRow,
 ) -> u32
-    ensures status { result ≡ apply_status (behind handle.old) (event_of event.now) }
+    ensures status { result ≡ apply_status (standing handle.old) (event_of event.now) }
     ensures answer { answer.new
-        ≡ apply_row (behind handle.old) (event_of event.now) answer.old }
-    ensures machine { behind handle.new ≡ applied (behind handle.old) (event_of event.now) }
-    ensures flat { IsFlat (behind handle.old) (event_of event.now) }
+        ≡ apply_row (idle handle.old) (event_of event.now) answer.old }
+    ensures machine { standing handle.new
+        ≡ applied (standing handle.old) (event_of event.now) }
+    ensures flat { IsFlat (idle handle.old) (event_of event.now) }
 {
     machine_handles::apply(alloc, handle, event, answer)
 }
@@ -70,7 +72,7 @@ pub extern "C" fn kroft_apply(
 /// command or drains a word, the first of these that is possible.
 ///
 /// 1: it was made, `event` says which it was, and `answer` is the machine's. 0: nothing is on its
-/// way. 3: the handle is closed. After 0 and 3 all is as it was.
+/// way. 3: the handle is closed. 107: rounds are under way. After 0, 3 and 107 all is as it was.
 #[unsafe(no_mangle)]
 pub extern "C" fn kroft_pump(
     alloc: Global,
@@ -78,12 +80,12 @@ pub extern "C" fn kroft_pump(
     event: &mut EventRow,
     answer: &mut AnswerRow,
 ) -> u32
-    ensures status { result ≡ found_status (option_map pump_tells (behind handle.old)) }
+    ensures status { result ≡ pump_status (standing handle.old) }
     ensures event { event.new
-        ≡ found_row pumped_event event.old (option_map pump_tells (behind handle.old)) }
+        ≡ found_row pumped_event event.old (option_map pump_tells (idle handle.old)) }
     ensures answer { answer.new
-        ≡ found_row pumped_answer answer.old (option_map pump_tells (behind handle.old)) }
-    ensures machine { behind handle.new ≡ option_map pump_leaves (behind handle.old) }
+        ≡ found_row pumped_answer answer.old (option_map pump_tells (idle handle.old)) }
+    ensures machine { standing handle.new ≡ pumped (standing handle.old) }
 {
     machine_handles::pump(alloc, handle, event, answer)
 }
@@ -94,7 +96,7 @@ pub extern "C" fn kroft_weight(alloc: Global, handle: &mut Handle, weight: &mut 
     ensures status { result ≡ told_status (behind handle.old) }
     ensures weight { weight.new
         ≡ unwrap_or (option_map weight_of (behind handle.old)) weight.old }
-    ensures same { behind handle.new ≡ behind handle.old }
+    ensures same { standing handle.new ≡ standing handle.old }
 {
     machine_handles::weight(alloc, handle, weight)
 }
@@ -103,7 +105,7 @@ pub extern "C" fn kroft_weight(alloc: Global, handle: &mut Handle, weight: &mut 
 #[unsafe(no_mangle)]
 pub extern "C" fn kroft_settled(alloc: Global, handle: &mut Handle) -> u32
     ensures status { result ≡ test_status (option_map is_settled (behind handle.old)) }
-    ensures same { behind handle.new ≡ behind handle.old }
+    ensures same { standing handle.new ≡ standing handle.old }
 {
     machine_handles::settled(alloc, handle)
 }

@@ -1,7 +1,7 @@
 //! What the parts of the machine behind a handle show, and what a request would find.
 ghost use Rattle.std.specs.Prelude.{◌≡◌};
 ghost use Rattle.std.specs.Option.{option_map};
-ghost use Rattle.machine_handles.specs.Behind.{behind};
+ghost use Rattle.machine_handles.specs.Behind.{standing, behind};
 ghost use Rattle.machine_handles.specs.Parts as parts;
 ghost use Rattle.machine_handles.specs.Calls.{found_status, shown_row};
 
@@ -23,7 +23,7 @@ pub extern "C" fn kroft_frame(
     ensures row { row.new
         ≡ shown_row row.old
         (option_map (λ m. parts.frame_shown m frame) (behind handle.old)) }
-    ensures same { behind handle.new ≡ behind handle.old }
+    ensures same { standing handle.new ≡ standing handle.old }
 {
     machine_handles::frame(alloc, handle, frame, row)
 }
@@ -43,7 +43,7 @@ pub extern "C" fn kroft_frame_word(
     ensures row { row.new
         ≡ shown_row row.old
         (option_map (λ m. parts.frame_word_shown m frame i) (behind handle.old)) }
-    ensures same { behind handle.new ≡ behind handle.old }
+    ensures same { standing handle.new ≡ standing handle.old }
 {
     machine_handles::frame_word(alloc, handle, frame, i, row)
 }
@@ -62,7 +62,7 @@ pub extern "C" fn kroft_stack_entry(
     ensures row { row.new
         ≡ shown_row row.old
         (option_map (λ m. parts.stack_shown m place) (behind handle.old)) }
-    ensures same { behind handle.new ≡ behind handle.old }
+    ensures same { standing handle.new ≡ standing handle.old }
 {
     machine_handles::stack_entry(alloc, handle, place, row)
 }
@@ -81,7 +81,7 @@ pub extern "C" fn kroft_queue_entry(
     ensures row { row.new
         ≡ shown_row row.old
         (option_map (λ m. parts.queue_shown m place) (behind handle.old)) }
-    ensures same { behind handle.new ≡ behind handle.old }
+    ensures same { standing handle.new ≡ standing handle.old }
 {
     machine_handles::queue_entry(alloc, handle, place, row)
 }
@@ -102,7 +102,7 @@ pub extern "C" fn kroft_bank_command(
     ensures row { row.new
         ≡ shown_row row.old
         (option_map (λ m. parts.command_shown m bank place) (behind handle.old)) }
-    ensures same { behind handle.new ≡ behind handle.old }
+    ensures same { standing handle.new ≡ standing handle.old }
 {
     machine_handles::bank_command(alloc, handle, bank, place, row)
 }
@@ -123,7 +123,7 @@ pub extern "C" fn kroft_bank_answer(
     ensures row { row.new
         ≡ shown_row row.old
         (option_map (λ m. parts.bank_answer_shown m bank place) (behind handle.old)) }
-    ensures same { behind handle.new ≡ behind handle.old }
+    ensures same { standing handle.new ≡ standing handle.old }
 {
     machine_handles::bank_answer(alloc, handle, bank, place, row)
 }
@@ -142,7 +142,7 @@ pub extern "C" fn kroft_reply(
     ensures row { row.new
         ≡ shown_row row.old
         (option_map (λ m. parts.reply_shown m place) (behind handle.old)) }
-    ensures same { behind handle.new ≡ behind handle.old }
+    ensures same { standing handle.new ≡ standing handle.old }
 {
     machine_handles::reply(alloc, handle, place, row)
 }
@@ -158,7 +158,7 @@ pub extern "C" fn kroft_find(alloc: Global, handle: &mut Handle, at: u32, lookup
     ensures lookup { lookup.new
         ≡ shown_row lookup.old
         (option_map (λ m. parts.lookup_shown m at) (behind handle.old)) }
-    ensures same { behind handle.new ≡ behind handle.old }
+    ensures same { standing handle.new ≡ standing handle.old }
 {
     machine_handles::find(alloc, handle, at, lookup)
 }

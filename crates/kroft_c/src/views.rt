@@ -2,7 +2,7 @@
 ghost use Rattle.std.specs.Prelude.{◌≡◌};
 ghost use Rattle.std.specs.Option.{option_map};
 ghost use Rattle.machine_core.specs.AnyMachine.{bank_shown, register_shown, field_shown, target_shown};
-ghost use Rattle.machine_handles.specs.Behind.{behind};
+ghost use Rattle.machine_handles.specs.Behind.{standing, behind};
 ghost use Rattle.machine_handles.specs.Rows as rows;
 ghost use Rattle.machine_handles.specs.Calls.{found_status, found_row, same_word};
 
@@ -23,7 +23,7 @@ pub extern "C" fn kroft_bank_word(
         ≡ found_status (option_map (λ m. bank_shown m at) (behind handle.old)) }
     ensures word { word.new
         ≡ found_row same_word word.old (option_map (λ m. bank_shown m at) (behind handle.old)) }
-    ensures same { behind handle.new ≡ behind handle.old }
+    ensures same { standing handle.new ≡ standing handle.old }
 {
     machine_handles::bank_word(alloc, handle, at, word)
 }
@@ -42,7 +42,7 @@ pub extern "C" fn kroft_register(
     ensures row { row.new
         ≡ found_row rows.register_row row.old
         (option_map (λ m. register_shown m slot) (behind handle.old)) }
-    ensures same { behind handle.new ≡ behind handle.old }
+    ensures same { standing handle.new ≡ standing handle.old }
 {
     machine_handles::register(alloc, handle, slot, row)
 }
@@ -62,7 +62,7 @@ pub extern "C" fn kroft_field(
     ensures row { row.new
         ≡ found_row rows.field_row row.old
         (option_map (λ m. field_shown m slot i) (behind handle.old)) }
-    ensures same { behind handle.new ≡ behind handle.old }
+    ensures same { standing handle.new ≡ standing handle.old }
 {
     machine_handles::field(alloc, handle, slot, i, row)
 }
@@ -84,7 +84,7 @@ pub extern "C" fn kroft_target(
     ensures row { row.new
         ≡ found_row rows.target_row row.old
         (option_map (λ m. target_shown m slot i place) (behind handle.old)) }
-    ensures same { behind handle.new ≡ behind handle.old }
+    ensures same { standing handle.new ≡ standing handle.old }
 {
     machine_handles::target(alloc, handle, slot, i, place, row)
 }

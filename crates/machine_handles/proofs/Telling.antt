@@ -1,8 +1,8 @@
 -- A fault that is told by its number is told as it should be.
 use Rattle.std.proofs.Common.{◌≡◌, ℕ, ap, ◌∙◌}
 use Rattle.std.specs.Prelude.{Option, Some, None}
-use Rattle.machine_handles.specs.declared.listed.OpenFault.{OpenFault}
-use Rattle.machine_handles.specs.Listed.{why}
+use Rattle.machine_handles.specs.declared.made.OpenFault.{OpenFault}
+use Rattle.machine_handles.specs.Made.{why}
 use Rattle.machine_handles.specs.Opening.{fault_number, IsTold}
 
 pub is_told : (found : Option OpenFault) (fault : OpenFault) (number : ℕ) → fault ≡ why found → number ≡ fault_number fault → IsTold number found

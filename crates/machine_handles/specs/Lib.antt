@@ -3,7 +3,7 @@ pub mod Rows
 -- what the parts of a machine show
 pub mod Parts
 -- the machines that can be opened
-pub mod Listed
+pub mod Made
 pub mod Opening
 -- a handle, and what stands behind it
 pub mod Open
@@ -12,3 +12,4 @@ pub mod Behind
 pub mod Calls
 -- rounds
 pub mod Rounds
+pub mod Stepping

@@ -9,6 +9,7 @@ use Rattle.round_driver.specs.declared.driving.TheConstants.{MOST_LATENCY}
 use Rattle.round_driver.specs.declared.table.Table.{Table}
 use Rattle.round_driver.specs.declared.timing.Timing.{Timing}
 use Rattle.round_driver.specs.Rounds.{whole_run}
+use Rattle.round_driver.specs.Stepping.{RoundsState}
 use Rattle.round_driver.specs.Tables.{table_of}
 use Rattle.round_driver.specs.Walks.{IsOverInTime}
 use Rattle.flat_judge.specs.declared.rows.EventRow.{EventRow}
@@ -16,7 +17,8 @@ use Rattle.flat_judge.specs.Rows.{event_of}
 use Rattle.machine_handles.specs.declared.rounds.TheConstants.{MOST_REQUESTS}
 use Rattle.machine_handles.specs.declared.rounds.CountsRow.{CountsRow}
 use Rattle.machine_handles.specs.declared.rounds.RoundsFault.{RoundsFault}
-use Rattle.machine_handles.specs.declared.rounds.RoundsFault.TheVariants.{Closed, BadLatency, TooMany, NoRequest, OutOfMemory}
+use Rattle.machine_handles.specs.declared.rounds.RoundsFault.TheVariants.{Closed, InRounds, NoRounds, BadLatency, TooMany, NoRequest, OutOfMemory}
+use Rattle.machine_handles.specs.Behind.{Standing}
 
 -- ---- what is driven
 
@@ -41,9 +43,14 @@ bad_rounds latency rows =
     if nat_lt MOST_REQUESTS (length rows) then Some TooMany else
     if list_all is_request_row rows then None else Some NoRequest
 
-abbrev pub rounds_fault : Option MachineState → ℕ → List EventRow → Option RoundsFault
+-- where other rounds are under way, and where not
+abbrev pub fault_beside : Option RoundsState → ℕ → List EventRow → Option RoundsFault
+fault_beside (Some r) latency rows = Some InRounds
+fault_beside None latency rows = bad_rounds latency rows
+
+abbrev pub rounds_fault : Option Standing → ℕ → List EventRow → Option RoundsFault
 rounds_fault None latency rows = Some Closed
-rounds_fault (Some s) latency rows = bad_rounds latency rows
+rounds_fault (Some b) latency rows = fault_beside b.rounds latency rows
 
 abbrev pub why_not : Option RoundsFault → RoundsFault
 why_not (Some fault) = fault
@@ -96,6 +103,8 @@ rounds_number NoRequest = 2
 rounds_number OutOfMemory = 101
 rounds_number TooMany = 104
 rounds_number BadLatency = 105
+rounds_number NoRounds = 106
+rounds_number InRounds = 107
 
 -- C is told of a fault by its number, and of none by 0, where there was memory
 abbrev pub IsToldOfRounds : ℕ → Option RoundsFault → Type 0

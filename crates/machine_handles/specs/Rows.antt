@@ -1,6 +1,6 @@
 -- What the rows of plain numbers say that a machine is opened by and shows.
-use Rattle.std.specs.Prelude.{ℕ, Bool, ◌&&◌, if◌then◌else◌, ◌==◌}
-use Rattle.flat_model.specs.declared.Shape.{Shape}
+use Rattle.std.specs.Prelude.{ℕ, Bool, if◌then◌else◌}
+use Rattle.cache_unit.specs.declared.Sizes.{Sizes}
 use Rattle.miss_registers.specs.declared.Owed.{Owed}
 use Rattle.miss_registers.specs.declared.RegisterView.{RegisterView}
 use Rattle.miss_registers.specs.declared.FieldView.{FieldView}
@@ -9,14 +9,21 @@ use Rattle.machine_handles.specs.declared.views.RegisterRow.{RegisterRow}
 use Rattle.machine_handles.specs.declared.views.FieldRow.{FieldRow}
 use Rattle.machine_handles.specs.declared.views.TargetRow.{TargetRow}
 
--- the numbers that a shape has
-abbrev pub shape_of : ShapeRow → Shape
-shape_of r =
-    record { words = r.words; sets = r.sets; banks = r.banks; bank_queue = r.bank_queue; write_queue = r.write_queue; replies = r.replies }
-
--- these are its words of a block, registers and places
-unfoldable pub has : ShapeRow → ℕ → ℕ → ℕ → Bool
-has r block_words regs depth = (r.block_words == block_words) && ((r.regs == regs) && (r.depth == depth))
+-- the numbers of the machine that a row asks for
+abbrev pub sizes_of : ShapeRow → Sizes
+sizes_of r =
+    record {
+      ways = r.ways;
+      block_words = r.block_words;
+      regs = r.regs;
+      depth = r.depth;
+      words = r.words;
+      sets = r.sets;
+      banks = r.banks;
+      bank_queue = r.bank_queue;
+      write_queue = r.write_queue;
+      replies = r.replies;
+    }
 
 abbrev pub bit : Bool → ℕ
 bit b = if b then 1 else 0

@@ -1,14 +1,15 @@
 //! The calls of a machine behind a handle.
-ghost use Rattle.std.specs.Prelude.{◌≡◌};
+ghost use Rattle.std.specs.Prelude.{◌≡◌, Some};
 ghost use Rattle.std.specs.Option.{option_map, unwrap_or};
-ghost use Rattle.machine_core.specs.AnyMachine.{weight_of, is_settled, bank_shown, register_shown, field_shown, target_shown, pump_tells, pump_leaves};
-ghost use Rattle.machine_handles.specs.Behind.{behind};
+ghost use Rattle.machine_core.specs.AnyMachine.{weight_of, is_settled, bank_shown, register_shown, field_shown, target_shown, pump_tells};
+ghost use Rattle.machine_handles.specs.Behind.{standing, standing_of, behind, idle, idle_in};
 ghost use Rattle.flat_judge.specs.Rows.{event_of};
 ghost use Rattle.machine_handles.specs.Rows as rows;
-ghost use Rattle.machine_handles.specs.Calls.{apply_status, apply_row, applied, IsFlat, told_status, test_status, found_status, found_row, pumped_event, pumped_answer, same_word};
+ghost use Rattle.machine_handles.specs.Calls.{apply_status, apply_row, applied, IsFlat, pump_status, pumped, told_status, test_status, found_status, found_row, pumped_event, pumped_answer, same_word};
 
 use crate::handle::Handle;
-use crate::status::{CLOSED, DONE, FOUND, NO_EVENT, NOT_THERE};
+use crate::kept::Kept;
+use crate::status::{CLOSED, DONE, FOUND, IN_ROUNDS, NO_EVENT, NOT_THERE};
 use crate::views::{FieldRow, RegisterRow, TargetRow, field_row, register_row, target_row};
 use flat_judge::{AnswerRow, EventRow, answer_row, event_row};
 use flat_model::Word;
@@ -17,47 +18,81 @@ use std::alloc::Global;
 
 /// Makes one event.
 ///
-/// 0: it was made, and `answer` is the machine's. 2: the row is no event. 3: the handle is closed.
-/// After 2 and 3 all is as it was.
+/// 0: it was made, and `answer` is the machine's. 3: the handle is closed. 107: rounds are under way.
+/// 2: the row is no event. They are looked for in this order, and after each of them all is as it was.
 pub fn apply(alloc: Global, handle: &mut Handle, event: &EventRow, answer: &mut AnswerRow) -> u32
-    ensures status { result ≡ apply_status (behind handle.old) (event_of event.now) }
+    ensures status { result ≡ apply_status (standing handle.old) (event_of event.now) }
     ensures answer { answer.new
-        ≡ apply_row (behind handle.old) (event_of event.now) answer.old }
-    ensures machine { behind handle.new ≡ applied (behind handle.old) (event_of event.now) }
-    ensures flat { IsFlat (behind handle.old) (event_of event.now) }
+        ≡ apply_row (idle handle.old) (event_of event.now) answer.old }
+    ensures machine { standing handle.new
+        ≡ applied (standing handle.old) (event_of event.now) }
+    ensures flat { IsFlat (idle handle.old) (event_of event.now) }
 {
-    let Some(mut machine) = handle.take(alloc) else {
+    let Some(mut kept) = handle.take(alloc) else {
         return CLOSED;
     };
-    let status = match event.event() {
+    let status = apply_in(kept.as_mut(), event, answer);
+    handle.keep(kept);
+    status
+}
+
+// Makes one event, unless rounds make them.
+fn apply_in(kept: &mut Kept, event: &EventRow, answer: &mut AnswerRow) -> u32
+    ensures status { result ≡ apply_status (Some (standing_of kept.old)) (event_of event.now) }
+    ensures answer { answer.new
+        ≡ apply_row (idle_in (Some (standing_of kept.old))) (event_of event.now) answer.old }
+    ensures machine { Some (standing_of kept.new)
+        ≡ applied (Some (standing_of kept.old)) (event_of event.now) }
+    ensures flat { IsFlat (idle_in (Some (standing_of kept.old))) (event_of event.now) }
+{
+    if !kept.is_idle() {
+        return IN_ROUNDS;
+    }
+    match event.event() {
         Some(event) => {
-            *answer = answer_row(machine.as_mut().apply(event));
+            *answer = answer_row(AnyMachine::apply(&mut kept.machine, event));
             DONE
         }
         None => NO_EVENT,
-    };
-    handle.keep(machine);
-    status
+    }
 }
 
 /// Makes the driver's event: takes a ready reply, processes a word, has an answer arrive, serves a
 /// command or drains a word, the first of these that is possible.
 ///
 /// 1: it was made, `event` says which it was, and `answer` is the machine's. 0: nothing is on its
-/// way. 3: the handle is closed. After 0 and 3 all is as it was.
+/// way. 3: the handle is closed. 107: rounds are under way. After 0, 3 and 107 all is as it was.
 pub fn pump(alloc: Global, handle: &mut Handle, event: &mut EventRow, answer: &mut AnswerRow) -> u32
-    ensures status { result ≡ found_status (option_map pump_tells (behind handle.old)) }
+    ensures status { result ≡ pump_status (standing handle.old) }
     ensures event { event.new
-        ≡ found_row pumped_event event.old (option_map pump_tells (behind handle.old)) }
+        ≡ found_row pumped_event event.old (option_map pump_tells (idle handle.old)) }
     ensures answer { answer.new
-        ≡ found_row pumped_answer answer.old (option_map pump_tells (behind handle.old)) }
-    ensures machine { behind handle.new ≡ option_map pump_leaves (behind handle.old) }
+        ≡ found_row pumped_answer answer.old (option_map pump_tells (idle handle.old)) }
+    ensures machine { standing handle.new ≡ pumped (standing handle.old) }
 {
-    let Some(mut machine) = handle.take(alloc) else {
+    let Some(mut kept) = handle.take(alloc) else {
         return CLOSED;
     };
-    let made = machine.as_mut().pump();
-    handle.keep(machine);
+    let status = pump_in(kept.as_mut(), event, answer);
+    handle.keep(kept);
+    status
+}
+
+// Makes the driver's event, unless rounds make them.
+fn pump_in(kept: &mut Kept, event: &mut EventRow, answer: &mut AnswerRow) -> u32
+    ensures status { result ≡ pump_status (Some (standing_of kept.old)) }
+    ensures event { event.new
+        ≡ found_row pumped_event event.old
+        (option_map pump_tells (idle_in (Some (standing_of kept.old)))) }
+    ensures answer { answer.new
+        ≡ found_row pumped_answer answer.old
+        (option_map pump_tells (idle_in (Some (standing_of kept.old)))) }
+    ensures machine { Some (standing_of kept.new) ≡ pumped (Some (standing_of kept.old)) }
+{
+    if !kept.is_idle() {
+        return IN_ROUNDS;
+    }
+    let made = AnyMachine::pump(&mut kept.machine);
     match made {
         Some((pumped, told)) => {
             *event = event_row(pumped);
@@ -73,26 +108,26 @@ pub fn weight(alloc: Global, handle: &mut Handle, weight: &mut u64) -> u32
     ensures status { result ≡ told_status (behind handle.old) }
     ensures weight { weight.new
         ≡ unwrap_or (option_map weight_of (behind handle.old)) weight.old }
-    ensures same { behind handle.new ≡ behind handle.old }
+    ensures same { standing handle.new ≡ standing handle.old }
 {
-    let Some(machine) = handle.take(alloc) else {
+    let Some(kept) = handle.take(alloc) else {
         return CLOSED;
     };
-    *weight = machine.as_ref().weight();
-    handle.keep(machine);
+    *weight = AnyMachine::weight(&kept.as_ref().machine);
+    handle.keep(kept);
     DONE
 }
 
 /// Whether nothing is on its way to memory. 1: nothing is. 0: something is. 3: the handle is closed.
 pub fn settled(alloc: Global, handle: &mut Handle) -> u32
     ensures status { result ≡ test_status (option_map is_settled (behind handle.old)) }
-    ensures same { behind handle.new ≡ behind handle.old }
+    ensures same { standing handle.new ≡ standing handle.old }
 {
-    let Some(machine) = handle.take(alloc) else {
+    let Some(kept) = handle.take(alloc) else {
         return CLOSED;
     };
-    let settled = machine.as_ref().settled();
-    handle.keep(machine);
+    let settled = AnyMachine::settled(&kept.as_ref().machine);
+    handle.keep(kept);
     u32::from(settled)
 }
 
@@ -103,13 +138,13 @@ pub fn bank_word(alloc: Global, handle: &mut Handle, at: u32, word: &mut Word) -
         ≡ found_status (option_map (λ m. bank_shown m at) (behind handle.old)) }
     ensures word { word.new
         ≡ found_row same_word word.old (option_map (λ m. bank_shown m at) (behind handle.old)) }
-    ensures same { behind handle.new ≡ behind handle.old }
+    ensures same { standing handle.new ≡ standing handle.old }
 {
-    let Some(machine) = handle.take(alloc) else {
+    let Some(kept) = handle.take(alloc) else {
         return CLOSED;
     };
-    let found = machine.as_ref().bank_word(at);
-    handle.keep(machine);
+    let found = AnyMachine::bank_word(&kept.as_ref().machine, at);
+    handle.keep(kept);
     match found {
         Some(stored) => {
             *word = stored;
@@ -127,13 +162,13 @@ pub fn register(alloc: Global, handle: &mut Handle, slot: u32, row: &mut Registe
     ensures row { row.new
         ≡ found_row rows.register_row row.old
         (option_map (λ m. register_shown m slot) (behind handle.old)) }
-    ensures same { behind handle.new ≡ behind handle.old }
+    ensures same { standing handle.new ≡ standing handle.old }
 {
-    let Some(machine) = handle.take(alloc) else {
+    let Some(kept) = handle.take(alloc) else {
         return CLOSED;
     };
-    let found = machine.as_ref().register(slot);
-    handle.keep(machine);
+    let found = AnyMachine::register(&kept.as_ref().machine, slot);
+    handle.keep(kept);
     match found {
         Some(view) => {
             *row = register_row(&view);
@@ -151,13 +186,13 @@ pub fn field(alloc: Global, handle: &mut Handle, slot: u32, i: u32, row: &mut Fi
     ensures row { row.new
         ≡ found_row rows.field_row row.old
         (option_map (λ m. field_shown m slot i) (behind handle.old)) }
-    ensures same { behind handle.new ≡ behind handle.old }
+    ensures same { standing handle.new ≡ standing handle.old }
 {
-    let Some(machine) = handle.take(alloc) else {
+    let Some(kept) = handle.take(alloc) else {
         return CLOSED;
     };
-    let found = machine.as_ref().field(slot, i);
-    handle.keep(machine);
+    let found = AnyMachine::field(&kept.as_ref().machine, slot, i);
+    handle.keep(kept);
     match found {
         Some(view) => {
             *row = field_row(&view);
@@ -183,13 +218,13 @@ pub fn target(
     ensures row { row.new
         ≡ found_row rows.target_row row.old
         (option_map (λ m. target_shown m slot i place) (behind handle.old)) }
-    ensures same { behind handle.new ≡ behind handle.old }
+    ensures same { standing handle.new ≡ standing handle.old }
 {
-    let Some(machine) = handle.take(alloc) else {
+    let Some(kept) = handle.take(alloc) else {
         return CLOSED;
     };
-    let found = machine.as_ref().target(slot, i, place);
-    handle.keep(machine);
+    let found = AnyMachine::target(&kept.as_ref().machine, slot, i, place);
+    handle.keep(kept);
     match found {
         Some(owed) => {
             *row = target_row(&owed);

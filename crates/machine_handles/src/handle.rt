@@ -1,12 +1,12 @@
 //! A handle: what a caller in C holds of a machine.
 //!
-//! The machine lies in memory of its own, and the handle says where. Three functions follow the
+//! The machine lies in memory of its own, with the rounds that were begun with it, and the handle says where. Three functions follow the
 //! pointer, each proved by hand, and what is said of them names none: the machine is taken out as a
 //! box, and a box is kept.
 ghost use Rattle.std.specs.Prelude.{◌≡◌, ◌≢◌, IfSome, IsNone, None, Some, is_some};
-ghost use Rattle.machine_handles.specs.declared.listed.Listed.{Listed};
+ghost use Rattle.machine_handles.specs.declared.kept.Kept.{Kept};
 
-use crate::listed::Listed;
+use crate::kept::Kept;
 use std::alloc::Global;
 use std::marker::Model;
 
@@ -24,29 +24,28 @@ pub struct Handle {
     /// 0 if no machine is behind it.
     pub open: u32,
     at: *mut Opaque,
-    /// The machine, while the handle is open.
-    pub ghost machine: { Listed },
+    /// The machine and its rounds, while the handle is open.
+    pub ghost kept: { Kept },
 }
 
 impl Model for Handle {
     ghost use Rattle.machine_handles.specs.Blocks.{block_token};
     ghost use Rattle.std.specs.Box.Ownership.{box_owns};
     ghost use Rattle.std.specs.Vec.Ownership.{owns_if};
-    ghost use Rattle.machine_handles.specs.contracts.listed.Listed.{the_row};
+    ghost use Rattle.machine_handles.specs.contracts.kept.Kept.{the_row};
     ghost use Rattle.machine_handles.specs.Open.{nonzero};
 
-    ghost also_owns = { λ h. owns_if (nonzero h.open) (box_owns block_token the_row h.at h.machine) };
+    ghost also_owns = { λ h. owns_if (nonzero h.open) (box_owns block_token the_row h.at h.kept) };
 }
 
 impl Handle {
-    ghost use Rattle.machine_handles.specs.Behind.{behind};
-    ghost use Rattle.machine_handles.specs.Listed.{state};
+    ghost use Rattle.machine_handles.specs.Behind.{standing, standing_of};
 
-    /// Takes the machine out; the handle is then closed.
-    pub(crate) fn take(&mut self, alloc: Global) -> Option<Box<Listed, Global>>
-        ensures machine { IfSome result (λ b. behind self.old ≡ Some (state b.value)) }
-        ensures closed { IsNone result → behind self.old ≡ None }
-        ensures after { behind self.new ≡ None }
+    /// Takes the machine and its rounds out; the handle is then closed.
+    pub(crate) fn take(&mut self, alloc: Global) -> Option<Box<Kept, Global>>
+        ensures kept { IfSome result (λ b. standing self.old ≡ Some (standing_of b.value)) }
+        ensures closed { IsNone result → standing self.old ≡ None }
+        ensures after { standing self.new ≡ None }
     {
         if self.mark() == 0 {
             None
@@ -57,8 +56,8 @@ impl Handle {
 
     /// Whether a machine is behind it.
     pub(crate) fn is_open(&mut self) -> bool
-        ensures open { result ≡ is_some (behind self.old) }
-        ensures same { behind self.new ≡ behind self.old }
+        ensures open { result ≡ is_some (standing self.old) }
+        ensures same { standing self.new ≡ standing self.old }
     {
         self.mark() != 0
     }
@@ -70,20 +69,20 @@ impl Handle {
         self.open
     }
 
-    fn taken(&mut self, alloc: Global) -> Box<Listed, Global>
+    fn taken(&mut self, alloc: Global) -> Box<Kept, Global>
         requires { self.old.open ≢ 0 }
-        ensures { (result.value ≡ self.old.machine) × (self.new.open ≡ 0) }
+        ensures { (result.value ≡ self.old.kept) × (self.new.open ≡ 0) }
     {
         self.open = 0;
-        unsafe { Box::from_raw(alloc, self.at as *mut Listed) }
+        unsafe { Box::from_raw(alloc, self.at as *mut Kept) }
     }
 
-    /// Keeps a machine in a closed handle.
-    pub(crate) fn keep(&mut self, machine: Box<Listed, Global>)
-        requires closed { behind self.old ≡ None }
-        ensures { behind self.new ≡ Some (state machine.value) }
+    /// Keeps a machine with its rounds in a closed handle.
+    pub(crate) fn keep(&mut self, kept: Box<Kept, Global>)
+        requires closed { standing self.old ≡ None }
+        ensures { standing self.new ≡ Some (standing_of kept.value) }
     {
-        self.at = Box::into_raw(machine) as *mut Opaque;
+        self.at = Box::into_raw(kept) as *mut Opaque;
         self.open = 1;
     }
 }

@@ -7,13 +7,15 @@
 
 mod calls;
 mod handle;
-mod listed;
+mod kept;
+mod made;
 mod open;
 mod part_calls;
 mod part_rows;
 mod parts;
 mod rounds;
 mod status;
+mod stepping;
 mod views;
 
 pub use calls::{apply, bank_word, field, pump, register, settled, target, weight};
@@ -24,4 +26,5 @@ pub use part_calls::{
 };
 pub use part_rows::{ArrivalRow, CommandRow, FrameRow, FrameWordRow, QueuedRow};
 pub use rounds::{CountsRow, drive};
+pub use stepping::{RoundRow, begin_rounds, end_rounds, round, round_counts};
 pub use views::{FieldRow, RegisterRow, ShapeRow, TargetRow};

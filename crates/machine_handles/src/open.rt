@@ -1,19 +1,21 @@
 //! A machine is opened and freed.
 ghost use Rattle.std.specs.Prelude.{◌≡◌, ◌≢◌, Some, None, IfOk, OnOk, IfErr, OnErr, length};
-ghost use Rattle.machine_handles.specs.Behind.{behind};
+ghost use Rattle.machine_handles.specs.Behind.{standing, standing_of, behind, alone};
 ghost use Rattle.machine_handles.specs.Calls.{told_status};
-ghost use Rattle.machine_handles.specs.Listed as list;
+ghost use Rattle.machine_handles.specs.Made as made;
+ghost use Rattle.machine_handles.specs.Rows.{sizes_of};
 ghost use Rattle.machine_handles.specs.Opening.{field_number, fault_number, open_fault, IsTold};
 
 use crate::handle::Handle;
-use crate::listed::{Listed, OpenFault};
+use crate::kept::Kept;
+use crate::made::{OpenFault, made};
 use crate::status::{CLOSED, DONE, OUT_OF_MEMORY};
 use crate::views::ShapeRow;
 use flat_model::{ShapeField, Word};
 use std::alloc::Global;
 
-/// The list has no such machine.
-const NOT_LISTED: u32 = 100;
+/// There is no machine of these first four numbers.
+const NO_SUCH_MACHINE: u32 = 100;
 
 /// A machine is behind the handle already.
 const OPEN_ALREADY: u32 = 102;
@@ -21,7 +23,7 @@ const OPEN_ALREADY: u32 = 102;
 /// Opens a machine over the words of an image, behind a closed handle.
 ///
 /// 0: it stands behind the handle, and nothing has happened in it. 102: a machine is behind the
-/// handle already. 100: the list has no machine of these ways, words a block, registers and places.
+/// handle already. 100: no machine has these ways, words a block, registers and places.
 /// 5 to 10 and 13: the number of the first member of the shape that is out of its range, 13 that the
 /// image hasn't as many words as memory. 101: there was too little memory. They are looked for in
 /// this order, and after each of them the handle is as it was, and no memory is kept.
@@ -29,8 +31,8 @@ pub fn open_machine(alloc: Global, handle: &mut Handle, shape: &ShapeRow, image:
     ensures status { IsTold result
         (open_fault (behind handle.old) shape.now (length image.now)) }
     ensures machine { result ≡ 0
-        → behind handle.new ≡ list.opened (list.numbers shape.now) image.now }
-    ensures unchanged { result ≢ 0 → behind handle.new ≡ behind handle.old }
+        → standing handle.new ≡ Some (alone (made.opened (sizes_of shape.now) image.now)) }
+    ensures unchanged { result ≢ 0 → standing handle.new ≡ standing handle.old }
 {
     match open_into(alloc, handle, shape, image) {
         Ok(()) => DONE,
@@ -38,15 +40,15 @@ pub fn open_machine(alloc: Global, handle: &mut Handle, shape: &ShapeRow, image:
     }
 }
 
-/// Gives the machine up, with all its memory. 0: it is given up, and the handle is closed. 3: the
+/// Gives the machine up, with its rounds and all its memory. 0: it is given up, and the handle is closed. 3: the
 /// handle was closed already.
 pub fn free_machine(alloc: Global, handle: &mut Handle) -> u32
-    ensures status { result ≡ told_status (behind handle.old) }
-    ensures closed { behind handle.new ≡ None }
+    ensures status { result ≡ told_status (standing handle.old) }
+    ensures closed { standing handle.new ≡ None }
 {
     match handle.take(alloc) {
-        Some(machine) => {
-            drop(machine);
+        Some(kept) => {
+            drop(kept);
             DONE
         }
         None => CLOSED,
@@ -63,30 +65,34 @@ fn open_into(
     ensures in_range { OnOk result
         (open_fault (behind handle.old) shape.now (length image.now) ≡ None) }
     ensures opened { OnOk result
-        (behind handle.new ≡ list.opened (list.numbers shape.now) image.now) }
+        (standing handle.new ≡ Some (alone (made.opened (sizes_of shape.now) image.now))) }
     ensures fault { IfErr result
-        (λ e. e ≡ list.why (open_fault (behind handle.old) shape.now (length image.now))) }
-    ensures unchanged { OnErr result (behind handle.new ≡ behind handle.old) }
+        (λ e. e ≡ made.why (open_fault (behind handle.old) shape.now (length image.now))) }
+    ensures unchanged { OnErr result (standing handle.new ≡ standing handle.old) }
 {
     if handle.is_open() {
         return Err(OpenFault::OpenAlready);
     }
-    let machine = boxed(alloc, shape, image)?;
-    handle.keep(machine);
+    let kept = boxed(alloc, shape, image)?;
+    handle.keep(kept);
     Ok(())
 }
 
-// A machine of the list, in memory of its own.
-fn boxed(alloc: Global, shape: &ShapeRow, image: &[Word]) -> Result<Box<Listed, Global>, OpenFault>
+// A machine without rounds, in memory of its own.
+fn boxed(alloc: Global, shape: &ShapeRow, image: &[Word]) -> Result<Box<Kept, Global>, OpenFault>
     ensures ok { IfOk result
-        (λ b. list.opened (list.numbers shape.now) image.now ≡ Some (list.state b.value)) }
+        (λ b. alone (made.opened (sizes_of shape.now) image.now) ≡ standing_of b.value) }
     ensures in_range { OnOk result
-        (list.fault_in (list.numbers shape.now) (length image.now) ≡ None) }
+        (made.fault_in (sizes_of shape.now) (length image.now) ≡ None) }
     ensures fault { IfErr result
-        (λ e. e ≡ list.why (list.fault_in (list.numbers shape.now) (length image.now))) }
+        (λ e. e ≡ made.why (made.fault_in (sizes_of shape.now) (length image.now))) }
 {
-    let machine = Listed::new(alloc, shape, image)?;
-    match Box::new(alloc, machine) {
+    let machine = made(alloc, shape, image)?;
+    let kept = Kept {
+        machine,
+        rounds: None,
+    };
+    match Box::new(alloc, kept) {
         Ok(kept) => Ok(kept),
         Err(_) => Err(OpenFault::OutOfMemory),
     }
@@ -97,7 +103,7 @@ fn fault_number(fault: OpenFault) -> u32
     ensures fault { result ≢ 0 }
 {
     match fault {
-        OpenFault::NotListed => NOT_LISTED,
+        OpenFault::NoSuchMachine => NO_SUCH_MACHINE,
         OpenFault::BadShape(field) => field_number(field),
         OpenFault::OutOfMemory => OUT_OF_MEMORY,
         OpenFault::OpenAlready => OPEN_ALREADY,

@@ -1,7 +1,7 @@
 //! The calls that show the parts of a machine behind a handle.
 ghost use Rattle.std.specs.Prelude.{◌≡◌, Some};
 ghost use Rattle.std.specs.Option.{option_map};
-ghost use Rattle.machine_handles.specs.Behind.{behind};
+ghost use Rattle.machine_handles.specs.Behind.{standing, behind};
 ghost use Rattle.machine_handles.specs.Parts as parts;
 ghost use Rattle.machine_handles.specs.Calls.{found_status, shown_row};
 
@@ -34,13 +34,13 @@ pub fn frame(alloc: Global, handle: &mut Handle, frame: u32, row: &mut FrameRow)
     ensures row { row.new
         ≡ shown_row row.old
         (option_map (λ m. parts.frame_shown m frame) (behind handle.old)) }
-    ensures same { behind handle.new ≡ behind handle.old }
+    ensures same { standing handle.new ≡ standing handle.old }
 {
-    let Some(machine) = handle.take(alloc) else {
+    let Some(kept) = handle.take(alloc) else {
         return CLOSED;
     };
-    let found = machine.as_ref().frame(frame);
-    handle.keep(machine);
+    let found = kept.as_ref().machine.frame(frame);
+    handle.keep(kept);
     tell(found, row)
 }
 
@@ -58,13 +58,13 @@ pub fn frame_word(
     ensures row { row.new
         ≡ shown_row row.old
         (option_map (λ m. parts.frame_word_shown m frame i) (behind handle.old)) }
-    ensures same { behind handle.new ≡ behind handle.old }
+    ensures same { standing handle.new ≡ standing handle.old }
 {
-    let Some(machine) = handle.take(alloc) else {
+    let Some(kept) = handle.take(alloc) else {
         return CLOSED;
     };
-    let found = machine.as_ref().frame_word(frame, i);
-    handle.keep(machine);
+    let found = kept.as_ref().machine.frame_word(frame, i);
+    handle.keep(kept);
     tell(found, row)
 }
 
@@ -76,13 +76,13 @@ pub fn stack_entry(alloc: Global, handle: &mut Handle, place: u32, row: &mut Arr
     ensures row { row.new
         ≡ shown_row row.old
         (option_map (λ m. parts.stack_shown m place) (behind handle.old)) }
-    ensures same { behind handle.new ≡ behind handle.old }
+    ensures same { standing handle.new ≡ standing handle.old }
 {
-    let Some(machine) = handle.take(alloc) else {
+    let Some(kept) = handle.take(alloc) else {
         return CLOSED;
     };
-    let found = machine.as_ref().stack_entry(place);
-    handle.keep(machine);
+    let found = ShownMachine::stack_entry(&kept.as_ref().machine, place);
+    handle.keep(kept);
     tell(found, row)
 }
 
@@ -94,13 +94,13 @@ pub fn queue_entry(alloc: Global, handle: &mut Handle, place: u32, row: &mut Que
     ensures row { row.new
         ≡ shown_row row.old
         (option_map (λ m. parts.queue_shown m place) (behind handle.old)) }
-    ensures same { behind handle.new ≡ behind handle.old }
+    ensures same { standing handle.new ≡ standing handle.old }
 {
-    let Some(machine) = handle.take(alloc) else {
+    let Some(kept) = handle.take(alloc) else {
         return CLOSED;
     };
-    let found = machine.as_ref().queue_entry(place);
-    handle.keep(machine);
+    let found = ShownMachine::queue_entry(&kept.as_ref().machine, place);
+    handle.keep(kept);
     tell(found, row)
 }
 
@@ -119,13 +119,13 @@ pub fn bank_command(
     ensures row { row.new
         ≡ shown_row row.old
         (option_map (λ m. parts.command_shown m bank place) (behind handle.old)) }
-    ensures same { behind handle.new ≡ behind handle.old }
+    ensures same { standing handle.new ≡ standing handle.old }
 {
-    let Some(machine) = handle.take(alloc) else {
+    let Some(kept) = handle.take(alloc) else {
         return CLOSED;
     };
-    let found = machine.as_ref().bank_command(bank, place);
-    handle.keep(machine);
+    let found = kept.as_ref().machine.bank_command(bank, place);
+    handle.keep(kept);
     tell(found, row)
 }
 
@@ -144,13 +144,13 @@ pub fn bank_answer(
     ensures row { row.new
         ≡ shown_row row.old
         (option_map (λ m. parts.bank_answer_shown m bank place) (behind handle.old)) }
-    ensures same { behind handle.new ≡ behind handle.old }
+    ensures same { standing handle.new ≡ standing handle.old }
 {
-    let Some(machine) = handle.take(alloc) else {
+    let Some(kept) = handle.take(alloc) else {
         return CLOSED;
     };
-    let found = machine.as_ref().bank_answer(bank, place);
-    handle.keep(machine);
+    let found = kept.as_ref().machine.bank_answer(bank, place);
+    handle.keep(kept);
     tell(found, row)
 }
 
@@ -162,13 +162,13 @@ pub fn reply(alloc: Global, handle: &mut Handle, place: u32, row: &mut AnswerRow
     ensures row { row.new
         ≡ shown_row row.old
         (option_map (λ m. parts.reply_shown m place) (behind handle.old)) }
-    ensures same { behind handle.new ≡ behind handle.old }
+    ensures same { standing handle.new ≡ standing handle.old }
 {
-    let Some(machine) = handle.take(alloc) else {
+    let Some(kept) = handle.take(alloc) else {
         return CLOSED;
     };
-    let found = machine.as_ref().reply(place);
-    handle.keep(machine);
+    let found = ShownMachine::reply(&kept.as_ref().machine, place);
+    handle.keep(kept);
     tell(found, row)
 }
 
@@ -182,12 +182,12 @@ pub fn find(alloc: Global, handle: &mut Handle, at: u32, lookup: &mut u32) -> u3
     ensures lookup { lookup.new
         ≡ shown_row lookup.old
         (option_map (λ m. parts.lookup_shown m at) (behind handle.old)) }
-    ensures same { behind handle.new ≡ behind handle.old }
+    ensures same { standing handle.new ≡ standing handle.old }
 {
-    let Some(machine) = handle.take(alloc) else {
+    let Some(kept) = handle.take(alloc) else {
         return CLOSED;
     };
-    let found = machine.as_ref().lookup(at);
-    handle.keep(machine);
+    let found = kept.as_ref().machine.lookup(at);
+    handle.keep(kept);
     tell(found, lookup)
 }

@@ -1,4 +1,4 @@
-//! What the parts of a machine show, whatever its four const numbers are.
+//! What the parts of a machine show, whatever it is made of.
 ghost use Rattle.std.specs.Prelude.{◌≡◌};
 ghost use Rattle.machine_handles.specs.Parts as parts;
 
@@ -7,7 +7,7 @@ use crate::part_rows::{
     entry_row, frame_row, frame_word_row, lookup_number, queued_row,
 };
 use flat_judge::{AnswerRow, answer_row};
-use machine_core::{AnyMachine, Machine};
+use machine_core::{AnyMachine, ShapedMachine};
 
 /// A machine that shows its parts as rows: its frames, what waits in it, and what a request would
 /// find. `None` is no such thing.
@@ -46,12 +46,11 @@ pub trait ShownMachine: AnyMachine {
 }
 
 #[tactic(auto, unfolding(crate::specs::Parts::frame_shown, crate::specs::Parts::frame_word_shown, crate::specs::Parts::stack_shown, crate::specs::Parts::queue_shown, crate::specs::Parts::command_shown, crate::specs::Parts::bank_answer_shown, crate::specs::Parts::reply_shown, crate::specs::Parts::lookup_shown))]
-impl<const WAYS: usize, const WORDS: usize, const REGS: usize, const DEPTH: usize> ShownMachine
-    for Machine<WAYS, WORDS, REGS, DEPTH> {
+impl ShownMachine for ShapedMachine {
     fn frame(&self, frame: u32) -> Option<FrameRow> {
         // (its numbers are in their ranges, as its weight's contract says)
         let _weight = self.weight();
-        if frame < self.shape().sets * WAYS as u32 {
+        if frame < self.sizes().sets * self.sizes().ways {
             Some(frame_row(self.frame_block(frame)))
         } else {
             None
@@ -63,11 +62,11 @@ impl<const WAYS: usize, const WORDS: usize, const REGS: usize, const DEPTH: usiz
     }
 
     fn stack_entry(&self, place: u32) -> Option<ArrivalRow> {
-        Machine::stack_entry(self, place).map(entry_row)
+        ShapedMachine::stack_entry(self, place).map(entry_row)
     }
 
     fn queue_entry(&self, place: u32) -> Option<QueuedRow> {
-        Machine::queue_entry(self, place).map(queued_row)
+        ShapedMachine::queue_entry(self, place).map(queued_row)
     }
 
     fn bank_command(&self, bank: u32, place: u32) -> Option<CommandRow> {
@@ -79,7 +78,7 @@ impl<const WAYS: usize, const WORDS: usize, const REGS: usize, const DEPTH: usiz
     }
 
     fn reply(&self, place: u32) -> Option<AnswerRow> {
-        Machine::reply(self, place).map(|answer| answer_row(answer))
+        ShapedMachine::reply(self, place).map(|answer| answer_row(answer))
     }
 
     fn lookup(&self, at: u32) -> Option<u32> {

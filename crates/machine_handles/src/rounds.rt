@@ -1,24 +1,25 @@
 //! Requests driven through the machine behind a handle, in rounds.
 ghost use Rattle.std.specs.Prelude.{◌≡◌, ◌≢◌, ◌≤◌, Some, None, IfOk, OnOk, IfErr, OnErr, IsTrue, length};
 ghost use Rattle.std.specs.List.{list_all};
+ghost use Rattle.std.specs.Option.{option_map};
 ghost use Rattle.machine_core.specs.Machine.{MachineState};
-ghost use Rattle.machine_handles.specs.Behind.{behind};
-ghost use Rattle.machine_handles.specs.Listed.{state};
+ghost use Rattle.machine_handles.specs.Behind.{standing, standing_of, behind, alone};
 ghost use Rattle.machine_handles.specs.Rounds as rounds;
 ghost use Rattle.machine_handles.specs.Rounds.{bad_rounds, rounds_fault, counted, driven, IsDriven, IsToldOfRounds, rounds_number, why_not};
 
 use crate::handle::Handle;
-use crate::listed::Listed;
-use crate::status::{CLOSED, DONE, NO_EVENT, OUT_OF_MEMORY};
+use crate::kept::Kept;
+use crate::status::{CLOSED, DONE, IN_ROUNDS, NO_EVENT, NO_ROUNDS, OUT_OF_MEMORY};
 use flat_judge::EventRow;
 use flat_model::Event;
+use machine_core::ShapedMachine;
 use round_driver::{MOST_LATENCY, RoundMachine, Table, Timing, summarize_with};
 use std::alloc::{AllocError, Global};
 
 /// The most requests of a run.
 const MOST_REQUESTS: usize = 16_777_216;
 
-/// There are more requests than that.
+/// There are more requests than that, or as many rounds as may be were made.
 const TOO_MANY: u32 = 104;
 
 /// The latency is higher than it may be.
@@ -74,9 +75,13 @@ pub struct CountsRow {
 pub(crate) enum RoundsFault {
     /// No machine is behind the handle.
     Closed,
+    /// Rounds were begun, and make the machine's events.
+    InRounds,
+    /// No rounds were begun.
+    NoRounds,
     /// The latency is higher than it may be.
     BadLatency,
-    /// There are more requests than may be.
+    /// There are more requests than may be, or as many rounds as may be were made.
     TooMany,
     /// A row is no load, store, prefetch or eviction.
     NoRequest,
@@ -107,7 +112,7 @@ impl From<AllocError> for RoundsFault {
 /// through it; otherwise it has one command at a time.
 ///
 /// 0: `counts` is what was counted, the requests are used up and nothing is on its way. 3: the handle
-/// is closed. 105: `latency` is higher than 1,000. 104: there are more than 16,777,216 requests. 2: a
+/// is closed. 107: rounds are under way. 105: `latency` is higher than 1,000. 104: there are more than 16,777,216 requests. 2: a
 /// row is no load, store, prefetch or eviction. 101: there was too little memory. They are looked for
 /// in this order, and after each of them all is as it was.
 pub fn drive(
@@ -119,14 +124,15 @@ pub fn drive(
     counts: &mut CountsRow,
 ) -> u32
     ensures status { IsToldOfRounds result
-        (rounds_fault (behind handle.old) latency requests.now) }
+        (rounds_fault (standing handle.old) latency requests.now) }
     ensures counts { result ≡ 0
         → Some counts.new ≡ counted latency busy requests.now (behind handle.old) }
     ensures machine { result ≡ 0
-        → behind handle.new ≡ driven latency busy requests.now (behind handle.old) }
+        → standing handle.new
+        ≡ option_map alone (driven latency busy requests.now (behind handle.old)) }
     ensures over { result ≡ 0
         → IsDriven latency busy requests.now (behind handle.old) }
-    ensures unchanged { result ≢ 0 → behind handle.new ≡ behind handle.old }
+    ensures unchanged { result ≢ 0 → standing handle.new ≡ standing handle.old }
     ensures kept { result ≢ 0 → counts.new ≡ counts.old }
 {
     match drive_behind(alloc, handle, latency, busy, requests) {
@@ -147,29 +153,58 @@ fn drive_behind(
     requests: &[EventRow],
 ) -> Result<Table, RoundsFault>
     ensures fault { IfErr result
-        (λ e. e ≡ why_not (rounds_fault (behind handle.old) latency requests.now)) }
-    ensures none { OnOk result (rounds_fault (behind handle.old) latency requests.now ≡ None) }
+        (λ e. e ≡ why_not (rounds_fault (standing handle.old) latency requests.now)) }
+    ensures none { OnOk result (rounds_fault (standing handle.old) latency requests.now ≡ None) }
     ensures counts { IfOk result
         (λ table. Some (rounds.counts_row table)
         ≡ counted latency busy requests.now (behind handle.old)) }
     ensures machine { OnOk result
-        (behind handle.new ≡ driven latency busy requests.now (behind handle.old)) }
+        (standing handle.new
+        ≡ option_map alone (driven latency busy requests.now (behind handle.old))) }
     ensures over { OnOk result (IsDriven latency busy requests.now (behind handle.old)) }
-    ensures unchanged { OnErr result (behind handle.new ≡ behind handle.old) }
+    ensures unchanged { OnErr result (standing handle.new ≡ standing handle.old) }
 {
-    let Some(mut machine) = handle.take(alloc) else {
+    let Some(mut kept) = handle.take(alloc) else {
         return Err(RoundsFault::Closed);
     };
-    let made = drive_machine(alloc, machine.as_mut(), latency, busy, requests);
-    handle.keep(machine);
+    let made = drive_kept(alloc, kept.as_mut(), latency, busy, requests);
+    handle.keep(kept);
     made
+}
+
+// Drives a machine, unless rounds make its events.
+fn drive_kept(
+    alloc: Global,
+    kept: &mut Kept,
+    latency: u32,
+    busy: u32,
+    requests: &[EventRow],
+) -> Result<Table, RoundsFault>
+    ensures fault { IfErr result
+        (λ e. e ≡ why_not (rounds_fault (Some (standing_of kept.old)) latency requests.now)) }
+    ensures none { OnOk result
+        (rounds_fault (Some (standing_of kept.old)) latency requests.now ≡ None) }
+    ensures counts { IfOk result
+        (λ table. Some (rounds.counts_row table)
+        ≡ counted latency busy requests.now (Some kept.old.machine)) }
+    ensures machine { OnOk result
+        (Some (standing_of kept.new)
+        ≡ option_map alone (driven latency busy requests.now (Some kept.old.machine))) }
+    ensures over { OnOk result
+        (IsDriven latency busy requests.now (Some kept.old.machine)) }
+    ensures unchanged { OnErr result (standing_of kept.new ≡ standing_of kept.old) }
+{
+    if !kept.is_idle() {
+        return Err(RoundsFault::InRounds);
+    }
+    drive_machine(alloc, &mut kept.machine, latency, busy, requests)
 }
 
 // Drives a machine.
 #[tactic(auto, unfolding(crate::specs::Rounds::bad_rounds))]
 fn drive_machine(
     alloc: Global,
-    machine: &mut Listed,
+    machine: &mut ShapedMachine,
     latency: u32,
     busy: u32,
     rows: &[EventRow],
@@ -178,11 +213,11 @@ fn drive_machine(
     ensures none { OnOk result (bad_rounds latency rows.now ≡ None) }
     ensures counts { IfOk result
         (λ table. Some (rounds.counts_row table)
-        ≡ counted latency busy rows.now (Some (state machine.old))) }
+        ≡ counted latency busy rows.now (Some machine.old)) }
     ensures machine { OnOk result
-        (Some (state machine.new) ≡ driven latency busy rows.now (Some (state machine.old))) }
-    ensures over { OnOk result (IsDriven latency busy rows.now (Some (state machine.old))) }
-    ensures unchanged { OnErr result (state machine.new ≡ state machine.old) }
+        (Some machine.new ≡ driven latency busy rows.now (Some machine.old)) }
+    ensures over { OnOk result (IsDriven latency busy rows.now (Some machine.old)) }
+    ensures unchanged { OnErr result (machine.new ≡ machine.old) }
 {
     if u64::from(latency) > MOST_LATENCY {
         return Err(RoundsFault::BadLatency);
@@ -210,7 +245,7 @@ fn are_requests(rows: &[EventRow]) -> bool
 }
 
 // The request that a row says.
-fn request_of(row: &EventRow) -> Event
+pub(crate) fn request_of(row: &EventRow) -> Event
     ensures { result ≡ rounds.request_of row.now }
 {
     row.event().unwrap_or(Event::Drain)
@@ -224,7 +259,7 @@ fn requests_of(alloc: Global, rows: &[EventRow]) -> Result<Vec<Event>, AllocErro
 }
 
 // What was counted, as a row.
-fn counts_row(table: &Table) -> CountsRow
+pub(crate) fn counts_row(table: &Table) -> CountsRow
     ensures { result ≡ rounds.counts_row table.now }
 {
     CountsRow {
@@ -250,12 +285,15 @@ fn counts_row(table: &Table) -> CountsRow
     }
 }
 
-fn rounds_number(fault: RoundsFault) -> u32
+/// What C is told of a fault.
+pub(crate) fn rounds_number(fault: RoundsFault) -> u32
     ensures number { result ≡ rounds_number fault }
     ensures fault { result ≢ 0 }
 {
     match fault {
         RoundsFault::Closed => CLOSED,
+        RoundsFault::InRounds => IN_ROUNDS,
+        RoundsFault::NoRounds => NO_ROUNDS,
         RoundsFault::BadLatency => BAD_LATENCY,
         RoundsFault::TooMany => TOO_MANY,
         RoundsFault::NoRequest => NO_EVENT,

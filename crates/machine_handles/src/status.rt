@@ -17,3 +17,9 @@ pub(crate) const NO_EVENT: u32 = 2;
 
 /// There was too little memory.
 pub(crate) const OUT_OF_MEMORY: u32 = 101;
+
+/// No rounds were begun.
+pub(crate) const NO_ROUNDS: u32 = 106;
+
+/// Rounds are under way, and make the machine's events.
+pub(crate) const IN_ROUNDS: u32 = 107;

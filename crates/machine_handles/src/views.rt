@@ -1,23 +1,24 @@
 //! The numbers of a machine, and what it shows, as rows of plain numbers.
 ghost use Rattle.std.specs.Prelude.{◌≡◌};
-ghost use Rattle.machine_handles.specs.Rows.{shape_of, has, register_row, field_row, target_row};
+ghost use Rattle.machine_handles.specs.Rows.{sizes_of, register_row, field_row, target_row};
 
-use flat_model::{Shape, Word};
+use cache_unit::Sizes;
+use flat_model::Word;
 use miss_registers::{FieldView, Owed, RegisterView};
 
 /// The numbers of a machine. The first four have to be those of a machine of the list.
 #[repr(C)]
 #[derive(Clone, Copy)]
 pub struct ShapeRow {
-    /// Ways of a set.
+    /// Ways of a set: 1 to 8.
     pub ways: u32,
-    /// Words of a block.
+    /// Words of a block: 1 to 16.
     pub block_words: u32,
-    /// Registers.
+    /// Registers: 1 to 16.
     pub regs: u32,
-    /// Places of the input stack.
+    /// Places of the input stack: 1 to 16.
     pub depth: u32,
-    /// Words of memory: 1 to 1,048,576, and a multiple of the words of a block.
+    /// Words of memory: 1 to 4,294,967,295, and a multiple of the words of a block.
     pub words: u32,
     /// Sets of the cache: 1 to 1024.
     pub sets: u32,
@@ -84,11 +85,15 @@ pub struct TargetRow {
 }
 
 impl ShapeRow {
-    /// The numbers of the shape.
-    pub(crate) fn shape(&self) -> Shape
-        ensures { result ≡ shape_of self.now }
+    /// The numbers of the machine that the row asks for.
+    pub(crate) fn sizes(&self) -> Sizes
+        ensures { result ≡ sizes_of self.now }
     {
-        Shape {
+        Sizes {
+            ways: self.ways,
+            block_words: self.block_words,
+            regs: self.regs,
+            depth: self.depth,
             words: self.words,
             sets: self.sets,
             banks: self.banks,
@@ -96,14 +101,6 @@ impl ShapeRow {
             write_queue: self.write_queue,
             replies: self.replies,
         }
-    }
-
-    /// Whether these are its words of a block, registers and places.
-    #[tactic(auto, unfolding(crate::specs::Rows::has))]
-    pub(crate) fn has(&self, block_words: u32, regs: u32, depth: u32) -> bool
-        ensures { result ≡ has self.now block_words regs depth }
-    {
-        self.block_words == block_words && self.regs == regs && self.depth == depth
     }
 }
 

@@ -8,7 +8,7 @@ use Rattle.memory_banks.specs.declared.Command.{Command}
 use Rattle.memory_banks.specs.declared.BankAnswer.{BankAnswer}
 use Rattle.memory_banks.specs.Banks.{Bank, bank_at, with_command, served, room_in, all_sent}
 use Rattle.memory_banks.proofs.Places.{bank_at-set}
-use Rattle.cache_unit.specs.State.{Sizes}
+use Rattle.cache_unit.specs.declared.Sizes.{Sizes}
 use Rattle.cache_unit.specs.Causes.{arrive_cause}
 use Rattle.cache_unit.specs.Steps.{load_step, store_step, prefetch_step, evict_step, drain_step, process_step, take_step}
 use Rattle.machine_core.specs.Machine.{Machine, apply, serve_from, arrive_from, take_in, without_answer}

@@ -10,7 +10,7 @@ use Rattle.cache_unit.specs.Sound.{InRange}
 use Rattle.cache_unit.proofs.Made.{all_same}
 use Rattle.machine_core.specs.Machine.{MachineState}
 use Rattle.machine_core.specs.Pump.{weight}
-use Rattle.machine_core.specs.Law.{ServesRequests}
+use Rattle.machine_core.specs.Law.{ServesRequests, greatest_weight}
 use Rattle.machine_core.specs.Whole.{IsWholeState}
 use Rattle.machine_core.specs.AnyMachine.{answered, after_event, weight_of}
 use Rattle.machine_core.proofs.Contract.{bound_at_rest}
@@ -88,7 +88,7 @@ module _ (d : ℕ) (r next : Run) (latency : next.schedule.timing.latency ≡ r.
       let k = r.schedule.timing.latency + 1 in
       let w = sound.steady.whole in
       let little = weighs_little next.state.sizes next.state.machine w.in_range w.sound w.bounded in
-      let most : weight next.state.machine * k ≤ 2624 * k = mul-le-mul_right k little in
+      let most : weight next.state.machine * k ≤ greatest_weight * k = mul-le-mul_right k little in
       let left : length next.left * (2625 * (next.schedule.timing.latency + 1)) ≡ length next.left * (2625 * k) = ap (λ l. length next.left * (2625 * (l + 1))) latency in
       let before : length r.left * (2625 * k) ≡ suc (length next.left) * (2625 * k) = ap (λ n. n * (2625 * k)) fewer in
       let moving : weight next.state.machine * (next.schedule.timing.latency + 1) ≡ weight next.state.machine * k = ap (λ l. weight next.state.machine * (l + 1)) latency in

@@ -6,4 +6,6 @@ pub mod Commands
 pub mod Moves
 pub mod Ends
 pub mod Counted
+pub mod SameRuns
+pub mod Values
 pub mod Recorded

@@ -88,7 +88,7 @@ stopped_then {xs = xs} p q = record {
 
 -- ---- counts
 
-counted_then : (c : Counting) (xs ys : List Note) → counted_all c (xs ++ ys) ≡ counted_all (counted_all c xs) ys
+pub counted_then : (c : Counting) (xs ys : List Note) → counted_all c (xs ++ ys) ≡ counted_all (counted_all c xs) ys
 counted_then c [] ys = refl
 counted_then c (x ∷ xs) ys = counted_then (counted c x) xs ys
 

@@ -15,7 +15,8 @@ use Rattle.memory_banks.specs.Banks.{Bank, bank_at, room_in}
 use Rattle.input_stack.specs.declared.Entry.{Entry}
 use Rattle.write_queue.specs.declared.Queued.{Queued}
 use Rattle.cache_unit.specs.declared.Reply.{Reply}
-use Rattle.cache_unit.specs.State.{Sizes, Cache}
+use Rattle.cache_unit.specs.declared.Sizes.{Sizes}
+use Rattle.cache_unit.specs.State.{Cache}
 use Rattle.cache_unit.specs.Causes.{arrive_cause}
 use Rattle.cache_unit.specs.Steps.{Stepped, drain_first, drain_step, process_entry, process_step, take_reply, take_step}
 use Rattle.machine_core.specs.Machine.{Machine, MachineState, apply, joined_with, serve_from, take_in, arrive_from, walked, told}
@@ -48,11 +49,11 @@ replied_nothing banks c place None h = refl
 replied_nothing banks c place (Some e) h = absurd (no h)
 
 -- what a drain makes of the queue's front, with room at its bank and without
-abbrev sent_first : Sizes → Cache → Queued → List Queued → Stepped
+abbrev pub sent_first : Sizes → Cache → Queued → List Queued → Stepped
 sent_first z c q rest =
     record { answer = Moved; cache = record c { queue = rest }; sent = (q.at % z.banks, Write (q.at / z.banks) q.word q.lanes) ∷ [] }
 
-abbrev kept_first : Cache → Stepped
+abbrev pub kept_first : Cache → Stepped
 kept_first c = record { answer = Refused BankFull; cache = c; sent = [] }
 
 first_or_not : (banks : List Bank) (c : Cache) (b : Bool) (x y : Stepped) → is_done x.answer ≡ true → (joined_with banks y).machine ≡ record { cache = c; banks = banks } → is_done (joined_with banks (cond b x y)).answer ≡ false → (joined_with banks (cond b x y)).machine ≡ record { cache = c; banks = banks }

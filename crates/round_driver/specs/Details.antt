@@ -8,7 +8,7 @@ use Rattle.flat_model.specs.declared.Event.TheVariants.{Load, Store, Prefetch}
 use Rattle.flat_model.specs.declared.Answer.{Answer}
 use Rattle.flat_model.specs.declared.Answer.TheVariants.{Accepted, Value, Refused}
 use Rattle.flat_model.specs.Causes.{passes}
-use Rattle.cache_unit.specs.State.{Sizes}
+use Rattle.cache_unit.specs.declared.Sizes.{Sizes}
 use Rattle.cache_unit.specs.declared.Lookup.{Lookup}
 use Rattle.cache_unit.specs.declared.Lookup.TheVariants.{Hit, Join, Miss}
 use Rattle.machine_core.specs.Machine.{MachineState}

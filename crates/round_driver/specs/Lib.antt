@@ -5,6 +5,7 @@ pub mod Walks
 pub mod Recordings
 pub mod Outcomes
 pub mod Tables
+pub mod Stepping
 pub mod Details
 pub mod Written
 pub mod Texts

@@ -12,6 +12,9 @@
 //! A bank is busy until it has served its command, unless it is a pipeline: [`Timing`] tells, for
 //! [`drive_with`] and [`summarize_with`].
 //!
+//! [`Rounds`] makes one round at a time, for a caller who doesn't know the requests before: a list of requests that is
+//! offered so gives the same run ([`laws::one_at_a_time`]).
+//!
 //! Rounds are a schedule, and tell nothing of any hardware's time.
 #![tactic(auto)]
 
@@ -25,6 +28,7 @@ mod note;
 mod outcomes;
 mod round;
 mod schedule;
+mod stepping;
 mod table;
 mod tally;
 mod texts;
@@ -38,6 +42,7 @@ pub use driving::{MOST_LATENCY, drive, drive_with, summarize, summarize_with};
 pub use machine::{MachineNumbers, RoundMachine};
 pub use note::Note;
 pub use outcomes::{Outcome, Outcomes};
+pub use stepping::{MOST_ROUNDS, RoundReport, Rounds};
 pub use table::{LostRounds, Table};
 pub use tally::Tally;
 pub use timing::Timing;

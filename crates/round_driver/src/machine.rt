@@ -6,7 +6,7 @@ ghost use Rattle.round_driver.specs.Details as details;
 ghost use Rattle.round_driver.specs.Machines as machines;
 
 use flat_model::{MAX_BANK_QUEUE, MAX_REGS};
-use machine_core::{AnyMachine, Lookup, Machine};
+use machine_core::{AnyMachine, Lookup, ShapedMachine};
 
 /// The numbers of a machine that counts of its run depend on.
 #[derive(Clone, Copy, PartialEq, Eq, Debug)]
@@ -32,7 +32,7 @@ impl MachineNumbers {
     }
 }
 
-/// A machine that can be driven in rounds, whatever its four const numbers are.
+/// A machine that can be driven in rounds, whatever it is made of.
 pub trait RoundMachine: AnyMachine {
     /// Changes nothing: its contract is what each machine keeps, whatever was asked of it, and on
     /// this rests that every run of requests ends.
@@ -56,7 +56,7 @@ pub trait RoundMachine: AnyMachine {
     fn has_stack_room(&self) -> bool
         ensures { result ≡ machines.has_stack_room (Self.state self.now) };
 
-    /// What a request for a word would find, as [`Machine::find`]: nothing outside memory.
+    /// What a request for a word would find, as [`ShapedMachine::find`]: nothing outside memory.
     fn find(&self, at: u32) -> Option<Lookup>
         ensures { result ≡ machines.found_at (Self.state self.now) at };
 
@@ -70,14 +70,13 @@ pub trait RoundMachine: AnyMachine {
 }
 
 #[tactic(auto, unfolding(crate::specs::Machines::command_count, crate::specs::Machines::has_answer, crate::specs::Machines::has_stack_room, crate::specs::Machines::found_at, crate::specs::Machines::used_registers, crate::specs::Machines::used_at))]
-impl<const WAYS: usize, const WORDS: usize, const REGS: usize, const DEPTH: usize> RoundMachine
-    for Machine<WAYS, WORDS, REGS, DEPTH> {
+impl RoundMachine for ShapedMachine {
     fn keeps_whole(&self) {
         let _weight = self.weight();
     }
 
     fn bank_count(&self) -> u32 {
-        self.shape().banks
+        self.sizes().banks
     }
 
     fn command_count(&self, bank: u32) -> u32 {
@@ -95,12 +94,11 @@ impl<const WAYS: usize, const WORDS: usize, const REGS: usize, const DEPTH: usiz
     }
 
     fn has_stack_room(&self) -> bool {
-        let _shape = self.shape();
-        (self.stack_len() as usize) < DEPTH
+        self.stack_len() < self.sizes().depth
     }
 
     fn find(&self, at: u32) -> Option<Lookup> {
-        Machine::find(self, at)
+        ShapedMachine::find(self, at)
     }
 
     #[tactic(auto, unfolding(crate::specs::Machines::used_registers))]
@@ -109,22 +107,19 @@ impl<const WAYS: usize, const WORDS: usize, const REGS: usize, const DEPTH: usiz
     }
 
     fn numbers(&self) -> MachineNumbers {
-        let shape = self.shape();
+        let sizes = self.sizes();
         MachineNumbers {
-            block_words: WORDS,
-            sets: shape.sets,
-            regs: REGS,
-            replies: shape.replies,
+            block_words: sizes.block_words as usize,
+            sets: sizes.sets,
+            regs: sizes.regs as usize,
+            replies: sizes.replies,
         }
     }
 }
 
 // 1 for a register in use, else 0.
 #[tactic(auto, unfolding(crate::specs::Machines::used_at))]
-fn used_at<const WAYS: usize, const WORDS: usize, const REGS: usize, const DEPTH: usize>(
-    machine: &Machine<WAYS, WORDS, REGS, DEPTH>,
-    slot: u32,
-) -> u32
+fn used_at(machine: &ShapedMachine, slot: u32) -> u32
     ensures used { result ≡ machines.used_at machine.now slot }
     ensures few { result ≤ 1 }
 {
@@ -135,10 +130,7 @@ fn used_at<const WAYS: usize, const WORDS: usize, const REGS: usize, const DEPTH
 }
 
 // How many of the first registers are in use.
-fn used_among<const WAYS: usize, const WORDS: usize, const REGS: usize, const DEPTH: usize>(
-    machine: &Machine<WAYS, WORDS, REGS, DEPTH>,
-    number: u32,
-) -> u32
+fn used_among(machine: &ShapedMachine, number: u32) -> u32
     ensures { result ≡ machines.used_among machine.now number 0 }
 {
     let mut used = 0;

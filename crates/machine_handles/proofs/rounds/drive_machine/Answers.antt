@@ -1,5 +1,4 @@
 use Rattle.std.proofs.Common.{◌≡◌, sym, ◌∙◌, arith}
-use Rattle.machine_handles.specs.Listed.{state}
 use Rattle.machine_handles.specs.Rounds.{requests_of}
 use Rattle.machine_handles.proofs.Requests.{is_over}
 use Rattle.machine_handles.proofs.rounds.drive_machine.Goals as goal
@@ -10,5 +9,5 @@ returns-clause-over c =
     let busy : c.from-3.result ≡ c.args.busy = grind arith in
     let rows : c.as_slice.result.now ≡ requests_of c.args.rows.now = grind arith in
     let are = sym c.are_requests.ensures ∙ c.if-not-are_requests.false in
-    is_over c.args.latency c.args.busy c.from-2.result c.from-3.result (state c.args.machine.now) c.args.rows.now
+    is_over c.args.latency c.args.busy c.from-2.result c.from-3.result c.args.machine.now c.args.rows.now
     c.as_slice.result.now latency busy rows are c.in_ok-summarize_with.ensures.over

@@ -3,7 +3,7 @@ use Rattle.round_driver.proofs.Turns.{one_register, no_register_left}
 use Rattle.round_driver.proofs.machine.used_among.Goals as goal
 
 pub loop-slot-preserved : goal.loop-slot-preserved
-loop-slot-preserved g c =
+loop-slot-preserved c =
     let turn : c.loop-slot.slot < c.args.number = c.loop-slot-test.true in
     let more = one_register c.args.machine.now c.args.number c.loop-slot.slot turn in
     let here = c.used_at-used.ensures.used in
@@ -13,7 +13,7 @@ loop-slot-preserved g c =
     (omega (arith, more, here, all), omega (arith, few, small))
 
 pub returns : goal.returns
-returns g c =
+returns c =
     let over : c.args.number ≤ c.loop-slot.slot = omega (arith, c.loop-slot-test.false) in
     let none = no_register_left c.args.machine.now c.args.number c.loop-slot.slot over in
     let all = c.loop-slot.invariant.0 in

@@ -4,4 +4,4 @@ use Rattle.round_driver.proofs.machine.used_among.Given as goal
 
 -- what is counted, and what is left, is all of it
 abbrev pub invariant-loop-slot : goal.invariant-loop-slot
-invariant-loop-slot g l = (used_among l.machine l.number 0 ≡ l.used + used_among l.machine (l.number - l.slot) l.slot) × (l.used ≤ l.slot)
+invariant-loop-slot l = (used_among l.machine l.number 0 ≡ l.used + used_among l.machine (l.number - l.slot) l.slot) × (l.used ≤ l.slot)

@@ -58,33 +58,33 @@ use Rattle.std.proofs.alloc.Global.TheLaws as heap_laws
 use Rattle.std.specs.contracts.impls.GlobalAllocator.TheImpl as heap_impl
 use Rattle.std.proofs.impls.GlobalAllocator.TheImpl.Met as heap_met
 use Rattle.std.specs.Prelude.{None}
-use Rattle.machine_handles.specs.Behind.{behind}
-use Rattle.machine_handles.specs.contracts.listed.Listed as inner
-use Rattle.machine_handles.proofs.listed.Listed.TheLaws as inner_laws
+use Rattle.machine_handles.specs.Behind.{standing}
+use Rattle.machine_handles.specs.contracts.kept.Kept as inner
+use Rattle.machine_handles.proofs.kept.Kept.TheLaws as inner_laws
 use Rattle.machine_handles.specs.contracts.handle.Handle.{the_row as R, the_type}
 use Rattle.machine_handles.proofs.handle.Handle.TheLaws.{lowers}
 use Rattle.machine_handles.specs.contracts.handle.Handle.keep as f
 use Rattle.machine_handles.proofs.handle.Handle.keep.Statement.{statement}
 use Rattle.machine_handles.proofs.handle.Handle.keep.Code as code
 use Rattle.machine_handles.proofs.Destruct++none.drop.Code as dropped
-use Rattle.machine_handles.proofs.machine_handles++listed++Listed+Destruct.drop.Kinds as drop_kinds
-use Rattle.machine_handles.proofs.machine_handles++listed++Listed+Destruct.drop.Met as drop_met
-use Rattle.machine_handles.proofs.machine_handles++listed++Listed+Destruct.drop.Reads as drop_reads
-use Rattle.machine_handles.proofs.machine_handles++listed++Listed+Destruct.drop.Symbol as drop_symbol
+use Rattle.machine_handles.proofs.machine_handles++kept++Kept+Destruct.drop.Kinds as drop_kinds
+use Rattle.machine_handles.proofs.machine_handles++kept++Kept+Destruct.drop.Met as drop_met
+use Rattle.machine_handles.proofs.machine_handles++kept++Kept+Destruct.drop.Reads as drop_reads
+use Rattle.machine_handles.proofs.machine_handles++kept++Kept+Destruct.drop.Symbol as drop_symbol
 
 abbrev Boxed : RattleType
 Boxed = boxed.the_row inner.the_row heap.the_row heap_impl.ghosts
 
--- the machine as a type argument, and its laws
+-- what is kept as a type argument, and its laws
 abbrev X : RattleType
 X = arg (bare (layout inner.the_row)) no inner.the_row
 
 abbrev L : Laws X
 L = arg_laws (bare (layout inner.the_row)) no inner.the_row inner_laws.the_row_laws refl
 
--- what lets a machine go
+-- what lets it go
 abbrev item_drop : Dict
-item_drop = impl ("machine_handles::machine_handles++listed++Listed+Destruct::drop" ∷ []) tnil dnil
+item_drop = impl ("machine_handles::machine_handles++kept++Kept+Destruct::drop" ∷ []) tnil dnil
 
 -- that it does: the function's own theorem, in the words in which a callee asks for it
 item_glue : {M : Type 1} (𝓤 : Ura M) (𝓛 : Logic 𝓤) (𝓜 : Model 𝓤 𝓛.H) (𝓡 : Running 𝓤 𝓛.H 𝓜) → Wired 𝓡.env drop_symbol.code → Met 𝓛 𝓜 𝓡 𝓡.env X item_drop
@@ -127,7 +127,7 @@ keep_spec {M} 𝓤 𝓛 𝓜 𝓡 wired =
     let found = one_of (layout Boxed) y.0.4.1.0 (((boxed_laws.the_field_loose inner.the_row heap.the_row heap_impl.ghosts inner_laws.the_row_laws heap_laws.the_row_laws).lawful 𝓛).typed item y.0.4.1.0 are.1.0) in
     let v = found.0 in let e₀ : y.0.4.0 ≡ vs = mut_Tells (named 0) κs.0 R r y.0.4.0 are.0 in let e₁ : y.0.4.1.0 ≡ v ∷ [] = found.1.0 in
     let Run : List Val → SProp 𝓤 = λ us. WpFn 𝓤 𝓛.H 𝓣.C 𝓣.Λ code.function us (W.post y) in
-    qed 𝓛 (((‵ (flft κs.0 qs.0) ⊛ ‵ ftrue) ⊛ (‵ ((MutRef (named 0) κs.0 R).own_val r y.0.4.0) ⊛ ‵ (Boxed.own_val item y.0.4.1.0) ⊛ ‵ ftrue)) ∷ raw (fact 𝓤 (behind r.now ≡ None)) ∷ []) ∵
+    qed 𝓛 (((‵ (flft κs.0 qs.0) ⊛ ‵ ftrue) ⊛ (‵ ((MutRef (named 0) κs.0 R).own_val r y.0.4.0) ⊛ ‵ (Boxed.own_val item y.0.4.1.0) ⊛ ‵ ftrue)) ∷ raw (fact 𝓤 (standing r.now ≡ None)) ∷ []) ∵
     suffices ! (Run (vs ++ (v ∷ []))) (subst (λ (us : List Val). ent 𝓤 (Run (vs ++ (v ∷ []))) (Run us)) (sym (λ i. e₀ i ++ (e₁ i ++ []))) (id⊢ 𝓤 (Run (vs ++ (v ∷ []))))) $
     split ! $ split ! $ move ! (2 ∷ []) $ split ! $ move ! (1 ∷ []) $ split ! $ keep ! (2 ∷ 0 ∷ 3 ∷ []) $
     rewrite ! 0 (λ (us : List Val). ‵ ((MutRef (named 0) κs.0 R).own_val r us)) e₀ refl $ rewrite ! 1 (λ (us : List Val). ‵ (Boxed.own_val item us)) e₁ refl $
@@ -141,7 +141,7 @@ keep_spec {M} 𝓤 𝓛 𝓜 𝓡 wired =
     (code.calls-std_heap::GlobalAllocator::grow 𝓡.env wired) (code.calls-std_heap::GlobalAllocator::shrink 𝓡.env wired) M 𝓤 𝓛 𝓜 𝓡 in
     let glue = NoDrop.glues "machine_handles::Destruct++none::drop" 𝓡.env (code.calls-machine_handles::Destruct++none::drop 𝓡.env wired) Z LZ M 𝓤 𝓛 𝓜 𝓡 in
     let known = made.met 𝓤 𝓛 𝓜 𝓡 (code.calls-std_alloc::boxed::Box::into_raw 𝓡.env wired) X Z L LZ heap_impl.ghosts heap_impl.dict no_drop item_drop passed glue
-    (item_glue 𝓤 𝓛 𝓜 𝓡 (code.calls-machine_handles::machine_handles++listed++Listed+Destruct::drop 𝓡.env wired)) in
+    (item_glue 𝓤 𝓛 𝓜 𝓡 (code.calls-machine_handles::machine_handles++kept++Kept+Destruct::drop 𝓡.env wired)) in
     let x : G.Ghost = ((([], ([], tt)), (full_share, (full_share, tt)), tt, (item, tt), (v ∷ [], tt)), tt) in
     nothing ! $ use0 𝓛 (raw (fact 𝓤 ([] ⊑ Z.lives))) (fact_i 𝓤 _ (emp 𝓤) (⊑_static [])) $ join ! $
     use0 𝓛 (raw (fact 𝓤 ([] ⊑ X.lives))) (fact_i 𝓤 _ (emp 𝓤) (⊑_static [])) $ join ! $
@@ -163,7 +163,7 @@ keep_spec {M} 𝓤 𝓛 𝓜 𝓡 wired =
     assigns ! (of_opd ! (get ! refl)) (through ! refl (fld ! refl (stop !))) (store_in ! 0 (sub ! 1 refl (whole !)) pointer) $
     assigns ! (of_opd ! (lit ! tt)) (through ! refl (fld ! refl (stop !))) (store_in ! 0 (sub ! 0 refl (whole !)) (tt, record { fits = lit< tt })) $
     sets ! (of_opd ! (unit_lit !)) refl (tt, tt) $
-    let now = record h { «open» = 1; at = p; machine = item.value } in let ws = lowers.lowered now ∷ [] in
+    let now = record h { «open» = 1; at = p; kept = item.value } in let ws = lowers.lowered now ∷ [] in
     nothing ! $ feq_i ! (List Val) (ptr_val p ∷ []) (ptr_val p ∷ []) refl $ fjoin ! $
     owned ! u32 _ (uint_Makes 𝓛 w32) 1 (vint w32 1 ∷ []) (refl, lit< tt) $ fjoin ! $ feq_i ! (List Val) ws ws refl $ fjoin ! $
     fpack ! (Valss (u32 ∷ RawPtr ∷ [])) (within (shape the_type) (1, (p, tt)) ws) (vint w32 1 ∷ [], (ptr_val p ∷ [], tt)) $

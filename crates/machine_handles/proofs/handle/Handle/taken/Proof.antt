@@ -45,8 +45,8 @@ use Rattle.std.specs.contracts.alloc.Global as heap
 use Rattle.std.proofs.alloc.Global.TheLaws as heap_laws
 use Rattle.std.specs.contracts.impls.GlobalAllocator.TheImpl as heap_impl
 use Rattle.std.proofs.impls.GlobalAllocator.TheImpl.Met as heap_met
-use Rattle.machine_handles.specs.contracts.listed.Listed as inner
-use Rattle.machine_handles.proofs.listed.Listed.TheLaws as inner_laws
+use Rattle.machine_handles.specs.contracts.kept.Kept as inner
+use Rattle.machine_handles.proofs.kept.Kept.TheLaws as inner_laws
 use Rattle.machine_handles.specs.contracts.handle.Handle.{the_row as R, the_type}
 use Rattle.machine_handles.proofs.handle.Handle.TheLaws.{lowers}
 use Rattle.machine_handles.proofs.Nonzero.{is_nonzero}
@@ -77,7 +77,7 @@ taken_spec {M} 𝓤 𝓛 𝓜 𝓡 wired =
     enter ! _ _ _ _ _ $ alloc_all ! (λ l. pass_all ! refl ((tt, tt), ((tt, ((tt, tt), tt)), tt)) $
     fsplit3 ! $ move ! (1 ∷ 2 ∷ 4 ∷ []) $ opens ! tt R b o (λ us.
     move ! (1 ∷ []) $ peeks ! R _ (shows 𝓛 R) h us (λ is. fsplit ! $ move ! (1 ∷ []) $
-    rewrite ! 0 (λ (t : Bool). ‵ (owns_if t (box_owns block_token X h.at h.machine))) (is_nonzero h.open is_open) refl $
+    rewrite ! 0 (λ (t : Bool). ‵ (owns_if t (box_owns block_token X h.at h.kept))) (is_nonzero h.open is_open) refl $
     let Cell = λ (ws : List Val). ‵ (cell_at full_share R.mir ws b o) in
     let word = lowers.val_is h us is in
     rewrite ! 2 Cell word refl $
@@ -93,7 +93,7 @@ taken_spec {M} 𝓤 𝓛 𝓜 𝓡 wired =
     (code.calls-std_heap::GlobalAllocator::grow 𝓡.env wired) (code.calls-std_heap::GlobalAllocator::shrink 𝓡.env wired) M 𝓤 𝓛 𝓜 𝓡 in
     let glue = NoDrop.glues "machine_handles::Destruct++none::drop" 𝓡.env (code.calls-machine_handles::Destruct++none::drop 𝓡.env wired) Z LZ M 𝓤 𝓛 𝓜 𝓡 in
     let known = made.met 𝓤 𝓛 𝓜 𝓡 (code.calls-std_alloc::boxed::Box::from_raw 𝓡.env wired) X Z L LZ heap_impl.ghosts heap_impl.dict no_drop passed glue in
-    let x : G.Ghost = ((([], ([], tt)), (full_share, (full_share, tt)), tt, (z, (h.at, tt)), (zs, (ptr_val h.at ∷ [], tt))), h.machine) in
+    let x : G.Ghost = ((([], ([], tt)), (full_share, (full_share, tt)), tt, (z, (h.at, tt)), (zs, (ptr_val h.at ∷ [], tt))), h.kept) in
     use0 𝓛 (raw (fact 𝓤 ([] ⊑ Z.lives))) (fact_i 𝓤 _ (emp 𝓤) (⊑_static [])) $ join ! $
     use0 𝓛 (raw (fact 𝓤 ([] ⊑ X.lives))) (fact_i 𝓤 _ (emp 𝓤) (⊑_static [])) $ join ! $
     nothing ! $ feq_i ! (List Val) (ptr_val h.at ∷ []) (ptr_val h.at ∷ []) refl $ move ! (9 ∷ 0 ∷ 1 ∷ []) $ fjoin3 ! $
@@ -101,7 +101,7 @@ taken_spec {M} 𝓤 𝓛 𝓜 𝓡 wired =
     join ! $ join ! $ use1 𝓛 (raw (G.pre x)) (id⊢ 𝓤 _) $
     calls_at_last ! (framed 𝓤 𝓛.H 𝓜 𝓣) G known x (and_then ! (get ! refl) (and_then ! (get ! refl) (no_more !))) (λ u.
     use1 𝓛 (later (some (λ (r : B.Denot). ((‵ (flft [] full_share) ⊛ ‵ (flft [] full_share) ⊛ ‵ ftrue) ⊛ ‵ (B.own_val r (u ∷ [])))
-    ⊛ some (λ (ws : Lasts T x.0.0 x.0.3). ‵ (lasts T x.0.0 x.0.3 ws) ⊛ (raw (fact 𝓤 (r.value ≡ h.machine)) ⊛ raw (fact 𝓤 (r.alloc ≡ z))))))) (id⊢ 𝓤 _) $
+    ⊛ some (λ (ws : Lasts T x.0.0 x.0.3). ‵ (lasts T x.0.0 x.0.3 ws) ⊛ (raw (fact 𝓤 (r.value ≡ h.kept)) ⊛ raw (fact 𝓤 (r.alloc ≡ z))))))) (id⊢ 𝓤 _) $
     await ! tt $ pick ! (λ r. split ! $ move ! (1 ∷ []) $ pick ! (λ _. split3 ! $ drop ! $ heard ! _ (λ same. drop ! $ split ! $ drop ! $
     -- [the box; the fields; the struct's cell; the open borrow, in three entries; the first part of self]
     peeks ! B _ (shows 𝓛 B) r (u ∷ []) (λ made_is.

@@ -1,0 +1,21 @@
+//! What stands behind an open handle.
+ghost use Rattle.std.specs.Prelude.{◌≡◌, is_none};
+
+use machine_core::ShapedMachine;
+use round_driver::Rounds;
+
+/// A machine, and the rounds that were begun with it.
+#[derive(Drop)]
+pub struct Kept {
+    pub(crate) machine: ShapedMachine,
+    pub(crate) rounds: Option<Rounds>,
+}
+
+impl Kept {
+    /// Whether the caller makes the machine's events, and no rounds do.
+    pub(crate) fn is_idle(&self) -> bool
+        ensures { result ≡ is_none self.now.rounds }
+    {
+        self.rounds.is_none()
+    }
+}

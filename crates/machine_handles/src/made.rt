@@ -1,0 +1,65 @@
+//! The machine that is opened.
+ghost use Rattle.std.specs.Prelude.{◌≡◌, None, IfOk, OnOk, IfErr, length};
+ghost use Rattle.machine_handles.specs.Made.{opened, fault_in, refused, why};
+ghost use Rattle.machine_handles.specs.Rows.{sizes_of};
+
+use crate::views::ShapeRow;
+use flat_model::{MakeFault, ShapeField, Word};
+use machine_core::ShapedMachine;
+use std::alloc::Global;
+
+/// Why a machine isn't opened.
+#[derive(Clone, Copy)]
+pub enum OpenFault {
+    /// There is no machine of these ways, words a block, registers and places.
+    NoSuchMachine,
+    /// The first number of the others that is out of its range.
+    BadShape(ShapeField),
+    /// There was too little memory.
+    OutOfMemory,
+    /// A machine is behind the handle already.
+    OpenAlready,
+}
+
+impl From<MakeFault> for OpenFault {
+    ghost use Rattle.std.specs.Prelude.{◌≡◌};
+    ghost use Rattle.machine_handles.specs.Made.{open_fault_of};
+
+    ghost from_gives = { λ e f. f ≡ open_fault_of e };
+
+    fn from(fault: MakeFault) -> OpenFault {
+        match fault {
+            MakeFault::BadShape(field) => refused(field),
+            MakeFault::OutOfMemory => OpenFault::OutOfMemory,
+        }
+    }
+}
+
+// How a number that is out of its range is told.
+fn refused(field: ShapeField) -> OpenFault
+    ensures { result ≡ refused field }
+{
+    match field {
+        ShapeField::BlockWords | ShapeField::Ways | ShapeField::Regs | ShapeField::Depth => {
+            OpenFault::NoSuchMachine
+        }
+        other => OpenFault::BadShape(other),
+    }
+}
+
+/// A machine in which nothing has happened, over the words of the image.
+///
+/// `NoSuchMachine` if one of the row's first four numbers is out of its range; `BadShape` names the
+/// first of the others that is, the image's length last, before any memory is asked for;
+/// `OutOfMemory` says that there was too little memory.
+pub(crate) fn made(
+    alloc: Global,
+    row: &ShapeRow,
+    image: &[Word],
+) -> Result<ShapedMachine, OpenFault>
+    ensures ok { IfOk result (λ m. m ≡ opened (sizes_of row.now) image.now) }
+    ensures in_range { OnOk result (fault_in (sizes_of row.now) (length image.now) ≡ None) }
+    ensures fault { IfErr result (λ e. e ≡ why (fault_in (sizes_of row.now) (length image.now))) }
+{
+    Ok(ShapedMachine::new(alloc, &row.sizes(), image)?)
+}

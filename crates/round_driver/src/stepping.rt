@@ -1,0 +1,133 @@
+//! Rounds that are made one at a time.
+ghost use Rattle.std.specs.Prelude.{◌≡◌, ◌≤◌, ◌<◌, IfOk};
+ghost use Rattle.flat_model.specs.declared.limits.TheConstants.{MAX_BANKS};
+ghost use Rattle.round_driver.specs.Stepping as stepping;
+ghost use Rattle.round_driver.specs.Stepping.{one_round, after_one, report_of};
+
+use crate::driving::round;
+use crate::machine::RoundMachine;
+use crate::note::Note;
+use crate::round::Notes;
+use crate::schedule::Schedule;
+use crate::table::{Counter, Table};
+use crate::timing::Timing;
+use flat_model::{Answer, Event};
+use std::alloc::{AllocError, Global};
+use std::marker::Model;
+
+/// The most rounds that can be made one at a time: 2^48.
+pub const MOST_ROUNDS: u64 = 281_474_976_710_656;
+
+/// What is told of a round.
+#[derive(Clone, Copy, PartialEq, Eq, Debug)]
+pub struct RoundReport {
+    /// The request that was offered, with its answer and what it found. `None` if none was offered.
+    pub asked: Option<Note>,
+    /// The take that answered a load, with its value. `None` if no load was answered.
+    pub answered: Option<Note>,
+}
+
+/// Rounds that are made one at a time beside a machine: where they stand in time, and what was
+/// counted of them.
+///
+/// They are right as long as nobody else makes the machine's events: a bank's commands are known by
+/// their places in its queue.
+#[derive(Drop)]
+pub struct Rounds {
+    schedule: Schedule,
+    counter: Counter,
+}
+
+impl Model for Rounds {
+    ghost use Rattle.round_driver.specs.Tables.{counting};
+    ghost use Rattle.round_driver.specs.Stepping.{RoundsState, IsWithin};
+
+    ghost Value = { RoundsState };
+
+    ghost view = { λ r. record { schedule = r.schedule; counting = counting r.counter } };
+
+    ghost invariant = { λ r. IsWithin r.schedule r.counter };
+}
+
+impl Rounds {
+    /// Before the first round. `timing` says how long a bank takes for a command; commands that wait
+    /// in the machine already are begun in the first rounds.
+    ///
+    /// `AllocError` says that there was too little memory. No other call takes memory.
+    pub fn new(alloc: Global, timing: Timing) -> Result<Rounds, AllocError>
+        ensures { IfOk result (λ rounds. rounds ≡ stepping.first_round timing) }
+    {
+        Ok(Rounds {
+            counter: Counter::new(alloc)?,
+            schedule: Schedule::new(timing),
+        })
+    }
+
+    /// How many rounds were made.
+    pub fn count(&self) -> u64
+        ensures count { result ≡ self.now.schedule.round }
+        ensures most { result ≤ MOST_ROUNDS }
+    {
+        self.schedule.round
+    }
+
+    /// Makes one round in this machine, which is always the same one, and offers this request in it.
+    /// What moves is moved first, as in [`drive_with`](crate::drive_with), and then the request is
+    /// asked once. If it was refused with 3 to 10, it is for the caller to offer it again.
+    ///
+    /// Fewer than [`MOST_ROUNDS`] rounds were made. The machine has at most 16 banks, as each one that
+    /// is made.
+    pub fn make<M: RoundMachine>(&mut self, machine: &mut M, request: Option<Event>) -> RoundReport
+        requires banks { (M.state machine.old).sizes.banks ≤ MAX_BANKS }
+        requires rounds { self.old.schedule.round < MOST_ROUNDS }
+        ensures report { result
+            ≡ report_of request (one_round (M.state machine.old) self.old request) }
+        ensures machine { M.state machine.new
+            ≡ (one_round (M.state machine.old) self.old request).state }
+        ensures rounds { self.new
+            ≡ after_one self.old (one_round (M.state machine.old) self.old request) }
+    {
+        let mut notes = Notes::new();
+        match request {
+            Some(event) => {
+                let _left = round(machine, &mut self.schedule, &mut notes, &[event]);
+            }
+            None => {
+                let _left = round(machine, &mut self.schedule, &mut notes, &[]);
+            }
+        }
+        self.counter.count_all(notes.as_slice());
+        report(request, notes.as_slice())
+    }
+
+    /// What was counted of the rounds that were made.
+    pub fn table(&self) -> Table
+        ensures { result ≡ stepping.table_so_far self.now }
+    {
+        self.counter.table_after(self.schedule.round)
+    }
+}
+
+// What is told of a round by its notes.
+fn report(request: Option<Event>, notes: &[Note]) -> RoundReport
+    ensures asked { result.asked ≡ stepping.asked_in request notes.now }
+    ensures answered { result.answered ≡ stepping.answered_in notes.now }
+{
+    RoundReport {
+        asked: match request {
+            Some(_) => notes.last().copied(),
+            None => None,
+        },
+        answered: notes.iter().copied().find(|note| is_value(note.answer)),
+    }
+}
+
+// Whether a load got its value.
+fn is_value(answer: Answer) -> bool
+    ensures { result ≡ stepping.is_value answer }
+{
+    match answer {
+        Answer::Value { .. } => true,
+        _ => false,
+    }
+}
