@@ -9,10 +9,10 @@ ghost use Rattle.cache_unit.specs.Reads.{block_reads};
 ghost use Rattle.cache_unit.specs.Miss.{chosen_frame};
 ghost use Rattle.cache_unit.specs.GivenUp.{owed_words, missed_frames, missed_registers};
 
-use crate::{Places, Sizes};
 use crate::begin::begin_words;
 use crate::reads::send_reads;
 use crate::victim::{dirty_words, vacate};
+use crate::{Places, Sizes};
 use cache_directory::{Choice, FrameTable};
 use memory_banks::Lines;
 use miss_registers::RegisterTable;
@@ -90,5 +90,11 @@ pub(crate) fn bring_in<L: Lines>(
     directory.install(sizes.ways, sizes.block_words, frame, block);
     registers.allocate(sizes.block_words, slot, block, frame);
     begin_words(directory, registers, queue, sizes, frame, slot, block);
-    send_reads(lines, slot, block * sizes.block_words, sizes.block_words, sizes.banks);
+    send_reads(
+        lines,
+        slot,
+        block * sizes.block_words,
+        sizes.block_words,
+        sizes.banks,
+    );
 }

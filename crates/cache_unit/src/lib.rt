@@ -9,8 +9,8 @@ mod reads;
 mod unit;
 mod victim;
 
-use flat_model::{Lanes, Word};
 pub use fixed::CacheUnit;
+use flat_model::{Lanes, Word};
 pub use limits::{bad_field, bad_size, sizes_of};
 pub use unit::ShapedUnit;
 

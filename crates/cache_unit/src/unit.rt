@@ -19,8 +19,8 @@ mod present;
 mod request;
 mod views;
 
-use crate::{Reply, Sizes};
 use crate::victim::{dirty_words, vacate};
+use crate::{Reply, Sizes};
 use arrayvec::ArrayVec;
 use cache_directory::FrameTable;
 use flat_model::{Answer, Cause, Lanes, MAX_REPLIES, Word, merge};
@@ -211,13 +211,7 @@ fn retire(registers: &mut RegisterTable, block: u32)
 
 // A live register's word goes into its frame.
 #[tactic(auto, unfolding(crate::specs::Parts::filled_live))]
-fn fill_live(
-    directory: &mut FrameTable,
-    e: &Entry,
-    live: Option<u32>,
-    keep: Lanes,
-    last: bool,
-)
+fn fill_live(directory: &mut FrameTable, e: &Entry, live: Option<u32>, keep: Lanes, last: bool)
     requires there { CanFill directory.old live e.now.i }
     ensures filled { directory.new ≡ filled_live directory.old live e.now.i e.now.word keep last }
     ensures whole { (ways words : ℕ) → dir.IsWhole ways words directory.old

@@ -62,12 +62,7 @@ fn queue_dirty_words(
 
 /// Vacates the frame: where it holds a block, the block's dirty words are queued and the frame is
 /// released.
-pub(crate) fn vacate(
-    directory: &mut FrameTable,
-    queue: &mut WriteQueue,
-    sizes: &Sizes,
-    frame: u32,
-)
+pub(crate) fn vacate(directory: &mut FrameTable, queue: &mut WriteQueue, sizes: &Sizes, frame: u32)
     requires whole { IsWhole sizes.now.ways sizes.now.block_words directory.old }
     requires frame { frame < length directory.old.frames }
     requires fits { (block : ℕ) → (frame_at directory.old.frames frame).block ≡ Some block

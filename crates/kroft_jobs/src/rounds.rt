@@ -25,9 +25,7 @@ use access_counts::AccessCounts;
 use access_logs::LogFault;
 use flat_model::Event;
 use memory_images::Image;
-use register_sweeps::{
-    OpenGate, RoundsRow, SweepFault, new_machine, rounds_table, sweep_rounds,
-};
+use register_sweeps::{OpenGate, RoundsRow, SweepFault, new_machine, rounds_table, sweep_rounds};
 use round_driver::{Details, Table, Timing, detail_with};
 use shape_files::ToolShape;
 use std::alloc::{AllocError, Global};

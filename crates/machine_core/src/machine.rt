@@ -122,7 +122,9 @@ impl ShapedMachine {
         let unit = 2 * u64::from(self.unit.stack_len())
             + u64::from(self.unit.replies_len())
             + 2 * u64::from(self.unit.queue_len());
-        weight_of_banks(&self.banks, self.unit.sizes().banks) + unit + weight_of_registers(&self.unit)
+        weight_of_banks(&self.banks, self.unit.sizes().banks)
+            + unit
+            + weight_of_registers(&self.unit)
     }
 
     /// Makes the driver's event, the first of these that is possible: the first ready reply is

@@ -7,7 +7,7 @@ ghost use Rattle.cache_unit.specs.Steps as steps;
 ghost use Rattle.machine_core.specs.Machine as machine;
 ghost use Rattle.machine_core.specs.Whole.{machine_of};
 
-use cache_unit::{ShapedUnit, Request};
+use cache_unit::{Request, ShapedUnit};
 use flat_model::{Answer, Event};
 use memory_banks::Banks;
 
@@ -15,11 +15,7 @@ use memory_banks::Banks;
 // Each kind of event is a function that isn't inlined: a function pays at its entry for all its
 // locals, and so an event pays for its own alone.
 #[inline(always)]
-pub(crate) fn step(
-    unit: &mut ShapedUnit,
-    banks: &mut Banks,
-    event: Event,
-) -> Answer
+pub(crate) fn step(unit: &mut ShapedUnit, banks: &mut Banks, event: Event) -> Answer
     requires limit { banks.old.limit ≡ unit.old.sizes.bank_queue }
     requires few { (b : ℕ) → length (bank_at banks.old.banks b).answers ≤ MAX_ANSWERS }
     ensures answer { result
@@ -78,11 +74,7 @@ pub(crate) fn walk(
 
 // A request goes to the unit, and what it sends to the banks.
 #[inline(always)]
-fn ask(
-    unit: &mut ShapedUnit,
-    banks: &mut Banks,
-    request: Request,
-) -> Answer
+fn ask(unit: &mut ShapedUnit, banks: &mut Banks, request: Request) -> Answer
     requires { banks.old.limit ≡ unit.old.sizes.bank_queue }
     ensures answer { result
         ≡ (steps.request_step unit.old.sizes
@@ -104,10 +96,7 @@ fn ask(
 
 // The front of the write queue goes to its bank.
 #[inline(never)]
-fn drain(
-    unit: &mut ShapedUnit,
-    banks: &mut Banks,
-) -> Answer
+fn drain(unit: &mut ShapedUnit, banks: &mut Banks) -> Answer
     requires { banks.old.limit ≡ unit.old.sizes.bank_queue }
     ensures answer { result
         ≡ (steps.drain_step unit.old.sizes
@@ -148,12 +137,7 @@ fn serve(banks: &mut Banks, bank: u32) -> Answer
 
 // The bank's answer at a place goes to the unit, and stays where the unit refuses it.
 #[inline(never)]
-fn bring(
-    unit: &mut ShapedUnit,
-    banks: &mut Banks,
-    bank: u32,
-    place: u32,
-) -> Answer
+fn bring(unit: &mut ShapedUnit, banks: &mut Banks, bank: u32, place: u32) -> Answer
     ensures answer { result
         ≡ (machine.arrive_from unit.old.sizes (machine_of unit.old banks.old) bank place
         (slice_get (bank_at banks.old.banks bank).answers place)).answer }

@@ -53,10 +53,7 @@ pub(crate) fn weight_of_registers(unit: &ShapedUnit) -> u64
     weight
 }
 
-fn weight_of_register(
-    unit: &ShapedUnit,
-    slot: u32,
-) -> u64
+fn weight_of_register(unit: &ShapedUnit, slot: u32) -> u64
     requires few_words { unit.now.sizes.block_words ≤ MAX_BLOCK_WORDS }
     requires slot { slot < length unit.now.cache.registers }
     requires fields { (register_at unit.now.cache slot).valid ≡ true
@@ -70,10 +67,7 @@ fn weight_of_register(
     }
 }
 
-fn weight_of_fields(
-    unit: &ShapedUnit,
-    slot: u32,
-) -> u64
+fn weight_of_fields(unit: &ShapedUnit, slot: u32) -> u64
     requires few_words { unit.now.sizes.block_words ≤ MAX_BLOCK_WORDS }
     requires slot { slot < length unit.now.cache.registers }
     requires fields { length (register_at unit.now.cache slot).fields ≡ unit.now.sizes.block_words }
@@ -87,11 +81,7 @@ fn weight_of_fields(
     weight
 }
 
-fn weight_of_field(
-    unit: &ShapedUnit,
-    slot: u32,
-    i: u32,
-) -> u64
+fn weight_of_field(unit: &ShapedUnit, slot: u32, i: u32) -> u64
     requires slot { slot < length unit.now.cache.registers }
     requires word { i < unit.now.sizes.block_words }
     ensures value { result ≡ field_weight (field_at unit.now.cache slot i) }

@@ -11,11 +11,27 @@ use Rattle.station_parts.specs.contracts.port.Port.{the_row, the_field}
 
 pub port_sent : IsSend the_row
 port_sent =
-    search (sendable, crosses, producer.the_field_send, consumer.the_field_send, ask.the_send, told.the_send, any.the_send,
-    global.the_send) depth 40
+    search (
+      sendable,
+      crosses,
+      producer.the_field_send,
+      consumer.the_field_send,
+      ask.the_send,
+      told.the_send,
+      any.the_send,
+      global.the_send,
+    ) depth 40
 
 -- the same where it is a field
 pub port_field_sent : IsSend the_field.row
 port_field_sent =
-    search (sendable, crosses, producer.the_field_send, consumer.the_field_send, ask.the_send, told.the_send, any.the_send,
-    global.the_send) depth 40
+    search (
+      sendable,
+      crosses,
+      producer.the_field_send,
+      consumer.the_field_send,
+      ask.the_send,
+      told.the_send,
+      any.the_send,
+      global.the_send,
+    ) depth 40

@@ -128,13 +128,7 @@ fn has_tag(ready: &[Reply], tag: u16) -> bool
 }
 
 // The lanes join the word's code, where it is still on its way to a live register.
-fn note_code(
-    registers: &mut RegisterTable,
-    sizes: &Sizes,
-    block: u32,
-    i: u32,
-    lanes: Lanes,
-)
+fn note_code(registers: &mut RegisterTable, sizes: &Sizes, block: u32, i: u32, lanes: Lanes)
     requires whole { IsWhole sizes.now.block_words sizes.now.regs registers.old }
     requires there { i < sizes.now.block_words }
     ensures noted { registers.new

@@ -110,7 +110,9 @@ impl ShapedUnit {
     fn has_word(&self, frame: u32, i: u32) -> bool
         ensures { result ≡ is_some (views.cell_view self.now.cache frame i) }
     {
-        frame < self.frames() && self.directory.block_of(frame).is_some() && i < self.sizes.block_words
+        frame < self.frames()
+            && self.directory.block_of(frame).is_some()
+            && i < self.sizes.block_words
     }
 
     /// The buffer's word `i` of the block that the frame holds; `None` where it holds none or
