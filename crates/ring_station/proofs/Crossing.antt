@@ -10,5 +10,6 @@ use Rattle.ring_station.specs.contracts.crew.PortRun.{the_row, the_type}
 
 pub port_run_sent : IsSend the_row
 port_run_sent =
-    let all : AllSend (fields the_type) = (port_field_sent, (search (sendable, crosses, told.the_send) depth 40, (end.the_field_send, tt))) in
+    let all : AllSend (fields the_type) =
+    (port_field_sent, (search (sendable, crosses, told.the_send) depth 40, (end.the_field_send, tt))) in
     recorded_send (Struct (shape the_type)) the_type.D the_type.to the_type.to_one (struct_send (shape the_type) all)

@@ -48,7 +48,13 @@ port_shown script turns old new new' list end a d b c h = record {
   ended = record {
     within = h.ended.within;
     stands = stands_along (HasRun script old new list) (HasRun script old new' list) (0 < end.turns) ⊥ ⊥ turns end.turns end.fault
-        (λ r. record { before = d ∙ r.before; said = r.said; offered_is = b ∙ r.offered_is; taken_is = c ∙ r.taken_is; converses = r.converses })
+        (λ r. record {
+          before = d ∙ r.before;
+          said = r.said;
+          offered_is = b ∙ r.offered_is;
+          taken_is = c ∙ r.taken_is;
+          converses = r.converses;
+        })
         (λ x. x) h.ended.stands;
   };
 }
@@ -108,7 +114,8 @@ ports_shown scripts turns old ran looked new lists ends same ids left h =
       each = λ p s d l e less.
           port_shown (slice_index_or scripts p s).items turns (slice_index_or old p d) (slice_index_or ran p d) (slice_index_or new p d)
           (slice_index_or lists p l).items (slice_index_or ends p e) (shown_alike port_id new ran same_ids p d)
-          (shown_alike offered_before new ran same_before p d) (shown_alike offered new ran same_offered p d) (shown_alike taken new ran same_taken p d) (h.each p s d l e less);
+          (shown_alike offered_before new ran same_before p d) (shown_alike offered new ran same_offered p d)
+          (shown_alike taken new ran same_taken p d) (h.each p s d l e less);
     }
 
 pub banks_shown : (turns : ℕ) (old ran looked new : List BankSide) (ends : List ThreadEnd) → looked ≡ ran

@@ -34,7 +34,8 @@ on_its_way_at_first script talk port list empty talked =
 pub port_ran : (script : List Ask) (turns begun : ℕ) (old new : Port) (list : List Told) (end : ThreadEnd) (fault : Option ThreadFault)
     → end ≡ record { turns = begun; fault = fault } → begun ≤ turns
     → Stands (HasRun script old new list) (0 < begun) ⊥ turns begun fault → port_id new ≡ port_id old
-    → offered_before new ≡ offered_before old → taken new ≡ taken old ++ list → moves_of new ≤ moves_of old + begun → PortRan script turns old new list end
+    → offered_before new ≡ offered_before old → taken new ≡ taken old ++ list → moves_of new ≤ moves_of old + begun
+    → PortRan script turns old new list end
 port_ran script turns begun old new list end fault e w s i b t m =
     subst (λ x. PortRan script turns old new list x) (sym e)
     (record { same = i; before = b; took = t; moved = m; ended = record { within = w; stands = s } })

@@ -187,15 +187,15 @@ fn run_threads<
     join_mut(
         rt,
         &mut ||
+            ensures cache { cache_id cache.exit.now ≡ cache_id cache.entry.now }
+            ensures bank { bank_id bank.exit.now ≡ bank_id bank.entry.now }
+        { run_memory(turns, has_all, cache, bank) },
+        &mut ||
             ensures port { port_id port.exit.now ≡ port_id port.entry.now }
             ensures followed { (first : ℕ)
                 → IsFollowed first (offered port.entry.now) (taken port.entry.now) follower.entry.now.at
                 → IsFollowed first (offered port.exit.now) (taken port.exit.now) follower.exit.now.at }
         { run_port(follower, links, turns, has_all, port) },
-        &mut ||
-            ensures cache { cache_id cache.exit.now ≡ cache_id cache.entry.now }
-            ensures bank { bank_id bank.exit.now ≡ bank_id bank.entry.now }
-        { run_memory(turns, has_all, cache, bank) },
     );
 }
 

@@ -3,6 +3,7 @@ use Rattle.station_parts.specs.Audited.{audit_of}
 use Rattle.station_parts.specs.Ids.{bank_id, port_id}
 use Rattle.station_parts.specs.Words.{offered, taken}
 use Rattle.station_examples.proofs.Following.{followed_still, same_of_one, still_one}
+use Rattle.ring_station.proofs.Fitting.{side_fits, few_deep}
 use Rattle.station_examples.proofs.chain.follow_chain.Goals as goal
 
 pub returns-clause-followed : goal.returns-clause-followed
@@ -17,3 +18,6 @@ returns-clause-exact g c =
     ∙ ap₂ (λ ports banks. audit_of c.audit.new.cache ports banks)
     (still_one port_id _ _ _ _ c.audit.ensures.same_ports c.from_mut.ensures.value)
     (still_one bank_id _ _ _ _ c.audit.ensures.same_banks c.from_mut-2.ensures.value)
+
+pub run_threads-requires-after_bounds : goal.run_threads-requires-after_bounds
+run_threads-requires-after_bounds g c κs within = side_fits _ (few_deep c.args.cache.now)
