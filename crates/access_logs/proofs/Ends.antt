@@ -1,7 +1,7 @@
 -- How the writing of requests ends.
 use Rattle.std.proofs.Common.{◌≡◌, ℕ, ◌≤◌, Option, Some, None, Result, Ok, Err, List, [], ◌∙◌, subst, inl, inr}
-use Rattle.trace_text.specs.Collecting.{Reads}
-use Rattle.trace_text.specs.Reading.{FirstLine, ReadStops}
+use Rattle.trace_text.specs.Collecting.{ReadsWithin}
+use Rattle.trace_text.specs.Reading.{FirstLine, ReadStopsWithin}
 use Rattle.trace_text.specs.declared.lines.LineFault.{LineFault}
 use Rattle.trace_text.specs.declared.lines.LineFault.TheVariants.{Unknown, Field, TooLong, NotEnded}
 use Rattle.trace_text.specs.declared.fault.TraceFault.{TraceFault}
@@ -12,6 +12,7 @@ use Rattle.access_logs.specs.declared.fault.NoRoom.{NoRoom}
 use Rattle.access_logs.specs.declared.fault.LogFault.{LogFault}
 use Rattle.access_logs.specs.declared.fault.LogFault.TheVariants as log
 use Rattle.access_logs.specs.Logs.{LogState, fault_by, Requested, HaltsAt, Ends}
+use Rattle.access_logs.specs.declared.writing.TheConstants.{MOST_LOG_LINES}
 
 -- what a collector of lines, with its writer, its state, its room and its fault, has done
 abbrev pub Went : {W S : Type 0} (took : W → List ℕ → W → Type 0) (access_in : List ℕ → Result (Option Access) LineFault) (wr : S → W) (st : S → LogState) (rm : S → ℕ) (nr : S → Option NoRoom) → S → List (List ℕ) → S → Type 0
@@ -20,7 +21,7 @@ Went took access_in wr st rm nr s texts t =
 
 -- a fault of what was read is none of the collector's own
 told : {R W : Type 0} (gave : R → List ℕ → R → Type 0) (failed : R → R → Type 0) {took : W → List ℕ → W → Type 0} (refused unflushed : W → W → Type 0) {access_in : List ℕ → Result (Option Access) LineFault} {room : ℕ} (r r' : R) {w v w' : W} {s : LogState} (texts : List (List ℕ)) (e : TraceFault)
-    → ReadStops gave failed (fault_by access_in) 768 r r' texts e → Requested took access_in room w texts v s → took v [] w'
+    → ReadStopsWithin gave failed (fault_by access_in) 768 MOST_LOG_LINES r r' texts e → Requested took access_in room w texts v s → took v [] w'
     → Ends gave failed took refused unflushed access_in room r r' w w' (Err (log.Trace e))
 told gave failed refused unflushed r r' {v = v} {s = s} texts (fault.Line n Unknown) p q flush = (texts, v, s, p, q, flush)
 told gave failed refused unflushed r r' {v = v} {s = s} texts (fault.Line n Field) p q flush = (texts, v, s, p, q, flush)
@@ -32,7 +33,7 @@ told gave failed refused unflushed r r' texts fault.Write p q flush = absurd p
 told gave failed refused unflushed r r' texts fault.OutOfMemory p q flush = absurd p
 
 pub log_ends : {R W S : Type 0} (gave : R → List ℕ → R → Type 0) (failed : R → R → Type 0) (took : W → List ℕ → W → Type 0) (refused unflushed : W → W → Type 0) (access_in : List ℕ → Result (Option Access) LineFault) (wr : S → W) (st : S → LogState) (rm : S → ℕ) (nr : S → Option NoRoom) (r r' : R) (c c' : S) (done : Unit {0})
-    → Reads gave failed (fault_by access_in) (Went took access_in wr st rm nr) (λ s text t. HaltsAt took refused unflushed access_in (rm s) (wr s) (st s) text (wr t) (nr t)) (λ s t. took (wr s) [] (wr t)) (λ s t. unflushed (wr s) (wr t) × (nr t ≡ nr s)) 768 r r' c c' (Ok done)
+    → ReadsWithin gave failed (fault_by access_in) (Went took access_in wr st rm nr) (λ s text t. HaltsAt took refused unflushed access_in (rm s) (wr s) (st s) text (wr t) (nr t)) (λ s t. took (wr s) [] (wr t)) (λ s t. unflushed (wr s) (wr t) × (nr t ≡ nr s)) 768 MOST_LOG_LINES r r' c c' (Ok done)
     → Ends gave failed took refused unflushed access_in (rm c) r r' (wr c) (wr c') (Ok done)
 log_ends gave failed took refused unflushed access_in wr st rm nr r r' c c' done h =
     let v = h.1 in
@@ -40,7 +41,7 @@ log_ends gave failed took refused unflushed access_in wr st rm nr r r' c c' done
     (h.0, wr v, st v, h.2, subst (λ n. Requested took access_in n (wr c) h.0 (wr v) (st v)) went.1 went.0, h.4)
 
 pub log_told : {R W S : Type 0} (gave : R → List ℕ → R → Type 0) (failed : R → R → Type 0) (took : W → List ℕ → W → Type 0) (refused unflushed : W → W → Type 0) (access_in : List ℕ → Result (Option Access) LineFault) (wr : S → W) (st : S → LogState) (rm : S → ℕ) (nr : S → Option NoRoom) (r r' : R) (c c' : S) (f : TraceFault)
-    → Reads gave failed (fault_by access_in) (Went took access_in wr st rm nr) (λ s text t. HaltsAt took refused unflushed access_in (rm s) (wr s) (st s) text (wr t) (nr t)) (λ s t. took (wr s) [] (wr t)) (λ s t. unflushed (wr s) (wr t) × (nr t ≡ nr s)) 768 r r' c c' (Err (Fault f))
+    → ReadsWithin gave failed (fault_by access_in) (Went took access_in wr st rm nr) (λ s text t. HaltsAt took refused unflushed access_in (rm s) (wr s) (st s) text (wr t) (nr t)) (λ s t. took (wr s) [] (wr t)) (λ s t. unflushed (wr s) (wr t) × (nr t ≡ nr s)) 768 MOST_LOG_LINES r r' c c' (Err (Fault f))
     → Ends gave failed took refused unflushed access_in (rm c) r r' (wr c) (wr c') (Err (log.Trace f))
 log_told gave failed took refused unflushed access_in wr st rm nr r r' c c' f h =
     let v = h.1 in
@@ -56,7 +57,7 @@ never : (o : Option NoRoom) (n : NoRoom) → o ≡ None → o ≡ Some n → ⊥
 never o n e f = cc
 
 pub log_halts : {R W S : Type 0} (gave : R → List ℕ → R → Type 0) (failed : R → R → Type 0) (took : W → List ℕ → W → Type 0) (refused unflushed : W → W → Type 0) (access_in : List ℕ → Result (Option Access) LineFault) (wr : S → W) (st : S → LogState) (rm : S → ℕ) (nr : S → Option NoRoom) (r r' : R) (c c' : S) (n : Option NoRoom)
-    → Reads gave failed (fault_by access_in) (Went took access_in wr st rm nr) (λ s text t. HaltsAt took refused unflushed access_in (rm s) (wr s) (st s) text (wr t) (nr t)) (λ s t. took (wr s) [] (wr t)) (λ s t. unflushed (wr s) (wr t) × (nr t ≡ nr s)) 768 r r' c c' (Err Halted)
+    → ReadsWithin gave failed (fault_by access_in) (Went took access_in wr st rm nr) (λ s text t. HaltsAt took refused unflushed access_in (rm s) (wr s) (st s) text (wr t) (nr t)) (λ s t. took (wr s) [] (wr t)) (λ s t. unflushed (wr s) (wr t) × (nr t ≡ nr s)) 768 MOST_LOG_LINES r r' c c' (Err Halted)
     → nr c' ≡ n
     → Ends gave failed took refused unflushed access_in (rm c) r r' (wr c) (wr c') (Err (fault_for n))
 log_halts gave failed took refused unflushed access_in wr st rm nr r r' c c' None h e =

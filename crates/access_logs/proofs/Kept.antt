@@ -5,7 +5,7 @@ use Rattle.std.specs.List.{AllByRecursion, range_with_len}
 use Rattle.std.proofs.lemmas.List.FromFn.{map-range_with_len_more, length-map-range_with_len}
 use Rattle.flat_model.specs.declared.Event.{Event}
 use Rattle.trace_text.specs.Codes.{most_lines}
-use Rattle.trace_text.specs.Collecting.{Reads}
+use Rattle.trace_text.specs.Collecting.{ReadsWithin}
 use Rattle.trace_text.specs.Requests.{IsRequest}
 use Rattle.trace_text.specs.declared.lines.LineFault.{LineFault}
 use Rattle.trace_text.specs.declared.fault.TraceFault.{TraceFault}
@@ -25,6 +25,7 @@ use Rattle.access_logs.specs.Requests.{load_of, store_of, loads_of, stores_of, r
 use Rattle.access_logs.specs.Logs.{LogState, log_start, access_told, state_after, requests_for, state_behind, requests_in, groups_for, groups_in, fault_by}
 use Rattle.access_logs.specs.Reads.{HasRoom, LogSays, FindsNoRoom, LogFails, Kept, KeptMore, Halts, HaltsAt}
 use Rattle.access_logs.proofs.Logs.{state_more, requests_more}
+use Rattle.access_logs.specs.declared.writing.TheConstants.{MOST_LOG_LINES}
 
 -- ---- how many requests an access has
 
@@ -150,7 +151,7 @@ Stopped access_in st rm rq ft s text t = HaltsAt access_in (rm s) (st s) (length
 
 module _ {R S : Type 0} (gave : R → List ℕ → R → Type 0) (failed : R → R → Type 0) (access_in : List ℕ → Result (Option Access) LineFault) (st : S → LogState) (rm : S → ℕ) (rq : S → List Event) (ac : S → List AccessGroup) (ft : S → Option LogFault) (r r' : R) (c c' : S) where
   abbrev Ending : Result (Unit {0}) Stop → Type 0
-  Ending = Reads gave failed (fault_by access_in) (Went access_in st rm rq ac ft) (Stopped access_in st rm rq ft) (λ s t. t ≡ s) (λ s t. ⊥) 768 r r' c c'
+  Ending = ReadsWithin gave failed (fault_by access_in) (Went access_in st rm rq ac ft) (Stopped access_in st rm rq ft) (λ s t. t ≡ s) (λ s t. ⊥) 768 MOST_LOG_LINES r r' c c'
 
   pub log_read : (done : Unit {0}) → Ending (Ok done) → LogSays gave access_in (rm c) r r' (rq c') (ac c')
   log_read done h =

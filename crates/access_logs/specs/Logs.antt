@@ -1,9 +1,8 @@
 -- What is written for a log: the fold of its lines.
 use Rattle.std.specs.Prelude.{◌≡◌, ℕ, ◌+◌, ◌<◌, ◌≤◌, ◌⊎◌, Option, None, Some, Result, Ok, Err, List, [], ◌∷◌, ◌++◌, length}
 use Rattle.flat_model.specs.declared.Event.{Event}
-use Rattle.trace_text.specs.Codes.{most_lines}
 use Rattle.trace_text.specs.declared.fault.TheConstants.{MAX_PAIR}
-use Rattle.trace_text.specs.Reading.{fault_of, FirstLine, ReadSoFar, ReadInto, ReadWhole, ReadStops}
+use Rattle.trace_text.specs.Reading.{fault_of, FirstLine, ReadSoFarWithin, ReadIntoWithin, ReadWholeWithin, ReadStopsWithin}
 use Rattle.trace_text.specs.Streams.{Moves, Stopped}
 use Rattle.trace_text.specs.declared.lines.LineFault.{LineFault}
 use Rattle.trace_text.specs.declared.fault.TraceFault.TheVariants as fault
@@ -14,6 +13,7 @@ use Rattle.access_logs.specs.declared.fault.LogFault.{LogFault}
 use Rattle.access_logs.specs.declared.fault.LogFault.TheVariants as log
 use Rattle.access_logs.specs.Pages.{pages_after}
 use Rattle.access_logs.specs.Requests.{requests_of, requests_text, tag_after, group_of}
+use Rattle.access_logs.specs.declared.writing.TheConstants.{MOST_LOG_LINES}
 
 -- the pages so far, the tag of the next load, and how many lines went before
 pub record LogState : Type 0 where
@@ -106,15 +106,15 @@ HaltsAt took refused unflushed access_in room old s text new n =
 abbrev pub Ends : {R W : Type 0} (gave : R → List ℕ → R → Type 0) (failed : R → R → Type 0) (took : W → List ℕ → W → Type 0) (refused unflushed : W → W → Type 0) (access_in : List ℕ → Result (Option Access) LineFault) (room : ℕ) (r r' : R) (w w' : W) → Result (Unit {0}) LogFault → Type 0
 -- all was read, up to the end
 Ends {R} {W} gave failed took refused unflushed access_in room r r' w w' (Ok done) =
-    (texts : List (List ℕ)) × (v : W) × (s : LogState) × ReadWhole gave (fault_by access_in) MAX_PAIR r r' texts × Requested took access_in room w texts v s × took v [] w'
+    (texts : List (List ℕ)) × (v : W) × (s : LogState) × ReadWholeWithin gave (fault_by access_in) MAX_PAIR MOST_LOG_LINES r r' texts × Requested took access_in room w texts v s × took v [] w'
 -- nothing happened
 Ends gave failed took refused unflushed access_in room r r' w w' (Err (log.Trace fault.OutOfMemory)) = (r' ≡ r) × (w' ≡ w)
 -- a flush was refused, before a read or before a fault, or a write of the requests of a line
 Ends {R} {W} gave failed took refused unflushed access_in room r r' w w' (Err (log.Trace fault.Write)) =
-    (texts : List (List ℕ)) × (rest : List ℕ) × (v : W) × (s : LogState) × Requested took access_in room w texts v s × ((ReadSoFar gave (fault_by access_in) MAX_PAIR r r' texts rest × unflushed v w') ⊎ (ReadInto gave (fault_by access_in) MAX_PAIR r r' texts rest × (unflushed v w' ⊎ ((length texts < most_lines) × FirstLine (fault_by access_in) MAX_PAIR (λ text. HaltsAt took refused unflushed access_in room v s text w' None) rest))))
+    (texts : List (List ℕ)) × (rest : List ℕ) × (v : W) × (s : LogState) × Requested took access_in room w texts v s × ((ReadSoFarWithin gave (fault_by access_in) MAX_PAIR MOST_LOG_LINES r r' texts rest × unflushed v w') ⊎ (ReadIntoWithin gave (fault_by access_in) MAX_PAIR MOST_LOG_LINES r r' texts rest × (unflushed v w' ⊎ ((length texts < MOST_LOG_LINES) × FirstLine (fault_by access_in) MAX_PAIR (λ text. HaltsAt took refused unflushed access_in room v s text w' None) rest))))
 -- there is no room for a page of the next line
 Ends {R} {W} gave failed took refused unflushed access_in room r r' w w' (Err (log.NoRoom n)) =
-    (texts : List (List ℕ)) × (rest : List ℕ) × (v : W) × (s : LogState) × Requested took access_in room w texts v s × ReadInto gave (fault_by access_in) MAX_PAIR r r' texts rest × (length texts < most_lines) × FirstLine (fault_by access_in) MAX_PAIR (λ text. HaltsAt took refused unflushed access_in room v s text w' (Some n)) rest
+    (texts : List (List ℕ)) × (rest : List ℕ) × (v : W) × (s : LogState) × Requested took access_in room w texts v s × ReadIntoWithin gave (fault_by access_in) MAX_PAIR MOST_LOG_LINES r r' texts rest × (length texts < MOST_LOG_LINES) × FirstLine (fault_by access_in) MAX_PAIR (λ text. HaltsAt took refused unflushed access_in room v s text w' (Some n)) rest
 -- the first fault of what was read
 Ends {R} {W} gave failed took refused unflushed access_in room r r' w w' (Err (log.Trace e)) =
-    (texts : List (List ℕ)) × (v : W) × (s : LogState) × ReadStops gave failed (fault_by access_in) MAX_PAIR r r' texts e × Requested took access_in room w texts v s × took v [] w'
+    (texts : List (List ℕ)) × (v : W) × (s : LogState) × ReadStopsWithin gave failed (fault_by access_in) MAX_PAIR MOST_LOG_LINES r r' texts e × Requested took access_in room w texts v s × took v [] w'

@@ -2,7 +2,7 @@
 use Rattle.std.specs.Prelude.{⊤, ◌≡◌, ◌⊎◌, ℕ, ◌+◌, ◌<◌, ◌≤◌, Option, Some, None, Result, Ok, List, [], ◌∷◌, ◌++◌, length}
 use Rattle.flat_model.specs.declared.Event.{Event}
 use Rattle.trace_text.specs.Codes.{most_lines}
-use Rattle.trace_text.specs.Reading.{FirstLine, ReadInto, ReadWhole, ReadStops}
+use Rattle.trace_text.specs.Reading.{FirstLine, ReadIntoWithin, ReadWholeWithin, ReadStopsWithin}
 use Rattle.trace_text.specs.declared.fault.TheConstants.{MAX_PAIR}
 use Rattle.trace_text.specs.declared.fault.TraceFault.{TraceFault}
 use Rattle.trace_text.specs.declared.fault.TraceFault.TheVariants as fault
@@ -14,6 +14,7 @@ use Rattle.access_logs.specs.declared.access.Access.{Access}
 use Rattle.access_logs.specs.declared.reading.AccessGroup.{AccessGroup}
 use Rattle.access_logs.specs.declared.fault.LogFault.{LogFault}
 use Rattle.access_logs.specs.declared.fault.LogFault.TheVariants as log
+use Rattle.access_logs.specs.declared.writing.TheConstants.{MOST_LOG_LINES}
 
 -- These lines have room: their pages in memory, and their requests in a trace.
 pub record HasRoom (access_in : List ℕ → Result (Option Access) LineFault) (room : ℕ) (texts : List (List ℕ)) : Type 0 where
@@ -23,7 +24,7 @@ pub record HasRoom (access_in : List ℕ → Result (Option Access) LineFault) (
 -- The log was read whole, and has these requests, in these groups.
 pub record LogSays {R : Type 0} (gave : R → List ℕ → R → Type 0) (access_in : List ℕ → Result (Option Access) LineFault) (room : ℕ) (r r' : R) (asked : List Event) (groups : List AccessGroup) : Type 0 where
   pub texts : List (List ℕ)
-  pub whole : ReadWhole gave (fault_by access_in) MAX_PAIR r r' texts
+  pub whole : ReadWholeWithin gave (fault_by access_in) MAX_PAIR MOST_LOG_LINES r r' texts
   pub requests : asked ≡ requests_in access_in log_start texts
   pub grouped : groups ≡ groups_in access_in texts
   pub fits : HasRoom access_in room texts
@@ -50,8 +51,8 @@ abbrev pub LogFails : {R : Type 0} (gave : R → List ℕ → R → Type 0) (fai
 LogFails gave failed access_in room r r' f =
     (f ≡ log.Trace fault.OutOfMemory)
     ⊎ ((texts : List (List ℕ)) × HasRoom access_in room texts
-    × (((e : TraceFault) × (f ≡ log.Trace e) × ReadStops gave failed (fault_by access_in) MAX_PAIR r r' texts e)
-    ⊎ ((rest : List ℕ) × ReadInto gave (fault_by access_in) MAX_PAIR r r' texts rest × (length texts < most_lines)
+    × (((e : TraceFault) × (f ≡ log.Trace e) × ReadStopsWithin gave failed (fault_by access_in) MAX_PAIR MOST_LOG_LINES r r' texts e)
+    ⊎ ((rest : List ℕ) × ReadIntoWithin gave (fault_by access_in) MAX_PAIR MOST_LOG_LINES r r' texts rest × (length texts < MOST_LOG_LINES)
     × FirstLine (fault_by access_in) MAX_PAIR (λ text. LineFindsNoRoom access_in room texts text f) rest)))
 
 -- ---- in the middle of a reading

@@ -25,4 +25,4 @@ pub use fault::{LogFault, NoRoom};
 pub use format::{Din, Lackey, LogFormat};
 pub use pages::{MAX_PAGES, PAGE_WORDS};
 pub use reading::{AccessGroup, LogRequests, read_log};
-pub use writing::{MAX_WORDS, write_requests};
+pub use writing::{MAX_WORDS, MOST_LOG_LINES, write_requests};

@@ -5,6 +5,7 @@ ghost use Rattle.trace_text.specs.Codes.{most_lines};
 ghost use Rattle.trace_text.specs.Requests.{IsRequest};
 ghost use Rattle.trace_text.specs.declared.fault.TheConstants.{BUFFER_LEN, MAX_PAIR};
 ghost use Rattle.access_logs.specs.declared.pages.TheConstants.{MAX_PAGES, PAGE_WORDS};
+ghost use Rattle.access_logs.specs.declared.writing.TheConstants.{MOST_LOG_LINES};
 ghost use Rattle.access_logs.specs.declared.access.TheConstants.{MAX_TOUCHED};
 ghost use Rattle.access_logs.specs.Accesses.{IsWithin, first_word_of};
 ghost use Rattle.access_logs.specs.Requests.{load_of, store_of, loads_of, stores_of, requests_of};
@@ -16,12 +17,12 @@ use crate::fault::{LogFault, NoRoom};
 use crate::format::LogFormat;
 use crate::pages::{PAGE_WORDS, Pages};
 use crate::requests::{tag_after, tag_behind};
-use crate::writing::MAX_WORDS;
+use crate::writing::{MAX_WORDS, MOST_LOG_LINES};
 use flat_model::Event;
 use std::alloc::Global;
 use trace_text::{
     BUFFER_LEN, Collector, Failed, MAX_LINES, MAX_PAIR, Source, Stop, TraceFault, Uncollected,
-    read_lines,
+    read_lines_within,
 };
 
 /// The requests of an access, as a group.
@@ -203,6 +204,8 @@ impl<'a, F: LogFormat> Collector for LogReading<'a, F> {
 
     ghost longest = { MAX_PAIR };
 
+    ghost most_lines = { MOST_LOG_LINES };
+
     ghost went = { λ s texts t. Kept F.access_in t.room texts (state_with t.pages t.tag t.lines) t.requests.items t.groups.items × (t.room ≡ s.room) × (t.room ≤ MAX_PAGES) × (t.fault ≡ None) };
 
     ghost stopped = { λ s text t. HaltsAt F.access_in s.room (state_with s.pages s.tag s.lines) (length s.requests.items) text t.fault };
@@ -251,7 +254,7 @@ fn read_through<R: Source, F: LogFormat>(
     ensures fault { IfErr result
         (LogFails R.gave R.failed F.access_in reading.old.room reader.old reader.new) }
 {
-    match read_lines(reader, reading, MAX_PAIR, buffer) {
+    match read_lines_within(reader, reading, MAX_PAIR, MOST_LOG_LINES, buffer) {
         Ok(()) => Ok(()),
         Err(Stop::Fault(fault)) => Err(LogFault::Trace(fault)),
         Err(Stop::Halted) => Err(match reading.fault {

@@ -2,6 +2,7 @@
 ghost use Rattle.std.specs.Prelude.{◌≡◌, ℕ, [], ◌+◌, ◌/◌, ◌≤◌, ◌<◌, length, Some, None, OnOk, OnErr, IfErr, Ok};
 ghost use Rattle.trace_text.specs.declared.fault.TheConstants.{BUFFER_LEN, MAX_PAIR};
 ghost use Rattle.access_logs.specs.declared.pages.TheConstants.{MAX_PAGES, PAGE_WORDS};
+ghost use Rattle.access_logs.specs.declared.writing.TheConstants.{MOST_LOG_LINES};
 ghost use Rattle.access_logs.specs.Accesses.{IsWithin};
 ghost use Rattle.access_logs.specs.Logs.{log_start, state_with, fault_by, Requested, Asked, Refuses, Halts, HaltsAt, Ends};
 
@@ -13,11 +14,14 @@ use crate::requests::{tag_after, write_access};
 use std::alloc::Global;
 use trace_text::{
     BUFFER_LEN, Collector, Failed, LineText, MAX_PAIR, Sink, Source, Stop, TraceFault, Uncollected,
-    read_lines,
+    read_lines_within,
 };
 
 /// How many words of memory a log's pages are mapped to at most.
 pub const MAX_WORDS: u32 = flat_model::MAX_WORDS;
+
+/// Lines of a log: as many as a line's number can count.
+pub const MOST_LOG_LINES: u64 = u64::MAX;
 
 // The writing of a log's requests.
 #[derive(Drop)]
@@ -94,6 +98,8 @@ impl<'a, W: Sink, F: LogFormat> Collector for Writing<'a, W, F> {
 
     ghost longest = { MAX_PAIR };
 
+    ghost most_lines = { MOST_LOG_LINES };
+
     ghost went = { λ s texts t. Requested W.took F.access_in t.room s.writer.now texts t.writer.now (state_with t.pages t.tag t.lines) × (t.room ≡ s.room) × (t.room ≤ MAX_PAGES) × (t.no_room ≡ None) };
 
     ghost stopped = { λ s text t. HaltsAt W.took W.refused W.unflushed F.access_in s.room s.writer.now (state_with s.pages s.tag s.lines) text t.writer.now t.no_room };
@@ -139,7 +145,7 @@ fn write_through<R: Source, W: Sink, F: LogFormat>(
         reader.old reader.new writing.old.writer.now writing.new.writer.now result }
     ensures same { writing.new.writer.ghost_name ≡ writing.old.writer.ghost_name }
 {
-    match read_lines(reader, writing, MAX_PAIR, buffer) {
+    match read_lines_within(reader, writing, MAX_PAIR, MOST_LOG_LINES, buffer) {
         Ok(()) => Ok(()),
         Err(Stop::Fault(fault)) => Err(LogFault::Trace(fault)),
         Err(Stop::Halted) => Err(match writing.no_room {

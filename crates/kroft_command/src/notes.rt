@@ -237,7 +237,8 @@ pub(crate) const REQUESTS_NOTES: &str =
   din     Dinero's: '0 ADDRESS' is a load and '1 ADDRESS' a store of the address's whole word
 Addresses are hexadecimal, with small letters and below 2^64. The machine is a data cache, so the
 fetches of instructions ('I  ADDRESS,SIZE', '2 ADDRESS') are passed over; so are valgrind's own
-lines, which begin with '==', '--' or '**'. A line has at most 768 bytes, a log 16777216 lines.
+lines, which begin with '==', '--' or '**'. A line has at most 768 bytes. A log may
+have any number of lines.
 
 One line is written for each word of 4 bytes that an access touches, ascending. Tags go from 0 to
 65535, and again from 0. A log has no data: a stored byte is its address and the number of the

@@ -134,6 +134,8 @@ impl Collector for AskedSoFar {
 
     ghost longest = { MAX_PAIR };
 
+    ghost most_lines = { MAX_LINES };
+
     ghost went = { λ s texts t. all.Gathered texts t };
 
     ghost stopped = { λ s text t. Unit {0} };

@@ -245,6 +245,8 @@ impl<'a, M: PictureMachine> Collector for Grading<'a, M> {
 
     ghost longest = { MAX_PAIR };
 
+    ghost most_lines = { MAX_LINES };
+
     ghost went = { λ s texts t. (t.format ≡ s.format) × Graded s.format (M.state s.machine.now) texts (M.state t.machine.now) t.report.now.items t.score };
 
     ghost stopped = { λ s text t. Unit {0} };

@@ -11,8 +11,8 @@ use Rattle.trace_text.specs.declared.reading.Stop.TheVariants.{Fault, Halted}
 use Rattle.trace_text.specs.declared.fault.TraceFault.{TraceFault}
 use Rattle.trace_text.specs.declared.fault.TraceFault.TheVariants as fault
 use Rattle.trace_text.specs.Streams.{HasNoEnd, Came}
-use Rattle.trace_text.specs.Reading.{joined_texts, IsGood, Good, BeginsFaulty, ReadSoFar, ReadInto, ReadStops}
-use Rattle.trace_text.specs.Collecting.{Misses, Reads, Collected, AllCollected, Misread, Reading, Filled, BegunFault, AfterPause}
+use Rattle.trace_text.specs.Reading.{joined_texts, IsGood, Good, BeginsFaulty, ReadSoFarWithin, ReadIntoWithin, ReadStopsWithin}
+use Rattle.trace_text.specs.Collecting.{Misses, ReadsWithin, Collected, AllCollected, Misread, Reading, Filled, BegunFault, AfterPause}
 use Rattle.trace_text.proofs.Serving.{moved_none, moved_more, all_then}
 
 -- ---- the first LF
@@ -70,8 +70,8 @@ good_one text rest bytes good e = record { each = (good, tt); split = e ∙ sym 
 
 -- ---- lines that were taken
 
-pub collected_none : {C : Type 0} {f : List ℕ → Option LineFault} {went : C → List (List ℕ) → C → Type 0} {most : ℕ} (c : C) (n : ℕ) (bytes : List ℕ)
-    → n ≤ 16777216 → Collected f went most c n bytes bytes c n
+pub collected_none : {C : Type 0} {f : List ℕ → Option LineFault} {went : C → List (List ℕ) → C → Type 0} {most limit : ℕ} (c : C) (n : ℕ) (bytes : List ℕ)
+    → n ≤ limit → Collected f went most limit c n bytes bytes c n
 collected_none {went = went} c n bytes le = record {
   texts = [];
   good = record { each = tt; split = refl };
@@ -80,8 +80,8 @@ collected_none {went = went} c n bytes le = record {
   kept = λ start front e h. subst (λ l. went start l c) (sym (append-nil front)) h;
 }
 
-collected_then : {C : Type 0} {f : List ℕ → Option LineFault} {went : C → List (List ℕ) → C → Type 0} {most : ℕ} {c d e : C} {n m k : ℕ} {xs ys zs : List ℕ}
-    → Collected f went most c n xs ys d m → Collected f went most d m ys zs e k → Collected f went most c n xs zs e k
+collected_then : {C : Type 0} {f : List ℕ → Option LineFault} {went : C → List (List ℕ) → C → Type 0} {most limit : ℕ} {c d e : C} {n m k : ℕ} {xs ys zs : List ℕ}
+    → Collected f went most limit c n xs ys d m → Collected f went most limit d m ys zs e k → Collected f went most limit c n xs zs e k
 collected_then {went = went} {e = e} {m = m} p q = record {
   texts = p.texts ++ q.texts;
   good = good_then p.good q.good;
@@ -92,10 +92,10 @@ collected_then {went = went} {e = e} {m = m} p q = record {
       subst (λ l. went start l e) (append_assoc front p.texts q.texts) (q.kept start (front ++ p.texts) len (p.kept start front at h));
 }
 
-pub collected_line : {C : Type 0} {f : List ℕ → Option LineFault} {went : C → List (List ℕ) → C → Type 0} {most : ℕ} {c d e : C} {n m : ℕ} {bytes rest text : List ℕ} (at : ℕ) (rest' : List ℕ)
-    → Collected f went most c n bytes rest d m → IsEnd rest at → at ≤ most → text ≡ take at rest → f text ≡ None
+pub collected_line : {C : Type 0} {f : List ℕ → Option LineFault} {went : C → List (List ℕ) → C → Type 0} {most limit : ℕ} {c d e : C} {n m : ℕ} {bytes rest text : List ℕ} (at : ℕ) (rest' : List ℕ)
+    → Collected f went most limit c n bytes rest d m → IsEnd rest at → at ≤ most → text ≡ take at rest → f text ≡ None
     → ((start : C) (texts : List (List ℕ)) → m + 1 ≡ length texts + 1 → went start texts d → went start (texts ++ text ∷ []) e)
-    → m < 16777216 → rest' ≡ drop (at + 1) rest → Collected f went most c n bytes rest' e (m + 1)
+    → m < limit → rest' ≡ drop (at + 1) rest → Collected f went most limit c n bytes rest' e (m + 1)
 collected_line {f = f} {most = most} {m = m} {rest = rest} {text = text} at rest' p h short same none kept lt behind =
     let good : IsGood f most text = good_front f most rest text at h short same none in
     collected_then p (record {
@@ -107,8 +107,8 @@ collected_line {f = f} {most = most} {m = m} {rest = rest} {text = text} at rest
     })
 
 -- lines were taken, from a state that took others before
-pub taken_so_far : {C : Type 0} {f : List ℕ → Option LineFault} {went : C → List (List ℕ) → C → Type 0} {most : ℕ} {c d : C} {n m : ℕ} {bytes rest : List ℕ}
-    → (start : C) × (texts : List (List ℕ)) × went start texts c × (n ≡ length texts) → Collected f went most c n bytes rest d m
+pub taken_so_far : {C : Type 0} {f : List ℕ → Option LineFault} {went : C → List (List ℕ) → C → Type 0} {most limit : ℕ} {c d : C} {n m : ℕ} {bytes rest : List ℕ}
+    → (start : C) × (texts : List (List ℕ)) × went start texts c × (n ≡ length texts) → Collected f went most limit c n bytes rest d m
     → (start : C) × (texts : List (List ℕ)) × went start texts d × (m + 1 ≡ length texts + 1)
 taken_so_far p q = (p.0, p.1 ++ q.texts, q.kept p.0 p.1 (sym p.3) p.2, omega (arith, p.3, q.number, length-append p.1 q.texts))
 
@@ -120,21 +120,21 @@ begins_said f most rest at Field h short said is = (take at rest, drop (at + 1) 
 begins_said f most rest at TooLong h short said is = absurd is
 begins_said f most rest at NotEnded h short said is = absurd is
 
-pub misread_said : {C : Type 0} {f : List ℕ → Option LineFault} {went : C → List (List ℕ) → C → Type 0} (stopped : C → List ℕ → C → Type 0) {most : ℕ} {c d d' : C} {n m : ℕ} {bytes rest text : List ℕ} (at : ℕ) (e : LineFault)
-    → Collected f went most c n bytes rest d m → IsEnd rest at → at ≤ most → text ≡ take at rest → Misses stopped (f text) d text d' (miss.Fault e) → m < 16777216
-    → Misread f went stopped most c n bytes d' (Fault (fault.Line (m + 1) e))
-misread_said {f = f} {went = went} stopped {most = most} {c = c} {n = n} {m = m} {bytes = bytes} {rest = rest} at e p h short same missed room =
-    (rest, m, subst (λ x. Collected f went most c n bytes rest x m) (sym missed.2) p, refl, room, begins_said f most rest at e h short (ap f (sym same) ∙ missed.0) missed.1)
+pub misread_said : {C : Type 0} {f : List ℕ → Option LineFault} {went : C → List (List ℕ) → C → Type 0} (stopped : C → List ℕ → C → Type 0) {most limit : ℕ} {c d d' : C} {n m : ℕ} {bytes rest text : List ℕ} (at : ℕ) (e : LineFault)
+    → Collected f went most limit c n bytes rest d m → IsEnd rest at → at ≤ most → text ≡ take at rest → Misses stopped (f text) d text d' (miss.Fault e) → m < limit
+    → Misread f went stopped most limit c n bytes d' (Fault (fault.Line (m + 1) e))
+misread_said {f = f} {went = went} stopped {most = most} {limit = limit} {c = c} {n = n} {m = m} {bytes = bytes} {rest = rest} at e p h short same missed room =
+    (rest, m, subst (λ x. Collected f went most limit c n bytes rest x m) (sym missed.2) p, refl, room, begins_said f most rest at e h short (ap f (sym same) ∙ missed.0) missed.1)
 
-pub misread_long : {C : Type 0} {f : List ℕ → Option LineFault} {went : C → List (List ℕ) → C → Type 0} (stopped : C → List ℕ → C → Type 0) {most : ℕ} {c d : C} {n m : ℕ} {bytes rest : List ℕ} (at : ℕ)
-    → Collected f went most c n bytes rest d m → IsEnd rest at → most < at → m < 16777216
-    → Misread f went stopped most c n bytes d (Fault (fault.Line (m + 1) TooLong))
+pub misread_long : {C : Type 0} {f : List ℕ → Option LineFault} {went : C → List (List ℕ) → C → Type 0} (stopped : C → List ℕ → C → Type 0) {most limit : ℕ} {c d : C} {n m : ℕ} {bytes rest : List ℕ} (at : ℕ)
+    → Collected f went most limit c n bytes rest d m → IsEnd rest at → most < at → m < limit
+    → Misread f went stopped most limit c n bytes d (Fault (fault.Line (m + 1) TooLong))
 misread_long stopped {most = most} {m = m} {rest = rest} at p h long room =
     (rest, m, p, refl, room, (omega (arith, h.0), none_in_front rest at (most + 1) h (omega arith)))
 
-pub misread_halted : {C : Type 0} {f : List ℕ → Option LineFault} {went : C → List (List ℕ) → C → Type 0} (stopped : C → List ℕ → C → Type 0) {most : ℕ} {c d d' : C} {n m : ℕ} {bytes rest text : List ℕ} (at : ℕ)
-    → Collected f went most c n bytes rest d m → IsEnd rest at → at ≤ most → text ≡ take at rest → Misses stopped (f text) d text d' miss.Halted → m < 16777216
-    → Misread f went stopped most c n bytes d' Halted
+pub misread_halted : {C : Type 0} {f : List ℕ → Option LineFault} {went : C → List (List ℕ) → C → Type 0} (stopped : C → List ℕ → C → Type 0) {most limit : ℕ} {c d d' : C} {n m : ℕ} {bytes rest text : List ℕ} (at : ℕ)
+    → Collected f went most limit c n bytes rest d m → IsEnd rest at → at ≤ most → text ≡ take at rest → Misses stopped (f text) d text d' miss.Halted → m < limit
+    → Misread f went stopped most limit c n bytes d' Halted
 misread_halted {f = f} stopped {most = most} {d = d} {m = m} {rest = rest} {text = text} at p h short same missed room =
     (rest, m, d, p, room, (text, drop (at + 1) rest, whole_line rest text (drop (at + 1) rest) at h same refl, good_front f most rest text at h short same missed.0, missed.1))
 
@@ -155,8 +155,8 @@ filled_by old buf post filled given gives lt le len =
           ∙ ap (λ l. take filled old ++ l) (take-append-le given buf post le);
     }
 
-pub reading_start : {R C : Type 0} {gave : R → List ℕ → R → Type 0} {f : List ℕ → Option LineFault} {went : C → List (List ℕ) → C → Type 0} {most : ℕ} (r : R) (c : C)
-    → went c [] c → Reading gave f went most r c [] r c 0
+pub reading_start : {R C : Type 0} {gave : R → List ℕ → R → Type 0} {f : List ℕ → Option LineFault} {went : C → List (List ℕ) → C → Type 0} {most limit : ℕ} (r : R) (c : C)
+    → went c [] c → Reading gave f went most limit r c [] r c 0
 reading_start r c none = record {
   texts = [];
   so_far = record {
@@ -173,21 +173,21 @@ reading_start r c none = record {
 }
 
 -- a pause
-pub reading_still : {R C : Type 0} {gave : R → List ℕ → R → Type 0} {f : List ℕ → Option LineFault} {went : C → List (List ℕ) → C → Type 0} {most : ℕ} {r r' : R} {c d e : C} {n : ℕ} {pending : List ℕ}
-    → Reading gave f went most r c pending r' d n → ((start : C) (texts : List (List ℕ)) → went start texts d → went start texts e)
-    → Reading gave f went most r c pending r' e n
+pub reading_still : {R C : Type 0} {gave : R → List ℕ → R → Type 0} {f : List ℕ → Option LineFault} {went : C → List (List ℕ) → C → Type 0} {most limit : ℕ} {r r' : R} {c d e : C} {n : ℕ} {pending : List ℕ}
+    → Reading gave f went most limit r c pending r' d n → ((start : C) (texts : List (List ℕ)) → went start texts d → went start texts e)
+    → Reading gave f went most limit r c pending r' e n
 reading_still {c = c} p kept = record { texts = p.texts; so_far = p.so_far; took = kept c p.texts p.took; number = p.number }
 
 -- the next piece came, and of its lines the first were taken
-pub record ReadOn {R C : Type 0} (gave : R → List ℕ → R → Type 0) (f : List ℕ → Option LineFault) (went : C → List (List ℕ) → C → Type 0) (most : ℕ) (r : R) (c : C) (r' : R) (rest : List ℕ) (e : C) (count : ℕ) : Type 0 where
+pub record ReadOn {R C : Type 0} (gave : R → List ℕ → R → Type 0) (f : List ℕ → Option LineFault) (went : C → List (List ℕ) → C → Type 0) (most limit : ℕ) (r : R) (c : C) (r' : R) (rest : List ℕ) (e : C) (count : ℕ) : Type 0 where
   pub texts : List (List ℕ)
-  pub into : ReadInto gave f most r r' texts rest
+  pub into : ReadIntoWithin gave f most limit r r' texts rest
   pub took : went c texts e
   pub number : count ≡ length texts
 
-pub read_on : {R C : Type 0} {gave : R → List ℕ → R → Type 0} {f : List ℕ → Option LineFault} {went : C → List (List ℕ) → C → Type 0} {most : ℕ} {r r' r'' : R} {c d e : C} {n m : ℕ} {pending rest : List ℕ} (more whole : List ℕ)
-    → Reading gave f went most r c pending r' d n → Came gave r' more r'' → whole ≡ pending ++ more
-    → Collected f went most d n whole rest e m → ReadOn gave f went most r c r'' rest e m
+pub read_on : {R C : Type 0} {gave : R → List ℕ → R → Type 0} {f : List ℕ → Option LineFault} {went : C → List (List ℕ) → C → Type 0} {most limit : ℕ} {r r' r'' : R} {c d e : C} {n m : ℕ} {pending rest : List ℕ} (more whole : List ℕ)
+    → Reading gave f went most limit r c pending r' d n → Came gave r' more r'' → whole ≡ pending ++ more
+    → Collected f went most limit d n whole rest e m → ReadOn gave f went most limit r c r'' rest e m
 read_on {f = f} {most = most} {r' = r'} {c = c} {m = m} {pending = pending} {rest = rest} more whole p gives same q =
     let number : m ≡ length (p.texts ++ q.texts) = omega (arith, p.number, q.number, length-append p.texts q.texts) in
     record {
@@ -206,12 +206,12 @@ read_on {f = f} {most = most} {r' = r'} {c = c} {m = m} {pending = pending} {res
       number = number;
     }
 
-pub reading_on : {R C : Type 0} {gave : R → List ℕ → R → Type 0} {f : List ℕ → Option LineFault} {went : C → List (List ℕ) → C → Type 0} {most : ℕ} {r r' r'' : R} {c d e : C} {n m left : ℕ} {pending : List ℕ} (more whole rest : List ℕ)
-    → Reading gave f went most r c pending r' d n → Came gave r' more r'' → whole ≡ pending ++ more
-    → AllCollected f went most d n whole left e m → rest ≡ drop (length whole - left) whole → length rest ≤ most → (0 < length rest → m < 16777216)
-    → Reading gave f went most r c rest r'' e m
-reading_on {f = f} {went = went} {most = most} {c = c} {d = d} {e = e} {n = n} {m = m} more whole rest p gives same all at_end short room =
-    let q : Collected f went most d n whole rest e m = subst (λ l. Collected f went most d n whole l e m) (sym at_end) all.collected in
+pub reading_on : {R C : Type 0} {gave : R → List ℕ → R → Type 0} {f : List ℕ → Option LineFault} {went : C → List (List ℕ) → C → Type 0} {most limit : ℕ} {r r' r'' : R} {c d e : C} {n m left : ℕ} {pending : List ℕ} (more whole rest : List ℕ)
+    → Reading gave f went most limit r c pending r' d n → Came gave r' more r'' → whole ≡ pending ++ more
+    → AllCollected f went most limit d n whole left e m → rest ≡ drop (length whole - left) whole → length rest ≤ most → (0 < length rest → m < limit)
+    → Reading gave f went most limit r c rest r'' e m
+reading_on {f = f} {went = went} {most = most} {limit = limit} {c = c} {d = d} {e = e} {n = n} {m = m} more whole rest p gives same all at_end short room =
+    let q : Collected f went most limit d n whole rest e m = subst (λ l. Collected f went most limit d n whole l e m) (sym at_end) all.collected in
     let number : m ≡ length (p.texts ++ q.texts) = omega (arith, p.number, q.number, length-append p.texts q.texts) in
     record {
       texts = p.texts ++ q.texts;
@@ -233,8 +233,8 @@ progress [] bytes rest e = inr (ap length e)
 progress (t ∷ ts) bytes rest e = inl (omega arith)
 
 -- more lines have been taken, or no whole line was there
-pub all_progress : {C : Type 0} {f : List ℕ → Option LineFault} {went : C → List (List ℕ) → C → Type 0} {most : ℕ} {c d : C} {n m left : ℕ} {bytes : List ℕ}
-    → AllCollected f went most c n bytes left d m → (n < m) ⊎ (left ≡ length bytes)
+pub all_progress : {C : Type 0} {f : List ℕ → Option LineFault} {went : C → List (List ℕ) → C → Type 0} {most limit : ℕ} {c d : C} {n m left : ℕ} {bytes : List ℕ}
+    → AllCollected f went most limit c n bytes left d m → (n < m) ⊎ (left ≡ length bytes)
 all_progress {left = left} {bytes = bytes} p =
     elim (progress p.collected.texts bytes _ p.collected.good.split) [
       | inl h ↦ inl (omega (arith, p.collected.number, h))
@@ -244,9 +244,9 @@ all_progress {left = left} {bytes = bytes} p =
 -- ---- ends
 
 -- the fault of a line that began, whatever comes behind it
-pub misread_begun : {C : Type 0} {f : List ℕ → Option LineFault} {went : C → List (List ℕ) → C → Type 0} (stopped : C → List ℕ → C → Type 0) {most : ℕ} {c d : C} {n m : ℕ} {bytes rest : List ℕ} (left : ℕ) (e : TraceFault)
-    → Collected f went most c n bytes rest d m → HasNoEnd rest → left ≡ length rest → BegunFault m left most e
-    → Misread f went stopped most c n bytes d (Fault e)
+pub misread_begun : {C : Type 0} {f : List ℕ → Option LineFault} {went : C → List (List ℕ) → C → Type 0} (stopped : C → List ℕ → C → Type 0) {most limit : ℕ} {c d : C} {n m : ℕ} {bytes rest : List ℕ} (left : ℕ) (e : TraceFault)
+    → Collected f went most limit c n bytes rest d m → HasNoEnd rest → left ≡ length rest → BegunFault m left most limit e
+    → Misread f went stopped most limit c n bytes d (Fault e)
 misread_begun stopped {m = m} {rest = rest} left fault.TooManyLines p none same h = (rest, m, p, h.0, omega (arith, same, h.1))
 misread_begun stopped {most = most} {m = m} {rest = rest} left (fault.Line number TooLong) p none same h = (
   rest,
@@ -269,25 +269,25 @@ misread_begun stopped left fault.Write p none same h = absurd h
 misread_begun stopped left fault.OutOfMemory p none same h = absurd h
 
 -- a fault of what was read, told after a pause
-told_after : {R C : Type 0} {gave : R → List ℕ → R → Type 0} {f : List ℕ → Option LineFault} {went : C → List (List ℕ) → C → Type 0} (failed : R → R → Type 0) (stopped : C → List ℕ → C → Type 0) (paused unpaused : C → C → Type 0) {most : ℕ} {r r' : R} {c x : C} (c' : C) {rest : List ℕ} {k : ℕ} (e : TraceFault) (stop : Stop)
-    → (on : ReadOn gave f went most r c r' rest x k) → ReadStops gave failed f most r r' on.texts e → AfterPause paused unpaused x c' e stop
-    → Reads gave failed f went stopped paused unpaused most r r' c c' (Err stop)
-told_after {gave = gave} {f = f} failed stopped paused unpaused {most = most} {r = r} {r' = r'} {x = x} c' e (Fault g) on stops after =
-    (on.texts, x, subst (ReadStops gave failed f most r r' on.texts) (sym after.0) stops, on.took, after.1)
+told_after : {R C : Type 0} {gave : R → List ℕ → R → Type 0} {f : List ℕ → Option LineFault} {went : C → List (List ℕ) → C → Type 0} (failed : R → R → Type 0) (stopped : C → List ℕ → C → Type 0) (paused unpaused : C → C → Type 0) {most limit : ℕ} {r r' : R} {c x : C} (c' : C) {rest : List ℕ} {k : ℕ} (e : TraceFault) (stop : Stop)
+    → (on : ReadOn gave f went most limit r c r' rest x k) → ReadStopsWithin gave failed f most limit r r' on.texts e → AfterPause paused unpaused x c' e stop
+    → ReadsWithin gave failed f went stopped paused unpaused most limit r r' c c' (Err stop)
+told_after {gave = gave} {f = f} failed stopped paused unpaused {most = most} {limit = limit} {r = r} {r' = r'} {x = x} c' e (Fault g) on stops after =
+    (on.texts, x, subst (ReadStopsWithin gave failed f most limit r r' on.texts) (sym after.0) stops, on.took, after.1)
 told_after failed stopped paused unpaused {x = x} c' {rest = rest} e Halted on stops after = (on.texts, rest, x, on.took, inr (on.into, inl after))
 
-line_stops : {R C : Type 0} {gave : R → List ℕ → R → Type 0} (failed : R → R → Type 0) {f : List ℕ → Option LineFault} {went : C → List (List ℕ) → C → Type 0} {most : ℕ} {r r' : R} {c x : C} {rest : List ℕ} {k : ℕ} (n : ℕ) (e : LineFault)
-    → (on : ReadOn gave f went most r c r' rest x k) → n ≡ k + 1 → k < 16777216 → BeginsFaulty f most rest e → ReadStops gave failed f most r r' on.texts (fault.Line n e)
+line_stops : {R C : Type 0} {gave : R → List ℕ → R → Type 0} (failed : R → R → Type 0) {f : List ℕ → Option LineFault} {went : C → List (List ℕ) → C → Type 0} {most limit : ℕ} {r r' : R} {c x : C} {rest : List ℕ} {k : ℕ} (n : ℕ) (e : LineFault)
+    → (on : ReadOn gave f went most limit r c r' rest x k) → n ≡ k + 1 → k < limit → BeginsFaulty f most rest e → ReadStopsWithin gave failed f most limit r r' on.texts (fault.Line n e)
 line_stops failed {rest = rest} n Unknown on is lt begins = (rest, on.into, omega (arith, is, on.number), omega (arith, lt, on.number), begins)
 line_stops failed {rest = rest} n Field on is lt begins = (rest, on.into, omega (arith, is, on.number), omega (arith, lt, on.number), begins)
 line_stops failed {rest = rest} n TooLong on is lt begins = (rest, on.into, omega (arith, is, on.number), omega (arith, lt, on.number), begins)
 line_stops failed n NotEnded on is lt begins = absurd begins
 
 -- a fault in the piece that came last, told after a pause
-pub reads_fault : {R C : Type 0} {gave : R → List ℕ → R → Type 0} {f : List ℕ → Option LineFault} {went : C → List (List ℕ) → C → Type 0} (failed : R → R → Type 0) (stopped : C → List ℕ → C → Type 0) (paused unpaused : C → C → Type 0) {most : ℕ} {r r' r'' : R} {c d : C} (x c' : C) {n : ℕ} {pending : List ℕ} (more whole : List ℕ) (e : TraceFault) (stop : Stop)
-    → Reading gave f went most r c pending r' d n → Came gave r' more r'' → whole ≡ pending ++ more
-    → Misread f went stopped most d n whole x (Fault e) → AfterPause paused unpaused x c' e stop
-    → Reads gave failed f went stopped paused unpaused most r r'' c c' (Err stop)
+pub reads_fault : {R C : Type 0} {gave : R → List ℕ → R → Type 0} {f : List ℕ → Option LineFault} {went : C → List (List ℕ) → C → Type 0} (failed : R → R → Type 0) (stopped : C → List ℕ → C → Type 0) (paused unpaused : C → C → Type 0) {most limit : ℕ} {r r' r'' : R} {c d : C} (x c' : C) {n : ℕ} {pending : List ℕ} (more whole : List ℕ) (e : TraceFault) (stop : Stop)
+    → Reading gave f went most limit r c pending r' d n → Came gave r' more r'' → whole ≡ pending ++ more
+    → Misread f went stopped most limit d n whole x (Fault e) → AfterPause paused unpaused x c' e stop
+    → ReadsWithin gave failed f went stopped paused unpaused most limit r r'' c c' (Err stop)
 reads_fault {gave = gave} failed stopped paused unpaused {r = r} x c' more whole (fault.Line number e) stop p gives same q after =
     let on = read_on {gave = gave} {r = r} more whole p gives same q.2 in
     told_after failed stopped paused unpaused c' (fault.Line number e) stop on (line_stops failed number e on q.3 q.4 q.5) after
@@ -299,9 +299,9 @@ reads_fault failed stopped paused unpaused x c' more whole fault.Write stop p gi
 reads_fault failed stopped paused unpaused x c' more whole fault.OutOfMemory stop p gives same q after = absurd q
 
 -- the collector stopped at a line
-pub reads_halted : {R C : Type 0} {gave : R → List ℕ → R → Type 0} {f : List ℕ → Option LineFault} {went : C → List (List ℕ) → C → Type 0} (failed : R → R → Type 0) (stopped : C → List ℕ → C → Type 0) (paused unpaused : C → C → Type 0) {most : ℕ} {r r' r'' : R} {c d : C} (x : C) {n : ℕ} {pending : List ℕ} (more whole : List ℕ)
-    → Reading gave f went most r c pending r' d n → Came gave r' more r'' → whole ≡ pending ++ more
-    → Misread f went stopped most d n whole x Halted → Reads gave failed f went stopped paused unpaused most r r'' c x (Err Halted)
+pub reads_halted : {R C : Type 0} {gave : R → List ℕ → R → Type 0} {f : List ℕ → Option LineFault} {went : C → List (List ℕ) → C → Type 0} (failed : R → R → Type 0) (stopped : C → List ℕ → C → Type 0) (paused unpaused : C → C → Type 0) {most limit : ℕ} {r r' r'' : R} {c d : C} (x : C) {n : ℕ} {pending : List ℕ} (more whole : List ℕ)
+    → Reading gave f went most limit r c pending r' d n → Came gave r' more r'' → whole ≡ pending ++ more
+    → Misread f went stopped most limit d n whole x Halted → ReadsWithin gave failed f went stopped paused unpaused most limit r r'' c x (Err Halted)
 reads_halted {gave = gave} failed stopped paused unpaused {r = r} x more whole p gives same q =
     let on = read_on {gave = gave} {r = r} more whole p gives same q.3 in
     (on.texts, q.0, q.2, on.took, inr (on.into, inr (omega (arith, q.4, on.number), q.5)))
@@ -311,25 +311,25 @@ none_of [] e = refl
 none_of (x ∷ xs) e = absurd (omega arith)
 
 -- the reader told its end, behind a whole line
-pub reads_done : {R C : Type 0} {gave : R → List ℕ → R → Type 0} {f : List ℕ → Option LineFault} {went : C → List (List ℕ) → C → Type 0} (failed : R → R → Type 0) (stopped : C → List ℕ → C → Type 0) (paused unpaused : C → C → Type 0) {most : ℕ} {r r' r'' : R} {c d : C} (c' : C) {n : ℕ} {pending bs : List ℕ} (done : Unit {0})
-    → Reading gave f went most r c pending r' d n → paused d c' → gave r' bs r'' → length bs ≡ 0 → length pending ≡ 0
-    → Reads gave failed f went stopped paused unpaused most r r'' c c' (Ok done)
-reads_done {gave = gave} {f = f} failed stopped paused unpaused {most = most} {r = r} {r' = r'} {r'' = r''} {d = d} c' {pending = pending} {bs = bs} done p pause gives none empty =
-    (p.texts, d, (r', subst (ReadSoFar gave f most r r' p.texts) (sym (none_of pending empty)) p.so_far, subst (λ l. gave r' l r'') (sym (none_of bs none)) gives), p.took, pause)
+pub reads_done : {R C : Type 0} {gave : R → List ℕ → R → Type 0} {f : List ℕ → Option LineFault} {went : C → List (List ℕ) → C → Type 0} (failed : R → R → Type 0) (stopped : C → List ℕ → C → Type 0) (paused unpaused : C → C → Type 0) {most limit : ℕ} {r r' r'' : R} {c d : C} (c' : C) {n : ℕ} {pending bs : List ℕ} (done : Unit {0})
+    → Reading gave f went most limit r c pending r' d n → paused d c' → gave r' bs r'' → length bs ≡ 0 → length pending ≡ 0
+    → ReadsWithin gave failed f went stopped paused unpaused most limit r r'' c c' (Ok done)
+reads_done {gave = gave} {f = f} failed stopped paused unpaused {most = most} {limit = limit} {r = r} {r' = r'} {r'' = r''} {d = d} c' {pending = pending} {bs = bs} done p pause gives none empty =
+    (p.texts, d, (r', subst (ReadSoFarWithin gave f most limit r r' p.texts) (sym (none_of pending empty)) p.so_far, subst (λ l. gave r' l r'') (sym (none_of bs none)) gives), p.took, pause)
 
 -- the reader told its end, within a line
-pub reads_cut : {R C : Type 0} {gave : R → List ℕ → R → Type 0} {f : List ℕ → Option LineFault} {went : C → List (List ℕ) → C → Type 0} (failed : R → R → Type 0) (stopped : C → List ℕ → C → Type 0) (paused unpaused : C → C → Type 0) {most : ℕ} {r r' r'' : R} {c d : C} (c' : C) {n : ℕ} {pending bs : List ℕ}
-    → Reading gave f went most r c pending r' d n → paused d c' → gave r' bs r'' → length bs ≡ 0 → 0 < length pending
-    → Reads gave failed f went stopped paused unpaused most r r'' c c' (Err (Fault (fault.Line (n + 1) NotEnded)))
+pub reads_cut : {R C : Type 0} {gave : R → List ℕ → R → Type 0} {f : List ℕ → Option LineFault} {went : C → List (List ℕ) → C → Type 0} (failed : R → R → Type 0) (stopped : C → List ℕ → C → Type 0) (paused unpaused : C → C → Type 0) {most limit : ℕ} {r r' r'' : R} {c d : C} (c' : C) {n : ℕ} {pending bs : List ℕ}
+    → Reading gave f went most limit r c pending r' d n → paused d c' → gave r' bs r'' → length bs ≡ 0 → 0 < length pending
+    → ReadsWithin gave failed f went stopped paused unpaused most limit r r'' c c' (Err (Fault (fault.Line (n + 1) NotEnded)))
 reads_cut {gave = gave} failed stopped paused unpaused {r' = r'} {r'' = r''} {d = d} c' {n = n} {pending = pending} {bs = bs} p pause gives none some =
     (p.texts, d, (r', pending, p.so_far, subst (λ l. gave r' l r'') (sym (none_of bs none)) gives, some, omega (arith, p.number)), p.took, pause)
 
-pub reads_failed : {R C : Type 0} {gave : R → List ℕ → R → Type 0} {f : List ℕ → Option LineFault} {went : C → List (List ℕ) → C → Type 0} (failed : R → R → Type 0) (stopped : C → List ℕ → C → Type 0) (paused unpaused : C → C → Type 0) {most : ℕ} {r r' : R} (r'' : R) {c d : C} (c' : C) {n : ℕ} {pending : List ℕ}
-    → Reading gave f went most r c pending r' d n → paused d c' → failed r' r''
-    → Reads gave failed f went stopped paused unpaused most r r'' c c' (Err (Fault fault.Read))
+pub reads_failed : {R C : Type 0} {gave : R → List ℕ → R → Type 0} {f : List ℕ → Option LineFault} {went : C → List (List ℕ) → C → Type 0} (failed : R → R → Type 0) (stopped : C → List ℕ → C → Type 0) (paused unpaused : C → C → Type 0) {most limit : ℕ} {r r' : R} (r'' : R) {c d : C} (c' : C) {n : ℕ} {pending : List ℕ}
+    → Reading gave f went most limit r c pending r' d n → paused d c' → failed r' r''
+    → ReadsWithin gave failed f went stopped paused unpaused most limit r r'' c c' (Err (Fault fault.Read))
 reads_failed failed stopped paused unpaused {r' = r'} r'' {d = d} c' {pending = pending} p pause fails = (p.texts, d, (r', pending, p.so_far, fails), p.took, pause)
 
-pub reads_unpaused : {R C : Type 0} {gave : R → List ℕ → R → Type 0} {f : List ℕ → Option LineFault} {went : C → List (List ℕ) → C → Type 0} (failed : R → R → Type 0) (stopped : C → List ℕ → C → Type 0) (paused unpaused : C → C → Type 0) {most : ℕ} {r r' : R} {c d : C} (c' : C) {n : ℕ} {pending : List ℕ}
-    → Reading gave f went most r c pending r' d n → unpaused d c'
-    → Reads gave failed f went stopped paused unpaused most r r' c c' (Err Halted)
+pub reads_unpaused : {R C : Type 0} {gave : R → List ℕ → R → Type 0} {f : List ℕ → Option LineFault} {went : C → List (List ℕ) → C → Type 0} (failed : R → R → Type 0) (stopped : C → List ℕ → C → Type 0) (paused unpaused : C → C → Type 0) {most limit : ℕ} {r r' : R} {c d : C} (c' : C) {n : ℕ} {pending : List ℕ}
+    → Reading gave f went most limit r c pending r' d n → unpaused d c'
+    → ReadsWithin gave failed f went stopped paused unpaused most limit r r' c c' (Err Halted)
 reads_unpaused failed stopped paused unpaused {d = d} c' {pending = pending} p stop = (p.texts, pending, d, p.took, inl (p.so_far, stop))

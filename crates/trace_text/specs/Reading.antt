@@ -46,41 +46,63 @@ FirstLine fault_in most P bytes = (text : List ℕ) × (more : List ℕ) × (byt
 -- ---- what was read
 
 -- Up to here, before a read or at the end, these good lines came, and the start of another that may still become one.
-pub record ReadSoFar {R : Type 0} (gave : R → List ℕ → R → Type 0) (fault_in : List ℕ → Option LineFault) (most : ℕ) (r r' : R) (texts : List (List ℕ)) (pending : List ℕ) : Type 0 where
+pub record ReadSoFarWithin {R : Type 0} (gave : R → List ℕ → R → Type 0) (fault_in : List ℕ → Option LineFault) (most limit : ℕ) (r r' : R) (texts : List (List ℕ)) (pending : List ℕ) : Type 0 where
   pub bytes : List ℕ
   pub read : Moves (Came gave) r bytes r'
   pub good : Good fault_in most bytes texts pending
   pub short : length pending ≤ most
   pub unfinished : HasNoEnd pending
-  pub within : length texts ≤ most_lines
-  pub room : 0 < length pending → length texts < most_lines
+  pub within : length texts ≤ limit
+  pub room : 0 < length pending → length texts < limit
 
 -- Up to here one piece more came, and these good lines are the first of all that came.
-pub record ReadInto {R : Type 0} (gave : R → List ℕ → R → Type 0) (fault_in : List ℕ → Option LineFault) (most : ℕ) (r r' : R) (texts : List (List ℕ)) (rest : List ℕ) : Type 0 where
+pub record ReadIntoWithin {R : Type 0} (gave : R → List ℕ → R → Type 0) (fault_in : List ℕ → Option LineFault) (most limit : ℕ) (r r' : R) (texts : List (List ℕ)) (rest : List ℕ) : Type 0 where
   pub before : List (List ℕ)
   pub pending : List ℕ
   pub last : R
-  pub so_far : ReadSoFar gave fault_in most r last before pending
+  pub so_far : ReadSoFarWithin gave fault_in most limit r last before pending
   pub piece : List ℕ
   pub gives : Came gave last piece r'
   pub good : Good fault_in most (so_far.bytes ++ piece) texts rest
-  pub within : length texts ≤ most_lines
+  pub within : length texts ≤ limit
 
 -- All was read, up to the first end: these good lines.
-abbrev pub ReadWhole : {R : Type 0} (gave : R → List ℕ → R → Type 0) (fault_in : List ℕ → Option LineFault) (most : ℕ) (r r' : R) (texts : List (List ℕ)) → Type 0
-ReadWhole {R} gave fault_in most r r' texts = (last : R) × ReadSoFar gave fault_in most r last texts [] × gave last [] r'
+abbrev pub ReadWholeWithin : {R : Type 0} (gave : R → List ℕ → R → Type 0) (fault_in : List ℕ → Option LineFault) (most limit : ℕ) (r r' : R) (texts : List (List ℕ)) → Type 0
+ReadWholeWithin {R} gave fault_in most limit r r' texts = (last : R) × ReadSoFarWithin gave fault_in most limit r last texts [] × gave last [] r'
 
 -- What was read where a reading has a fault, the first one in the order of the lines, and the good lines before it. An
 -- error of the reader stands behind every line that ended or was too long before it.
-abbrev pub ReadStops : {R : Type 0} (gave : R → List ℕ → R → Type 0) (failed : R → R → Type 0) (fault_in : List ℕ → Option LineFault) (most : ℕ) (r r' : R) (texts : List (List ℕ)) → TraceFault → Type 0
-ReadStops {R} gave failed fault_in most r r' texts fault.Read = (last : R) × (rest : List ℕ) × ReadSoFar gave fault_in most r last texts rest × failed last r'
+abbrev pub ReadStopsWithin : {R : Type 0} (gave : R → List ℕ → R → Type 0) (failed : R → R → Type 0) (fault_in : List ℕ → Option LineFault) (most limit : ℕ) (r r' : R) (texts : List (List ℕ)) → TraceFault → Type 0
+ReadStopsWithin {R} gave failed fault_in most limit r r' texts fault.Read = (last : R) × (rest : List ℕ) × ReadSoFarWithin gave fault_in most limit r last texts rest × failed last r'
 -- the input ended within a line
-ReadStops {R} gave failed fault_in most r r' texts (fault.Line n NotEnded) = (last : R) × (rest : List ℕ) × ReadSoFar gave fault_in most r last texts rest × gave last [] r' × (0 < length rest) × (n ≡ length texts + 1)
-ReadStops gave failed fault_in most r r' texts (fault.Line n f) = (rest : List ℕ) × ReadInto gave fault_in most r r' texts rest × (n ≡ length texts + 1) × (length texts < most_lines) × BeginsFaulty fault_in most rest f
-ReadStops gave failed fault_in most r r' texts fault.TooManyLines = (rest : List ℕ) × ReadInto gave fault_in most r r' texts rest × (length texts ≡ most_lines) × (0 < length rest)
-ReadStops gave failed fault_in most r r' texts fault.OutOfMemory = ⊥
-ReadStops gave failed fault_in most r r' texts fault.Write = ⊥
+ReadStopsWithin {R} gave failed fault_in most limit r r' texts (fault.Line n NotEnded) = (last : R) × (rest : List ℕ) × ReadSoFarWithin gave fault_in most limit r last texts rest × gave last [] r' × (0 < length rest) × (n ≡ length texts + 1)
+ReadStopsWithin gave failed fault_in most limit r r' texts (fault.Line n f) = (rest : List ℕ) × ReadIntoWithin gave fault_in most limit r r' texts rest × (n ≡ length texts + 1) × (length texts < limit) × BeginsFaulty fault_in most rest f
+ReadStopsWithin gave failed fault_in most limit r r' texts fault.TooManyLines = (rest : List ℕ) × ReadIntoWithin gave fault_in most limit r r' texts rest × (length texts ≡ limit) × (0 < length rest)
+ReadStopsWithin gave failed fault_in most limit r r' texts fault.OutOfMemory = ⊥
+ReadStopsWithin gave failed fault_in most limit r r' texts fault.Write = ⊥
 
 -- Why a text that is kept or judged wasn't read to its end: memory may be missing anywhere.
-abbrev pub ReadFails : {R : Type 0} (gave : R → List ℕ → R → Type 0) (failed : R → R → Type 0) (fault_in : List ℕ → Option LineFault) (most : ℕ) (r r' : R) → TraceFault → Type 0
-ReadFails gave failed fault_in most r r' e = (e ≡ fault.OutOfMemory) ⊎ ((texts : List (List ℕ)) × ReadStops gave failed fault_in most r r' texts e)
+abbrev pub ReadFailsWithin : {R : Type 0} (gave : R → List ℕ → R → Type 0) (failed : R → R → Type 0) (fault_in : List ℕ → Option LineFault) (most limit : ℕ) (r r' : R) → TraceFault → Type 0
+ReadFailsWithin gave failed fault_in most limit r r' e = (e ≡ fault.OutOfMemory) ⊎ ((texts : List (List ℕ)) × ReadStopsWithin gave failed fault_in most limit r r' texts e)
+
+-- ---- the same of a text with as many lines as a trace may have
+
+abbrev pub ReadSoFar : {R : Type 0} (gave : R → List ℕ → R → Type 0) (fault_in : List ℕ → Option LineFault) (most : ℕ) (r r' : R)
+    (texts : List (List ℕ)) (pending : List ℕ) → Type 0
+ReadSoFar gave fault_in most r r' texts pending = ReadSoFarWithin gave fault_in most most_lines r r' texts pending
+
+abbrev pub ReadInto : {R : Type 0} (gave : R → List ℕ → R → Type 0) (fault_in : List ℕ → Option LineFault) (most : ℕ) (r r' : R)
+    (texts : List (List ℕ)) (rest : List ℕ) → Type 0
+ReadInto gave fault_in most r r' texts rest = ReadIntoWithin gave fault_in most most_lines r r' texts rest
+
+abbrev pub ReadWhole : {R : Type 0} (gave : R → List ℕ → R → Type 0) (fault_in : List ℕ → Option LineFault) (most : ℕ) (r r' : R)
+    (texts : List (List ℕ)) → Type 0
+ReadWhole gave fault_in most r r' texts = ReadWholeWithin gave fault_in most most_lines r r' texts
+
+abbrev pub ReadStops : {R : Type 0} (gave : R → List ℕ → R → Type 0) (failed : R → R → Type 0) (fault_in : List ℕ → Option LineFault)
+    (most : ℕ) (r r' : R) (texts : List (List ℕ)) → TraceFault → Type 0
+ReadStops gave failed fault_in most r r' texts e = ReadStopsWithin gave failed fault_in most most_lines r r' texts e
+
+abbrev pub ReadFails : {R : Type 0} (gave : R → List ℕ → R → Type 0) (failed : R → R → Type 0) (fault_in : List ℕ → Option LineFault)
+    (most : ℕ) (r r' : R) → TraceFault → Type 0
+ReadFails gave failed fault_in most r r' e = ReadFailsWithin gave failed fault_in most most_lines r r' e

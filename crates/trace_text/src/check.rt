@@ -98,6 +98,8 @@ impl Collector for Checking {
 
     ghost longest = { MAX_PAIR };
 
+    ghost most_lines = { MAX_LINES };
+
     ghost went = { λ s texts t. JudgedFrom (shown s.memory) texts t.steps t.mismatch (shown t.memory) };
 
     ghost stopped = { λ s text t. Unit {0} };

@@ -55,6 +55,8 @@ impl Collector for Events {
 
     ghost longest = { MAX_LINE };
 
+    ghost most_lines = { MAX_LINES };
+
     ghost went = { λ s texts t. Gathered s.most texts t };
 
     ghost stopped = { λ s text t. Unit {0} };

@@ -37,7 +37,7 @@ pub use fields::{nibble, number};
 pub use lines::{Line, LineFault, cut, read_line};
 pub use pairs::{Pair, read_pair};
 pub use pieces::Failed;
-pub use reading::{Collector, Stop, Uncollected, read_lines};
+pub use reading::{Collector, Stop, Uncollected, read_lines, read_lines_within};
 pub use requests::read_requests;
 pub use serve::{Counts, serve_text, write_whole};
 pub use streams::{Sink, Source};

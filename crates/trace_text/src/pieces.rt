@@ -1,10 +1,9 @@
 //! A text comes in pieces: its lines are found, and the rest is kept for the next piece.
 ghost use Rattle.std.specs.Prelude.{◌≡◌, ◌≢◌, ℕ, ◌+◌, ◌-◌, ◌<◌, ◌≤◌, length, take, drop, OnErr, IfOk, IfSome, IfNone, slice_index};
-ghost use Rattle.trace_text.specs.declared.fault.TheConstants.{MAX_LINES};
 ghost use Rattle.trace_text.specs.Streams.{HasNoEnd};
 ghost use Rattle.trace_text.specs.Collecting.{Filled, BegunFault};
 
-use crate::fault::{MAX_LINES, TraceFault};
+use crate::fault::TraceFault;
 use crate::lines::LineFault;
 use crate::streams::Source;
 use memchr::memchr_iter;
@@ -33,13 +32,13 @@ pub(crate) fn end_of_line(bytes: &[u8]) -> Option<usize>
 
 // The fault of the line that the last `left` bytes begin, whatever comes behind them: it is one line
 // too many, or has more than `most` bytes.
-pub(crate) fn begun_fault(lines: u64, left: usize, most: usize) -> Option<TraceFault>
-    requires { lines ≤ MAX_LINES }
-    ensures some { IfSome result (BegunFault lines left most) }
+pub(crate) fn begun_fault(lines: u64, left: usize, most: usize, limit: u64) -> Option<TraceFault>
+    requires { lines ≤ limit }
+    ensures some { IfSome result (BegunFault lines left most limit) }
     ensures short { IfNone result (left ≤ most) }
-    ensures room { IfNone result (0 < left → lines < MAX_LINES) }
+    ensures room { IfNone result (0 < left → lines < limit) }
 {
-    if left > 0 && lines == MAX_LINES {
+    if left > 0 && lines == limit {
         return Some(TraceFault::TooManyLines);
     }
     if left > most {

@@ -2,7 +2,7 @@
 ghost use Rattle.std.specs.Prelude.{◌≡◌, ℕ, ◌+◌, ◌≤◌, ◌++◌, ◌∷◌, [], List, None, Option, length, OnOk, OnErr, IfOk, IfErr};
 ghost use Rattle.trace_text.specs.declared.fault.TheConstants.{BUFFER_LEN, MAX_LINES, MAX_LINE_LIMIT};
 ghost use Rattle.trace_text.specs.declared.lines.LineFault.{LineFault};
-ghost use Rattle.trace_text.specs.Collecting.{Misses, AllCollected, Misread, Reads, AfterPause};
+ghost use Rattle.trace_text.specs.Collecting.{Misses, AllCollected, Misread, Reads, ReadsWithin, AfterPause};
 
 use crate::fault::{MAX_LINES, TraceFault};
 use crate::lines::LineFault;
@@ -89,6 +89,9 @@ pub trait Collector {
     // How many bytes a line has at most, LF not counted.
     ghost longest: { ℕ };
 
+    // How many lines a text has at most.
+    ghost most_lines: { ℕ };
+
     // From one state to the other, these lines were taken.
     ghost went: { Self → List (List ℕ) → Self → Type 0 };
 
@@ -111,7 +114,7 @@ pub trait Collector {
     fn collect(&mut self, number: u64, text: &[u8]) -> Result<(), Uncollected>
         requires went { (start : Self) × (texts : List (List ℕ)) × went start texts self.old
             × (number ≡ length texts + 1) }
-        requires few { number ≤ MAX_LINES }
+        requires few { number ≤ most_lines }
         requires short { length text.now ≤ longest }
         ensures good { OnOk result (fault_in text.now ≡ None) }
         ensures kept { OnOk result
@@ -135,24 +138,26 @@ pub trait Collector {
 fn collect_ended<C: Collector>(
     collector: &mut C,
     most: usize,
+    limit: u64,
     count: &mut u64,
     bytes: &[u8],
 ) -> Result<usize, Stop>
     requires went { (start : C) × (texts : List (List ℕ)) × C.went start texts collector.old
         × (count.old ≡ length texts) }
-    requires few { count.old ≤ MAX_LINES }
+    requires few { count.old ≤ limit }
     requires longest { most ≡ C.longest }
+    requires limit { limit ≡ C.most_lines }
     ensures ok { IfOk result
-        (λ left. AllCollected C.fault_in C.went most collector.old count.old bytes.now left
+        (λ left. AllCollected C.fault_in C.went most limit collector.old count.old bytes.now left
         collector.new count.new) }
     ensures err { IfErr result
-        (Misread C.fault_in C.went C.stopped most collector.old count.old bytes.now collector.new) }
+        (Misread C.fault_in C.went C.stopped most limit collector.old count.old bytes.now collector.new) }
     ensures same { (start : C) → C.holds_same start collector.old
         → C.holds_same start collector.new }
 {
     let mut rest = bytes;
     'lines: while let Some(at) = end_of_line(rest) {
-        if *count == MAX_LINES {
+        if *count == limit {
             return Err(Stop::Fault(TraceFault::TooManyLines));
         }
         let number = *count + 1;
@@ -187,25 +192,27 @@ fn told<C: Collector>(collector: &mut C, fault: TraceFault) -> Stop
     }
 }
 
-/// Reads a text whose lines have at most `most` bytes, LF not counted, up to its first end, through a
-/// buffer. The collector pauses before each read, and so at the end, and before a fault is told.
+/// Reads a text of at most `limit` lines, each of at most `most` bytes, LF not counted, up to its first
+/// end, through a buffer. The collector pauses before each read, and so at the end, and before a fault is told.
 ///
 /// `most` is at most [`MAX_LINE_LIMIT`](crate::MAX_LINE_LIMIT), and the buffer has
 /// [`BUFFER_LEN`](crate::BUFFER_LEN) bytes. [`Stop::Fault`] is the first fault of the text or its
 /// reader, the lines before it collected; [`Stop::Halted`] says that the collector stopped.
-pub fn read_lines<R: Source, C: Collector>(
+pub fn read_lines_within<R: Source, C: Collector>(
     reader: &mut R,
     collector: &mut C,
     most: usize,
+    limit: u64,
     buffer: &mut [u8],
 ) -> Result<(), Stop>
     requires longest { most ≡ C.longest }
+    requires limit { limit ≡ C.most_lines }
     requires most { most ≤ MAX_LINE_LIMIT }
     requires room { length buffer.old ≡ BUFFER_LEN }
     requires went { C.went collector.old [] collector.old }
     requires same { C.holds_same collector.old collector.old }
-    ensures reads { Reads R.gave R.failed C.fault_in C.went C.stopped C.paused C.unpaused most reader.old
-        reader.new collector.old collector.new result }
+    ensures reads { ReadsWithin R.gave R.failed C.fault_in C.went C.stopped C.paused C.unpaused most limit
+        reader.old reader.new collector.old collector.new result }
     ensures same { C.holds_same collector.old collector.new }
 {
     let mut count = 0u64;
@@ -224,15 +231,35 @@ pub fn read_lines<R: Source, C: Collector>(
             return Err(Stop::Fault(TraceFault::Line { number, fault }));
         }
         let end = filled + given;
-        let left = match collect_ended(collector, most, &mut count, &buffer[..end]) {
+        let left = match collect_ended(collector, most, limit, &mut count, &buffer[..end]) {
             Ok(left) => left,
             Err(Stop::Halted) => return Err(Stop::Halted),
             Err(Stop::Fault(fault)) => return Err(told(collector, fault)),
         };
-        if let Some(fault) = begun_fault(count, left, most) {
+        if let Some(fault) = begun_fault(count, left, most, limit) {
             return Err(told(collector, fault));
         }
         keep_end(buffer, end - left, end);
         filled = left;
     }
+}
+
+/// Reads a text of at most [`MAX_LINES`] lines, as [`read_lines_within`] does.
+pub fn read_lines<R: Source, C: Collector>(
+    reader: &mut R,
+    collector: &mut C,
+    most: usize,
+    buffer: &mut [u8],
+) -> Result<(), Stop>
+    requires longest { most ≡ C.longest }
+    requires limit { C.most_lines ≡ MAX_LINES }
+    requires most { most ≤ MAX_LINE_LIMIT }
+    requires room { length buffer.old ≡ BUFFER_LEN }
+    requires went { C.went collector.old [] collector.old }
+    requires same { C.holds_same collector.old collector.old }
+    ensures reads { Reads R.gave R.failed C.fault_in C.went C.stopped C.paused C.unpaused most reader.old
+        reader.new collector.old collector.new result }
+    ensures same { C.holds_same collector.old collector.new }
+{
+    read_lines_within(reader, collector, most, MAX_LINES, buffer)
 }

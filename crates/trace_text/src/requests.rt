@@ -52,6 +52,8 @@ impl Collector for Requests {
 
     ghost longest = { MAX_LINE };
 
+    ghost most_lines = { MAX_LINES };
+
     ghost went = { λ s texts t. t.events.items ≡ requests_of texts };
 
     ghost stopped = { λ s text t. Unit {0} };

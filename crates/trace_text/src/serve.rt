@@ -148,6 +148,8 @@ impl<'a, W: Sink, M: AnyMachine> Collector for Serving<'a, W, M> {
 
     ghost longest = { MAX_LINE };
 
+    ghost most_lines = { MAX_LINES };
+
     ghost went = { λ s texts t. Applied W.took s.writer.now (M.state s.machine.now) texts t.writer.now (M.state t.machine.now) t.counts };
 
     ghost stopped = { λ s text t. Broken W.took W.refused s.writer.now (M.state s.machine.now) text t.writer.now (M.state t.machine.now) };

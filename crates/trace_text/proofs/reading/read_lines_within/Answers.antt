@@ -1,7 +1,7 @@
 use Rattle.std.proofs.Common.{arith, ◌≡◌, ◌+◌, ◌-◌, ◌<◌, ◌∙◌, inl, inr, length, take, drop, sym, ap, length-take, length-drop}
 use Rattle.std.proofs.lemmas.Result.{err_from_is_err_and}
 use Rattle.trace_text.proofs.Readings.{reading_start, reading_still, reading_on, all_progress, misread_begun, reads_fault, reads_halted, reads_unpaused}
-use Rattle.trace_text.proofs.reading.read_lines.Goals as goal
+use Rattle.trace_text.proofs.reading.read_lines_within.Goals as goal
 
 pub pieces-init : goal.pieces-init
 pieces-init g c = record { reading = reading_start c.args.reader.now c.args.collector.now c.requires.went; filled = omega arith; same = c.requires.same }
@@ -53,7 +53,7 @@ pieces-preserved g c =
     let at_end : take left new ≡ drop (length whole - left) whole =
     ap (λ n. take n new) back ∙ c.keep_end.ensures ∙ ap (λ n. drop (n - left) whole) (sym len) in
     let short = c.in_default-begun_fault.ensures.short in
-    let room : 0 < length (take left new) → c.collect_ended.new.count < 16777216 = λ some. c.in_default-begun_fault.ensures.room (omega (arith, some, length-take left new)) in
+    let room : 0 < length (take left new) → c.collect_ended.new.count < c.args.limit = λ some. c.in_default-begun_fault.ensures.room (omega (arith, some, length-take left new)) in
     record {
       reading = reading_on fill.bytes whole (take left new) reading (fill.gives, omega (arith, fill.count)) fill.front all at_end (omega (arith, short, length-take left new)) room;
       filled = omega (arith, short);
