@@ -688,7 +688,11 @@ typedef struct {
     uint32_t reason;
 } kroft_reason;
 
-/* The reasons. */
+/*
+ * The reasons. Which store is the last goes by the order of the requests. A store overwrote a byte before the load's
+ * request if it was answered before that, and requested after the response to the store that is told (after
+ * KROFT_FIRST_OVERWRITTEN whenever it was requested).
+ */
 enum {
     KROFT_NO_REASON = 0,          /* none is told                                                          */
     KROFT_NEVER_THERE = 1,        /* no store put the byte there, and memory hadn't it there before        */
@@ -699,8 +703,12 @@ enum {
 /*
  * What kroft_wrong_place says of these bytes, and why the load may not return the byte at that place; it isn't told.
  * Returns KROFT_WRONG_BYTE, and `why` says it; or what kroft_wrong_place returns else, and then `why` is as it was.
- * The reason is the regular law's, of that byte alone: there is none if that law allows the byte (as in new then old),
- * or if more than 4,096 bytes were stored and the store is no longer remembered.
+ * The reason is the regular law's, of that byte alone, and depends on the history alone. While fewer than 8,192 bytes
+ * were stored, there is none exactly if that law allows the byte. The flat and the atomic law may refuse it all the same:
+ * as in new then old, or in a unit of more than one byte, where `place` is the first byte of the unit that was asked for,
+ * and another one may be to blame. Then the first stores are forgotten, 4,096 bytes at a time, and the last 4,096 to
+ * 8,191 are left: the reason is KROFT_STORE_OVERWRITTEN if one of them had the byte and the load may see none of those
+ * that had it, and otherwise there is none. The stores that are told are the last of the whole history even so.
  */
 uint32_t kroft_why(kroft_history *handle, uint64_t number, const uint8_t *bytes, size_t nbytes, kroft_reason *why);
 

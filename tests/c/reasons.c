@@ -69,7 +69,7 @@ static void no_reason(void) {
     CHECK(kroft_history_free(&h) == KROFT_DONE);
 }
 
-/* What is remembered: a store that was overwritten, until many more bytes were stored. */
+/* What is remembered: a store that was overwritten, until 8,192 bytes were stored. */
 static void remembered(void) {
     static const uint8_t first[1] = {0x5a};
     kroft_history h = opened(KROFT_REGULAR_LAW, 1);
@@ -78,9 +78,9 @@ static void remembered(void) {
     store(&h, 1, 0, first[0]);
     store(&h, 2, 0, 0x11);
     CHECK(kroft_load_request(&h, 1, 0, 1) == KROFT_LAWFUL);
-    for (k = 0; k < 4000; k++) store(&h, 3, 8, (uint8_t)k);
+    for (k = 0; k < 8189; k++) store(&h, 3, 8, (uint8_t)k);
     CHECK(kroft_why(&h, 1, first, 1, &why) == KROFT_WRONG_BYTE && is_reason(&why, 0, 1, 0, 2, 2, KROFT_STORE_OVERWRITTEN));
-    for (k = 0; k < 9000; k++) store(&h, 3, 8, (uint8_t)k);
+    store(&h, 3, 8, 0);
     CHECK(kroft_why(&h, 1, first, 1, &why) == KROFT_WRONG_BYTE && is_reason(&why, 0, 0, 0, 0, 0, KROFT_NO_REASON));
     store(&h, 4, 1, 7);
     store(&h, 5, 1, 8);
@@ -88,7 +88,7 @@ static void remembered(void) {
     {
         static const uint8_t seven[1] = {7};
         CHECK(kroft_why(&h, 2, seven, 1, &why) == KROFT_WRONG_BYTE);
-        CHECK(is_reason(&why, 0, 4, 26005, 5, 26007, KROFT_STORE_OVERWRITTEN));
+        CHECK(is_reason(&why, 0, 4, 16385, 5, 16387, KROFT_STORE_OVERWRITTEN));
     }
     CHECK(kroft_history_free(&h) == KROFT_DONE);
 }

@@ -125,17 +125,19 @@ static unsigned refusals(kroft_history *h, unsigned k, int is_response) {
     return place - 1;
 }
 
-/* A history of so many stores that the first ones are forgotten, which takes memory each time, twice behind the 128th. */
+/* A history of so many stores that the first ones are forgotten, at each 64th from the 128th on: what is held grows no more. */
 static void many_stores(void) {
     kroft_history h = KROFT_NO_HISTORY;
+    long before = 0;
     unsigned k, refused = 0;
     granted = 1000000;
     CHECK(kroft_history_open(&h, KROFT_REGULAR_LAW, 1, KROFT_ZEROS, NULL, 0) == KROFT_DONE);
     for (k = 0; k < 300; k++) {
         unsigned now = refusals(&h, k, 0) + refusals(&h, k, 1);
+        if (k == 128) before = held;
         if (k >= 128) refused += now;
     }
-    CHECK(refused >= 2);
+    CHECK(refused >= 2 && held == before);
     CHECK(kroft_history_free(&h) == KROFT_DONE && held == 0);
 }
 

@@ -1,15 +1,14 @@
 -- Why an answer is wrong, as C is told of it.
-use Rattle.std.specs.Prelude.{⊤, ℕ, ◌≡◌, ◌≤◌, ◌<◌, ◌+◌, ◌==◌, min, List, length, Option, Some, None, slice_get}
+use Rattle.std.specs.Prelude.{ℕ, ◌≡◌, ◌<◌, ◌+◌, ◌==◌, min, List, Option, Some, None, slice_get}
 use Rattle.std.specs.List.{find}
 use Rattle.std.specs.Option.{option_map, option_and_then}
 use Rattle.memory_histories.specs.declared.events.HistoryFault.TheVariants.{WrongByte}
 use Rattle.memory_histories.specs.declared.events.HistoryEvent.{HistoryEvent}
 use Rattle.memory_histories.specs.declared.windows.LoadByte.{LoadByte}
 use Rattle.memory_histories.specs.Windows.{Windows, is_at}
-use Rattle.memory_histories.specs.Regular.{MayReturn}
 use Rattle.history_reasons.specs.declared.Reason.{Reason}
 use Rattle.history_reasons.specs.declared.Reason.TheVariants.{NeverThere, InitialOverwritten, StoreOverwritten}
-use Rattle.history_reasons.specs.Log.{kept_bytes, IsTrueOf}
+use Rattle.history_reasons.specs.Log.{told_reason}
 use Rattle.history_handles.specs.declared.faults.JudgeFault.{JudgeFault}
 use Rattle.history_handles.specs.declared.faults.JudgeFault.TheVariants.{Refused}
 use Rattle.history_handles.specs.declared.rows.Operation.{Operation}
@@ -39,15 +38,10 @@ address_of loads number place = option_map (λ o. min (o.address + place) 184467
 abbrev pub load_of : Session → ℕ → ℕ → Option LoadByte
 load_of s number place = option_and_then (λ a. find (is_at number a) s.seen.loads) (address_of s.loads number place)
 
--- a reason is true of this byte of the load; and where none is told, the regular law allows the byte, or there were more stores than are
--- always remembered
-abbrev pub IsReasonOf : Windows → LoadByte → ℕ → Option Reason → Type 0
-IsReasonOf w l b (Some reason) = IsTrueOf w l b reason
-IsReasonOf w l b None = length w.stores ≤ kept_bytes → MayReturn w.image w.rest w.stores l b
-
-abbrev pub IsReasonFor : Windows → Option LoadByte → Option ℕ → Option Reason → Type 0
-IsReasonFor w (Some l) (Some b) reason = IsReasonOf w l b reason
-IsReasonFor w l b reason = reason ≡ None
+-- the reason that is told of this byte of the load, by the history alone: none of a byte that isn't there
+abbrev pub reason_for : Windows → Option LoadByte → Option ℕ → Option Reason
+reason_for w (Some l) (Some b) = told_reason w l b
+reason_for w l b = None
 
 -- the place of the byte that is wrong, if one is
 abbrev pub place_of : Option JudgeFault → ℕ
@@ -65,7 +59,7 @@ pub record IsWhyAnswered (status : ℕ) (row : ReasonRow) (row' : ReasonRow) (s 
   pub reason : Option Reason
   pub law : IsFound s.history event found
   pub why : s.seen.moment < 18446744073709551616
-      → IsReasonFor s.seen (load_of s number (place_of found)) (slice_get bytes (place_of found)) reason
+      → reason ≡ reason_for s.seen (load_of s number (place_of found)) (slice_get bytes (place_of found))
   pub told : IsRowTold status row row' reason found
 
 abbrev pub IsWhyTold : ℕ → ReasonRow → ReasonRow → Option Session → ℕ → List ℕ → HistoryEvent → Type 0

@@ -4,7 +4,7 @@ ghost use Rattle.history_handles.specs.History.{Passes, has_units};
 ghost use Rattle.history_handles.specs.Session.{Session, session_opening, session_after, session_refusing, session_forgetting, loads_after, stores_after, without};
 ghost use Rattle.history_handles.specs.Kept.{JudgeFaultIs, IsFound, IsSetFound, ForgetFaultIs};
 ghost use Rattle.history_handles.specs.KeptSession.{IsKept};
-ghost use Rattle.history_handles.specs.Why.{IsReasonFor, load_under, address_of, load_of};
+ghost use Rattle.history_handles.specs.Why.{reason_for, load_under, address_of, load_of};
 ghost use Rattle.history_reasons.specs.Log.{HasRoom};
 
 use crate::faults::{ForgetFault, JudgeFault};
@@ -110,7 +110,7 @@ impl OpenHistory {
         ensures { (s : Session)
             → IsKept self.now s
             → s.seen.moment < 18446744073709551616
-            → IsReasonFor s.seen (load_of s number place) (slice_get bytes.now place) result }
+            → result ≡ reason_for s.seen (load_of s number place) (slice_get bytes.now place) }
     {
         let byte = byte_at(bytes, place)?;
         let load = self.load_at(number, place)?;

@@ -1,38 +1,47 @@
 -- A log is of the history whose events it notes, and says true reasons.
-use Rattle.std.proofs.Common.{◌≡◌, ℕ, zero, suc, ◌+◌, ◌-◌, ◌<◌, ◌≤◌, ◌==◌, ◌↔◌, if◌then◌else◌, inl, inr, Bool, true, false, not, List, [], ◌∷◌, ◌++◌, drop, map, length, Option, Some, None, refl, sym, ◌∙◌, ap, subst, arith, length-drop, length-append}
-use Rattle.std.specs.Prelude.{get_or, IfSome}
-use Rattle.std.specs.List.{Contains}
-use Rattle.std.specs.Option.{option_map}
-use Rattle.std.proofs.lemmas.Bool.{ne_eqb}
-use Rattle.std.proofs.lemmas.Bool.Decides.{Decides-eqb}
-use Rattle.std.proofs.lemmas.List.{drop-map, drop-append-le, drop-drop, length-map, get_or-drop}
+use Rattle.std.proofs.Common.{◌≡◌, ℕ, ◌+◌, ◌-◌, ◌<◌, ◌≤◌, ◌==◌, ◌&&◌, ◌↔◌, if◌then◌else◌, Bool, true, false, List, [], drop, length, Option, Some, None, inl, inr, refl, sym, ◌∙◌, ap, arith, length-drop, length-append}
+use Rattle.std.specs.Prelude.{nat_lt, IfSome}
+use Rattle.std.proofs.lemmas.Bool.{cases_Bool, ltb-false, ne_eqb}
+use Rattle.std.proofs.lemmas.Bool.Decides.{Decides-ltb}
+use Rattle.std.proofs.lemmas.List.{drop-map, drop-append-le, drop-drop, length-map}
+use Rattle.std.proofs.lemmas.Nat.{div-add-mod'}
 use Rattle.memory_histories.specs.declared.events.HistoryEvent.{HistoryEvent}
 use Rattle.memory_histories.specs.declared.events.HistoryEvent.TheVariants.{LoadRequest, LoadResponse, StoreRequest, StoreResponse}
 use Rattle.memory_histories.specs.declared.events.Rest.{Rest}
+use Rattle.memory_histories.specs.declared.events.Rest.TheVariants.{Unknown}
 use Rattle.memory_histories.specs.declared.windows.StoreByte.{StoreByte}
 use Rattle.memory_histories.specs.declared.windows.LoadByte.{LoadByte}
 use Rattle.memory_histories.specs.Windows.{Windows, opening, windows_after, store_bytes, after_response}
-use Rattle.memory_histories.specs.Regular.{MayReturn, overwrites}
+use Rattle.memory_histories.specs.Regular.{MayReturn}
 use Rattle.history_reasons.specs.declared.log.StoreLog.{StoreLog}
 use Rattle.history_reasons.specs.declared.Reason.{Reason}
-use Rattle.history_reasons.specs.declared.Reason.TheVariants.{StoreOverwritten}
-use Rattle.history_reasons.specs.Reasons.{HasReason, stores_byte, last_that, last_reason}
-use Rattle.history_reasons.specs.Log.{kept_bytes, IsLogOf, noted_stores, noted_loads, IsNoted, IsCounted, IsShortened, reason_of, part_reason, kept_reason, IsTrueOf, IsWholeOf}
-use Rattle.history_reasons.proofs.Reasons.{last_there, stores_law, overwrites_law, reason_law}
+use Rattle.history_reasons.specs.declared.Reason.TheVariants.{NeverThere, InitialOverwritten, StoreOverwritten}
+use Rattle.history_reasons.specs.Reasons.{HasReason, Stores, Overwrote, last_reason}
+use Rattle.history_reasons.specs.Log.{IsLogOf, noted_stores, noted_loads, IsNoted, IsCounted, IsShortened, forgotten, left_stores, has_all, of_store, part_reason, kept_reason, told_reason, IsTrueOf}
+use Rattle.history_reasons.proofs.Reasons.{last_behind, reason_law}
+
+-- How many are forgotten. ----
+
+module _ (m n : ℕ) (more : m ≤ n) where
+  -- the first of what was left are forgotten too
+  pub further : forgotten m + forgotten (n - forgotten m) ≡ forgotten n
+  further =
+      let a = div-add-mod' m 4096 in
+      let b = div-add-mod' n 4096 in
+      let c = div-add-mod' (n - forgotten m) 4096 in omega arith
+
+pub within : (n : ℕ) → forgotten n ≤ n
+within n = let a = div-add-mod' n 4096 in omega arith
+
+pub few : (n : ℕ) → n < 8192 → forgotten n ≡ 0
+few n h = let a = div-add-mod' n 4096 in omega arith
+
+pub many : (n : ℕ) → 8192 ≤ n → 1 ≤ forgotten n
+many n h = let a = div-add-mod' n 4096 in omega arith
 
 pub opened : (g : StoreLog) (image : List ℕ) (rest : Rest) → g.image.items ≡ image → g.rest ≡ rest → g.moment ≡ 0 → g.stores.items ≡ []
     → g.loads.items ≡ [] → g.is_whole ≡ true → IsLogOf g (opening image rest)
-opened g image rest a b c d e f = record {
-  image = a;
-  rest = b;
-  moment = c;
-  loads = e;
-  forgotten = 0;
-  within = omega arith;
-  stores = d;
-  whole = f;
-  enough = λ h. let t : true ≡ false = sym f ∙ h in cc;
-}
+opened g image rest a b c d e f = record { image = a; rest = b; moment = c; loads = e; stores = d; is_whole = f }
 
 -- a log with the same lists is of the same history
 pub same_log : (g h : StoreLog) (w : Windows) → IsLogOf g w → h.image.items ≡ g.image.items → h.rest ≡ g.rest → h.moment ≡ g.moment
@@ -42,44 +51,9 @@ same_log g h w k image rest moment stores loads is_whole = record {
   rest = rest ∙ k.rest;
   moment = moment ∙ k.moment;
   loads = loads ∙ k.loads;
-  forgotten = k.forgotten;
-  within = k.within;
   stores = stores ∙ k.stores;
-  whole = is_whole ∙ k.whole;
-  enough = λ e. subst (λ xs. kept_bytes ≤ length xs) (sym stores) (k.enough (sym is_whole ∙ e));
+  is_whole = is_whole ∙ k.is_whole;
 }
-
-nonzero : (n : ℕ) → 1 ≤ n → (n == 0) ≡ false
-nonzero n h = ne_eqb n 0 (λ e. omega arith)
-
--- the first stores are forgotten
-pub forgot : (g h : StoreLog) (w : Windows) (n : ℕ) → IsLogOf g w → 1 ≤ n → n + kept_bytes ≤ length g.stores.items
-    → h.stores.items ≡ drop n g.stores.items → h.is_whole ≡ false → h.image.items ≡ g.image.items → h.rest ≡ g.rest → h.moment ≡ g.moment
-    → h.loads.items ≡ g.loads.items → IsLogOf h w
-forgot g h w n k some most stores is_whole image rest moment loads =
-    let here : length g.stores.items ≡ length w.stores - k.forgotten =
-    ap (λ (xs : List StoreByte). length xs) k.stores ∙ length-drop k.forgotten w.stores in
-    let left : length h.stores.items ≡ length g.stores.items - n =
-    ap (λ (xs : List StoreByte). length xs) stores ∙ length-drop n g.stores.items in
-    record {
-      image = image ∙ k.image;
-      rest = rest ∙ k.rest;
-      moment = moment ∙ k.moment;
-      loads = loads ∙ k.loads;
-      forgotten = k.forgotten + n;
-      within = (let w = k.within in omega arith);
-      stores = stores ∙ ap (λ xs. drop n xs) k.stores ∙ drop-drop n k.forgotten w.stores;
-      whole = is_whole ∙ sym (nonzero (k.forgotten + n) (omega arith));
-      enough = λ e. omega arith;
-    }
-
-pub shortened : (g h : StoreLog) (w : Windows) → IsLogOf g w → IsShortened g h → IsLogOf h w
-shortened g h w k s = elim s.stores [
-  | inl same ↦ same_log g h w k s.image s.rest s.moment same.0 s.loads same.1
-  | inr less ↦
-      forgot g h w (length g.stores.items - kept_bytes) k (let l = less.0 in omega arith) (let l = less.0 in omega arith) less.1 less.2
-      s.image s.rest s.moment s.loads
-]
 
 noted_behind : (xs : List StoreByte) (n moment : ℕ) (event : HistoryEvent) → n ≤ length xs
     → noted_stores (drop n xs) moment event ≡ drop n (noted_stores xs moment event)
@@ -108,123 +82,97 @@ loads_noted w (StoreResponse number) = refl
 loads_noted w (LoadRequest number address m) = refl
 loads_noted w (LoadResponse number bytes) = refl
 
--- an event is noted, and counted
-pub noted : (g m h : StoreLog) (w : Windows) (event : HistoryEvent) → w.moment < 18446744073709551615 → IsLogOf g w → IsNoted g event m
-    → IsCounted m h → IsLogOf h (windows_after w event)
-noted g m h w event few k n c =
-    let now : noted_stores g.stores.items g.moment event ≡ noted_stores (drop k.forgotten w.stores) w.moment event =
+-- of what was left and what came, as many are left as of all
+still_left : (xs ys : List StoreByte) → length xs ≤ length ys
+    → left_stores (drop (forgotten (length xs)) ys) ≡ left_stores ys
+still_left xs ys more =
+    let f : ℕ = forgotten (length xs) in
+    let long : length (drop f ys) ≡ length ys - f = length-drop f ys in
+    ap (λ n. drop (forgotten n) (drop f ys)) long ∙ drop-drop (forgotten (length ys - f)) f ys
+    ∙ ap (λ n. drop n ys) (further (length xs) (length ys) more)
+
+still_all : (m n : ℕ) → m ≤ n → (nat_lt m 8192 && (forgotten (n - forgotten m) == 0)) ≡ nat_lt n 8192
+still_all m n more = elim (cases_Bool (nat_lt n 8192)) [
+  | inl t ↦
+      let below : n < 8192 = (Decides-ltb n 8192).0 t in
+      let before : nat_lt m 8192 ≡ true = (Decides-ltb m 8192).1 (omega arith) in
+      let none : forgotten (n - forgotten m) ≡ 0 = few (n - forgotten m) (omega arith) in
+      rw (t, before, none) refl
+  | inr t ↦ rw t (elim (cases_Bool (nat_lt m 8192)) [
+    | inr u ↦ rw u refl
+    | inl u ↦
+        let none : forgotten m ≡ 0 = few m ((Decides-ltb m 8192).0 u) in
+        let some = many n (ltb-false n 8192 t) in
+        let sum = further m n more in
+        let other : (forgotten (n - forgotten m) == 0) ≡ false = ne_eqb (forgotten (n - forgotten m)) 0 (λ e. omega arith) in
+        rw u other
+  ])
+]
+
+-- an event is noted, too many stores are forgotten, and it is counted
+pub noted : (g m f h : StoreLog) (w : Windows) (event : HistoryEvent) → w.moment < 18446744073709551615 → IsLogOf g w → IsNoted g event m
+    → IsShortened m f → IsCounted f h → IsLogOf h (windows_after w event)
+noted g m f h w event few k n s c =
+    let now : noted_stores g.stores.items g.moment event ≡ noted_stores (left_stores w.stores) w.moment event =
     λ i. noted_stores (k.stores i) (k.moment i) event in
     let more = no_fewer w.stores w.moment event in
     let same = stores_noted w event in
-    let before : m.moment ≡ w.moment = n.moment ∙ k.moment in
+    let gone : ℕ = forgotten (length w.stores) in
+    let all : m.stores.items ≡ drop gone (noted_stores w.stores w.moment event) =
+    n.stores ∙ now ∙ noted_behind w.stores gone w.moment event (within (length w.stores)) in
+    let long : length m.stores.items ≡ length (noted_stores w.stores w.moment event) - gone =
+    ap (λ (xs : List StoreByte). length xs) all ∙ length-drop gone (noted_stores w.stores w.moment event) in
+    let before : f.moment ≡ w.moment = s.moment ∙ n.moment ∙ k.moment in
     let counted = c.moment in
     record {
-      image = c.image ∙ n.image ∙ k.image;
-      rest = c.rest ∙ n.rest ∙ k.rest;
+      image = c.image ∙ s.image ∙ n.image ∙ k.image;
+      rest = c.rest ∙ s.rest ∙ n.rest ∙ k.rest;
       moment = omega arith;
-      loads = c.loads ∙ n.loads ∙ (λ i. noted_loads (k.loads i) (k.moment i) event) ∙ sym (loads_noted w event);
-      forgotten = k.forgotten;
-      within = (let l = k.within in subst (λ (xs : List StoreByte). k.forgotten ≤ length xs) (sym same) (omega arith));
-      stores = c.stores ∙ n.stores ∙ now ∙ noted_behind w.stores k.forgotten w.moment event k.within
-          ∙ ap (λ (xs : List StoreByte). drop k.forgotten xs) (sym same);
-      whole = c.is_whole ∙ n.is_whole ∙ k.whole;
-      enough = λ e.
-          let kept = k.enough (sym n.is_whole ∙ sym c.is_whole ∙ e) in
-          let here = no_fewer g.stores.items g.moment event in
-          subst (λ (xs : List StoreByte). kept_bytes ≤ length xs) (sym (c.stores ∙ n.stores)) (omega arith);
+      loads = c.loads ∙ s.loads ∙ n.loads ∙ (λ i. noted_loads (k.loads i) (k.moment i) event) ∙ sym (loads_noted w event);
+      stores = c.stores ∙ s.stores ∙ ap left_stores all ∙ still_left w.stores (noted_stores w.stores w.moment event) more
+          ∙ ap left_stores (sym same);
+      is_whole = c.is_whole ∙ s.is_whole ∙ (λ i. (n.is_whole ∙ k.is_whole) i && (forgotten (long i) == 0))
+          ∙ still_all (length w.stores) (length (noted_stores w.stores w.moment event)) more ∙ ap has_all (sym same);
     }
 
--- ---- what it says
+-- What is told. ----
 
-of_nothing : (n : ℕ) → true ≡ (n == 0) → n ≡ 0
-of_nothing n h = (Decides-eqb n 0).0 (sym h)
+all_left : (stores : List StoreByte) → has_all stores ≡ true → left_stores stores ≡ stores
+all_left stores t = ap (λ n. drop n stores) (few (length stores) ((Decides-ltb (length stores) 8192).0 t))
 
-of_some : (n : ℕ) → false ≡ (n == 0) → 1 ≤ n
-of_some zero h = cc
-of_some (suc n) h = omega arith
+chosen_told : (g : StoreLog) (w : Windows) (l : LoadByte) (b : ℕ) → IsLogOf g w → (all : Bool) → has_all w.stores ≡ all
+    → (if all then last_reason g.image.items g.rest g.stores.items l b else part_reason g.stores.items l b)
+    ≡ (if all then last_reason w.image w.rest w.stores l b else part_reason (left_stores w.stores) l b)
+chosen_told g w l b k true t = λ i. last_reason (k.image i) (k.rest i) ((k.stores ∙ all_left w.stores t) i) l b
+chosen_told g w l b k false t = ap (λ xs. part_reason xs l b) k.stores
 
-all_kept : (g : StoreLog) (w : Windows) → IsLogOf g w → g.is_whole ≡ true → g.stores.items ≡ w.stores
-all_kept g w k t = k.stores ∙ ap (λ n. drop n w.stores) (of_nothing k.forgotten (sym t ∙ k.whole))
+-- what a log says is told by the history
+pub log_tells : (g : StoreLog) (w : Windows) (l : LoadByte) (b : ℕ) → IsLogOf g w → kept_reason g l b ≡ told_reason w l b
+log_tells g w l b k =
+    ap (λ (all : Bool). if all then last_reason g.image.items g.rest g.stores.items l b else part_reason g.stores.items l b) k.is_whole
+    ∙ chosen_told g w l b k (has_all w.stores) refl
 
-pub whole : (g : StoreLog) (w : Windows) (is_whole : Bool) → IsLogOf g w → is_whole ≡ g.is_whole → IsWholeOf g w is_whole
-whole g w true k e = all_kept g w k (sym e)
-whole g w false k e =
-    let some = of_some k.forgotten (e ∙ k.whole) in
-    let here : length g.stores.items ≡ length w.stores - k.forgotten =
-    ap (λ (xs : List StoreByte). length xs) k.stores ∙ length-drop k.forgotten w.stores in
-    let enough = k.enough (sym e) in let within = k.within in omega arith
+-- what stores that are left say of who stored the byte is so of all
+part_true : (w : Windows) (l : LoadByte) (b n : ℕ) (reason : Option Reason) → IfSome reason (HasReason [] Unknown (drop n w.stores) l b)
+    → IfSome (of_store reason) (IsTrueOf w l b)
+part_true w l b n None h = tt
+part_true w l b n (Some NeverThere) h = tt
+part_true w l b n (Some (InitialOverwritten by)) h = tt
+part_true w l b n (Some (StoreOverwritten s by)) h = (
+  last_behind (Stores l.address b) n w.stores s h.0,
+  last_behind (λ o. Overwrote o s l.began) n w.stores by h.1,
+)
 
--- more than what is kept isn't all
-pub not_all : (g : StoreLog) (w : Windows) → IsLogOf g w → g.is_whole ≡ false → g.stores.items ≡ w.stores → ⊥
-not_all g w k e all =
-    let some = of_some k.forgotten (sym e ∙ k.whole) in
-    let here : length g.stores.items ≡ length w.stores - k.forgotten =
-    ap (λ (xs : List StoreByte). length xs) k.stores ∙ length-drop k.forgotten w.stores in
-    let same : length g.stores.items ≡ length w.stores = ap (λ (xs : List StoreByte). length xs) all in
-    let within = k.within in omega arith
+chosen_true : (w : Windows) (l : LoadByte) (b : ℕ) → (all : Bool)
+    → IfSome (if all then last_reason w.image w.rest w.stores l b else part_reason (left_stores w.stores) l b) (IsTrueOf w l b)
+chosen_true w l b true = (reason_law w.image w.rest w.stores l b).1
+chosen_true w l b false =
+    part_true w l b (forgotten (length w.stores)) (last_reason [] Unknown (left_stores w.stores) l b)
+    (reason_law [] Unknown (left_stores w.stores) l b).1
 
--- what is said of all that a whole log has
-pub whole_says : (g : StoreLog) (w : Windows) → IsLogOf g w → g.is_whole ≡ true → (P : List ℕ → Rest → List StoreByte → Type 0)
-    → P g.image.items g.rest g.stores.items → P w.image w.rest w.stores
-whole_says g w k t P p =
-    subst (λ xs. P w.image w.rest xs) (all_kept g w k t)
-    (subst (λ r. P w.image r g.stores.items) k.rest (subst (λ i. P i g.rest g.stores.items) k.image p))
+pub true_reason : (w : Windows) (l : LoadByte) (b : ℕ) → IfSome (told_reason w l b) (IsTrueOf w l b)
+true_reason w l b = chosen_true w l b (has_all w.stores)
 
-contains_behind : (n : ℕ) (xs : List StoreByte) (x : StoreByte) → Contains (drop n xs) x → Contains xs x
-contains_behind n xs x c = (n + c.0, (let l = length-drop n xs in let p = c.1 in omega arith), sym (get_or-drop n xs c.0 x) ∙ c.2)
-
-contains : (g : StoreLog) (w : Windows) (x : StoreByte) → IsLogOf g w → Contains g.stores.items x → Contains w.stores x
-contains g w x k c = contains_behind k.forgotten w.stores x (subst (λ xs. Contains xs x) k.stores c)
-
--- what is said of those that are kept
-some_true : (g : StoreLog) (w : Windows) (l : LoadByte) (b : ℕ) (stored by : StoreByte) → IsLogOf g w
-    → last_that (stores_byte l.address b) g.stores.items ≡ Some stored → last_that (overwrites stored l.began) g.stores.items ≡ Some by
-    → IsTrueOf w l b (StoreOverwritten stored by)
-some_true g w l b stored by k s o =
-    let there = last_there (stores_byte l.address b) g.stores.items stored s in
-    let over = last_there (overwrites stored l.began) g.stores.items by o in (
-      contains g w stored k there.0,
-      (
-        (stores_law l.address b stored).0 there.1,
-        (
-          contains g w by k over.0,
-          (overwrites_law stored by l.began).0 over.1,
-        ),
-      ),
-    )
-
-over_true : (g : StoreLog) (w : Windows) (l : LoadByte) (b : ℕ) (stored : StoreByte) → IsLogOf g w
-    → last_that (stores_byte l.address b) g.stores.items ≡ Some stored → (o : Option StoreByte)
-    → last_that (overwrites stored l.began) g.stores.items ≡ o → IfSome (option_map (λ x. StoreOverwritten stored x) o) (IsTrueOf w l b)
-over_true g w l b stored k s None e = tt
-over_true g w l b stored k s (Some by) e = some_true g w l b stored by k s e
-
-part_true : (g : StoreLog) (w : Windows) (l : LoadByte) (b : ℕ) → IsLogOf g w → (o : Option StoreByte)
-    → last_that (stores_byte l.address b) g.stores.items ≡ o
-    → IfSome (reason_of o (λ s. last_that (overwrites s l.began) g.stores.items)) (IsTrueOf w l b)
-part_true g w l b k None e = tt
-part_true g w l b k (Some stored) e = over_true g w l b stored k e (last_that (overwrites stored l.began) g.stores.items) refl
-
--- by whether a log is whole
-chosen_true : (g : StoreLog) (w : Windows) (l : LoadByte) (b : ℕ) → IsLogOf g w → (whole : Bool) → g.is_whole ≡ whole
-    → IfSome (if whole then last_reason g.image.items g.rest g.stores.items l b else part_reason g.stores.items l b) (IsTrueOf w l b)
-chosen_true g w l b k true e =
-    whole_says g w k e (λ i r xs. IfSome (last_reason g.image.items g.rest g.stores.items l b) (HasReason i r xs l b))
-    (reason_law g.image.items g.rest g.stores.items l b).1
-chosen_true g w l b k false e = part_true g w l b k (last_that (stores_byte l.address b) g.stores.items) refl
-
-pub true_reason : (g : StoreLog) (w : Windows) (l : LoadByte) (b : ℕ) → IsLogOf g w → IfSome (kept_reason g l b) (IsTrueOf w l b)
-true_reason g w l b k = chosen_true g w l b k g.is_whole refl
-
-chosen_none : (g : StoreLog) (w : Windows) (l : LoadByte) (b : ℕ) → IsLogOf g w → g.stores.items ≡ w.stores → (whole : Bool)
-    → g.is_whole ≡ whole
-    → ((if whole then last_reason g.image.items g.rest g.stores.items l b else part_reason g.stores.items l b) ≡ None)
-    ↔ MayReturn w.image w.rest w.stores l b
-chosen_none g w l b k all true e =
-    whole_says g w k e (λ i r xs. (last_reason g.image.items g.rest g.stores.items l b ≡ None) ↔ MayReturn i r xs l b)
-    (reason_law g.image.items g.rest g.stores.items l b).0
-chosen_none g w l b k all false e = absurd (not_all g w k e all)
-
-pub no_reason : (g : StoreLog) (w : Windows) (l : LoadByte) (b : ℕ) → IsLogOf g w → g.stores.items ≡ w.stores
-    → (kept_reason g l b ≡ None) ↔ MayReturn w.image w.rest w.stores l b
-no_reason g w l b k all = chosen_none g w l b k all g.is_whole refl
+pub no_reason : (w : Windows) (l : LoadByte) (b : ℕ) → has_all w.stores ≡ true
+    → (told_reason w l b ≡ None) ↔ MayReturn w.image w.rest w.stores l b
+no_reason w l b t = rw t (reason_law w.image w.rest w.stores l b).0

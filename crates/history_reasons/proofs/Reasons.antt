@@ -1,12 +1,12 @@
 -- What a search finds, and why a byte may not be returned.
-use Rattle.std.proofs.Common.{◌≡◌, ℕ, zero, suc, ◌-◌, ◌<◌, ◌↔◌, Bool, true, false, if◌then◌else◌, List, [], ◌∷◌, length, Option, Some, None, slice_get, get_or, inl, inr, refl, sym, ◌∙◌, subst, arith}
+use Rattle.std.proofs.Common.{◌≡◌, ℕ, zero, suc, ◌+◌, ◌-◌, ◌<◌, ◌↔◌, Bool, true, false, if◌then◌else◌, List, [], ◌∷◌, length, drop, Option, Some, None, slice_get, get_or, inl, inr, refl, sym, ◌∙◌, ap, subst, arith, length-drop}
 use Rattle.std.specs.Prelude.{reverse, IfSome}
 use Rattle.std.specs.Bool.{Decides}
 use Rattle.std.specs.List.{Any, Contains, find}
 use Rattle.std.specs.Option.{option_map}
 use Rattle.std.proofs.lemmas.Bool.{cases_Bool}
 use Rattle.std.proofs.lemmas.Bool.Decides.{Decides-eqb, Decides-ltb, Decides-and}
-use Rattle.std.proofs.lemmas.List.{get_or-reverse, length-reverse, reverse-reverse}
+use Rattle.std.proofs.lemmas.List.{get_or-drop, get_or-reverse, length-reverse, reverse-reverse}
 use Rattle.memory_histories.specs.declared.events.Rest.{Rest}
 use Rattle.memory_histories.specs.declared.events.Rest.TheVariants.{Zeros, Unknown}
 use Rattle.memory_histories.specs.declared.windows.StoreByte.{StoreByte}
@@ -15,9 +15,31 @@ use Rattle.memory_histories.specs.Regular.{IsBefore, IsLeft, IsInitial, MayRetur
 use Rattle.memory_histories.proofs.Law.{may_return_decides}
 use Rattle.history_reasons.specs.declared.Reason.{Reason}
 use Rattle.history_reasons.specs.declared.Reason.TheVariants.{NeverThere, InitialOverwritten, StoreOverwritten}
-use Rattle.history_reasons.specs.Reasons.{Stores, Overwrote, HasReason, stores_byte, covers, last_that, reason_by, last_reason}
+use Rattle.history_reasons.specs.Reasons.{Stores, Overwrote, Covered, IsLast, HasReason, stores_byte, covers, last_that, reason_by, last_reason}
 
 -- Searches. ----
+
+false_true : (b : Bool) → b ≡ false → b ≡ true → ⊥
+false_true true h k = cc
+false_true false h k = cc
+
+before_it : (p : StoreByte → Bool) (y : StoreByte) (ys : List StoreByte) (k : ℕ) → p y ≡ false
+    → ((j : ℕ) (d : StoreByte) → j < k → p (get_or ys j d) ≡ false) → (j : ℕ) (d : StoreByte) → j < suc k → p (get_or (y ∷ ys) j d) ≡ false
+before_it p y ys k e h zero d l = e
+before_it p y ys k e h (suc j) d l = h j d (omega arith)
+
+-- what is found, with the place where it stands
+found_first : (p : StoreByte → Bool) (xs : List StoreByte) (x : StoreByte) → find p xs ≡ Some x
+    → (k : ℕ) × (k < length xs) × (get_or xs k x ≡ x) × (p x ≡ true) × ((j : ℕ) (d : StoreByte) → j < k → p (get_or xs j d) ≡ false)
+found_first p [] x h = cc
+found_first p (y ∷ ys) x h = elim (cases_Bool (p y)) [
+  | inl e ↦
+      let s : Some y ≡ Some x = (rw e at h) in
+      let same : y ≡ x = cc in
+      (0, omega arith, same, subst (λ z. p z ≡ true) same e, λ j d l. absurd (omega arith))
+  | inr e ↦
+      let r = found_first p ys x (rw e at h) in (suc r.0, (let l = r.1 in omega arith), r.2, r.3, λ j d l. before_it p y ys r.0 e r.4 j d l)
+]
 
 found_there : (p : StoreByte → Bool) (xs : List StoreByte) (x : StoreByte) → find p xs ≡ Some x → Contains xs x × (p x ≡ true)
 found_there p [] x h = cc
@@ -52,12 +74,39 @@ turned xs x c =
     let within : c.0 < length xs = let l = c.1 in omega arith in
     (length xs - 1 - c.0, omega arith, sym (get_or-reverse xs c.0 x within) ∙ c.2)
 
-pub last_there : (p : StoreByte → Bool) (xs : List StoreByte) (x : StoreByte) → last_that p xs ≡ Some x → Contains xs x × (p x ≡ true)
+last_there : (p : StoreByte → Bool) (xs : List StoreByte) (x : StoreByte) → last_that p xs ≡ Some x → Contains xs x × (p x ≡ true)
 last_there p xs x h = let r = found_there p (reverse xs) x h in (turned xs x r.0, r.1)
 
-false_true : (b : Bool) → b ≡ false → b ≡ true → ⊥
-false_true true h k = cc
-false_true false h k = cc
+last_is : (p : StoreByte → Bool) (P : StoreByte → Type 0) (decides : (s : StoreByte) → Decides (p s) (P s)) (xs : List StoreByte)
+    (x : StoreByte) → last_that p xs ≡ Some x → IsLast P xs x
+last_is p P decides xs x h =
+    let r = found_first p (reverse xs) x h in
+    let long : length (reverse xs) ≡ length xs = length-reverse xs in
+    let within : r.0 < length xs = let l = r.1 in omega arith in (
+      length xs - 1 - r.0,
+      omega arith,
+      sym (get_or-reverse xs r.0 x within) ∙ r.2,
+      (decides x).0 r.3,
+      λ j d k l q.
+          let back : length xs - 1 - (length xs - 1 - j) ≡ j = omega arith in
+          let there : get_or (reverse xs) (length xs - 1 - j) d ≡ get_or xs j d =
+          get_or-reverse xs (length xs - 1 - j) d (omega arith) ∙ ap (λ i. get_or xs i d) back in
+          false_true (p (get_or xs j d)) (subst (λ s. p s ≡ false) there (r.4 (length xs - 1 - j) d (omega arith)))
+          ((decides (get_or xs j d)).1 q),
+    )
+
+-- the last of those behind the first ones is the last of all
+pub last_behind : (P : StoreByte → Type 0) (n : ℕ) (xs : List StoreByte) (x : StoreByte) → IsLast P (drop n xs) x → IsLast P xs x
+last_behind P n xs x r =
+    let long : length (drop n xs) ≡ length xs - n = length-drop n xs in (
+      n + r.0,
+      (let l = r.1 in omega arith),
+      sym (get_or-drop n xs r.0 x) ∙ r.2,
+      r.3,
+      λ j d k l.
+          let ahead : n + (j - n) ≡ j = omega arith in
+          subst (λ s. ¬ (P s)) (get_or-drop n xs (j - n) d ∙ ap (λ i. get_or xs i d) ahead) (r.4 (j - n) d (omega arith) (omega arith)),
+    )
 
 false_if : (b : Bool) → (b ≡ true → ⊥) → b ≡ false
 false_if true h = absurd (h refl)
@@ -80,14 +129,14 @@ initial None Zeros b = Decides-eqb b 0
 initial None Unknown b = Decides-ltb b 256
 initial (Some i) r b = Decides-eqb i b
 
-pub stores_law : (address b : ℕ) (s : StoreByte) → Decides (stores_byte address b s) (Stores address b s)
+stores_law : (address b : ℕ) (s : StoreByte) → Decides (stores_byte address b s) (Stores address b s)
 stores_law address b s = Decides-and _ _ (Decides-eqb s.address address) (Decides-eqb s.byte b)
 
-pub overwrites_law : (s by : StoreByte) (moment : ℕ) → Decides (overwrites s moment by) (Overwrote by s moment)
+overwrites_law : (s by : StoreByte) (moment : ℕ) → Decides (overwrites s moment by) (Overwrote by s moment)
 overwrites_law s by moment = Decides-and _ _ (Decides-eqb by.address s.address) (Decides-and _ _ (before s.ended by.began) (before by.ended
     moment))
 
-covers_law : (l : LoadByte) (s : StoreByte) → Decides (covers l s) ((s.address ≡ l.address) × IsBefore s.ended l.began)
+covers_law : (l : LoadByte) (s : StoreByte) → Decides (covers l s) (Covered l s)
 covers_law l s = Decides-and _ _ (Decides-eqb s.address l.address) (before s.ended l.began)
 
 some_none : {x : Reason} → Some x ≡ None → ⊥
@@ -123,21 +172,13 @@ module _ (image : List ℕ) (rest : Rest) (stores : List StoreByte) (l : LoadByt
         ),
       ) in
       absurd (never (inl left))
-  stored_case s h never (Some by) e =
-      let there = last_there (stores_byte l.address b) stores s h in
-      let over = last_there (overwrites s l.began) stores by e in (
-        (λ x. absurd (some_none x), λ may. absurd (never may)),
-        (
-          there.0,
-          (
-            (stores_law l.address b s).0 there.1,
-            (
-              over.0,
-              (overwrites_law s by l.began).0 over.1,
-            ),
-          ),
-        ),
-      )
+  stored_case s h never (Some by) e = (
+    (λ x. absurd (some_none x), λ may. absurd (never may)),
+    (
+      last_is (stores_byte l.address b) (Stores l.address b) (stores_law l.address b) stores s h,
+      last_is (overwrites s l.began) (λ o. Overwrote o s l.began) (λ o. overwrites_law s o l.began) stores by e,
+    ),
+  )
 
   initial_case : last_that (stores_byte l.address b) stores ≡ None → ¬ (MayReturn image rest stores l b)
       → IsInitial (slice_get image l.address) rest b → (o : Option StoreByte) → last_that (covers l) stores ≡ o
@@ -150,9 +191,10 @@ module _ (image : List ℕ) (rest : Rest) (stores : List StoreByte) (l : LoadByt
       c.3,
     ) ((covers_law l c.1).1 c.4),
   )))
-  initial_case h never first (Some by) e =
-      let over = last_there (covers l) stores by e in
-      ((λ x. absurd (some_none x), λ may. absurd (never may)), (not_stored h, (first, (over.0, (covers_law l by).0 over.1))))
+  initial_case h never first (Some by) e = (
+    (λ x. absurd (some_none x), λ may. absurd (never may)),
+    (not_stored h, (first, last_is (covers l) (Covered l) (covers_law l) stores by e)),
+  )
 
   never_case : last_that (stores_byte l.address b) stores ≡ None → ¬ (MayReturn image rest stores l b)
       → ¬ (IsInitial (slice_get image l.address) rest b) → IsExact image rest stores l b (Some NeverThere)

@@ -1,34 +1,43 @@
 -- What a log keeps of a history, to say why a byte is wrong.
-use Rattle.std.specs.Prelude.{ℕ, ◌≡◌, ◌≤◌, ◌<◌, ◌+◌, ◌-◌, ◌*◌, ◌⊎◌, ◌==◌, min, if◌then◌else◌, Bool, true, false, not, List, ◌++◌, map, drop, length, Option, Some, None, vec_len, vec_capacity}
+use Rattle.std.specs.Prelude.{ℕ, ◌≡◌, ◌≤◌, ◌+◌, ◌-◌, ◌*◌, ◌/◌, ◌==◌, ◌&&◌, nat_lt, min, if◌then◌else◌, Bool, true, not, List, [], ◌++◌, map, drop, length, Option, Some, None, vec_len, vec_capacity}
 use Rattle.std.specs.List.{filter}
-use Rattle.std.specs.Option.{option_map}
 use Rattle.memory_histories.specs.declared.events.HistoryEvent.{HistoryEvent}
 use Rattle.memory_histories.specs.declared.events.HistoryEvent.TheVariants.{LoadRequest, LoadResponse, StoreRequest, StoreResponse}
+use Rattle.memory_histories.specs.declared.events.Rest.TheVariants.{Unknown}
 use Rattle.memory_histories.specs.declared.windows.StoreByte.{StoreByte}
 use Rattle.memory_histories.specs.declared.windows.LoadByte.{LoadByte}
 use Rattle.memory_histories.specs.Windows.{Windows, store_bytes, load_bytes, is_of, after_response}
-use Rattle.memory_histories.specs.Regular.{is_inside, overwrites}
+use Rattle.memory_histories.specs.Regular.{is_inside}
 use Rattle.history_reasons.specs.declared.log.StoreLog.{StoreLog}
 use Rattle.history_reasons.specs.declared.Reason.{Reason}
 use Rattle.history_reasons.specs.declared.Reason.TheVariants.{StoreOverwritten}
-use Rattle.history_reasons.specs.Reasons.{HasReason, stores_byte, last_that, last_reason}
+use Rattle.history_reasons.specs.Reasons.{HasReason, last_reason}
 
--- so many bytes of stores are kept at least, before the first ones are forgotten
+-- so many bytes of stores are forgotten at a time, and so many are left at least
 abbrev pub kept_bytes : ℕ
 kept_bytes = 4096
 
--- a log is of the history that adds up to these windows: it has the bytes of all stores but the first ones, which it may have
--- forgotten, and those of the open loads
+-- how many of so many bytes are forgotten: the first 4,096, each time that twice as many are there
+abbrev pub forgotten : ℕ → ℕ
+forgotten n = kept_bytes * (n / kept_bytes - 1)
+
+-- those that are left
+abbrev pub left_stores : List StoreByte → List StoreByte
+left_stores stores = drop (forgotten (length stores)) stores
+
+-- whether none is forgotten
+abbrev pub has_all : List StoreByte → Bool
+has_all stores = nat_lt (length stores) (2 * kept_bytes)
+
+-- a log is of the history that adds up to these windows: it has the bytes of the stores but those that are forgotten, and those of the
+-- open loads
 pub record IsLogOf (g : StoreLog) (w : Windows) : Type 0 where
   pub image : g.image.items ≡ w.image
   pub rest : g.rest ≡ w.rest
   pub moment : g.moment ≡ w.moment
   pub loads : g.loads.items ≡ w.loads
-  pub forgotten : ℕ
-  pub within : forgotten ≤ length w.stores
-  pub stores : g.stores.items ≡ drop forgotten w.stores
-  pub whole : g.is_whole ≡ (forgotten == 0)
-  pub enough : g.is_whole ≡ false → kept_bytes ≤ length g.stores.items
+  pub stores : g.stores.items ≡ left_stores w.stores
+  pub is_whole : g.is_whole ≡ has_all w.stores
 
 -- whether an operation that an event requests lies within memory
 abbrev pub is_within : HistoryEvent → Bool
@@ -70,36 +79,33 @@ pub record IsCounted (g : StoreLog) (h : StoreLog) : Type 0 where
   pub stores : h.stores.items ≡ g.stores.items
   pub loads : h.loads.items ≡ g.loads.items
 
--- the first stores may have been forgotten, for there were twice as many bytes as are kept at least
-abbrev pub IsShorter : StoreLog → StoreLog → Type 0
-IsShorter g h =
-    ((h.stores.items ≡ g.stores.items) × (h.is_whole ≡ g.is_whole))
-    ⊎ ((2 * kept_bytes ≤ length g.stores.items) × (h.stores.items ≡ drop (length g.stores.items - kept_bytes) g.stores.items)
-    × (h.is_whole ≡ false))
-
+-- the first stores were forgotten, if there were too many
 pub record IsShortened (g : StoreLog) (h : StoreLog) : Type 0 where
   pub image : h.image.items ≡ g.image.items
   pub rest : h.rest ≡ g.rest
   pub moment : h.moment ≡ g.moment
   pub loads : h.loads.items ≡ g.loads.items
-  pub stores : IsShorter g h
+  pub stores : h.stores.items ≡ left_stores g.stores.items
+  pub is_whole : h.is_whole ≡ g.is_whole && (forgotten (length g.stores.items) == 0)
 
--- what the stores that are kept tell of a byte, if some are forgotten: who stored it last, and who overwrote that
-abbrev pub reason_of : Option StoreByte → (StoreByte → Option StoreByte) → Option Reason
-reason_of None overwriting = None
-reason_of (Some s) overwriting = option_map (λ o. StoreOverwritten s o) (overwriting s)
+-- a reason that names who stored the byte: what memory had before, and whether no store had it, isn't known once stores are forgotten
+abbrev pub of_store : Option Reason → Option Reason
+of_store (Some (StoreOverwritten stored by)) = Some (StoreOverwritten stored by)
+of_store reason = None
 
+-- what these last stores tell of a byte: as if nothing were known of memory before them
 abbrev pub part_reason : List StoreByte → LoadByte → ℕ → Option Reason
-part_reason stores l b = reason_of (last_that (stores_byte l.address b) stores) (λ s. last_that (overwrites s l.began) stores)
+part_reason stores l b = of_store (last_reason [] Unknown stores l b)
 
 abbrev pub kept_reason : StoreLog → LoadByte → ℕ → Option Reason
 kept_reason g l b = if g.is_whole then last_reason g.image.items g.rest g.stores.items l b else part_reason g.stores.items l b
 
+-- what is told of a byte of a load, by the history alone: the reason over all its stores, while none is forgotten, and then over those
+-- that are left
+abbrev pub told_reason : Windows → LoadByte → ℕ → Option Reason
+told_reason w l b =
+    if has_all w.stores then last_reason w.image w.rest w.stores l b else part_reason (left_stores w.stores) l b
+
 -- the reason is a true one, over the bytes of all stores so far
 abbrev pub IsTrueOf : Windows → LoadByte → ℕ → Reason → Type 0
 IsTrueOf w l b reason = HasReason w.image w.rest w.stores l b reason
-
--- whether all stores are kept: exactly those that were made, or more than are kept at least
-abbrev pub IsWholeOf : StoreLog → Windows → Bool → Type 0
-IsWholeOf g w true = g.stores.items ≡ w.stores
-IsWholeOf g w false = kept_bytes < length w.stores

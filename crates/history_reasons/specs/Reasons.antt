@@ -1,6 +1,6 @@
 -- Why a load may not return a byte by the regular law.
-use Rattle.std.specs.Prelude.{ℕ, ◌≡◌, ◌==◌, ◌&&◌, if◌then◌else◌, Bool, true, false, List, Option, Some, None, reverse, slice_get}
-use Rattle.std.specs.List.{Any, Contains, find}
+use Rattle.std.specs.Prelude.{ℕ, ◌≡◌, ◌<◌, ◌==◌, ◌&&◌, if◌then◌else◌, Bool, true, false, List, length, Option, Some, None, reverse, slice_get}
+use Rattle.std.specs.List.{Any, find, slice_index_or}
 use Rattle.std.specs.Option.{option_map}
 use Rattle.memory_histories.specs.declared.events.Rest.{Rest}
 use Rattle.memory_histories.specs.declared.windows.StoreByte.{StoreByte}
@@ -17,14 +17,23 @@ Stores address b s = (s.address ≡ address) × (s.byte ≡ b)
 abbrev pub Overwrote : StoreByte → StoreByte → ℕ → Type 0
 Overwrote by s moment = (by.address ≡ s.address) × (IsBefore s.ended by.began × IsBefore by.ended moment)
 
+-- a store to the load's byte was answered before the load's request
+abbrev pub Covered : LoadByte → StoreByte → Type 0
+Covered l by = (by.address ≡ l.address) × IsBefore by.ended l.began
+
+-- of the stores in the order of their requests this is the last that is so: it is, and none behind it
+abbrev pub IsLast : (StoreByte → Type 0) → List StoreByte → StoreByte → Type 0
+IsLast P stores s =
+    (k : ℕ) × (k < length stores) × (slice_index_or stores k s ≡ s) × P s
+    × ((j : ℕ) (d : StoreByte) → k < j → j < length stores → ¬ (P (slice_index_or stores j d)))
+
 -- what each reason says of the stores so far
 abbrev pub HasReason : List ℕ → Rest → List StoreByte → LoadByte → ℕ → Reason → Type 0
 HasReason image rest stores l b NeverThere = (¬ (Any (Stores l.address b) stores)) × ¬ (IsInitial (slice_get image l.address) rest b)
 HasReason image rest stores l b (InitialOverwritten by) =
-    (¬ (Any (Stores l.address b) stores)) × (IsInitial (slice_get image l.address) rest b × (Contains stores by × ((by.address ≡ l.address)
-    × IsBefore by.ended l.began)))
+    (¬ (Any (Stores l.address b) stores)) × (IsInitial (slice_get image l.address) rest b × IsLast (Covered l) stores by)
 HasReason image rest stores l b (StoreOverwritten stored by) =
-    Contains stores stored × (Stores l.address b stored × (Contains stores by × Overwrote by stored l.began))
+    IsLast (Stores l.address b) stores stored × IsLast (λ other. Overwrote other stored l.began) stores by
 
 -- The same as tests. ----
 

@@ -1,32 +1,30 @@
 //! Why a load may not return a byte by the regular law: who stored it, and who overwrote it.
 #![tactic(auto)]
 
-ghost use Rattle.std.specs.Prelude.{◌≡◌, ◌↔◌, None, slice_get, IfSome};
-ghost use Rattle.memory_histories.specs.Regular.{MayReturn, may_return_byte, is_before, overwrites, is_initial, is_rest};
+ghost use Rattle.std.specs.Prelude.{◌≡◌, ◌↔◌, None, IfSome};
+ghost use Rattle.memory_histories.specs.Regular.{MayReturn, may_return_byte, overwrites};
 ghost use Rattle.history_reasons.specs.Reasons.{HasReason, stores_byte, covers, last_that, last_reason};
 
 mod log;
 
 pub use log::{KEPT_BYTES, StoreLog};
-use memory_histories::{LoadByte, Rest, StoreByte, may_return};
+use memory_histories::{LoadByte, Rest, StoreByte, is_before, is_initial, may_return};
 
-/// Why a load may not return a byte.
+/// Why a load may not return a byte. Which store is the last goes by the order of the requests.
 #[derive(Clone, Copy, PartialEq, Eq, Debug)]
 pub enum Reason {
     /// No store so far had it at this address, and memory hadn't it there before the first store.
     NeverThere,
-    /// Memory had it there before the first store, and this store to the address was answered before
-    /// the load's request.
+    /// No store so far had it at this address, memory had it there before the first store, and of the stores to the
+    /// address that were answered before the load's request this was the last.
     InitialOverwritten { by: StoreByte },
-    /// This store put it there, and the other one was requested after its response, and answered
-    /// before the load's request.
+    /// Of the stores that put it there `stored` was the last; and of those to the address that were requested after its
+    /// response, and answered before the load's request, `by` was the last.
     StoreOverwritten { stored: StoreByte, by: StoreByte },
 }
 
 /// Why a load may not return this byte if it is answered now, or `None` if it may: memory began with
 /// this image, and these are the bytes of all stores so far, in the order of their requests.
-///
-/// Of the stores that put the byte there the last is named, and of those that overwrote it too.
 pub fn why(
     image: &[u8],
     rest: Rest,
@@ -34,12 +32,14 @@ pub fn why(
     load: &LoadByte,
     byte: u8,
 ) -> Option<Reason>
+    ensures told { result ≡ last_reason image.now rest stores.now load.now byte }
     ensures allowed { (result ≡ None) ↔ MayReturn image.now rest stores.now load.now byte }
     ensures reason { IfSome result (HasReason image.now rest stores.now load.now byte) }
 {
     last_reason(image, rest, stores, load, byte)
 }
 
+// The reason with the last stores.
 pub(crate) fn last_reason(
     image: &[u8],
     rest: Rest,
@@ -71,7 +71,7 @@ fn is_allowed(image: &[u8], rest: Rest, stores: &[StoreByte], load: &LoadByte, b
 }
 
 // The last store that put this byte at an address.
-pub(crate) fn last_with(stores: &[StoreByte], address: u64, byte: u8) -> Option<StoreByte>
+fn last_with(stores: &[StoreByte], address: u64, byte: u8) -> Option<StoreByte>
     ensures { result ≡ last_that (stores_byte address byte) stores.now }
 {
     stores
@@ -82,11 +82,7 @@ pub(crate) fn last_with(stores: &[StoreByte], address: u64, byte: u8) -> Option<
 }
 
 // The last store that overwrote this one before the moment.
-pub(crate) fn last_overwriting(
-    stores: &[StoreByte],
-    store: &StoreByte,
-    moment: u64,
-) -> Option<StoreByte>
+fn last_overwriting(stores: &[StoreByte], store: &StoreByte, moment: u64) -> Option<StoreByte>
     ensures { result ≡ last_that (overwrites store.now moment) stores.now }
 {
     stores.iter().rev().copied().find(|other| {
@@ -101,33 +97,4 @@ fn last_covering(stores: &[StoreByte], load: &LoadByte) -> Option<StoreByte>
 {
     stores.iter().rev().copied().find(|store| store.address == load.address
         && is_before(store.ended, load.began))
-}
-
-// Whether an operation was answered before the moment.
-fn is_before(ended: Option<u64>, moment: u64) -> bool
-    ensures { result ≡ is_before ended moment }
-{
-    match ended {
-        None => false,
-        Some(end) => end < moment,
-    }
-}
-
-// Whether memory may have had the byte at this address before the first store.
-fn is_initial(image: &[u8], rest: Rest, address: u64, byte: u8) -> bool
-    ensures { result ≡ is_initial (slice_get image.now address) rest byte }
-{
-    match image.get(address as usize) {
-        Some(first) => *first == byte,
-        None => is_rest(rest, byte),
-    }
-}
-
-fn is_rest(rest: Rest, byte: u8) -> bool
-    ensures { result ≡ is_rest rest byte }
-{
-    match rest {
-        Rest::Zeros => byte == 0,
-        Rest::Unknown => true,
-    }
 }

@@ -1,22 +1,24 @@
 //! The stores and the open loads of a history as it goes, to say why a byte is wrong.
 
-ghost use Rattle.std.specs.Prelude.{◌≡◌, ◌+◌, ◌-◌, ◌≤◌, ◌<◌, ◌^◌, ◌↔◌, ◌++◌, true, None, length, drop, map, not, vec_len, vec_capacity, IfOk, OnOk, IfSome};
+ghost use Rattle.std.specs.Prelude.{◌≡◌, ◌+◌, ◌≤◌, ◌<◌, ◌^◌, ◌↔◌, ◌++◌, true, None, map, not, vec_len, vec_capacity, IfOk, OnOk, IfSome};
 ghost use Rattle.std.specs.List.{filter, find};
-ghost use Rattle.memory_histories.specs.Windows.{Windows, opening, windows_after, store_bytes, load_bytes, is_of, is_at, after_response};
-ghost use Rattle.memory_histories.specs.Regular.{MayReturn, is_inside};
-ghost use Rattle.history_reasons.specs.Reasons.{last_reason};
-ghost use Rattle.history_reasons.specs.Log.{IsLogOf, is_within, HasRoom, IsNoted, IsCounted, IsShortened, part_reason, kept_reason, IsTrueOf, IsWholeOf};
+ghost use Rattle.memory_histories.specs.Windows.{Windows, opening, windows_after, load_bytes, is_of, is_at, after_response};
+ghost use Rattle.memory_histories.specs.Regular.{MayReturn};
+ghost use Rattle.history_reasons.specs.Log.{IsLogOf, is_within, HasRoom, IsNoted, IsCounted, IsShortened, forgotten, has_all, of_store, part_reason, kept_reason, told_reason, IsTrueOf};
 
-use crate::{Reason, last_overwriting, last_reason, last_with};
-use memory_histories::{HistoryEvent, LoadByte, MAX_LENGTH, Rest, StoreByte};
+use crate::{Reason, last_reason};
+use memory_histories::{
+    HistoryEvent, LoadByte, MAX_LENGTH, Rest, StoreByte, add_store, is_at, is_inside, is_of,
+};
 use std::alloc::{AllocError, Global};
 
-/// How many bytes of stores a log keeps at least: of more it may forget the first ones.
+/// How many bytes of stores a log forgets at a time, the first ones, once it has twice as many: so while fewer
+/// than 8,192 were stored it has all, and then the last 4,096 to 8,191.
 pub const KEPT_BYTES: usize = 4096;
 
 /// The bytes of the stores of a history and of its open loads, with the events that requested and answered
-/// them, counted from 0. The first stores may be forgotten, so that a log has never more than twice
-/// [`KEPT_BYTES`] of them and one store.
+/// them, counted from 0. The first stores are forgotten, so that a log has always fewer than twice
+/// [`KEPT_BYTES`] of them.
 #[derive(Drop)]
 pub struct StoreLog {
     image: Vec<u8>,
@@ -45,42 +47,15 @@ impl StoreLog {
         })
     }
 
-    /// Makes room for what one event adds, and may forget the first stores for it. `AllocError` says that
-    /// there was too little memory. The log is of the same history after both.
-    pub fn make_room(&mut self) -> Result<(), AllocError>
-        ensures same { (w : Windows) → IsLogOf self.old w → IsLogOf self.new w }
-        ensures room { OnOk result (HasRoom self.new) }
-    {
-        self.shorten()?;
-        self.reserve()
-    }
-
+    /// Makes room for what one event adds. `AllocError` says that there was too little memory. The log is of the
+    /// same history after both.
     #[tactic(auto, using(crate::proofs::Logs::same_log))]
-    fn reserve(&mut self) -> Result<(), AllocError>
+    pub fn make_room(&mut self) -> Result<(), AllocError>
         ensures same { (w : Windows) → IsLogOf self.old w → IsLogOf self.new w }
         ensures room { OnOk result (HasRoom self.new) }
     {
         self.stores.reserve(MAX_LENGTH)?;
         self.loads.reserve(MAX_LENGTH)
-    }
-
-    fn shorten(&mut self) -> Result<(), AllocError>
-        ensures { (w : Windows) → IsLogOf self.old w → IsLogOf self.new w }
-    {
-        self.forget()
-    }
-
-    // Forgets the first stores, if there are twice as many as are kept at least.
-    fn forget(&mut self) -> Result<(), AllocError>
-        ensures { IsShortened self.old self.new }
-    {
-        if self.stores.len() < 2 * KEPT_BYTES {
-            return Ok(());
-        }
-        let alloc = *self.stores.allocator();
-        self.stores = last_bytes(alloc, self.stores.as_slice())?;
-        self.is_whole = false;
-        Ok(())
     }
 
     /// Notes an event of the history. The events have numbers of their own as long as fewer than 2^64 are
@@ -94,7 +69,19 @@ impl StoreLog {
             → IsLogOf self.new (windows_after w event.entry) }
     {
         self.note_bytes(event);
+        self.forget();
         self.count();
+    }
+
+    // Forgets the first stores, if there are too many.
+    fn forget(&mut self)
+        ensures { IsShortened self.old self.new }
+    {
+        let count = forgotten(self.stores.len());
+        if count > 0 {
+            self.stores.drain(..count);
+            self.is_whole = false;
+        }
     }
 
     fn count(&mut self)
@@ -143,10 +130,9 @@ impl StoreLog {
         }
     }
 
-    /// Whether it has all stores so far. It may have forgotten the first only if they had more than
-    /// [`KEPT_BYTES`] bytes together.
+    /// Whether it has all stores so far: exactly if they had fewer than twice [`KEPT_BYTES`] bytes together.
     pub fn is_whole(&self) -> bool
-        ensures { (w : Windows) → IsLogOf self.now w → IsWholeOf self.now w result }
+        ensures { (w : Windows) → IsLogOf self.now w → result ≡ has_all w.stores }
     {
         self.is_whole
     }
@@ -166,16 +152,21 @@ impl StoreLog {
         load_at(self.loads.as_slice(), number, address)
     }
 
-    /// Why a load may not return this byte by the regular law, if it is answered now: a true reason, over all
-    /// stores so far. If the log [is whole](StoreLog::is_whole), it is `None` exactly if the load may return
-    /// the byte; if it isn't, it may be `None` too since a store was forgotten.
+    /// Why a load may not return this byte by the regular law, if it is answered now. It depends on the history alone,
+    /// and is true over all its stores: those that it names are the last of all.
+    ///
+    /// If the log [is whole](StoreLog::is_whole), it is what [`why`](crate::why) says over all stores, and `None` exactly
+    /// if the load may return the byte. If it isn't, it is the [`Reason::StoreOverwritten`] that `why` says over the
+    /// stores that are left, and `None` otherwise: also if none of them had the byte. Then a store that was forgotten
+    /// may be one that still lets the load return it.
     pub fn why(&self, load: &LoadByte, byte: u8) -> Option<Reason>
+        ensures told { (w : Windows) → IsLogOf self.now w → result ≡ told_reason w load.now byte }
         ensures reason { (w : Windows)
             → IsLogOf self.now w
             → IfSome result (IsTrueOf w load.now byte) }
         ensures whole { (w : Windows)
             → IsLogOf self.now w
-            → IsWholeOf self.now w true
+            → has_all w.stores ≡ true
             → (result ≡ None) ↔ MayReturn w.image w.rest w.stores load.now byte }
     {
         self.kept_reason(load, byte)
@@ -197,17 +188,26 @@ impl StoreLog {
 fn part_reason(stores: &[StoreByte], load: &LoadByte, byte: u8) -> Option<Reason>
     ensures { result ≡ part_reason stores.now load.now byte }
 {
-    let stored = last_with(stores, load.address, byte)?;
-    let by = last_overwriting(stores, &stored, load.began)?;
-    Some(Reason::StoreOverwritten { stored, by })
+    of_store(last_reason(&[], Rest::Unknown, stores, load, byte))
 }
 
-// As many of the last bytes as are kept at least.
-fn last_bytes(alloc: Global, stores: &[StoreByte]) -> Result<Vec<StoreByte>, AllocError>
-    requires { 4096 ≤ length stores.now }
-    ensures { IfOk result (λ v. v.items ≡ drop (length stores.now - 4096) stores.now) }
+// A reason that names who stored the byte.
+fn of_store(reason: Option<Reason>) -> Option<Reason>
+    ensures { result ≡ of_store reason }
 {
-    Vec::from_slice(alloc, &stores[stores.len() - KEPT_BYTES..])
+    match reason {
+        Some(Reason::StoreOverwritten { stored, by }) => {
+            Some(Reason::StoreOverwritten { stored, by })
+        }
+        _ => None,
+    }
+}
+
+// How many of so many bytes are forgotten.
+fn forgotten(length: usize) -> usize
+    ensures { result ≡ forgotten length }
+{
+    KEPT_BYTES * (length / KEPT_BYTES).saturating_sub(1)
 }
 
 // Whether an operation that an event requests lies within memory.
@@ -232,27 +232,6 @@ fn is_within(event: HistoryEvent) -> bool
         } => true,
         HistoryEvent::StoreResponse { number: _ } => true,
     }
-}
-
-// Whether an operation of so many bytes lies within memory.
-fn is_inside(address: u64, length: usize) -> bool
-    ensures { result ≡ is_inside address length }
-{
-    1 <= length && (length <= MAX_LENGTH && u128::from(address) + length as u128 <= 1 << 64)
-}
-
-// Whether a byte is of the load that is open under this number.
-fn is_of(load: &LoadByte, number: u64) -> bool
-    ensures { result ≡ is_of number load.now }
-{
-    load.number == number
-}
-
-// Whether it is the one at this address of that load.
-fn is_at(load: &LoadByte, number: u64, address: u64) -> bool
-    ensures { result ≡ is_at number address load.now }
-{
-    is_of(load, number) && load.address == address
 }
 
 // The byte at this address of the load that is open under this number.
@@ -285,34 +264,6 @@ fn end_load(loads: &mut Vec<LoadByte>, number: u64)
     ensures { loads.new.items ≡ filter (λ l. not (is_of number l)) loads.old.items }
 {
     loads.retain(|load| !is_of(load, number));
-}
-
-// Adds the enabled bytes of a store that is requested at this moment.
-fn add_store(
-    stores: &mut Vec<StoreByte>,
-    number: u64,
-    address: u64,
-    bytes: &[u8],
-    enables: u64,
-    moment: u64,
-)
-    requires room { vec_len stores.old + length bytes.now ≤ vec_capacity stores.old }
-    requires inside { address + length bytes.now ≤ 2 ^ 64 }
-    ensures { stores.new.items ≡ stores.old.items ++ store_bytes number address bytes.now enables moment }
-{
-    let mut left = enables;
-    for (k, byte) in bytes.iter().enumerate() {
-        if left % 2 == 1 {
-            stores.push_reserved(StoreByte {
-                number,
-                address: address + k as u64,
-                byte: *byte,
-                began: moment,
-                ended: None,
-            });
-        }
-        left /= 2;
-    }
 }
 
 // The store that is open under this number is answered at this moment.

@@ -24,4 +24,6 @@ pub use kept::OpenByte;
 pub use reasons::{Owed, StoreName};
 pub use regular::RegularMemory;
 pub use sets::ByteSet;
-pub use windows::{LoadByte, StoreByte, may_return};
+pub use windows::{
+    LoadByte, StoreByte, add_store, is_at, is_before, is_initial, is_inside, is_of, may_return,
+};

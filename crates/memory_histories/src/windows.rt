@@ -35,8 +35,9 @@ pub struct LoadByte {
     pub began: u64,
 }
 
-// Whether an operation of so many bytes lies within memory.
-pub(crate) fn is_inside(address: u64, length: usize) -> bool
+/// Whether an operation of so many bytes has as many as one may have, 1 to 64, and none of them lies at 2^64 or
+/// beyond.
+pub fn is_inside(address: u64, length: usize) -> bool
     ensures { result ≡ is_inside address length }
 {
     1 <= length && (length <= MAX_LENGTH && u128::from(address) + length as u128 <= 1 << 64)
@@ -64,8 +65,9 @@ pub(crate) fn is_open(store: &StoreByte, number: u64) -> bool
     store.ended.is_none() && store.number == number
 }
 
-// Whether memory may have had the byte at this address before the first store.
-fn is_initial(image: &[u8], rest: Rest, address: u64, byte: u8) -> bool
+/// Whether memory may have had the byte at this address before the first store: it is the image's, or the one
+/// beyond the image.
+pub fn is_initial(image: &[u8], rest: Rest, address: u64, byte: u8) -> bool
     ensures { result ≡ is_initial (slice_get image.now address) rest byte }
 {
     match image.get(address as usize) {
@@ -83,8 +85,8 @@ fn is_rest(rest: Rest, byte: u8) -> bool
     }
 }
 
-// Whether an operation was answered before the moment.
-pub(crate) fn is_before(ended: Option<u64>, moment: u64) -> bool
+/// Whether an operation was answered before the moment: it isn't if it is open.
+pub fn is_before(ended: Option<u64>, moment: u64) -> bool
     ensures { result ≡ is_before ended moment }
 {
     match ended {
@@ -121,22 +123,23 @@ fn is_covered(stores: &[StoreByte], load: &LoadByte) -> bool
     stores.iter().any(|store| store.address == load.address && is_before(store.ended, load.began))
 }
 
-// Whether a byte is of the load that is open under this number.
-pub(crate) fn is_of(load: &LoadByte, number: u64) -> bool
+/// Whether a byte is of the load that is open under this number.
+pub fn is_of(load: &LoadByte, number: u64) -> bool
     ensures { result ≡ is_of number load.now }
 {
     load.number == number
 }
 
-// Whether a byte is the one at this address of the load that is open under this number.
-pub(crate) fn is_at(load: &LoadByte, number: u64, address: u64) -> bool
+/// Whether a byte is the one at this address of the load that is open under this number.
+pub fn is_at(load: &LoadByte, number: u64, address: u64) -> bool
     ensures { result ≡ is_at number address load.now }
 {
     is_of(load, number) && load.address == address
 }
 
-// Adds the enabled bytes of a store that is requested at this moment.
-pub(crate) fn add_store(
+/// Adds the enabled bytes of a store that is requested at this moment, in the order of memory. Bit `k` of `enables` is
+/// the enable of byte `k`.
+pub fn add_store(
     stores: &mut Vec<StoreByte>,
     number: u64,
     address: u64,
