@@ -5,5 +5,4 @@ pub mod Enlisting
 pub mod CrewRunning
 pub mod StationRunning
 pub mod Ending
-pub mod Fitting
 pub mod Crossing

@@ -1,4 +1,4 @@
-use Rattle.std.proofs.Common.{◌≡◌, sym, subst₂}
+use Rattle.std.proofs.Common.{◌≡◌, sym, subst₂, lit<}
 use Rattle.std.specs.Prelude.{IsTrue}
 use Rattle.cache_unit.specs.Views.{is_clean}
 use Rattle.station_parts.specs.declared.parts.Audit.TheVariants.{Clean}
@@ -10,12 +10,11 @@ use Rattle.station_parts.specs.Words.{cache_in, journal_of, sizes_in}
 use Rattle.ring_station.specs.PortRuns.{PortsRan}
 use Rattle.ring_station.specs.PartRuns.{BanksRan}
 use Rattle.ring_station.proofs.Ending.{ports_shown, banks_shown, cache_shown, put_back, put_both, as_many}
-use Rattle.ring_station.proofs.Fitting.{side_fits, few_deep}
 use Rattle.ring_station.proofs.run.run_and_audit.Goals as goal
 
 pub run_parts-requires-after_bounds : goal.run_parts-requires-after_bounds
 run_parts-requires-after_bounds g c κs within =
-    (side_fits _ (few_deep c.args.station.now.cache), (c.requires.one, c.requires.scripts))
+    (lit< tt, (c.requires.one, c.requires.scripts))
 
 pub audit-found-requires : goal.audit-found-requires
 audit-found-requires g c =
@@ -23,7 +22,7 @@ audit-found-requires g c =
     let one : AreOneStation ran.cache ran.ports.items ran.banks.items = c.run_parts.ensures.kept in
     let here =
     subst₂ (λ ports banks. AreOneStation ran.cache ports banks) (sym c.deref_mut.ensures.value) (sym c.deref_mut-2.ensures.value) one in
-    (side_fits _ (few_deep ran.cache), here)
+    (lit< tt, here)
 
 pub returns-clause-ports : goal.returns-clause-ports
 returns-clause-ports g c =

@@ -1,11 +1,10 @@
-use Rattle.std.proofs.Common.{rules, arith, ◌≡◌, ◌≤◌, length, map, vec_len, ap, sym, ◌∙◌}
+use Rattle.std.proofs.Common.{rules, arith, ◌≡◌, ◌≤◌, length, map, vec_len, ap, sym, ◌∙◌, lit<}
 use Rattle.station_parts.specs.Ids.{port_id, bank_id}
 use Rattle.std.specs.Global.{Vec}
 use Rattle.station_parts.specs.declared.port.Port.{Port}
 use Rattle.station_parts.specs.declared.bank.BankSide.{BankSide}
 use Rattle.ring_station.specs.declared.crew.PortRun.{PortRun}
 use Rattle.ring_station.specs.declared.crew.BankRun.{BankRun}
-use Rattle.ring_station.proofs.Fitting.{side_fits, few_deep}
 use Rattle.ring_station.proofs.StationRunning.{ports_back, banks_back, ports_unmoved, banks_unmoved, same_shown, same_id, on_err, cache_counted, port_ids, bank_ids, one_station_kept, few_ports_of, few_banks_of, enlisted_count}
 use Rattle.ring_station.proofs.run.run_parts.Goals as goal
 
@@ -25,7 +24,7 @@ run_crew-end-requires-after_bounds g c κs within =
     let few_banks : length all_banks.items ≤ 16 = few_banks_of c.args.cache.now all_ports.items all_banks.items c.requires.one in
     let p : vec_len all_ports ≡ length all_ports.items = all_ports.ok.0 in
     let b : vec_len all_banks ≡ length all_banks.items = all_banks.ok.0 in (
-      side_fits _ (few_deep c.args.cache.now),
+      lit< tt,
       (
         omega (arith, c.requires.scripts, port_count),
         (

@@ -1,9 +1,8 @@
-use Rattle.std.proofs.Common.{ap₂, ◌∙◌}
+use Rattle.std.proofs.Common.{ap₂, ◌∙◌, lit<}
 use Rattle.station_parts.specs.Audited.{audit_of}
 use Rattle.station_parts.specs.Ids.{bank_id, port_id}
 use Rattle.station_parts.specs.Words.{offered, taken}
 use Rattle.station_examples.proofs.Following.{followed_still, same_of_one, still_one}
-use Rattle.ring_station.proofs.Fitting.{side_fits, few_deep}
 use Rattle.station_examples.proofs.chain.follow_chain.Goals as goal
 
 pub returns-clause-followed : goal.returns-clause-followed
@@ -20,4 +19,4 @@ returns-clause-exact g c =
     (still_one bank_id _ _ _ _ c.audit.ensures.same_banks c.from_mut-2.ensures.value)
 
 pub run_threads-requires-after_bounds : goal.run_threads-requires-after_bounds
-run_threads-requires-after_bounds g c κs within = side_fits _ (few_deep c.args.cache.now)
+run_threads-requires-after_bounds g c κs within = lit< tt
