@@ -17,6 +17,7 @@ from kroft import (
     Load,
     Lookup,
     Machine,
+    Outcome,
     Prefetch,
     Process,
     Queued,
