@@ -738,8 +738,8 @@ fn plays_of<R: Abort, const WAYS: usize, const REGS: usize>(
 ) -> Result<(), Fail> {
     let image = image(alloc, 32)?;
     let sizes = Sizes {
-        ways: WAYS as u32,
-        regs: REGS as u32,
+        ways: u32::try_from(WAYS).unwrap_or(u32::MAX),
+        regs: u32::try_from(REGS).unwrap_or(u32::MAX),
         ..sizes_of::<1, 4, 1, 2>(&shape)
     };
     let mut machine = ShapedMachine::new(alloc, &sizes, &image)?;
