@@ -195,7 +195,7 @@ uint32_t kroft_flat_open(const kroft_due *due, size_t ndue, uint32_t n, uint16_t
  *     kroft_handle handle = KROFT_NO_MACHINE;
  *
  * kroft_open puts a machine behind it, the calls work on that machine, and kroft_free gives it up with all
- * its memory. No other call allocates but kroft_drive, which gives back what it took.
+ * its memory. No other call allocates but kroft_drive, which gives back what it took, and kroft_rounds_begin.
  */
 typedef struct {
     uint32_t open; /* 0: closed. Written by the library alone, once it was zeroed */
@@ -206,22 +206,14 @@ typedef struct {
     { 0, 0 }
 
 /*
- * The numbers of a machine. The first four have to be one of these twelve rows:
- *
- *     ways  block_words  regs  depth          ways  block_words  regs  depth
- *        1       4         1      1              2      16        16     16
- *        1       4         4      4              4       4         8      8
- *        1       8         8      8              4       8         8      8
- *        2       4         4      4              4      16        16     16
- *        2       4         8      4              8       8        16     16
- *        2       8         8      8              8      16        16     16
+ * The numbers of a machine: any within their ranges.
  */
 typedef struct {
-    uint32_t ways;        /* ways of a set                                                            */
-    uint32_t block_words; /* words of a block                                                         */
-    uint32_t regs;        /* miss registers (MSHRs)                                                   */
-    uint32_t depth;       /* places of the input stack                                                */
-    uint32_t words;       /* words of memory: 1 to 1048576, and a multiple of block_words             */
+    uint32_t ways;        /* ways of a set: 1 to 8                                                    */
+    uint32_t block_words; /* words of a block: 1 to 16                                                */
+    uint32_t regs;        /* miss registers (MSHRs): 1 to 16                                          */
+    uint32_t depth;       /* places of the input stack: 1 to 16                                       */
+    uint32_t words;       /* words of memory: 1 to 4294967295, and a multiple of block_words          */
     uint32_t sets;        /* sets of the cache: 1 to 1024                                             */
     uint32_t banks;       /* banks of memory: 1 to 16                                                 */
     uint32_t bank_queue;  /* commands that wait at a bank at most: block_words / banks, rounded up,
@@ -236,7 +228,8 @@ enum {
     KROFT_NONE = 0,     /* there is no such thing, or nothing to do                                   */
     KROFT_FOUND = 1,    /* there is such a thing, or it was done                                      */
     KROFT_NO_EVENT = 2, /* the row is no event: its kind is past the last                             */
-    KROFT_CLOSED = 3    /* no machine is behind the handle                                            */
+    KROFT_CLOSED = 3,   /* no machine is behind the handle                                            */
+    KROFT_IN_ROUNDS = 107 /* rounds are under way, and they alone make events: kroft_rounds_begin     */
 };
 
 /* Why kroft_open opens no machine. */
@@ -248,7 +241,7 @@ enum {
     KROFT_BAD_WRITE_QUEUE = 9,
     KROFT_BAD_REPLIES = 10,
     KROFT_BAD_IMAGE = 13,      /* the image hasn't as many words as memory                            */
-    KROFT_NOT_LISTED = 100,    /* the first four numbers are no row of the list                       */
+    KROFT_NOT_LISTED = 100,    /* one of the first four numbers is out of its range                   */
     KROFT_OUT_OF_MEMORY = 101, /* an allocation was refused                                           */
     KROFT_OPEN_ALREADY = 102   /* a machine is behind the handle already                              */
 };
@@ -262,14 +255,14 @@ enum {
 uint32_t kroft_open(kroft_handle *handle, const kroft_shape *shape, const kroft_word *image, size_t nimage);
 
 /*
- * Gives the machine up, with all its memory. Returns KROFT_DONE, and the handle is closed; or KROFT_CLOSED:
- * it was closed already. An open handle that is lost, not freed, leaks its machine.
+ * Gives the machine up, with its rounds and all its memory. Returns KROFT_DONE, and the handle is closed; or
+ * KROFT_CLOSED: it was closed already. An open handle that is lost, not freed, leaks its machine.
  */
 uint32_t kroft_free(kroft_handle *handle);
 
 /*
- * Makes one event. Returns KROFT_DONE, and `answer` is the machine's; or KROFT_NO_EVENT or KROFT_CLOSED,
- * and then all is as it was. A refusal is an answer, KROFT_REFUSED: it changes nothing in the machine.
+ * Makes one event. Returns KROFT_DONE, and `answer` is the machine's; or the first that holds of KROFT_CLOSED,
+ * KROFT_IN_ROUNDS and KROFT_NO_EVENT, and then all is as it was. A refusal is an answer, KROFT_REFUSED: it changes nothing in the machine.
  * KROFT_BLOCK_QUEUED and KROFT_STRAY_WORD never come.
  */
 uint32_t kroft_apply(kroft_handle *handle, const kroft_event *event, kroft_answer *answer);
@@ -279,7 +272,7 @@ uint32_t kroft_apply(kroft_handle *handle, const kroft_event *event, kroft_answe
  * word of the input stack is processed; the lowest bank with an answer has its first one arrive; the lowest
  * bank with a command serves it; the write queue's front is drained. Returns KROFT_FOUND: `event` says which
  * event it was, and `answer` is the machine's; the weight is lower than before. Or KROFT_NONE, nothing is on
- * its way, or KROFT_CLOSED, and then all is as it was.
+ * its way, KROFT_CLOSED or KROFT_IN_ROUNDS, and then all is as it was.
  */
 uint32_t kroft_pump(kroft_handle *handle, kroft_event *event, kroft_answer *answer);
 
@@ -297,7 +290,8 @@ uint32_t kroft_weight(kroft_handle *handle, uint64_t *weight);
 uint32_t kroft_settled(kroft_handle *handle);
 
 /* The calls below return KROFT_FOUND and write what they found; or KROFT_NONE or KROFT_CLOSED, and then what
-   they write is as it was. No call but kroft_open, kroft_free, kroft_apply and kroft_pump changes the machine. */
+   they write is as it was. No call but kroft_open, kroft_free, kroft_apply, kroft_pump, kroft_drive and kroft_round
+   changes the machine. */
 
 /* The word of memory at `at`, as it stands in its bank. KROFT_NONE: there is no such word. */
 uint32_t kroft_bank_word(kroft_handle *handle, uint32_t at, kroft_word *word);
@@ -459,8 +453,9 @@ typedef struct {
 
 /* Why requests aren't driven, beside KROFT_CLOSED, KROFT_NO_EVENT and KROFT_OUT_OF_MEMORY. */
 enum {
-    KROFT_TOO_MANY = 104,   /* there are more than 16777216 requests */
-    KROFT_BAD_LATENCY = 105 /* `latency` is more than 1000           */
+    KROFT_TOO_MANY = 104,    /* there are more than 16777216 requests, or 2^48 rounds were made one at a time */
+    KROFT_BAD_LATENCY = 105, /* `latency` is more than 1000                                                   */
+    KROFT_NO_ROUNDS = 106    /* no rounds were begun with kroft_rounds_begin                                  */
 };
 
 /*
@@ -469,11 +464,88 @@ enum {
  * their way through it; otherwise it has one command at a time.
  *
  * Returns KROFT_DONE: the requests are used up, nothing is on its way, and `counts` is what was counted. Or, and then the
- * machine and `counts` are as they were, the first that holds of KROFT_CLOSED; KROFT_BAD_LATENCY; KROFT_TOO_MANY;
- * KROFT_NO_EVENT, a row is no such request; KROFT_OUT_OF_MEMORY. It allocates, and gives all of it back.
+ * machine and `counts` are as they were, the first that holds of KROFT_CLOSED; KROFT_IN_ROUNDS; KROFT_BAD_LATENCY;
+ * KROFT_TOO_MANY; KROFT_NO_EVENT, a row is no such request; KROFT_OUT_OF_MEMORY. It allocates, and gives all of it back.
  */
 uint32_t kroft_drive(kroft_handle *handle, uint32_t latency, uint32_t busy, const kroft_event *requests, size_t nrequests,
                      kroft_counts *counts);
+
+/*
+ * The same rounds, one at a time: for a simulator, which doesn't know its requests before.
+ *
+ *     kroft_rounds_begin(&handle, 10, 2);
+ *     for (;;) {                                                      (once in each cycle, say)
+ *         kroft_round(&handle, &request, has_request, &told);
+ *         if (told.outcome == KROFT_ROUND_ACCEPTED) has_request = 0;  (KROFT_ROUND_LOST: offer it again)
+ *         if (told.answered) deliver(told.tag, told.word);
+ *     }
+ *
+ * Requests that are offered in one round behind the other, each until it ends, and rounds without a request until nothing
+ * is on its way (kroft_weight), give the machine and the counts that kroft_drive gives of the list, but for `rounds`:
+ * kroft_drive counts one round more, the one in which nothing moves.
+ */
+
+/*
+ * Begins rounds in the machine: the next one is round 1, and nothing is counted. `latency` and `busy` are those of
+ * kroft_drive. Rounds that were begun before end. What is on its way in the machine stays on its way.
+ *
+ * While rounds are under way they alone make the machine's events, since they know a bank's commands by their places:
+ * kroft_apply, kroft_pump and kroft_drive return KROFT_IN_ROUNDS and change nothing until kroft_rounds_end. The calls
+ * that look into the machine are free.
+ *
+ * Returns KROFT_DONE; or, and then all is as it was (also the rounds that were begun before), the first that holds of
+ * KROFT_CLOSED; KROFT_BAD_LATENCY; KROFT_OUT_OF_MEMORY.
+ */
+uint32_t kroft_rounds_begin(kroft_handle *handle, uint32_t latency, uint32_t busy);
+
+/* What became of the request that was offered in a round. */
+enum {
+    KROFT_ROUND_IDLE = 0,     /* none was offered                                                              */
+    KROFT_ROUND_ACCEPTED = 1, /* it was accepted                                                               */
+    KROFT_ROUND_LOST = 2,     /* it was refused with KROFT_TAG_IN_USE to KROFT_BANK_FULL: offer it again       */
+    KROFT_ROUND_DENIED = 3    /* it was refused for what no round changes: KROFT_OUT_OF_RANGE, KROFT_NO_LANES
+                                 or KROFT_NOT_PRESENT                                                          */
+};
+
+/* What a request found that looked for no word, beside KROFT_HIT, KROFT_JOIN and KROFT_MISS. */
+enum { KROFT_NO_LOOKUP = 3 };
+
+/* What is told of a round. What doesn't apply is 0. */
+typedef struct {
+    uint64_t round;    /* its number, counted from 1                                                           */
+    uint32_t outcome;  /* KROFT_ROUND_IDLE to KROFT_ROUND_DENIED                                               */
+    uint32_t cause;    /* why the request was refused                                                          */
+    uint32_t found;    /* what it found when it was asked, whether or not it was accepted: KROFT_HIT, KROFT_JOIN
+                          or KROFT_MISS; KROFT_NO_LOOKUP if none was offered, it is an eviction, or memory has
+                          no such word                                                                         */
+    uint32_t answered; /* 1: a load was answered. A round answers one load at most                             */
+    uint16_t tag;      /* the tag of that load                                                                 */
+    kroft_word word;   /* the word that it got                                                                 */
+} kroft_round_row;
+
+/*
+ * Makes one round, in which the first of these requests is offered, if `nrequests` isn't 0; the others aren't looked at,
+ * so the call may be given what is left of a list. It is a round of kroft_drive: what moves is moved, and then the request
+ * is asked once. A request that is lost isn't remembered: it is the caller's to offer again, or another one.
+ *
+ * Returns KROFT_DONE, and `row` is what is told of the round; or, and then all is as it was, the first that holds of
+ * KROFT_CLOSED; KROFT_NO_ROUNDS; KROFT_NO_EVENT, the first row is no load, store, prefetch or eviction; KROFT_TOO_MANY,
+ * 2^48 rounds were made. It takes no memory.
+ */
+uint32_t kroft_round(kroft_handle *handle, const kroft_event *requests, size_t nrequests, kroft_round_row *row);
+
+/*
+ * What was counted since kroft_rounds_begin: `rounds` are those that were made. A load that was accepted before, and is
+ * answered in a round, waited since kroft_rounds_begin. A request that is given up while it is lost and the one behind it
+ * stall as one. Returns KROFT_DONE; or KROFT_CLOSED or KROFT_NO_ROUNDS, and then `counts` is as it was.
+ */
+uint32_t kroft_round_counts(kroft_handle *handle, kroft_counts *counts);
+
+/*
+ * Ends the rounds that were begun, and gives their memory back; from then on kroft_apply, kroft_pump and kroft_drive make
+ * the events again. The machine stays as it is. Returns KROFT_DONE, KROFT_CLOSED or KROFT_NO_ROUNDS.
+ */
+uint32_t kroft_rounds_end(kroft_handle *handle);
 
 /* ---- histories --------------------------------------------------------------------------------- */
 
@@ -616,7 +688,11 @@ typedef struct {
     uint32_t reason;
 } kroft_reason;
 
-/* The reasons. */
+/*
+ * The reasons. Which store is the last goes by the order of the requests. A store overwrote a byte before the load's
+ * request if it was answered before that, and requested after the response to the store that is told (after
+ * KROFT_FIRST_OVERWRITTEN whenever it was requested).
+ */
 enum {
     KROFT_NO_REASON = 0,          /* none is told                                                          */
     KROFT_NEVER_THERE = 1,        /* no store put the byte there, and memory hadn't it there before        */
@@ -627,8 +703,12 @@ enum {
 /*
  * What kroft_wrong_place says of these bytes, and why the load may not return the byte at that place; it isn't told.
  * Returns KROFT_WRONG_BYTE, and `why` says it; or what kroft_wrong_place returns else, and then `why` is as it was.
- * The reason is the regular law's, of that byte alone: there is none if that law allows the byte (as in new then old),
- * or if more than 4,096 bytes were stored and the store is no longer remembered.
+ * The reason is the regular law's, of that byte alone, and depends on the history alone. While fewer than 8,192 bytes
+ * were stored, there is none exactly if that law allows the byte. The flat and the atomic law may refuse it all the same:
+ * as in new then old, or in a unit of more than one byte, where `place` is the first byte of the unit that was asked for,
+ * and another one may be to blame. Then the first stores are forgotten, 4,096 bytes at a time, and the last 4,096 to
+ * 8,191 are left: the reason is KROFT_STORE_OVERWRITTEN if one of them had the byte and the load may see none of those
+ * that had it, and otherwise there is none. The stores that are told are the last of the whole history even so.
  */
 uint32_t kroft_why(kroft_history *handle, uint64_t number, const uint8_t *bytes, size_t nbytes, kroft_reason *why);
 
@@ -785,6 +865,11 @@ KROFT_ASSERT(counts_size, sizeof(kroft_counts) == 152);
 KROFT_ASSERT(counts_lost_tag_in_use, offsetof(kroft_counts, lost_tag_in_use) == 56);
 KROFT_ASSERT(counts_values, offsetof(kroft_counts, values) == 112);
 KROFT_ASSERT(counts_registers, offsetof(kroft_counts, registers) == 144);
+KROFT_ASSERT(round_size, sizeof(kroft_round_row) == 32);
+KROFT_ASSERT(round_outcome, offsetof(kroft_round_row, outcome) == 8);
+KROFT_ASSERT(round_answered, offsetof(kroft_round_row, answered) == 20);
+KROFT_ASSERT(round_tag, offsetof(kroft_round_row, tag) == 24);
+KROFT_ASSERT(round_word, offsetof(kroft_round_row, word) == 26);
 KROFT_ASSERT(plan_size, sizeof(kroft_plan) == 48);
 KROFT_ASSERT(plan_blocks, offsetof(kroft_plan, blocks) == 8);
 KROFT_ASSERT(plan_partial, offsetof(kroft_plan, partial) == 44);
