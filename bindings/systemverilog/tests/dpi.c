@@ -2,6 +2,7 @@
    some are wrong. The status is 0 only if each is judged as the model says. */
 #include "kroft.h"
 #include "kroft_dpi.h"
+#include "random_bits.h"
 
 #include <stdio.h>
 #include <stdlib.h>
@@ -22,14 +23,6 @@ typedef struct {
 
 static waiting open_ones[IDS]; /* by id */
 static int wrong;
-
-static uint64_t random_bits(void) {
-    static uint64_t bits = 0x9e3779b97f4a7c15ULL;
-    bits ^= bits << 13;
-    bits ^= bits >> 7;
-    bits ^= bits << 17;
-    return bits;
-}
 
 static void expect(int line, void *judge, int found, int wanted) {
     if (found == wanted) return;

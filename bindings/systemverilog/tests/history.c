@@ -2,6 +2,7 @@
    are wrong. The status is 0 only if each is judged as it has to be. */
 #include "kroft.h"
 #include "kroft_dpi.h"
+#include "random_bits.h"
 
 #include <stdio.h>
 #include <string.h>
@@ -212,14 +213,6 @@ static void open_operations(void) {
     EXPECT(kroft_sv_open_operation(history, 1, &is_store, &id, &address, &size, &now) == 1 && id == 2 && now == 6);
     EXPECT(kroft_sv_open_operation(history, 2, &is_store, &id, &address, &size, &now) == 0 && id == 0);
     EXPECT(kroft_sv_open_operation(history, -1, &is_store, &id, &address, &size, &now) == 0);
-}
-
-static uint64_t random_bits(void) {
-    static uint64_t bits = 0x9e3779b97f4a7c15ULL;
-    bits ^= bits << 13;
-    bits ^= bits >> 7;
-    bits ^= bits << 17;
-    return bits;
 }
 
 /* An answer of what the load may return, or of something else in one place. */
