@@ -1,7 +1,7 @@
 -- A log is of the history whose events it notes, and says true reasons.
-use Rattle.std.proofs.Common.{◌≡◌, ℕ, ◌+◌, ◌-◌, ◌<◌, ◌≤◌, ◌==◌, ◌&&◌, ◌↔◌, if◌then◌else◌, Bool, true, false, List, [], drop, length, Option, Some, None, inl, inr, refl, sym, ◌∙◌, ap, arith, length-drop, length-append}
-use Rattle.std.specs.Prelude.{nat_lt, IfSome}
-use Rattle.std.proofs.lemmas.Bool.{cases_Bool, ltb-false, ne_eqb}
+use Rattle.std.proofs.Common.{◌≡◌, ℕ, ◌+◌, ◌-◌, ◌<◌, ◌≤◌, ◌==◌, ◌&&◌, ◌↔◌, if◌then◌else◌, Bool, true, false, List, [], drop, length, Option, Some, None, inl, inr, refl, sym, ◌∙◌, ap, subst, arith, length-drop, length-append}
+use Rattle.std.specs.Prelude.{nat_le, nat_lt, IfSome}
+use Rattle.std.proofs.lemmas.Bool.{cases_Bool, false≢true, leb-true, ltb-false, ne_eqb}
 use Rattle.std.proofs.lemmas.Bool.Decides.{Decides-ltb}
 use Rattle.std.proofs.lemmas.List.{drop-map, drop-append-le, drop-drop, length-map}
 use Rattle.std.proofs.lemmas.Nat.{div-add-mod'}
@@ -12,12 +12,15 @@ use Rattle.memory_histories.specs.declared.events.Rest.TheVariants.{Unknown}
 use Rattle.memory_histories.specs.declared.windows.StoreByte.{StoreByte}
 use Rattle.memory_histories.specs.declared.windows.LoadByte.{LoadByte}
 use Rattle.memory_histories.specs.Windows.{Windows, opening, windows_after, store_bytes, after_response}
-use Rattle.memory_histories.specs.Regular.{MayReturn}
+use Rattle.memory_histories.specs.Regular.{MayReturn, is_inside}
 use Rattle.history_reasons.specs.declared.log.StoreLog.{StoreLog}
+use Rattle.history_reasons.specs.declared.places.StorePlace.{StorePlace}
 use Rattle.history_reasons.specs.declared.Reason.{Reason}
 use Rattle.history_reasons.specs.declared.Reason.TheVariants.{NeverThere, InitialOverwritten, StoreOverwritten}
 use Rattle.history_reasons.specs.Reasons.{HasReason, Stores, Overwrote, last_reason}
-use Rattle.history_reasons.specs.Log.{IsLogOf, noted_stores, noted_loads, IsNoted, IsCounted, IsShortened, forgotten, left_stores, has_all, of_store, part_reason, kept_reason, told_reason, IsTrueOf}
+use Rattle.history_reasons.specs.Log.{IsLogOf, is_within, noted_stores, noted_loads, told_stores, noted_places, IsNoted, IsCounted, IsShortened, forgotten, left_stores, has_all, of_store, part_reason, kept_reason, told_reason, IsTrueOf}
+use Rattle.history_reasons.specs.Places.{AreFound}
+use Rattle.history_reasons.proofs.Found.{all_ended, none_found, request_found, answer_found, rest_found}
 use Rattle.history_reasons.proofs.Reasons.{last_behind, reason_law}
 
 -- How many are forgotten. ----
@@ -41,18 +44,28 @@ many n h = let a = div-add-mod' n 4096 in omega arith
 
 pub opened : (g : StoreLog) (image : List ℕ) (rest : Rest) → g.image.items ≡ image → g.rest ≡ rest → g.moment ≡ 0 → g.stores.items ≡ []
     → g.loads.items ≡ [] → g.is_whole ≡ true → IsLogOf g (opening image rest)
-opened g image rest a b c d e f = record { image = a; rest = b; moment = c; loads = e; stores = d; is_whole = f }
+opened g image rest a b c d e f = record {
+  image = a;
+  rest = b;
+  moment = c;
+  loads = e;
+  stores = d;
+  is_whole = f;
+  found = subst (AreFound g.places.items) (sym d) (none_found g.places.items);
+}
 
 -- a log with the same lists is of the same history
 pub same_log : (g h : StoreLog) (w : Windows) → IsLogOf g w → h.image.items ≡ g.image.items → h.rest ≡ g.rest → h.moment ≡ g.moment
-    → h.stores.items ≡ g.stores.items → h.loads.items ≡ g.loads.items → h.is_whole ≡ g.is_whole → IsLogOf h w
-same_log g h w k image rest moment stores loads is_whole = record {
+    → h.stores.items ≡ g.stores.items → h.places.items ≡ g.places.items → h.loads.items ≡ g.loads.items → h.is_whole ≡ g.is_whole
+    → IsLogOf h w
+same_log g h w k image rest moment stores places loads is_whole = record {
   image = image ∙ k.image;
   rest = rest ∙ k.rest;
   moment = moment ∙ k.moment;
   loads = loads ∙ k.loads;
   stores = stores ∙ k.stores;
   is_whole = is_whole ∙ k.is_whole;
+  found = subst (AreFound h.places.items) (sym stores) (subst (λ ps. AreFound ps g.stores.items) (sym places) k.found);
 }
 
 noted_behind : (xs : List StoreByte) (n moment : ℕ) (event : HistoryEvent) → n ≤ length xs
@@ -109,19 +122,54 @@ still_all m n more = elim (cases_Bool (nat_lt n 8192)) [
   ])
 ]
 
+-- The bytes of the open stores are found. ----
+
+told_noted : (ps : List StorePlace) (xs : List StoreByte) (moment : ℕ) (event : HistoryEvent) → AreFound ps xs
+    → told_stores ps xs moment event ≡ noted_stores xs moment event
+told_noted ps xs moment (StoreResponse number) h = all_ended number moment ps xs h
+told_noted ps xs moment (StoreRequest number address bytes enables) h = refl
+told_noted ps xs moment (LoadRequest number address n) h = refl
+told_noted ps xs moment (LoadResponse number bytes) h = refl
+
+most_bytes : (address n : ℕ) → is_inside address n ≡ true → n ≤ 64
+most_bytes address n h = elim (cases_Bool (nat_le n 64)) [
+  | inl e ↦ leb-true n 64 e
+  | inr e ↦ elim (cases_Bool (nat_le 1 n)) [
+    | inl f ↦ absurd (false≢true (rw (e, f) at h))
+    | inr f ↦ absurd (false≢true (rw f at h))
+  ]
+]
+
+still_found : (ps : List StorePlace) (xs : List StoreByte) (moment : ℕ) (event : HistoryEvent) → is_within event ≡ true → AreFound ps xs
+    → AreFound (noted_places ps xs event) (noted_stores xs moment event)
+still_found ps xs moment (StoreRequest number address bytes enables) i h =
+    request_found ps xs number address bytes.now enables moment (most_bytes address (length bytes.now) i) h
+still_found ps xs moment (StoreResponse number) i h = answer_found ps xs number moment h
+still_found ps xs moment (LoadRequest number address n) i h = h
+still_found ps xs moment (LoadResponse number bytes) i h = h
+
 -- an event is noted, too many stores are forgotten, and it is counted
-pub noted : (g m f h : StoreLog) (w : Windows) (event : HistoryEvent) → w.moment < 18446744073709551615 → IsLogOf g w → IsNoted g event m
-    → IsShortened m f → IsCounted f h → IsLogOf h (windows_after w event)
-noted g m f h w event few k n s c =
+pub noted : (g m f h : StoreLog) (w : Windows) (event : HistoryEvent) → w.moment < 18446744073709551615 → is_within event ≡ true → IsLogOf g w
+    → IsNoted g event m → IsShortened m f → IsCounted f h → IsLogOf h (windows_after w event)
+noted g m f h w event few inside k n s c =
+    let its : m.stores.items ≡ noted_stores g.stores.items g.moment event =
+    n.stores ∙ told_noted g.places.items g.stores.items g.moment event k.found in
     let now : noted_stores g.stores.items g.moment event ≡ noted_stores (left_stores w.stores) w.moment event =
     λ i. noted_stores (k.stores i) (k.moment i) event in
     let more = no_fewer w.stores w.moment event in
     let same = stores_noted w event in
     let gone : ℕ = forgotten (length w.stores) in
     let all : m.stores.items ≡ drop gone (noted_stores w.stores w.moment event) =
-    n.stores ∙ now ∙ noted_behind w.stores gone w.moment event (within (length w.stores)) in
+    its ∙ now ∙ noted_behind w.stores gone w.moment event (within (length w.stores)) in
     let long : length m.stores.items ≡ length (noted_stores w.stores w.moment event) - gone =
     ap (λ (xs : List StoreByte). length xs) all ∙ length-drop gone (noted_stores w.stores w.moment event) in
+    let places : m.places.items ≡ noted_places g.places.items g.stores.items event = n.places in
+    let found : AreFound m.places.items m.stores.items =
+    subst (AreFound m.places.items) (sym its) (subst (λ ps. AreFound ps (noted_stores g.stores.items g.moment event)) (sym places)
+    (still_found g.places.items g.stores.items g.moment event inside k.found)) in
+    let left : AreFound f.places.items f.stores.items =
+    subst (AreFound f.places.items) (sym s.stores) (subst (λ ps. AreFound ps (left_stores m.stores.items)) (sym s.places)
+    (rest_found m.places.items m.stores.items (forgotten (length m.stores.items)) found)) in
     let before : f.moment ≡ w.moment = s.moment ∙ n.moment ∙ k.moment in
     let counted = c.moment in
     record {
@@ -133,6 +181,7 @@ noted g m f h w event few k n s c =
           ∙ ap left_stores (sym same);
       is_whole = c.is_whole ∙ s.is_whole ∙ (λ i. (n.is_whole ∙ k.is_whole) i && (forgotten (long i) == 0))
           ∙ still_all (length w.stores) (length (noted_stores w.stores w.moment event)) more ∙ ap has_all (sym same);
+      found = subst (AreFound h.places.items) (sym c.stores) (subst (λ ps. AreFound ps f.stores.items) (sym c.places) left);
     }
 
 -- What is told. ----

@@ -1,3 +1,4 @@
 pub mod Reasons
+pub mod Places
 pub mod Log
 pub mod Examples

@@ -1,5 +1,5 @@
 -- What a log keeps of a history, to say why a byte is wrong.
-use Rattle.std.specs.Prelude.{ℕ, ◌≡◌, ◌≤◌, ◌+◌, ◌-◌, ◌*◌, ◌/◌, ◌==◌, ◌&&◌, nat_lt, min, if◌then◌else◌, Bool, true, not, List, [], ◌++◌, map, drop, length, Option, Some, None, vec_len, vec_capacity}
+use Rattle.std.specs.Prelude.{ℕ, ◌≡◌, ◌≤◌, ◌+◌, ◌-◌, ◌*◌, ◌/◌, ◌==◌, ◌&&◌, nat_lt, min, if◌then◌else◌, Bool, true, not, List, [], ◌∷◌, ◌++◌, map, drop, length, Option, Some, None, vec_len, vec_capacity}
 use Rattle.std.specs.List.{filter}
 use Rattle.memory_histories.specs.declared.events.HistoryEvent.{HistoryEvent}
 use Rattle.memory_histories.specs.declared.events.HistoryEvent.TheVariants.{LoadRequest, LoadResponse, StoreRequest, StoreResponse}
@@ -11,7 +11,9 @@ use Rattle.memory_histories.specs.Regular.{is_inside}
 use Rattle.history_reasons.specs.declared.log.StoreLog.{StoreLog}
 use Rattle.history_reasons.specs.declared.Reason.{Reason}
 use Rattle.history_reasons.specs.declared.Reason.TheVariants.{StoreOverwritten}
+use Rattle.history_reasons.specs.declared.places.StorePlace.{StorePlace}
 use Rattle.history_reasons.specs.Reasons.{HasReason, last_reason}
+use Rattle.history_reasons.specs.Places.{AreFound, is_place_of, ended_at, moved_down}
 
 -- so many bytes of stores are forgotten at a time, and so many are left at least
 abbrev pub kept_bytes : ℕ
@@ -30,7 +32,7 @@ abbrev pub has_all : List StoreByte → Bool
 has_all stores = nat_lt (length stores) (2 * kept_bytes)
 
 -- a log is of the history that adds up to these windows: it has the bytes of the stores but those that are forgotten, and those of the
--- open loads
+-- open loads, and it finds those of the open stores
 pub record IsLogOf (g : StoreLog) (w : Windows) : Type 0 where
   pub image : g.image.items ≡ w.image
   pub rest : g.rest ≡ w.rest
@@ -38,6 +40,7 @@ pub record IsLogOf (g : StoreLog) (w : Windows) : Type 0 where
   pub loads : g.loads.items ≡ w.loads
   pub stores : g.stores.items ≡ left_stores w.stores
   pub is_whole : g.is_whole ≡ has_all w.stores
+  pub found : AreFound g.places.items g.stores.items
 
 -- whether an operation that an event requests lies within memory
 abbrev pub is_within : HistoryEvent → Bool
@@ -48,7 +51,8 @@ is_within (StoreResponse number) = true
 
 -- there is room for what one event adds
 abbrev pub HasRoom : StoreLog → Type 0
-HasRoom g = (vec_len g.stores + 64 ≤ vec_capacity g.stores) × (vec_len g.loads + 64 ≤ vec_capacity g.loads)
+HasRoom g = (vec_len g.stores + 64 ≤ vec_capacity g.stores)
+    × ((vec_len g.places + 1 ≤ vec_capacity g.places) × (vec_len g.loads + 64 ≤ vec_capacity g.loads))
 
 -- the bytes of stores and of open loads, once an event of this moment is noted
 abbrev pub noted_stores : List StoreByte → ℕ → HistoryEvent → List StoreByte
@@ -61,13 +65,25 @@ noted_loads loads moment (LoadRequest number address n) = loads ++ load_bytes nu
 noted_loads loads moment (LoadResponse number bytes) = filter (λ l. not (is_of number l)) loads
 noted_loads loads moment event = loads
 
+-- the same of a log: an answer ends the bytes that are found from the places, and the places of the open stores
+abbrev pub told_stores : List StorePlace → List StoreByte → ℕ → HistoryEvent → List StoreByte
+told_stores places stores moment (StoreResponse number) = ended_at places number moment stores
+told_stores places stores moment event = noted_stores stores moment event
+
+abbrev pub noted_places : List StorePlace → List StoreByte → HistoryEvent → List StorePlace
+noted_places places stores (StoreRequest number address bytes enables) =
+    places ++ (record { number = number; first = length stores }) ∷ []
+noted_places places stores (StoreResponse number) = filter (λ p. not (is_place_of number p)) places
+noted_places places stores event = places
+
 -- an event was noted, but for the count of events
 pub record IsNoted (g : StoreLog) (event : HistoryEvent) (h : StoreLog) : Type 0 where
   pub image : h.image.items ≡ g.image.items
   pub rest : h.rest ≡ g.rest
   pub moment : h.moment ≡ g.moment
   pub is_whole : h.is_whole ≡ g.is_whole
-  pub stores : h.stores.items ≡ noted_stores g.stores.items g.moment event
+  pub stores : h.stores.items ≡ told_stores g.places.items g.stores.items g.moment event
+  pub places : h.places.items ≡ noted_places g.places.items g.stores.items event
   pub loads : h.loads.items ≡ noted_loads g.loads.items g.moment event
 
 -- one event more is counted, unless there are as many as can be counted
@@ -77,6 +93,7 @@ pub record IsCounted (g : StoreLog) (h : StoreLog) : Type 0 where
   pub moment : h.moment ≡ min (g.moment + 1) 18446744073709551615
   pub is_whole : h.is_whole ≡ g.is_whole
   pub stores : h.stores.items ≡ g.stores.items
+  pub places : h.places.items ≡ g.places.items
   pub loads : h.loads.items ≡ g.loads.items
 
 -- the first stores were forgotten, if there were too many
@@ -86,6 +103,7 @@ pub record IsShortened (g : StoreLog) (h : StoreLog) : Type 0 where
   pub moment : h.moment ≡ g.moment
   pub loads : h.loads.items ≡ g.loads.items
   pub stores : h.stores.items ≡ left_stores g.stores.items
+  pub places : h.places.items ≡ map (moved_down (forgotten (length g.stores.items))) g.places.items
   pub is_whole : h.is_whole ≡ g.is_whole && (forgotten (length g.stores.items) == 0)
 
 -- a reason that names who stored the byte: what memory had before, and whether no store had it, isn't known once stores are forgotten

@@ -6,6 +6,7 @@ ghost use Rattle.memory_histories.specs.Regular.{MayReturn, may_return_byte, ove
 ghost use Rattle.history_reasons.specs.Reasons.{HasReason, stores_byte, covers, last_that, last_reason};
 
 mod log;
+mod places;
 
 pub use log::{KEPT_BYTES, StoreLog};
 use memory_histories::{LoadByte, Rest, StoreByte, is_before, is_initial, may_return};

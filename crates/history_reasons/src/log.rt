@@ -1,11 +1,13 @@
 //! The stores and the open loads of a history as it goes, to say why a byte is wrong.
 
-ghost use Rattle.std.specs.Prelude.{◌≡◌, ◌+◌, ◌≤◌, ◌<◌, ◌^◌, ◌↔◌, ◌++◌, true, None, map, not, vec_len, vec_capacity, IfOk, OnOk, IfSome};
+ghost use Rattle.std.specs.Prelude.{◌≡◌, ◌+◌, ◌≤◌, ◌<◌, ◌^◌, ◌↔◌, ◌++◌, true, None, map, not, vec_len, vec_capacity, IfOk, OnOk, IfSome, length};
 ghost use Rattle.std.specs.List.{filter, find};
-ghost use Rattle.memory_histories.specs.Windows.{Windows, opening, windows_after, load_bytes, is_of, is_at, after_response};
-ghost use Rattle.memory_histories.specs.Regular.{MayReturn};
+ghost use Rattle.memory_histories.specs.declared.events.HistoryEvent.TheVariants.{StoreRequest, StoreResponse};
+ghost use Rattle.memory_histories.specs.Windows.{Windows, opening, windows_after, load_bytes, is_of, is_at};
+ghost use Rattle.memory_histories.specs.Regular.{MayReturn, is_inside};
 ghost use Rattle.history_reasons.specs.Log.{IsLogOf, is_within, HasRoom, IsNoted, IsCounted, IsShortened, forgotten, has_all, of_store, part_reason, kept_reason, told_reason, IsTrueOf};
 
+use crate::places::{StorePlace, end_at, end_place, move_down};
 use crate::{Reason, last_reason};
 use memory_histories::{
     HistoryEvent, LoadByte, MAX_LENGTH, Rest, StoreByte, add_store, is_at, is_inside, is_of,
@@ -25,6 +27,7 @@ pub struct StoreLog {
     rest: Rest,
     moment: u64,
     stores: Vec<StoreByte>,
+    places: Vec<StorePlace>,
     loads: Vec<LoadByte>,
     is_whole: bool,
 }
@@ -42,6 +45,7 @@ impl StoreLog {
             rest,
             moment: 0,
             stores: Vec::new(alloc),
+            places: Vec::new(alloc),
             loads: Vec::new(alloc),
             is_whole: true,
         })
@@ -55,6 +59,7 @@ impl StoreLog {
         ensures room { OnOk result (HasRoom self.new) }
     {
         self.stores.reserve(MAX_LENGTH)?;
+        self.places.reserve(1)?;
         self.loads.reserve(MAX_LENGTH)
     }
 
@@ -74,12 +79,14 @@ impl StoreLog {
     }
 
     // Forgets the first stores, if there are too many.
+    #[tactic(auto, using(crate::proofs::Found::not_moved))]
     fn forget(&mut self)
         ensures { IsShortened self.old self.new }
     {
         let count = forgotten(self.stores.len());
         if count > 0 {
             self.stores.drain(..count);
+            move_down(self.places.as_mut_slice(), count);
             self.is_whole = false;
         }
     }
@@ -116,18 +123,30 @@ impl StoreLog {
                 address,
                 bytes,
                 enables,
-            } => add_store(
-                &mut self.stores,
-                number,
-                address,
-                bytes,
-                enables,
-                self.moment,
-            ),
-            HistoryEvent::StoreResponse { number } => {
-                end_store(self.stores.as_mut_slice(), number, self.moment);
-            }
+            } => self.note_store(number, address, bytes, enables),
+            HistoryEvent::StoreResponse { number } => self.note_answer(number),
         }
+    }
+
+    // A store is open under this number from now on.
+    fn note_store(&mut self, number: u64, address: u64, bytes: &[u8], enables: u64)
+        requires room { HasRoom self.old }
+        requires inside { is_inside address (length bytes.now) ≡ true }
+        ensures { IsNoted self.old (StoreRequest number address bytes.entry enables) self.new }
+    {
+        let first = self.stores.len();
+        self.places.push_reserved(StorePlace { number, first });
+        let moment = self.moment;
+        add_store(&mut self.stores, number, address, bytes, enables, moment);
+    }
+
+    // The store that is open under this number is answered.
+    fn note_answer(&mut self, number: u64)
+        ensures { IsNoted self.old (StoreResponse number) self.new }
+    {
+        let places = self.places.as_slice();
+        end_at(self.stores.as_mut_slice(), places, number, self.moment);
+        end_place(&mut self.places, number);
     }
 
     /// Whether it has all stores so far: exactly if they had fewer than twice [`KEPT_BYTES`] bytes together.
@@ -264,27 +283,4 @@ fn end_load(loads: &mut Vec<LoadByte>, number: u64)
     ensures { loads.new.items ≡ filter (λ l. not (is_of number l)) loads.old.items }
 {
     loads.retain(|load| !is_of(load, number));
-}
-
-// The store that is open under this number is answered at this moment.
-fn end_store(stores: &mut [StoreByte], number: u64, moment: u64)
-    ensures { stores.new ≡ map (after_response number moment) stores.old }
-{
-    for store in stores.iter_mut() {
-        *store = after_response(*store, number, moment);
-    }
-}
-
-// A byte after the response of the store that is open under this number.
-fn after_response(store: StoreByte, number: u64, moment: u64) -> StoreByte
-    ensures { result ≡ after_response number moment store }
-{
-    if store.ended.is_none() && store.number == number {
-        StoreByte {
-            ended: Some(moment),
-            ..store
-        }
-    } else {
-        store
-    }
 }
