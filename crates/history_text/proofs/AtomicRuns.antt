@@ -6,6 +6,7 @@ use Rattle.memory_histories.specs.declared.events.HistoryEvent.TheVariants.{Load
 use Rattle.memory_histories.specs.declared.events.HistoryFault.{HistoryFault}
 use Rattle.memory_histories.specs.declared.events.HistoryFault.TheVariants.{OutOfRange, NoByteEnabled, NumberInUse, NotOpen, WrongLength, WrongByte}
 use Rattle.memory_histories.specs.declared.events.Rest.{Rest}
+use Rattle.memory_histories.specs.declared.sets.ByteSet.{ByteSet}
 use Rattle.atomic_histories.specs.declared.memory.AtomicMemory.{AtomicMemory}
 use Rattle.atomic_histories.specs.declared.memory.AtomicFault.TheVariants as atomic
 use Rattle.atomic_histories.specs.declared.unit.UnitPlace.{UnitPlace}
@@ -13,11 +14,12 @@ use Rattle.atomic_histories.specs.Operations.{Opened, none_opened, opened_after,
 use Rattle.atomic_histories.specs.Law.{UnitMemory, untouched, seen, MayBe, starts, steps, sees, unit_at, is_formed, IsAtomicAt, IsAtomic, IsWrongPlace, FaultIs}
 use Rattle.atomic_histories.specs.Branches.{Branch}
 use Rattle.atomic_histories.specs.Stands.{Each, IsOn, StandsFor}
-use Rattle.atomic_histories.specs.Held.{Held, nothing_held, IsWide, StandsForAll}
+use Rattle.atomic_histories.specs.Held.{Held, nothing_held, IsWide, StandsForAll, StandsBut}
+use Rattle.atomic_histories.specs.May.{IsSetOf}
 use Rattle.atomic_histories.specs.Judge.{held, limit_of, HasSameMemory, StepFaultIs}
 use Rattle.history_text.specs.Lines.{plain}
 use Rattle.history_text.specs.Laws.{Law}
-use Rattle.history_text.specs.AtomicLaw.{Began, IsTooWide, IsRefused, law_from, began, law_of, Took}
+use Rattle.history_text.specs.AtomicLaw.{Began, IsTooWide, IsRefused, IsToldSet, law_from, began, law_of, Took}
 
 -- ---- events that are told apart by where their bytes lie alone
 
@@ -197,6 +199,22 @@ undecided m n events event address t (formed, wide) =
     } in
     subst (λ l. IsTooWide (began (held m)) l events (plain event) address) t.limit
     (subst (λ (b : Began). IsTooWide b (limit_of n) events (plain event) address) (same_began h (held m) t.memory) here)
+
+-- ---- the sets of bytes
+
+told_here : (b : Began) (limit : ℕ) (events : List HistoryEvent) (number place : ℕ) (set : Option ByteSet)
+    → IsSetOf [] b.image b.rest b.size events number place set → IsToldSet b limit events number place set
+told_here b limit events number place (Some set) is = is
+told_here b limit events number place None is = inl is
+
+pub told : (m n : AtomicMemory) (events : List HistoryEvent) (number place : ℕ) (set : Option ByteSet) → Took m events n
+    → ((lost : List ℕ) (history : List HistoryEvent) → StandsBut (held n) lost history
+    → IsSetOf lost (held n).image (held n).rest (held n).size history number place set)
+    → (law_of m).returns events number place set
+told m n events number place set t is =
+    let here = told_here (began (held n)) (limit_of n) events number place set (is [] events t.stands) in
+    subst (λ l. IsToldSet (began (held m)) l events number place set) t.limit
+    (subst (λ (b : Began). IsToldSet b (limit_of n) events number place set) (same_began (held n) (held m) t.memory) here)
 
 -- ---- a new judge
 

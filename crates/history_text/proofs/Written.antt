@@ -27,11 +27,11 @@ use Rattle.history_text.proofs.Endings.{into}
 
 -- the set of one byte more
 pub sets_more : (law : Law) (events : List HistoryEvent) (load : OpenLoad) (place at : ℕ) (sets : List (Option ByteSet)) (set : Option ByteSet)
-    → AreSetsFrom law events load place sets → at ≡ place + length sets → law.allows events load.number (byte_address load at) set
+    → AreSetsFrom law events load place sets → at ≡ place + length sets → law.returns events load.number (byte_address load at) set
     → AreSetsFrom law events load place (sets ++ set ∷ [])
 sets_more law events load place at [] set are is allowed =
     let here : at ≡ place = omega (arith, is) in
-    (subst (λ k. law.allows events load.number (byte_address load k) set) here allowed, tt)
+    (subst (λ k. law.returns events load.number (byte_address load k) set) here allowed, tt)
 sets_more law events load place at (s ∷ ss) set are is allowed = (are.0, sets_more law events load (place + 1) at ss set are.1 (omega (arith, is)) allowed)
 
 -- ---- where a line or a byte ends the reading

@@ -1,5 +1,5 @@
 -- The atomic law, and its judge.
-use Rattle.std.specs.Prelude.{◌≡◌, ℕ, Option, None, List, ◌++◌, ◌∷◌, []}
+use Rattle.std.specs.Prelude.{◌≡◌, ℕ, ◌⊎◌, Option, Some, None, List, ◌++◌, ◌∷◌, []}
 use Rattle.memory_histories.specs.declared.events.HistoryEvent.{HistoryEvent}
 use Rattle.memory_histories.specs.declared.events.HistoryFault.{HistoryFault}
 use Rattle.memory_histories.specs.declared.events.Rest.{Rest}
@@ -8,6 +8,7 @@ use Rattle.atomic_histories.specs.declared.memory.AtomicMemory.{AtomicMemory}
 use Rattle.atomic_histories.specs.Operations.{opened_by, form_fault}
 use Rattle.atomic_histories.specs.Law.{IsAtomic, FaultIs}
 use Rattle.atomic_histories.specs.Held.{Held, nothing_held, IsWide, StandsForAll}
+use Rattle.atomic_histories.specs.May.{IsSetOf, IsWideByte}
 use Rattle.atomic_histories.specs.Judge.{held, limit_of, HasSameMemory}
 use Rattle.history_text.specs.Laws.{Law}
 
@@ -33,12 +34,29 @@ pub record IsRefused (b : Began) (events : List HistoryEvent) (event : HistoryEv
   pub why : FaultIs b.image b.rest b.size events event cause
   pub broken : ¬ (IsAtomic b.image b.rest b.size (events ++ event ∷ []))
 
--- the atomic law of a memory that began so. It says no set of bytes: a load gets a word, and not each byte for itself
+-- the unit in which this byte lies may have gone too many ways, of which each must be followed to tell what a load may return there
+pub record IsTooWideByte (b : Began) (limit : ℕ) (events : List HistoryEvent) (place : ℕ) : Type 0 where
+  pub kept : Held
+  pub image : kept.image ≡ b.image
+  pub rest : kept.rest ≡ b.rest
+  pub size : kept.size ≡ b.size
+  pub stands : StandsForAll kept events
+  pub address : ℕ
+  pub wide : IsWideByte limit kept place address
+
+-- the set of all that may be returned of an address, if the load that is open under this number asks for it and there is a verdict
+abbrev pub IsToldSet : Began → ℕ → List HistoryEvent → ℕ → ℕ → Option ByteSet → Type 0
+IsToldSet b limit events number place (Some set) = IsSetOf [] b.image b.rest b.size events number place (Some set)
+IsToldSet b limit events number place None =
+    IsSetOf [] b.image b.rest b.size events number place None ⊎ IsTooWideByte b limit events place
+
+-- the atomic law of a memory that began so. It allows no byte for itself: a load gets a word
 abbrev pub law_from : Began → ℕ → Law
 law_from b limit = record {
   passes = λ events. IsAtomic b.image b.rest b.size events;
   refuses = IsRefused b;
   allows = λ events number address set. set ≡ None;
+  returns = IsToldSet b limit;
   undecides = IsTooWide b limit;
 }
 

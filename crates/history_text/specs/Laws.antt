@@ -13,8 +13,11 @@ pub record Law : Type 1 where
   -- behind such a history, an event makes it none of the law, for this fault
   pub refuses : List HistoryEvent → HistoryEvent → HistoryFault → Type 0
   -- behind such a history, the set is what the open load of a number may return for the byte at an address, if it is answered
-  -- now; there is none if no such load asks for the byte, or if the law tells no set of bytes
+  -- now, whatever its other bytes are; there is none if no such load asks for the byte, or if the law knows no byte for itself
   pub allows : List HistoryEvent → ℕ → ℕ → Option ByteSet → Type 0
+  -- behind such a history, the set is all that the open load of a number may return for the byte at an address, with some other bytes,
+  -- if it is answered now; there is none if no such load asks for the byte, or if its judge can't tell
+  pub returns : List HistoryEvent → ℕ → ℕ → Option ByteSet → Type 0
   -- behind such a history, its judge may say that it can't tell whether the history with this event is one of the law, for the sake
   -- of the unit that begins at this address
   pub undecides : List HistoryEvent → HistoryEvent → ℕ → Type 0

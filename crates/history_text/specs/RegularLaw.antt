@@ -19,6 +19,7 @@ regular_law image rest = record {
   passes = λ events. (w : Windows) × Leaves image rest events w;
   refuses = λ events event cause. (w : Windows) × Leaves image rest events w × (fault w event ≡ Some cause);
   allows = λ events number address set. (w : Windows) × Leaves image rest events w × IsSetOf w number address set;
+  returns = λ events number address set. (w : Windows) × Leaves image rest events w × IsSetOf w number address set;
   undecides = λ events event address. ⊥;
 }
 

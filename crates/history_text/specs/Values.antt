@@ -47,7 +47,7 @@ values_text (Some sets) = codes " ->" ++ sets_text sets
 abbrev pub AreSetsFrom : Law → List HistoryEvent → OpenLoad → ℕ → List (Option ByteSet) → Type 0
 AreSetsFrom law events load place [] = Unit {0}
 AreSetsFrom law events load place (set ∷ sets) =
-    law.allows events load.number (byte_address load place) set × AreSetsFrom law events load (place + 1) sets
+    law.returns events load.number (byte_address load place) set × AreSetsFrom law events load (place + 1) sets
 
 -- of each byte of an open load, if there is one
 abbrev pub AreSetsOf : Law → List HistoryEvent → Option OpenLoad → Option (List (Option ByteSet)) → Type 0

@@ -1,6 +1,6 @@
 //! A judge of histories, event by event.
 
-ghost use Rattle.std.specs.Prelude.{◌≡◌, ℕ, ◌++◌, ◌∷◌, [], List, OnOk, OnErr, IfErr};
+ghost use Rattle.std.specs.Prelude.{◌≡◌, ℕ, ◌++◌, ◌∷◌, [], List, OnOk, OnErr, IfOk, IfErr};
 ghost use Rattle.memory_histories.specs.declared.events.HistoryEvent.{HistoryEvent as Event};
 ghost use Rattle.history_text.specs.Lines.{plain};
 ghost use Rattle.history_text.specs.Laws.{Law, JudgeFaultIs};
@@ -9,6 +9,7 @@ use atomic_histories::{AtomicFault, AtomicMemory};
 use memory_histories::{
     ByteSet, FlatHistory, HistoryEvent, HistoryFault, RegularMemory, StepFault,
 };
+use std::alloc::AllocError;
 
 /// Why a judge didn't take an event.
 #[derive(Clone, Copy, PartialEq, Eq, Debug)]
@@ -44,10 +45,18 @@ pub trait HistoryJudge {
             → took start events self.old → took start events self.new) };
 
     /// What the load that is open under a number may return for the byte at an address, if it is
-    /// answered now, or `None` if no such load asks for that byte, or the law tells no set of bytes.
+    /// answered now, whatever its other bytes are, or `None` if no such load asks for that byte, or the law
+    /// knows no byte for itself.
     fn allowed(&self, number: u64, address: u64) -> Option<ByteSet>
         ensures { (start : Self) (events : List Event) → took start events self.now
             → (law start).allows events number address result };
+
+    /// All that the load that is open under a number may return for the byte at an address, with some other
+    /// bytes, if it is answered now, or `None` if no such load asks for that byte, or the judge can't tell.
+    /// `AllocError` says that there was too little memory.
+    fn may_answer(&self, number: u64, address: u64) -> Result<Option<ByteSet>, AllocError>
+        ensures { IfOk result (λ set. (start : Self) (events : List Event)
+            → took start events self.now → (law start).returns events number address set) };
 }
 
 impl HistoryJudge for RegularMemory {
@@ -68,6 +77,10 @@ impl HistoryJudge for RegularMemory {
 
     fn allowed(&self, number: u64, address: u64) -> Option<ByteSet> {
         self.may_return(number, address)
+    }
+
+    fn may_answer(&self, number: u64, address: u64) -> Result<Option<ByteSet>, AllocError> {
+        Ok(self.may_return(number, address))
     }
 }
 
@@ -90,6 +103,10 @@ impl HistoryJudge for FlatHistory {
     fn allowed(&self, number: u64, address: u64) -> Option<ByteSet> {
         self.may_return(number, address)
     }
+
+    fn may_answer(&self, number: u64, address: u64) -> Result<Option<ByteSet>, AllocError> {
+        Ok(self.may_return(number, address))
+    }
 }
 
 impl HistoryJudge for AtomicMemory {
@@ -110,5 +127,13 @@ impl HistoryJudge for AtomicMemory {
 
     fn allowed(&self, _number: u64, _address: u64) -> Option<ByteSet> {
         None
+    }
+
+    fn may_answer(&self, number: u64, address: u64) -> Result<Option<ByteSet>, AllocError> {
+        match self.byte_may_return(number, address) {
+            Ok(set) => Ok(set),
+            Err(AtomicFault::Undecided { .. } | AtomicFault::Refused(_)) => Ok(None),
+            Err(AtomicFault::OutOfMemory) => Err(AllocError),
+        }
     }
 }

@@ -166,7 +166,7 @@ fn write_by_atomic_law<R: Source, W: Sink>(
 }
 
 /// Judges a history by the law that is chosen, and writes its lines with what the loads may have returned,
-/// as [`write_values`] does. The atomic law tells no set of bytes.
+/// as [`write_values`] does.
 ///
 /// A fault is as there, and [`TraceFault::OutOfMemory`] may come before anything is read.
 pub fn write_values_by_law<R: Source, W: Sink>(

@@ -92,7 +92,10 @@ fn sets_of<J: HistoryJudge>(
 {
     let mut sets = Vec::new(alloc);
     for place in 0..load.length {
-        sets.push(judged.judge.allowed(load.number, load.byte_address(place)))?;
+        let set = judged
+            .judge
+            .may_answer(load.number, load.byte_address(place))?;
+        sets.push(set)?;
     }
     Ok(sets)
 }
@@ -270,8 +273,8 @@ fn write_through<R: Source, W: Sink, J: HistoryJudge>(
 /// Reads a history and judges it as [`judge_history`](crate::judge_history) does, and writes each line
 /// before it is judged, the first that is none of the law too. Behind the answer to an open load stands
 /// what it may have returned, for each byte: ` -> 00|5a 5a` says that the first byte may be 00 or 5a, and
-/// the second must be 5a; `??` stands for a byte that may be anything, and `-` for one of which the law
-/// tells no set.
+/// the second must be 5a; `??` stands for a byte that may be anything, and `-` for one of which the judge
+/// can't tell. Each set is of its byte alone.
 ///
 /// A faulty line isn't written, and nothing behind it. [`TraceFault::Write`] says that a write was refused:
 /// a front of a line may be written. A fault is else as there, and all lines before it are written. The

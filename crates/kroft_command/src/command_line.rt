@@ -378,9 +378,6 @@ fn history_conflict(asked: HistoryTask) -> Option<&'static str> {
         return Some("the argument '--values' cannot be used with '--format <FORMAT>'");
     }
     match asked.law {
-        HistoryLaw::Atomic { .. } if asked.values => {
-            Some("the argument '--values' cannot be used with '--law atomic'")
-        }
         HistoryLaw::Flat | HistoryLaw::Regular if asked.unit.is_some() => {
             Some("the argument '--unit <N>' needs '--law atomic'")
         }

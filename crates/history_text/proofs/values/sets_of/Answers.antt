@@ -9,7 +9,7 @@ loop-place-preserved g c =
     let load = c.args.load in
     let place = c.loop-place.place in
     let sets = c.loop-place.sets.items in
-    let set = c.allowed.result in
+    let set = c.in_ok-set.set in
     let count = c.loop-place.invariant.count in
     let pushed = c.in_ok-push.ensures.items in
     let same : place ≡ 0 + length sets = omega (arith, count) in
@@ -17,5 +17,5 @@ loop-place-preserved g c =
       count = omega (arith, ap length pushed, length-append sets (set ∷ []), count);
       sets = λ start events s. subst (AreSetsFrom (j.law start) events load 0) (sym pushed)
           (sets_more (j.law start) events load 0 place sets set (c.loop-place.invariant.sets start events s) same
-          (subst (λ a. (j.law start).allows events load.number a set) c.byte_address.ensures (c.allowed.ensures start events s.taken)));
+          (subst (λ a. (j.law start).returns events load.number a set) c.byte_address.ensures (c.in_ok-set.ensures start events s.taken)));
     }
