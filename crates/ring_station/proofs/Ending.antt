@@ -91,11 +91,11 @@ cache_shown ports turns old new new' end a left h =
     }
 
 -- rows that agree in what f shows
-shown_alike : {X Y : Type 0} (f : X → Y) (xs ys : List X) → map f xs ≡ map f ys → (p : ℕ) (d : X)
+pub shown_alike : {X Y : Type 0} (f : X → Y) (xs ys : List X) → map f xs ≡ map f ys → (p : ℕ) (d : X)
     → f (slice_index_or xs p d) ≡ f (slice_index_or ys p d)
 shown_alike f xs ys e p d = sym (get_or-map f xs p d) ∙ ap (λ l. slice_index_or l p (f d)) e ∙ get_or-map f ys p d
 
-long_alike : {X Y : Type 0} (f : X → Y) (xs ys : List X) → map f xs ≡ map f ys → length xs ≡ length ys
+pub long_alike : {X Y : Type 0} (f : X → Y) (xs ys : List X) → map f xs ≡ map f ys → length xs ≡ length ys
 long_alike f xs ys e = sym (length-map xs f) ∙ ap length e ∙ length-map ys f
 
 -- the ports that are audited are those that have run

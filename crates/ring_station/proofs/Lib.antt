@@ -6,3 +6,4 @@ pub mod CrewRunning
 pub mod StationRunning
 pub mod Ending
 pub mod Crossing
+pub mod Segmenting

@@ -6,3 +6,4 @@ pub mod PortRuns
 pub mod PartRuns
 pub mod Crew
 pub mod Run
+pub mod Segments

@@ -1,5 +1,6 @@
 //! Why a run of the threads gives no lists.
 
+use station_parts::RenewFault;
 use std::alloc::AllocError;
 use std::error::Error;
 use std::fmt;
@@ -39,5 +40,54 @@ impl From<AllocError> for RunFault {
 
     fn from(_fault: AllocError) -> RunFault {
         RunFault::OutOfMemory
+    }
+}
+
+/// Why a run gave no lists and no journal.
+#[derive(Clone, Copy, PartialEq, Eq, Debug)]
+pub enum SegmentFault {
+    /// The run came to no end.
+    Run(RunFault),
+    /// It came to its end, and the station wasn't renewed.
+    Renewal(RenewFault),
+}
+
+impl Error for SegmentFault {}
+
+/// The text of the fault that it holds.
+impl fmt::Display for SegmentFault {
+    ghost use Rattle.std.specs.Prelude.{Some};
+    ghost use Rattle.ring_station.specs.Faults.{segment_fault_text};
+
+    ghost output = { λ fault. Some (segment_fault_text fault) };
+
+    fn fmt<W: fmt::Write>(&self, f: &mut fmt::Formatter<W>) -> fmt::Result {
+        match self {
+            SegmentFault::Run(fault) => write!(f, "{fault}"),
+            SegmentFault::Renewal(fault) => write!(f, "{fault}"),
+        }
+    }
+}
+
+impl From<AllocError> for SegmentFault {
+    ghost use Rattle.std.specs.Prelude.{◌≡◌};
+    ghost use Rattle.ring_station.specs.declared.fault.RunFault.TheVariants.{OutOfMemory};
+    ghost use Rattle.ring_station.specs.declared.fault.SegmentFault.TheVariants.{Run};
+
+    ghost from_gives = { λ e f. f ≡ Run OutOfMemory };
+
+    fn from(_fault: AllocError) -> SegmentFault {
+        SegmentFault::Run(RunFault::OutOfMemory)
+    }
+}
+
+impl From<RenewFault> for SegmentFault {
+    ghost use Rattle.std.specs.Prelude.{◌≡◌};
+    ghost use Rattle.ring_station.specs.declared.fault.SegmentFault.TheVariants.{Renewal};
+
+    ghost from_gives = { λ e f. f ≡ Renewal e };
+
+    fn from(fault: RenewFault) -> SegmentFault {
+        SegmentFault::Renewal(fault)
     }
 }

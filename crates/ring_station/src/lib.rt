@@ -13,17 +13,19 @@ mod port_thread;
 mod report;
 mod round;
 mod run;
+mod segment;
 mod talk;
 mod thread_end;
 mod threads;
 
 pub use cache_unit::CacheUnit;
-pub use fault::RunFault;
+pub use fault::{RunFault, SegmentFault};
 pub use flat_model::{Answer, Cause, Event, Lanes, MakeFault, Shape, ShapeField, Word};
 pub use gate::{Actor, Gate};
 pub use memory_banks::{BankAnswer, Command};
 pub use report::{Run, Stop};
 pub use run::{run_and_audit, run_threads};
+pub use segment::{Segment, run_and_renew};
 pub use station_journal::laws;
 pub use station_parts::{
     ASK_PLACES, Ask, Audit, BankSide, CacheSide, Entry, MAX_ENTRIES, MAX_NOTED, MAX_PORTS,

@@ -15,3 +15,4 @@ pub mod New
 pub mod Audited
 pub mod Renewed
 pub mod Rest
+pub mod Texts

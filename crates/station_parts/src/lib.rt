@@ -19,6 +19,7 @@ mod renewal;
 mod rest;
 mod row;
 mod side;
+mod texts;
 mod views;
 
 pub use bank::BankSide;

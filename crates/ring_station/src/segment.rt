@@ -1,0 +1,129 @@
+//! A run of a station that hands its journal out behind it.
+ghost use Rattle.std.specs.Prelude.{◌≡◌, ◌<◌, true, length, map, vec_len, IsTrue, IfOk, OnOk, IsErr};
+ghost use Rattle.cache_unit.specs.Views.{is_clean};
+ghost use Rattle.station_parts.specs.declared.parts.Audit.TheVariants.{Clean};
+ghost use Rattle.station_parts.specs.Audited.{IsSeen, audit_of};
+ghost use Rattle.station_parts.specs.Ids.{port_id, bank_id, cache_id};
+ghost use Rattle.station_parts.specs.Promises.{IsFlatRun, AreWhole, PaysLoads, HoldFlat};
+ghost use Rattle.station_parts.specs.Renewed.{RenewsCache, ResumesPorts};
+ghost use Rattle.station_parts.specs.Rest.{is_at_rest};
+ghost use Rattle.station_parts.specs.Station.{AreOneStation};
+ghost use Rattle.station_parts.specs.Words.{cache_in, journal_of, sizes_in};
+ghost use Rattle.ring_station.specs.Segments.{HaveRunOn, HandsOut};
+
+use crate::fault::SegmentFault;
+use crate::gate::Gate;
+use crate::run::run_and_audit;
+use station_parts::{Ask, Entry, RenewFault, Station, Told, renew};
+use std::alloc::Global;
+use std::rt::Clock;
+use std::thread::Threads;
+
+/// What a run gave, behind which its station was renewed.
+#[derive(Drop)]
+pub struct Segment {
+    /// For each port what it took in the run, in order.
+    pub lists: Vec<Vec<Told>>,
+    /// The journal that was handed out, oldest entry first.
+    pub journal: Vec<Entry>,
+}
+
+/// The run of [`run_threads`](crate::run_threads), and behind it a renewal: the journal is handed out, a
+/// new one is begun, and the station may be run again. So it lasts: whoever cuts the ports' scripts into
+/// parts and runs them one behind the other needs the memory of one part. The journals that were handed
+/// out are, one behind the other, one journal of one station, and a run of flat memory.
+///
+/// [`SegmentFault::Run`] says that the run came to no end, by the fault that `run_threads` has for it; and
+/// [`SegmentFault::Renewal`] that it did, and the station wasn't renewed. After either the station may be
+/// audited; after the latter it may also be renewed, if there is memory then, and it must not be run
+/// before, since its ports have ended.
+///
+/// There is one script for each port. A script with `Done` in it comes to no end.
+pub fn run_and_renew<
+    R: Clock + Threads + Sync,
+    G: Gate,
+    const WAYS: usize,
+    const WORDS: usize,
+    const REGS: usize,
+    const DEPTH: usize,
+>(
+    rt: &R,
+    alloc: Global,
+    station: &mut Station<WAYS, WORDS, REGS, DEPTH>,
+    scripts: &[Vec<Ask>],
+    turns: u64,
+    gate: &G,
+) -> Result<Segment, SegmentFault>
+    requires one { AreOneStation station.old.cache station.old.ports.items station.old.banks.items }
+    requires scripts { length scripts.now ≡ vec_len station.old.ports }
+
+    // They are the same parts, moved by their own calls.
+    ensures same_cache { cache_id station.new.cache ≡ cache_id station.old.cache }
+    ensures same_ports { map port_id station.new.ports.items ≡ map port_id station.old.ports.items }
+    ensures same_banks { map bank_id station.new.banks.items ≡ map bank_id station.old.banks.items }
+    ensures kept { AreOneStation station.new.cache station.new.ports.items station.new.banks.items }
+
+    // Each port has offered its script and then Done, its list is what it took, and it may offer again.
+    ensures lists { IfOk result (λ run. HaveRunOn scripts.now
+        station.old.ports.items station.new.ports.items run.lists.items) }
+    ensures journal { IfOk result
+        (λ run. HandsOut station.old.cache station.new.cache run.journal.items) }
+    ensures rests { OnOk result (is_at_rest (cache_in station.new.cache) ≡ true) }
+    ensures no_turn { turns ≡ 0 → IsErr result }
+
+    // An audit has found that nothing is left or owed, and so all that the station has noted since it was
+    // made is a run of flat memory.
+    ensures seen { OnOk result (IsSeen station.new.cache station.new.ports.items station.new.banks.items) }
+    ensures clean { OnOk result
+        (audit_of station.new.cache station.new.ports.items station.new.banks.items ≡ Clean) }
+    ensures flat { OnOk result
+        (IsFlatRun (sizes_in station.new.cache) (journal_of station.new.cache)) }
+    ensures whole { OnOk result
+        (AreWhole (journal_of station.new.cache) station.new.ports.items) }
+    ensures paid { OnOk result
+        (PaysLoads (sizes_in station.new.cache) (journal_of station.new.cache)) }
+    ensures settled { OnOk result (IsTrue (is_clean (cache_in station.new.cache))
+        → HoldFlat (sizes_in station.new.cache) (journal_of station.new.cache) station.new.banks.items) }
+{
+    let run = run_and_audit(rt, alloc, station, scripts, turns, gate)?;
+    if let Some(fault) = run.fault() {
+        return Err(SegmentFault::Run(fault));
+    }
+    let journal = renew_station(alloc, station)?;
+    Ok(Segment {
+        lists: run.lists,
+        journal,
+    })
+}
+
+// Renews a station whose parts are in the order of their numbers.
+fn renew_station<const WAYS: usize, const WORDS: usize, const REGS: usize, const DEPTH: usize>(
+    alloc: Global,
+    station: &mut Station<WAYS, WORDS, REGS, DEPTH>,
+) -> Result<Vec<Entry>, RenewFault>
+    requires { AreOneStation station.old.cache station.old.ports.items station.old.banks.items }
+    ensures same_cache { cache_id station.new.cache ≡ cache_id station.old.cache }
+    ensures same_ports { map port_id station.new.ports.items ≡ map port_id station.old.ports.items }
+    ensures same_banks { map bank_id station.new.banks.items ≡ map bank_id station.old.banks.items }
+    ensures cache { IfOk result
+        (λ segment. RenewsCache station.old.cache station.new.cache segment.items) }
+    ensures ports { OnOk result (ResumesPorts station.old.ports.items station.new.ports.items) }
+    ensures seen { OnOk result (IsSeen station.new.cache station.new.ports.items station.new.banks.items) }
+    ensures clean { OnOk result
+        (audit_of station.new.cache station.new.ports.items station.new.banks.items ≡ Clean) }
+    ensures flat { OnOk result
+        (IsFlatRun (sizes_in station.new.cache) (journal_of station.new.cache)) }
+    ensures whole { OnOk result
+        (AreWhole (journal_of station.new.cache) station.new.ports.items) }
+    ensures paid { OnOk result
+        (PaysLoads (sizes_in station.new.cache) (journal_of station.new.cache)) }
+    ensures settled { OnOk result (IsTrue (is_clean (cache_in station.new.cache))
+        → HoldFlat (sizes_in station.new.cache) (journal_of station.new.cache) station.new.banks.items) }
+{
+    renew(
+        alloc,
+        &mut station.cache,
+        &mut station.ports,
+        &mut station.banks,
+    )
+}
