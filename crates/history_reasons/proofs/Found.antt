@@ -14,27 +14,27 @@ use Rattle.history_reasons.specs.Places.{is_place_of, reaches, AreFound, ended_f
 
 -- The bytes from a place on. ----
 
-abbrev is_near : ℕ → ℕ → Bool
-is_near first k = nat_le first k && nat_lt k (first + 64)
+abbrev is_near : ℕ → ℕ → ℕ → Bool
+is_near first most k = nat_le first k && nat_lt k (first + most)
 
-near : (first k : ℕ) → first ≤ k → k < first + 64 → is_near first k ≡ true
-near first k h l = and_from (nat_le first k) (nat_lt k (first + 64)) (le-leb first k h) (lt-ltb k (first + 64) l)
+near : (first most k : ℕ) → first ≤ k → k < first + most → is_near first most k ≡ true
+near first most k h l = and_from (nat_le first k) (nat_lt k (first + most)) (le-leb first k h) (lt-ltb k (first + most) l)
 
-far : (first k : ℕ) → (first ≤ k → k < first + 64 → ⊥) → is_near first k ≡ false
-far first k h = elim (cases_Bool (nat_le first k)) [
+far : (first most k : ℕ) → (first ≤ k → k < first + most → ⊥) → is_near first most k ≡ false
+far first most k h = elim (cases_Bool (nat_le first k)) [
   | inr e ↦ rw e refl
-  | inl e ↦ elim (cases_Bool (nat_lt k (first + 64))) [
+  | inl e ↦ elim (cases_Bool (nat_lt k (first + most))) [
     | inr f ↦ rw (e, f) refl
-    | inl f ↦ absurd (h (leb-true first k e) ((Decides-ltb k (first + 64)).0 f))
+    | inl f ↦ absurd (h (leb-true first k e) ((Decides-ltb k (first + most)).0 f))
   ]
 ]
 
-module _ (first number moment : ℕ) (xs : List StoreByte) where
+module _ (p : StorePlace) (number moment : ℕ) (xs : List StoreByte) where
   abbrev from : ℕ
-  from = min first (length xs)
+  from = min p.first (length xs)
 
   abbrev count : ℕ
-  count = min 64 (length xs - from)
+  count = min p.most (length xs - from)
 
   abbrev middle : List StoreByte
   middle = map (after_response number moment) (take count (drop from xs))
@@ -51,7 +51,7 @@ module _ (first number moment : ℕ) (xs : List StoreByte) where
       let t = length-take count (drop from xs) in
       let d = length-drop from xs in omega arith
 
-  pub length_from : length (ended_from first number moment xs) ≡ length xs
+  pub length_from : length (ended_from p number moment xs) ≡ length xs
   length_from =
       let a = length-append (take from xs) (middle ++ behind) in
       let b = length-append middle behind in
@@ -60,13 +60,13 @@ module _ (first number moment : ℕ) (xs : List StoreByte) where
       let e = length_front in
       let f = length_middle in omega arith
 
-  pub from_at : (k : ℕ) (d : StoreByte) → k < length xs → get_or (ended_from first number moment xs) k d
-      ≡ (if is_near first k then after_response number moment (get_or xs k d) else get_or xs k d)
+  pub from_at : (k : ℕ) (d : StoreByte) → k < length xs → get_or (ended_from p number moment xs) k d
+      ≡ (if is_near p.first p.most k then after_response number moment (get_or xs k d) else get_or xs k d)
   from_at k d l = elim (cases_Bool (nat_lt k from)) [
     | inl t ↦
         let below : k < from = (Decides-ltb k from).0 t in
         let e = length_front in
-        rw (far first k (λ h g. omega arith)) (
+        rw (far p.first p.most k (λ h g. omega arith)) (
         get_or_append_left (take from xs) (middle ++ behind) d k (omega arith) ∙ get_or-take from xs k d below
         )
     | inr t ↦
@@ -82,7 +82,7 @@ module _ (first number moment : ℕ) (xs : List StoreByte) where
               let rest = length-drop from xs in
               let there : get_or (take count (drop from xs)) (k - from) d ≡ get_or xs k d =
               get_or-take count (drop from xs) (k - from) d inside ∙ get_or-drop from xs (k - from) d ∙ ap (λ i. get_or xs i d) place in
-              rw (near first k (omega arith) (omega arith)) (
+              rw (near p.first p.most k (omega arith) (omega arith)) (
               right ∙ get_or_append_left middle behind d (k - from) (omega arith)
               ∙ get_or-map (after_response number moment) (take count (drop from xs)) (k - from) d d (omega arith)
               ∙ ap (after_response number moment) there
@@ -90,7 +90,7 @@ module _ (first number moment : ℕ) (xs : List StoreByte) where
           | inr u ↦
               let outside : count ≤ k - from = ltb-false (k - from) count u in
               let place : from + (count + (k - from - count)) ≡ k = omega arith in
-              rw (far first k (λ h g. omega arith)) (
+              rw (far p.first p.most k (λ h g. omega arith)) (
               right ∙ get_or-append_right middle behind count (k - from) d f outside
               ∙ get_or-drop count (drop from xs) (k - from - count) d ∙ get_or-drop from xs (count + (k - from - count)) d
               ∙ ap (λ i. get_or xs i d) place
@@ -102,15 +102,15 @@ module _ (first number moment : ℕ) (xs : List StoreByte) where
 
 module _ (number moment : ℕ) where
   abbrev step : StorePlace → List StoreByte → List StoreByte
-  step p xs = if is_place_of number p then ended_from p.first number moment xs else xs
+  step p xs = if is_place_of number p then ended_from p number moment xs else xs
 
   length_step : (p : StorePlace) (xs : List StoreByte) → length (step p xs) ≡ length xs
-  length_step p xs = elim (cases_Bool (is_place_of number p)) [ inl e ↦ rw e (length_from p.first number moment xs) | inr e ↦ rw e refl ]
+  length_step p xs = elim (cases_Bool (is_place_of number p)) [ inl e ↦ rw e (length_from p number moment xs) | inr e ↦ rw e refl ]
 
   step_at : (p : StorePlace) (xs : List StoreByte) (k : ℕ) (d : StoreByte) → k < length xs
       → get_or (step p xs) k d ≡ (if reaches number k p then after_response number moment (get_or xs k d) else get_or xs k d)
   step_at p xs k d l = elim (cases_Bool (is_place_of number p)) [
-    | inl e ↦ rw e (from_at p.first number moment xs k d l)
+    | inl e ↦ rw e (from_at p number moment xs k d l)
     | inr e ↦ rw e refl
   ]
 
@@ -201,30 +201,33 @@ or_right : (a b : Bool) → b ≡ true → (a || b) ≡ true
 or_right true b h = refl
 or_right false b h = h
 
-pub request_found : (ps : List StorePlace) (xs : List StoreByte) (number a : ℕ) (bs : List ℕ) (e t : ℕ) → length bs ≤ 64 → AreFound ps xs
-    → AreFound (ps ++ (record { number = number; first = length xs }) ∷ []) (xs ++ store_bytes number a bs e t)
-request_found ps xs number a bs e t most h k d l none =
+pub request_found : (ps : List StorePlace) (xs : List StoreByte) (number a : ℕ) (bs : List ℕ) (e t : ℕ) → AreFound ps xs
+    → AreFound (ps ++ (record { number = number; first = length xs; most = length bs }) ∷ []) (xs ++ store_bytes number a bs e t)
+request_found ps xs number a bs e t h k d l none =
     let added = store_bytes number a bs e t in
-    let new : StorePlace = record { number = number; first = length xs } in
+    let new : StorePlace = record { number = number; first = length xs; most = length bs } in
     let few = store_length number a bs e t in
     let long = length-append xs added in
+    let reach : StorePlace → Bool = reaches (get_or (xs ++ added) k d).number k in
+    let split : list_any reach (ps ++ new ∷ []) ≡ (list_any reach ps || list_any reach (new ∷ [])) = list_any-append reach ps (new ∷ []) in
     elim (cases_Bool (nat_lt k (length xs))) [
       | inl u ↦
           let old : k < length xs = (Decides-ltb k (length xs)).0 u in
           let same : get_or (xs ++ added) k d ≡ get_or xs k d = get_or_append_left xs added d k old in
-          let split = list_any-append (reaches (get_or (xs ++ added) k d).number k) ps (new ∷ []) in
-          split ∙ or_left (list_any (reaches (get_or (xs ++ added) k d).number k) ps) (list_any (reaches (get_or (xs ++ added) k d).number k)
-          (new ∷ [])) (ap (λ s. list_any (reaches s.number k) ps) same ∙ h k d old (ap (λ s. is_none s.ended) (sym same) ∙ none))
+          let before : list_any reach ps ≡ true =
+          ap (λ s. list_any (reaches s.number k) ps) same ∙ h k d old (ap (λ s. is_none s.ended) (sym same) ∙ none) in
+          split ∙ or_left (list_any reach ps) (list_any reach (new ∷ [])) before
       | inr u ↦
           let later : length xs ≤ k = ltb-false k (length xs) u in
           let same : get_or (xs ++ added) k d ≡ get_or added (k - length xs) d = get_or-append_right xs added (length xs) k d refl later in
           let its : (get_or (xs ++ added) k d).number ≡ number =
           ap (λ s. s.number) same ∙ store_number number a bs e t (k - length xs) d (omega arith) in
-          let split = list_any-append (reaches (get_or (xs ++ added) k d).number k) ps (new ∷ []) in
+          let within : is_near (length xs) (length bs) k ≡ true = near (length xs) (length bs) k later (omega arith) in
           let reached : reaches number k new ≡ true =
-          and_from (is_place_of number new) (is_near (length xs) k) (eq-eqb number number refl) (near (length xs) k later (omega arith)) in
-          split ∙ or_right (list_any (reaches (get_or (xs ++ added) k d).number k) ps) (list_any (reaches (get_or (xs ++ added) k d).number k)
-          (new ∷ [])) (ap (λ n. list_any (reaches n k) (new ∷ [])) its ∙ or_left (reaches number k new) false reached)
+          and_from (is_place_of number new) (is_near (length xs) (length bs) k) (eq-eqb number number refl) within in
+          let behind : list_any reach (new ∷ []) ≡ true =
+          ap (λ n. list_any (reaches n k) (new ∷ [])) its ∙ or_left (reaches number k new) false reached in
+          split ∙ or_right (list_any reach ps) (list_any reach (new ∷ [])) behind
     ]
 
 -- a byte that isn't answered, once the store of a number is, is of another number, and was as it is
@@ -280,13 +283,13 @@ moved_reaches number c k (p ∷ ps) h = elim (cases_Bool (reaches number (c + k)
       elim (cases_Bool (is_place_of number p)) [
         | inr f ↦ absurd (false≢true (rw f at e))
         | inl f ↦
-            let by : is_near p.first (c + k) ≡ true = (rw f at e) in
+            let by : is_near p.first p.most (c + k) ≡ true = (rw f at e) in
             rw f (elim (cases_Bool (nat_le p.first (c + k))) [
               | inr g ↦ absurd (false≢true (rw g at by))
               | inl g ↦
                   let low : p.first ≤ c + k = (leb-true p.first (c + k)) g in
-                  let high : c + k < p.first + 64 = (Decides-ltb (c + k) (p.first + 64)).0 (rw g at by) in
-                  near (p.first - c) k (omega arith) (omega arith)
+                  let high : c + k < p.first + p.most = (Decides-ltb (c + k) (p.first + p.most)).0 (rw g at by) in
+                  near (p.first - c) p.most k (omega arith) (omega arith)
             ])
       ]
       )
@@ -304,4 +307,4 @@ pub not_moved : (c : ℕ) (ps : List StorePlace) → c ≡ 0 → ps ≡ map (mov
 not_moved c [] e = refl
 not_moved c (p ∷ ps) e =
     let same : p.first ≡ p.first - c = omega arith in
-    ap₂ (λ (n : ℕ) (qs : List StorePlace). (record { number = p.number; first = n }) ∷ qs) same (not_moved c ps e)
+    ap₂ (λ (n : ℕ) (qs : List StorePlace). (record { number = p.number; first = n; most = p.most }) ∷ qs) same (not_moved c ps e)

@@ -1,7 +1,7 @@
 -- A log is of the history whose events it notes, and says true reasons.
 use Rattle.std.proofs.Common.{◌≡◌, ℕ, ◌+◌, ◌-◌, ◌<◌, ◌≤◌, ◌==◌, ◌&&◌, ◌↔◌, if◌then◌else◌, Bool, true, false, List, [], drop, length, Option, Some, None, inl, inr, refl, sym, ◌∙◌, ap, subst, arith, length-drop, length-append}
-use Rattle.std.specs.Prelude.{nat_le, nat_lt, IfSome}
-use Rattle.std.proofs.lemmas.Bool.{cases_Bool, false≢true, leb-true, ltb-false, ne_eqb}
+use Rattle.std.specs.Prelude.{nat_lt, IfSome}
+use Rattle.std.proofs.lemmas.Bool.{cases_Bool, ltb-false, ne_eqb}
 use Rattle.std.proofs.lemmas.Bool.Decides.{Decides-ltb}
 use Rattle.std.proofs.lemmas.List.{drop-map, drop-append-le, drop-drop, length-map}
 use Rattle.std.proofs.lemmas.Nat.{div-add-mod'}
@@ -12,13 +12,13 @@ use Rattle.memory_histories.specs.declared.events.Rest.TheVariants.{Unknown}
 use Rattle.memory_histories.specs.declared.windows.StoreByte.{StoreByte}
 use Rattle.memory_histories.specs.declared.windows.LoadByte.{LoadByte}
 use Rattle.memory_histories.specs.Windows.{Windows, opening, windows_after, store_bytes, after_response}
-use Rattle.memory_histories.specs.Regular.{MayReturn, is_inside}
+use Rattle.memory_histories.specs.Regular.{MayReturn}
 use Rattle.history_reasons.specs.declared.log.StoreLog.{StoreLog}
 use Rattle.history_reasons.specs.declared.places.StorePlace.{StorePlace}
 use Rattle.history_reasons.specs.declared.Reason.{Reason}
 use Rattle.history_reasons.specs.declared.Reason.TheVariants.{NeverThere, InitialOverwritten, StoreOverwritten}
 use Rattle.history_reasons.specs.Reasons.{HasReason, Stores, Overwrote, last_reason}
-use Rattle.history_reasons.specs.Log.{IsLogOf, is_within, noted_stores, noted_loads, told_stores, noted_places, IsNoted, IsCounted, IsShortened, forgotten, left_stores, has_all, of_store, part_reason, kept_reason, told_reason, IsTrueOf}
+use Rattle.history_reasons.specs.Log.{IsLogOf, noted_stores, noted_loads, told_stores, noted_places, IsNoted, IsCounted, IsShortened, forgotten, left_stores, has_all, of_store, part_reason, kept_reason, told_reason, IsTrueOf}
 use Rattle.history_reasons.specs.Places.{AreFound}
 use Rattle.history_reasons.proofs.Found.{all_ended, none_found, request_found, answer_found, rest_found}
 use Rattle.history_reasons.proofs.Reasons.{last_behind, reason_law}
@@ -131,27 +131,18 @@ told_noted ps xs moment (StoreRequest number address bytes enables) h = refl
 told_noted ps xs moment (LoadRequest number address n) h = refl
 told_noted ps xs moment (LoadResponse number bytes) h = refl
 
-most_bytes : (address n : ℕ) → is_inside address n ≡ true → n ≤ 64
-most_bytes address n h = elim (cases_Bool (nat_le n 64)) [
-  | inl e ↦ leb-true n 64 e
-  | inr e ↦ elim (cases_Bool (nat_le 1 n)) [
-    | inl f ↦ absurd (false≢true (rw (e, f) at h))
-    | inr f ↦ absurd (false≢true (rw f at h))
-  ]
-]
-
-still_found : (ps : List StorePlace) (xs : List StoreByte) (moment : ℕ) (event : HistoryEvent) → is_within event ≡ true → AreFound ps xs
+still_found : (ps : List StorePlace) (xs : List StoreByte) (moment : ℕ) (event : HistoryEvent) → AreFound ps xs
     → AreFound (noted_places ps xs event) (noted_stores xs moment event)
-still_found ps xs moment (StoreRequest number address bytes enables) i h =
-    request_found ps xs number address bytes.now enables moment (most_bytes address (length bytes.now) i) h
-still_found ps xs moment (StoreResponse number) i h = answer_found ps xs number moment h
-still_found ps xs moment (LoadRequest number address n) i h = h
-still_found ps xs moment (LoadResponse number bytes) i h = h
+still_found ps xs moment (StoreRequest number address bytes enables) h =
+    request_found ps xs number address bytes.now enables moment h
+still_found ps xs moment (StoreResponse number) h = answer_found ps xs number moment h
+still_found ps xs moment (LoadRequest number address n) h = h
+still_found ps xs moment (LoadResponse number bytes) h = h
 
 -- an event is noted, too many stores are forgotten, and it is counted
-pub noted : (g m f h : StoreLog) (w : Windows) (event : HistoryEvent) → w.moment < 18446744073709551615 → is_within event ≡ true → IsLogOf g w
-    → IsNoted g event m → IsShortened m f → IsCounted f h → IsLogOf h (windows_after w event)
-noted g m f h w event few inside k n s c =
+pub noted : (g m f h : StoreLog) (w : Windows) (event : HistoryEvent) → w.moment < 18446744073709551615 → IsLogOf g w → IsNoted g event m
+    → IsShortened m f → IsCounted f h → IsLogOf h (windows_after w event)
+noted g m f h w event few k n s c =
     let its : m.stores.items ≡ noted_stores g.stores.items g.moment event =
     n.stores ∙ told_noted g.places.items g.stores.items g.moment event k.found in
     let now : noted_stores g.stores.items g.moment event ≡ noted_stores (left_stores w.stores) w.moment event =
@@ -166,7 +157,7 @@ noted g m f h w event few inside k n s c =
     let places : m.places.items ≡ noted_places g.places.items g.stores.items event = n.places in
     let found : AreFound m.places.items m.stores.items =
     subst (AreFound m.places.items) (sym its) (subst (λ ps. AreFound ps (noted_stores g.stores.items g.moment event)) (sym places)
-    (still_found g.places.items g.stores.items g.moment event inside k.found)) in
+    (still_found g.places.items g.stores.items g.moment event k.found)) in
     let left : AreFound f.places.items f.stores.items =
     subst (AreFound f.places.items) (sym s.stores) (subst (λ ps. AreFound ps (left_stores m.stores.items)) (sym s.places)
     (rest_found m.places.items m.stores.items (forgotten (length m.stores.items)) found)) in

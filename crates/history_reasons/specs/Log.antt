@@ -72,7 +72,7 @@ told_stores places stores moment event = noted_stores stores moment event
 
 abbrev pub noted_places : List StorePlace → List StoreByte → HistoryEvent → List StorePlace
 noted_places places stores (StoreRequest number address bytes enables) =
-    places ++ (record { number = number; first = length stores }) ∷ []
+    places ++ (record { number = number; first = length stores; most = length bytes.now }) ∷ []
 noted_places places stores (StoreResponse number) = filter (λ p. not (is_place_of number p)) places
 noted_places places stores event = places
 

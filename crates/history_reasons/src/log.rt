@@ -135,7 +135,12 @@ impl StoreLog {
         ensures { IsNoted self.old (StoreRequest number address bytes.entry enables) self.new }
     {
         let first = self.stores.len();
-        self.places.push_reserved(StorePlace { number, first });
+        let most = bytes.len();
+        self.places.push_reserved(StorePlace {
+            number,
+            first,
+            most,
+        });
         let moment = self.moment;
         add_store(&mut self.stores, number, address, bytes, enables, moment);
     }

@@ -5,13 +5,14 @@ ghost use Rattle.std.specs.List.{filter};
 ghost use Rattle.memory_histories.specs.Windows.{after_response};
 ghost use Rattle.history_reasons.specs.Places.{is_place_of, ended_from, ended_at, moved_down};
 
-use memory_histories::{MAX_LENGTH, StoreByte};
+use memory_histories::StoreByte;
 
-/// An open store: its bytes are among the 64 from this place on.
+/// An open store: its bytes are among so many from this place on.
 #[derive(Clone, Copy, PartialEq, Eq, Debug)]
 pub struct StorePlace {
     pub(crate) number: u64,
     pub(crate) first: usize,
+    pub(crate) most: usize,
 }
 
 // Whether it is of a store that is open under this number.
@@ -28,17 +29,17 @@ pub(crate) fn end_at(stores: &mut [StoreByte], places: &[StorePlace], number: u6
 {
     for place in places {
         if is_place_of(place, number) {
-            end_from(stores, place.first, number, moment);
+            end_from(stores, *place, number, moment);
         }
     }
 }
 
-// Of the 64 bytes from a place on those whose store is open under this number are answered at this moment.
-fn end_from(stores: &mut [StoreByte], first: usize, number: u64, moment: u64)
-    ensures { stores.new ≡ ended_from first number moment stores.old }
+// Of the bytes at a place those whose store is open under this number are answered at this moment.
+fn end_from(stores: &mut [StoreByte], place: StorePlace, number: u64, moment: u64)
+    ensures { stores.new ≡ ended_from place number moment stores.old }
 {
-    let from = first.min(stores.len());
-    let count = MAX_LENGTH.min(stores.len() - from);
+    let from = place.first.min(stores.len());
+    let count = place.most.min(stores.len() - from);
     end_store(&mut stores[from..from + count], number, moment);
 }
 
@@ -87,5 +88,6 @@ fn moved_down(place: StorePlace, count: usize) -> StorePlace
     StorePlace {
         number: place.number,
         first: place.first.saturating_sub(count),
+        most: place.most,
     }
 }
