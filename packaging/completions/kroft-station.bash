@@ -6,6 +6,7 @@ _kroft_station() {
     --ports) COMPREPLY=($(compgen -W '' -- "$word")); return ;;
     --asks) COMPREPLY=($(compgen -W '' -- "$word")); return ;;
     --seed) COMPREPLY=($(compgen -W '' -- "$word")); return ;;
+    --journal) COMPREPLY=($(compgen -f -- "$word")); return ;;
     --stations) COMPREPLY=($(compgen -W '' -- "$word")); return ;;
   esac
   for ((k = 1; k < COMP_CWORD; k++)); do

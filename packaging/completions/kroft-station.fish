@@ -5,7 +5,7 @@ complete -c kroft-station -n __fish_use_subcommand -a rates -d 'Tell how many as
 complete -c kroft-station -n '__fish_use_subcommand' -l ports -x -d 'How many ports ask, 1 to 16 [default: 4]'
 complete -c kroft-station -n '__fish_use_subcommand' -l asks -x -d 'How often each port asks [default: 12]'
 complete -c kroft-station -n '__fish_use_subcommand' -l seed -x -d 'What the numbers and scripts are drawn by [default: 1]'
-complete -c kroft-station -n '__fish_use_subcommand' -l journal -d 'Write the journal alone, as a recorded run'
+complete -c kroft-station -n '__fish_use_subcommand' -l journal -r -F -d 'Write the journal, as a recorded run, into a file; or alone, without a name'
 complete -c kroft-station -n '__fish_use_subcommand' -l help -s h -d 'Print help'
 complete -c kroft-station -n '__fish_use_subcommand' -l version -s V -d 'Print version'
 complete -c kroft-station -n '__fish_seen_subcommand_from soak' -l stations -x -d 'How many stations are run [default: 4]'

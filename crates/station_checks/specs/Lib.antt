@@ -1,3 +1,4 @@
 pub mod Scripts
+pub mod Drawn
 pub mod Checks
 pub mod Texts

@@ -1,11 +1,12 @@
 //! What is found of a station behind its run.
-ghost use Rattle.std.specs.Prelude.{◌≡◌, ◌↔◌, ◌∷◌, [], true, IfOk};
+ghost use Rattle.std.specs.Prelude.{◌≡◌, ◌↔◌, ◌∷◌, [], true, false, is_some, Some, IfOk, OnErr};
+ghost use Rattle.flat_model.specs.Memory.{shown};
 ghost use Rattle.station_journal.specs.Journal.{events_of, answers_of};
 ghost use Rattle.station_journal.specs.Parts.{told_of};
 ghost use Rattle.station_parts.specs.Words.{held_of};
-ghost use Rattle.station_checks.specs.Checks.{is_flat, AreTold, told_list};
+ghost use Rattle.station_checks.specs.Checks.{flat_after, is_flat, AreTold, told_list};
 
-use flat_model::{Answer, Event, FlatMemory, ReplayFault, Word};
+use flat_model::{Answer, Event, FlatMemory, ReplayFault};
 use station_journal::{Entry, Source, Told};
 use station_parts::{CacheSide, PORT_TAGS};
 use std::alloc::{AllocError, Global};
@@ -31,9 +32,25 @@ pub fn read_journal<const WAYS: usize, const WORDS: usize, const REGS: usize, co
 pub fn is_flat(alloc: Global, journal: &[Entry], words: u32) -> Result<bool, AllocError>
     ensures { IfOk result (λ found. found ≡ is_flat words journal.now) }
 {
+    let mut memory = FlatMemory::zeros(alloc, words)?;
+    goes_on(alloc, &mut memory, journal)
+}
+
+/// Whether the events and answers of a journal are a run of flat memory from this one on, which then is as
+/// the journal leaves it; else it is as it was. So journals that stand one behind the other are judged one
+/// by one. `AllocError` says that there was too little memory, and then it is as it was too.
+pub fn goes_on(
+    alloc: Global,
+    memory: &mut FlatMemory,
+    journal: &[Entry],
+) -> Result<bool, AllocError>
+    ensures found { IfOk result (λ found. found ≡ is_some (flat_after (shown memory.old) journal.now)) }
+    ensures moved { IfOk result (λ found. found ≡ true
+        → flat_after (shown memory.old) journal.now ≡ Some (shown memory.new)) }
+    ensures kept { IfOk result (λ found. found ≡ false → shown memory.new ≡ shown memory.old) }
+    ensures unmoved { OnErr result (shown memory.new ≡ shown memory.old) }
+{
     let (events, answers) = pairs_in(alloc, journal)?;
-    let zeros = vec![in alloc; Word::default(); words as usize]?;
-    let mut memory = FlatMemory::new(alloc, &zeros)?;
     match memory.replay(alloc, &events, &answers) {
         Ok(()) => Ok(true),
         Err(ReplayFault::Lengths) => Ok(false),

@@ -1,9 +1,11 @@
 //! What is found of a station behind its run, and what it comes to.
-ghost use Rattle.std.specs.Prelude.{◌≡◌, ◌≢◌, ◌↔◌, true, Some, None, IfOk};
+ghost use Rattle.std.specs.Prelude.{◌≡◌, ◌≢◌, ◌↔◌, true, is_some, Some, None, IfOk};
+ghost use Rattle.flat_model.specs.Memory.{shown};
 ghost use Rattle.std.specs.Option.{option_map};
-ghost use Rattle.station_checks.specs.Checks.{is_flat, FindsTold};
+ghost use Rattle.station_checks.specs.Checks.{flat_after, is_flat, FindsTold};
 
-use crate::checks::{are_told, is_flat};
+use crate::checks::{are_told, goes_on, is_flat};
+use flat_model::FlatMemory;
 use station_journal::{Entry, Told};
 use station_parts::Audit;
 use std::alloc::{AllocError, Global};
@@ -53,6 +55,31 @@ impl Findings {
             audit,
             is_flat: is_flat(alloc, journal, words)?,
             are_told,
+        })
+    }
+
+    /// What is found of a journal that goes on from this memory, and of the lists that the ports took
+    /// meanwhile, beside what the audit found. The memory is then as the journal leaves it, if it is flat.
+    /// `AllocError` says that there was too little memory.
+    pub fn of_segment(
+        alloc: Global,
+        audit: Audit,
+        journal: &[Entry],
+        memory: &mut FlatMemory,
+        lists: &[Vec<Told>],
+    ) -> Result<Findings, AllocError>
+        ensures audit { IfOk result (λ found. found.audit ≡ audit) }
+        ensures flat { IfOk result
+            (λ found. found.is_flat ≡ is_some (flat_after (shown memory.old) journal.now)) }
+        ensures moved { IfOk result (λ found. found.is_flat ≡ true
+            → flat_after (shown memory.old) journal.now ≡ Some (shown memory.new)) }
+        ensures told { IfOk result (λ found. FindsTold journal.now (Some lists.now) found.are_told) }
+    {
+        let are_told = are_told(alloc, journal, lists)?;
+        Ok(Findings {
+            audit,
+            is_flat: goes_on(alloc, memory, journal)?,
+            are_told: Some(are_told),
         })
     }
 

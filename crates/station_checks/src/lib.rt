@@ -3,15 +3,19 @@
 #![tactic(auto)]
 
 mod checks;
+mod drawing;
 mod findings;
 mod lines;
 mod plan;
 mod story;
 
-pub use checks::{are_told, is_flat, read_journal};
+pub use checks::{are_told, goes_on, is_flat, read_journal};
+pub use drawing::ScriptParts;
 pub use findings::{Findings, Outcome};
 pub use lines::{AskText, EntryText, ToldText};
 pub use plan::{
     BLOCK_WORDS, DEPTH, ENTRIES, MOST_PORTS, Plan, REGS, WAYS, WORDS, ask_by, bytes_of, shape,
 };
-pub use story::{per_second, tell_journal, tell_run, tell_story};
+pub use story::{
+    Tally, per_second, tell_findings, tell_journal, tell_ports, tell_progress, tell_run, tell_story,
+};

@@ -1,16 +1,13 @@
 //! What the ports of a tour ask, made from a seed.
-ghost use Rattle.std.specs.Prelude.{◌≡◌, ◌≤◌, ◌<◌, true, IfOk, vec_len};
-ghost use Rattle.std.specs.List.{All};
+ghost use Rattle.std.specs.Prelude.{◌≡◌, ◌≤◌, ◌<◌, true};
 ghost use Rattle.station_journal.specs.Conversation.{is_request};
 ghost use Rattle.station_parts.specs.declared.make.TheConstants.{MAX_PORTS};
-ghost use Rattle.station_checks.specs.Scripts.{AreRequests};
 
 use flat_model::{Lanes, Shape, Word};
 use rand_core::utils::NextWord;
 use rand_pcg::Pcg32;
 use station_journal::Ask;
 use station_parts::{MAX_ENTRIES, MAX_PORTS, PORT_TAGS};
-use std::alloc::{AllocError, Global};
 
 /// Words of a block.
 pub const BLOCK_WORDS: usize = 4;
@@ -71,35 +68,11 @@ impl Plan {
             seed,
         }
     }
-
-    /// The script of each port, in the order of their numbers. `AllocError`: too little memory.
-    pub fn scripts(&self, alloc: Global) -> Result<Vec<Vec<Ask>>, AllocError>
-        ensures number { IfOk result (λ scripts. vec_len scripts ≡ self.now.ports) }
-        ensures requests { IfOk result (λ scripts. All (λ s. AreRequests s.items) scripts.items) }
-    {
-        let mut scripts = Vec::new(alloc);
-        for port in 0..self.ports {
-            scripts.push(self.script(alloc, port)?)?;
-        }
-        Ok(scripts)
-    }
-
-    fn script(&self, alloc: Global, port: u32) -> Result<Vec<Ask>, AllocError>
-        requires { port < MAX_PORTS }
-        ensures { IfOk result (λ script. AreRequests script.items) }
-    {
-        let mut random = Pcg32::new(self.seed, u64::from(port));
-        let mut asks = Vec::new(alloc);
-        for number in 0..self.asks {
-            asks.push(own_ask(&mut random, port, number))?;
-        }
-        Ok(asks)
-    }
 }
 
-// A port loads and stores words of its own, so what it is told doesn't depend on the others; their
-// blocks it shares with them.
-fn own_ask(random: &mut Pcg32, port: u32, number: u32) -> Ask
+/// A port loads and stores words of its own, so what it is told doesn't depend on the others; their
+/// blocks it shares with them.
+pub(crate) fn own_ask(random: &mut Pcg32, port: u32, number: u32) -> Ask
     requires { port < MAX_PORTS }
     ensures { is_request result ≡ true }
 {

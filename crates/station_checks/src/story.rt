@@ -1,4 +1,5 @@
 //! What a run is told by: what came of each ask, and what was found.
+ghost use Rattle.std.specs.Prelude.{◌≡◌, ◌+◌, length, min};
 
 use crate::findings::Findings;
 use crate::lines::{AskText, EntryText, ToldText};
@@ -20,6 +21,18 @@ pub fn tell_story<W: Write>(
     lists: &[Vec<Told>],
     findings: &Findings,
 ) -> io::Result<()> {
+    tell_ports(out, plan, scripts, lists)?;
+    tell_findings(out, findings)
+}
+
+/// What came of each port's first asks, which stand at the front of these scripts, and how many more
+/// asks the plan has.
+pub fn tell_ports<W: Write>(
+    out: &mut W,
+    plan: &Plan,
+    scripts: &[Vec<Ask>],
+    lists: &[Vec<Told>],
+) -> io::Result<()> {
     let Plan { ports, asks, seed } = *plan;
     writeln!(out, "{ports} ports, {asks} asks each, seed {seed}")?;
     for (port, script) in scripts.iter().enumerate() {
@@ -30,13 +43,15 @@ pub fn tell_story<W: Write>(
             None => &[],
         };
         tell_asks(out, script, list)?;
+        if asks as usize > SHOWN {
+            writeln!(out, "  and {} more", asks as usize - SHOWN)?;
+        }
     }
-    writeln!(out)?;
-    tell_findings(out, findings)
+    writeln!(out)
 }
 
-// What the audit found, and whether the journal is flat.
-fn tell_findings<W: Write>(out: &mut W, findings: &Findings) -> io::Result<()> {
+/// What the audit found, and whether the journal is flat.
+pub fn tell_findings<W: Write>(out: &mut W, findings: &Findings) -> io::Result<()> {
     match findings.audit {
         Audit::Clean => writeln!(
             out,
@@ -62,9 +77,6 @@ fn tell_asks<W: Write>(out: &mut W, script: &[Ask], list: &[Told]) -> io::Result
             (_, None) => writeln!(out, "  {} -> no verdict", AskText(*ask))?,
         }
     }
-    if script.len() > SHOWN {
-        writeln!(out, "  and {} more", script.len() - SHOWN)?;
-    }
     Ok(())
 }
 
@@ -89,33 +101,84 @@ fn value_of(list: &[Told], wanted: u8) -> Option<Told> {
     list.iter().copied().find(|told| matches!(told, Told::Value { tag, .. } if *tag == wanted))
 }
 
-/// What changes from run to run: how the journal ends, how often asks were offered again, and how
-/// many were served a second.
+/// What a run came to so far, whose journal was handed out in segments.
+#[derive(Clone, Copy, PartialEq, Eq, Debug)]
+pub struct Tally {
+    /// How many segments were handed out, each behind an audit that was clean.
+    pub segments: u64,
+    /// Asks that were answered for good, by all ports.
+    pub asks: u64,
+    /// Entries of all segments.
+    pub entries: u64,
+    /// How often an ask was offered again.
+    pub again: u64,
+}
+
+impl Tally {
+    /// Before the first segment.
+    pub fn new() -> Tally
+        ensures { result ≡ record { segments = 0; asks = 0; entries = 0; again = 0 } }
+    {
+        Tally {
+            segments: 0,
+            asks: 0,
+            entries: 0,
+            again: 0,
+        }
+    }
+
+    /// Counts one segment more, of so many asks, in which the ports took these lists. No count goes beyond
+    /// the largest number.
+    pub fn note(&mut self, asks: u64, lists: &[Vec<Told>], journal: &[Entry])
+        ensures segments { self.new.segments ≡ min (self.old.segments + 1) u64.MAX }
+        ensures asks { self.new.asks ≡ min (self.old.asks + asks) u64.MAX }
+        ensures entries { self.new.entries ≡ min (self.old.entries + length journal.now) u64.MAX }
+    {
+        self.segments = self.segments.saturating_add(1);
+        self.asks = self.asks.saturating_add(asks);
+        self.entries = self.entries.saturating_add(journal.len() as u64);
+        self.again = self.again.saturating_add(offered_again(lists));
+    }
+}
+
+/// How far a run is, in one line that takes the place of the one before: how many asks, how many a
+/// second, and how many segments with clean audits.
+pub fn tell_progress<W: Write>(out: &mut W, tally: &Tally, took: Duration) -> io::Result<()> {
+    let Tally { segments, asks, .. } = *tally;
+    let rate = per_second(asks, took);
+    write!(
+        out,
+        "\r{asks} asks, {rate} asks per second, {segments} segments, {segments} audits clean"
+    )?;
+    out.flush()
+}
+
+/// What changes from run to run: how the journal ends, of which this is the last segment, how often
+/// asks were offered again, and how many were served a second.
 pub fn tell_run<W: Write>(
     out: &mut W,
-    plan: &Plan,
+    tally: &Tally,
     journal: &[Entry],
-    lists: &[Vec<Told>],
     took: Duration,
 ) -> io::Result<()> {
     writeln!(
         out,
         "the journal has {} entries, and ends with",
-        journal.len()
+        tally.entries
     )?;
     for entry in journal.iter().skip(journal.len().saturating_sub(SHOWN)) {
         writeln!(out, "  {}", EntryText(*entry))?;
     }
-    writeln!(out, "{} asks were offered again", offered_again(lists))?;
-    let asks = u64::from(plan.ports) * u64::from(plan.asks);
-    writeln!(out, "{} asks per second", per_second(asks, took))
+    writeln!(out, "{} asks were offered again", tally.again)?;
+    writeln!(out, "{} asks per second", per_second(tally.asks, took))
 }
 
 // How many of the tellings are refusals behind which the port offered its ask again.
-fn offered_again(lists: &[Vec<Told>]) -> usize {
-    let mut again: usize = 0;
+fn offered_again(lists: &[Vec<Told>]) -> u64 {
+    let mut again: u64 = 0;
     for list in lists {
-        again = again.saturating_add(list.iter().filter(|told| asks_again(**told)).count());
+        let refused = list.iter().filter(|told| asks_again(**told)).count();
+        again = again.saturating_add(refused as u64);
     }
     again
 }

@@ -7,16 +7,18 @@ use station_parts::MAX_PORTS;
 use std::alloc::{AllocError, Global};
 
 /// What is to be shown of a tour.
-#[derive(Clone, Copy, PartialEq, Eq, Debug)]
+#[derive(PartialEq, Eq, Debug, Drop)]
 pub(crate) enum Show {
     /// What the ports were told, and what the audit found.
     Story,
     /// The journal, as a recorded run.
     Journal,
+    /// The story, and the journal into a file of this name.
+    StoryAndFile(String),
 }
 
 /// What the words of the command line ask for.
-#[derive(Clone, Copy, PartialEq, Eq, Debug)]
+#[derive(PartialEq, Eq, Debug, Drop)]
 pub(crate) enum Job {
     /// The ports of a plan are run, and this is told of them.
     Tour { plan: Plan, show: Show },
@@ -29,6 +31,12 @@ pub(crate) enum Job {
 }
 
 const NAME: &str = "kroft-station";
+
+// The name of a file that stands for standard output.
+const STANDARD_OUTPUT: &str = "-";
+
+// The most asks of a port that are measured.
+const MEASURED_ASKS: i64 = 10_000;
 
 const SOAK: &str = "soak";
 
@@ -47,7 +55,10 @@ Statuses:
   5  there is too little memory, or a thread came to its limit
 
 Example: the journal, judged by the checker
-  $ ./kroft-station --journal | ./kroft check";
+  $ ./kroft-station --journal | ./kroft check
+
+Example: ten million asks of one port
+  $ ./kroft-station --ports 1 --asks 10000000";
 
 const SOAK_NOTES: &str =
     "Standard error has each station in which something wrong was found, and how far a soak is.
@@ -71,11 +82,12 @@ fn flag<'a>(alloc: Global, name: &'a str, help: &'a str) -> Arg<'a> {
         .help(help)
 }
 
-fn asks<'a>(alloc: Global) -> Arg<'a> {
+// How often each port asks, at most so often.
+fn asks<'a>(alloc: Global, most: i64) -> Arg<'a> {
     number(
         alloc,
         "asks",
-        10_000,
+        most,
         "How often each port asks [default: 12]",
     )
 }
@@ -108,11 +120,13 @@ fn ports<'a>(alloc: Global) -> Arg<'a> {
 }
 
 fn journal<'a>(alloc: Global) -> Arg<'a> {
-    flag(
-        alloc,
-        "journal",
-        "Write the journal alone, as a recorded run",
-    )
+    Arg::new(alloc, "journal")
+        .long("journal")
+        .value_name("FILE")
+        .action(ArgAction::Set)
+        .num_args(0..=1)
+        .default_missing_value(STANDARD_OUTPUT)
+        .help("Write the journal, as a recorded run, into a file; or alone, without a name")
 }
 
 fn core_once<'a>(alloc: Global) -> Arg<'a> {
@@ -146,7 +160,7 @@ fn soak_arguments<'a>(alloc: Global) -> Result<Vec<Arg<'a>>, AllocError> {
 
 fn rates_arguments<'a>(alloc: Global) -> Result<Vec<Arg<'a>>, AllocError> {
     let mut args = Vec::new(alloc);
-    push_argument(&mut args, asks(alloc))?;
+    push_argument(&mut args, asks(alloc, MEASURED_ASKS))?;
     push_argument(&mut args, seed(alloc))?;
     push_argument(&mut args, core_once(alloc))?;
     push_argument(&mut args, hand_once(alloc))?;
@@ -156,7 +170,7 @@ fn rates_arguments<'a>(alloc: Global) -> Result<Vec<Arg<'a>>, AllocError> {
 fn tour_arguments<'a>(alloc: Global) -> Result<Vec<Arg<'a>>, AllocError> {
     let mut args = Vec::new(alloc);
     push_argument(&mut args, ports(alloc))?;
-    push_argument(&mut args, asks(alloc))?;
+    push_argument(&mut args, asks(alloc, i64::from(u32::MAX)))?;
     push_argument(&mut args, seed(alloc))?;
     push_argument(&mut args, journal(alloc))?;
     Ok(args)
@@ -217,7 +231,7 @@ pub(crate) fn read_words(alloc: Global, words: &[&str]) -> Result<Job, StationFa
     Ok(match matches.subcommand() {
         Some((SOAK, rest)) => soak_job(rest),
         Some((_, rest)) => rates_job(rest),
-        None => tour_job(&matches),
+        None => tour_job(alloc, &matches)?,
     })
 }
 
@@ -231,17 +245,21 @@ fn seed_of(matches: &ArgMatches<'_>) -> u64 {
     u64::from(matches.get_one::<u32>("seed").unwrap_or(1))
 }
 
-fn tour_job(matches: &ArgMatches<'_>) -> Job {
+fn tour_job(alloc: Global, matches: &ArgMatches<'_>) -> Result<Job, AllocError> {
     let ports = matches.get_one::<u32>("ports").unwrap_or(4);
-    let show = if matches.get_flag("journal") {
-        Show::Journal
-    } else {
-        Show::Story
-    };
-    Job::Tour {
+    Ok(Job::Tour {
         plan: plan_of(ports, matches),
-        show,
-    }
+        show: show_of(alloc, matches.get_str("journal"))?,
+    })
+}
+
+// What is shown, if the journal goes into a file of this name.
+fn show_of(alloc: Global, journal: Option<&str>) -> Result<Show, AllocError> {
+    Ok(match journal {
+        None => Show::Story,
+        Some(STANDARD_OUTPUT) => Show::Journal,
+        Some(name) => Show::StoryAndFile(String::from_str(alloc, name)?),
+    })
 }
 
 fn soak_job(matches: &ArgMatches<'_>) -> Job {

@@ -1,7 +1,7 @@
 //! Why the program ends without having told all.
 
 use flat_model::MakeFault;
-use ring_station::RunFault;
+use ring_station::{RenewFault, RunFault, SegmentFault};
 use std::alloc::AllocError;
 use std::error::Error;
 use std::{fmt, io};
@@ -15,6 +15,8 @@ pub(crate) enum StationFault {
     Shape,
     /// A thread came to its limit, or the journal was full.
     TurnLimit,
+    /// The station couldn't go on with a new journal.
+    Renewal(RenewFault),
     /// A stream or the clock failed.
     Io(io::Error),
     /// There was too little memory.
@@ -34,6 +36,7 @@ impl fmt::Display for StationFault {
             StationFault::CommandLine(fault) => write!(f, "{fault}"),
             StationFault::Shape => f.write_str("the shape is out of range"),
             StationFault::TurnLimit => f.write_str("turn limit"),
+            StationFault::Renewal(fault) => write!(f, "{fault}"),
             StationFault::Io(fault) => write!(f, "{fault}"),
             StationFault::OutOfMemory => f.write_str("out of memory"),
         }
@@ -44,10 +47,11 @@ impl StationFault {
     /// The status with which the program ends.
     pub(crate) fn status(&self) -> u8 {
         match self {
+            StationFault::Renewal(RenewFault::NotClean(_)) => 1,
             StationFault::CommandLine(_) => 2,
             StationFault::Shape => 3,
             StationFault::Io(_) => 4,
-            StationFault::TurnLimit | StationFault::OutOfMemory => 5,
+            StationFault::TurnLimit | StationFault::Renewal(_) | StationFault::OutOfMemory => 5,
         }
     }
 }
@@ -84,6 +88,16 @@ impl From<RunFault> for StationFault {
         match fault {
             RunFault::TurnLimit => StationFault::TurnLimit,
             RunFault::OutOfMemory => StationFault::OutOfMemory,
+        }
+    }
+}
+
+impl From<SegmentFault> for StationFault {
+    fn from(fault: SegmentFault) -> StationFault {
+        match fault {
+            SegmentFault::Run(fault) => StationFault::from(fault),
+            SegmentFault::Renewal(RenewFault::OutOfMemory) => StationFault::OutOfMemory,
+            SegmentFault::Renewal(fault) => StationFault::Renewal(fault),
         }
     }
 }

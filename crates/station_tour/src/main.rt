@@ -9,17 +9,22 @@ mod rates;
 mod soak;
 mod tour;
 
-use crate::command_line::{Job, read_words};
+use crate::command_line::{Job, Show, read_words};
 use crate::fault::StationFault;
 use crate::rates::{serve_once, tell_rates};
 use crate::soak::soak;
-use crate::tour::tour;
+use crate::tour::{Pages, tour};
 use clap::error::ErrorKind;
+use station_checks::Plan;
 use std::io::{BufWriter, Print, Write};
 use std::process::ExitCode;
-use std::rt::{Clock, Env};
+use std::rt::{Clock, Env, Files};
+use std::sync::Wait;
 use std::thread::Threads;
-use std::{env, io};
+use std::{env, fs, io};
+
+// Set by the launcher where standard error is a terminal.
+const PROGRESS: &str = "KROFT_PROGRESS";
 
 fn main(rt: HostRuntime) -> ExitCode {
     let status = match start(&rt, &rt.stderr()) {
@@ -41,7 +46,7 @@ fn main(rt: HostRuntime) -> ExitCode {
 }
 
 // Does what the command line asks for. The status is 1 if something wrong was found.
-fn start<R: AllocGlobal + Clock + Env + Print + Threads + Sync, E: Print>(
+fn start<R: AllocGlobal + Clock + Env + Files + Print + Threads + Wait + Sync, E: Print>(
     rt: &R,
     errors: &E,
 ) -> Result<u8, StationFault> {
@@ -65,7 +70,7 @@ fn asked_for<R: AllocGlobal + Env>(rt: &R) -> Result<Job, StationFault> {
 }
 
 // Does a job. Says whether nothing wrong was found.
-fn done<R: AllocGlobal + Clock + Threads + Sync, W: Write, E: Print>(
+fn done<R: AllocGlobal + Clock + Env + Files + Threads + Wait + Sync, W: Write, E: Print>(
     rt: &R,
     output: &mut W,
     errors: &E,
@@ -73,9 +78,37 @@ fn done<R: AllocGlobal + Clock + Threads + Sync, W: Write, E: Print>(
 ) -> Result<bool, StationFault> {
     let mut errors = io::writer(errors);
     match job {
-        Job::Tour { plan, show } => tour(rt, output, &mut errors, plan, *show),
+        Job::Tour { plan, show } => show_tour(rt, output, &mut errors, plan, show),
         Job::Soak { stations, seed } => soak(rt, output, &mut errors, *stations, *seed),
         Job::Rates { plan } => tell_rates(rt, output, plan),
         Job::Once { plan, server } => serve_once(rt, *server, plan),
+    }
+}
+
+// Makes a tour, and shows of it what is asked for.
+fn show_tour<R: AllocGlobal + Clock + Env + Files + Threads + Sync, W: Write, E: Write>(
+    rt: &R,
+    output: &mut W,
+    errors: &mut E,
+    plan: &Plan,
+    show: &Show,
+) -> Result<bool, StationFault> {
+    let alloc = rt.alloc();
+    let pages = Pages {
+        story: *show != Show::Journal,
+        journal: *show != Show::Story,
+        progress: env::var(rt, PROGRESS).is_ok(),
+    };
+    // What isn't shown isn't written there either.
+    let mut nowhere: Vec<u8> = Vec::new(alloc);
+    match show {
+        Show::Story => tour(rt, output, &mut nowhere, errors, plan, pages),
+        Show::Journal => tour(rt, &mut nowhere, output, errors, plan, pages),
+        Show::StoryAndFile(name) => {
+            let mut file = BufWriter::new(alloc, fs::create(rt, name.as_str())?)?;
+            let is_good = tour(rt, output, &mut file, errors, plan, pages)?;
+            file.flush()?;
+            Ok(is_good)
+        }
     }
 }

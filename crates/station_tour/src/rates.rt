@@ -4,11 +4,13 @@ ghost use Rattle.std.specs.Prelude.{◌≡◌, ◌≤◌, IfOk, length, vec_len}
 
 mod by_core;
 mod by_hand;
+mod by_mutex;
 mod on_threads;
 
 use crate::fault::StationFault;
 use crate::rates::by_core::ask_core;
 use crate::rates::by_hand::ask_by_hand;
+use crate::rates::by_mutex::ask_behind_mutex;
 use crate::rates::on_threads::ask_on_threads;
 use rand_core::utils::NextWord;
 use rand_pcg::Pcg32;
@@ -19,6 +21,7 @@ use std::alloc::{AllocError, Global};
 use std::fmt::{Display, Formatter};
 use std::io::Write;
 use std::rt::Clock;
+use std::sync::Wait;
 use std::thread::Threads;
 use std::time::{Duration, Instant};
 use std::{fmt, io};
@@ -28,8 +31,11 @@ const RUNS: u32 = 9;
 
 // Each is run once before any of them is run again, so that a machine that is slow for a while is slow
 // for all.
-const SERVERS: [Server; 7] = [
+const SERVERS: [Server; 10] = [
     Server::Core,
+    Server::Mutex { threads: 2 },
+    Server::Mutex { threads: 4 },
+    Server::Mutex { threads: 8 },
     Server::Hand,
     Server::Threads { ports: 1 },
     Server::Threads { ports: 2 },
@@ -43,6 +49,8 @@ const SERVERS: [Server; 7] = [
 pub(crate) enum Server {
     /// The core, moved by its driver, on one thread.
     Core,
+    /// The core behind a lock, asked by so many threads that share the requests.
+    Mutex { threads: u32 },
     /// A station with one port, stepped by hand on one thread.
     Hand,
     /// A station on threads, with so many ports that share the requests.
@@ -58,6 +66,7 @@ impl Display for Server {
     fn fmt<W: fmt::Write>(&self, f: &mut Formatter<W>) -> fmt::Result {
         match *self {
             Server::Core => f.write_str("core"),
+            Server::Mutex { threads } => write!(f, "core behind a mutex, {threads} threads"),
             Server::Hand => f.write_str("station by hand"),
             Server::Threads { ports: 1 } => f.write_str("station on threads, 1 port"),
             Server::Threads { ports } => write!(f, "station on threads, {ports} ports"),
@@ -99,7 +108,7 @@ impl Timing {
 }
 
 /// Tells how many asks a second each server serves. Says whether each audit was clean.
-pub(crate) fn tell_rates<R: AllocGlobal + Clock + Threads + Sync, W: Write>(
+pub(crate) fn tell_rates<R: AllocGlobal + Clock + Threads + Wait + Sync, W: Write>(
     rt: &R,
     out: &mut W,
     plan: &Plan,
@@ -122,7 +131,7 @@ fn tell_medians<W: Write>(out: &mut W, count: u64, timings: &mut [Timing]) -> io
 }
 
 // Runs the servers in turn, each so often as is wanted. Says whether all went well.
-fn run_all<R: AllocGlobal + Clock + Threads + Sync>(
+fn run_all<R: AllocGlobal + Clock + Threads + Wait + Sync>(
     rt: &R,
     timings: &mut [Timing],
     requests: &[Ask],
@@ -135,7 +144,7 @@ fn run_all<R: AllocGlobal + Clock + Threads + Sync>(
 }
 
 // Runs each server once. Says whether all went well.
-fn run_each<R: AllocGlobal + Clock + Threads + Sync>(
+fn run_each<R: AllocGlobal + Clock + Threads + Wait + Sync>(
     rt: &R,
     timings: &mut [Timing],
     requests: &[Ask],
@@ -150,7 +159,7 @@ fn run_each<R: AllocGlobal + Clock + Threads + Sync>(
 }
 
 /// Serves the requests once. Says whether the audit, if there is one, was clean.
-pub(crate) fn serve_once<R: AllocGlobal + Clock + Threads + Sync>(
+pub(crate) fn serve_once<R: AllocGlobal + Clock + Threads + Wait + Sync>(
     rt: &R,
     server: Server,
     plan: &Plan,
@@ -159,7 +168,7 @@ pub(crate) fn serve_once<R: AllocGlobal + Clock + Threads + Sync>(
     serve(rt, server, &requests)
 }
 
-fn serve<R: AllocGlobal + Clock + Threads + Sync>(
+fn serve<R: AllocGlobal + Clock + Threads + Wait + Sync>(
     rt: &R,
     server: Server,
     requests: &[Ask],
@@ -167,6 +176,10 @@ fn serve<R: AllocGlobal + Clock + Threads + Sync>(
     let alloc = rt.alloc();
     match server {
         Server::Core => ask_core(alloc, requests),
+        Server::Mutex { threads } => {
+            let scripts = share(alloc, requests, &Plan::new(threads, 0, 0))?;
+            ask_behind_mutex(rt, &scripts)
+        }
         Server::Hand => ask_by_hand(alloc, requests),
         Server::Threads { ports } => {
             let plan = Plan::new(ports, 0, 0);

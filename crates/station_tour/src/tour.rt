@@ -1,16 +1,18 @@
-//! A tour: the ports of a plan on threads over one cache, and what is told of them.
+//! A tour: the ports of a plan on threads over one cache, and what is told of them. A long one is cut
+//! into segments, behind each of which the station is renewed.
 
-ghost use Rattle.std.specs.Prelude.{◌≡◌, length, vec_len};
+ghost use Rattle.std.specs.Prelude.{◌≡◌, ◌<◌, length, vec_len};
 ghost use Rattle.station_parts.specs.Station.{AreOneStation};
 
-use crate::command_line::Show;
 use crate::fault::StationFault;
 use crate::patience::PatientGate;
-use ring_station::{Ask, Audit, Entry, Station, Told, audit, run_threads, station};
+use flat_model::FlatMemory;
+use ring_station::{Ask, Audit, Segment, Station, run_and_renew, station};
 use station_checks::{
-    BLOCK_WORDS, DEPTH, ENTRIES, Findings, Outcome, Plan, REGS, WAYS, WORDS, read_journal, shape,
-    tell_journal, tell_run, tell_story,
+    BLOCK_WORDS, DEPTH, ENTRIES, Findings, Outcome, Plan, REGS, ScriptParts, Tally, WAYS, WORDS,
+    shape, tell_findings, tell_journal, tell_ports, tell_progress, tell_run,
 };
+use std::alloc::{AllocError, Global};
 use std::io;
 use std::io::Write;
 use std::rt::Clock;
@@ -25,84 +27,153 @@ const TURNS: u64 = 100_000_000;
 // cache side and the banks to pass, and each offer that comes too early fills the journal.
 const PATIENCE: u32 = 200;
 
+// Asks of all ports between two renewals. A journal takes sixteen times as many entries, and an ask
+// makes four to six: so there is room for many that are offered again.
+const ASKS_OF_A_SEGMENT: u32 = 65_536;
+
 type TourStation = Station<WAYS, BLOCK_WORDS, REGS, DEPTH>;
 
-// What a run left.
+/// What is written of a tour, beside what changes from run to run.
+#[derive(Clone, Copy, PartialEq, Eq, Debug)]
+pub(crate) struct Pages {
+    /// What the ports were told, and what the audit found.
+    pub(crate) story: bool,
+    /// The journal, as a recorded run.
+    pub(crate) journal: bool,
+    /// How far the tour is, behind each segment.
+    pub(crate) progress: bool,
+}
+
+// What is known of a tour behind a segment.
 #[derive(Drop)]
-struct Ran {
-    // What each port took.
-    lists: Vec<Vec<Told>>,
-    audit: Audit,
-    journal: Vec<Entry>,
+struct Course {
+    // Memory as the journals so far leave it.
+    memory: FlatMemory,
+    tally: Tally,
     // How long the threads ran.
     took: Duration,
 }
 
-/// Runs the ports on threads, and tells of it. Says whether the audit is clean, the journal is flat,
-/// and each port's list is the journal's part of it.
-pub(crate) fn tour<R: AllocGlobal + Clock + Threads + Sync, W: Write, E: Write>(
+/// Runs the ports on threads, and tells of it. Says whether each audit is clean, the journal is flat,
+/// and each port's list is the journal's part of it. A segment of which that isn't so is the last.
+pub(crate) fn tour<R: AllocGlobal + Clock + Threads + Sync, S: Write, J: Write, E: Write>(
     rt: &R,
-    output: &mut W,
+    story: &mut S,
+    journal: &mut J,
     errors: &mut E,
     plan: &Plan,
-    show: Show,
+    pages: Pages,
 ) -> Result<bool, StationFault> {
-    let scripts = plan.scripts(rt.alloc())?;
-    let ran = run_on_threads(rt, plan, &scripts)?;
-    let findings = Findings::of_run(rt.alloc(), ran.audit, &ran.journal, WORDS, Some(&ran.lists))?;
-    tell(output, plan, show, &scripts, &ran, &findings)?;
-    tell_run(errors, plan, &ran.journal, &ran.lists, ran.took)?;
-    Ok(findings.outcome() == Outcome::Good)
-}
-
-// Tells what is to be shown of a run, to its end.
-fn tell<W: Write>(
-    output: &mut W,
-    plan: &Plan,
-    show: Show,
-    scripts: &[Vec<Ask>],
-    ran: &Ran,
-    findings: &Findings,
-) -> io::Result<()> {
-    match show {
-        Show::Story => tell_story(output, plan, scripts, &ran.lists, findings)?,
-        Show::Journal => tell_journal(output, &ran.journal)?,
+    let alloc = rt.alloc();
+    let mut station: TourStation = station(alloc, shape(), plan.ports, ENTRIES)?;
+    let mut parts = ScriptParts::new(alloc, plan)?;
+    let mut course = Course {
+        memory: FlatMemory::zeros(alloc, WORDS)?,
+        tally: Tally::new(),
+        took: Duration::ZERO,
+    };
+    let gate = PatientGate::new(alloc, PATIENCE)?;
+    for _segment in 0..plan.asks {
+        let scripts = parts.next(alloc, asks_of_a_port(plan))?;
+        let segment = run_segment(rt, &mut station, &scripts, &gate, &mut course)?;
+        if pages.story && course.tally.segments == 0 {
+            tell_ports(story, plan, &scripts, &segment.lists)?;
+        }
+        let findings = look_at(alloc, &scripts, &segment, &mut course)?;
+        tell_segment(journal, errors, pages, &segment, &course)?;
+        if parts.left() == 0 || findings.outcome() != Outcome::Good {
+            tell_end(story, errors, pages, &segment, &course, &findings)?;
+            return Ok(findings.outcome() == Outcome::Good);
+        }
     }
-    output.flush()
+    Ok(true)
 }
 
-// Runs the scripts on threads over a new station.
-fn run_on_threads<R: AllocGlobal + Clock + Threads + Sync>(
-    rt: &R,
-    plan: &Plan,
-    scripts: &[Vec<Ask>],
-) -> Result<Ran, StationFault>
-    requires { length scripts.now ≡ plan.now.ports }
+// How many asks of a port there are between two renewals.
+fn asks_of_a_port(plan: &Plan) -> u32
+    ensures { 0 < result }
 {
-    let mut station: TourStation = station(rt.alloc(), shape(), plan.ports, ENTRIES)?;
-    run_station(rt, &mut station, scripts)
+    (ASKS_OF_A_SEGMENT / plan.ports).max(1)
 }
 
-// Runs the scripts on threads, and audits the station.
-fn run_station<R: AllocGlobal + Clock + Threads + Sync>(
+// Runs the scripts on threads, and renews the station behind them.
+#[tactic(auto, using(crate::proofs::Counting::as_many))]
+fn run_segment<R: AllocGlobal + Clock + Threads + Sync>(
     rt: &R,
     station: &mut TourStation,
     scripts: &[Vec<Ask>],
-) -> Result<Ran, StationFault>
+    gate: &PatientGate,
+    course: &mut Course,
+) -> Result<Segment, StationFault>
     requires one { AreOneStation station.old.cache station.old.ports.items station.old.banks.items }
     requires ports { length scripts.now ≡ vec_len station.old.ports }
+    ensures one { AreOneStation station.new.cache station.new.ports.items station.new.banks.items }
+    ensures ports { vec_len station.new.ports ≡ vec_len station.old.ports }
 {
-    let alloc = rt.alloc();
-    let gate = PatientGate::new(alloc, PATIENCE)?;
     let begun = Instant::now(rt)?;
-    let lists = run_threads(rt, alloc, station, scripts, TURNS, &gate)?;
-    let took = begun.elapsed(rt)?;
-    let audit = audit(&mut station.cache, &mut station.ports, &mut station.banks);
-    let journal = read_journal(alloc, &station.cache)?;
-    Ok(Ran {
-        lists,
-        audit,
-        journal,
-        took,
-    })
+    let segment = run_and_renew(rt, rt.alloc(), station, scripts, TURNS, gate)?;
+    course.took = course.took.saturating_add(begun.elapsed(rt)?);
+    Ok(segment)
+}
+
+// Looks at what a segment left, and counts it. It wasn't handed out but behind a clean audit.
+fn look_at(
+    alloc: Global,
+    scripts: &[Vec<Ask>],
+    segment: &Segment,
+    course: &mut Course,
+) -> Result<Findings, AllocError> {
+    course.tally.note(asks_in(scripts), &segment.lists, &segment.journal);
+    Findings::of_segment(
+        alloc,
+        Audit::Clean,
+        &segment.journal,
+        &mut course.memory,
+        &segment.lists,
+    )
+}
+
+// How many asks there are in all scripts.
+fn asks_in(scripts: &[Vec<Ask>]) -> u64 {
+    let mut asks: u64 = 0;
+    for script in scripts {
+        asks = asks.saturating_add(script.len() as u64);
+    }
+    asks
+}
+
+// Tells what is to be told behind each segment.
+fn tell_segment<J: Write, E: Write>(
+    journal: &mut J,
+    errors: &mut E,
+    pages: Pages,
+    segment: &Segment,
+    course: &Course,
+) -> io::Result<()> {
+    if pages.journal {
+        tell_journal(journal, &segment.journal)?;
+    }
+    if pages.progress {
+        tell_progress(errors, &course.tally, course.took)?;
+    }
+    Ok(())
+}
+
+// Tells what is to be told behind the last segment.
+fn tell_end<S: Write, E: Write>(
+    story: &mut S,
+    errors: &mut E,
+    pages: Pages,
+    segment: &Segment,
+    course: &Course,
+    findings: &Findings,
+) -> io::Result<()> {
+    if pages.story {
+        tell_findings(story, findings)?;
+    }
+    story.flush()?;
+    if pages.progress {
+        writeln!(errors)?;
+    }
+    tell_run(errors, &course.tally, &segment.journal, course.took)
 }

@@ -1,8 +1,10 @@
 //! What is found of a journal and of lists, and the texts, which no contract says.
 use super::{ZEROS, scripts_of};
 use flat_model::{Answer, Cause, Event, Lanes, Word};
-use ring_station::{Ask, Audit, Entry, Ring, RunFault, Source, Told};
-use station_checks::{Findings, Plan, are_told, is_flat, tell_journal, tell_run, tell_story};
+use ring_station::{Ask, Audit, Entry, RenewFault, Ring, RunFault, SegmentFault, Source, Told};
+use station_checks::{
+    Findings, Plan, Tally, are_told, is_flat, tell_journal, tell_progress, tell_run, tell_story,
+};
 use std::alloc::{AllocError, Global};
 use std::test::Fail;
 use std::time::Duration;
@@ -135,11 +137,13 @@ enum Text {
     Story,
     /// How the journal ends, how many asks were offered again, and asks per second.
     Run,
+    /// How far a run is.
+    Progress,
     /// The journal as a recorded run, of which a port's end is no line.
     Journal,
 }
 
-const TEXTS: [(Text, &str); 3] = [
+const TEXTS: [(Text, &str); 4] = [
     (
         Text::Story,
         "1 ports, 4 asks each, seed 7
@@ -166,6 +170,10 @@ journal: not flat
 ",
     ),
     (
+        Text::Progress,
+        "\r4 asks, 8 asks per second, 1 segments, 1 audits clean",
+    ),
+    (
         Text::Journal,
         "store 6 1111 aabbccdd -> accepted
 load 3 6 -> accepted
@@ -187,24 +195,30 @@ fn told(alloc: Global, text: Text) -> Result<Vec<u8>, Fail> {
     let lists = [list().to_vec(alloc)?];
     let plan = Plan::new(1, 4, 7);
     let journal = journal(STORED);
+    let mut tally = Tally::new();
+    tally.note(4, &lists, &journal);
     let mut out = Vec::new(alloc);
     match text {
         Text::Story => tell_story(&mut out, &plan, &scripts, &lists, &FINDINGS)?,
-        Text::Run => tell_run(
-            &mut out,
-            &plan,
-            &journal,
-            &lists,
-            Duration::from_millis(500),
-        )?,
+        Text::Run => tell_run(&mut out, &tally, &journal, Duration::from_millis(500))?,
+        Text::Progress => tell_progress(&mut out, &tally, Duration::from_millis(500))?,
         Text::Journal => tell_journal(&mut out, &journal)?,
     }
     Ok(out)
 }
 
-const FAULTS: [(RunFault, &str); 2] = [
-    (RunFault::TurnLimit, "turn limit"),
-    (RunFault::OutOfMemory, "out of memory"),
+const FAULTS: [(SegmentFault, &str); 5] = [
+    (SegmentFault::Run(RunFault::TurnLimit), "turn limit"),
+    (SegmentFault::Run(RunFault::OutOfMemory), "out of memory"),
+    (SegmentFault::Renewal(RenewFault::WornOut), "worn out"),
+    (
+        SegmentFault::Renewal(RenewFault::OutOfMemory),
+        "out of memory",
+    ),
+    (
+        SegmentFault::Renewal(RenewFault::NotClean(Audit::Owed { count: 2 })),
+        "not clean, owed: 2",
+    ),
 ];
 
 #[test]

@@ -7,7 +7,7 @@ use super::ends::are_lists;
 use super::gates::{Rule, RuledGate};
 use super::{LOAD_5, SHAPE, SmallStation, TURNS, scripts_of};
 use flat_model::{Lanes, Word};
-use ring_station::{Ask, Entry, RenewFault, Told, renew, run_threads, station};
+use ring_station::{Ask, Entry, Segment, Told, run_and_renew, station};
 use station_checks::is_flat;
 use std::alloc::{AllocError, Global};
 use std::process::Abort;
@@ -63,28 +63,20 @@ static TURNS_OF_RUNS: [Turn; 3] = [
     },
 ];
 
-// What the ports took in a run, and the journal that was handed out behind it.
-#[derive(Drop)]
-struct Segment {
-    lists: Vec<Vec<Told>>,
-    journal: Vec<Entry>,
-}
-
 // Runs the scripts of two ports, and renews the station behind the run.
-fn run_and_renew<R: Abort + Clock + Threads + Sync>(
+fn run_turn<R: Abort + Clock + Threads + Sync>(
     rt: &R,
     alloc: Global,
     all: &mut SmallStation,
     turn: &Turn,
-) -> Result<Result<Segment, RenewFault>, Fail>
+) -> Result<Segment, Fail>
     requires { AreOneStation all.old.cache all.old.ports.items all.old.banks.items }
     ensures { AreOneStation all.new.cache all.new.ports.items all.new.banks.items }
 {
     let scripts = scripts_of(alloc, &turn.scripts)?;
     assert_eq!(rt; scripts.len(), all.ports.len());
-    let lists = run_threads(rt, alloc, all, &scripts, TURNS, &RuledGate::new(Rule::Open))?;
-    let renewed = renew(alloc, &mut all.cache, &mut all.ports, &mut all.banks);
-    Ok(renewed.map(|journal| Segment { lists, journal }))
+    let gate = RuledGate::new(Rule::Open);
+    Ok(run_and_renew(rt, alloc, all, &scripts, TURNS, &gate)?)
 }
 
 // Whether a run did what it had to.
@@ -99,13 +91,9 @@ fn renewed_behind_each_run(rt: HostRuntime) -> Result<(), Fail> {
     let mut all: SmallStation = station(alloc, SHAPE, 2, 1_000)?;
     let mut whole: Vec<Entry> = Vec::new(alloc);
     for turn in &TURNS_OF_RUNS {
-        match run_and_renew(&rt, alloc, &mut all, turn)? {
-            Ok(segment) => {
-                assert!(rt; is_as_said(alloc, &segment, turn)?);
-                whole.extend_from_slice(&segment.journal)?;
-            }
-            Err(fault) => assert!(rt; false, "{fault:?}"),
-        }
+        let segment = run_turn(&rt, alloc, &mut all, turn)?;
+        assert!(rt; is_as_said(alloc, &segment, turn)?);
+        whole.extend_from_slice(&segment.journal)?;
     }
     assert_eq!(rt; all.cache.entries(), 0);
     assert!(rt; is_flat(alloc, &whole, SHAPE.words)?);

@@ -10,7 +10,8 @@ use std::alloc::Global;
 // Steps for one request, or to the machine's rest, which no request needs.
 const TURNS: u32 = 1_000_000;
 
-type Core = Machine<WAYS, BLOCK_WORDS, REGS, DEPTH>;
+/// The core of the tour's numbers.
+pub(crate) type Core = Machine<WAYS, BLOCK_WORDS, REGS, DEPTH>;
 
 /// Asks each request, again after each step of the driver if what is in its way passes. Says
 /// whether the machine then came to rest.
@@ -19,7 +20,8 @@ pub(crate) fn ask_core(alloc: Global, requests: &[Ask]) -> Result<bool, StationF
     ask_all(&mut core, requests)
 }
 
-fn new_core(alloc: Global) -> Result<Core, StationFault> {
+/// A core whose memory begins with zeros.
+pub(crate) fn new_core(alloc: Global) -> Result<Core, StationFault> {
     let image = vec![in alloc; Word::default(); WORDS as usize]?;
     Ok(Core::new(alloc, shape(), &image)?)
 }
@@ -30,15 +32,21 @@ fn ask_all(core: &mut Core, requests: &[Ask]) -> Result<bool, StationFault> {
             ask_one(core, event)?;
         }
     }
-    for _turn in 0..TURNS {
-        if core.pump().is_none() {
-            return Ok(true);
-        }
-    }
-    Ok(false)
+    Ok(comes_to_rest(core))
 }
 
-fn ask_one(core: &mut Core, event: Event) -> Result<(), StationFault> {
+/// Makes the steps of the driver until there is none. Says whether it came to that.
+pub(crate) fn comes_to_rest(core: &mut Core) -> bool {
+    for _turn in 0..TURNS {
+        if core.pump().is_none() {
+            return true;
+        }
+    }
+    false
+}
+
+/// Asks, and again after each step of the driver if what is in its way passes.
+pub(crate) fn ask_one(core: &mut Core, event: Event) -> Result<(), StationFault> {
     for _turn in 0..TURNS {
         match core.apply(event) {
             Answer::Refused(cause) if cause.passes() => {
@@ -50,8 +58,8 @@ fn ask_one(core: &mut Core, event: Event) -> Result<(), StationFault> {
     Err(StationFault::TurnLimit)
 }
 
-// The event of a port's ask, for the port 0.
-fn event_of(ask: Ask) -> Option<Event> {
+/// The event of a port's ask, for the port 0.
+pub(crate) fn event_of(ask: Ask) -> Option<Event> {
     match ask {
         Ask::Load { tag, at } => Some(Event::Load {
             tag: u16::from(tag),

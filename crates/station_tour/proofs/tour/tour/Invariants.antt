@@ -1,0 +1,12 @@
+use Rattle.std.proofs.Common.{◌≡◌, vec_len}
+use Rattle.station_parts.specs.Station.{AreOneStation}
+use Rattle.station_checks.specs.Drawn.{ports_of}
+use Rattle.station_tour.proofs.tour.tour.Given as goal
+
+abbrev pub invariant-loop-segment : goal.invariant-loop-segment
+invariant-loop-segment g l =
+    record {
+      one : AreOneStation l.station.cache l.station.ports.items l.station.banks.items;
+      ports : vec_len l.station.ports ≡ l.plan.ports;
+      parts : ports_of l.parts ≡ l.plan.ports;
+    }
