@@ -278,7 +278,7 @@ static void ranges(void) {
     s.banks = 0, is_no_machine(s, 4, KROFT_BAD_BANKS);
     s.sets = 0, is_no_machine(s, 4, KROFT_BAD_SETS);
     s.words = 0, is_no_machine(s, 4, KROFT_BAD_WORDS);
-    s.ways = 9, is_no_machine(s, 4, KROFT_NOT_LISTED);
+    s.ways = 17, is_no_machine(s, 4, KROFT_NOT_LISTED);
 }
 
 /* Makes an event that the judge isn't told of, since it has fewer words. */
@@ -316,7 +316,7 @@ static void a_large_memory(void) {
 static void open_already(void) {
     kroft_handle handle = opened();
     kroft_shape unlisted = small;
-    unlisted.ways = 9;
+    unlisted.ways = 17;
     CHECK(is_accepted(&handle, store(5, 15, word(1, 2, 3, 4))));
     CHECK(kroft_open(&handle, &small, image, WORDS) == KROFT_OPEN_ALREADY);
     CHECK(kroft_open(&handle, &unlisted, image, 0) == KROFT_OPEN_ALREADY);
@@ -363,20 +363,43 @@ static void is_as_asked(const uint32_t *row) {
 
 /* Any numbers within their ranges make a machine, and none beyond them does. */
 static void first_four(void) {
-    static const uint32_t some[16][4] = {{1, 4, 1, 1},    {1, 4, 4, 4},    {1, 8, 8, 8},   {2, 4, 4, 4},
+    static const uint32_t some[20][4] = {{1, 4, 1, 1},    {1, 4, 4, 4},    {1, 8, 8, 8},   {2, 4, 4, 4},
                                          {2, 4, 8, 4},    {2, 8, 8, 8},    {2, 16, 16, 16}, {4, 4, 8, 8},
                                          {4, 8, 8, 8},    {4, 16, 16, 16}, {8, 8, 16, 16}, {8, 16, 16, 16},
-                                         {8, 16, 10, 16}, {3, 5, 7, 2},    {1, 1, 1, 1},   {7, 3, 15, 1}};
+                                         {8, 16, 10, 16}, {3, 5, 7, 2},    {1, 1, 1, 1},   {7, 3, 15, 1},
+                                         {16, 16, 64, 64}, {9, 16, 17, 17}, {16, 1, 1, 64}, {1, 4, 64, 3}};
     static const uint32_t none[8][4] = {{0, 4, 4, 4},  {1, 0, 4, 4},  {1, 4, 0, 4},  {1, 4, 4, 0},
-                                        {9, 4, 4, 4},  {1, 17, 4, 4}, {1, 4, 17, 4}, {1, 4, 4, 17}};
+                                        {17, 4, 4, 4}, {1, 17, 4, 4}, {1, 4, 65, 4}, {1, 4, 4, 65}};
     unsigned i;
-    for (i = 0; i < 16; i++)
+    for (i = 0; i < 20; i++)
         is_as_asked(some[i]);
     for (i = 0; i < 8; i++) {
         kroft_shape s = small;
         s.ways = none[i][0], s.block_words = none[i][1], s.regs = none[i][2], s.depth = none[i][3];
         is_no_machine(s, WORDS, KROFT_NOT_LISTED);
     }
+}
+
+/* Each of the most registers has a block of its own, and the stack takes as many words as it has places. */
+static void the_most(void) {
+    kroft_handle handle = no_machine;
+    kroft_shape s = {16, 16, 64, 64, 16 * 65, 16, 16, 64, 256, 64};
+    kroft_event late = event(KROFT_PREFETCH, 16 * 64, 0), behind = event(KROFT_ARRIVE, 1, 0);
+    kroft_answer a;
+    uint32_t i;
+    CHECK(kroft_open(&handle, &s, large_image, s.words) == KROFT_DONE);
+    for (i = 0; i < 64; i++)
+        CHECK(kind_of(&handle, event(KROFT_PREFETCH, 16 * i, 0)) == KROFT_ACCEPTED);
+    CHECK(kroft_apply(&handle, &late, &a) == KROFT_DONE && a.kind == KROFT_REFUSED && a.cause == 7);
+    for (i = 0; i < 64; i++) { /* bank 0 has the first word of each block */
+        CHECK(kind_of(&handle, event(KROFT_SERVE, 0, 0)) == KROFT_MOVED);
+        CHECK(kind_of(&handle, event(KROFT_ARRIVE, 0, 0)) == KROFT_MOVED);
+    }
+    CHECK(kind_of(&handle, event(KROFT_SERVE, 1, 0)) == KROFT_MOVED);
+    CHECK(kroft_apply(&handle, &behind, &a) == KROFT_DONE && a.kind == KROFT_REFUSED && a.cause == 12);
+    pumped_dry(&handle);
+    CHECK(kind_of(&handle, late) == KROFT_ACCEPTED);
+    freed(&handle);
 }
 
 int main(void) {
@@ -393,5 +416,6 @@ int main(void) {
     a_large_memory();
     open_already();
     first_four();
+    the_most();
     return checks_end("machine");
 }

@@ -60,7 +60,7 @@ _LOST = (
 
 
 class Shape(NamedTuple):
-    """The numbers of a machine: 1 to 8 ways, and 1 to 16 words of a block, registers and places of the input stack."""
+    """The numbers of a machine: 1 to 16 ways and words of a block, and 1 to 64 registers and places of the input stack."""
 
     ways: int = 2
     block_words: int = 4

@@ -172,7 +172,7 @@ class Machines(unittest.TestCase):
     def test_shapes(self) -> None:
         faults = kroft.ShapeFault
         for shape, image, fault in [
-            (SMALL._replace(ways=9), None, faults.NOT_LISTED),
+            (SMALL._replace(ways=17), None, faults.NOT_LISTED),
             (SMALL._replace(words=63), None, faults.WORDS),
             (SMALL._replace(sets=0), None, faults.SETS),
             (SMALL._replace(banks=17), None, faults.BANKS),

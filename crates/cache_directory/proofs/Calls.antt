@@ -2,6 +2,7 @@
 use Rattle.std.proofs.Common.{◌≡◌, ℕ, ◌*◌, ◌/◌, ◌%◌, ◌<◌, ◌≤◌, true, List, [], ◌∷◌, ◌++◌, length, get_or, set, Option, Some, None, is_none, not, refl, ap, ap₂, sym, ◌∙◌, arith, length-append, get_or-set_same}
 use Rattle.std.specs.List.{All, find, range_with_len}
 use Rattle.std.proofs.lemmas.List.{get_or_default}
+use Rattle.flat_model.specs.declared.limits.TheConstants.{MAX_WAYS}
 use Rattle.flat_model.specs.declared.Word.{Word}
 use Rattle.flat_model.specs.declared.Lanes.{Lanes}
 use Rattle.flat_model.specs.Places.{is_number}
@@ -44,7 +45,7 @@ pub may_install : (ways : ℕ) (d v : Frames) (f block : ℕ) → d ≡ v → f 
 may_install ways d v f block e there free of_set absent =
     rw e (record { there = there; free = free; of_set = of_set; absent = absent })
 
-pub install_room : (ways words : ℕ) (d : Frames) (f block : ℕ) (o : List ℕ) → IsWhole ways words d → MayInstall ways d f block → o ≡ get_or d.orders (f / ways) o → length o < 8
+pub install_room : (ways words : ℕ) (d : Frames) (f block : ℕ) (o : List ℕ) → IsWhole ways words d → MayInstall ways d f block → o ≡ get_or d.orders (f / ways) o → length o < MAX_WAYS
 unfolding installed
 install_room ways words d f block o h m read =
     let t = f / ways in

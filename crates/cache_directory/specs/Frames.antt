@@ -1,7 +1,7 @@
 -- The frames, as lists.
 use Rattle.std.specs.Prelude.{ℕ, ◌≡◌, ◌<◌, ◌≤◌, ◌+◌, ◌*◌, ◌%◌, ◌/◌, Bool, true, false, not, ◌&&◌, ◌||◌, if◌then◌else◌, ◌==◌, nat_lt, List, [], ◌∷◌, ◌++◌, length, replicate, Option, Some, None, is_none, is_some, slice_set, slice_index_or}
 use Rattle.std.specs.List.{find, filter, range_with_len, list_all}
-use Rattle.flat_model.specs.declared.limits.TheConstants.{MAX_BLOCK_WORDS, MAX_WAYS, MAX_SETS}
+use Rattle.flat_model.specs.declared.limits.TheConstants.{MAX_BLOCK_WORDS, MAX_WAYS, MAX_CONST_WAYS, MAX_SETS}
 use Rattle.flat_model.specs.declared.Word.{Word}
 use Rattle.flat_model.specs.declared.Lanes.{Lanes}
 use Rattle.flat_model.specs.declared.ShapeField.{ShapeField}
@@ -87,12 +87,12 @@ pub record IsWholeFor (ways : ℕ) (d : Frames) : Type 0 where
 
 -- ---- a new directory
 
--- the first number that is out of its range
+-- the first number of a directory whose type has its ways that is out of its range
 abbrev pub bad_field : ℕ → ℕ → ℕ → Option ShapeField
 bad_field ways words sets =
     if words == 0 || nat_lt MAX_BLOCK_WORDS words
     then Some BlockWords
-    else (if ways == 0 || nat_lt MAX_WAYS ways then Some Ways else (if sets == 0 || nat_lt MAX_SETS sets then Some Sets else None))
+    else (if ways == 0 || nat_lt MAX_CONST_WAYS ways then Some Ways else (if sets == 0 || nat_lt MAX_SETS sets then Some Sets else None))
 
 -- all frames are empty
 abbrev pub all_empty : ℕ → ℕ → Frames

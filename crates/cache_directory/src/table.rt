@@ -17,7 +17,7 @@ use std::marker::Model;
 // The most frames that a table has.
 const MAX_FRAMES: usize = MAX_SETS as usize * MAX_WAYS;
 
-/// The frames of the cache: `ways` (1 to 8) in each set, with `words` (1 to 16) words in each frame
+/// The frames of the cache: `ways` (1 to 16) in each set, with `words` (1 to 16) words in each frame
 /// that holds a block.
 ///
 /// The table keeps neither number: a call that counts ways or words is given them, the same ones as
@@ -41,7 +41,7 @@ impl Model for FrameTable {
 }
 
 impl FrameTable {
-    /// A table of `sets` sets (1 to 1024) of `ways` frames (1 to 8), all of them empty. An error
+    /// A table of `sets` sets (1 to 1024) of `ways` frames (1 to 16), all of them empty. An error
     /// says that there was too little memory; nothing is made then.
     pub fn new(alloc: Global, ways: u32, sets: u32) -> Result<Self, AllocError>
         requires some_way { 0 < ways }

@@ -10,7 +10,8 @@ use Rattle.cache_unit.specs.declared.Reply.{Reply}
 use Rattle.cache_unit.specs.declared.Sizes.{Sizes}
 use Rattle.cache_unit.specs.State.{Frame, Field, Register, empty_frame, is_present, free_slot}
 use Rattle.cache_unit.specs.Causes.{choose, order_of, dirty_from, dirty_of_block, dirty_words}
-use Rattle.cache_unit.specs.Steps.{without, released, fresh_frame, fresh_register, installed, missed, fetched}
+use Rattle.cache_directory.specs.Frames.{without}
+use Rattle.cache_unit.specs.Steps.{released, fresh_frame, fresh_register, installed, missed, fetched}
 use Rattle.cache_unit.specs.Shown.{as_frame, as_field, as_register, as_cache}
 use Rattle.cache_unit.specs.Begun.{begun_cell, begun_field, begun_frame, begun_register}
 use Rattle.cache_unit.specs.GivenUp.{owed_by, owed_words, given_up, missed_frames, missed_registers}

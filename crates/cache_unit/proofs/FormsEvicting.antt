@@ -9,7 +9,8 @@ use Rattle.flat_model.specs.declared.Answer.{Answer}
 use Rattle.flat_model.specs.declared.Answer.TheVariants.{Accepted, Refused}
 use Rattle.cache_unit.specs.declared.Reply.{Reply}
 use Rattle.cache_unit.specs.declared.Sizes.{Sizes}
-use Rattle.cache_unit.specs.State.{Frame, Field, Register, Cache, zero_cell, empty_frame, clear_field, free_register, frame_at}
+use Rattle.cache_directory.specs.Frames.{zero_cell}
+use Rattle.cache_unit.specs.State.{Frame, Field, Register, Cache, empty_frame, clear_field, free_register, frame_at}
 use Rattle.cache_unit.specs.State.{frame_of, register_at, is_live, live_for, cell_in, cell_of, gathered, targets_of, targets_of_field}
 use Rattle.cache_unit.specs.State.{Target, targets, tags, block_of, place_in, address}
 use Rattle.cache_unit.specs.Causes.{evict_cause, lacks_places}

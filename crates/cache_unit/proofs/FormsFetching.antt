@@ -11,7 +11,8 @@ use Rattle.write_queue.specs.declared.Queued.{Queued}
 use Rattle.write_queue.specs.Queue.{overlaid, queued_lanes}
 use Rattle.input_stack.specs.Stack.{stack_word}
 use Rattle.cache_unit.specs.declared.Sizes.{Sizes}
-use Rattle.cache_unit.specs.State.{Frame, Field, Register, Cache, zero_cell, empty_frame, clear_field, free_register, frame_at}
+use Rattle.cache_directory.specs.Frames.{zero_cell}
+use Rattle.cache_unit.specs.State.{Frame, Field, Register, Cache, empty_frame, clear_field, free_register, frame_at}
 use Rattle.cache_unit.specs.State.{frame_of, is_present, register_at, field_at, is_live, live_for, cell_in, cell_of, gathered, targets_of}
 use Rattle.cache_unit.specs.State.{targets_of_field, targets, block_of, place_in, address}
 use Rattle.cache_unit.specs.Causes.{dirty_words, addresses}

@@ -15,7 +15,8 @@ use Rattle.input_stack.specs.Stack.{stack_word}
 use Rattle.miss_registers.specs.declared.Owed.{Owed}
 use Rattle.cache_directory.specs.declared.Cell.{Cell}
 use Rattle.cache_unit.specs.declared.Sizes.{Sizes}
-use Rattle.cache_unit.specs.State.{Frame, Field, Register, Cache, zero_cell, empty_frame, clear_field, free_register, frame_at}
+use Rattle.cache_directory.specs.Frames.{zero_cell}
+use Rattle.cache_unit.specs.State.{Frame, Field, Register, Cache, empty_frame, clear_field, free_register, frame_at}
 use Rattle.cache_unit.specs.State.{frame_of, register_at, field_at, is_live, live_for, cell_in, cell_of, gathered, targets_of}
 use Rattle.cache_unit.specs.State.{targets_of_field, targets, tags, with_cell, block_of, place_in}
 use Rattle.cache_unit.specs.Steps.{answered, filled, filled_in, finished, processed, process_entry, process_step}

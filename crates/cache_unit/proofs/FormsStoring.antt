@@ -10,7 +10,8 @@ use Rattle.flat_model.proofs.Lanewise.{byte-merged, has-joined}
 use Rattle.cache_directory.specs.declared.Cell.{Cell}
 use Rattle.cache_unit.specs.declared.Reply.{Reply}
 use Rattle.cache_unit.specs.declared.Sizes.{Sizes}
-use Rattle.cache_unit.specs.State.{Frame, Field, Register, Cache, zero_cell, empty_frame, clear_field, free_register, frame_at}
+use Rattle.cache_directory.specs.Frames.{zero_cell}
+use Rattle.cache_unit.specs.State.{Frame, Field, Register, Cache, empty_frame, clear_field, free_register, frame_at}
 use Rattle.cache_unit.specs.State.{frame_of, register_at, field_at, is_live, live_for, cell_in, cell_of, Target, targets, tags, with_cell}
 use Rattle.cache_unit.specs.State.{with_field, block_of, place_in}
 use Rattle.cache_unit.specs.Steps.{noted, written_in, written}

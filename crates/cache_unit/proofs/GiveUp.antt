@@ -17,7 +17,8 @@ use Rattle.cache_unit.specs.declared.Reply.{Reply}
 use Rattle.cache_unit.specs.declared.Sizes.{Sizes}
 use Rattle.cache_unit.specs.State.{Frame, Field, Register, Cache, empty_frame, frame_at, live_for}
 use Rattle.cache_unit.specs.Causes.{dirty_from, dirty_words, dirty_of_block, lacks_places}
-use Rattle.cache_unit.specs.Steps.{without_code, made_obsolete, obsoleted, without, released, evicted}
+use Rattle.cache_directory.specs.Frames.{without}
+use Rattle.cache_unit.specs.Steps.{without_code, made_obsolete, obsoleted, released, evicted}
 use Rattle.cache_unit.specs.Parts.{retired}
 use Rattle.cache_unit.specs.GivenUp.{owed_by, owed_words, given_up}
 use Rattle.cache_unit.specs.Shown.{as_frame, as_field, as_register, as_cache}

@@ -1,12 +1,9 @@
 -- A unit that holds nothing is sound.
-use Rattle.std.proofs.Common.{◌≡◌, ℕ, suc, zero, ◌*◌, ◌==◌, Bool, true, List, [], ◌∷◌, map, replicate, get_or, Some, None, refl, ap, sym, ◌∙◌, arith, subst, ◌⊎◌, inl, inr, Ok, Err, Result}
+use Rattle.std.proofs.Common.{◌≡◌, ℕ, suc, zero, ◌*◌, ◌==◌, Bool, true, List, [], ◌∷◌, map, replicate, get_or, Some, None, refl, ap, sym, ◌∙◌, arith, subst, inl, inr}
 use Rattle.std.specs.List.{sum_by}
 use Rattle.std.proofs.lemmas.List.{get_or-replicate, get_or_past, length-replicate}
 use Rattle.std.proofs.lemmas.List.Folds.{sum_by-replicate}
 use Rattle.std.proofs.lemmas.Bool.{false≢true, cases_lt}
-use Rattle.std.proofs.lemmas.Bool.Decides.{nat_tests}
-use Rattle.std.proofs.lemmas.Grind.{common_steps}
-use Rattle.flat_model.specs.declared.MakeFault.{MakeFault}
 use Rattle.input_stack.specs.declared.Entry.{Entry}
 use Rattle.cache_unit.specs.declared.Reply.{Reply}
 use Rattle.cache_directory.specs.Frames as dir
@@ -70,23 +67,7 @@ opening-shown z =
     let r = map-replicate as_register z.regs regs.free_register in
     ap (λ (xs : List Frame). let c : Cache = record { frames = xs; orders = replicate z.sets []; registers = map as_register (free_file z.regs); stack = []; queue = []; ready = [] } in c) f ∙ ap (λ (xs : List Register). let c : Cache = record { frames = replicate (z.sets * z.ways) empty_frame; orders = replicate z.sets []; registers = xs; stack = []; queue = []; ready = [] } in c) r
 
--- there is a directory of such a size
-pub can_direct : (z : Sizes) → InRange z → dir.bad_field z.ways z.block_words z.sets ≡ None
-can_direct z r =
-    let a = r.some_words in
-    let b = r.few_words in
-    let c = r.some_ways in
-    let d = r.few_ways in
-    let e = r.some_sets in
-    let f = r.few_sets in
-    grind (arith, nat_tests, common_steps)
-
 -- ---- the parts as they are made
-
--- where something was made, it is one of the two
-pub only_made : (d x : dir.Frames) (m : MakeFault) → (let r : Result dir.Frames MakeFault = Ok d in (r ≡ Ok x) ⊎ (r ≡ Err m)) → d ≡ x
-only_made d x m (inl e) = cc
-only_made d x m (inr e) = cc
 
 -- parts that hold nothing
 pub record AsMade (z : Sizes) (d : dir.Frames) (rs : List regs.Register) (st : List Entry) (q : Queue) (ready : List Reply) : Type 0 where

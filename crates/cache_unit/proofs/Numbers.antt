@@ -3,7 +3,8 @@ use Rattle.std.proofs.Common.{◌≡◌, ℕ, ◌+◌, ◌-◌, ◌*◌, ◌/◌
 use Rattle.std.proofs.Math.Nat.{mod-lt, mul-le-mul_right}
 use Rattle.std.proofs.lemmas.Nat.{div-add-mod'}
 use Rattle.std.proofs.lemmas.Bool.{eqb-true, and_parts}
-use Rattle.flat_model.specs.declared.limits.TheConstants.{MAX_BLOCK_WORDS, MAX_WAYS, MAX_REGS, MAX_DEPTH, MAX_WORDS, MAX_MEMORY, MAX_SETS, MAX_BANKS, MAX_BANK_QUEUE, MAX_WRITE_QUEUE, MAX_REPLIES}
+use Rattle.flat_model.specs.declared.limits.TheConstants.{MAX_BLOCK_WORDS, MAX_WAYS, MAX_CONST_WAYS, MAX_REGS, MAX_CONST_REGS, MAX_DEPTH, MAX_CONST_DEPTH, MAX_WORDS, MAX_MEMORY}
+use Rattle.flat_model.specs.declared.limits.TheConstants.{MAX_SETS, MAX_BANKS, MAX_BANK_QUEUE, MAX_WRITE_QUEUE, MAX_REPLIES}
 use Rattle.flat_model.specs.declared.ShapeField.{ShapeField}
 use Rattle.flat_model.specs.declared.ShapeField.TheVariants.{BlockWords, Ways, Regs, Depth, Words, Sets, Banks, BankQueue, WriteQueue, Replies}
 use Rattle.flat_model.specs.Ranges.{is_between}
@@ -64,20 +65,25 @@ in_size z e =
       few_replies = (between z.replies 1 MAX_REPLIES replies.0).1;
     }
 
--- numbers that are in range for a type are so at run time, where memory may be larger
+-- numbers that are in range for a type are so at run time, where some may be larger
 pub looser : (z : Sizes) → bad_field z ≡ None → bad_size z ≡ None
 looser z e =
     let block = passed (is_between z.block_words 1 MAX_BLOCK_WORDS) BlockWords _ e in
-    let ways = passed (is_between z.ways 1 MAX_WAYS) Ways _ block.1 in
-    let regs = passed (is_between z.regs 1 MAX_REGS) Regs _ ways.1 in
-    let depth = passed (is_between z.depth 1 MAX_DEPTH) Depth (bad_number z) regs.1 in
+    let ways = passed (is_between z.ways 1 MAX_CONST_WAYS) Ways _ block.1 in
+    let regs = passed (is_between z.regs 1 MAX_CONST_REGS) Regs _ ways.1 in
+    let depth = passed (is_between z.depth 1 MAX_CONST_DEPTH) Depth (bad_number z) regs.1 in
     let words = passed (is_between z.words 1 MAX_WORDS && (z.words % z.block_words == 0)) Words _ depth.1 in
     let memory = and_parts (is_between z.words 1 MAX_WORDS) (z.words % z.block_words == 0) words.0 in
-    let range = between z.words 1 MAX_WORDS memory.0 in
-    let few = range.1 in
-    let fits : (is_between z.words 1 MAX_MEMORY && (z.words % z.block_words == 0)) ≡ true =
-    rw (inside z.words 1 MAX_MEMORY range.0 (omega (arith, few)), memory.1) refl in
-    rw (block.0, ways.0, regs.0, depth.0, fits) words.1
+    let more_ways : is_between z.ways 1 MAX_WAYS ≡ true = wider z.ways MAX_CONST_WAYS MAX_WAYS (omega arith) ways.0 in
+    let more_regs : is_between z.regs 1 MAX_REGS ≡ true = wider z.regs MAX_CONST_REGS MAX_REGS (omega arith) regs.0 in
+    let deeper : is_between z.depth 1 MAX_DEPTH ≡ true = wider z.depth MAX_CONST_DEPTH MAX_DEPTH (omega arith) depth.0 in
+    let larger : is_between z.words 1 MAX_MEMORY ≡ true = wider z.words MAX_WORDS MAX_MEMORY (omega arith) memory.0 in
+    let fits : (is_between z.words 1 MAX_MEMORY && (z.words % z.block_words == 0)) ≡ true = rw (larger, memory.1) refl in
+    rw (block.0, more_ways, more_regs, deeper, fits) words.1
+  where
+    -- a number in a range is in a wider one
+    wider : (n most more : ℕ) → most ≤ more → is_between n 1 most ≡ true → is_between n 1 more ≡ true
+    wider n most more le is = let range = between n 1 most is in inside n 1 more range.0 (omega (arith, range.1, le))
 
 pub in_range : (z : Sizes) → bad_field z ≡ None → InRange z
 in_range z e = in_size z (looser z e)

@@ -9,6 +9,7 @@ use Rattle.flat_model.specs.declared.Lanes.{Lanes}
 use Rattle.flat_model.specs.Words.{zero_word, merged, joined, has_all}
 use Rattle.cache_directory.specs.Frames as dir
 use Rattle.cache_directory.specs.declared.Cell.{Cell}
+use Rattle.miss_registers.specs.declared.TheConstants.{MAX_WAITING}
 use Rattle.miss_registers.specs.Registers as regs
 use Rattle.miss_registers.specs.Whole.{IsWhole}
 use Rattle.miss_registers.specs.declared.Owed.{Owed}
@@ -20,7 +21,8 @@ use Rattle.cache_unit.specs.declared.Reply.{Reply}
 use Rattle.cache_unit.specs.declared.unit.present.Finding.{Finding}
 use Rattle.cache_unit.specs.declared.unit.present.Finding.TheVariants as finding
 use Rattle.cache_unit.specs.declared.Sizes.{Sizes}
-use Rattle.cache_unit.specs.State.{Frame, Field, Register, Cache, zero_cell, register_at, field_at, live_for, cell_in, cell_of, with_cell, with_field}
+use Rattle.cache_directory.specs.Frames.{zero_cell}
+use Rattle.cache_unit.specs.State.{Frame, Field, Register, Cache, register_at, field_at, live_for, cell_in, cell_of, with_cell, with_field}
 use Rattle.cache_unit.specs.Causes.{Found, Here, Coming, found, found_in, found_missing, targets_full}
 use Rattle.cache_unit.proofs.Arrive.{in_stack-shown}
 use Rattle.cache_unit.specs.Steps.{awaited, noted, written_in, written}
@@ -375,12 +377,12 @@ can_await z d rs st q ready h block i slot k l =
     all_true : {v a p m : Bool} → v ≡ true → a ≡ true → p ≡ false → m ≡ false → (v && (a && (not p && not m))) ≡ true
     all_true e f g k = ap₂ (λ x y. x && y) e (ap₂ (λ x y. x && y) f (ap₂ (λ x y. not x && not y) g k))
 
-pub few_wait : (d : dir.Frames) (rs : List regs.Register) (st : List Entry) (q : List Queued) (ready : List Reply) (block i slot : ℕ) → found (as_cache d rs st q ready) block i ≡ Coming slot → targets_full (as_cache d rs st q ready) i (found (as_cache d rs st q ready) block i) ≡ false → length (regs.field_at rs slot i).waiting < 4
+pub few_wait : (d : dir.Frames) (rs : List regs.Register) (st : List Entry) (q : List Queued) (ready : List Reply) (block i slot : ℕ) → found (as_cache d rs st q ready) block i ≡ Coming slot → targets_full (as_cache d rs st q ready) i (found (as_cache d rs st q ready) block i) ≡ false → length (regs.field_at rs slot i).waiting < MAX_WAITING
 few_wait d rs st q ready block i slot e h =
     let c = as_cache d rs st q ready in
-    let t : nat_le 4 (length (field_at c slot i).waiting) ≡ false = ap (targets_full c i) (sym e) ∙ h in
+    let t : nat_le MAX_WAITING (length (field_at c slot i).waiting) ≡ false = ap (targets_full c i) (sym e) ∙ h in
     let n = ap (λ (f : Field). length f.waiting) (field_at-shown d rs st q ready slot i) in
-    fewer (length (field_at c slot i).waiting) _ t n
+    fewer MAX_WAITING (length (field_at c slot i).waiting) _ t n
   where
-    fewer : (a b : ℕ) → nat_le 4 a ≡ false → a ≡ b → b < 4
-    fewer a b p e = grind (arith, nat_tests)
+    fewer : (most a b : ℕ) → nat_le most a ≡ false → a ≡ b → b < most
+    fewer most a b p e = grind (arith, nat_tests)

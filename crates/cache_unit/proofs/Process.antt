@@ -15,7 +15,8 @@ use Rattle.input_stack.specs.declared.Entry.{Entry}
 use Rattle.miss_registers.specs.declared.Owed.{Owed}
 use Rattle.cache_unit.specs.declared.Reply.{Reply}
 use Rattle.write_queue.specs.declared.Queued.{Queued}
-use Rattle.cache_unit.specs.State.{Frame, Field, Register, Cache, empty_frame, zero_cell, free_register, clear_field, register_at, field_at, frame_of, is_live, with_cell}
+use Rattle.cache_directory.specs.Frames.{zero_cell}
+use Rattle.cache_unit.specs.State.{Frame, Field, Register, Cache, empty_frame, free_register, clear_field, register_at, field_at, frame_of, is_live, with_cell}
 use Rattle.cache_unit.specs.Steps.{finished, filled, filled_in, processed, answered}
 use Rattle.cache_unit.specs.Parts.{filled_live, settled_if}
 use Rattle.cache_unit.specs.Shown.{as_frame, as_field, as_register, as_cache}

@@ -1,6 +1,6 @@
 -- The ranges of a machine's numbers, in the order of the checks.
 use Rattle.std.specs.Prelude.{ℕ, ◌+◌, ◌-◌, ◌/◌, ◌%◌, ◌&&◌, not, if◌then◌else◌, ◌==◌, Option, Some, None}
-use Rattle.flat_model.specs.declared.limits.TheConstants.{MAX_BLOCK_WORDS, MAX_WAYS, MAX_REGS, MAX_DEPTH, MAX_WORDS, MAX_MEMORY, MAX_SETS, MAX_BANKS, MAX_BANK_QUEUE, MAX_WRITE_QUEUE, MAX_REPLIES}
+use Rattle.flat_model.specs.declared.limits.TheConstants.{MAX_BLOCK_WORDS, MAX_WAYS, MAX_CONST_WAYS, MAX_REGS, MAX_CONST_REGS, MAX_DEPTH, MAX_CONST_DEPTH, MAX_WORDS, MAX_MEMORY, MAX_SETS, MAX_BANKS, MAX_BANK_QUEUE, MAX_WRITE_QUEUE, MAX_REPLIES}
 use Rattle.flat_model.specs.declared.ShapeField.{ShapeField}
 use Rattle.flat_model.specs.declared.ShapeField.TheVariants.{BlockWords, Ways, Regs, Depth, Words, Sets, Banks, BankQueue, WriteQueue, Replies}
 use Rattle.flat_model.specs.Ranges.{is_between}
@@ -24,17 +24,31 @@ bad_number_within most z =
 abbrev pub bad_number : Sizes → Option ShapeField
 bad_number z = bad_number_within MAX_WORDS z
 
+-- the largest numbers of a unit, of those that are larger where they are given at run time
+pub record Most : Type 0 where
+  pub ways : ℕ
+  pub regs : ℕ
+  pub depth : ℕ
+  pub words : ℕ
+
+abbrev pub most_of_type : Most
+most_of_type = record { ways = MAX_CONST_WAYS; regs = MAX_CONST_REGS; depth = MAX_CONST_DEPTH; words = MAX_WORDS }
+
+abbrev pub most_at_run_time : Most
+most_at_run_time = record { ways = MAX_WAYS; regs = MAX_REGS; depth = MAX_DEPTH; words = MAX_MEMORY }
+
 -- the first number of a unit that is out of its range
-abbrev pub bad_field_within : ℕ → Sizes → Option ShapeField
+abbrev pub bad_field_within : Most → Sizes → Option ShapeField
 bad_field_within most z =
     if not (is_between z.block_words 1 MAX_BLOCK_WORDS) then Some BlockWords
-    else (if not (is_between z.ways 1 MAX_WAYS) then Some Ways
-    else (if not (is_between z.regs 1 MAX_REGS) then Some Regs
-    else (if not (is_between z.depth 1 MAX_DEPTH) then Some Depth else bad_number_within most z)))
+    else (if not (is_between z.ways 1 most.ways) then Some Ways
+    else (if not (is_between z.regs 1 most.regs) then Some Regs
+    else (if not (is_between z.depth 1 most.depth) then Some Depth else bad_number_within most.words z)))
 
+-- the same where four numbers stand in a type
 abbrev pub bad_field : Sizes → Option ShapeField
-bad_field z = bad_field_within MAX_WORDS z
+bad_field z = bad_field_within most_of_type z
 
--- the same where all numbers are given at run time: memory may have as many words as 32 bits count
+-- the same where all numbers are given at run time
 abbrev pub bad_size : Sizes → Option ShapeField
-bad_size z = bad_field_within MAX_MEMORY z
+bad_size z = bad_field_within most_at_run_time z

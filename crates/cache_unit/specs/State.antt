@@ -5,9 +5,10 @@ use Rattle.cache_unit.specs.declared.Reply.{Reply}
 use Rattle.input_stack.specs.declared.Entry.{Entry}
 use Rattle.write_queue.specs.declared.Queued.{Queued}
 use Rattle.miss_registers.specs.declared.Owed.{Owed}
-use Rattle.flat_model.specs.Words.{zero_word, no_lanes}
+use Rattle.flat_model.specs.Words.{no_lanes}
 use Rattle.flat_model.specs.Places.{place_of, is_number}
 use Rattle.cache_directory.specs.declared.Cell.{Cell}
+use Rattle.cache_directory.specs.Frames.{zero_cell}
 use Rattle.cache_unit.specs.declared.Sizes.{Sizes}
 
 -- a frame: the block that it holds, if it holds one, and that block's words
@@ -42,9 +43,6 @@ pub record UnitState : Type 0 where
   pub cache : Cache
 
 -- ---- what stands where there is nothing
-
-abbrev pub zero_cell : Cell
-zero_cell = record { word = zero_word; dirty = no_lanes }
 
 abbrev pub empty_frame : Frame
 empty_frame = record { block = None; cells = [] }

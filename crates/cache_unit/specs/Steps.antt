@@ -1,6 +1,6 @@
 -- What each event makes of the cache unit.
 use Rattle.std.specs.Prelude.{ℕ, ◌/◌, ◌%◌, true, false, not, if◌then◌else◌, ◌==◌, nat_lt, List, [], ◌∷◌, ◌++◌, map, Option, Some, None, slice_get, slice_set, slice_index_or}
-use Rattle.std.specs.List.{list_all, filter, remove}
+use Rattle.std.specs.List.{list_all, remove}
 use Rattle.flat_model.specs.declared.Word.{Word}
 use Rattle.flat_model.specs.declared.Lanes.{Lanes}
 use Rattle.flat_model.specs.declared.Cause.{Cause}
@@ -18,7 +18,8 @@ use Rattle.write_queue.specs.declared.Queued.{Queued}
 use Rattle.write_queue.specs.Queue.{overlaid, queued_lanes}
 use Rattle.miss_registers.specs.declared.Owed.{Owed}
 use Rattle.cache_unit.specs.declared.Sizes.{Sizes}
-use Rattle.cache_unit.specs.State.{Frame, Field, Register, Cache, zero_cell, empty_frame, clear_field, free_register, frame_at, frame_of, is_present, register_at, field_at, is_live, live_for, free_slot, cell_of, with_cell, with_field, block_of, place_in}
+use Rattle.cache_directory.specs.Frames.{zero_cell, without}
+use Rattle.cache_unit.specs.State.{Frame, Field, Register, Cache, empty_frame, clear_field, free_register, frame_at, frame_of, is_present, register_at, field_at, is_live, live_for, free_slot, cell_of, with_cell, with_field, block_of, place_in}
 use Rattle.cache_unit.specs.Causes.{choose, order_of, dirty_words, addresses, Found, Here, Coming, found, load_cause, store_cause, prefetch_cause, evict_cause, arrive_cause}
 
 -- an answer, the unit after it, and the commands sent, each with its bank
@@ -47,9 +48,6 @@ made_obsolete r = record r { obsolete = true; fields = map without_code r.fields
 abbrev pub obsoleted : Cache → Option ℕ → List Register
 obsoleted c None = c.registers
 obsoleted c (Some slot) = slice_set c.registers slot (made_obsolete (register_at c slot))
-
-abbrev pub without : List ℕ → ℕ → List ℕ
-without order f = filter (λ g. not (g == f)) order
 
 -- the frame's dirty words are queued, and it holds nothing
 unfoldable pub released : Sizes → Cache → ℕ → Cache

@@ -17,13 +17,13 @@ pub use unit::ShapedUnit;
 /// The numbers of a unit, and of the machine around it.
 #[derive(Clone, Copy, PartialEq, Eq, Debug)]
 pub struct Sizes {
-    /// Frames of each set: 1 to 8.
+    /// Frames of each set: 1 to 16.
     pub ways: u32,
     /// Words of a block: 1 to 16.
     pub block_words: u32,
-    /// Registers for missing blocks: 1 to 16.
+    /// Registers for missing blocks: 1 to 64.
     pub regs: u32,
-    /// Places of the stack of words that came from memory: 1 to 16.
+    /// Places of the stack of words that came from memory: 1 to 64.
     pub depth: u32,
     /// Words of memory: 1 to 4,294,967,295, and a multiple of the words of a block.
     pub words: u32,

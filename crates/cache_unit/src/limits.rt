@@ -6,13 +6,14 @@ ghost use Rattle.cache_unit.specs.Limits as limits;
 
 use crate::Sizes;
 use flat_model::{
-    MAX_BANK_QUEUE, MAX_BANKS, MAX_BLOCK_WORDS, MAX_DEPTH, MAX_MEMORY, MAX_REGS, MAX_REPLIES,
-    MAX_SETS, MAX_WAYS, MAX_WORDS, MAX_WRITE_QUEUE, Shape, ShapeField,
+    MAX_BANK_QUEUE, MAX_BANKS, MAX_BLOCK_WORDS, MAX_CONST_DEPTH, MAX_CONST_REGS, MAX_CONST_WAYS,
+    MAX_DEPTH, MAX_MEMORY, MAX_REGS, MAX_REPLIES, MAX_SETS, MAX_WAYS, MAX_WORDS, MAX_WRITE_QUEUE,
+    Shape, ShapeField,
 };
 
 /// The first number that is out of its range for a unit, in the order of the checks: the words of a
-/// block (1 to 16), the ways (1 to 8), the registers (1 to 16), the places of the input stack (1 to
-/// 16), and then words, sets, banks, the queues and replies. `None` says that there is such a unit.
+/// block (1 to 16), the ways (1 to 16), the registers (1 to 64), the places of the input stack (1 to
+/// 64), and then words, sets, banks, the queues and replies. `None` says that there is such a unit.
 pub fn bad_size(sizes: &Sizes) -> Option<ShapeField>
     ensures { result ≡ limits.bad_size sizes.now }
 {
@@ -29,8 +30,8 @@ pub fn bad_size(sizes: &Sizes) -> Option<ShapeField>
     }
 }
 
-/// The same of a unit whose ways, words of a block, registers and places of the stack stand in its
-/// type, and whose memory has at most 1,048,576 words.
+/// The same of a unit whose words of a block (1 to 16), ways (1 to 8), registers (1 to 16) and places
+/// of the stack (1 to 16) stand in its type, and whose memory has at most 1,048,576 words.
 pub fn bad_field<const WAYS: usize, const WORDS: usize, const REGS: usize, const DEPTH: usize>(
     shape: &Shape,
 ) -> Option<ShapeField>
@@ -38,11 +39,11 @@ pub fn bad_field<const WAYS: usize, const WORDS: usize, const REGS: usize, const
 {
     if WORDS < 1 || WORDS > MAX_BLOCK_WORDS {
         Some(ShapeField::BlockWords)
-    } else if WAYS < 1 || WAYS > MAX_WAYS {
+    } else if WAYS < 1 || WAYS > MAX_CONST_WAYS {
         Some(ShapeField::Ways)
-    } else if REGS < 1 || REGS > MAX_REGS {
+    } else if REGS < 1 || REGS > MAX_CONST_REGS {
         Some(ShapeField::Regs)
-    } else if DEPTH < 1 || DEPTH > MAX_DEPTH {
+    } else if DEPTH < 1 || DEPTH > MAX_CONST_DEPTH {
         Some(ShapeField::Depth)
     } else {
         bad_number(MAX_WORDS, &sizes_of::<WAYS, WORDS, REGS, DEPTH>(shape))

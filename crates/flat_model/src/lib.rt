@@ -20,8 +20,8 @@ mod operators;
 pub use answers::may_answer;
 use bitflags::{Flag, Flags};
 pub use limits::{
-    MAX_BANK_QUEUE, MAX_BANKS, MAX_BLOCK_WORDS, MAX_DEPTH, MAX_MEMORY, MAX_REGS, MAX_REPLIES,
-    MAX_SETS, MAX_WAYS, MAX_WORDS, MAX_WRITE_QUEUE,
+    MAX_BANK_QUEUE, MAX_BANKS, MAX_BLOCK_WORDS, MAX_CONST_DEPTH, MAX_CONST_REGS, MAX_CONST_WAYS,
+    MAX_DEPTH, MAX_MEMORY, MAX_REGS, MAX_REPLIES, MAX_SETS, MAX_WAYS, MAX_WORDS, MAX_WRITE_QUEUE,
 };
 pub use memory::{FlatMemory, ReplayFault, StepFault};
 use std::alloc::AllocError;
@@ -295,11 +295,11 @@ pub struct Shape {
 pub enum ShapeField {
     /// Words of a block: 1 to 16.
     BlockWords,
-    /// Ways of a set: 1 to 8.
+    /// Ways of a set: 1 to 8 as a const argument, 1 to 16 at run time.
     Ways,
-    /// Registers: 1 to 16.
+    /// Registers: 1 to 16 as a const argument, 1 to 64 at run time.
     Regs,
-    /// Places of the input stack: 1 to 16.
+    /// Places of the input stack: 1 to 16 as a const argument, 1 to 64 at run time.
     Depth,
     /// Words of memory: 1 to 1,048,576, and a multiple of the words of a block.
     Words,

@@ -4,14 +4,23 @@
 /// Words of a block.
 pub const MAX_BLOCK_WORDS: usize = 16;
 
-/// Ways of a set.
-pub const MAX_WAYS: usize = 8;
+/// Ways of a set, where they are given at run time.
+pub const MAX_WAYS: usize = 16;
 
-/// Registers.
-pub const MAX_REGS: usize = 16;
+/// Ways of a set, where they are a const argument of a type.
+pub const MAX_CONST_WAYS: usize = 8;
 
-/// Places of the input stack.
-pub const MAX_DEPTH: usize = 16;
+/// Registers, where their number is given at run time.
+pub const MAX_REGS: usize = 64;
+
+/// Registers, where their number is a const argument of a type.
+pub const MAX_CONST_REGS: usize = 16;
+
+/// Places of the input stack, where their number is given at run time.
+pub const MAX_DEPTH: usize = 64;
+
+/// Places of the input stack, where their number is a const argument of a type.
+pub const MAX_CONST_DEPTH: usize = 16;
 
 /// Words of memory of a machine of the program, and of one whose type has its numbers.
 pub const MAX_WORDS: u32 = 1_048_576;

@@ -9,7 +9,7 @@ use arrayvec::ArrayVec;
 use flat_model::{MAX_DEPTH, Word};
 use std::marker::Model;
 
-/// The words that came, the first to come at place 0: at most 16.
+/// The words that came, the first to come at place 0: at most 64.
 #[derive(Drop)]
 pub struct ArrivalStack {
     entries: ArrayVec<Entry, MAX_DEPTH>,
@@ -44,7 +44,7 @@ impl ArrivalStack {
         self.entries.len() as u32
     }
 
-    /// Puts an entry last. It comes back, with the stack unchanged, exactly where `places` (16 at
+    /// Puts an entry last. It comes back, with the stack unchanged, exactly where `places` (64 at
     /// most) or more entries stand in the stack.
     pub fn push(&mut self, places: u32, entry: Entry) -> Result<(), Entry>
         requires { places ≤ MAX_DEPTH }

@@ -100,7 +100,7 @@ module _ (timing : Timing) (s : MachineState) (requests : List Event) where
   front_of_run n over = go (nat_lt n most) refl
     where
       most : ℕ
-      most = most_rounds timing.latency (length requests)
+      most = most_rounds s.sizes timing.latency (length requests)
 
       go : (fewer : Bool) → nat_lt n most ≡ fewer
           → (rest : List ℕ) × (whole_text timing s requests ≡ run_text (rounds_until_over n start).told ++ rest)
@@ -181,7 +181,7 @@ module _ (timing : Timing) (s : MachineState) (requests : List Event) where
     kept_driven noted unnoted unsettled errors text bytes rounds measured same (Err f) moved count stopped fault =
         let front = subst (λ l. Stopped took refused old l new) (same ∙ measured.0) stopped in
         let broken = subst (BreaksOff took refused old (whole_text timing s requests) new) (sym fault) front in
-        inl (inr (measured.1, refl), inr (most_rounds timing.latency (length requests), broken, measured.2))
+        inl (inr (measured.1, refl), inr (most_rounds s.sizes timing.latency (length requests), broken, measured.2))
 
 pub offered : {E X : Type 0} (took : E → List ℕ → E → Type 0) (refused unflushed : E → E → Type 0) (old : E) (text : List ℕ) (new : E)
     (result : Result X TraceFault) → OnOk result (IsPut took old text new) → OnErr result (IsCut took refused unflushed old text new)

@@ -23,7 +23,8 @@ use Rattle.cache_unit.proofs.FormsLists.{Adds, Adds-tally, Adds-push, Adds-left,
 use Rattle.cache_unit.proofs.FormsLists.{flat_map_part, read_set}
 use Rattle.cache_unit.proofs.FormsEvents.{arrived_forms}
 use Rattle.cache_unit.proofs.Within.{waits_for}
-use Rattle.machine_core.specs.Machine.{Machine, backing, take_in, arrive_from, without_answer}
+use Rattle.memory_banks.specs.Memory.{without_answer}
+use Rattle.machine_core.specs.Machine.{Machine, backing, take_in, arrive_from}
 use Rattle.machine_core.specs.Sound.{is_for, is_entry_for, wanted, IsSound}
 use Rattle.machine_core.proofs.FromForms.{filled-arrived, word_from, flat_word-form, Same, flat_of-same, Kept, KeptBy}
 use Rattle.machine_core.proofs.Units.{bit-le, bit-pos, kept_same, sound_within, within_refl}

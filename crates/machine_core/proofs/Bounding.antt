@@ -37,7 +37,8 @@ use Rattle.cache_unit.specs.Counts.{bit}
 use Rattle.cache_unit.proofs.FormsChoosing.{Able}
 use Rattle.cache_unit.proofs.FormsProcessing.{done}
 use Rattle.machine_core.specs.Law.{IsLawful}
-use Rattle.machine_core.specs.Machine.{Machine, apply, joined_with, serve_from, take_in, arrive_from, without_answer}
+use Rattle.memory_banks.specs.Memory.{without_answer}
+use Rattle.machine_core.specs.Machine.{Machine, apply, joined_with, serve_from, take_in, arrive_from}
 use Rattle.machine_core.specs.Sound.{IsSound}
 use Rattle.cache_unit.proofs.FormsProcessing.{filled_only}
 

@@ -13,7 +13,8 @@ use Rattle.write_queue.specs.declared.Queued.{Queued}
 use Rattle.write_queue.specs.Queue.{overlaid}
 use Rattle.cache_directory.specs.declared.Cell.{Cell}
 use Rattle.cache_unit.specs.declared.Sizes.{Sizes}
-use Rattle.cache_unit.specs.State.{zero_cell, frame_at, cell_in, block_of, place_in, address}
+use Rattle.cache_directory.specs.Frames.{zero_cell}
+use Rattle.cache_unit.specs.State.{frame_at, cell_in, block_of, place_in, address}
 use Rattle.cache_unit.specs.Causes.{dirty_from, dirty_of_block, dirty_words}
 use Rattle.cache_unit.proofs.FormsFinding.{frame_of-is}
 use Rattle.cache_unit.proofs.FormsFetching.{address_is}

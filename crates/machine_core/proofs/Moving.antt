@@ -20,20 +20,19 @@ use Rattle.cache_unit.specs.Steps.{Stepped, drain_first, drain_step, process_ent
 use Rattle.cache_unit.specs.Steps.{process_step, take_reply, take_step}
 use Rattle.machine_core.specs.Machine.{Machine, apply, joined_with}
 use Rattle.machine_core.specs.Pump.{weight, has_items}
-use Rattle.machine_core.specs.Law.{IsLawful, HasRoom, greatest_weight}
-use Rattle.machine_core.specs.Sound.{IsSound, IsBounded}
+use Rattle.machine_core.specs.Law.{IsLawful, HasRoom, most_weight, greatest_weight}
+use Rattle.machine_core.specs.Sound.{IsSound}
 use Rattle.machine_core.proofs.Weighing.{some_queue, take_lowers, process_lowers, serve_lowers, drain_lowers}
-use Rattle.machine_core.proofs.Counting.{weight_bound}
 
 -- ---- the weight of any machine
 
-pub weighs_little : (z : Sizes) (m : Machine) → InRange z → IsSound z m → IsBounded z m → weight m ≤ greatest_weight
-weighs_little z m r sound bounded =
-    let few = weight_bound z m sound bounded in
+-- the most that can be on its way, whatever the numbers
+pub most_is_little : (z : Sizes) → InRange z → most_weight z ≤ greatest_weight
+most_is_little z r =
     let registers = mul-le z.regs z.block_words MAX_REGS MAX_BLOCK_WORDS r.few_regs r.few_words in
     let banks = mul-le z.banks z.bank_queue MAX_BANKS MAX_BANK_QUEUE r.few_banks r.few_commands in
     let four : 4 * z.regs * z.block_words ≡ 4 * (z.regs * z.block_words) = omega arith in
-    omega (arith, few, registers, banks, four, r.few_replies, r.short_queue)
+    omega (arith, registers, banks, four, r.few_replies, r.short_queue)
 
 -- ---- one event
 

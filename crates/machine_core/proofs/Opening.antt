@@ -11,7 +11,8 @@ use Rattle.flat_model.specs.Words.{merged, zero_word, no_lanes, has_any}
 use Rattle.flat_model.specs.Flat.{word_at}
 use Rattle.memory_banks.specs.Banks.{Bank, no_bank, bank_at, pending, all_pending, words_after, share_of}
 use Rattle.cache_unit.specs.declared.Sizes.{Sizes}
-use Rattle.cache_unit.specs.State.{Frame, Register, zero_cell, empty_frame, free_register, frame_at, frame_of, register_at, is_live}
+use Rattle.cache_directory.specs.Frames.{zero_cell}
+use Rattle.cache_unit.specs.State.{Frame, Register, empty_frame, free_register, frame_at, frame_of, register_at, is_live}
 use Rattle.cache_unit.specs.State.{cell_in, cell_of, gathered, targets_of, Target, targets, tags, block_of, place_in}
 use Rattle.cache_directory.specs.declared.Cell.{Cell}
 use Rattle.write_queue.specs.Queue.{overlaid}

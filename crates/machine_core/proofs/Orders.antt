@@ -7,7 +7,7 @@ use Rattle.std.proofs.lemmas.List.{get_or_past, set_past}
 use Rattle.cache_unit.specs.declared.Sizes.{Sizes}
 use Rattle.cache_unit.specs.State.{Frame, empty_frame}
 use Rattle.cache_unit.specs.Causes.{order_of}
-use Rattle.cache_unit.specs.Steps.{without}
+use Rattle.cache_directory.specs.Frames.{without}
 use Rattle.machine_core.specs.Sound.{is_in, block_at, InOrder}
 
 is_in-without : (order : List ℕ) (f g : ℕ) → (g ≡ f → ⊥) → is_in order g ≡ true → is_in (without order f) g ≡ true

@@ -34,7 +34,8 @@ use Rattle.cache_unit.proofs.FormsLists.{Adds-tally, Adds-remove, tally-append, 
 use Rattle.cache_unit.proofs.FormsChoosing.{Able, free_register_at, some_frame}
 use Rattle.cache_unit.proofs.FormsProcessing.{done}
 use Rattle.machine_core.specs.Law.{IsLawful}
-use Rattle.machine_core.specs.Machine.{Machine, apply, joined_with, serve_from, take_in, arrive_from, without_answer}
+use Rattle.memory_banks.specs.Memory.{without_answer}
+use Rattle.machine_core.specs.Machine.{Machine, apply, joined_with, serve_from, take_in, arrive_from}
 use Rattle.machine_core.specs.Sound.{is_for, IsSound, IsBounded}
 use Rattle.machine_core.proofs.Serving.{served-pending}
 use Rattle.machine_core.proofs.Units.{bit-pos, sound_unit}

@@ -16,7 +16,8 @@ use Rattle.cache_unit.specs.State.{Cache, UnitState, frame_of}
 use Rattle.cache_unit.specs.Causes.{arrive_cause, evict_cause}
 use Rattle.cache_unit.specs.Steps.{Stepped, unless, evicted_from, moved, arrived, arrive_step, evict_step, process_step, process_entry}
 use Rattle.cache_unit.specs.Steps.{take_step, take_reply}
-use Rattle.machine_core.specs.Machine.{Machine, Outcome, apply, walked, told, take_in, arrive_from, without_answer}
+use Rattle.memory_banks.specs.Memory.{without_answer}
+use Rattle.machine_core.specs.Machine.{Machine, Outcome, apply, walked, told, take_in, arrive_from}
 use Rattle.machine_core.specs.Whole.{machine_of}
 
 -- ---- sends

@@ -24,7 +24,8 @@ use Rattle.cache_unit.specs.Steps.{drain_step}
 use Rattle.cache_unit.specs.Counts.{tally, bit}
 use Rattle.cache_unit.proofs.FormsProcessing.{all_processed, done}
 use Rattle.cache_unit.proofs.FormsFields.{with_fields}
-use Rattle.machine_core.specs.Machine.{Machine, Outcome, apply, serve_from, arrive_from, take_in, without_answer, joined_with}
+use Rattle.memory_banks.specs.Memory.{without_answer}
+use Rattle.machine_core.specs.Machine.{Machine, Outcome, apply, serve_from, arrive_from, take_in, joined_with}
 use Rattle.machine_core.specs.Pump.{total, command_weight, bank_weight, field_weight, register_weight, weight, lowest, has_items, when}
 use Rattle.machine_core.specs.Pump.{pumped, first_event}
 use Rattle.machine_core.specs.Law.{IsLawful, HasRoom, WalkIsDriven}

@@ -1,7 +1,7 @@
 -- The machine: the cache unit and its banks.
 use Rattle.std.specs.Prelude.{ℕ, ◌/◌, ◌%◌, Bool, ◌&&◌, List, [], ◌∷◌, map, Option, Some, None, slice_get, slice_set}
 use Rattle.std.specs.Option.{option_map}
-use Rattle.std.specs.List.{list_all, range_with_len, remove}
+use Rattle.std.specs.List.{list_all, range_with_len}
 use Rattle.flat_model.specs.declared.Word.{Word}
 use Rattle.flat_model.specs.declared.Cause.{Cause}
 use Rattle.flat_model.specs.declared.Event.{Event}
@@ -11,6 +11,7 @@ use Rattle.flat_model.specs.declared.Answer.TheVariants.{Moved, Nothing, Refused
 use Rattle.flat_model.specs.Flat.{Flat, word_at}
 use Rattle.memory_banks.specs.declared.Command.{Command}
 use Rattle.memory_banks.specs.declared.BankAnswer.{BankAnswer}
+use Rattle.memory_banks.specs.Memory.{without_answer}
 use Rattle.memory_banks.specs.Banks.{Bank, bank_at, words_after, all_pending, served, room_in, all_sent, opening_banks}
 use Rattle.cache_unit.specs.declared.Sizes.{Sizes}
 use Rattle.cache_unit.specs.State.{Cache, opening_cache, frame_of, block_of, place_in}
@@ -46,10 +47,6 @@ abbrev pub serve_from : Machine → ℕ → List Command → Outcome
 serve_from m b [] = record { answer = Nothing; machine = m }
 serve_from m b (first ∷ rest) =
     record { answer = Moved; machine = record m { banks = slice_set m.banks b (served (bank_at m.banks b) first rest) } }
-
--- a bank without the answer at a place
-abbrev pub without_answer : Bank → ℕ → Bank
-without_answer b place = record b { answers = remove b.answers place }
 
 -- an answer leaves its bank, unless the unit refuses it
 abbrev pub take_in : Sizes → Machine → ℕ → ℕ → BankAnswer → Option Cause → Outcome

@@ -6,17 +6,17 @@ use cache_unit::Sizes;
 use flat_model::Word;
 use miss_registers::{FieldView, Owed, RegisterView};
 
-/// The numbers of a machine. The first four have to be those of a machine of the list.
+/// The numbers of a machine: any within their ranges.
 #[repr(C)]
 #[derive(Clone, Copy)]
 pub struct ShapeRow {
-    /// Ways of a set: 1 to 8.
+    /// Ways of a set: 1 to 16.
     pub ways: u32,
     /// Words of a block: 1 to 16.
     pub block_words: u32,
-    /// Registers: 1 to 16.
+    /// Registers: 1 to 64.
     pub regs: u32,
-    /// Places of the input stack: 1 to 16.
+    /// Places of the input stack: 1 to 64.
     pub depth: u32,
     /// Words of memory: 1 to 4,294,967,295, and a multiple of the words of a block.
     pub words: u32,

@@ -9,13 +9,13 @@ ghost use Rattle.memory_banks.specs.Memory.{serve_bank, without_answer, is_read,
 
 use crate::{BankAnswer, Command};
 use circular_buffer::HeapCircularBuffer;
-use flat_model::{Lanes, MAX_BANK_QUEUE, Word, merge};
+use flat_model::{Lanes, MAX_BANK_QUEUE, MAX_BLOCK_WORDS, MAX_REGS, Word, merge};
 use std::alloc::{AllocError, Global};
 use std::marker::Model;
 
 /// Answers that may stand in a bank before it serves: one for each word that a machine's registers
 /// may wait for.
-pub const MAX_ANSWERS: usize = 256;
+pub const MAX_ANSWERS: usize = MAX_REGS * MAX_BLOCK_WORDS;
 
 // Room for the answer of one more serve.
 const ANSWER_PLACES: usize = MAX_ANSWERS + 1;

@@ -76,7 +76,7 @@ impl Banks {
         })
     }
 
-    /// Serves the first command of the bank, in which at most 256 answers stand: a read adds its
+    /// Serves the first command of the bank, in which at most 1,024 answers stand: a read adds its
     /// answer last to them, a write changes the word at its place. A read of a place that the bank
     /// doesn't have answers the zero word, and a write there changes no word. `false` says that the
     /// queue is empty or the bank isn't there, and changes nothing.

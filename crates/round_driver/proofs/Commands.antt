@@ -11,7 +11,8 @@ use Rattle.memory_banks.proofs.Places.{bank_at-set}
 use Rattle.cache_unit.specs.declared.Sizes.{Sizes}
 use Rattle.cache_unit.specs.Causes.{arrive_cause}
 use Rattle.cache_unit.specs.Steps.{load_step, store_step, prefetch_step, evict_step, drain_step, process_step, take_step}
-use Rattle.machine_core.specs.Machine.{Machine, apply, serve_from, arrive_from, take_in, without_answer}
+use Rattle.memory_banks.specs.Memory.{without_answer}
+use Rattle.machine_core.specs.Machine.{Machine, apply, serve_from, arrive_from, take_in}
 use Rattle.machine_core.proofs.Moving.{leaves_commands}
 
 -- at least n commands wait at a bank

@@ -3,6 +3,7 @@ use Rattle.std.proofs.Common.{◌≡◌, ℕ, zero, suc, ◌+◌, ◌-◌, ◌*�
 use Rattle.std.specs.List.{list_all}
 use Rattle.std.proofs.lemmas.Bool.{and_parts}
 use Rattle.std.proofs.lemmas.List.{length-replicate}
+use Rattle.flat_model.specs.declared.limits.TheConstants.{MAX_BANKS}
 use Rattle.flat_model.specs.declared.Event.{Event}
 use Rattle.flat_model.specs.declared.Event.TheVariants.{Load, Store, Prefetch, Evict, Drain, Serve, Arrive, Process, Take}
 use Rattle.memory_banks.specs.Banks.{bank_at}
@@ -10,14 +11,15 @@ use Rattle.cache_unit.specs.Sound.{InRange}
 use Rattle.cache_unit.proofs.Made.{all_same}
 use Rattle.machine_core.specs.Machine.{MachineState}
 use Rattle.machine_core.specs.Pump.{weight}
-use Rattle.machine_core.specs.Law.{ServesRequests, greatest_weight}
+use Rattle.machine_core.specs.Law.{ServesRequests, most_weight}
 use Rattle.machine_core.specs.Whole.{IsWholeState}
 use Rattle.machine_core.specs.AnyMachine.{answered, after_event, weight_of}
 use Rattle.machine_core.proofs.Contract.{bound_at_rest}
 use Rattle.machine_core.proofs.Whole.{lawful, roomy}
+use Rattle.machine_core.proofs.Counting.{weight_bound}
 use Rattle.machine_core.proofs.Weighing.{rests_or_waits}
-use Rattle.machine_core.proofs.Moving.{weighs_little, HasCommand, leaves_commands}
-use Rattle.round_driver.specs.Rounds.{Course, course, Run, is_end, ends, begun_at, first_begun, next_round, moves, ask, asked, after_round, is_empty, is_over, rounds_until_over, opening, start_of, most_rounds, whole_run}
+use Rattle.machine_core.proofs.Moving.{HasCommand, leaves_commands}
+use Rattle.round_driver.specs.Rounds.{Course, course, Run, is_end, ends, begun_at, first_begun, next_round, moves, ask, asked, after_round, is_empty, is_over, rounds_until_over, opening, start_of, most_moves, most_rounds, whole_run}
 use Rattle.round_driver.specs.Walks.{is_request, RequestsEnd}
 use Rattle.round_driver.specs.declared.timing.Timing.{Timing}
 use Rattle.round_driver.proofs.Requests.{request_stays, request_ends}
@@ -47,7 +49,17 @@ request_leaves (Take place) r b = cc
 
 -- in rounds: latency + 1 for each move that the requests and the weight allow
 abbrev cost : Run → ℕ
-cost r = length r.left * (2625 * (r.schedule.timing.latency + 1)) + weight r.state.machine * (r.schedule.timing.latency + 1)
+cost r =
+    length r.left * (most_moves r.state.sizes * (r.schedule.timing.latency + 1)) + weight r.state.machine * (r.schedule.timing.latency + 1)
+
+-- what is on its way takes fewer rounds than a request may
+cheap : (s : MachineState) (k : ℕ) → IsWholeState s → weight s.machine * k + k ≤ most_moves s.sizes * k
+cheap s k whole =
+    let bound = weight_bound s.sizes s.machine whole.sound whole.bounded in
+    shared (weight s.machine) (most_weight s.sizes) bound
+  where
+    shared : (n most : ℕ) → n ≤ most → n * k + k ≤ (most + 1) * k
+    shared n most le = let l = mul-le-mul_right k le in omega (arith, l)
 
 -- nothing need move in the next d rounds at most: these are as many as a bank takes, or a bank is due then
 abbrev IsQuietFor : ℕ → Run → Type 0
@@ -58,6 +70,16 @@ record IsSound (r : Run) : Type 0 where
   steady : IsSteady r.state r.schedule
   requests : list_all is_request r.left ≡ true
 
+-- where the requests' rounds stay and those of a move fall away
+less_work : (left left' moving moving' weight latency d : ℕ) → left' ≡ left → moving' ≡ weight * (latency + 1)
+    → suc weight * (latency + 1) ≤ moving → left' + moving' + latency < left + moving + d
+less_work left left' moving moving' weight latency d same is fall = omega (arith, same, is, fall)
+
+-- where those of a request fall away, and some of it are for what is on its way
+one_less : (n each left left' moving moving' weight latency d : ℕ) → left' ≡ n * each → left ≡ suc n * each
+    → moving' ≡ weight * (latency + 1) → weight * (latency + 1) + (latency + 1) ≤ each → left' + moving' + latency < left + moving + d
+one_less n each left left' moving moving' weight latency d after before is few = omega (arith, after, before, is, few)
+
 -- behind a round the run may take fewer rounds
 record Goes (d : ℕ) (r next : Run) : Type 0 where
   sound : IsSound next
@@ -66,38 +88,44 @@ record Goes (d : ℕ) (r next : Run) : Type 0 where
   is_quiet : IsQuietFor quiet next
   cheaper : cost next + quiet < cost r + d
 
-module _ (d : ℕ) (r next : Run) (latency : next.schedule.timing.latency ≡ r.schedule.timing.latency) (round : next.schedule.round ≡ r.schedule.round + 1) (sound : IsSound next) where
+module _ (d : ℕ) (r next : Run) (latency : next.schedule.timing.latency ≡ r.schedule.timing.latency) (round : next.schedule.round ≡ r.schedule.round + 1) (sizes : next.state.sizes ≡ r.state.sizes) (sound : IsSound next) where
+  -- the rounds that a request may take
+  abbrev each : ℕ
+  each = most_moves r.state.sizes * (r.schedule.timing.latency + 1)
+
+  same_each : most_moves next.state.sizes * (next.schedule.timing.latency + 1) ≡ each
+  same_each = ap₂ (λ z l. most_moves z * (l + 1)) sizes latency
+
   -- the same requests, with less on its way
   lighter : length next.left ≡ length r.left → weight next.state.machine < weight r.state.machine → Goes d r next
   lighter as_many less =
       let k = r.schedule.timing.latency + 1 in
       let fall : suc (weight next.state.machine) * k ≤ weight r.state.machine * k = mul-le-mul_right k less in
-      let left : length next.left * (2625 * (next.schedule.timing.latency + 1)) ≡ length r.left * (2625 * k) = ap₂ (λ n l. n * (2625 * (l + 1))) as_many latency in
+      let left = ap₂ (λ n e. n * e) as_many same_each in
       let moving : weight next.state.machine * (next.schedule.timing.latency + 1) ≡ weight next.state.machine * k = ap (λ l. weight next.state.machine * (l + 1)) latency in
       record {
         sound = sound;
         round = round;
         quiet = r.schedule.timing.latency;
         is_quiet = inl (omega (arith, latency));
-        cheaper = omega (arith, fall, left, moving);
+        cheaper = less_work (length r.left * each) _ (weight r.state.machine * k) _ (weight next.state.machine) r.schedule.timing.latency d left moving fall;
       }
 
   -- a request less
   shorter : length r.left ≡ suc (length next.left) → Goes d r next
   shorter fewer =
       let k = r.schedule.timing.latency + 1 in
-      let w = sound.steady.whole in
-      let little = weighs_little next.state.sizes next.state.machine w.in_range w.sound w.bounded in
-      let most : weight next.state.machine * k ≤ greatest_weight * k = mul-le-mul_right k little in
-      let left : length next.left * (2625 * (next.schedule.timing.latency + 1)) ≡ length next.left * (2625 * k) = ap (λ l. length next.left * (2625 * (l + 1))) latency in
-      let before : length r.left * (2625 * k) ≡ suc (length next.left) * (2625 * k) = ap (λ n. n * (2625 * k)) fewer in
+      let most : weight next.state.machine * k + k ≤ each =
+      subst (λ z. weight next.state.machine * k + k ≤ most_moves z * k) sizes (cheap next.state k sound.steady.whole) in
+      let left = ap (λ e. length next.left * e) same_each in
+      let before = ap (λ n. n * each) fewer in
       let moving : weight next.state.machine * (next.schedule.timing.latency + 1) ≡ weight next.state.machine * k = ap (λ l. weight next.state.machine * (l + 1)) latency in
       record {
         sound = sound;
         round = round;
         quiet = r.schedule.timing.latency;
         is_quiet = inl (omega (arith, latency));
-        cheaper = omega (arith, most, left, before, moving);
+        cheaper = one_less (length next.left) each _ _ (weight r.state.machine * k) _ (weight next.state.machine) r.schedule.timing.latency d left before moving most;
       }
 
 -- ---- a round
@@ -147,8 +175,11 @@ module _ (d : ℕ) (r : Run) (sound : IsSound r) (quiet : IsQuietFor d r) (next 
   latency : next.schedule.timing.latency ≡ r.schedule.timing.latency
   latency = ap (λ p. p.timing.latency) schedule ∙ move.latency
 
+  sizes : next.state.sizes ≡ r.state.sizes
+  sizes = ap (λ s. s.sizes) state ∙ move.sizes
+
   banks : next.state.sizes.banks ≡ r.state.sizes.banks
-  banks = ap (λ s. s.sizes.banks) state ∙ move.banks
+  banks = ap (λ z. z.banks) sizes
 
   -- a busy bank is due a round sooner
   nearer : behind.state ≡ r.state → (b t : ℕ) → b < r.state.sizes.banks → first_begun behind.schedule b ≡ Some t → behind.schedule.round - t < behind.schedule.timing.latency → t ≤ r.schedule.round + 1 → t + r.schedule.timing.latency ≤ r.schedule.round + d + 1 ⊎ (r.schedule.timing.latency ≤ d) → Goes d r next
@@ -167,7 +198,9 @@ module _ (d : ℕ) (r : Run) (sound : IsSound r) (quiet : IsQuietFor d r) (next 
           later l =
               let still : first_begun next.schedule b ≡ Some t = ap (λ p. first_begun p b) schedule ∙ busy in
               let weighs : weight next.state.machine ≡ weight r.state.machine = ap (λ s. weight s.machine) (state ∙ same) in
-              let cost_same : cost next ≡ cost r = ap₂ (λ n k. n * (2625 * (next.schedule.timing.latency + 1)) + k * (next.schedule.timing.latency + 1)) as_many weighs ∙ ap (λ k. length r.left * (2625 * (k + 1)) + weight r.state.machine * (k + 1)) latency in
+              let moving = ap₂ (λ w k. w * (k + 1)) weighs latency in
+              let left = ap₂ (λ n e. n * e) as_many (same_each d r next latency round sizes next_sound) in
+              let cost_same : cost next ≡ cost r = ap₂ (λ a b. a + b) left moving in
               record {
                 sound = next_sound;
                 round = round;
@@ -209,8 +242,12 @@ module _ (d : ℕ) (r : Run) (sound : IsSound r) (quiet : IsQuietFor d r) (next 
       go : (weight behind.state.machine < weight r.state.machine) ⊎ ((behind.state ≡ r.state) × Stands (begun r) behind) → Goes d r next
       go (inl less) =
           let weighs = ap (λ s. weight s.machine) state in
-          lighter d r next latency round next_sound as_many (omega (arith, less, weighs))
+          lighter d r next latency round sizes next_sound as_many (omega (arith, less, weighs))
       go (inr x) = stood x.0 x.1 (busy x.0)
+
+sizes_stay : (s : MachineState) (event : Event) → (after_event s event).sizes ≡ s.sizes
+unfolding after_event
+sizes_stay s event = refl
 
 -- a run that isn't over takes fewer rounds behind the next one
 round_goes : (d : ℕ) (r : Run) → IsSound r → IsQuietFor d r → is_over r ≡ false → Goes d r (after_round r)
@@ -244,7 +281,7 @@ round_goes d r sound quiet going = go r.left refl sound.requests
     asks : (event : Event) (rest : List Event) → r.left ≡ event ∷ rest → is_request event ≡ true → list_all is_request rest ≡ true → (b : Bool) → ends event behind ≡ b → Goes d r (next event rest b)
     asks event rest e request requests true h =
         let sound : IsSound (next event rest true) = record { steady = steady_then event (request_leaves event request); requests = requests } in
-        shorter d r (next event rest true) move.latency move.round sound (ap length e)
+        shorter d r (next event rest true) move.latency move.round (sizes_stay behind.state event ∙ move.sizes) sound (ap length e)
     asks event rest e request requests false h =
         let same : after_event behind.state event ≡ behind.state = request_stays behind.state event request h in
         let all : list_all is_request (event ∷ rest) ≡ true = ap₂ (λ a b. a && b) request requests in
@@ -298,7 +335,7 @@ over_within (suc n) d r sound quiet few =
 pub requests_end : (timing : Timing) (s : MachineState) (requests : List Event) → IsWholeState s → RequestsEnd timing s requests
 requests_end timing s requests whole all =
     let rest = over_within most timing.latency start sound (inl (omega arith)) few in
-    let same : whole_run timing s requests ≡ rounds_until_over most start = round_over most (most_rounds timing.latency (length requests)) start (omega (arith, below)) rest.over in
+    let same : whole_run timing s requests ≡ rounds_until_over most start = round_over most (most_rounds s.sizes timing.latency (length requests)) start (omega (arith, below)) rest.over in
     let round = ap (λ r. r.schedule.round) same in
     let in_time = rest.in_time in
     record { over = ap is_over same ∙ rest.over; in_time = omega (arith, round, in_time, below) }
@@ -308,30 +345,39 @@ requests_end timing s requests whole all =
 
     -- a round less than there may be
     most : ℕ
-    most = most_rounds timing.latency (length requests) - 1
+    most = most_rounds s.sizes timing.latency (length requests) - 1
 
     none : List ℕ
     none = []
 
     idle : (b : ℕ) → begun_at (opening timing) b ≡ none
-    idle b = all_same 16 b none
+    idle b = all_same MAX_BANKS b none
 
     sound : IsSound start
     sound =
         record {
           steady = record {
             whole = whole;
-            places = length-replicate 16 none;
+            places = length-replicate MAX_BANKS none;
             busy = λ b. subst (IsInFlight 0 (length (bank_at s.machine.banks b).queue)) (sym (idle b)) (record { early = tt; fits = omega arith });
           };
           requests = all;
         }
 
-    little : weight s.machine * (timing.latency + 1) ≤ 2624 * (timing.latency + 1)
-    little = mul-le-mul_right (timing.latency + 1) (weighs_little s.sizes s.machine whole.in_range whole.sound whole.bounded)
+    little : weight s.machine * (timing.latency + 1) + (timing.latency + 1) ≤ most_moves s.sizes * (timing.latency + 1)
+    little = cheap s (timing.latency + 1) whole
 
-    below : most < most_rounds timing.latency (length requests)
-    below = let l = little in omega (arith, l)
+    -- of a request more than there are, all rounds but one are enough for what is on its way
+    with_room : (n each moving latency : ℕ) → moving + (latency + 1) ≤ each
+        → ((n + 1) * each - 1 < (n + 1) * each) × (n * each + moving + latency ≤ (n + 1) * each - 1)
+    with_room n each moving latency h = (omega (arith, h), omega (arith, h))
+
+    room : (most < most_rounds s.sizes timing.latency (length requests)) × (cost start + timing.latency ≤ most)
+    room =
+        with_room (length requests) (most_moves s.sizes * (timing.latency + 1)) (weight s.machine * (timing.latency + 1)) timing.latency little
+
+    below : most < most_rounds s.sizes timing.latency (length requests)
+    below = room.0
 
     few : cost start + timing.latency ≤ most
-    few = let l = little in omega (arith, l)
+    few = room.1

@@ -3,6 +3,7 @@ use Rattle.std.proofs.Common.{◌≡◌, ℕ, zero, suc, ◌+◌, ◌-◌, ◌<�
 use Rattle.std.specs.Option.{option_or}
 use Rattle.std.proofs.lemmas.Bool.{and_parts, cases_eq, cases_lt, ltb-false}
 use Rattle.std.proofs.lemmas.List.{get_or_past, length-append}
+use Rattle.flat_model.specs.declared.limits.TheConstants.{MAX_BANKS}
 use Rattle.flat_model.specs.declared.Event.{Event}
 use Rattle.flat_model.specs.declared.Event.TheVariants.{Drain, Serve, Arrive, Process, Take}
 use Rattle.memory_banks.specs.declared.BankAnswer.{BankAnswer}
@@ -43,7 +44,7 @@ pub record IsInFlight (round number : ℕ) (begun : List ℕ) : Type 0 where
 -- the machine is whole, and each bank has the commands that it began
 pub record IsSteady (s : MachineState) (p : Schedule) : Type 0 where
   pub whole : IsWholeState s
-  pub places : length p.begun ≡ 16
+  pub places : length p.begun ≡ MAX_BANKS
   pub busy : (b : ℕ) → IsInFlight p.round (length (bank_at s.machine.banks b).queue) (begun_at p b)
 
 some_items : {X : Type 0} (xs : List X) → 0 < length xs → has_items xs ≡ true
@@ -106,7 +107,7 @@ pub record Move (c d : Course) (why : Type 0) : Type 0 where
   pub steady : IsSteady d.state d.schedule
   pub round : d.schedule.round ≡ c.schedule.round
   pub latency : d.schedule.timing.latency ≡ c.schedule.timing.latency
-  pub banks : d.state.sizes.banks ≡ c.state.sizes.banks
+  pub sizes : d.state.sizes ≡ c.state.sizes
   pub lighter : (weight d.state.machine < weight c.state.machine) ⊎ ((d.state ≡ c.state) × why)
 
 -- two moves, one after the other
@@ -116,7 +117,7 @@ then {F} {G} {H} c d e first second both =
       steady = second.steady;
       round = second.round ∙ first.round;
       latency = second.latency ∙ first.latency;
-      banks = second.banks ∙ first.banks;
+      sizes = second.sizes ∙ first.sizes;
       lighter = go first.lighter second.lighter;
     }
   where
@@ -163,7 +164,7 @@ record Begun (b : ℕ) (c d : Course) : Type 0 where
   kept : (k t : ℕ) → first_begun c.schedule k ≡ Some t → first_begun d.schedule k ≡ Some t
   begins : Waits c.state b → (t : ℕ) × (first_begun d.schedule b ≡ Some t)
 
-begun : (b : ℕ) (c : Course) → Steady c → b < 16 → Begun b c (begin b c)
+begun : (b : ℕ) (c : Course) → Steady c → b < MAX_BANKS → Begun b c (begin b c)
 unfolding begin command_count
 begun b c steady few = go (is_free c.schedule b && nat_lt (length before) (waiting c.state b)) refl
   where
@@ -259,7 +260,7 @@ serves b c steady there = go (begun_at c.schedule b) refl
     Flies k = InFlightAt k (begun_at (without_first c.schedule b) k)
 
     stays : ((t : ℕ) → first_begun c.schedule b ≡ Some t → NotDue c t) → Move c c (ServedOrNot b c c)
-    stays early = record { steady = steady; round = refl; latency = refl; banks = refl; lighter = inr (refl, (refl, early)) }
+    stays early = record { steady = steady; round = refl; latency = refl; sizes = refl; lighter = inr (refl, (refl, early)) }
 
     ends : (t : ℕ) (ts : List ℕ) → begun_at c.schedule b ≡ t ∷ ts → Move c ended (ServedOrNot b c ended)
     ends t ts e =
@@ -271,7 +272,7 @@ serves b c steady there = go (begun_at c.schedule b) refl
           };
           round = refl;
           latency = refl;
-          banks = refl;
+          sizes = refl;
           lighter = inl falls;
         }
       where
@@ -345,11 +346,11 @@ turn_then n b c steady all later = then c e f first rest both
     f : Course
     f = bank_turns n (b + 1) e
 
-    sizes : d.state.sizes.banks ≡ c.state.sizes.banks
-    sizes = ap (λ s. s.sizes.banks) begins.state
+    sizes : d.state.sizes ≡ c.state.sizes
+    sizes = ap (λ s. s.sizes) begins.state
 
     serving : Move d e (ServedOrNot b d e)
-    serving = serves b d begins.steady (omega (arith, there, sizes))
+    serving = serves b d begins.steady (let same = ap (λ z. z.banks) sizes in omega (arith, there, same))
 
     first : Move c e (ServedOrNot b d e)
     first =
@@ -357,7 +358,7 @@ turn_then n b c steady all later = then c e f first rest both
           steady = serving.steady;
           round = serving.round ∙ begins.round;
           latency = serving.latency ∙ begins.latency;
-          banks = serving.banks ∙ sizes;
+          sizes = serving.sizes ∙ sizes;
           lighter = go serving.lighter;
         }
       where
@@ -366,7 +367,7 @@ turn_then n b c steady all later = then c e f first rest both
         go (inr p) = inr (p.0 ∙ begins.state, p.1)
 
     rest : Move e f (Turned (b + 1) n e f)
-    rest = later first.steady (let same = first.banks in omega (arith, all, same))
+    rest = later first.steady (let same = ap (λ z. z.banks) first.sizes in omega (arith, all, same))
 
     both : ServedOrNot b d e → Turned (b + 1) n e f → e.state ≡ c.state → f.state ≡ e.state → Turned b (suc n) c f
     both served turned same stayed =
@@ -399,7 +400,7 @@ turns zero b c steady all =
       steady = steady;
       round = refl;
       latency = refl;
-      banks = refl;
+      sizes = refl;
       lighter = inr (refl, record { kept = λ k t e. e; begins = λ k lo hi w. absurd (omega (arith, lo, hi)) });
     }
 turns (suc n) b c steady all = turn_then n b c steady all (λ s a. turns n (b + 1) (serve_due b (begin b c)) s a)
@@ -468,7 +469,7 @@ unfolding arrive has_stack_room has_answer attempt after_event
 arrives c steady = go (nat_lt (length c.state.machine.cache.stack) c.state.sizes.depth) refl
   where
     stays : NothingArrives c.state → Move c c (Shows c c NothingArrives)
-    stays why = record { steady = steady; round = refl; latency = refl; banks = refl; lighter = inr (refl, (refl, why)) }
+    stays why = record { steady = steady; round = refl; latency = refl; sizes = refl; lighter = inr (refl, (refl, why)) }
 
     comes : length c.state.machine.cache.stack < c.state.sizes.depth → (b : ℕ) → has_answer c.state b ≡ true → Move c (arrive_from (Some b) c) (Shows c (arrive_from (Some b) c) NothingArrives)
     comes room_left b some =
@@ -476,7 +477,7 @@ arrives c steady = go (nat_lt (length c.state.machine.cache.stack) c.state.sizes
           steady = attempt_steady (Arrive b 0) behind same (λ k. tt);
           round = refl;
           latency = refl;
-          banks = refl;
+          sizes = refl;
           lighter = inl (falls (bank_at c.state.machine.banks b).answers refl);
         }
       where
@@ -517,7 +518,7 @@ attempted event c why steady leaves falls =
       steady = attempt_steady event c steady leaves;
       round = refl;
       latency = refl;
-      banks = refl;
+      sizes = refl;
       lighter = go falls;
     }
   where

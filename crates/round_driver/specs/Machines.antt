@@ -1,6 +1,5 @@
 -- What a machine that is driven shows beside its weight, by its state alone.
 use Rattle.std.specs.Prelude.{ℕ, zero, suc, ◌+◌, Bool, false, if◌then◌else◌, nat_lt, length, Option, Some, None}
-use Rattle.flat_model.specs.declared.limits.TheConstants.{MAX_REGS}
 use Rattle.memory_banks.specs.Banks.{bank_at}
 use Rattle.miss_registers.specs.declared.RegisterView.{RegisterView}
 use Rattle.cache_unit.specs.declared.Lookup.{Lookup}
@@ -40,4 +39,4 @@ used_among s (suc n) slot = used_at s slot + used_among s n (slot + 1)
 
 -- how many registers are in use
 unfoldable pub used_registers : MachineState → ℕ
-used_registers s = used_among s MAX_REGS 0
+used_registers s = used_among s s.sizes.regs 0

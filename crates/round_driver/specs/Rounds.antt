@@ -8,12 +8,13 @@ use Rattle.flat_model.specs.declared.Answer.{Answer}
 use Rattle.flat_model.specs.declared.Answer.TheVariants.{Accepted, Moved, Value, Nothing, Refused}
 use Rattle.flat_model.specs.Causes.{ends_request}
 use Rattle.cache_unit.specs.declared.Lookup.{Lookup}
+use Rattle.cache_unit.specs.declared.Sizes.{Sizes}
 use Rattle.cache_unit.specs.declared.Lookup.TheVariants.{Miss}
+use Rattle.machine_core.specs.Law.{most_weight}
 use Rattle.machine_core.specs.Machine.{MachineState}
 use Rattle.machine_core.specs.AnyMachine.{answered, after_event, weight_of}
 use Rattle.round_driver.specs.Machines.{command_count, has_answer, has_stack_room, found_at, used_registers}
 use Rattle.trace_text.specs.Codes.{most_lines}
-use Rattle.round_driver.specs.declared.driving.TheConstants.{MOST_MOVES}
 use Rattle.round_driver.specs.declared.note.Note.{Note}
 use Rattle.round_driver.specs.declared.schedule.Schedule.{Schedule}
 use Rattle.round_driver.specs.declared.timing.Timing.{Timing}
@@ -232,16 +233,21 @@ start_of timing s requests = record { state = s; schedule = opening timing; left
 abbrev pub most_requests : ℕ
 most_requests = most_lines
 
--- More rounds than a run takes. What is on its way allows fewer than MOST_MOVES moves, and in any latency + 1 rounds
+-- more moves than there can be while nothing new is asked: each makes what is on its way lighter
+abbrev pub most_moves : Sizes → ℕ
+most_moves z = most_weight z + 1
+
+-- More rounds than a run takes. What is on its way allows fewer than `most_moves` moves, and in any latency + 1 rounds
 -- there is one, or a request ends. A pipelined bank takes no longer.
-abbrev pub most_rounds : ℕ → ℕ → ℕ
-most_rounds latency requests = (requests + 1) * (MOST_MOVES * (latency + 1))
+abbrev pub most_rounds : Sizes → ℕ → ℕ → ℕ
+most_rounds z latency requests = (requests + 1) * (most_moves z * (latency + 1))
 
 -- the whole run of these requests
 abbrev pub whole_run : Timing → MachineState → List Event → Run
-whole_run timing s requests = rounds_until_over (most_rounds timing.latency (length requests)) (start_of timing s requests)
+whole_run timing s requests = rounds_until_over (most_rounds s.sizes timing.latency (length requests)) (start_of timing s requests)
 
 -- a run that took fewer rounds than it may is over
 abbrev pub EndsInTime : Timing → MachineState → List Event → Type 0
 EndsInTime timing s requests =
-    (whole_run timing s requests).schedule.round < most_rounds timing.latency (length requests) → is_over (whole_run timing s requests) ≡ true
+    (whole_run timing s requests).schedule.round < most_rounds s.sizes timing.latency (length requests)
+    → is_over (whole_run timing s requests) ≡ true

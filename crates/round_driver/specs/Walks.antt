@@ -44,7 +44,7 @@ RunIsTold timing s requests n = IsTold s requests (rounds_until_over n (start_of
 -- the requests are used up, nothing is on its way, and fewer rounds were made than may be
 pub record IsOverInTime (timing : Timing) (s : MachineState) (requests : List Event) : Type 0 where
   pub over : is_over (whole_run timing s requests) ≡ true
-  pub in_time : (whole_run timing s requests).schedule.round < most_rounds timing.latency (length requests)
+  pub in_time : (whole_run timing s requests).schedule.round < most_rounds s.sizes timing.latency (length requests)
 
 -- each run of requests is over in time: an event that is no request never ends, and is asked in each round
 abbrev pub RequestsEnd : Timing → MachineState → List Event → Type 0

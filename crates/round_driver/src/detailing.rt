@@ -74,7 +74,7 @@ pub fn detail_with<M: RoundMachine>(
     let mut schedule = Schedule::new(timing);
     let mut notes = Notes::new();
     let mut left = requests;
-    for _turn in 0..most_rounds(timing.latency, requests.len()) {
+    for _turn in 0..most_rounds(machine, timing.latency, requests.len()) {
         if is_over(machine, left) {
             let table = counter.table_after(schedule.round + 1);
             return Ok(details_from(

@@ -25,10 +25,6 @@ use trace_text::{Failed, Sink, TraceFault, write_whole};
 /// The most rounds that may pass between a command's begin and its service.
 pub const MOST_LATENCY: u64 = 1_000;
 
-/// More moves than there can be while nothing new is asked: each makes what is on its way lighter,
-/// and the most that a machine has on its way weighs 2,624.
-pub(crate) const MOST_MOVES: u64 = 2_625;
-
 // One round: what is told of it stands in `notes`, and the requests that are left come back.
 #[tactic(auto, unfolding(crate::specs::Rounds::after_round))]
 pub(crate) fn round<'a, M: RoundMachine>(
@@ -70,13 +66,13 @@ pub(crate) fn is_over<M: RoundMachine>(machine: &M, left: &[Event]) -> bool
 }
 
 // More rounds than a run takes.
-pub(crate) fn most_rounds(latency: u64, requests: usize) -> u64
+pub(crate) fn most_rounds<M: RoundMachine>(machine: &M, latency: u64, requests: usize) -> u64
     requires latency { latency ≤ MOST_LATENCY }
     requires requests { requests ≤ most_requests }
-    ensures value { result ≡ rounds.most_rounds latency requests }
+    ensures value { result ≡ rounds.most_rounds (M.state machine.now).sizes latency requests }
     ensures few { result < 2 ^ 48 }
 {
-    (requests as u64 + 1) * (MOST_MOVES * (latency + 1))
+    (requests as u64 + 1) * (machine.most_moves() * (latency + 1))
 }
 
 /// Drives these requests through the machine in rounds, and writes the run: each request whenever it
@@ -85,8 +81,10 @@ pub(crate) fn most_rounds(latency: u64, requests: usize) -> u64
 /// in which nothing moves.
 ///
 /// If all of `requests` are loads, stores, prefetches and evictions, they are used up then and nothing
-/// is on its way, after at most `(requests + 1) * 2,625 * (latency + 1)` rounds. No run makes more
-/// rounds: another event among the requests never ends, and is asked in each round up to the last.
+/// is on its way, after at most `(requests + 1) * (most weight + 1) * (latency + 1)` rounds, with the
+/// most that [`weight`](machine_core::ShapedMachine::weight) can be for the machine's numbers. No run
+/// makes more rounds: another event among the requests never ends, and is asked in each round up to the
+/// last.
 ///
 /// `timing` says how long a bank takes for a command, with a latency of at most [`MOST_LATENCY`].
 /// There may be at most 16,777,216 requests. The machine has at most 16 banks, as each one that is
@@ -123,7 +121,7 @@ pub fn drive_with<W: Sink, M: RoundMachine>(
     let mut schedule = Schedule::new(timing);
     let mut notes = Notes::new();
     let mut left = requests;
-    for _turn in 0..most_rounds(timing.latency, requests.len()) {
+    for _turn in 0..most_rounds(machine, timing.latency, requests.len()) {
         if is_over(machine, left) {
             return Ok(schedule.round + 1);
         }
@@ -199,7 +197,7 @@ pub fn summarize_with<M: RoundMachine>(
     let mut schedule = Schedule::new(timing);
     let mut notes = Notes::new();
     let mut left = requests;
-    for _turn in 0..most_rounds(timing.latency, requests.len()) {
+    for _turn in 0..most_rounds(machine, timing.latency, requests.len()) {
         if is_over(machine, left) {
             return Ok(counter.table_after(schedule.round + 1));
         }

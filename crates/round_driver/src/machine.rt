@@ -1,11 +1,15 @@
 //! What is asked of a machine that is driven in rounds.
-ghost use Rattle.std.specs.Prelude.{◌≡◌, ◌<◌, ◌≤◌};
+ghost use Rattle.std.specs.Prelude.{◌≡◌, ◌<◌, ◌≤◌, ◌+◌};
 ghost use Rattle.flat_model.specs.declared.limits.TheConstants.{MAX_BANK_QUEUE};
+ghost use Rattle.cache_unit.specs.Sound.{InRange};
+ghost use Rattle.machine_core.specs.Law.{greatest_weight};
 ghost use Rattle.machine_core.specs.Whole.{IsWholeState};
 ghost use Rattle.round_driver.specs.Details as details;
 ghost use Rattle.round_driver.specs.Machines as machines;
+ghost use Rattle.round_driver.specs.Rounds.{most_moves};
 
-use flat_model::{MAX_BANK_QUEUE, MAX_REGS};
+use cache_unit::Sizes;
+use flat_model::MAX_BANK_QUEUE;
 use machine_core::{AnyMachine, Lookup, ShapedMachine};
 
 /// The numbers of a machine that counts of its run depend on.
@@ -38,6 +42,12 @@ pub trait RoundMachine: AnyMachine {
     /// this rests that every run of requests ends.
     fn keeps_whole(&self)
         ensures { IsWholeState (Self.state self.now) };
+
+    /// More moves than there can be while nothing new is asked: one more than the most that a machine
+    /// of these numbers has on its way weighs, and each move makes that lighter.
+    fn most_moves(&self) -> u64
+        ensures value { result ≡ most_moves (Self.state self.now).sizes }
+        ensures few { result ≤ greatest_weight + 1 };
 
     /// How many banks there are.
     fn bank_count(&self) -> u32
@@ -75,6 +85,12 @@ impl RoundMachine for ShapedMachine {
         let _weight = self.weight();
     }
 
+    fn most_moves(&self) -> u64 {
+        // (The numbers of a machine are in their ranges, as the contract of `weight` tells.)
+        let _weight = self.weight();
+        most_moves(self.sizes())
+    }
+
     fn bank_count(&self) -> u32 {
         self.sizes().banks
     }
@@ -103,7 +119,7 @@ impl RoundMachine for ShapedMachine {
 
     #[tactic(auto, unfolding(crate::specs::Machines::used_registers))]
     fn used_registers(&self) -> u32 {
-        used_among(self, MAX_REGS as u32)
+        used_among(self, self.sizes().regs)
     }
 
     fn numbers(&self) -> MachineNumbers {
@@ -115,6 +131,17 @@ impl RoundMachine for ShapedMachine {
             replies: sizes.replies,
         }
     }
+}
+
+// More moves than there can be on numbers that are in their ranges.
+fn most_moves(sizes: &Sizes) -> u64
+    requires { InRange sizes.now }
+    ensures value { result ≡ most_moves sizes.now }
+    ensures few { result ≤ greatest_weight + 1 }
+{
+    let registers = 4 * u64::from(sizes.regs) * u64::from(sizes.block_words);
+    let queued = u64::from(sizes.replies) + 2 * u64::from(sizes.write_queue);
+    registers + queued + u64::from(sizes.banks) * u64::from(sizes.bank_queue) + 1
 }
 
 // 1 for a register in use, else 0.

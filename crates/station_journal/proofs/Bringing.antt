@@ -3,6 +3,7 @@ use Rattle.std.proofs.Common.{◌≡◌, ◌≢◌, ℕ, ◌+◌, ◌*◌, ◌%�
 use Rattle.std.specs.List.{count_by}
 use Rattle.std.proofs.Math.Nat.{mod-eq_of_lt}
 use Rattle.std.proofs.lemmas.Bool.{cases_eq, ltb-true, ltb-false, lt-leb}
+use Rattle.flat_model.specs.declared.limits.TheConstants.{MAX_BLOCK_WORDS}
 use Rattle.flat_model.specs.declared.Cause.TheVariants.{StrayWord, StackFull}
 use Rattle.flat_model.specs.declared.Answer.{Answer}
 use Rattle.flat_model.specs.declared.Answer.TheVariants.{Moved}
@@ -76,7 +77,7 @@ module _ (z : Sizes) (in_range : InRange z) (cache : Cache) (sent : ℕ → List
   exact : count_by is_read (sent bank) % 2 ^ 64 ≡ count_by is_read (sent bank)
   exact =
       let few = reads_few z (omega (arith, in_range.some_words)) (come_word h.come) entries (opening_stand z) h.stand h.walks bank in
-      let most : z.block_words * length entries ≤ 16 * length entries = mul-le-mul_right (length entries) in_range.few_words in
+      let most : z.block_words * length entries ≤ MAX_BLOCK_WORDS * length entries = mul-le-mul_right (length entries) in_range.few_words in
       let swap : length entries * z.block_words ≡ z.block_words * length entries = omega arith in
       let same = ap (count_by is_read) (h.commands bank here) in
       let bound : count_by is_read (sent bank) < 2 ^ 64 = omega arith in

@@ -15,7 +15,8 @@ use Rattle.memory_banks.proofs.Sending.{extended, all_sent-length, all_sent-at}
 use Rattle.cache_unit.specs.declared.Sizes.{Sizes}
 use Rattle.cache_unit.specs.State.{Cache}
 use Rattle.cache_unit.specs.Steps.{Stepped}
-use Rattle.machine_core.specs.Machine.{Machine, opening, flat_of, joined_with, without_answer}
+use Rattle.memory_banks.specs.Memory.{without_answer}
+use Rattle.machine_core.specs.Machine.{Machine, opening, flat_of, joined_with}
 use Rattle.station_journal.specs.Journal.{Stand, opening_stand, zeros, zeros_in}
 use Rattle.station_journal.proofs.FlatFrom.{FlatFrom}
 use Rattle.station_journal.proofs.Serving.{finished, AllFinished, finish_all}

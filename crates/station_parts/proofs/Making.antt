@@ -6,6 +6,7 @@ use Rattle.std.proofs.lemmas.List.{map-append, length-map, length-replicate}
 use Rattle.std.proofs.lemmas.List.Elements.{All-push, All-head, All-tail, All-weaker}
 use Rattle.std.proofs.lemmas.List.FromFn.{length-map-range_with_len, map-range_with_len_more}
 use Rattle.std.specs.declared.alloc.Global.{Global}
+use Rattle.station_parts.specs.declared.make.TheConstants.{MAX_PORTS, MAX_ENTRIES}
 use Rattle.rtrb.specs.Ring.{IsPair, sent, received, known_free, known_items}
 use Rattle.rtrb.specs.declared.producer.Producer.{Producer}
 use Rattle.rtrb.specs.declared.consumer.Consumer.{Consumer}
@@ -263,17 +264,17 @@ module _ (s : Shape) (z : Sizes) (count : ℕ) (ports : List Port) (asks : List 
 pub record AreInRange (z : Sizes) (ports journal : ℕ) : Type 0 where
   pub unit : limits.bad_field z ≡ None
   pub range : InRange z
-  pub few_ports : ports ≤ 16
-  pub few_entries : journal ≤ 1048576
+  pub few_ports : ports ≤ MAX_PORTS
+  pub few_entries : journal ≤ MAX_ENTRIES
 
 pub are_in_range : (z : Sizes) (ports journal : ℕ) → bad_field z ports journal ≡ None → AreInRange z ports journal
-are_in_range z ports journal e = go (limits.bad_field z) refl (is_between ports 1 16) refl (is_between journal 1 1048576) refl e
+are_in_range z ports journal e = go (limits.bad_field z) refl (is_between ports 1 MAX_PORTS) refl (is_between journal 1 MAX_ENTRIES) refl e
   where
-    go : (o : Option ShapeField) → limits.bad_field z ≡ o → (p : Bool) → is_between ports 1 16 ≡ p → (j : Bool)
-        → is_between journal 1 1048576 ≡ j → option_or o (cond (not p) (Some Ports) (cond (not j) (Some Journal) None)) ≡ None
+    go : (o : Option ShapeField) → limits.bad_field z ≡ o → (p : Bool) → is_between ports 1 MAX_PORTS ≡ p → (j : Bool)
+        → is_between journal 1 MAX_ENTRIES ≡ j → option_or o (cond (not p) (Some Ports) (cond (not j) (Some Journal) None)) ≡ None
         → AreInRange z ports journal
     go (Some field) u p q j r h = cc
     go None u false q j r h = cc
     go None u true q false r h = cc
     go None u true q true r h =
-        record { unit = u; range = in_range z u; few_ports = (between ports 1 16 q).1; few_entries = (between journal 1 1048576 r).1 }
+        record { unit = u; range = in_range z u; few_ports = (between ports 1 MAX_PORTS q).1; few_entries = (between journal 1 MAX_ENTRIES r).1 }

@@ -149,17 +149,18 @@ const TABLES: &[Rounds] = &[
         },
         shown: "rounds 14 accepted 3 denied 1 hits 0 joins 1 misses 2 stalled 1 lost 3:0 4:0 5:0 7:4 8:0 9:0 10:0 values 3 mean 3.00 longest 3 registers 1 written 0",
     },
-    // A drain is no request: it never ends, and is asked in each of the (1 + 1) * 2,625 rounds that may be
-    // made with latency 0. The count adds the one in which nothing moves.
+    // A drain is no request: it never ends, and is asked in each of the (1 + 1) * (44 + 1) rounds that may be
+    // made with latency 0, since a register of four words weighs 16 at most, four replies 4, four queued
+    // words 8, and four banks of four commands 16. The count adds the one in which nothing moves.
     Rounds {
         name: "a_drain_is_asked_to_the_last_round",
         latency: 0,
         requests: &[Event::Drain],
         table: Table {
-            rounds: 5251,
+            rounds: 91,
             ..EMPTY_TABLE
         },
-        shown: "rounds 5251 accepted 0 denied 0 hits 0 joins 0 misses 0 stalled 0 lost 3:0 4:0 5:0 7:0 8:0 9:0 10:0 values 0 mean 0.00 longest 0 registers 0 written 0",
+        shown: "rounds 91 accepted 0 denied 0 hits 0 joins 0 misses 0 stalled 0 lost 3:0 4:0 5:0 7:0 8:0 9:0 10:0 values 0 mean 0.00 longest 0 registers 0 written 0",
     },
 ];
 

@@ -1,4 +1,5 @@
 use Rattle.std.proofs.Common.{◌≡◌, ◌≤◌}
+use Rattle.flat_model.specs.declared.limits.TheConstants.{MAX_BANKS}
 use Rattle.trace_text.specs.Streams.{Moves}
 use Rattle.round_driver.specs.Rounds.{run_of, start_of, rounds_until_over}
 use Rattle.round_driver.specs.Written.{run_text}
@@ -13,5 +14,5 @@ invariant-loop-turn g l =
       written : Moves g.W.Sink.took l.fn.writer (run_text so_far.told) l.writer;
       sizes : (g.M.AnyMachine.state l.machine).sizes ≡ (g.M.AnyMachine.state l.initial.machine).sizes;
       time : l.schedule.round ≡ l._turn;
-      next : l.schedule.next ≤ 16;
+      next : l.schedule.next ≤ MAX_BANKS;
     }

@@ -1,4 +1,5 @@
 use Rattle.std.proofs.Common.{◌≡◌, ◌*◌, ◌^◌, ◌≤◌, length}
+use Rattle.flat_model.specs.declared.limits.TheConstants.{MAX_BANKS}
 use Rattle.round_driver.specs.Rounds.{run_of, start_of, rounds_until_over}
 use Rattle.round_driver.specs.Tables.{counting, nothing, counted_all, total}
 use Rattle.round_driver.specs.declared.round.TheConstants.{MOST_NOTES}
@@ -14,7 +15,7 @@ invariant-loop-turn g l =
       counts : counting l.counter ≡ counted_all nothing so_far.told;
       sizes : (g.M.AnyMachine.state l.machine).sizes ≡ (g.M.AnyMachine.state l.initial.machine).sizes;
       time : l.schedule.round ≡ l._turn;
-      next : l.schedule.next ≤ 16;
+      next : l.schedule.next ≤ MAX_BANKS;
       total : total l.counter.table ≤ 2 * MOST_NOTES * l._turn;
       waited : l.counter.table.waited ≤ MOST_NOTES * 2 ^ 64 * l._turn;
       tags : TAGS ≤ length l.counter.since.items;

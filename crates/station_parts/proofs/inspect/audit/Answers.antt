@@ -1,4 +1,6 @@
 use Rattle.std.proofs.Common.{rules, ◌≢◌, ◌≤◌, length, subst, sym, ◌∙◌}
+use Rattle.flat_model.specs.declared.limits.TheConstants.{MAX_BANKS}
+use Rattle.station_parts.specs.declared.make.TheConstants.{MAX_PORTS}
 use Rattle.station_parts.specs.Runs.{AreAnswered}
 use Rattle.station_parts.specs.declared.parts.Audit.{Audit}
 use Rattle.station_parts.specs.declared.parts.Audit.TheVariants.{Faulted}
@@ -12,8 +14,8 @@ found-requires g c =
     let n = c.look_everywhere.new in
     let e = c.look_everywhere.ensures in
     let one = still_one _ _ _ _ _ _ e.same_cache e.same_ports e.same_banks c.requires in
-    let ports : length n.ports ≤ 16 = few_of (ask_number n.cache n.ports n.banks one e.seen) n.cache.few_ports in
-    let banks : length n.banks ≤ 16 = few_of (sym (bank_number n.cache n.ports n.banks one e.seen)) n.cache.in_range.few_banks in
+    let ports : length n.ports ≤ MAX_PORTS = few_of (ask_number n.cache n.ports n.banks one e.seen) n.cache.few_ports in
+    let banks : length n.banks ≤ MAX_BANKS = few_of (sym (bank_number n.cache n.ports n.banks one e.seen)) n.cache.in_range.few_banks in
     (search rules, (ports, banks))
 
 pub returns-clause-never : goal.returns-clause-never

@@ -4,7 +4,7 @@ use Rattle.cache_directory.specs.Frames.{all_empty}
 use Rattle.cache_unit.specs.declared.Sizes.{Sizes}
 use Rattle.cache_unit.specs.State.{Cache, UnitState}
 use Rattle.cache_unit.proofs.Numbers.{in_size}
-use Rattle.cache_unit.proofs.Made.{can_direct, only_made, AsMade, IsSound-made, made-shown}
+use Rattle.cache_unit.proofs.Made.{AsMade, IsSound-made, made-shown}
 use Rattle.cache_unit.proofs.unit.ShapedUnit.new.Goals as goal
 
 pub invariant_of-result : goal.invariant_of-result

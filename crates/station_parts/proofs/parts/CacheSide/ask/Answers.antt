@@ -2,6 +2,7 @@ use Rattle.std.proofs.Common.{rules, ℕ, ◌+◌, ◌≤◌, ◌&&◌, not, tru
 use Rattle.std.proofs.Math.Bool.{and-false}
 use Rattle.std.proofs.Math.Logic.{∥∥₁_map}
 use Rattle.std.proofs.lemmas.Bool.{lt-ltb, le-ltb}
+use Rattle.station_parts.specs.declared.make.TheConstants.{MAX_PORTS}
 use Rattle.memory_banks.specs.Banks.{commands_for}
 use Rattle.cache_unit.specs.declared.Sizes.{Sizes}
 use Rattle.cache_unit.specs.State.{UnitState}
@@ -59,7 +60,7 @@ invariant_of-self-in_default g c =
       lasts = s.lasts;
       tells = s.tells;
       counted = s.counted;
-      few_ports = subst (λ n. n ≤ 16) (sym (same_length pops_from s.asks.items c.pop_at.new.ends.items c.in_default.ensures.pops.rings))
+      few_ports = subst (λ n. n ≤ MAX_PORTS) (sym (same_length pops_from s.asks.items c.pop_at.new.ends.items c.in_default.ensures.pops.rings))
           s.few_ports;
       ports = ports_looked s.asks.items c.pop_at.new.ends.items s.tellings.items c.look_at.new.ends.items (journal_of s)
           c.in_default.ensures.pops.rings c.look_at.ensures.looks.rings s.ports
@@ -89,7 +90,7 @@ invariant_of-self-in-Done g c =
       tells = ∥∥₁_map s.tells (side_ended s.unit (sent_at s.row.lines.items) (popped_at s.answers.items) s.fault (journal_of s)
           (earlier_of s ++ c.push_reserved.new.self.items) c.args.port (behind (earlier_of s) _ _ _ c.push_reserved.ensures.items));
       counted = s.counted;
-      few_ports = subst (λ n. n ≤ 16) (sym (same_length pops_from s.asks.items c.pop_at.new.ends.items c.in-Some.ensures.pops.rings))
+      few_ports = subst (λ n. n ≤ MAX_PORTS) (sym (same_length pops_from s.asks.items c.pop_at.new.ends.items c.in-Some.ensures.pops.rings))
           s.few_ports;
       ports = ports_step s.asks.items c.pop_at.new.ends.items s.tellings.items c.look_at.new.ends.items (journal_of s)
           (earlier_of s ++ c.push_reserved.new.self.items) (Ended c.args.port ∷ []) pops.rings c.look_at.ensures.looks.rings s.ports
@@ -137,7 +138,7 @@ invariant_of-self-2 g c =
           c.answer_ask-answer.ensures.steps.answer_is c.look_all.ensures.sent c.answer_ask-answer.ensures.steps.sent
           (behind (earlier_of s) _ _ _ c.push_reserved-2.ensures.items));
       counted = λ sound b. c.answer_ask-answer.ensures.steps.kept.taken b ∙ c.look_all.ensures.kept.taken b ∙ s.counted sound b;
-      few_ports = subst (λ n. n ≤ 16) (sym (same_length pops_from s.asks.items c.pop_at.new.ends.items c.in-Some.ensures.pops.rings))
+      few_ports = subst (λ n. n ≤ MAX_PORTS) (sym (same_length pops_from s.asks.items c.pop_at.new.ends.items c.in-Some.ensures.pops.rings))
           s.few_ports;
       ports = ports_step s.asks.items c.pop_at.new.ends.items s.tellings.items c.push_at.new.ends.items (journal_of s)
           (earlier_of s ++ c.push_reserved-2.new.self.items)

@@ -1,4 +1,5 @@
 use Rattle.std.proofs.Common.{◌≤◌, refl, sym, subst, arith}
+use Rattle.station_parts.specs.declared.make.TheConstants.{MAX_PORTS}
 use Rattle.station_parts.specs.Rings.{pops_from}
 use Rattle.station_parts.specs.Ids.{cache_id}
 use Rattle.station_parts.specs.Rows.{known_at}
@@ -25,7 +26,7 @@ invariant_of-self g c =
       lasts = s.lasts;
       tells = s.tells;
       counted = s.counted;
-      few_ports = subst (λ n. n ≤ 16) (sym (same_length pops_from s.asks.items c.peek_at.new.ends.items pops.rings)) s.few_ports;
+      few_ports = subst (λ n. n ≤ MAX_PORTS) (sym (same_length pops_from s.asks.items c.peek_at.new.ends.items pops.rings)) s.few_ports;
       ports = ports_looked s.asks.items c.peek_at.new.ends.items s.tellings.items s.tellings.items (journal_of s) pops.rings refl s.ports
           (popped_none s.asks.items c.peek_at.new.ends.items c.args.port pops) (λ p. refl);
     }
