@@ -18,16 +18,20 @@ use Rattle.input_stack.specs.declared.Entry.{Entry}
 use Rattle.write_queue.specs.declared.Queued.{Queued}
 use Rattle.cache_unit.specs.declared.Lookup.{Lookup}
 use Rattle.cache_unit.specs.declared.Lookup.TheVariants.{Hit, Join, Miss}
+use Rattle.cache_unit.specs.Lookups.{lookup}
 use Rattle.cache_unit.specs.Views.{frame_view, dirty_view, reply_view}
 use Rattle.machine_core.specs.Machine.{MachineState}
 use Rattle.machine_core.specs.AnyMachine.{answered}
-use Rattle.round_driver.specs.Machines.{found_at}
 use Rattle.run_pictures.specs.declared.before.Before.{Before}
 use Rattle.run_pictures.specs.declared.machine.Extent.{Extent}
 use Rattle.run_pictures.specs.Extents.{extent_of, frames_in, block_in, set_in, set_of_frame, bank_in}
 use Rattle.run_pictures.specs.Cells.{is_pending}
 
 -- ---- what is seen of the machine before an event
+
+-- what a request for a word finds
+unfoldable pub found_at : MachineState → ℕ → Option Lookup
+found_at s at = lookup s.sizes s.machine.cache at
 
 -- what a request finds
 abbrev pub found_by : MachineState → Event → Option Lookup

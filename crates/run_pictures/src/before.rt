@@ -3,10 +3,9 @@
 ghost use Rattle.std.specs.Prelude.{◌≡◌};
 ghost use Rattle.run_pictures.specs.Words as words;
 
-use crate::machine::PictureMachine;
 use flat_model::Event;
 use input_stack::Entry;
-use machine_core::Lookup;
+use machine_core::{Lookup, ShapedMachine};
 use memory_banks::BankAnswer;
 use write_queue::Queued;
 
@@ -26,8 +25,8 @@ pub struct Before {
 impl Before {
     /// What is seen of a machine that is to be asked an event. It allocates nothing.
     #[tactic(auto, unfolding(crate::specs::Words::seen))]
-    pub fn new<M: PictureMachine>(machine: &M, event: Event) -> Before
-        ensures { result ≡ words.seen (M.state machine.now) event }
+    pub fn new(machine: &ShapedMachine, event: Event) -> Before
+        ensures { result ≡ words.seen machine.now event }
     {
         Before {
             found: found_by(machine, event),
@@ -38,8 +37,9 @@ impl Before {
     }
 }
 
-fn found_by<M: PictureMachine>(machine: &M, event: Event) -> Option<Lookup>
-    ensures { result ≡ words.found_by (M.state machine.now) event }
+#[tactic(auto, unfolding(crate::specs::Words::found_at))]
+fn found_by(machine: &ShapedMachine, event: Event) -> Option<Lookup>
+    ensures { result ≡ words.found_by machine.now event }
 {
     match event {
         Event::Load { at, .. } | Event::Store { at, .. } | Event::Prefetch { at } => {
@@ -49,17 +49,17 @@ fn found_by<M: PictureMachine>(machine: &M, event: Event) -> Option<Lookup>
     }
 }
 
-fn answer_for<M: PictureMachine>(machine: &M, event: Event) -> Option<BankAnswer>
-    ensures { result ≡ words.answer_for (M.state machine.now) event }
+fn answer_for(machine: &ShapedMachine, event: Event) -> Option<BankAnswer>
+    ensures { result ≡ words.answer_for machine.now event }
 {
     match event {
-        Event::Arrive { bank, place } => machine.answer(bank, place),
+        Event::Arrive { bank, place } => machine.answer_at(bank, place),
         _ => None,
     }
 }
 
-fn entry_for<M: PictureMachine>(machine: &M, event: Event) -> Option<Entry>
-    ensures { result ≡ words.entry_for (M.state machine.now) event }
+fn entry_for(machine: &ShapedMachine, event: Event) -> Option<Entry>
+    ensures { result ≡ words.entry_for machine.now event }
 {
     match event {
         Event::Process { place } => machine.stack_entry(place),

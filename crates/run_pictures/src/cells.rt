@@ -5,10 +5,10 @@ ghost use Rattle.std.specs.String.{string_bytes};
 ghost use Rattle.flat_model.specs.Memory.{shown};
 ghost use Rattle.run_pictures.specs.Cells as cells;
 
-use crate::machine::PictureMachine;
 use crate::place::Place;
 use flat_model::{Answer, FlatMemory, Lanes, MAX_REGS, Word};
 use input_stack::Entry;
+use machine_core::ShapedMachine;
 use memory_banks::{BankAnswer, Command};
 use miss_registers::{FieldView, Owed, RegisterView};
 use std::alloc::{AllocError, Global};
@@ -38,14 +38,10 @@ fn register_text(alloc: Global, register: RegisterView) -> Result<String, AllocE
     }
 }
 
-#[tactic(auto, unfolding(crate::specs::Cells::register_at))]
-fn register_at<M: PictureMachine>(
-    alloc: Global,
-    machine: &M,
-    slot: u32,
-) -> Result<String, AllocError>
+#[tactic(auto, unfolding(crate::specs::Cells::register_at, machine_core::specs::AnyMachine::register_shown))]
+fn register_at(alloc: Global, machine: &ShapedMachine, slot: u32) -> Result<String, AllocError>
     ensures { IfOk result
-        (λ text. string_bytes text ≡ cells.register_at (M.state machine.now) slot) }
+        (λ text. string_bytes text ≡ cells.register_at machine.now slot) }
 {
     match machine.register(slot) {
         Some(register) => register_text(alloc, register),
@@ -54,9 +50,9 @@ fn register_at<M: PictureMachine>(
 }
 
 // The same register, as a trace shows it.
-fn line_at<M: PictureMachine>(alloc: Global, machine: &M, slot: u32) -> Result<String, AllocError>
+fn line_at(alloc: Global, machine: &ShapedMachine, slot: u32) -> Result<String, AllocError>
     ensures { IfOk result
-        (λ text. cells.IsLineAt (M.state machine.now) slot (string_bytes text)) }
+        (λ text. cells.IsLineAt machine.now slot (string_bytes text)) }
 {
     let line = line_of_register(machine, slot);
     match std::str::from_utf8(line.as_bytes()) {
@@ -67,9 +63,9 @@ fn line_at<M: PictureMachine>(alloc: Global, machine: &M, slot: u32) -> Result<S
 }
 
 // Whether a register stands for a block that is missing words.
-#[tactic(auto, unfolding(crate::specs::Cells::is_used))]
-fn is_used<M: PictureMachine>(machine: &M, slot: u32) -> bool
-    ensures { result ≡ cells.is_used (M.state machine.now) slot }
+#[tactic(auto, unfolding(crate::specs::Cells::is_used, machine_core::specs::AnyMachine::register_shown))]
+fn is_used(machine: &ShapedMachine, slot: u32) -> bool
+    ensures { result ≡ cells.is_used machine.now slot }
 {
     match machine.register(slot) {
         Some(register) => register.valid,
@@ -102,15 +98,10 @@ fn field_text(alloc: Global, field: FieldView) -> Result<String, AllocError>
     }
 }
 
-#[tactic(auto, unfolding(crate::specs::Cells::field_at))]
-fn field_at<M: PictureMachine>(
-    alloc: Global,
-    machine: &M,
-    slot: u32,
-    i: u32,
-) -> Result<String, AllocError>
+#[tactic(auto, unfolding(crate::specs::Cells::field_at, machine_core::specs::AnyMachine::field_shown))]
+fn field_at(alloc: Global, machine: &ShapedMachine, slot: u32, i: u32) -> Result<String, AllocError>
     ensures { IfOk result
-        (λ text. string_bytes text ≡ cells.field_at (M.state machine.now) slot i) }
+        (λ text. string_bytes text ≡ cells.field_at machine.now slot i) }
 {
     if !is_used(machine, slot) {
         return Ok(String::new(alloc));
@@ -147,9 +138,9 @@ fn load_text(alloc: Global, load: Owed, due: Option<Word>) -> Result<String, All
 }
 
 // Whether loads may wait for a word of a register.
-#[tactic(auto, unfolding(crate::specs::Cells::is_awaited))]
-fn is_awaited<M: PictureMachine>(machine: &M, slot: u32, i: u32) -> bool
-    ensures { result ≡ cells.is_awaited (M.state machine.now) slot i }
+#[tactic(auto, unfolding(crate::specs::Cells::is_awaited, machine_core::specs::AnyMachine::field_shown))]
+fn is_awaited(machine: &ShapedMachine, slot: u32, i: u32) -> bool
+    ensures { result ≡ cells.is_awaited machine.now slot i }
 {
     match machine.field(slot, i) {
         Some(field) => is_used(machine, slot) && !field.processed,
@@ -157,17 +148,17 @@ fn is_awaited<M: PictureMachine>(machine: &M, slot: u32, i: u32) -> bool
     }
 }
 
-#[tactic(auto, unfolding(crate::specs::Cells::load_at))]
-fn load_at<M: PictureMachine>(
+#[tactic(auto, unfolding(crate::specs::Cells::load_at, machine_core::specs::AnyMachine::target_shown))]
+fn load_at(
     alloc: Global,
-    machine: &M,
+    machine: &ShapedMachine,
     flat: &FlatMemory,
     slot: u32,
     i: u32,
     place: u32,
 ) -> Result<String, AllocError>
     ensures { IfOk result
-        (λ text. string_bytes text ≡ cells.load_at (M.state machine.now) (shown flat.now) slot i place) }
+        (λ text. string_bytes text ≡ cells.load_at machine.now (shown flat.now) slot i place) }
 {
     if !is_awaited(machine, slot, i) {
         return Ok(String::new(alloc));
@@ -179,9 +170,9 @@ fn load_at<M: PictureMachine>(
 }
 
 // Whether a register waits for words of a block that still has its frame.
-#[tactic(auto, unfolding(crate::specs::Cells::is_live_for))]
-fn is_live_for<M: PictureMachine>(machine: &M, slot: u32, block: u32) -> bool
-    ensures { result ≡ cells.is_live_for (M.state machine.now) slot block }
+#[tactic(auto, unfolding(crate::specs::Cells::is_live_for, machine_core::specs::AnyMachine::register_shown))]
+fn is_live_for(machine: &ShapedMachine, slot: u32, block: u32) -> bool
+    ensures { result ≡ cells.is_live_for machine.now slot block }
 {
     match machine.register(slot) {
         Some(register) => register.valid && !register.obsolete && register.block == block,
@@ -191,8 +182,8 @@ fn is_live_for<M: PictureMachine>(machine: &M, slot: u32, block: u32) -> bool
 
 /// Whether words of a block that a frame holds are on their way.
 #[tactic(auto, unfolding(crate::specs::Cells::is_pending))]
-pub(crate) fn is_pending<M: PictureMachine>(machine: &M, block: u32) -> bool
-    ensures { result ≡ cells.is_pending (M.state machine.now) block }
+pub(crate) fn is_pending(machine: &ShapedMachine, block: u32) -> bool
+    ensures { result ≡ cells.is_pending machine.now block }
 {
     (0..MAX_REGS as u32).any(|slot| is_live_for(machine, slot, block))
 }
@@ -208,9 +199,9 @@ fn block_text(alloc: Global, block: u32, pending: bool) -> Result<String, AllocE
 }
 
 #[tactic(auto, unfolding(crate::specs::Cells::frame_at))]
-fn frame_at<M: PictureMachine>(alloc: Global, machine: &M, frame: u32) -> Result<String, AllocError>
+fn frame_at(alloc: Global, machine: &ShapedMachine, frame: u32) -> Result<String, AllocError>
     ensures { IfOk result
-        (λ text. string_bytes text ≡ cells.frame_at (M.state machine.now) frame) }
+        (λ text. string_bytes text ≡ cells.frame_at machine.now frame) }
 {
     match machine.frame_block(frame) {
         Some(block) => block_text(alloc, block, is_pending(machine, block)),
@@ -229,14 +220,9 @@ fn word_text(alloc: Global, word: Word, dirty: Lanes) -> Result<String, AllocErr
 }
 
 #[tactic(auto, unfolding(crate::specs::Cells::cell_at))]
-fn cell_at<M: PictureMachine>(
-    alloc: Global,
-    machine: &M,
-    frame: u32,
-    i: u32,
-) -> Result<String, AllocError>
+fn cell_at(alloc: Global, machine: &ShapedMachine, frame: u32, i: u32) -> Result<String, AllocError>
     ensures { IfOk result
-        (λ text. string_bytes text ≡ cells.cell_at (M.state machine.now) frame i) }
+        (λ text. string_bytes text ≡ cells.cell_at machine.now frame i) }
 {
     match (machine.buffer_word(frame, i), machine.dirty(frame, i)) {
         (Some(word), Some(dirty)) => word_text(alloc, word, dirty),
@@ -338,14 +324,15 @@ fn memory_text(alloc: Global, word: Option<Word>) -> Result<String, AllocError>
 
 /// The text of a place: empty if nothing stands there. `flat` is what the machine's loads are owed.
 /// `AllocError` says that there was too little memory.
-pub fn text_at<M: PictureMachine>(
+#[tactic(auto, unfolding(machine_core::specs::AnyMachine::bank_shown))]
+pub fn text_at(
     alloc: Global,
-    machine: &M,
+    machine: &ShapedMachine,
     flat: &FlatMemory,
     place: Place,
 ) -> Result<String, AllocError>
     ensures { IfOk result
-        (λ text. cells.IsTextAt (M.state machine.now) (shown flat.now) place (string_bytes text)) }
+        (λ text. cells.IsTextAt machine.now (shown flat.now) place (string_bytes text)) }
 {
     match place {
         Place::Register { slot } => register_at(alloc, machine, slot),
@@ -356,8 +343,8 @@ pub fn text_at<M: PictureMachine>(
         Place::Cell { frame, i } => cell_at(alloc, machine, frame, i),
         Place::Stack { place } => entry_text(alloc, machine.stack_entry(place)),
         Place::Queue { place } => queued_text(alloc, machine.queue_entry(place)),
-        Place::Command { bank, place } => command_text(alloc, machine.command(bank, place)),
-        Place::Answer { bank, place } => answer_text(alloc, machine.answer(bank, place)),
+        Place::Command { bank, place } => command_text(alloc, machine.command_at(bank, place)),
+        Place::Answer { bank, place } => answer_text(alloc, machine.answer_at(bank, place)),
         Place::Reply { place } => reply_text(alloc, machine.reply(place)),
         Place::Memory { at } => memory_text(alloc, machine.bank_word(at)),
     }

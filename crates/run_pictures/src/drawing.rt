@@ -4,11 +4,11 @@ ghost use Rattle.std.specs.Prelude.{◌≡◌, OnOk, IfOk};
 ghost use Rattle.std.specs.String.{string_bytes};
 ghost use Rattle.run_pictures.specs.Drawn.{Opens, Draws, whole_text};
 
-use crate::machine::PictureMachine;
 use crate::page::Page;
 use crate::screens::Screens;
 use crate::step::Step;
 use crate::waveform::Waveform;
+use machine_core::ShapedMachine;
 use memory_images::Image;
 use std::alloc::{AllocError, Global};
 
@@ -39,13 +39,13 @@ pub(crate) enum Drawing {
 
 impl Drawing {
     // The drawing of a machine over an image, before its first event.
-    pub(crate) fn new<M: PictureMachine>(
+    pub(crate) fn new(
         alloc: Global,
-        machine: &M,
+        machine: &ShapedMachine,
         image: &Image,
         form: Form,
     ) -> Result<Drawing, AllocError>
-        ensures { IfOk result (λ drawing. Opens form image.now (M.state machine.now) drawing) }
+        ensures { IfOk result (λ drawing. Opens form image.now machine.now drawing) }
     {
         match form {
             Form::Page => Ok(Drawing::Page(Page::new(alloc, machine, image)?)),
@@ -55,14 +55,14 @@ impl Drawing {
     }
 
     // Draws a step, behind which the machine stands.
-    pub(crate) fn draw<M: PictureMachine>(
+    pub(crate) fn draw(
         &mut self,
         alloc: Global,
-        machine: &M,
+        machine: &ShapedMachine,
         step: &Step,
     ) -> Result<(), AllocError>
         ensures { OnOk result
-            (Draws step.now.number step.now.is_whole (M.state machine.now) step.now.made (string_bytes step.now.words) self.old self.new) }
+            (Draws step.now.number step.now.is_whole machine.now step.now.made (string_bytes step.now.words) self.old self.new) }
     {
         match self {
             Drawing::Page(page) => page.draw(alloc, machine, step),

@@ -8,8 +8,8 @@ ghost use Rattle.run_pictures.specs.Drawn.{DrawsEvent, Follows, IsDrawn, is_whol
 use crate::asked::{Asked, other_answer};
 use crate::before::Before;
 use crate::drawing::{Drawing, Form};
-use crate::machine::PictureMachine;
 use crate::step::{Made, Step};
+use machine_core::ShapedMachine;
 use memory_images::Image;
 use std::alloc::{AllocError, Global};
 
@@ -27,17 +27,18 @@ fn is_whole(count: usize, number: usize) -> bool
 }
 
 // Makes the event that is asked, and draws it as the step of this number, of so many.
-fn draw_event<M: PictureMachine>(
+#[tactic(auto, unfolding(machine_core::specs::AnyMachine::after_event))]
+fn draw_event(
     alloc: Global,
-    machine: &mut M,
+    machine: &mut ShapedMachine,
     count: usize,
     number: usize,
     asked: Asked,
     drawing: &mut Drawing,
 ) -> Result<(), AllocError>
-    ensures state { M.state machine.new ≡ after_event (M.state machine.old) asked.event }
+    ensures state { machine.new ≡ after_event machine.old asked.event }
     ensures step { OnOk result
-        (DrawsEvent count number (M.state machine.old) asked drawing.old drawing.new) }
+        (DrawsEvent count number machine.old asked drawing.old drawing.new) }
 {
     let before = Before::new(machine, asked.event);
     let answer = machine.apply(asked.event);
@@ -58,13 +59,13 @@ fn draw_event<M: PictureMachine>(
 }
 
 // Makes each event that is asked, and draws it.
-fn draw_events<M: PictureMachine>(
+fn draw_events(
     alloc: Global,
-    machine: &mut M,
+    machine: &mut ShapedMachine,
     all: &[Asked],
     drawing: &mut Drawing,
 ) -> Result<(), AllocError>
-    ensures { OnOk result (Follows (length all.now) 1 (M.state machine.old) all.now drawing.old drawing.new) }
+    ensures { OnOk result (Follows (length all.now) 1 machine.old all.now drawing.old drawing.new) }
 {
     for (k, asked) in all.iter().enumerate() {
         draw_event(alloc, machine, all.len(), k + 1, *asked, drawing)?;
@@ -73,15 +74,15 @@ fn draw_events<M: PictureMachine>(
 }
 
 /// The text of the walk of a machine over all that is asked, from an image on.
-pub(crate) fn draw_run<M: PictureMachine>(
+pub(crate) fn draw_run(
     alloc: Global,
-    machine: &mut M,
+    machine: &mut ShapedMachine,
     image: &Image,
     form: Form,
     all: &[Asked],
 ) -> Result<String, AllocError>
     ensures { IfOk result
-        (λ text. IsDrawn form image.now (M.state machine.old) all.now (string_bytes text)) }
+        (λ text. IsDrawn form image.now machine.old all.now (string_bytes text)) }
 {
     let mut drawing = Drawing::new(alloc, machine, image, form)?;
     draw_events(alloc, machine, all, &mut drawing)?;

@@ -6,9 +6,10 @@ ghost use Rattle.flat_model.specs.Flat.{flat_step};
 ghost use Rattle.run_pictures.specs.Pictures as pictures;
 
 use crate::cells::text_at;
-use crate::machine::{Extent, PictureMachine};
+use crate::machine::Extent;
 use crate::place::{Place, places_of};
 use flat_model::{Answer, Event, FlatMemory};
+use machine_core::ShapedMachine;
 use memory_images::Image;
 use std::alloc::{AllocError, Global};
 
@@ -21,14 +22,14 @@ pub(crate) struct Film {
 }
 
 // The text of each place.
-fn texts_of<M: PictureMachine>(
+fn texts_of(
     alloc: Global,
-    machine: &M,
+    machine: &ShapedMachine,
     flat: &FlatMemory,
     places: &[Place],
 ) -> Result<Vec<String>, AllocError>
     ensures { IfOk result
-        (λ texts. pictures.IsPicture (M.state machine.now) (shown flat.now) places.now texts.items) }
+        (λ texts. pictures.IsPicture machine.now (shown flat.now) places.now texts.items) }
 {
     let mut texts = Vec::with_capacity(alloc, places.len())?;
     for place in places {
@@ -58,14 +59,14 @@ fn step_flat(flat: &mut FlatMemory, event: Event, answer: Answer) -> Result<(), 
 
 impl Film {
     /// The film of a machine in which nothing has happened, over an image, before its first event.
-    pub(crate) fn new<M: PictureMachine>(
+    pub(crate) fn new(
         alloc: Global,
-        machine: &M,
+        machine: &ShapedMachine,
         image: &Image,
     ) -> Result<Film, AllocError>
-        ensures { IfOk result (λ film. pictures.Begins image.now (M.state machine.now) film) }
+        ensures { IfOk result (λ film. pictures.Begins image.now machine.now film) }
     {
-        let extent = machine.extent();
+        let extent = Extent::of(machine);
         let places = places_of(alloc, &extent)?;
         let flat = image.flat_memory(alloc, extent.words)?;
         let texts = texts_of(alloc, machine, &flat, places.as_slice())?;
@@ -91,15 +92,15 @@ impl Film {
     }
 
     /// Draws the machine behind an event. The texts of the picture before come back.
-    pub(crate) fn advance<M: PictureMachine>(
+    pub(crate) fn advance(
         &mut self,
         alloc: Global,
-        machine: &M,
+        machine: &ShapedMachine,
         event: Event,
         answer: Answer,
     ) -> Result<Vec<String>, AllocError>
         ensures film { OnOk result
-            (pictures.GoesOn (M.state machine.now) event answer self.old self.new) }
+            (pictures.GoesOn machine.now event answer self.old self.new) }
         ensures before { IfOk result (λ before. before.items ≡ self.old.texts.items) }
     {
         step_flat(&mut self.flat, event, answer)?;

@@ -3,7 +3,7 @@
 //! A picture is a row of [`Place`]s, and the text of each: a register, a word of a frame, an entry of
 //! a queue. [`show_text`] reads a trace or a recorded run, applies its events to a machine and draws it before the first
 //! of them and behind each: as a page of HTML that steps through the pictures, as lines for a
-//! terminal, or as a waveform. Whatever is drawn is what a [`PictureMachine`] shows of its state. What a step did, or why it
+//! terminal, or as a waveform. Whatever is drawn is what a machine shows of its state. What a step did, or why it
 //! didn't, stands beside it in words: [`words_by`] gives them to others too.
 #![tactic(auto)]
 
@@ -31,7 +31,7 @@ pub use before::Before;
 pub use cells::text_at;
 pub use drawing::Form;
 pub use drawn::{MOST_EVENTS, WHOLE_EVERY};
-pub use machine::{Extent, PictureMachine};
+pub use machine::Extent;
 pub use place::Place;
 pub use reasons::words_by;
 pub use show::{ShowFault, show_text};

@@ -6,10 +6,11 @@ ghost use Rattle.std.specs.String.{string_bytes};
 ghost use Rattle.run_pictures.specs.Pages as pages;
 
 use crate::film::{Film, is_changed};
-use crate::machine::{Extent, PictureMachine};
+use crate::machine::Extent;
 use crate::page_parts::{PAGE_END, PAGE_HEAD};
 use crate::place::Place;
 use crate::step::{Other, Step};
+use machine_core::ShapedMachine;
 use memory_images::Image;
 use std::alloc::{AllocError, Global};
 
@@ -114,31 +115,31 @@ fn push_event(text: &mut String, step: &Step) -> Result<(), AllocError>
 
 impl Page {
     /// The page of a machine over an image, before its first event.
-    pub(crate) fn new<M: PictureMachine>(
+    pub(crate) fn new(
         alloc: Global,
-        machine: &M,
+        machine: &ShapedMachine,
         image: &Image,
     ) -> Result<Page, AllocError>
         ensures { IfOk result
-            (λ page. pages.PageOpens PAGE_HEAD.now image.now (M.state machine.now) page) }
+            (λ page. pages.PageOpens PAGE_HEAD.now image.now machine.now page) }
     {
         let film = Film::new(alloc, machine, image)?;
         let mut text = String::from_str(alloc, PAGE_HEAD)?;
-        push_extent(&mut text, machine.extent())?;
+        push_extent(&mut text, Extent::of(machine))?;
         push_places(&mut text, film.places())?;
         push_first(&mut text, film.texts())?;
         Ok(Page { film, text })
     }
 
     /// Draws a step, behind which the machine stands.
-    pub(crate) fn draw<M: PictureMachine>(
+    pub(crate) fn draw(
         &mut self,
         alloc: Global,
-        machine: &M,
+        machine: &ShapedMachine,
         step: &Step,
     ) -> Result<(), AllocError>
         ensures { OnOk result
-            (pages.PageGoesOn (M.state machine.now) step.now.made (string_bytes step.now.words) self.old self.new) }
+            (pages.PageGoesOn machine.now step.now.made (string_bytes step.now.words) self.old self.new) }
     {
         let before = self
             .film

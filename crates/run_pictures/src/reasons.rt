@@ -6,12 +6,12 @@ ghost use Rattle.run_pictures.specs.Numbered.{text_of};
 ghost use Rattle.run_pictures.specs.Words as words;
 
 use crate::before::Before;
-use crate::machine::{Extent, PictureMachine};
+use crate::machine::Extent;
 use crate::numbered::Numbered;
 use crate::shortage::{bank_full, queue_full};
 use flat_model::{Answer, Cause, Event, Word};
 use input_stack::Entry;
-use machine_core::Lookup;
+use machine_core::{Lookup, ShapedMachine};
 use memory_banks::BankAnswer;
 use std::alloc::{AllocError, Global};
 use write_queue::Queued;
@@ -22,19 +22,19 @@ use write_queue::Queued;
 /// [`Before::new`] reads of the machine before it is asked; and then the machine stands behind the event, which it
 /// answered with `answer`. A refusal, and an event that found nothing to do, left it as it was. The sentence has the
 /// numbers that it rests on, as the block that is asked for or the places that are free, and ends without a full stop.
-pub fn words_by<M: PictureMachine>(
+pub fn words_by(
     alloc: Global,
-    machine: &M,
+    machine: &ShapedMachine,
     before: Before,
     event: Event,
     answer: Answer,
 ) -> Result<String, AllocError>
     ensures { IfOk result
-        (λ text. string_bytes text ≡ words.words_by before (M.state machine.now) event answer) }
+        (λ text. string_bytes text ≡ words.words_by before machine.now event answer) }
 {
     match answer {
-        Answer::Accepted => { written(alloc, accepted(&machine.extent(), event, before.found)) }
-        Answer::Moved => moved(alloc, &machine.extent(), before, event),
+        Answer::Accepted => { written(alloc, accepted(&Extent::of(machine), event, before.found)) }
+        Answer::Moved => moved(alloc, &Extent::of(machine), before, event),
         Answer::Value { tag, word } => taken(alloc, tag, word),
         Answer::Nothing => written(alloc, idle(event)),
         Answer::Refused(cause) => refused(alloc, machine, event, cause),
@@ -192,20 +192,20 @@ fn idle(event: Event) -> Numbered
 }
 
 // Why it was refused.
-fn refused<M: PictureMachine>(
+fn refused(
     alloc: Global,
-    machine: &M,
+    machine: &ShapedMachine,
     event: Event,
     cause: Cause,
 ) -> Result<String, AllocError>
     ensures { IfOk result
-        (λ text. string_bytes text ≡ words.refused_words (M.state machine.now) event cause) }
+        (λ text. string_bytes text ≡ words.refused_words machine.now event cause) }
 {
     match cause {
         Cause::TagInUse => written(alloc, in_use(machine, event)),
         Cause::QueueFull => queue_full(alloc, machine, event),
         Cause::BankFull => bank_full(alloc, machine, event),
-        _ => written(alloc, limited(&machine.extent(), event, cause)),
+        _ => written(alloc, limited(&Extent::of(machine), event, cause)),
     }
 }
 
@@ -269,8 +269,8 @@ fn block_outside(extent: &Extent, block: u32) -> Numbered
 
 // Whether the value of a tag stands ready at a place.
 #[tactic(auto, unfolding(crate::specs::Words::is_ready))]
-fn is_ready<M: PictureMachine>(machine: &M, tag: u16, place: u32) -> bool
-    ensures { result ≡ words.is_ready (M.state machine.now) tag place }
+fn is_ready(machine: &ShapedMachine, tag: u16, place: u32) -> bool
+    ensures { result ≡ words.is_ready machine.now tag place }
 {
     match machine.reply(place) {
         Some(Answer::Value { tag: ready, .. }) => ready == tag,
@@ -280,16 +280,16 @@ fn is_ready<M: PictureMachine>(machine: &M, tag: u16, place: u32) -> bool
 
 // Whether it stands ready anywhere.
 #[tactic(auto, unfolding(crate::specs::Words::has_value))]
-fn has_value<M: PictureMachine>(machine: &M, tag: u16) -> bool
-    ensures { result ≡ words.has_value (M.state machine.now) tag }
+fn has_value(machine: &ShapedMachine, tag: u16) -> bool
+    ensures { result ≡ words.has_value machine.now tag }
 {
     (0..machine.replies_len()).any(|place| is_ready(machine, tag, place))
 }
 
 // Why no load may have a tag.
 #[tactic(auto, unfolding(crate::specs::Words::tag_words))]
-fn tag_taken<M: PictureMachine>(machine: &M, tag: u16) -> Numbered
-    ensures { text_of result ≡ words.tag_words (M.state machine.now) tag }
+fn tag_taken(machine: &ShapedMachine, tag: u16) -> Numbered
+    ensures { text_of result ≡ words.tag_words machine.now tag }
 {
     if has_value(machine, tag) {
         Numbered::Between(
@@ -302,8 +302,8 @@ fn tag_taken<M: PictureMachine>(machine: &M, tag: u16) -> Numbered
     }
 }
 
-fn in_use<M: PictureMachine>(machine: &M, event: Event) -> Numbered
-    ensures { text_of result ≡ words.in_use_words (M.state machine.now) event }
+fn in_use(machine: &ShapedMachine, event: Event) -> Numbered
+    ensures { text_of result ≡ words.in_use_words machine.now event }
 {
     match event {
         Event::Load { tag, .. } => tag_taken(machine, tag),

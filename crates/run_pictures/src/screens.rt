@@ -7,11 +7,11 @@ ghost use Rattle.run_pictures.specs.Numbered.{text_of};
 ghost use Rattle.run_pictures.specs.Screens as screens;
 
 use crate::film::{Film, is_changed};
-use crate::machine::PictureMachine;
 use crate::numbered::Numbered;
 use crate::place::Place;
 use crate::step::Step;
 use flat_model::Answer;
+use machine_core::ShapedMachine;
 use memory_images::Image;
 use std::alloc::{AllocError, Global};
 use std::fmt;
@@ -343,12 +343,12 @@ pub(crate) struct Screens {
 
 impl Screens {
     /// The screen of a machine over an image, before its first event.
-    pub(crate) fn new<M: PictureMachine>(
+    pub(crate) fn new(
         alloc: Global,
-        machine: &M,
+        machine: &ShapedMachine,
         image: &Image,
     ) -> Result<Screens, AllocError>
-        ensures { IfOk result (λ first. screens.ScreensOpen image.now (M.state machine.now) first) }
+        ensures { IfOk result (λ first. screens.ScreensOpen image.now machine.now first) }
     {
         let film = Film::new(alloc, machine, image)?;
         let mut text = String::from_str(alloc, "step 0: the machine before the first event\n")?;
@@ -364,14 +364,14 @@ impl Screens {
     }
 
     /// Draws a step, behind which the machine stands.
-    pub(crate) fn draw<M: PictureMachine>(
+    pub(crate) fn draw(
         &mut self,
         alloc: Global,
-        machine: &M,
+        machine: &ShapedMachine,
         step: &Step,
     ) -> Result<(), AllocError>
         ensures { OnOk result
-            (screens.ScreensGoOn step.now.number step.now.is_whole (M.state machine.now) step.now.made (string_bytes step.now.words) self.old self.new) }
+            (screens.ScreensGoOn step.now.number step.now.is_whole machine.now step.now.made (string_bytes step.now.words) self.old self.new) }
     {
         let before = self
             .film

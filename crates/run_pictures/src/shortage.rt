@@ -5,20 +5,21 @@ ghost use Rattle.std.specs.String.{string_bytes};
 ghost use Rattle.run_pictures.specs.Words as words;
 
 use crate::cells::is_pending;
-use crate::machine::{Extent, PictureMachine};
+use crate::machine::Extent;
 use crate::reasons::block_about;
 use flat_model::Event;
+use machine_core::ShapedMachine;
 use std::alloc::{AllocError, Global};
 use write_queue::Queued;
 
 /// Why an event was refused that would have queued a frame's dirty words.
-pub(crate) fn queue_full<M: PictureMachine>(
+pub(crate) fn queue_full(
     alloc: Global,
-    machine: &M,
+    machine: &ShapedMachine,
     event: Event,
 ) -> Result<String, AllocError>
     ensures { IfOk result
-        (λ text. string_bytes text ≡ words.queue_words (M.state machine.now) event) }
+        (λ text. string_bytes text ≡ words.queue_words machine.now event) }
 {
     let free = free_places(machine);
     match victim(machine, event) {
@@ -36,19 +37,18 @@ pub(crate) fn queue_full<M: PictureMachine>(
 
 // How many places of the write queue are free.
 #[tactic(auto, unfolding(crate::specs::Words::free_places))]
-fn free_places<M: PictureMachine>(machine: &M) -> u32
-    ensures { result ≡ words.free_places (M.state machine.now) }
+fn free_places(machine: &ShapedMachine) -> u32
+    ensures { result ≡ words.free_places machine.now }
 {
-    machine
-        .extent()
+    Extent::of(machine)
         .write_queue
         .saturating_sub(machine.queue_len())
 }
 
 // Whether a word of a frame has bytes that memory doesn't have.
 #[tactic(auto, unfolding(crate::specs::Words::is_dirty))]
-fn is_dirty<M: PictureMachine>(machine: &M, frame: u32, i: u32) -> bool
-    ensures { result ≡ words.is_dirty (M.state machine.now) frame i }
+fn is_dirty(machine: &ShapedMachine, frame: u32, i: u32) -> bool
+    ensures { result ≡ words.is_dirty machine.now frame i }
 {
     match machine.dirty(frame, i) {
         Some(lanes) => lanes.has_any(),
@@ -58,26 +58,26 @@ fn is_dirty<M: PictureMachine>(machine: &M, frame: u32, i: u32) -> bool
 
 // How many such words a frame has.
 #[tactic(auto, unfolding(crate::specs::Words::dirty_count))]
-fn dirty_count<M: PictureMachine>(machine: &M, frame: u32) -> usize
-    ensures { result ≡ words.dirty_count (M.state machine.now) frame }
+fn dirty_count(machine: &ShapedMachine, frame: u32) -> usize
+    ensures { result ≡ words.dirty_count machine.now frame }
 {
-    let words = machine.extent().block_words;
+    let words = Extent::of(machine).block_words;
     (0..words).filter(|i| is_dirty(machine, frame, *i)).count()
 }
 
 // Whether a block in a frame of a set has all its words.
 #[tactic(auto, unfolding(crate::specs::Words::is_whole_in))]
-fn is_whole_in<M: PictureMachine>(machine: &M, set: u32, frame: u32, block: u32) -> bool
-    ensures { result ≡ words.is_whole_in (M.state machine.now) set frame block }
+fn is_whole_in(machine: &ShapedMachine, set: u32, frame: u32, block: u32) -> bool
+    ensures { result ≡ words.is_whole_in machine.now set frame block }
 {
-    machine.extent().set_of_frame(frame) == set && !is_pending(machine, block)
+    Extent::of(machine).set_of_frame(frame) == set && !is_pending(machine, block)
 }
 
 // Whether a frame may be the one that an event gives up: an eviction that of its block, and a miss
 // one of its set that waits for no word.
 #[tactic(auto, unfolding(crate::specs::Words::may_go))]
-fn may_go<M: PictureMachine>(machine: &M, event: Event, frame: u32) -> bool
-    ensures { result ≡ words.may_go (M.state machine.now) event frame }
+fn may_go(machine: &ShapedMachine, event: Event, frame: u32) -> bool
+    ensures { result ≡ words.may_go machine.now event frame }
 {
     let Some(held) = machine.frame_block(frame) else {
         return false;
@@ -85,7 +85,7 @@ fn may_go<M: PictureMachine>(machine: &M, event: Event, frame: u32) -> bool
     match event {
         Event::Evict { block } => held == block,
         _ => {
-            let extent = machine.extent();
+            let extent = Extent::of(machine);
             let set = extent.set_of(block_about(&extent, event));
             is_whole_in(machine, set, frame, held)
         }
@@ -94,10 +94,10 @@ fn may_go<M: PictureMachine>(machine: &M, event: Event, frame: u32) -> bool
 
 // How many frames may go.
 #[tactic(auto, unfolding(crate::specs::Words::count_that_may_go))]
-fn count_that_may_go<M: PictureMachine>(machine: &M, event: Event) -> usize
-    ensures { result ≡ words.count_that_may_go (M.state machine.now) event }
+fn count_that_may_go(machine: &ShapedMachine, event: Event) -> usize
+    ensures { result ≡ words.count_that_may_go machine.now event }
 {
-    let frames = machine.extent().frames();
+    let frames = Extent::of(machine).frames();
     (0..frames)
         .filter(|frame| may_go(machine, event, *frame))
         .count()
@@ -105,17 +105,17 @@ fn count_that_may_go<M: PictureMachine>(machine: &M, event: Event) -> usize
 
 // The first frame that may go.
 #[tactic(auto, unfolding(crate::specs::Words::first_that_may_go))]
-fn first_that_may_go<M: PictureMachine>(machine: &M, event: Event) -> Option<u32>
-    ensures { result ≡ words.first_that_may_go (M.state machine.now) event }
+fn first_that_may_go(machine: &ShapedMachine, event: Event) -> Option<u32>
+    ensures { result ≡ words.first_that_may_go machine.now event }
 {
-    let frames = machine.extent().frames();
+    let frames = Extent::of(machine).frames();
     (0..frames).find(|frame| may_go(machine, event, *frame))
 }
 
 // The frame that goes, if no other may. Which frame of a set was taken first isn't shown.
 #[tactic(auto, unfolding(crate::specs::Words::victim))]
-fn victim<M: PictureMachine>(machine: &M, event: Event) -> Option<u32>
-    ensures { result ≡ words.victim (M.state machine.now) event }
+fn victim(machine: &ShapedMachine, event: Event) -> Option<u32>
+    ensures { result ≡ words.victim machine.now event }
 {
     if count_that_may_go(machine, event) == 1 {
         first_that_may_go(machine, event)
@@ -125,17 +125,17 @@ fn victim<M: PictureMachine>(machine: &M, event: Event) -> Option<u32>
 }
 
 /// Why an event was refused that would have sent commands to banks.
-pub(crate) fn bank_full<M: PictureMachine>(
+pub(crate) fn bank_full(
     alloc: Global,
-    machine: &M,
+    machine: &ShapedMachine,
     event: Event,
 ) -> Result<String, AllocError>
     ensures { IfOk result
-        (λ text. string_bytes text ≡ words.bank_words (M.state machine.now) event) }
+        (λ text. string_bytes text ≡ words.bank_words machine.now event) }
 {
     match event {
-        Event::Drain => no_room(alloc, &machine.extent(), machine.queue_entry(0)),
-        _ => bank_short(alloc, machine, block_about(&machine.extent(), event)),
+        Event::Drain => no_room(alloc, &Extent::of(machine), machine.queue_entry(0)),
+        _ => bank_short(alloc, machine, block_about(&Extent::of(machine), event)),
     }
 }
 
@@ -153,13 +153,9 @@ fn no_room(alloc: Global, extent: &Extent, front: Option<Queued>) -> Result<Stri
 }
 
 // A bank takes too few commands for the reads of a block.
-fn bank_short<M: PictureMachine>(
-    alloc: Global,
-    machine: &M,
-    block: u32,
-) -> Result<String, AllocError>
+fn bank_short(alloc: Global, machine: &ShapedMachine, block: u32) -> Result<String, AllocError>
     ensures { IfOk result
-        (λ text. string_bytes text ≡ words.short_words (M.state machine.now) block (words.short_bank (M.state machine.now) block)) }
+        (λ text. string_bytes text ≡ words.short_words machine.now block (words.short_bank machine.now block)) }
 {
     match short_bank(machine, block) {
         Some(bank) => shortage(alloc, machine, block, bank),
@@ -168,17 +164,17 @@ fn bank_short<M: PictureMachine>(
 }
 
 // This bank takes too few.
-fn shortage<M: PictureMachine>(
+fn shortage(
     alloc: Global,
-    machine: &M,
+    machine: &ShapedMachine,
     block: u32,
     bank: u32,
 ) -> Result<String, AllocError>
     ensures { IfOk result
-        (λ text. string_bytes text ≡ words.shortage_words (M.state machine.now) block bank) }
+        (λ text. string_bytes text ≡ words.shortage_words machine.now block bank) }
 {
     let room = room_at(machine, bank);
-    let reads = reads_in(&machine.extent(), block, bank);
+    let reads = reads_in(&Extent::of(machine), block, bank);
     format!(in alloc; "bank {bank} has room for {room} commands, and is to be sent {reads}")
 }
 
@@ -202,28 +198,27 @@ fn reads_in(extent: &Extent, block: u32, bank: u32) -> usize
 
 // How many more commands a bank takes.
 #[tactic(auto, unfolding(crate::specs::Words::room_at))]
-fn room_at<M: PictureMachine>(machine: &M, bank: u32) -> u32
-    ensures { result ≡ words.room_at (M.state machine.now) bank }
+fn room_at(machine: &ShapedMachine, bank: u32) -> u32
+    ensures { result ≡ words.room_at machine.now bank }
 {
-    machine
-        .extent()
+    Extent::of(machine)
         .bank_queue
         .saturating_sub(machine.commands(bank))
 }
 
 // Whether a bank has too little room for the reads of a block.
 #[tactic(auto, unfolding(crate::specs::Words::is_short))]
-fn is_short<M: PictureMachine>(machine: &M, block: u32, bank: u32) -> bool
-    ensures { result ≡ words.is_short (M.state machine.now) block bank }
+fn is_short(machine: &ShapedMachine, block: u32, bank: u32) -> bool
+    ensures { result ≡ words.is_short machine.now block bank }
 {
-    (room_at(machine, bank) as usize) < reads_in(&machine.extent(), block, bank)
+    (room_at(machine, bank) as usize) < reads_in(&Extent::of(machine), block, bank)
 }
 
 // The first such bank.
 #[tactic(auto, unfolding(crate::specs::Words::short_bank))]
-fn short_bank<M: PictureMachine>(machine: &M, block: u32) -> Option<u32>
-    ensures { result ≡ words.short_bank (M.state machine.now) block }
+fn short_bank(machine: &ShapedMachine, block: u32) -> Option<u32>
+    ensures { result ≡ words.short_bank machine.now block }
 {
-    let banks = machine.extent().banks;
+    let banks = Extent::of(machine).banks;
     (0..banks).find(|bank| is_short(machine, block, *bank))
 }

@@ -7,7 +7,7 @@ ghost use Rattle.run_pictures.specs.Faults.{show_fault_text};
 use crate::asked::read_asked;
 use crate::drawing::Form;
 use crate::drawn::{MOST_EVENTS, draw_run};
-use crate::machine::PictureMachine;
+use machine_core::ShapedMachine;
 use memory_images::Image;
 use std::alloc::{AllocError, Global};
 use std::error::Error;
@@ -76,14 +76,14 @@ impl From<TraceFault> for ShowFault {
 /// faults: a line that is neither has the trace's fault, or, if it has more than 64 bytes, the recorded
 /// run's. `TooManyEvents` says that there are more than 10,000 events, and `OutOfMemory` that there was
 /// too little memory to draw.
-pub fn show_text<R: Source, M: PictureMachine>(
+pub fn show_text<R: Source>(
     alloc: Global,
     reader: &mut R,
-    machine: &mut M,
+    machine: &mut ShapedMachine,
     image: &Image,
     form: Form,
 ) -> Result<String, ShowFault>
-    ensures { Shows R.gave R.failed form image.now (M.state machine.old) reader.old reader.new result }
+    ensures { Shows R.gave R.failed form image.now machine.old reader.old reader.new result }
 {
     let Some(all) = read_asked(alloc, reader)? else {
         return Err(ShowFault::TooManyEvents);

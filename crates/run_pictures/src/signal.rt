@@ -6,10 +6,11 @@ ghost use Rattle.run_pictures.specs.Numbered.{text_of};
 ghost use Rattle.run_pictures.specs.Waves as waves;
 
 use crate::level::Level;
-use crate::machine::{Extent, PictureMachine};
+use crate::machine::Extent;
 use crate::numbered::Numbered;
 use crate::step::Made;
 use flat_model::{Answer, Event};
+use machine_core::ShapedMachine;
 use miss_registers::RegisterView;
 use std::alloc::{AllocError, Global};
 use std::fmt;
@@ -103,8 +104,9 @@ impl Signal {
     }
 
     /// What it stands at behind an event that was made, or before the first one, in a machine of this state.
-    pub(crate) fn level<M: PictureMachine>(self, machine: &M, made: Option<Made>) -> Level
-        ensures { waves.level_text result ≡ waves.value_text made (M.state machine.now) self }
+    #[tactic(auto, unfolding(machine_core::specs::AnyMachine::register_shown))]
+    pub(crate) fn level(self, machine: &ShapedMachine, made: Option<Made>) -> Level
+        ensures { waves.level_text result ≡ waves.value_text made machine.now self }
     {
         match self {
             Signal::EventKind => Level::Kind(event_word(made)),

@@ -6,9 +6,9 @@ ghost use Rattle.run_pictures.specs.Steps.{other_text};
 ghost use Rattle.run_pictures.specs.Words.{words_by};
 
 use crate::before::Before;
-use crate::machine::PictureMachine;
 use crate::reasons::words_by;
 use flat_model::{Answer, Event};
+use machine_core::ShapedMachine;
 use std::alloc::{AllocError, Global};
 use std::fmt;
 
@@ -55,9 +55,9 @@ pub(crate) struct Step {
 
 impl Step {
     /// The step of an event that was made. The machine stands behind it.
-    pub(crate) fn new<M: PictureMachine>(
+    pub(crate) fn new(
         alloc: Global,
-        machine: &M,
+        machine: &ShapedMachine,
         number: usize,
         is_whole: bool,
         before: Before,
@@ -67,7 +67,7 @@ impl Step {
         ensures whole { IfOk result (λ step. step.is_whole ≡ is_whole) }
         ensures made { IfOk result (λ step. step.made ≡ made) }
         ensures words { IfOk result
-            (λ step. string_bytes step.words ≡ words_by before (M.state machine.now) made.event made.answer) }
+            (λ step. string_bytes step.words ≡ words_by before machine.now made.event made.answer) }
     {
         let words = words_by(alloc, machine, before, made.event, made.answer)?;
         Ok(Step {

@@ -6,9 +6,10 @@ ghost use Rattle.std.specs.String.{string_bytes};
 ghost use Rattle.run_pictures.specs.Waves as waves;
 
 use crate::film::is_changed;
-use crate::machine::PictureMachine;
+use crate::machine::Extent;
 use crate::signal::{Signal, signals_of};
 use crate::step::{Made, Step};
+use machine_core::ShapedMachine;
 use std::alloc::{AllocError, Global};
 
 fn signal_at(signals: &[Signal], k: usize) -> Option<Signal>
@@ -57,14 +58,14 @@ fn declarations(alloc: Global, signals: &[Signal]) -> Result<String, AllocError>
 }
 
 // The values of all signals, as they are written in front of them.
-fn values_of<M: PictureMachine>(
+fn values_of(
     alloc: Global,
-    machine: &M,
+    machine: &ShapedMachine,
     made: Option<Made>,
     signals: &[Signal],
 ) -> Result<Vec<String>, AllocError>
     ensures { IfOk result
-        (λ values. map string_bytes values.items ≡ waves.values_of made (M.state machine.now) signals.now) }
+        (λ values. map string_bytes values.items ≡ waves.values_of made machine.now signals.now) }
 {
     let mut values = Vec::with_capacity(alloc, signals.len())?;
     for signal in signals {
@@ -74,14 +75,14 @@ fn values_of<M: PictureMachine>(
 }
 
 // The value of a signal.
-fn value_text<M: PictureMachine>(
+fn value_text(
     alloc: Global,
-    machine: &M,
+    machine: &ShapedMachine,
     made: Option<Made>,
     signal: Signal,
 ) -> Result<String, AllocError>
     ensures { IfOk result
-        (λ value. string_bytes value ≡ waves.value_text made (M.state machine.now) signal) }
+        (λ value. string_bytes value ≡ waves.value_text made machine.now signal) }
 {
     let level = signal.level(machine, made);
     format!(in alloc; "{level}")
@@ -148,10 +149,10 @@ pub(crate) struct Waveform {
 
 impl Waveform {
     /// The waveform of a machine before its first event.
-    pub(crate) fn new<M: PictureMachine>(alloc: Global, machine: &M) -> Result<Waveform, AllocError>
-        ensures { IfOk result (λ wave. waves.WaveOpens (M.state machine.now) wave) }
+    pub(crate) fn new(alloc: Global, machine: &ShapedMachine) -> Result<Waveform, AllocError>
+        ensures { IfOk result (λ wave. waves.WaveOpens machine.now wave) }
     {
-        let signals = signals_of(alloc, &machine.extent())?;
+        let signals = signals_of(alloc, &Extent::of(machine))?;
         let values = values_of(alloc, machine, None, signals.as_slice())?;
         let text = opening_text(alloc, signals.as_slice(), values.as_slice())?;
         Ok(Waveform {
@@ -162,14 +163,14 @@ impl Waveform {
     }
 
     /// Draws a step, behind which the machine stands.
-    pub(crate) fn draw<M: PictureMachine>(
+    pub(crate) fn draw(
         &mut self,
         alloc: Global,
-        machine: &M,
+        machine: &ShapedMachine,
         step: &Step,
     ) -> Result<(), AllocError>
         ensures { OnOk result
-            (waves.WaveGoesOn step.now.number (M.state machine.now) step.now.made self.old self.new) }
+            (waves.WaveGoesOn step.now.number machine.now step.now.made self.old self.new) }
     {
         let signals = self.signals.as_slice();
         let values = values_of(alloc, machine, Some(step.made), signals)?;

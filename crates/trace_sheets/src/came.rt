@@ -9,8 +9,8 @@ ghost use Rattle.trace_sheets.specs.Grades as grades;
 use crate::score::Mark;
 use crate::sheet::is_open;
 use flat_model::{Answer, Event, Word};
-use machine_core::Lookup;
-use run_pictures::{Before, PictureMachine};
+use machine_core::{Lookup, ShapedMachine};
+use run_pictures::Before;
 use trace_text::{Line, LineText, answer_text, register_text};
 
 // What comes of a line. It isn't exported, but `pub`, since definitions name it.
@@ -28,10 +28,10 @@ pub enum Came {
 
 impl Came {
     // Lets a machine answer a line.
-    #[tactic(auto, unfolding(trace_text::specs::Texts::reply_text, trace_text::specs::Texts::after_line))]
-    pub(crate) fn new<M: PictureMachine>(machine: &mut M, line: Line) -> Came
-        ensures came { result ≡ grades.came_of (M.state machine.old) line }
-        ensures after { M.state machine.new ≡ after_line (M.state machine.old) line }
+    #[tactic(auto, unfolding(trace_text::specs::Texts::reply_text, trace_text::specs::Texts::after_line, machine_core::specs::AnyMachine::answered, machine_core::specs::AnyMachine::after_event, machine_core::specs::AnyMachine::bank_shown, machine_core::specs::AnyMachine::is_settled))]
+    pub(crate) fn new(machine: &mut ShapedMachine, line: Line) -> Came
+        ensures came { result ≡ grades.came_of machine.old line }
+        ensures after { machine.new ≡ after_line machine.old line }
     {
         match line {
             Line::Event(event) => {

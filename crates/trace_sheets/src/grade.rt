@@ -12,8 +12,9 @@ ghost use Rattle.trace_sheets.specs.Grades.{Graded, SheetEnds, mark_of, no_score
 use crate::came::{Came, full_answer};
 use crate::score::{Mark, Score};
 use crate::sheet::sheet_said;
+use machine_core::ShapedMachine;
 use named_fields::{Field, Format, Object, Values};
-use run_pictures::{PictureMachine, words_by};
+use run_pictures::words_by;
 use std::alloc::{AllocError, Global};
 use trace_text::{
     BUFFER_LEN, Collector, Failed, LineText, MAX_PAIR, Source, TraceFault, Uncollected, read_lines,
@@ -34,10 +35,10 @@ pub const CORRECTION_FIELDS: usize = 9;
 
 // A machine that runs through the lines of a sheet, and the grade so far.
 #[derive(Drop)]
-pub(crate) struct Grading<'a, M> {
+pub(crate) struct Grading<'a> {
     pub(crate) alloc: Global,
     pub(crate) format: Format,
-    pub(crate) machine: &'a mut M,
+    pub(crate) machine: &'a mut ShapedMachine,
     pub(crate) report: &'a mut Vec<u8>,
     pub(crate) score: Score,
 }
@@ -147,11 +148,11 @@ fn push_form<'b>(
 }
 
 // Tells a wrong prediction in a format. The machine stands behind its line, of which this came.
-fn push_told<M: PictureMachine>(
+fn push_told(
     alloc: Global,
     format: Format,
     report: &mut Vec<u8>,
-    machine: &M,
+    machine: &ShapedMachine,
     number: u64,
     text: &[u8],
     said: &[u8],
@@ -159,7 +160,7 @@ fn push_told<M: PictureMachine>(
 ) -> Result<(), AllocError>
     requires { number ≤ MAX_LINES }
     ensures { OnOk result (report.new.items ≡ report.old.items
-        ++ told format number text.now said.now (full_text came.now) (why_behind (M.state machine.now) came.now)) }
+        ++ told format number text.now said.now (full_text came.now) (why_behind machine.now came.now)) }
 {
     match came {
         Came::Answered {
@@ -196,7 +197,7 @@ fn push_told<M: PictureMachine>(
     }
 }
 
-impl<'a, M: PictureMachine> Grading<'a, M> {
+impl<'a> Grading<'a> {
     // The grade so far. Its report is taken out.
     fn finished(&mut self) -> Grade
         ensures report { result.report.items ≡ self.old.report.now.items }
@@ -216,7 +217,7 @@ impl<'a, M: PictureMachine> Grading<'a, M> {
         requires few { total self.old.score < MAX_LINES }
         ensures report { OnOk result (self.new.report.now.items ≡ self.old.report.now.items
             ++ told_if (mark_of came.now said.now) (told self.old.format number text.now said.now
-            (full_text came.now) (why_behind (M.state self.old.machine.now) came.now))) }
+            (full_text came.now) (why_behind self.old.machine.now came.now))) }
         ensures format { self.new.format ≡ self.old.format }
         ensures score { self.new.score ≡ with_mark self.old.score (mark_of came.now said.now) }
         ensures machine { self.new.machine ≡ self.old.machine }
@@ -240,14 +241,14 @@ impl<'a, M: PictureMachine> Grading<'a, M> {
     }
 }
 
-impl<'a, M: PictureMachine> Collector for Grading<'a, M> {
+impl<'a> Collector for Grading<'a> {
     ghost fault_in = { sheet_fault };
 
     ghost longest = { MAX_PAIR };
 
     ghost most_lines = { MAX_LINES };
 
-    ghost went = { λ s texts t. (t.format ≡ s.format) × Graded s.format (M.state s.machine.now) texts (M.state t.machine.now) t.report.now.items t.score };
+    ghost went = { λ s texts t. (t.format ≡ s.format) × Graded s.format s.machine.now texts t.machine.now t.report.now.items t.score };
 
     ghost stopped = { λ s text t. Unit {0} };
 
@@ -293,13 +294,13 @@ impl<'a, M: PictureMachine> Collector for Grading<'a, M> {
 ///
 /// One buffer of 4,096 bytes is allocated before the first read. The report takes more, and so do the words of a wrong
 /// prediction; a right or open one takes nothing.
-pub fn grade_sheet<R: Source, M: PictureMachine>(
+pub fn grade_sheet<R: Source>(
     alloc: Global,
     format: Format,
     reader: &mut R,
-    machine: &mut M,
+    machine: &mut ShapedMachine,
 ) -> Result<Grade, TraceFault>
-    ensures { SheetEnds R.gave R.failed format reader.old reader.new (M.state machine.old) (M.state machine.new)
+    ensures { SheetEnds R.gave R.failed format reader.old reader.new machine.old machine.new
         result }
 {
     let mut buffer = vec![in alloc; 0u8; BUFFER_LEN]?;
@@ -319,16 +320,16 @@ pub fn grade_sheet<R: Source, M: PictureMachine>(
 }
 
 // Grades a sheet to its end, through a buffer.
-fn grade_through<R: Source, M: PictureMachine>(
+fn grade_through<R: Source>(
     reader: &mut R,
-    grading: &mut Grading<M>,
+    grading: &mut Grading,
     buffer: &mut [u8],
 ) -> Result<Grade, TraceFault>
     requires room { length buffer.old ≡ BUFFER_LEN }
     requires report { grading.old.report.now.items ≡ [] }
     requires score { grading.old.score ≡ no_score }
-    ensures ends { SheetEnds R.gave R.failed grading.old.format reader.old reader.new (M.state grading.old.machine.now)
-        (M.state grading.new.machine.now) result }
+    ensures ends { SheetEnds R.gave R.failed grading.old.format reader.old reader.new grading.old.machine.now
+        grading.new.machine.now result }
     ensures same_machine { grading.new.machine.ghost_name ≡ grading.old.machine.ghost_name }
     ensures same_report { grading.new.report.ghost_name ≡ grading.old.report.ghost_name }
 {

@@ -4,9 +4,9 @@ use Rattle.run_pictures.specs.Drawn.{Follows}
 use Rattle.run_pictures.proofs.drawn.draw_events.Goals as goal
 
 pub loop-k-preserved : goal.loop-k-preserved
-loop-k-preserved g c last rest =
+loop-k-preserved c last rest =
     let k = c.loop-k.k in
-    let s = g.M.AnyMachine.state c.loop-k.machine in
+    let s = c.loop-k.machine in
     let all = c.args.all.now in
     let next = c.draw_event.new.drawing in
     let behind = subst (λ t. Follows (length all) (k + 1 + 1) t (drop (k + 1) all) next last) c.draw_event.ensures.state rest in

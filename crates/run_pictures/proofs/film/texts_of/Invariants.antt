@@ -5,4 +5,4 @@ use Rattle.run_pictures.proofs.film.texts_of.Given as goal
 
 -- the texts of the places so far
 abbrev pub invariant-loop-place : goal.invariant-loop-place
-invariant-loop-place g l = IsPicture (g.M.AnyMachine.state l.machine) (shown l.flat) (take l.place-index l.places) l.texts.items
+invariant-loop-place l = IsPicture l.machine (shown l.flat) (take l.place-index l.places) l.texts.items

@@ -6,12 +6,12 @@ use Rattle.run_pictures.proofs.Texts.{text_at_same}
 use Rattle.run_pictures.proofs.shortage.shortage.Goals as goal
 
 pub returns : goal.returns
-returns g c =
-    let s = g.M.AnyMachine.state c.args.machine.now in
+returns c =
+    let s = c.args.machine.now in
     let bank = c.args.bank in
     let made = c.format.result in
     let room = c.room_at-room.result in
     let reads = reads_in (extent_of s.sizes) c.args.block bank in
-    let e = c.reads_in-reads.ensures ∙ ap (λ z. reads_in z c.args.block bank) c.extent.ensures in
+    let e = c.reads_in-reads.ensures ∙ ap (λ z. reads_in z c.args.block bank) c.of.ensures in
     let told = text_at_same (shortage_text bank room) made string_bytes reads c.reads_in-reads.result (sym e) c.format.ensures.ok in
     text_at_same (λ n. shortage_text bank n reads) made string_bytes (room_at s bank) room (sym c.room_at-room.ensures) told

@@ -5,4 +5,4 @@ use Rattle.run_pictures.proofs.waveform.values_of.Given as goal
 
 -- the values of the signals so far
 abbrev pub invariant-loop-signal : goal.invariant-loop-signal
-invariant-loop-signal g l = map string_bytes l.values.items ≡ map (value_text l.made (g.M.AnyMachine.state l.machine)) (take l.signal-index l.signals)
+invariant-loop-signal l = map string_bytes l.values.items ≡ map (value_text l.made l.machine) (take l.signal-index l.signals)

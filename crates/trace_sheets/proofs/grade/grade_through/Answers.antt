@@ -7,19 +7,19 @@ use Rattle.trace_sheets.proofs.grade.grade_through.Goals as goal
 
 pub read_lines-requires-clause-went : goal.read_lines-requires-clause-went
 read_lines-requires-clause-went g c =
-    (refl, graded_none c.args.grading.now.format (g.M.AnyMachine.state c.args.grading.now.machine.now) c.requires.report c.requires.score)
+    (refl, graded_none c.args.grading.now.format c.args.grading.now.machine.now c.requires.report c.requires.score)
 
 pub returns-in-Ok-clause-ends : goal.returns-in-Ok-clause-ends
 returns-in-Ok-clause-ends g c =
     let reads = c.in-Ok.ensures.reads in
     let format = c.args.grading.now.format in
-    let m = g.M.AnyMachine.state c.args.grading.now.machine.now in
-    let graded = subst (λ t. Graded format m reads.0 (g.M.AnyMachine.state t.machine.now) t.report.now.items t.score) (sym reads.4) reads.3.1 in
+    let m = c.args.grading.now.machine.now in
+    let graded = subst (λ t. Graded format m reads.0 t.machine.now t.report.now.items t.score) (sym reads.4) reads.3.1 in
     let taken = c.finished.ensures in (
       reads.0,
       reads.2,
       record {
-        state = ap (λ x. g.M.AnyMachine.state x.now) taken.machine ∙ graded.state;
+        state = ap (λ x. x.now) taken.machine ∙ graded.state;
         told = taken.report ∙ graded.told;
         marks = taken.score ∙ graded.marks;
       },
@@ -28,6 +28,6 @@ returns-in-Ok-clause-ends g c =
 pub returns-in-Err-clause-ends : goal.returns-in-Err-clause-ends
 returns-in-Err-clause-ends g c =
     read_fails g.R.Source.gave g.R.Source.failed sheet_fault
-    (λ s texts t. (t.format ≡ s.format) × Graded s.format (g.M.AnyMachine.state s.machine.now) texts (g.M.AnyMachine.state t.machine.now) t.report.now.items t.score)
+    (λ s texts t. (t.format ≡ s.format) × Graded s.format s.machine.now texts t.machine.now t.report.now.items t.score)
     (λ s text t. Unit {0}) (λ s t. t ≡ s) (λ s t. ⊥) 768 c.args.reader.now c.read_lines.new.reader c.args.grading.now c.read_lines.new.collector
     c.in-Err.stop c.fault_or.result c.in-Err.ensures.reads c.fault_or.ensures.fault c.fault_or.ensures.halted

@@ -8,14 +8,14 @@ use Rattle.run_pictures.proofs.film.Film.new.Goals as goal
 
 pub returns : goal.returns
 unfolding extent_of
-returns g c =
+returns c =
     let flat = c.in_ok-flat.flat in
     let texts = c.in_ok-texts.texts in
-    let s = g.M.AnyMachine.state c.args.machine.now in
+    let s = c.args.machine.now in
     record {
       film = record {
-        owed = c.in_ok-flat.ensures.shown ∙ ap (λ z. flat_from c.args.image.now z.words) c.extent-extent.ensures;
+        owed = c.in_ok-flat.ensures.shown ∙ ap (λ z. flat_from c.args.image.now z.words) c.of-extent.ensures;
         picture = subst (λ places. IsPicture s (shown flat) places texts.items) c.as_slice.ensures.value c.in_ok-texts.ensures;
       };
-      places = c.in_ok-places.ensures ∙ ap places_in c.extent-extent.ensures;
+      places = c.in_ok-places.ensures ∙ ap places_in c.of-extent.ensures;
     }

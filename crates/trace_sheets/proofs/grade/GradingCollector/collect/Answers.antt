@@ -5,10 +5,10 @@ use Rattle.trace_sheets.proofs.Grading.{few_marks, graded_more, told_behind}
 use Rattle.trace_sheets.proofs.grade.GradingCollector.collect.Goals as goal
 
 pub mark-requires-clause-few : goal.mark-requires-clause-few
-mark-requires-clause-few g c = omega (arith, few_marks c.requires.went.2.1, c.requires.went.3, c.requires.few)
+mark-requires-clause-few c = omega (arith, few_marks c.requires.went.2.1, c.requires.went.3, c.requires.few)
 
 pub returns-in-None-clause-kept : goal.returns-in-None-clause-kept
-returns-in-None-clause-kept g c start texts number went =
+returns-in-None-clause-kept c start texts number went =
     let old = c.args.self.now in
     let line = c.in-Ok.read.0 in
     let says = c.in-Ok.ensures.ok ∙ ap (λ said. Ok (line, option_map (λ s. s.now) said)) c.in-None.is in (
@@ -18,12 +18,12 @@ returns-in-None-clause-kept g c start texts number went =
     )
 
 pub returns-in-Ok-mark-clause-kept : goal.returns-in-Ok-mark-clause-kept
-returns-in-Ok-mark-clause-kept g c start texts number went =
+returns-in-Ok-mark-clause-kept c start texts number went =
     let old = c.args.self.now in
     let before = old.report.now.items in
     let text = c.args.text.now in
     let n = c.args.number in
-    let m = g.M.AnyMachine.state old.machine.now in
+    let m = old.machine.now in
     let line = c.in-Ok.read.0 in
     let said = c.in-Some.said.now in
     let came = c.new-came.ensures in
@@ -31,7 +31,7 @@ returns-in-Ok-mark-clause-kept g c start texts number went =
     let says = c.in-Ok.ensures.ok ∙ ap (λ s. Ok (line, option_map (λ s. s.now) s)) c.in-Some.is in (
       marked.format ∙ went.0,
       graded_more went.1 text n line (Some said) _ c.mark.new.self.report.now.items c.mark.new.self.score number says (
-        ap (λ m. g.M.AnyMachine.state m.now) marked.machine ∙ came.after,
+        ap (λ m. m.now) marked.machine ∙ came.after,
         marked.report
             ∙ ap (λ l. before ++ l) (told_behind old.format n m _ text line said _ came.came came.after)
             ∙ ap (λ format. before ++ correction format (asked_of n m text line said)) went.0,

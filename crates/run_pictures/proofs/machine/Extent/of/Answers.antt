@@ -1,6 +1,6 @@
 use Rattle.std.proofs.Common.{ap}
 use Rattle.run_pictures.specs.Extents.{extent_of}
-use Rattle.run_pictures.proofs.machine.ShapedMachinePictureMachine.extent.Goals as goal
+use Rattle.run_pictures.proofs.machine.Extent.of.Goals as goal
 
 pub returns : goal.returns
 unfolding extent_of
