@@ -8,7 +8,7 @@ use Rattle.std.proofs.lemmas.List.{get_or_append_left, get_or-append_right, get_
 use Rattle.std.proofs.lemmas.List.Folds.{list_any-append}
 use Rattle.memory_histories.specs.declared.windows.StoreByte.{StoreByte}
 use Rattle.memory_histories.specs.Windows.{store_bytes, is_open, after_response}
-use Rattle.memory_histories.proofs.Lists.{list_any-same, list_any-map, list_any-kept}
+use Rattle.memory_histories.proofs.Lists.{list_any-kept}
 use Rattle.history_reasons.specs.declared.places.StorePlace.{StorePlace}
 use Rattle.history_reasons.specs.Places.{is_place_of, reaches, AreFound, ended_from, ended_at, moved_down}
 

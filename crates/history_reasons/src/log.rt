@@ -1,6 +1,6 @@
 //! The stores and the open loads of a history as it goes, to say why a byte is wrong.
 
-ghost use Rattle.std.specs.Prelude.{◌≡◌, ◌+◌, ◌≤◌, ◌<◌, ◌^◌, ◌↔◌, ◌++◌, true, None, map, not, vec_len, vec_capacity, IfOk, OnOk, IfSome, length};
+ghost use Rattle.std.specs.Prelude.{◌≡◌, ◌+◌, ◌≤◌, ◌<◌, ◌^◌, ◌↔◌, ◌++◌, true, None, not, vec_len, vec_capacity, IfOk, OnOk, IfSome, length};
 ghost use Rattle.std.specs.List.{filter, find};
 ghost use Rattle.memory_histories.specs.declared.events.HistoryEvent.TheVariants.{StoreRequest, StoreResponse};
 ghost use Rattle.memory_histories.specs.Windows.{Windows, opening, windows_after, load_bytes, is_of, is_at};
