@@ -9,6 +9,7 @@ pub mod Answers
 pub mod Exact
 pub mod Bits
 pub mod Loops
+pub mod Marks
 pub mod Worked
 pub mod Links
 pub mod Whole

@@ -9,7 +9,7 @@ use Rattle.atomic_histories.specs.declared.unit.OpenStore.{OpenStore}
 use Rattle.atomic_histories.specs.declared.unit.WatchedLoad.{WatchedLoad}
 use Rattle.atomic_histories.specs.declared.ways.Way.{Way}
 use Rattle.atomic_histories.specs.Law.{done_store}
-use Rattle.atomic_histories.specs.Branches.{Branch, is_same_pair, covers, with_branch, with_branches, pairs, has_more_words, are_too_many, is_over, out_after, next_after, cons_effect, effect_of, effects_from, path_after, rounds}
+use Rattle.atomic_histories.specs.Branches.{Branch, is_same_pair, covers, with_branch, with_branches, pairs, has_more_words, are_too_many, is_over, out_after, next_after, cons_effect, effect_of, effects_from, path_after, met, rounds}
 use Rattle.memory_histories.specs.declared.sets.ByteSet.{ByteSet}
 use Rattle.atomic_histories.specs.May.{never, with_ways_bytes, reached_bytes, is_reach_over}
 use Rattle.atomic_histories.specs.Shown.{shown, shown_all}
@@ -62,33 +62,45 @@ pointwise_other p (x ∷ xs) (y ∷ ys) h = and_false (p x y) (pointwise p xs ys
       | inr f ↦ f
     ]
 
--- the pairs of ways, one way after the other
+-- the pairs of the ways from one on
 pairs_same : (ws : List Way) (w : Way) (i : ℕ) → i < length ws → w ≡ get_or ws i w
-    → list_any (λ v. is_same_pair (shown w) (shown v)) (drop (i + 1) ws) ≡ true
+    → list_any (is_same_pair (shown w)) (shown_all (drop (i + 1) ws)) ≡ true
     → pairs (shown_all (drop i ws)) ≡ pairs (shown_all (drop (i + 1) ws))
-pairs_same ws w i h e t =
-    let same : list_any (is_same_pair (shown w)) (shown_all (drop (i + 1) ws)) ≡ true =
-    any_shown (is_same_pair (shown w)) (drop (i + 1) ws) ∙ t in
-    rw (shown_drop ws i w h, ← e, same) refl
+pairs_same ws w i h e same = rw (shown_drop ws i w h, ← e, same) refl
 
 pairs_new : (ws : List Way) (w : Way) (i : ℕ) → i < length ws → w ≡ get_or ws i w
-    → list_any (λ v. is_same_pair (shown w) (shown v)) (drop (i + 1) ws) ≡ false
+    → list_any (is_same_pair (shown w)) (shown_all (drop (i + 1) ws)) ≡ false
     → pairs (shown_all (drop i ws)) ≡ pairs (shown_all (drop (i + 1) ws)) + 1
-pairs_new ws w i h e f =
-    let other : list_any (is_same_pair (shown w)) (shown_all (drop (i + 1) ws)) ≡ false =
-    any_shown (is_same_pair (shown w)) (drop (i + 1) ws) ∙ f in
-    rw (shown_drop ws i w h, ← e, other) refl
+pairs_new ws w i h e other = rw (shown_drop ws i w h, ← e, other) refl
 
--- one more way is counted
-pub pairs_counted : (ws : List Way) (w : Way) (i count next total : ℕ) (among : Bool) → i < length ws → w ≡ get_or ws i w
-    → among ≡ list_any (λ v. is_same_pair (shown w) (shown v)) (drop (i + 1) ws) → next ≡ (if among then count else count + 1)
-    → count + pairs (shown_all (drop i ws)) ≡ total → next + pairs (shown_all (drop (i + 1) ws)) ≡ total
-pairs_counted ws w i count next total true h e a n s = omega (arith, n, s, pairs_same ws w i h e (sym a))
-pairs_counted ws w i count next total false h e a n s = omega (arith, n, s, pairs_new ws w i h e (sym a))
+-- one way more is counted
+pub pairs_before : (ws : List Way) (w : Way) (i left count next : ℕ) (among : Bool) → i < length ws → w ≡ get_or ws i w → left ≡ i + 1
+    → among ≡ list_any (is_same_pair (shown w)) (shown_all (drop (i + 1) ws)) → next ≡ (if among then count else count + 1)
+    → count ≡ pairs (shown_all (drop left ws)) → next ≡ pairs (shown_all (drop i ws))
+pairs_before ws w i left count next true h e l a n c =
+    n ∙ c ∙ ap (λ k. pairs (shown_all (drop k ws))) l ∙ sym (pairs_same ws w i h e (sym a))
+pairs_before ws w i left count next false h e l a n c =
+    n ∙ ap (λ k. k + 1) (c ∙ ap (λ k. pairs (shown_all (drop k ws))) l) ∙ sym (pairs_new ws w i h e (sym a))
 
-pub count_most : (count next i : ℕ) (among : Bool) → count ≤ i → next ≡ (if among then count else count + 1) → next ≤ i + 1
-count_most count next i true h n = omega (arith, n)
-count_most count next i false h n = omega (arith, n)
+pub most_before : (count next left most : ℕ) (among : Bool) → 0 < left → count + left ≤ most → next ≡ (if among then count else count + 1)
+    → next + (left - 1) ≤ most
+most_before count next left most true p h n = omega (arith, n)
+most_before count next left most false p h n = omega (arith, n)
+
+-- there are no more pairs than ways
+pairs_most : (es : List Branch) → pairs es ≤ length es
+pairs_most [] = omega arith
+pairs_most (e ∷ es) = let h = pairs_most es in elim (cases_Bool (list_any (is_same_pair e) es)) [
+  | inl t ↦ rw t (omega (arith, h))
+  | inr o ↦ rw o (omega (arith, h))
+]
+
+length_shown : (ws : List Way) → length (shown_all ws) ≡ length ws
+length_shown [] = refl
+length_shown (w ∷ ws) = ap suc (length_shown ws)
+
+pub few_pairs : (limit : ℕ) (ws : List Way) → length ws ≤ limit → nat_lt limit (pairs (shown_all ws)) ≡ false
+few_pairs limit ws h = le-ltb limit (pairs (shown_all ws)) (omega (arith, pairs_most (shown_all ws), length_shown ws, h))
 
 pub pairs_all : (ws : List Way) (i : ℕ) → length ws ≤ i → pairs (shown_all (drop i ws)) ≡ 0
 pairs_all ws i h = rw (drop_all i ws h) refl
@@ -116,6 +128,27 @@ pub effects_step : (e : Branch) (ss : List OpenStore) (i : ℕ) (d : OpenStore) 
     ≡ cons_effect (get_or ss i d).is_done (effect_of e (take i ss) (get_or ss i d) (drop (i + 1) ss))
     (effects_from e (take (i + 1) ss) (drop (i + 1) ss))
 effects_step e ss i d h = rw (add-one, drop-cons ss i d h, take-suc ss i d h) refl
+
+followed_more : (t : Bool) (x : Branch) (es next rest all : List Branch) → next ≡ (if t then es else with_branch es x)
+    → with_branches es (cons_effect t x rest) ≡ all → with_branches next rest ≡ all
+followed_more true x es next rest all n whole = ap (λ fs. with_branches fs rest) n ∙ whole
+followed_more false x es next rest all n whole = ap (λ fs. with_branches fs rest) n ∙ whole
+
+-- one more store is looked at
+pub effects_more : (e : Branch) (ss : List OpenStore) (i : ℕ) (d : OpenStore) (es next all : List Branch) → i < length ss
+    → next ≡ (if (get_or ss i d).is_done then es else with_branch es (effect_of e (take i ss) (get_or ss i d) (drop (i + 1) ss)))
+    → with_branches es (effects_from e (take i ss) (drop i ss)) ≡ all
+    → with_branches next (effects_from e (take (i + 1) ss) (drop (i + 1) ss)) ≡ all
+effects_more e ss i d es next all h n whole =
+    followed_more (get_or ss i d).is_done (effect_of e (take i ss) (get_or ss i d) (drop (i + 1) ss)) es next
+    (effects_from e (take (i + 1) ss) (drop (i + 1) ss)) all n (ap (with_branches es) (sym (effects_step e ss i d h)) ∙ whole)
+
+-- one more way is looked at
+pub fold_more : {X : Type 0} (f : X → Branch → X) (ws : List Way) (w : Way) (i : ℕ) (x y all : X) → i < length ws → w ≡ get_or ws i w
+    → y ≡ f x (shown w) → fold f x (shown_all (drop i ws)) ≡ all → fold f y (shown_all (drop (i + 1) ws)) ≡ all
+fold_more f ws w i x y all h e n whole =
+    let here : shown_all (drop i ws) ≡ shown w ∷ shown_all (drop (i + 1) ws) = rw (shown_drop ws i w h, ← e) refl in
+    ap (λ z. fold f z (shown_all (drop (i + 1) ws))) n ∙ ap (fold f x) (sym here) ∙ whole
 
 pub effects_none : (e : Branch) (past ss : List OpenStore) (i : ℕ) → length ss < i + 1 → effects_from e past (drop i ss) ≡ []
 effects_none e past ss i h = rw (drop_all i ss (omega arith)) refl
@@ -169,7 +202,7 @@ or_left : (a b : Bool) → a ≡ true → (a || b) ≡ true
 or_left true b h = refl
 or_left false b h = cc
 
-or_right : (a b : Bool) → a ≡ false → (a || b) ≡ b
+pub or_right : (a b : Bool) → a ≡ false → (a || b) ≡ b
 or_right true b h = cc
 or_right false b h = refl
 
@@ -190,6 +223,12 @@ over_go limit (suc n) goal out es h p = let e : suc n - 1 ≡ n =
 
 pub fold_shown : {X : Type 0} (f : X → Branch → X) (x : X) (ws : List Way) → fold f x (shown_all ws) ≡ fold (λ y w. f y (shown w)) x ws
 fold_shown f x ws = fold-map f shown x ws
+
+-- the ways once one round more has gone
+pub met_go : (n : ℕ) (goal : Branch → Bool) (out es : List Branch) → 0 < n
+    → met n goal out es ≡ met (n - 1) goal (out_after goal out es) (next_after goal es)
+met_go zero goal out es p = absurd (omega arith)
+met_go (suc n) goal out es p = let e : suc n - 1 ≡ n = omega arith in rw e refl
 
 -- the ways that are followed to see what a load may get
 pub reach_stop : (limit n : ℕ) (es next : List Branch) → next ≡ next_after never es → are_too_many limit next ≡ true → 0 < n

@@ -31,7 +31,7 @@ same_list eq f (x ∷ xs) [] h = cc
 same_list eq f (x ∷ xs) (y ∷ ys) h = let p =
     and_parts (eq x y) (pointwise eq xs ys) h in ap₂ (λ a b. a ∷ b) (f x y p.0) (same_list eq f xs ys p.1)
 
-same_word : (a b : List (Option ℕ)) → is_same_word a b ≡ true → a ≡ b
+pub same_word : (a b : List (Option ℕ)) → is_same_word a b ≡ true → a ≡ b
 same_word a b h = same_list (option_eq ◌==◌) same_byte a b h
 
 same_store : (a b : OpenStore) → is_same_store a b ≡ true → a ≡ b
@@ -42,6 +42,9 @@ same_store a b h =
     let w : a.bytes ≡ b.bytes = same_word a.bytes b.bytes q.0 in
     let d : a.is_done ≡ b.is_done = same_bool a.is_done b.is_done q.1 in
     λ i. record { number = n i; bytes = w i; is_done = d i }
+
+pub same_stores : (a b : List OpenStore) → pointwise is_same_store a b ≡ true → a ≡ b
+same_stores a b h = same_list is_same_store same_store a b h
 
 -- What a way that covers another shows. ----
 
@@ -125,7 +128,7 @@ one_kept P c (x ∷ xs) e t (inr h) = elim (one_kept P c xs e t h) [
   ]
 ]
 
-each_kept : (P : Branch → Type 0) (p : Branch → Bool) (es : List Branch) → Each P es → Each P (filter p es)
+pub each_kept : (P : Branch → Type 0) (p : Branch → Bool) (es : List Branch) → Each P es → Each P (filter p es)
 each_kept P p [] a = tt
 each_kept P p (x ∷ xs) a = elim (cases_Bool (p x)) [
   | inl t ↦ rw t (a.0, each_kept P p xs a.1)

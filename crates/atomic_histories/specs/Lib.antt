@@ -4,6 +4,7 @@ pub mod Law
 pub mod Branches
 pub mod Stands
 pub mod Shown
+pub mod Marks
 pub mod Held
 pub mod Lost
 pub mod May

@@ -6,14 +6,7 @@ ghost use Rattle.memory_histories.specs.Regular.{load_request_fault, store_reque
 ghost use Rattle.atomic_histories.specs.Operations.{has_number, without_number, answer_fault, form_fault};
 
 use crate::unit::Operation;
-use memory_histories::{HistoryEvent, HistoryFault, MAX_LENGTH};
-
-// Whether an operation lies within memory.
-fn is_inside(address: u64, length: usize) -> bool
-    ensures { result ≡ is_inside address length }
-{
-    1 <= length && (length <= MAX_LENGTH && u128::from(address) + length as u128 <= 1 << 64)
-}
+use memory_histories::{HistoryEvent, HistoryFault, is_inside};
 
 #[tactic(auto, using(crate::proofs::Bits::has_enabled_more))]
 // Whether one of the bytes is enabled.

@@ -5,6 +5,7 @@
 #![tactic(auto)]
 
 mod faults;
+mod followed;
 mod forms;
 mod may;
 mod memory;

@@ -7,6 +7,7 @@ ghost use Rattle.atomic_histories.specs.Branches.{next_after, rounds};
 ghost use Rattle.atomic_histories.specs.May.{never, with_lane, with_words, with_load_bytes, with_way_bytes, with_ways_bytes, reached_bytes, byte_set, is_reach_over, is_reach_wide, ways_set, lane_of};
 ghost use Rattle.atomic_histories.specs.Shown.{shown, shown_all, StopIs};
 
+use crate::followed::Followed;
 use crate::search::{Stop, are_too_many, copied, round, rounds};
 use crate::unit::{WatchedLoad, Word};
 use crate::ways::{Wanted, Way, is_watched, words_from};
@@ -70,7 +71,7 @@ fn with_ways(set: ByteSet, ways: &[Way], number: u64, lane: usize) -> ByteSet
 fn ways_on(alloc: Global, ways: &[Way]) -> Result<Vec<Way>, AllocError>
     ensures { IfOk result (λ next. shown_all next.items ≡ next_after never (shown_all ways.now)) }
 {
-    let mut out = Vec::new(alloc);
+    let mut out = Followed::new(alloc);
     round(alloc, ways, Wanted::Never, &mut out)
 }
 
@@ -93,7 +94,7 @@ fn byte_set(
     let mut frontier = copied(alloc, ways)?;
     while left > 0 {
         let next = ways_on(alloc, frontier.as_slice())?;
-        if are_too_many(next.as_slice(), limit) {
+        if are_too_many(alloc, next.as_slice(), limit)? {
             return Err(Stop::TooManyWays);
         }
         set = with_ways(set, next.as_slice(), number, lane);

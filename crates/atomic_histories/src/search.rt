@@ -1,10 +1,12 @@
 //! Lists of the ways that a unit may have gone, and what events make of them.
 
-ghost use Rattle.std.specs.Prelude.{◌≡◌, ◌||◌, ◌+◌, ◌<◌, ◌^◌, if◌then◌else◌, [], suc, map, drop, length, not, IfOk, IfErr, OnOk};
-ghost use Rattle.std.specs.List.{filter, list_any};
-ghost use Rattle.atomic_histories.specs.Branches.{with_branch, is_same_pair, covers, pairs, has_more_words, are_too_many, with_branches, effects, out_after, next_after, met, rounds, answered, needs_more, is_too_wide, branch_with_load, branch_with_store, branches_after};
+ghost use Rattle.std.specs.Prelude.{◌≡◌, ◌+◌, ◌<◌, if◌then◌else◌, [], suc, map, take, drop, length, slice_index_or, IfOk, IfErr, OnOk};
+ghost use Rattle.atomic_histories.specs.declared.unit.OpenStore.{OpenStore};
+ghost use Rattle.atomic_histories.specs.Branches.{with_branch, effect_of, out_of, next_of, has_more_words, are_too_many, with_branches, effects, out_after, next_after, met, rounds, answered, needs_more, is_too_wide, branch_with_load, branch_with_store, branches_after};
+ghost use Rattle.atomic_histories.specs.Marks.{IsFollowed};
 ghost use Rattle.atomic_histories.specs.Shown.{shown, shown_all, goal_of, without_of, StopIs};
 
+use crate::followed::{Followed, pairs};
 use crate::unit::{UnitPlace, Word};
 use crate::ways::{Wanted, Way};
 use crate::words::{has_byte, is_at, stored_word};
@@ -36,42 +38,55 @@ impl From<AllocError> for Stop {
     }
 }
 
-// Whether one of these ways leads wherever this one leads.
-fn is_covered(ways: &[Way], way: &Way) -> bool
-    ensures { result ≡ list_any (λ w. covers (shown w) (shown way.now)) ways.now }
+// The way on from this one on which store `i` takes effect is followed, unless it has taken effect.
+fn add_effect(alloc: Global, ways: &mut Followed, way: &Way, i: usize) -> Result<(), AllocError>
+    requires place { i < length way.now.stores.items }
+    requires followed { IsFollowed ways.old }
+    ensures ways { OnOk result ((d : OpenStore) → shown_all ways.new.ways.items ≡ (if (slice_index_or way.now.stores.items i d).is_done then shown_all ways.old.ways.items else with_branch (shown_all ways.old.ways.items) (effect_of (shown way.now) (take i way.now.stores.items) (slice_index_or way.now.stores.items i d) (drop (i + 1) way.now.stores.items)))) }
+    ensures followed { OnOk result (IsFollowed ways.new) }
 {
-    ways.iter().any(|other| other.covers(way))
-}
-
-// Those of the ways that lead elsewhere than this one.
-fn keep_others(ways: &mut Vec<Way>, way: &Way)
-    ensures { shown_all ways.new.items ≡ filter (λ f. not (covers (shown way.now) f)) (shown_all ways.old.items) }
-{
-    ways.retain(|other| !way.covers(other));
-}
-
-// One more way, if it leads anywhere else, in place of those that lead nowhere else.
-#[tactic(auto, using(crate::proofs::Loops::covered_shown, crate::proofs::Loops::shown_push))]
-fn add_way(ways: &mut Vec<Way>, way: Way) -> Result<(), AllocError>
-    ensures { OnOk result (shown_all ways.new.items ≡ with_branch (shown_all ways.old.items) (shown way)) }
-{
-    if !is_covered(ways.as_slice(), &way) {
-        keep_others(ways, &way);
-        ways.push(way)?;
+    let store = way.stores[i];
+    if store.is_done {
+        return Ok(());
     }
+    let on = way.effect(alloc, i)?;
+    ways.add(on)?;
     Ok(())
 }
 
 // The ways on from this one: one more of its stores takes effect.
-fn add_effects(alloc: Global, ways: &mut Vec<Way>, way: &Way) -> Result<(), AllocError>
-    ensures { OnOk result (shown_all ways.new.items ≡ with_branches (shown_all ways.old.items) (effects (shown way.now))) }
+fn add_effects(alloc: Global, ways: &mut Followed, way: &Way) -> Result<(), AllocError>
+    requires { IsFollowed ways.old }
+    ensures ways { OnOk result (shown_all ways.new.ways.items ≡ with_branches (shown_all ways.old.ways.items) (effects (shown way.now))) }
+    ensures followed { OnOk result (IsFollowed ways.new) }
 {
     for i in 0..way.stores.len() {
-        if !way.stores[i].is_done {
-            let on = way.effect(alloc, i)?;
-            add_way(ways, on)?;
-        }
+        add_effect(alloc, ways, way, i)?;
     }
+    Ok(())
+}
+
+// A way that is wanted is put out, and from another stores take effect.
+fn follow(
+    alloc: Global,
+    way: &Way,
+    wanted: Wanted,
+    out: &mut Followed,
+    next: &mut Followed,
+) -> Result<(), AllocError>
+    requires out { IsFollowed out.old }
+    requires next { IsFollowed next.old }
+    ensures out { OnOk result (shown_all out.new.ways.items ≡ out_of (goal_of wanted.entry) (shown_all out.old.ways.items) (shown way.now)) }
+    ensures next { OnOk result (shown_all next.new.ways.items ≡ next_of (goal_of wanted.entry) (shown_all next.old.ways.items) (shown way.now)) }
+    ensures out_followed { OnOk result (IsFollowed out.new) }
+    ensures next_followed { OnOk result (IsFollowed next.new) }
+{
+    if way.meets(wanted) {
+        let found = way.copy(alloc)?;
+        out.add(found)?;
+        return Ok(());
+    }
+    add_effects(alloc, next, way)?;
     Ok(())
 }
 
@@ -81,21 +96,18 @@ pub(crate) fn round(
     alloc: Global,
     ways: &[Way],
     wanted: Wanted,
-    out: &mut Vec<Way>,
+    out: &mut Followed,
 ) -> Result<Vec<Way>, AllocError>
-    ensures out { OnOk result (shown_all out.new.items ≡ out_after (goal_of wanted.entry) (shown_all out.old.items) (shown_all ways.now)) }
+    requires { IsFollowed out.old }
+    ensures out { OnOk result (shown_all out.new.ways.items ≡ out_after (goal_of wanted.entry) (shown_all out.old.ways.items) (shown_all ways.now)) }
+    ensures followed { OnOk result (IsFollowed out.new) }
     ensures next { IfOk result (λ next. shown_all next.items ≡ next_after (goal_of wanted.entry) (shown_all ways.now)) }
 {
-    let mut next = Vec::new(alloc);
+    let mut next = Followed::new(alloc);
     for way in ways {
-        if way.meets(wanted) {
-            let found = way.copy(alloc)?;
-            add_way(out, found)?;
-        } else {
-            add_effects(alloc, &mut next, way)?;
-        }
+        follow(alloc, way, wanted, out, &mut next)?;
     }
-    Ok(next)
+    Ok(next.ways)
 }
 
 // How many rounds the search takes at most, but for the first.
@@ -104,47 +116,6 @@ pub(crate) fn rounds(ways: &[Way]) -> usize
     ensures { result ≡ rounds (shown_all ways.now) }
 {
     ways.iter().fold(0, |most, way| most.max(way.stores.len()))
-}
-
-// Whether one of these ways has come to the same pair as this one.
-fn has_same_pair(ways: &[Way], way: &Way) -> bool
-    ensures { result ≡ list_any (λ w. is_same_pair (shown way.now) (shown w)) ways.now }
-{
-    ways.iter().any(|other| way.is_same_pair(other))
-}
-
-// The ways from one on.
-#[tactic(auto, using(crate::proofs::Loops::ways_passed))]
-fn ways_from(ways: &[Way], from: usize) -> &[Way]
-    ensures { result.now ≡ drop from ways.entry.now }
-{
-    if from <= ways.len() {
-        &ways[from..]
-    } else {
-        &ways[ways.len()..]
-    }
-}
-
-// A count with one more, unless it is counted among the others.
-fn count_with(count: usize, is_among: bool) -> usize
-    requires { count + 1 < 2 ^ 64 }
-    ensures { result ≡ (if is_among then count else count + 1) }
-{
-    if is_among { count } else { count + 1 }
-}
-
-// How many pairs these ways have come to.
-#[tactic(auto, using(crate::proofs::Loops::pairs_all))]
-fn pairs(ways: &[Way]) -> usize
-    ensures { result ≡ pairs (shown_all ways.now) }
-{
-    let mut count = 0;
-    for (i, way) in ways.iter().enumerate() {
-        let is_among = has_same_pair(ways_from(ways, i + 1), way);
-        let next = count_with(count, is_among);
-        count = next;
-    }
-    count
 }
 
 // Whether all ways together have more words before than so many.
@@ -163,10 +134,17 @@ fn has_more_words(ways: &[Way], most: usize) -> bool
 }
 
 // Whether these are too many ways to be followed at a time.
-pub(crate) fn are_too_many(ways: &[Way], limit: usize) -> bool
-    ensures { result ≡ are_too_many limit (shown_all ways.now) }
+#[tactic(auto, using(crate::proofs::Loops::few_pairs))]
+pub(crate) fn are_too_many(alloc: Global, ways: &[Way], limit: usize) -> Result<bool, AllocError>
+    ensures { IfOk result (λ many. many ≡ are_too_many limit (shown_all ways.now)) }
 {
-    has_more_words(ways, MOST_WORDS) || limit < pairs(ways)
+    if has_more_words(ways, MOST_WORDS) {
+        return Ok(true);
+    }
+    if ways.len() <= limit {
+        return Ok(false);
+    }
+    Ok(limit < pairs(alloc, ways)?)
 }
 
 // From these ways on stores take effect, until what is wanted is met: not too many ways are followed at
@@ -176,18 +154,21 @@ fn search(alloc: Global, ways: &[Way], wanted: Wanted, limit: usize) -> Result<V
     ensures found { IfOk result (λ found. shown_all found.items ≡ met (suc (rounds (shown_all ways.now))) (goal_of wanted.entry) [] (shown_all ways.now)) }
     ensures stop { IfErr result (StopIs (needs_more limit (goal_of wanted.entry) (shown_all ways.now))) }
 {
-    let mut found = Vec::new(alloc);
+    let mut found = Followed::new(alloc);
     let mut left = rounds(ways);
     let mut frontier = round(alloc, ways, wanted, &mut found)?;
     while left > 0 {
-        if are_too_many(frontier.as_slice(), limit) || are_too_many(found.as_slice(), limit) {
+        if are_too_many(alloc, frontier.as_slice(), limit)? {
+            return Err(Stop::TooManyWays);
+        }
+        if are_too_many(alloc, found.ways.as_slice(), limit)? {
             return Err(Stop::TooManyWays);
         }
         let next = round(alloc, frontier.as_slice(), wanted, &mut found)?;
         frontier = next;
         left -= 1;
     }
-    Ok(found)
+    Ok(found.ways)
 }
 
 // The ways after an answer.
@@ -205,12 +186,12 @@ fn answered(alloc: Global, ways: &[Way], wanted: Wanted, limit: usize) -> Result
 fn without(alloc: Global, ways: &[Way], wanted: Wanted) -> Result<Vec<Way>, AllocError>
     ensures { IfOk result (λ after. shown_all after.items ≡ with_branches [] (map (without_of wanted.entry) (shown_all ways.now))) }
 {
-    let mut after = Vec::new(alloc);
+    let mut after = Followed::new(alloc);
     for way in ways {
         let left = way.answered(alloc, wanted)?;
-        add_way(&mut after, left)?;
+        after.add(left)?;
     }
-    Ok(after)
+    Ok(after.ways)
 }
 
 // A load is requested.

@@ -6,11 +6,16 @@ ghost use Rattle.std.specs.Cmp.Lexicographic.{pointwise};
 ghost use Rattle.atomic_histories.specs.Words.{is_word_of};
 ghost use Rattle.atomic_histories.specs.Law.{is_store, may_answer_store, done_store};
 ghost use Rattle.atomic_histories.specs.Branches.{effect_of, effects, is_same_word, is_same_pair, has_stood, covers_load, covers, with_branch, with_branches, is_watched, may_have, has_answer, has_effect, branch_without_load, branch_without_store, branch_with_load, branch_with_store, path_after, unseen, load_after, cut_to};
+ghost use Rattle.atomic_histories.specs.Marks.{mixed, with_byte, with_store as mark_with_store, mark_of};
 ghost use Rattle.atomic_histories.specs.Shown.{shown, shown_all, goal_of, without_of};
 
 use crate::unit::{OpenStore, UnitPlace, WatchedLoad, Word};
 use crate::words::{is_word_of, write};
 use std::alloc::{AllocError, Global};
+
+// By which a mark is multiplied before a number is added: Knuth's multiplier for numbers of 64 bits, so that
+// few pairs have one mark.
+const MIXER: u64 = 6_364_136_223_846_793_005;
 
 /// One way that a unit may have gone.
 #[derive(Drop)]
@@ -48,6 +53,35 @@ pub(crate) fn is_watched(load: &WatchedLoad, number: u64) -> bool
     ensures { result ≡ is_watched number load.now }
 {
     load.number == number
+}
+
+// A mark with one more number mixed in.
+#[tactic(auto, unfolding(crate::specs::Marks::mixed))]
+fn mixed(mark: u64, number: u64) -> u64
+    ensures { result ≡ mixed mark number }
+{
+    mark.wrapping_mul(MIXER).wrapping_add(number)
+}
+
+// With the byte of a lane.
+fn with_byte(mark: u64, byte: Option<u8>) -> u64
+    ensures { result ≡ with_byte mark byte }
+{
+    match byte {
+        Some(byte) => mixed(mark, u64::from(byte)),
+        None => mixed(mark, 256),
+    }
+}
+
+// With a store, if it has taken effect.
+fn mark_with_store(mark: u64, store: &OpenStore) -> u64
+    ensures { result ≡ mark_with_store mark store.now }
+{
+    if store.is_done {
+        mixed(mark, store.number)
+    } else {
+        mark
+    }
 }
 
 // The words from one on.
@@ -193,6 +227,20 @@ impl Way {
             loads,
             path,
         })
+    }
+
+    // The mark of the pair that it has come to: ways to one pair have one mark.
+    #[tactic(auto, unfolding(crate::specs::Marks::mark_of))]
+    pub(crate) fn mark(&self) -> u64
+        ensures { result ≡ mark_of (shown self.now) }
+    {
+        let word = self
+            .word
+            .iter()
+            .fold(0, |mark, byte| with_byte(mark, *byte));
+        self.stores
+            .iter()
+            .fold(word, |mark, store| mark_with_store(mark, store))
     }
 
     // Whether two ways have come to one pair of a word and the stores in effect.

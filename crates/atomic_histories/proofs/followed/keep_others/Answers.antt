@@ -3,7 +3,7 @@ use Rattle.std.proofs.lemmas.Fn.{filter_same}
 use Rattle.atomic_histories.specs.Branches.{covers}
 use Rattle.atomic_histories.specs.Shown.{shown, shown_all}
 use Rattle.atomic_histories.proofs.Loops.{filter_shown}
-use Rattle.atomic_histories.proofs.search.keep_others.Goals as goal
+use Rattle.atomic_histories.proofs.followed.keep_others.Goals as goal
 
 pub returns : goal.returns
 returns c =
