@@ -1,5 +1,5 @@
 -- Of ways without the mark of a pair none has come to the pair.
-use Rattle.std.proofs.Common.{◌≡◌, ℕ, zero, suc, ◌+◌, ◌<◌, ◌≤◌, Bool, true, false, ◌&&◌, not, ◌==◌, if◌then◌else◌, List, [], ◌∷◌, ◌++◌, filter, fold, drop, length, get_or, Option, Some, None, inl, inr, refl, sym, ap, ap₂, ◌∙◌, subst, eq-eqb, arith}
+use Rattle.std.proofs.Common.{◌≡◌, ℕ, zero, suc, ◌+◌, ◌<◌, ◌≤◌, Bool, true, false, not, ◌==◌, if◌then◌else◌, List, [], ◌∷◌, ◌++◌, filter, fold, drop, length, get_or, Option, Some, None, inl, inr, refl, sym, ap, ap₂, ◌∙◌, subst, eq-eqb, arith}
 use Rattle.std.specs.Prelude.{is_some, nat_eq}
 use Rattle.std.specs.HashMap.{get}
 use Rattle.std.specs.List.{list_any}
@@ -9,7 +9,6 @@ use Rattle.std.proofs.lemmas.List.{drop_all}
 use Rattle.atomic_histories.specs.declared.followed.Followed.{Followed}
 use Rattle.atomic_histories.specs.declared.ways.Way.{Way}
 use Rattle.atomic_histories.specs.Branches.{Branch, is_same_word, is_same_store, is_same_pair, covers_load, covers}
-use Rattle.atomic_histories.specs.Stands.{Each}
 use Rattle.atomic_histories.specs.Shown.{shown, shown_all}
 use Rattle.atomic_histories.specs.Marks.{mark_of, with_byte, with_store, AreMarked, IsFollowed, IsNoted}
 use Rattle.atomic_histories.proofs.Lists.{each_append}

@@ -1,6 +1,6 @@
 //! Ways that are followed, found by the marks of their pairs.
 
-ghost use Rattle.std.specs.Prelude.{◌≡◌, ◌+◌, ◌≤◌, ◌<◌, ◌^◌, ◌==◌, ◌++◌, ◌∷◌, [], ℕ, nat_eq, if◌then◌else◌, Some, drop, length, not, true, IfOk, OnOk};
+ghost use Rattle.std.specs.Prelude.{◌≡◌, ◌+◌, ◌≤◌, ◌<◌, ◌^◌, [], nat_eq, if◌then◌else◌, drop, length, not, IfOk, OnOk};
 ghost use Rattle.std.specs.HashMap.{get};
 ghost use Rattle.std.specs.List.{filter, list_any};
 ghost use Rattle.atomic_histories.specs.Branches.{with_branch, is_same_pair, covers, pairs};

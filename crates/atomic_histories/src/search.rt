@@ -1,6 +1,6 @@
 //! Lists of the ways that a unit may have gone, and what events make of them.
 
-ghost use Rattle.std.specs.Prelude.{◌≡◌, ◌||◌, ◌+◌, ◌<◌, ◌^◌, if◌then◌else◌, [], suc, map, take, drop, length, slice_index_or, IfOk, IfErr, OnOk};
+ghost use Rattle.std.specs.Prelude.{◌≡◌, ◌+◌, ◌<◌, if◌then◌else◌, [], suc, map, take, drop, length, slice_index_or, IfOk, IfErr, OnOk};
 ghost use Rattle.atomic_histories.specs.declared.unit.OpenStore.{OpenStore};
 ghost use Rattle.atomic_histories.specs.Branches.{with_branch, effect_of, out_of, next_of, has_more_words, are_too_many, with_branches, effects, out_after, next_after, met, rounds, answered, needs_more, is_too_wide, branch_with_load, branch_with_store, branches_after};
 ghost use Rattle.atomic_histories.specs.Marks.{IsFollowed};

@@ -1,4 +1,4 @@
-use Rattle.std.proofs.Common.{◌≡◌, ◌-◌, ◌<◌, ℕ, false, ◌||◌, sym, ap, ap₂, ◌∙◌, arith}
+use Rattle.std.proofs.Common.{◌≡◌, ◌-◌, ◌<◌, false, ◌||◌, sym, ap, ap₂, ◌∙◌, arith}
 use Rattle.atomic_histories.specs.Branches.{met, are_too_many, is_over, out_after, next_after}
 use Rattle.atomic_histories.specs.Shown.{shown_all, goal_of}
 use Rattle.atomic_histories.proofs.Loops.{met_go, over_go, or_right}
