@@ -1,7 +1,7 @@
 use Rattle.std.proofs.Common.{◌≡◌, drop}
 use Rattle.register_sweeps.specs.Sweep.{bad_from}
-use Rattle.register_sweeps.proofs.threads.first_bad.Given as goal
+use Rattle.register_sweeps.proofs.threads.all_good.Given as goal
 
--- no shape so far has a bad field
+-- none so far has a number out of its range
 abbrev pub invariant-loop-place : goal.invariant-loop-place
-invariant-loop-place l = bad_from 0 l.shapes ≡ bad_from l.place (drop l.place l.shapes)
+invariant-loop-place g l = bad_from g.S.Ranged.bad 0 l.all ≡ bad_from g.S.Ranged.bad l.place (drop l.place l.all)
