@@ -4,10 +4,12 @@ _kroft() {
   COMPREPLY=()
   case $before in
     --shape) COMPREPLY=($(compgen -f -- "$word")); return ;;
+    --machine) COMPREPLY=($(compgen -f -- "$word")); return ;;
     --image) COMPREPLY=($(compgen -f -- "$word")); return ;;
     --format) COMPREPLY=($(compgen -W 'text csv json' -- "$word")); return ;;
     --latency) COMPREPLY=($(compgen -W '' -- "$word")); return ;;
     --busy) COMPREPLY=($(compgen -W '' -- "$word")); return ;;
+    --registers) COMPREPLY=($(compgen -W '' -- "$word")); return ;;
     --log) COMPREPLY=($(compgen -W 'lackey din' -- "$word")); return ;;
     --from) COMPREPLY=($(compgen -W 'lackey din' -- "$word")); return ;;
     --words) COMPREPLY=($(compgen -W '' -- "$word")); return ;;
@@ -20,14 +22,14 @@ _kroft() {
     esac
   done
   case $command in
-    run) k='--shape --image -h --help' ;;
-    check) k='--shape --image --all-answered --format -h --help' ;;
-    sweep) k='--shape --latency --busy --format --svg -h --help' ;;
-    explain) k='--shape --image --format -h --help' ;;
-    grade) k='--shape --image --format -h --help' ;;
-    drive) k='--shape --image --log --latency --busy --summary --all --format --svg -h --help' ;;
+    run) k='--shape --machine --image -h --help' ;;
+    check) k='--shape --machine --image --all-answered --format -h --help' ;;
+    sweep) k='--shape --machine --latency --busy --format --svg --registers -h --help' ;;
+    explain) k='--shape --machine --image --format -h --help' ;;
+    grade) k='--shape --machine --image --format -h --help' ;;
+    drive) k='--shape --machine --image --log --latency --busy --summary --all --format --svg -h --help' ;;
     requests) k='--from --words -h --help' ;;
-    show) k='--shape --image --text --vcd -h --help' ;;
+    show) k='--shape --machine --image --text --vcd -h --help' ;;
     history) k='--law --unit --image --unknown --all-answered --values --format -h --help' ;;
     *) k='run check sweep explain grade drive requests show history --shape -h --help -V --version' ;;
   esac

@@ -1,10 +1,11 @@
--- What the program does: for its task, as the words were understood, the shape and the image that were read, and its input,
+-- What the program does: for its task, as the words were understood, the machine and the image that were read, and its input,
 -- which bytes go to its output, and by which status or fault it ends.
-use Rattle.std.specs.Prelude.{◌≡◌, ◌≢◌, ◌⊎◌, ℕ, ◌*◌, ◌/◌, ◌<◌, ◌≤◌, Bool, true, false, Option, None, Some, Result, Ok, Err, List, [], ◌∷◌, ◌++◌, length, map}
+use Rattle.std.specs.Prelude.{◌≡◌, ◌≢◌, ◌⊎◌, ℕ, ◌*◌, ◌/◌, ◌<◌, ◌≤◌, Bool, true, false, Option, Result, Ok, Err, List, [], ◌∷◌, ◌++◌, length, map}
 use Rattle.std.specs.List.{flat_map}
 use Rattle.std.specs.String.{string_bytes}
 use Rattle.std.specs.Global.{Global, Vec}
 use Rattle.std.specs.declared.string.String.{String}
+use Rattle.cache_unit.specs.declared.Sizes.{Sizes}
 use Rattle.machine_core.specs.Machine.{MachineState}
 use Rattle.toml.specs.Parse.{parse_document}
 use Rattle.flat_model.specs.Flat.{Flat}
@@ -45,7 +46,9 @@ use Rattle.run_reasons.specs.Runs.{Explains, status_of as explanation_status}
 use Rattle.run_reasons.specs.declared.explain.Explanation.{Explanation}
 use Rattle.register_sweeps.specs.Sweep.{machine_over, row_of}
 use Rattle.register_sweeps.specs.declared.rounds.RoundsRow.{RoundsRow}
-use Rattle.shape_files.specs.ShapeFile.{text_says}
+use Rattle.shape_files.specs.MachineFile.{TextSays, TextFails}
+use Rattle.shape_files.specs.ShapeFile.{sizes_of, text_says}
+use Rattle.shape_files.specs.declared.machine_file.MachineFault.{MachineFault}
 use Rattle.shape_files.specs.declared.shape_file.ShapeFault.{ShapeFault}
 use Rattle.shape_files.specs.declared.shape_file.TheConstants.{DEFAULT_SHAPE}
 use Rattle.shape_files.specs.declared.shape_file.ToolShape.{ToolShape}
@@ -81,11 +84,13 @@ use Rattle.kroft_command.specs.declared.command_line.ImageName.{ImageName}
 use Rattle.kroft_command.specs.declared.command_line.ImageName.TheVariants as name
 use Rattle.kroft_command.specs.declared.command_line.LogName.{LogName}
 use Rattle.kroft_command.specs.declared.command_line.LogName.TheVariants.{Lackey, Din}
+use Rattle.kroft_command.specs.declared.command_line.MachineName.{MachineName}
+use Rattle.kroft_command.specs.declared.command_line.MachineName.TheVariants as source
 use Rattle.kroft_command.specs.declared.command_line.Task.{Task}
 use Rattle.kroft_command.specs.declared.command_line.Task.TheVariants as task
 use Rattle.kroft_command.specs.declared.fault.ToolFault.{ToolFault}
-use Rattle.kroft_command.specs.declared.fault.ToolFault.TheVariants.{CommandLine as Words, Job, ImageUnreadable, LongImage as TooLong}
-use Rattle.kroft_command.specs.Tool.{IsInRange, timings_in, line, write_fault, no_memory, of_trace, of_show, of_log}
+use Rattle.kroft_command.specs.declared.fault.ToolFault.TheVariants.{CommandLine as Words, Job, MachineUnreadable, ImageUnreadable, LongImage as TooLong}
+use Rattle.kroft_command.specs.Tool.{IsInRange, timings_in, registers_in, line, write_fault, no_memory, of_machine, of_trace, of_show, of_log}
 
 -- how an end is told: by a status, or by a fault
 abbrev pub told : {X F : Type 0} (status_for : X → ℕ) (fault_for : F → ToolFault) → Result X F → Result ℕ ToolFault
@@ -123,23 +128,32 @@ IsRefused said = (kind_of said ≢ DisplayHelp) × (kind_of said ≢ DisplayVers
 
 -- ---- files
 
--- The shape is the default, if no file is named, and else what the file's text says.
-abbrev pub IsShapeOf : {X : Type 0} → Option X → ToolShape → Type 0
-IsShapeOf None shape = shape ≡ DEFAULT_SHAPE
-IsShapeOf (Some path) shape = (text : List ℕ) × (text_says (parse_document text) ≡ Ok shape)
+-- The machine is the program's own, if no file is named, and else what the file's text says.
+abbrev pub IsMachineOf : MachineName → Sizes → Type 0
+IsMachineOf source.Usual sizes = sizes ≡ sizes_of DEFAULT_SHAPE
+IsMachineOf (source.Shape path) sizes =
+    (text : List ℕ) × (shape : ToolShape) × (text_says (parse_document text) ≡ Ok shape) × (sizes ≡ sizes_of shape)
+IsMachineOf (source.Machine path) sizes = (text : List ℕ) × TextSays (parse_document text) sizes
 
--- Why there is no shape: the file can't be read, or memory is missing for that;
-abbrev pub UnreadShape : JobFault → Type 0
-UnreadShape fault = (fault ≡ ShapeUnreadable) ⊎ (fault ≡ OutOfMemory)
+-- Why a file has no text: it can't be read, or memory is missing for that.
+abbrev pub IsUnread : (unreadable fault : ToolFault) → Type 0
+IsUnread unreadable fault = (fault ≡ unreadable) ⊎ (fault ≡ no_memory)
 
--- or its text says none, or memory is missing for reading it as a table.
+-- Why a text says no shape: it says another one, or memory is missing for reading it as a table.
 abbrev pub ShapeTextFails : List ℕ → JobFault → Type 0
 ShapeTextFails text fault =
     (fault ≡ OutOfMemory) ⊎ ((f : ShapeFault) × (text_says (parse_document text) ≡ Err f) × (fault ≡ jobs.of_shape f))
 
-abbrev pub ShapeFails : {X : Type 0} → Option X → JobFault → Type 0
-ShapeFails None fault = ⊥
-ShapeFails (Some path) fault = UnreadShape fault ⊎ ((text : List ℕ) × ShapeTextFails text fault)
+abbrev pub MachineTextFails : List ℕ → ToolFault → Type 0
+MachineTextFails text fault = (f : MachineFault) × TextFails text f × (fault ≡ of_machine f)
+
+-- Why there are no numbers: the file can't be read, or its text says none.
+abbrev pub MachineFails : MachineName → ToolFault → Type 0
+MachineFails source.Usual fault = ⊥
+MachineFails (source.Shape path) fault =
+    IsUnread (Job ShapeUnreadable) fault ⊎ ((text : List ℕ) × (f : JobFault) × ShapeTextFails text f × (fault ≡ Job f))
+MachineFails (source.Machine path) fault =
+    IsUnread MachineUnreadable fault ⊎ ((text : List ℕ) × MachineTextFails text fault)
 
 -- Memory has zeros before the first store, if nothing is named, or addresses, or else what the file gave.
 abbrev pub IsImageOf : ImageName → Image → Type 0
@@ -147,35 +161,32 @@ IsImageOf name.Zeros image = image ≡ memory.Zeros
 IsImageOf name.Address image = image ≡ memory.Address
 IsImageOf (name.File path) image = (bytes : Vec ℕ) × (image ≡ memory.Bytes bytes)
 
--- Why there is no image: the file can't be read, or memory is missing for it.
-abbrev pub UnreadImage : ToolFault → Type 0
-UnreadImage fault = (fault ≡ ImageUnreadable) ⊎ (fault ≡ no_memory)
-
+-- Why there is no image: its file has none.
 abbrev pub ImageFails : ImageName → ToolFault → Type 0
-ImageFails (name.File path) fault = UnreadImage fault
+ImageFails (name.File path) fault = IsUnread ImageUnreadable fault
 ImageFails name fault = ⊥
 
 -- the bytes of a machine's memory
-abbrev pub memory_bytes : ToolShape → ℕ
-memory_bytes shape = 4 * shape.shape.words
+abbrev pub memory_bytes : Sizes → ℕ
+memory_bytes sizes = 4 * sizes.words
 
 -- A machine's memory has room for the image. That of a history has no end.
-abbrev pub HasRoom : Task → (shape : ToolShape) (image : Image) → Type 0
-HasRoom (task.History how) shape image = Unit {0}
-HasRoom task shape image = length (bytes_of image) ≤ memory_bytes shape
+abbrev pub HasRoom : Task → (sizes : Sizes) (image : Image) → Type 0
+HasRoom (task.History how) sizes image = Unit {0}
+HasRoom task sizes image = length (bytes_of image) ≤ memory_bytes sizes
 
 -- Why not: how many bytes either has.
-abbrev pub LacksRoom : Task → (shape : ToolShape) (image : Image) → ToolFault → Type 0
-LacksRoom (task.History how) shape image fault = ⊥
-LacksRoom task shape image fault =
-    (memory_bytes shape < length (bytes_of image))
-    × (fault ≡ TooLong (record { bytes = length (bytes_of image); memory = memory_bytes shape }))
+abbrev pub LacksRoom : Task → (sizes : Sizes) (image : Image) → ToolFault → Type 0
+LacksRoom (task.History how) sizes image fault = ⊥
+LacksRoom task sizes image fault =
+    (memory_bytes sizes < length (bytes_of image))
+    × (fault ≡ TooLong (record { bytes = length (bytes_of image); memory = memory_bytes sizes }))
 
--- No file is at fault, but the image is too long for the shape.
+-- No file is at fault, but the image is too long for the memory.
 abbrev pub ImageIsTooLong : CommandLine → ToolFault → Type 0
 ImageIsTooLong asked fault =
-    (shape : ToolShape) × (image : Image) × IsShapeOf asked.shape_file shape × IsImageOf asked.image image
-    × LacksRoom asked.task shape image fault
+    (sizes : Sizes) × (image : Image) × IsMachineOf asked.machine sizes × IsImageOf asked.image image
+    × LacksRoom asked.task sizes image fault
 
 -- ---- tasks
 
@@ -218,124 +229,124 @@ module _ {W : Type 0} (took : W → List ℕ → W → Type 0) (refused unflushe
 module _ {R W : Type 0} (gave : R → List ℕ → R → Type 0) (failed : R → R → Type 0)
     (took : W → List ℕ → W → Type 0) (refused unflushed : W → W → Type 0) where
   -- A trace is served on a new machine.
-  unfoldable pub Runs : (shape : ToolShape) (image : Image) → Ending R W
-  Runs shape image input input' output output' result =
+  unfoldable pub Runs : (sizes : Sizes) (image : Image) → Ending R W
+  Runs sizes image input input' output output' result =
       (served : Result Counts TraceFault) × (after : MachineState)
-      × Ends gave failed took refused unflushed input input' output output' (machine_over image shape) after served
+      × Ends gave failed took refused unflushed input input' output output' (machine_over image sizes) after served
       × (result ≡ told (λ counts. 0) of_trace served)
 
   -- A recorded run is judged, and the verdict put.
-  unfoldable pub Checks : (format : Format) (shape : ToolShape) (image : Image) → Ending R W
-  Checks format shape image input input' =
+  unfoldable pub Checks : (format : Format) (sizes : Sizes) (image : Image) → Ending R W
+  Checks format sizes image input input' =
       Answers took refused unflushed
       (λ text status. (texts : List (List ℕ)) × (end : CheckEnd) × (last : Flat)
       × ReadWhole gave pair_fault MAX_PAIR input input' texts
-      × IsJudgedFrom (flat_from image shape.shape.words) texts end last × (text ≡ line (check_in format end)) × (status ≡ verdict_status end))
+      × IsJudgedFrom (flat_from image sizes.words) texts end last × (text ≡ line (check_in format end)) × (status ≡ verdict_status end))
       (λ fault. (f : TraceFault) × ReadFails gave failed pair_fault MAX_PAIR input input' f × (fault ≡ of_trace f))
 
   -- It is judged, and which of its loads weren't answered is told behind the verdict.
-  unfoldable pub ChecksAnswered : (format : Format) (shape : ToolShape) (image : Image) → Ending R W
-  ChecksAnswered format shape image input input' =
+  unfoldable pub ChecksAnswered : (format : Format) (sizes : Sizes) (image : Image) → Ending R W
+  ChecksAnswered format sizes image input input' =
       Answers took refused unflushed
       (λ text status. (texts : List (List ℕ)) × (end : CheckEnd) × (last : Flat) × (tags : List ℕ)
       × ReadWhole gave pair_fault MAX_PAIR input input' texts
-      × IsJudgedFrom (flat_from image shape.shape.words) texts end last
+      × IsJudgedFrom (flat_from image sizes.words) texts end last
       × (tags ≡ tags_owed last) × (text ≡ line (answered_in format end tags)) × (status ≡ answered_status end tags))
       (λ fault. (f : TraceFault) × ReadFails gave failed pair_fault MAX_PAIR input input' f × (fault ≡ of_trace f))
 
-  unfoldable pub checks_by : (all_answered : Bool) → (format : Format) (shape : ToolShape) (image : Image) → Ending R W
+  unfoldable pub checks_by : (all_answered : Bool) → (format : Format) (sizes : Sizes) (image : Image) → Ending R W
   checks_by false = Checks
   checks_by true = ChecksAnswered
 
   -- A recorded run is explained, and the explanation put.
-  unfoldable pub ExplainsRun : (format : Format) (shape : ToolShape) (image : Image) → Ending R W
-  ExplainsRun format shape image input input' =
+  unfoldable pub ExplainsRun : (format : Format) (sizes : Sizes) (image : Image) → Ending R W
+  ExplainsRun format sizes image input input' =
       Answers took refused unflushed
-      (λ text status. (why : Explanation) × Explains gave failed (memory_from image shape.shape.words) input input' (Ok why)
+      (λ text status. (why : Explanation) × Explains gave failed (memory_from image sizes.words) input input' (Ok why)
       × (text ≡ line (explanation_in format why)) × (status ≡ explanation_status why))
-      (λ fault. (f : TraceFault) × Explains gave failed (memory_from image shape.shape.words) input input' (Err f) × (fault ≡ of_trace f))
+      (λ fault. (f : TraceFault) × Explains gave failed (memory_from image sizes.words) input input' (Err f) × (fault ≡ of_trace f))
 
   -- A sheet is graded on a new machine.
-  unfoldable pub Grades : (format : Format) (shape : ToolShape) (image : Image) → Ending R W
-  Grades format shape image input input' output output' result =
+  unfoldable pub Grades : (format : Format) (sizes : Sizes) (image : Image) → Ending R W
+  Grades format sizes image input input' output output' result =
       (graded : Result Score TraceFault)
-      × GradesAll gave failed took refused unflushed format (machine_over image shape) input input' output output' graded
+      × GradesAll gave failed took refused unflushed format (machine_over image sizes) input input' output output' graded
       × (result ≡ told score_status of_trace graded)
 
-  -- The requests of a trace are served with each number of registers, and a row is put for each.
-  abbrev pub SweepsRegisters : (format : Format) (shape : ToolShape) → Ending R W
-  SweepsRegisters format shape input input' =
+  -- The requests of a trace are served on each of these machines, and a row is put for each.
+  abbrev pub SweepsRegisters : (format : Format) (machines : List Sizes) → Ending R W
+  SweepsRegisters format machines input input' =
       Answers took refused unflushed
       (λ text status. (texts : List (List ℕ)) × ReadWhole gave trace_fault MAX_LINE input input' texts
-      × (text ≡ pumps_head format ++ flat_map (λ row. line (pumps_in format row)) (map (row_of (requests_of texts)) (swept shape)))
+      × (text ≡ pumps_head format ++ flat_map (λ row. line (pumps_in format row)) (map (row_of (requests_of texts)) machines))
       × (status ≡ 0))
-      (λ fault. (f : JobFault) × SweepFails gave failed shape input input' f × (fault ≡ Job f))
+      (λ fault. (f : JobFault) × SweepFails gave failed machines input input' f × (fault ≡ Job f))
 
-  -- They are driven in rounds with each number of registers, and a row is put for each.
-  abbrev pub SweepsRounds : (timing : Timing) (format : Format) (shape : ToolShape) → Ending R W
-  SweepsRounds timing format shape input input' =
+  -- They are driven in rounds on each machine, and a row is put for each.
+  abbrev pub SweepsRounds : (timing : Timing) (format : Format) (machines : List Sizes) → Ending R W
+  SweepsRounds timing format machines input input' =
       Answers took refused unflushed
       (λ text status. (texts : List (List ℕ)) × (rows : List RoundsRow) × ReadWhole gave trace_fault MAX_LINE input input' texts
-      × AreCounted timing (swept shape) (requests_of texts) rows
+      × AreCounted timing machines (requests_of texts) rows
       × (text ≡ rounds_head format ++ flat_map (λ row. line (rounds_in format row)) rows) × (status ≡ 0))
-      (λ fault. (f : JobFault) × SweepFails gave failed shape input input' f × (fault ≡ Job f))
+      (λ fault. (f : JobFault) × SweepFails gave failed machines input input' f × (fault ≡ Job f))
 
   -- They are driven with several latencies in turn, and each row stands behind its latency.
-  abbrev pub SweepsLatencies : (timings : List Timing) (format : Format) (shape : ToolShape) → Ending R W
-  SweepsLatencies timings format shape input input' =
+  abbrev pub SweepsLatencies : (timings : List Timing) (format : Format) (machines : List Sizes) → Ending R W
+  SweepsLatencies timings format machines input input' =
       Answers took refused unflushed
       (λ text status. (texts : List (List ℕ)) × (rows : List LatencyRows) × ReadWhole gave trace_fault MAX_LINE input input' texts
-      × AreSwept timings (swept shape) (requests_of texts) rows
+      × AreSwept timings machines (requests_of texts) rows
       × (text ≡ latency_head format ++ flat_map (latency_lines format) (map swept_rows rows)) × (status ≡ 0))
-      (λ fault. (f : JobFault) × SweepFails gave failed shape input input' f × (fault ≡ Job f))
+      (λ fault. (f : JobFault) × SweepFails gave failed machines input input' f × (fault ≡ Job f))
 
   -- Their rounds are drawn, a line for each latency.
-  abbrev pub DrawsSweep : (timings : List Timing) (shape : ToolShape) → Ending R W
-  DrawsSweep timings shape input input' =
+  abbrev pub DrawsSweep : (timings : List Timing) (machines : List Sizes) → Ending R W
+  DrawsSweep timings machines input input' =
       Answers took refused unflushed
       (λ text status. (texts : List (List ℕ)) × (rows : List LatencyRows) × ReadWhole gave trace_fault MAX_LINE input input' texts
-      × AreSwept timings (swept shape) (requests_of texts) rows × (text ≡ sweep_figure (map swept_rows rows)) × (status ≡ 0))
-      (λ fault. (f : JobFault) × SweepFails gave failed shape input input' f × (fault ≡ Job f))
+      × AreSwept timings machines (requests_of texts) rows × (text ≡ sweep_figure (map swept_rows rows)) × (status ≡ 0))
+      (λ fault. (f : JobFault) × SweepFails gave failed machines input input' f × (fault ≡ Job f))
 
   -- one latency alone isn't told with its row
-  abbrev pub sweeps_lines : (timings : List Timing) (format : Format) (shape : ToolShape) → Ending R W
+  abbrev pub sweeps_lines : (timings : List Timing) (format : Format) (machines : List Sizes) → Ending R W
   sweeps_lines [] = SweepsRegisters
   sweeps_lines (timing ∷ []) = SweepsRounds timing
   sweeps_lines (timing ∷ next ∷ rest) = SweepsLatencies (timing ∷ next ∷ rest)
 
-  unfoldable pub Sweeps : (timings : List Timing) (form : CountForm) (shape : ToolShape) → Ending R W
+  unfoldable pub Sweeps : (timings : List Timing) (form : CountForm) (machines : List Sizes) → Ending R W
   Sweeps timings (Lines format) = sweeps_lines timings format
   Sweeps timings Figure = DrawsSweep timings
 
   -- The requests of a trace or of a log are driven in rounds through a new machine: a table of its counts is put,
-  abbrev pub PutsCounts : (from : RequestText) (timing : Timing) (format : Format) (shape : ToolShape) (image : Image) → Ending R W
-  PutsCounts from timing format shape image input input' =
+  abbrev pub PutsCounts : (from : RequestText) (timing : Timing) (format : Format) (sizes : Sizes) (image : Image) → Ending R W
+  PutsCounts from timing format sizes image input input' =
       Answers took refused unflushed
       (λ text status. (requests : List Event) × (groups : List AccessGroup) × (table : Table)
-      × Asks gave from (room_of shape) input input' requests groups
-      × IsCounted timing (machine_over image shape) requests table
+      × Asks gave from (room_of sizes) input input' requests groups
+      × IsCounted timing (machine_over image sizes) requests table
       × (text ≡ table_head format ++ line (table_in format table)) × (status ≡ 0))
-      (λ fault. (f : LogFault) × AsksNothing gave failed from (room_of shape) input input' f × (fault ≡ of_log f))
+      (λ fault. (f : LogFault) × AsksNothing gave failed from (room_of sizes) input input' f × (fault ≡ of_log f))
 
   -- or all details are put, and of a log what became of its accesses.
-  abbrev pub PutsDetails : (from : RequestText) (timing : Timing) (format : Format) (shape : ToolShape) (image : Image) → Ending R W
-  PutsDetails from timing format shape image input input' =
+  abbrev pub PutsDetails : (from : RequestText) (timing : Timing) (format : Format) (sizes : Sizes) (image : Image) → Ending R W
+  PutsDetails from timing format sizes image input input' =
       Answers took refused unflushed
       (λ text status. (details : Details) × (accesses : Option AccessCounts)
-      × CountsAll gave from (room_of shape) timing (machine_over image shape) input input' details accesses
+      × CountsAll gave from (room_of sizes) timing (machine_over image sizes) input input' details accesses
       × (text ≡ line (details_in format details accesses)) × (status ≡ 0))
-      (λ fault. (f : LogFault) × AsksNothing gave failed from (room_of shape) input input' f × (fault ≡ of_log f))
+      (λ fault. (f : LogFault) × AsksNothing gave failed from (room_of sizes) input input' f × (fault ≡ of_log f))
 
   -- or these are drawn.
-  abbrev pub DrawsCounts : (from : RequestText) (timing : Timing) (shape : ToolShape) (image : Image) → Ending R W
-  DrawsCounts from timing shape image input input' =
+  abbrev pub DrawsCounts : (from : RequestText) (timing : Timing) (sizes : Sizes) (image : Image) → Ending R W
+  DrawsCounts from timing sizes image input input' =
       Answers took refused unflushed
       (λ text status. (requests : List Event) × (groups : List AccessGroup) × (table : Table)
-      × Asks gave from (room_of shape) input input' requests groups
-      × IsCounted timing (machine_over image shape) requests table × (text ≡ loss_figure table) × (status ≡ 0))
-      (λ fault. (f : LogFault) × AsksNothing gave failed from (room_of shape) input input' f × (fault ≡ of_log f))
+      × Asks gave from (room_of sizes) input input' requests groups
+      × IsCounted timing (machine_over image sizes) requests table × (text ≡ loss_figure table) × (status ≡ 0))
+      (λ fault. (f : LogFault) × AsksNothing gave failed from (room_of sizes) input input' f × (fault ≡ of_log f))
 
-  abbrev pub counts_by : (form : CountForm) (all : Bool) (from : RequestText) (timing : Timing) (shape : ToolShape) (image : Image) → Ending R W
+  abbrev pub counts_by : (form : CountForm) (all : Bool) (from : RequestText) (timing : Timing) (sizes : Sizes) (image : Image) → Ending R W
   counts_by (Lines format) false from timing = PutsCounts from timing format
   counts_by (Lines format) true from timing = PutsDetails from timing format
   counts_by Figure all from timing = DrawsCounts from timing
@@ -348,12 +359,12 @@ module _ {R W : Type 0} (gave : R → List ℕ → R → Type 0) (failed : R →
       × (result ≡ told (λ done. 0) of_log written)
 
   -- The walk of a new machine over the events of a trace is drawn, and the drawing put.
-  unfoldable pub Draws : (form : Form) (shape : ToolShape) (image : Image) → Ending R W
-  Draws form shape image input input' =
+  unfoldable pub Draws : (form : Form) (sizes : Sizes) (image : Image) → Ending R W
+  Draws form sizes image input input' =
       Answers took refused unflushed
-      (λ text status. (drawing : String Global) × Shows gave failed form image (machine_over image shape) input input' (Ok drawing)
+      (λ text status. (drawing : String Global) × Shows gave failed form image (machine_over image sizes) input input' (Ok drawing)
       × (text ≡ string_bytes drawing) × (status ≡ 0))
-      (λ fault. (f : ShowFault) × Shows gave failed form image (machine_over image shape) input input' (Err f) × (fault ≡ of_show f))
+      (λ fault. (f : ShowFault) × Shows gave failed form image (machine_over image sizes) input input' (Err f) × (fault ≡ of_show f))
 
   -- A history is judged,
   abbrev pub JudgesHistory : (how : HistoryTask) (image : List ℕ) → Ending R W
@@ -391,46 +402,46 @@ module _ {R W E : Type 0} (gave : R → List ℕ → R → Type 0) (failed : R �
 
   -- The requests of a trace or of a log are driven in rounds through a new machine, and the run is written. Before that it
   -- is told of a run that is too long for a check.
-  abbrev pub WritesRun : (from : RequestText) (timing : Timing) (shape : ToolShape) (image : Image) → Telling R W E
-  WritesRun from timing shape image errors errors' input input' output output' result =
+  abbrev pub WritesRun : (from : RequestText) (timing : Timing) (sizes : Sizes) (image : Image) → Telling R W E
+  WritesRun from timing sizes image errors errors' input input' output output' result =
       (driven : Result ℕ LogFault) × (last : W)
-      × DrivesAll gave failed took refused noted unnoted unsettled from (room_of shape) timing (machine_over image shape)
+      × DrivesAll gave failed took refused noted unnoted unsettled from (room_of sizes) timing (machine_over image sizes)
       input input' output last errors errors' driven
       × Finishes took refused unflushed driven last output' result
 
   -- The run is written, or what it counts is put.
-  unfoldable pub Drives : (from : RequestText) (timing : Timing) (summary all : Bool) (form : CountForm) (shape : ToolShape)
+  unfoldable pub Drives : (from : RequestText) (timing : Timing) (summary all : Bool) (form : CountForm) (sizes : Sizes)
       (image : Image) → Telling R W E
-  Drives from timing false all form shape image = WritesRun from timing shape image
-  Drives from timing true all form shape image =
-      Silently (counts_by gave failed took refused unflushed form all from timing shape image)
+  Drives from timing false all form sizes image = WritesRun from timing sizes image
+  Drives from timing true all form sizes image =
+      Silently (counts_by gave failed took refused unflushed form all from timing sizes image)
 
   -- ---- the whole program
 
   -- What becomes of each task.
-  unfoldable pub IsDone : Task → (shape : ToolShape) (image : Image) → Telling R W E
-  IsDone task.Run shape image = Silently (Runs gave failed took refused unflushed shape image)
-  IsDone (task.Check all_answered format) shape image =
-      Silently (checks_by gave failed took refused unflushed all_answered format shape image)
-  IsDone (task.Sweep timings form) shape image =
-      Silently (Sweeps gave failed took refused unflushed (timings_in timings) form shape)
-  IsDone (task.Explain format) shape image = Silently (ExplainsRun gave failed took refused unflushed format shape image)
-  IsDone (task.Grade format) shape image = Silently (Grades gave failed took refused unflushed format shape image)
-  IsDone (task.Drive from timing summary all form) shape image = Drives from timing summary all form shape image
-  IsDone (task.Requests log words) shape image =
+  unfoldable pub IsDone : Task → (sizes : Sizes) (image : Image) → Telling R W E
+  IsDone task.Run sizes image = Silently (Runs gave failed took refused unflushed sizes image)
+  IsDone (task.Check all_answered format) sizes image =
+      Silently (checks_by gave failed took refused unflushed all_answered format sizes image)
+  IsDone (task.Sweep timings registers form) sizes image =
+      Silently (Sweeps gave failed took refused unflushed (timings_in timings) form (swept sizes (registers_in registers)))
+  IsDone (task.Explain format) sizes image = Silently (ExplainsRun gave failed took refused unflushed format sizes image)
+  IsDone (task.Grade format) sizes image = Silently (Grades gave failed took refused unflushed format sizes image)
+  IsDone (task.Drive from timing summary all form) sizes image = Drives from timing summary all form sizes image
+  IsDone (task.Requests log words) sizes image =
       Silently (WritesRequests gave failed took refused unflushed (access_in log) words)
-  IsDone (task.Show form) shape image = Silently (Draws gave failed took refused unflushed form shape image)
-  IsDone (task.History how) shape image =
+  IsDone (task.Show form) sizes image = Silently (Draws gave failed took refused unflushed form sizes image)
+  IsDone (task.History how) sizes image =
       Silently (FollowsHistory gave failed took refused unflushed how (bytes_of image))
 
   -- The files that are named are read, and the task is done with what they say. Or one can't be read, or the image is too
   -- long, and nothing is done.
   unfoldable pub Performs : CommandLine → Telling R W E
   Performs asked errors errors' input input' output output' result =
-      ((shape : ToolShape) × (image : Image) × IsShapeOf asked.shape_file shape × IsImageOf asked.image image
-      × HasRoom asked.task shape image × IsDone asked.task shape image errors errors' input input' output output' result)
+      ((sizes : Sizes) × (image : Image) × IsMachineOf asked.machine sizes × IsImageOf asked.image image
+      × HasRoom asked.task sizes image × IsDone asked.task sizes image errors errors' input input' output output' result)
       ⊎ ((fault : ToolFault) × (result ≡ Err fault) × (input' ≡ input) × (output' ≡ output) × (errors' ≡ errors)
-      × (((f : JobFault) × ShapeFails asked.shape_file f × (fault ≡ Job f)) ⊎ (ImageFails asked.image fault ⊎ ImageIsTooLong asked fault)))
+      × (MachineFails asked.machine fault ⊎ (ImageFails asked.image fault ⊎ ImageIsTooLong asked fault)))
 
   -- The words are understood as a task that there may be, which is performed, or they ask for none, and nothing is read.
   unfoldable pub Works : Telling R W E

@@ -1,11 +1,15 @@
 -- What the program is asked for, and how it ends.
-use Rattle.std.specs.Prelude.{◌≡◌, ℕ, ◌≤◌, min, Option, Some, None, List, [], ◌∷◌, ◌++◌, take, codes, decimal}
+use Rattle.std.specs.Prelude.{◌≡◌, ℕ, ◌≤◌, ◌==◌, if◌then◌else◌, min, Option, Some, None, List, [], ◌∷◌, ◌++◌, take, codes, decimal}
+use Rattle.std.specs.Borrow.{Bor}
 use Rattle.std.specs.List.{AllByRecursion}
 use Rattle.access_logs.specs.declared.writing.TheConstants.{MAX_WORDS}
 use Rattle.round_driver.specs.declared.driving.TheConstants.{MOST_LATENCY}
 use Rattle.round_driver.specs.Timings.{unpipelined}
 use Rattle.round_driver.specs.declared.timing.Timing.{Timing}
-use Rattle.kroft_command.specs.declared.command_line.TheConstants.{MOST_LATENCIES}
+use Rattle.kroft_command.specs.declared.command_line.MachineName.{MachineName}
+use Rattle.kroft_command.specs.declared.command_line.MachineName.TheVariants as source
+use Rattle.kroft_command.specs.declared.command_line.Registers.{Registers}
+use Rattle.kroft_command.specs.declared.command_line.TheConstants.{MOST_LATENCIES, MOST_ROWS}
 use Rattle.kroft_command.specs.declared.command_line.Timings.{Timings}
 use Rattle.kroft_command.specs.declared.command_line.Task.{Task}
 use Rattle.kroft_command.specs.declared.command_line.Task.TheVariants.{Sweep, Drive, Requests}
@@ -13,6 +17,10 @@ use Rattle.access_logs.specs.Faults.{no_room_text}
 use Rattle.access_logs.specs.declared.fault.LogFault.{LogFault}
 use Rattle.access_logs.specs.declared.fault.LogFault.TheVariants as log
 use Rattle.run_pictures.specs.declared.show.ShowFault.{ShowFault}
+use Rattle.shape_files.specs.MachineFile.{machine_fault_text}
+use Rattle.shape_files.specs.declared.machine_file.MachineFault.{MachineFault}
+use Rattle.shape_files.specs.declared.machine_file.MachineFault.TheVariants as machine
+use Rattle.shape_files.specs.declared.shape_file.TheConstants.{REGISTER_COUNTS}
 use Rattle.trace_text.specs.Codes.{line_feed}
 use Rattle.trace_text.specs.declared.fault.TraceFault.{TraceFault}
 use Rattle.trace_text.specs.declared.fault.TraceFault.TheVariants.{Write}
@@ -20,7 +28,7 @@ use Rattle.kroft_jobs.specs.Jobs as jobs
 use Rattle.kroft_jobs.specs.declared.fault.JobFault.TheVariants.{Trace, OutOfMemory}
 use Rattle.kroft_command.specs.declared.fault.ToolFault.{ToolFault}
 use Rattle.kroft_command.specs.declared.fault.LongImage.{LongImage}
-use Rattle.kroft_command.specs.declared.fault.ToolFault.TheVariants.{CommandLine, Job, NoRoom, ImageUnreadable, LongImage as TooLong}
+use Rattle.kroft_command.specs.declared.fault.ToolFault.TheVariants.{CommandLine, Job, Machine, MachineUnreadable, NoRoom, ImageUnreadable, LongImage as TooLong}
 
 -- times of memory that there may be
 abbrev pub IsTimely : Timing → Type 0
@@ -30,12 +38,24 @@ IsTimely timing = timing.latency ≤ MOST_LATENCY
 abbrev pub timings_in : Timings → List Timing
 timings_in t = take (min t.given MOST_LATENCIES) t.all
 
+-- the numbers of registers of a sweep: those of the machines that the program makes of shapes, unless some were given
+abbrev pub registers_in : Registers → List ℕ
+registers_in r = if r.given == 0 then REGISTER_COUNTS else take (min r.given MOST_ROWS) r.all
+
 -- the numbers of what is asked for are in their ranges
 abbrev pub IsInRange : Task → Type 0
-IsInRange (Sweep timings form) = AllByRecursion IsTimely timings.all
+IsInRange (Sweep timings registers form) = AllByRecursion IsTimely timings.all
 IsInRange (Drive from timing summary all form) = IsTimely timing
 IsInRange (Requests from words) = words ≤ MAX_WORDS
 IsInRange task = Unit {0}
+
+-- ---- the machine's file
+
+-- what the machine's numbers are read from. Both files at once are refused.
+abbrev pub machine_named : Option (Bor (List ℕ)) → Option (Bor (List ℕ)) → MachineName
+machine_named shape (Some path) = source.Machine path
+machine_named (Some path) None = source.Shape path
+machine_named None None = source.Usual
 
 -- ---- numbers that may be left out
 
@@ -68,6 +88,8 @@ no_memory = Job OutOfMemory
 abbrev pub status_of : ToolFault → ℕ
 status_of (CommandLine error) = 2
 status_of (Job fault) = jobs.status_of fault
+status_of (Machine fault) = 3
+status_of MachineUnreadable = 3
 status_of (NoRoom fault) = 4
 status_of ImageUnreadable = 4
 status_of (TooLong image) = 4
@@ -85,6 +107,8 @@ long_image_text image =
 abbrev pub IsLineOf : ToolFault → List ℕ → Type 0
 IsLineOf (CommandLine error) text = Unit {0}
 IsLineOf (Job fault) text = text ≡ line (jobs.fault_text fault)
+IsLineOf (Machine fault) text = text ≡ line (machine_fault_text fault)
+IsLineOf MachineUnreadable text = text ≡ line (codes "machine: file not readable")
 IsLineOf (NoRoom fault) text = text ≡ line (no_room_text fault)
 IsLineOf ImageUnreadable text = text ≡ line (codes "image: file not readable")
 IsLineOf (TooLong image) text = text ≡ line (long_image_text image)
@@ -93,6 +117,10 @@ IsLineOf (TooLong image) text = text ≡ line (long_image_text image)
 
 abbrev pub of_trace : TraceFault → ToolFault
 of_trace fault = Job (jobs.of_trace fault)
+
+abbrev pub of_machine : MachineFault → ToolFault
+of_machine machine.OutOfMemory = no_memory
+of_machine fault = Machine fault
 
 abbrev pub of_show : ShowFault → ToolFault
 of_show fault = Job (jobs.of_show fault)

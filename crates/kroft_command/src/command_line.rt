@@ -5,9 +5,11 @@ ghost use Rattle.std.specs.Option.{option_or};
 ghost use Rattle.std.specs.List.{All, AllByRecursion};
 ghost use Rattle.access_logs.specs.declared.writing.TheConstants.{MAX_WORDS};
 ghost use Rattle.round_driver.specs.declared.driving.TheConstants.{MOST_LATENCY};
-ghost use Rattle.kroft_command.specs.Tool.{IsInRange, IsTimely, latency_or_usual, timing_with, timings_in, words_or_most};
+ghost use Rattle.kroft_command.specs.Tool.{IsInRange, IsTimely, latency_or_usual, machine_named, registers_in, timing_with, timings_in, words_or_most};
 
-use crate::commands::{BUSY, FILE, LATENCY, LOG, SVG, Subcommand, program, shown};
+use crate::commands::{
+    BUSY, FILE, LATENCY, LOG, MACHINE, REGISTERS, SVG, Subcommand, program, shown,
+};
 use access_logs::MAX_WORDS;
 use atomic_histories::{DEFAULT_LIMIT, UnitSize};
 use clap::error::ErrorKind;
@@ -18,6 +20,7 @@ use memory_histories::Rest;
 use named_fields::Format;
 use round_driver::{MOST_LATENCY, Timing};
 use run_pictures::Form;
+use shape_files::REGISTER_COUNTS;
 use std::alloc::{AllocError, Global};
 
 /// The format of a log.
@@ -95,6 +98,56 @@ fn is_ascending(timings: &[Timing]) -> bool {
     true
 }
 
+/// How many numbers of registers a sweep takes at most.
+const MOST_ROWS: usize = 16;
+
+/// The numbers of registers of a sweep, in the order of its rows: 1, 2, 4 and 8 if none were given.
+#[derive(Clone, Copy)]
+pub(crate) struct Registers {
+    /// How many were given.
+    given: usize,
+    /// The first sixteen of them. What stands behind the last one that was given means nothing.
+    all: [u32; MOST_ROWS],
+}
+
+impl Registers {
+    /// The numbers of the rows.
+    pub(crate) fn as_slice(&self) -> &[u32]
+        ensures { result.now ≡ registers_in self.now }
+    {
+        if self.given == 0 {
+            REGISTER_COUNTS.as_slice()
+        } else {
+            &self.all[..self.given.min(MOST_ROWS)]
+        }
+    }
+
+    // Why they can't be the numbers of rows, if they can't.
+    fn conflict(&self) -> Option<&'static str> {
+        if self.given > MOST_ROWS {
+            Some("too many values for '--registers <N>': at most 16 rows are swept")
+        } else if each_is_more(self.as_slice()) {
+            None
+        } else {
+            Some(
+                "invalid value for '--registers <N>': each number has to be more than the one before it",
+            )
+        }
+    }
+}
+
+// Whether each number is more than the one before it.
+fn each_is_more(numbers: &[u32]) -> bool {
+    let mut least = 0;
+    for number in numbers {
+        if *number < least {
+            return false;
+        }
+        least = number.saturating_add(1);
+    }
+    true
+}
+
 /// What the program is asked to do with the trace on its input.
 #[derive(Clone, Copy)]
 pub(crate) enum Task {
@@ -107,11 +160,13 @@ pub(crate) enum Task {
         /// How the verdict is written.
         format: Format,
     },
-    /// Serve its requests with 1, 2, 4 and 8 registers.
+    /// Serve its requests with several numbers of registers.
     Sweep {
         /// How long a bank takes for a command, if the requests are driven in rounds; none if they
         /// are served by pumps.
         timings: Timings,
+        /// The numbers of registers.
+        registers: Registers,
         /// How the rows are shown.
         form: CountForm,
     },
@@ -182,13 +237,24 @@ pub(crate) enum ImageName<'a> {
     File(&'a str),
 }
 
+/// What the machine's numbers are read from, as the words name it.
+#[derive(Clone, Copy)]
+pub(crate) enum MachineName<'a> {
+    /// Nothing: it is the program's own machine.
+    Usual,
+    /// The shape file of this path.
+    Shape(&'a str),
+    /// The machine file of this path.
+    Machine(&'a str),
+}
+
 /// What the words of the command line ask for.
 #[derive(Clone, Copy)]
 pub(crate) struct CommandLine<'a> {
     /// What is done with the trace.
     pub task: Task,
-    /// The path of the shape file, where one is given.
-    pub shape_file: Option<&'a str>,
+    /// What the machine's numbers are read from.
+    pub machine: MachineName<'a>,
     /// What memory begins with.
     pub image: ImageName<'a>,
 }
@@ -307,12 +373,37 @@ fn check_task(rest: &ArgMatches<'_>) -> Task
     }
 }
 
+// The number of registers of this place among those that are asked for: 0 if there are fewer.
+fn registers_at(rest: &ArgMatches<'_>, place: usize) -> u32 {
+    match rest.get_many::<u32>(REGISTERS) {
+        Some(mut given) => match given.nth(place) {
+            Some(Ok(registers)) => registers,
+            _ => 0,
+        },
+        None => 0,
+    }
+}
+
+// The numbers of registers of a sweep.
+fn registers_of(rest: &ArgMatches<'_>) -> Registers {
+    let mut all = [0; MOST_ROWS];
+    for place in 0..MOST_ROWS {
+        all[place] = registers_at(rest, place);
+    }
+    let given = match rest.get_raw(REGISTERS) {
+        Some(given) => given.len(),
+        None => 0,
+    };
+    Registers { given, all }
+}
+
 // What the words behind `sweep` ask for.
 fn sweep_task(rest: &ArgMatches<'_>) -> Task
     ensures { IsInRange result }
 {
     Task::Sweep {
         timings: timings_of(rest),
+        registers: registers_of(rest),
         form: count_form_of(rest),
     }
 }
@@ -364,10 +455,14 @@ fn timing_of(task: Task) -> Option<Timing> {
     }
 }
 
-// Why latencies can't be swept, if they can't.
-fn latency_conflict(task: Task) -> Option<&'static str> {
+// Why the rows that are asked for can't be swept, if they can't.
+fn sweep_conflict(task: Task) -> Option<&'static str> {
     match task {
-        Task::Sweep { timings, .. } => timings.conflict(),
+        Task::Sweep {
+            timings,
+            registers,
+            ..
+        } => timings.conflict().or(registers.conflict()),
         _ => None,
     }
 }
@@ -385,12 +480,20 @@ fn history_conflict(asked: HistoryTask) -> Option<&'static str> {
     }
 }
 
-// Why what was asked for can't be done with these arguments, if it can't.
-fn conflict(task: Task, before: Option<&str>, behind: Option<&str>) -> Option<&'static str> {
-    if before.is_some() && behind.is_some() {
-        return Some("the argument '--shape <FILE>' cannot be used multiple times");
+// Why the files that are named can't all be read, if they can't.
+fn file_conflict(asked: Asked<'_>) -> Option<&'static str> {
+    if asked.before.is_some() && asked.behind.is_some() {
+        Some("the argument '--shape <FILE>' cannot be used multiple times")
+    } else if asked.machine.is_some() && (asked.before.is_some() || asked.behind.is_some()) {
+        Some("the argument '--machine <FILE>' cannot be used with '--shape <FILE>'")
+    } else {
+        None
     }
-    if let Some(why) = latency_conflict(task) {
+}
+
+// Why what was asked for can't be done, if it can't. `before` is a shape file that was named before the command.
+fn conflict(task: Task, before: Option<&str>) -> Option<&'static str> {
+    if let Some(why) = sweep_conflict(task) {
         return Some(why);
     }
     match timing_of(task) {
@@ -533,13 +636,14 @@ fn refusal(
     command.error(kind, why)
 }
 
-// What words ask for, with the shape files before and behind the command, and with the file that is
+// What words ask for, with the shape files before and behind the command, the machine file, and the file that is
 // given to it in place of its standard input.
 #[derive(Clone, Copy)]
 struct Asked<'a> {
     task: Task,
     before: Option<&'a str>,
     behind: Option<&'a str>,
+    machine: Option<&'a str>,
     image: ImageName<'a>,
     file: Option<&'a str>,
 }
@@ -556,6 +660,7 @@ fn asked_for<'a>(subcommand: Subcommand, matches: &ArgMatches<'a>) -> Asked<'a>
                 task,
                 before: shape,
                 behind: rest.get_str("shape"),
+                machine: rest.get_str(MACHINE),
                 image: image_of(rest),
                 file: rest.get_str(FILE),
             }
@@ -564,9 +669,21 @@ fn asked_for<'a>(subcommand: Subcommand, matches: &ArgMatches<'a>) -> Asked<'a>
             task: Task::Run,
             before: shape,
             behind: None,
+            machine: None,
             image: ImageName::Zeros,
             file: None,
         },
+    }
+}
+
+// What the machine's numbers are read from.
+fn machine_named<'a>(shape: Option<&'a str>, machine: Option<&'a str>) -> MachineName<'a>
+    ensures { result ≡ machine_named shape.entry machine.entry }
+{
+    match (machine, shape) {
+        (Some(path), _) => MachineName::Machine(path),
+        (None, Some(path)) => MachineName::Shape(path),
+        (None, None) => MachineName::Usual,
     }
 }
 
@@ -578,16 +695,16 @@ fn allowed<'a>(
 ) -> Result<CommandLine<'a>, Error>
     requires { IsInRange asked.task }
     ensures range { IfOk result (λ told. IsInRange told.task) }
-    ensures shape { IfOk result
-        (λ told. told.shape_file ≡ option_or asked.entry.before asked.entry.behind) }
+    ensures machine { IfOk result
+        (λ told. told.machine ≡ machine_named (option_or asked.entry.before asked.entry.behind) asked.entry.machine) }
     ensures image { IfOk result (λ told. told.image ≡ asked.entry.image) }
 {
-    let why = conflict(asked.task, asked.before, asked.behind);
+    let why = file_conflict(asked).or(conflict(asked.task, asked.before));
     match why.or(image_conflict(asked.task, asked.image)) {
         Some(why) => Err(refusal(alloc, subcommand, ErrorKind::ArgumentConflict, why)?),
         None => Ok(CommandLine {
             task: asked.task,
-            shape_file: asked.before.or(asked.behind),
+            machine: machine_named(asked.before.or(asked.behind), asked.machine),
             image: asked.image,
         }),
     }

@@ -6,11 +6,18 @@ use crate::notes::{
 };
 use access_logs::MAX_WORDS;
 use clap::{Arg, ArgAction, Command};
+use flat_model::MAX_REGS;
 use round_driver::MOST_LATENCY;
 use std::alloc::{AllocError, Global};
 
 /// What the user calls the program.
 const PROGRAM: &str = "kroft";
+
+/// The name of the argument for the machine file.
+pub(crate) const MACHINE: &str = "machine";
+
+/// The name of the argument for the rows of a sweep.
+pub(crate) const REGISTERS: &str = "registers";
 
 /// The name of the argument for the latency of rounds.
 pub(crate) const LATENCY: &str = "latency";
@@ -117,7 +124,7 @@ impl Subcommand {
         match self {
             Subcommand::Run => "Serve a trace on a new machine",
             Subcommand::Check => "Tell whether a recorded run is one of flat memory",
-            Subcommand::Sweep => "Count what requests wait for with 1, 2, 4 and 8 registers",
+            Subcommand::Sweep => "Count what requests wait for with several numbers of registers",
             Subcommand::Explain => "Say why a recorded run is none of flat memory",
             Subcommand::Grade => "Grade predicted answers by those of the machine",
             Subcommand::Drive => "Drive requests in rounds, with a latency of memory",
@@ -150,6 +157,26 @@ fn shape_argument<'a>(alloc: Global) -> Arg<'a> {
         .value_name("FILE")
         .action(ArgAction::Set)
         .help("The TOML file with the machine's numbers")
+}
+
+// The argument for the machine file. It stands behind the command.
+fn machine_argument<'a>(alloc: Global) -> Arg<'a> {
+    Arg::new(alloc, MACHINE)
+        .long(MACHINE)
+        .value_name("FILE")
+        .action(ArgAction::Set)
+        .help("The TOML file with all numbers of a machine, in place of a shape file")
+}
+
+// The argument for the rows of a sweep.
+fn registers_argument<'a>(alloc: Global) -> Arg<'a> {
+    Arg::new(alloc, REGISTERS)
+        .long(REGISTERS)
+        .value_name("N")
+        .action(ArgAction::Set)
+        .value_parser(clap::value_parser!(u32).range(1..=MAX_REGS as i64))
+        .value_delimiter(',')
+        .help("The rows: up to 16 ascending numbers of registers: 1,2,4,8,16 [default: 1,2,4,8]")
 }
 
 // The argument for what a machine's memory has before the first store.
@@ -307,7 +334,10 @@ fn push_sweep<'a>(alloc: Global, args: &mut Vec<Arg<'a>>) -> Result<(), AllocErr
     args.push(busy_argument(alloc).requires_arg(LATENCY)?)?;
     args.push(counts_format(alloc))?;
     let figure = "Draw the rounds by the number of registers, a line for each latency";
-    args.push(svg_argument(alloc, figure)?.requires_arg(LATENCY)?)?;
+    let svg = svg_argument(alloc, figure)?.requires_arg(LATENCY)?;
+    // The figure has a column for each of the usual numbers.
+    args.push(svg.conflicts_with(REGISTERS)?)?;
+    args.push(registers_argument(alloc))?;
     Ok(())
 }
 
@@ -439,15 +469,18 @@ fn push_argument<'a>(args: &mut Vec<Arg<'a>>, arg: Arg<'a>) -> Result<(), AllocE
     Ok(args.push(arg)?)
 }
 
-// Adds the argument for the shape file. Only `requests` and `history` take none.
-fn push_shape<'a>(
+// Adds the arguments for the files of the machine's numbers. Only `requests` and `history` take none.
+fn push_machine<'a>(
     alloc: Global,
     args: &mut Vec<Arg<'a>>,
     subcommand: Subcommand,
 ) -> Result<(), AllocError> {
     match subcommand {
         Subcommand::Requests | Subcommand::History => Ok(()),
-        _ => push_argument(args, shape_argument(alloc)),
+        _ => {
+            push_argument(args, shape_argument(alloc))?;
+            push_argument(args, machine_argument(alloc))
+        }
     }
 }
 
@@ -471,7 +504,7 @@ fn arguments_of<'a>(
     takes_file: bool,
 ) -> Result<Vec<Arg<'a>>, AllocError> {
     let mut args = Vec::new(alloc);
-    push_shape(alloc, &mut args, subcommand)?;
+    push_machine(alloc, &mut args, subcommand)?;
     push_image(alloc, &mut args, subcommand)?;
     push_own_options(alloc, &mut args, subcommand, takes_file)?;
     if takes_file {

@@ -8,6 +8,7 @@ ghost use Rattle.kroft_command.specs.Told.{TellsFault};
 use access_logs::{LogFault, NoRoom};
 use kroft_jobs::{JobFault, put_text};
 use run_pictures::ShowFault;
+use shape_files::MachineFault;
 use std::alloc::{AllocError, Global};
 use std::fmt;
 use trace_text::{Sink, TraceFault};
@@ -19,6 +20,10 @@ pub enum ToolFault {
     CommandLine(clap::Error),
     /// The job that they ask for has ended so.
     Job(JobFault),
+    /// The machine file is refused.
+    Machine(MachineFault),
+    /// The machine file can't be read, or isn't UTF-8.
+    MachineUnreadable,
     /// A log touches a page for which there is no room.
     NoRoom(NoRoom),
     /// The image of memory can't be read.
@@ -57,6 +62,7 @@ impl ToolFault {
         match self {
             ToolFault::CommandLine(_) => 2,
             ToolFault::Job(fault) => fault.status(),
+            ToolFault::Machine(_) | ToolFault::MachineUnreadable => 3,
             ToolFault::NoRoom(_) | ToolFault::ImageUnreadable | ToolFault::LongImage(_) => 4,
         }
     }
@@ -68,6 +74,8 @@ impl ToolFault {
         match self {
             ToolFault::CommandLine(error) => format!(in alloc; "{error}"),
             ToolFault::Job(fault) => format!(in alloc; "{fault}\n"),
+            ToolFault::Machine(fault) => format!(in alloc; "{fault}\n"),
+            ToolFault::MachineUnreadable => format!(in alloc; "machine: file not readable\n"),
             ToolFault::NoRoom(fault) => format!(in alloc; "{fault}\n"),
             ToolFault::ImageUnreadable => format!(in alloc; "image: file not readable\n"),
             ToolFault::LongImage(image) => format!(in alloc; "{image}\n"),
@@ -122,6 +130,20 @@ impl From<ShowFault> for ToolFault {
 
     fn from(fault: ShowFault) -> ToolFault {
         ToolFault::Job(JobFault::from(fault))
+    }
+}
+
+impl From<MachineFault> for ToolFault {
+    ghost use Rattle.std.specs.Prelude.{◌≡◌};
+    ghost use Rattle.kroft_command.specs.Tool.{of_machine};
+
+    ghost from_gives = { λ e f. f ≡ of_machine e };
+
+    fn from(fault: MachineFault) -> ToolFault {
+        match fault {
+            MachineFault::OutOfMemory => ToolFault::Job(JobFault::OutOfMemory),
+            fault => ToolFault::Machine(fault),
+        }
     }
 }
 

@@ -9,7 +9,7 @@ Statuses:
   1  check or explain found an answer that flat memory doesn't explain, grade a wrong prediction, or
      history an answer that its law doesn't allow
   2  the command line is wrong
-  3  the shape file is wrong
+  3  the shape or machine file is wrong
   4  the input or the image is wrong, or a stream failed
   5  there is too little memory
   6  history can't tell
@@ -23,6 +23,14 @@ Keys of a shape file, a TOML table of whole numbers:
   bank_queue   4 / banks, rounded up, to 64         default 8
   write_queue  4 to 256                             default 8
   replies      1 to 64                              default 8
+
+Keys of a machine file (--machine), such a table with all numbers of a machine:
+  block_words  1 to 16                              default 4
+  ways         1 to 8                               default 2
+  registers    1 to 16                              default 4
+  stack        1 to 16                              default 4
+  words        1 to 1048576, a multiple of block_words         default 64
+  sets, banks, bank_queue, write_queue, replies     as above, with block_words in place of 4
 
 Example:
   $ echo 'load 1 4' | kroft run
@@ -60,7 +68,7 @@ byte first: word 4 is 04000000, so a value shows which word it is from. With --i
 begins with the bytes of the file, in the order of memory, and with zeros behind them; a file that
 is longer than memory is refused. A file named address is './address'.
 
-Statuses: 0 all lines were served, 2 the command line is wrong, 3 the shape file is wrong,
+Statuses: 0 all lines were served, 2 the command line is wrong, 3 the machine's file is wrong,
 4 a line is faulty, the image can't be read or is longer than memory, or a stream failed,
 5 there is too little memory.
 
@@ -81,7 +89,7 @@ most 768 bytes.
 Writes 'flat run, N steps', or 'mismatch at line N' for the first line that flat memory
 doesn't explain. Flat memory is words with no cache: a load is owed the word as it stood when the
 load was accepted. Memory begins with zeros, or as the run's did with its --image ('kroft run
---help' describes images); of a shape file only the words matter.
+--help' describes images); of a shape or machine file only the words matter.
 A load that was accepted and never answered is no mismatch. With --all-answered it is a fault: a flat
 run that ends with K such loads is told as 'flat run, N steps, K loads open: tags T U ..'.
 With --format csv a line of names goes before a row with verdict, steps, line (and open, a list); with
@@ -90,8 +98,8 @@ It is no grader: a flat run may be none of this machine, since most answers ('ac
 'moved') are those of some cache. 'kroft grade' compares predictions with the machine's own answers.
 
 Statuses: 0 the run is flat, 1 it isn't (or, with --all-answered, loads are open), 2 the command line is
-wrong, 3 the shape file is wrong, 4 a line is faulty, the image is wrong or a stream failed, 5 there is
-too little memory.
+wrong, 3 the machine's file is wrong, 4 a line is faulty, the image is wrong or a stream failed, 5 there
+is too little memory.
 
 Example:
   $ echo 'take 0 -> value 1 00000000' | kroft check
@@ -102,20 +110,22 @@ pub(crate) const SWEEP_NOTES: &str =
   load TAG AT, store AT MASK WORD, prefetch AT and evict BLOCK
 The other lines are passed over: drain, serve BANK, arrive BANK PLACE, process PLACE, take PLACE,
 reg SLOT, bank AT, settled.
-Writes a row for 1, 2, 4 and 8 registers: how many requests were accepted, denied and stalled,
+Writes a row for 1, 2, 4 and 8 registers, or for those of --registers N,.., each more than the one
+before it: how many requests were accepted, denied and stalled,
 how many pumps the stalled ones waited for, and how many pumps and values there were in all.
 A pump is one step of the machine's own driver: it counts work, and not time, and stalled
-requests wait one after another. So on a long trace the rows hardly differ. A shape file's
-number of registers isn't used.
+requests wait one after another. So on a long trace the rows hardly differ. The number of registers
+of a shape or machine file isn't used; all its other numbers are.
 With --latency L the requests are driven in rounds instead ('kroft drive --help' describes them),
 and each row has 'regs N' and the counts of 'drive --latency L --summary' with N registers; with
 --busy B those of 'drive --latency L --busy B --summary'. With several latencies, each more than
 the one before it, the requests are driven with each in turn, and 'latency L' goes before each row.
 With --format csv a line of names goes before the rows, which are figures alone; with --format json
 each row is an object, on a line of its own. The names are those of the text. With --svg the rounds
-are drawn by the number of registers, a line for each latency, as a figure that a browser shows.
+are drawn by the number of registers, a line for each latency, as a figure that a browser shows; it has a
+column for each of 1, 2, 4 and 8, and so takes no --registers.
 
-Statuses: 0 done, 2 the command line is wrong, 3 the shape file is wrong, 4 a line is faulty or a
+Statuses: 0 done, 2 the command line is wrong, 3 the machine's file is wrong, 4 a line is faulty or a
 stream failed, 5 there is too little memory. (The limit of turns that a sweep has for callers
 with a gate of their own can't be reached here: the program's gate is always open.)
 
@@ -135,9 +145,9 @@ Writes 'flat run, N steps', or 'mismatch at line N: LINE' and its reason, in at 
 With --format csv a line of names goes before a row, with --format json it is an object: the line, its
 event and answer, the reason by a name, its numbers, and the lines that each byte comes from.
 Memory begins with zeros, or as the run's did with its --image ('kroft run --help' describes images);
-of a shape file only the words matter.
+of a shape or machine file only the words matter.
 
-Statuses: 0 the run is flat, 1 it isn't, 2 the command line is wrong, 3 the shape file is wrong,
+Statuses: 0 the run is flat, 1 it isn't, 2 the command line is wrong, 3 the machine's file is wrong,
 4 a line is faulty, the image is wrong or a stream failed, 5 there is too little memory.
 
 Example:
@@ -162,7 +172,7 @@ those that memory has.
 With --format csv a line of names goes before a row for each wrong line, with --format json each is an
 object; the score is the last of them, and their 'kind' tells it apart.
 
-Statuses: 0 no prediction is wrong, 1 some are, 2 the command line is wrong, 3 the shape file is wrong,
+Statuses: 0 no prediction is wrong, 1 some are, 2 the command line is wrong, 3 the machine's file is wrong,
 4 a line is faulty, the image is wrong or a stream failed, 5 there is too little memory.
 
 Example:
@@ -204,12 +214,12 @@ the loads owed a value; and answered loads by their wait, from acceptance and fr
 'name,index,value', and --format json arrays. All of it counts words: an access to two words is two
 requests.
 With --log FORMAT a log of accesses is read in place of a trace ('kroft requests --help' describes its
-formats and faults), over the words of the shape: the requests are those that 'requests' writes. Then
+formats and faults), over the words of the machine: the requests are those that 'requests' writes. Then
 --summary --all counts the log's accesses too, and reads and writes apart: each is as its worst word, a
 miss if any of its words missed, else a join if any joined, else a hit. A modification is one read.
 A log with a fault isn't driven in part, as it is if 'requests' reads it in front of a pipe.
 
-Statuses: 0 done, 2 the command line is wrong, 3 the shape file is wrong, 4 a line is faulty, the
+Statuses: 0 done, 2 the command line is wrong, 3 the machine's file is wrong, 4 a line is faulty, the
 image is wrong or a stream failed, 5 there is too little memory.
 
 Example:
@@ -245,7 +255,7 @@ One line is written for each word of 4 bytes that an access touches, ascending. 
 line, added, modulo 256; bytes that the mask leaves out are 00. Each page of 4096 bytes becomes
 1024 words of memory, in the order of first touch. With --words N memory has N words, rounded down
 to whole pages; the first page that has no room ends the work, and the fault says which N would do.
-Give 'drive' and 'sweep' a shape with as many words.
+Give 'drive' and 'sweep' a shape or machine with as many words.
 
 Statuses: 0 done, 2 the command line is wrong, 4 a line is faulty, a page has no room or a stream
 failed, 5 there is too little memory. What is due for the lines before a fault is written.
@@ -268,7 +278,7 @@ dump) with one unit of time an event.
 A page has some 50 to 350 bytes an event, and 630 for a miss. It shows the first 256 words of memory.
 Memory begins with zeros, or with an image ('kroft run --help' describes them).
 
-Statuses: 0 done, 2 the command line is wrong, 3 the shape file is wrong, 4 a line is faulty, there
+Statuses: 0 done, 2 the command line is wrong, 3 the machine's file is wrong, 4 a line is faulty, there
 are too many events, the image is wrong or a stream failed, 5 there is too little memory.
 
 Example:

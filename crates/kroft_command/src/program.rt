@@ -1,21 +1,25 @@
 //! The program over a reader and two writers.
 
 ghost use Rattle.std.specs.Prelude.{◌≡◌, ◌≤◌, ℕ, None, Ok, IfOk, IfErr, OnOk, Result};
+ghost use Rattle.cache_unit.specs.Limits.{bad_field};
 ghost use Rattle.toml.specs.Parse.{parse_document};
-ghost use Rattle.shape_files.specs.ShapeFile.{bad_field, text_says};
+ghost use Rattle.shape_files.specs.MachineFile.{TextSays};
+ghost use Rattle.shape_files.specs.ShapeFile.{bad_field as bad_shape, text_says};
 ghost use Rattle.kroft_command.specs.declared.fault.ToolFault.{ToolFault as FaultValue};
+ghost use Rattle.kroft_command.specs.declared.fault.ToolFault.TheVariants as faults;
 ghost use Rattle.kroft_command.specs.Tool.{IsInRange};
 ghost use Rattle.kroft_command.specs.Told.{EndsBy};
 ghost use Rattle.kroft_command.specs.Program.{Works, TellsWords, Performs, IsDone};
-ghost use Rattle.kroft_command.specs.Program.{IsShapeOf, UnreadShape, ShapeTextFails, ShapeFails, IsImageOf, UnreadImage, ImageFails, HasRoom, LacksRoom};
+ghost use Rattle.kroft_command.specs.Program.{IsMachineOf, IsUnread, ShapeTextFails, MachineTextFails, MachineFails, IsImageOf, ImageFails, HasRoom, LacksRoom};
 
-use crate::command_line::{CommandLine, ImageName, Task, read_words};
+use crate::command_line::{CommandLine, ImageName, MachineName, Task, read_words};
 use crate::fault::{LongImage, ToolFault};
 use crate::tasks::{answer, check_by, drive, explain, grade, history, requests, run, show, sweep};
+use cache_unit::Sizes;
 use clap::error::ErrorKind;
 use kroft_jobs::JobFault;
 use memory_images::Image;
-use shape_files::{ToolShape, read_shape};
+use shape_files::{ToolShape, read_machine, read_shape};
 use std::alloc::Global;
 use std::io;
 use std::rt::Files;
@@ -24,7 +28,7 @@ use trace_text::{Sink, Source};
 
 /// Does what the words behind the program's name ask for, and gives the status that the program
 /// ends with: 0 done, 1 a mismatch or a wrong prediction was found, 2 the words were refused, 3 a fault of the shape
-/// file, 4 a fault of the trace or a failed write of the output, 5 want of memory or the turn limit
+/// or machine file, 4 a fault of the trace or a failed write of the output, 5 want of memory or the turn limit
 /// of a sweep, 6 a history of which it can't be told. A fault is told in one line on `errors`; so is, before
 /// anything else, that a run which is to be written has more lines than a check reads.
 pub fn tool<R: AllocGlobal + Files + Threads + Sync, I: Source, O: Sink, E: Sink>(
@@ -94,39 +98,43 @@ fn perform<R: AllocGlobal + Files + Threads + Sync, I: Source, O: Sink, E: Sink>
     ensures ends { Performs I.gave I.failed O.took O.refused O.unflushed E.took E.refused E.unflushed asked.entry
         errors.old errors.new input.old input.new output.old output.new result }
 {
-    let shape = shape_of(rt, asked.shape_file)?;
+    let sizes = sizes_of(rt, asked.machine)?;
     let image = image_of(rt, asked.image)?;
-    find_room(asked.task, &shape, &image)?;
-    complete(rt, asked.task, &shape, &image, input, output, errors)
+    find_room(asked.task, &sizes, &image)?;
+    complete(rt, asked.task, &sizes, &image, input, output, errors)
 }
 
-// Does the task on a machine of the shape or on a history, of a memory that began with the image.
+// Does the task on a machine of these numbers or on a history, of a memory that began with the image.
 #[tactic(auto, unfolding(crate::specs::Program::IsDone))]
 fn complete<R: AllocGlobal + Threads + Sync, I: Source, O: Sink, E: Sink>(
     rt: &R,
     task: Task,
-    shape: &ToolShape,
+    sizes: &Sizes,
     image: &Image,
     input: &mut I,
     output: &mut O,
     errors: &mut E,
 ) -> Result<u8, ToolFault>
     requires range { IsInRange task }
-    requires shape { bad_field shape.now ≡ None }
+    requires sizes { bad_field sizes.now ≡ None }
     ensures few { IfOk result (λ status. status ≤ 6) }
-    ensures ends { IsDone I.gave I.failed O.took O.refused O.unflushed E.took E.refused E.unflushed task shape.now image.now
+    ensures ends { IsDone I.gave I.failed O.took O.refused O.unflushed E.took E.refused E.unflushed task sizes.now image.now
         errors.old errors.new input.old input.new output.old output.new result }
 {
     let alloc = rt.alloc();
     match task {
-        Task::Run => run(alloc, shape, image, input, output),
+        Task::Run => run(alloc, sizes, image, input, output),
         Task::Check {
             all_answered,
             format,
-        } => check_by(alloc, shape, image, all_answered, format, input, output),
-        Task::Sweep { timings, form } => { sweep(rt, shape, &timings, form, input, output) }
-        Task::Explain { format } => explain(alloc, shape, format, image, input, output),
-        Task::Grade { format } => grade(alloc, shape, format, image, input, output),
+        } => check_by(alloc, sizes, image, all_answered, format, input, output),
+        Task::Sweep {
+            timings,
+            registers,
+            form,
+        } => sweep(rt, sizes, &registers, &timings, form, input, output),
+        Task::Explain { format } => explain(alloc, sizes, format, image, input, output),
+        Task::Grade { format } => grade(alloc, sizes, format, image, input, output),
         Task::Drive {
             from,
             timing,
@@ -134,44 +142,67 @@ fn complete<R: AllocGlobal + Threads + Sync, I: Source, O: Sink, E: Sink>(
             all,
             form,
         } => drive(
-            alloc, shape, image, from, timing, summary, all, form, input, output, errors,
+            alloc, sizes, image, from, timing, summary, all, form, input, output, errors,
         ),
         Task::Requests { from, words } => requests(alloc, from, words, input, output),
-        Task::Show { form } => show(alloc, shape, image, form, input, output),
+        Task::Show { form } => show(alloc, sizes, image, form, input, output),
         Task::History(how) => history(alloc, how, image.bytes(), input, output),
     }
 }
 
-// The shape of the machine: that of the file, if one is named.
-fn shape_of<R: AllocGlobal + Files>(rt: &R, file: Option<&str>) -> Result<ToolShape, JobFault>
-    ensures shape { IfOk result (IsShapeOf file.entry) }
-    ensures good { IfOk result (λ shape. bad_field shape ≡ None) }
-    ensures fault { IfErr result (ShapeFails file.entry) }
+// The numbers of the machine: those of the file, if one is named.
+fn sizes_of<R: AllocGlobal + Files>(rt: &R, name: MachineName<'_>) -> Result<Sizes, ToolFault>
+    ensures sizes { IfOk result (IsMachineOf name.entry) }
+    ensures good { IfOk result (λ sizes. bad_field sizes ≡ None) }
+    ensures fault { IfErr result (MachineFails name.entry) }
 {
-    match file {
-        Some(path) => shape_said(rt.alloc(), shape_text(rt, path)?.as_str()),
-        None => Ok(ToolShape::default()),
+    match name {
+        MachineName::Usual => Ok(ToolShape::default().sizes()),
+        MachineName::Shape(path) => {
+            let text = text_of(rt, path, ToolFault::Job(JobFault::ShapeUnreadable))?;
+            let shape = shape_said(rt.alloc(), text.as_str())?;
+            Ok(shape.sizes())
+        }
+        MachineName::Machine(path) => {
+            let text = text_of(rt, path, ToolFault::MachineUnreadable)?;
+            machine_said(rt.alloc(), text.as_str())
+        }
     }
 }
 
-// The text of a shape file. Nothing is known of it but that the file gave it.
-fn shape_text<R: AllocGlobal + Files>(rt: &R, path: &str) -> Result<String, JobFault>
-    ensures { IfErr result UnreadShape }
+// The text of a file. Nothing is known of it but that the file gave it.
+fn text_of<R: AllocGlobal + Files>(
+    rt: &R,
+    path: &str,
+    unreadable: ToolFault,
+) -> Result<String, ToolFault>
+    ensures { IfErr result (IsUnread unreadable) }
 {
     match std::fs::read_to_string(rt, path) {
         Ok(text) => Ok(text),
-        Err(error) if error.kind() == io::ErrorKind::OutOfMemory => Err(JobFault::OutOfMemory),
-        Err(_) => Err(JobFault::ShapeUnreadable),
+        Err(error) if error.kind() == io::ErrorKind::OutOfMemory => {
+            Err(ToolFault::Job(JobFault::OutOfMemory))
+        }
+        Err(_) => Err(unreadable),
     }
 }
 
 // The shape that a text says.
 fn shape_said(alloc: Global, text: &str) -> Result<ToolShape, JobFault>
     ensures shape { IfOk result (λ shape. text_says (parse_document text.now) ≡ Ok shape) }
-    ensures good { IfOk result (λ shape. bad_field shape ≡ None) }
+    ensures good { IfOk result (λ shape. bad_shape shape ≡ None) }
     ensures fault { IfErr result (ShapeTextFails text.now) }
 {
     Ok(read_shape(alloc, text)?)
+}
+
+// The machine that a text says.
+fn machine_said(alloc: Global, text: &str) -> Result<Sizes, ToolFault>
+    ensures sizes { IfOk result (TextSays (parse_document text.now)) }
+    ensures good { IfOk result (λ sizes. bad_field sizes ≡ None) }
+    ensures fault { IfErr result (MachineTextFails text.now) }
+{
+    Ok(read_machine(alloc, text)?)
 }
 
 // What memory has before the first store.
@@ -188,7 +219,7 @@ fn image_of<R: AllocGlobal + Files>(rt: &R, name: ImageName<'_>) -> Result<Image
 
 // The bytes of an image's file. Nothing is known of them but that the file gave them.
 fn image_bytes<R: AllocGlobal + Files>(rt: &R, path: &str) -> Result<Vec<u8>, ToolFault>
-    ensures { IfErr result UnreadImage }
+    ensures { IfErr result (IsUnread faults.ImageUnreadable) }
 {
     match std::fs::read(rt, path) {
         Ok(bytes) => Ok(bytes),
@@ -200,12 +231,12 @@ fn image_bytes<R: AllocGlobal + Files>(rt: &R, path: &str) -> Result<Vec<u8>, To
 }
 
 // Sees whether memory has room for the image. That of a history has no end.
-fn find_room(task: Task, shape: &ToolShape, image: &Image) -> Result<(), ToolFault>
-    ensures ok { OnOk result (HasRoom task shape.now image.now) }
-    ensures fault { IfErr result (LacksRoom task shape.now image.now) }
+fn find_room(task: Task, sizes: &Sizes, image: &Image) -> Result<(), ToolFault>
+    ensures ok { OnOk result (HasRoom task sizes.now image.now) }
+    ensures fault { IfErr result (LacksRoom task sizes.now image.now) }
 {
     let bytes = image.bytes().len();
-    let memory = 4 * shape.shape.words as usize;
+    let memory = 4 * sizes.words as usize;
     match task {
         Task::History(_) => Ok(()),
         _ if bytes <= memory => Ok(()),

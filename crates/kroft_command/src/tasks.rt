@@ -1,25 +1,27 @@
-//! What the program does for each task: the job of the shape that was read, on the input, and what is
+//! What the program does for each task: the job of the machine whose numbers were read, on the input, and what is
 //! written of its end.
 
 ghost use Rattle.std.specs.Prelude.{◌≡◌, ◌≤◌, [], ◌++◌, map, None, IfOk, IfErr, OnOk, OnErr};
 ghost use Rattle.std.specs.List.{All, AllByRecursion, flat_map};
 ghost use Rattle.std.specs.String.{string_bytes};
 ghost use Rattle.access_logs.specs.declared.writing.TheConstants.{MAX_WORDS};
+ghost use Rattle.cache_unit.specs.Limits.{bad_field};
 ghost use Rattle.history_text.specs.Answers.{verdict_status as history_status};
 ghost use Rattle.result_figures.specs.Sweeps.{told};
 ghost use Rattle.result_formats.specs.Counts.{rounds_in, latency_in, pumps_in};
 ghost use Rattle.round_driver.specs.declared.driving.TheConstants.{MOST_LATENCY};
-ghost use Rattle.shape_files.specs.ShapeFile.{bad_field};
+ghost use Rattle.kroft_jobs.specs.Jobs.{swept};
 ghost use Rattle.kroft_jobs.specs.Writing.{IsPut, IsCut};
-ghost use Rattle.kroft_command.specs.Tool.{IsTimely, timings_in, line, write_fault};
+ghost use Rattle.kroft_command.specs.Tool.{IsTimely, timings_in, registers_in, line, write_fault};
 ghost use Rattle.kroft_command.specs.Program.{Runs, Checks, ChecksAnswered, checks_by, ExplainsRun, Grades, Draws, WritesRequests, access_in};
 ghost use Rattle.kroft_command.specs.Program.{Drives, WritesRun, PutsCounts, PutsDetails, DrawsCounts, counts_by};
 ghost use Rattle.kroft_command.specs.Program.{Sweeps, SweepsRegisters, SweepsRounds, SweepsLatencies, DrawsSweep, sweeps_lines, latency_lines, swept_rows};
 ghost use Rattle.kroft_command.specs.Program.{FollowsHistory, JudgesHistory, WritesHistory, PutsVerdict};
 
-use crate::command_line::{CountForm, HistoryTask, LogName, Timings};
+use crate::command_line::{CountForm, HistoryTask, LogName, Registers, Timings};
 use crate::fault::ToolFault;
 use access_logs::{Din, Lackey, LogFormat, write_requests};
+use cache_unit::Sizes;
 use history_text::{HistoryEnd, HistoryVerdict, judge_by_law, write_values_by_law};
 use kroft_jobs::{
     AnsweredIn, CheckIn, LatencyRows, RequestText, Verdict, detail_requests, drive_requests,
@@ -34,7 +36,6 @@ use result_formats::{
 };
 use round_driver::Timing;
 use run_pictures::Form;
-use shape_files::ToolShape;
 use std::alloc::{AllocError, Global};
 use std::thread::Threads;
 use trace_text::{Sink, Source, TraceFault};
@@ -67,17 +68,17 @@ fn finish<O: Sink>(output: &mut O) -> Result<(), ToolFault>
 #[tactic(auto, unfolding(crate::specs::Program::Runs))]
 pub(crate) fn run<I: Source, O: Sink>(
     alloc: Global,
-    tool: &ToolShape,
+    sizes: &Sizes,
     image: &Image,
     input: &mut I,
     output: &mut O,
 ) -> Result<u8, ToolFault>
-    requires shape { bad_field tool.now ≡ None }
+    requires sizes { bad_field sizes.now ≡ None }
     ensures few { IfOk result (λ status. status ≤ 1) }
-    ensures ends { Runs I.gave I.failed O.took O.refused O.unflushed tool.now image.now input.old input.new output.old output.new
+    ensures ends { Runs I.gave I.failed O.took O.refused O.unflushed sizes.now image.now input.old input.new output.old output.new
         result }
 {
-    serve(alloc, tool, image, input, output)?;
+    serve(alloc, sizes, image, input, output)?;
     Ok(0)
 }
 
@@ -85,17 +86,17 @@ pub(crate) fn run<I: Source, O: Sink>(
 #[tactic(auto, unfolding(crate::specs::Program::Checks))]
 fn check<I: Source, O: Sink>(
     alloc: Global,
-    tool: &ToolShape,
+    sizes: &Sizes,
     format: Format,
     image: &Image,
     input: &mut I,
     output: &mut O,
 ) -> Result<u8, ToolFault>
     ensures few { IfOk result (λ status. status ≤ 1) }
-    ensures ends { Checks I.gave I.failed O.took O.refused O.unflushed format tool.now image.now input.old input.new output.old output.new
+    ensures ends { Checks I.gave I.failed O.took O.refused O.unflushed format sizes.now image.now input.old input.new output.old output.new
         result }
 {
-    let end = kroft_jobs::check(alloc, tool, image, input)?;
+    let end = kroft_jobs::check(alloc, sizes, image, input)?;
     let text = format!(in alloc; "{}\n", CheckIn(format, end))?;
     answer(output, text.as_str(), Verdict(end).status())
 }
@@ -104,17 +105,17 @@ fn check<I: Source, O: Sink>(
 #[tactic(auto, unfolding(crate::specs::Program::ChecksAnswered))]
 fn check_answered<I: Source, O: Sink>(
     alloc: Global,
-    tool: &ToolShape,
+    sizes: &Sizes,
     format: Format,
     image: &Image,
     input: &mut I,
     output: &mut O,
 ) -> Result<u8, ToolFault>
     ensures few { IfOk result (λ status. status ≤ 1) }
-    ensures ends { ChecksAnswered I.gave I.failed O.took O.refused O.unflushed format tool.now image.now input.old input.new output.old
+    ensures ends { ChecksAnswered I.gave I.failed O.took O.refused O.unflushed format sizes.now image.now input.old input.new output.old
         output.new result }
 {
-    let answered = kroft_jobs::check_answered(alloc, tool, image, input)?;
+    let answered = kroft_jobs::check_answered(alloc, sizes, image, input)?;
     let text = format!(in alloc; "{}\n", AnsweredIn(format, &answered))?;
     answer(output, text.as_str(), answered.status())
 }
@@ -123,7 +124,7 @@ fn check_answered<I: Source, O: Sink>(
 #[tactic(auto, unfolding(crate::specs::Program::checks_by))]
 pub(crate) fn check_by<I: Source, O: Sink>(
     alloc: Global,
-    tool: &ToolShape,
+    sizes: &Sizes,
     image: &Image,
     all_answered: bool,
     format: Format,
@@ -131,13 +132,13 @@ pub(crate) fn check_by<I: Source, O: Sink>(
     output: &mut O,
 ) -> Result<u8, ToolFault>
     ensures few { IfOk result (λ status. status ≤ 1) }
-    ensures ends { checks_by I.gave I.failed O.took O.refused O.unflushed all_answered format tool.now image.now input.old input.new
+    ensures ends { checks_by I.gave I.failed O.took O.refused O.unflushed all_answered format sizes.now image.now input.old input.new
         output.old output.new result }
 {
     if all_answered {
-        check_answered(alloc, tool, format, image, input, output)
+        check_answered(alloc, sizes, format, image, input, output)
     } else {
-        check(alloc, tool, format, image, input, output)
+        check(alloc, sizes, format, image, input, output)
     }
 }
 
@@ -145,17 +146,17 @@ pub(crate) fn check_by<I: Source, O: Sink>(
 #[tactic(auto, unfolding(crate::specs::Program::ExplainsRun))]
 pub(crate) fn explain<I: Source, O: Sink>(
     alloc: Global,
-    tool: &ToolShape,
+    sizes: &Sizes,
     format: Format,
     image: &Image,
     input: &mut I,
     output: &mut O,
 ) -> Result<u8, ToolFault>
     ensures few { IfOk result (λ status. status ≤ 1) }
-    ensures ends { ExplainsRun I.gave I.failed O.took O.refused O.unflushed format tool.now image.now input.old input.new output.old
+    ensures ends { ExplainsRun I.gave I.failed O.took O.refused O.unflushed format sizes.now image.now input.old input.new output.old
         output.new result }
 {
-    let explanation = kroft_jobs::explain(alloc, tool, image, input)?;
+    let explanation = kroft_jobs::explain(alloc, sizes, image, input)?;
     let text = format!(in alloc; "{}\n", ExplanationIn(format, explanation))?;
     answer(output, text.as_str(), explanation.status())
 }
@@ -164,25 +165,25 @@ pub(crate) fn explain<I: Source, O: Sink>(
 #[tactic(auto, unfolding(crate::specs::Program::Grades))]
 pub(crate) fn grade<I: Source, O: Sink>(
     alloc: Global,
-    tool: &ToolShape,
+    sizes: &Sizes,
     format: Format,
     image: &Image,
     input: &mut I,
     output: &mut O,
 ) -> Result<u8, ToolFault>
-    requires shape { bad_field tool.now ≡ None }
+    requires sizes { bad_field sizes.now ≡ None }
     ensures few { IfOk result (λ status. status ≤ 1) }
-    ensures ends { Grades I.gave I.failed O.took O.refused O.unflushed format tool.now image.now input.old input.new output.old output.new
+    ensures ends { Grades I.gave I.failed O.took O.refused O.unflushed format sizes.now image.now input.old input.new output.old output.new
         result }
 {
-    let score = kroft_jobs::grade(alloc, tool, format, image, input, output)?;
+    let score = kroft_jobs::grade(alloc, sizes, format, image, input, output)?;
     Ok(score.status())
 }
 
 // Drives the requests in rounds, and writes the run, of which it tells if it is too long for a check.
 fn write_run<I: Source, O: Sink, E: Sink>(
     alloc: Global,
-    tool: &ToolShape,
+    sizes: &Sizes,
     image: &Image,
     from: RequestText,
     timing: Timing,
@@ -190,13 +191,13 @@ fn write_run<I: Source, O: Sink, E: Sink>(
     output: &mut O,
     errors: &mut E,
 ) -> Result<u8, ToolFault>
-    requires shape { bad_field tool.now ≡ None }
+    requires sizes { bad_field sizes.now ≡ None }
     requires latency { timing.latency ≤ MOST_LATENCY }
     ensures few { IfOk result (λ status. status ≤ 1) }
-    ensures ends { WritesRun I.gave I.failed O.took O.refused O.unflushed E.took E.refused E.unflushed from timing tool.now image.now
+    ensures ends { WritesRun I.gave I.failed O.took O.refused O.unflushed E.took E.refused E.unflushed from timing sizes.now image.now
         errors.old errors.new input.old input.new output.old output.new result }
 {
-    drive_requests(alloc, tool, image, timing, from, input, output, errors)?;
+    drive_requests(alloc, sizes, image, timing, from, input, output, errors)?;
     finish(output)?;
     Ok(0)
 }
@@ -204,7 +205,7 @@ fn write_run<I: Source, O: Sink, E: Sink>(
 // Drives them, and puts the counts.
 fn put_counts<I: Source, O: Sink>(
     alloc: Global,
-    tool: &ToolShape,
+    sizes: &Sizes,
     image: &Image,
     from: RequestText,
     timing: Timing,
@@ -212,13 +213,13 @@ fn put_counts<I: Source, O: Sink>(
     input: &mut I,
     output: &mut O,
 ) -> Result<u8, ToolFault>
-    requires shape { bad_field tool.now ≡ None }
+    requires sizes { bad_field sizes.now ≡ None }
     requires latency { timing.latency ≤ MOST_LATENCY }
     ensures few { IfOk result (λ status. status ≤ 1) }
-    ensures ends { PutsCounts I.gave I.failed O.took O.refused O.unflushed from timing format tool.now image.now input.old input.new output.old
+    ensures ends { PutsCounts I.gave I.failed O.took O.refused O.unflushed from timing format sizes.now image.now input.old input.new output.old
         output.new result }
 {
-    let table = summarize_requests(alloc, tool, image, timing, from, input)?;
+    let table = summarize_requests(alloc, sizes, image, timing, from, input)?;
     let counts = format!(in alloc; "{}{}\n", TableHead(format), TableIn(format, table))?;
     answer(output, counts.as_str(), 0)
 }
@@ -226,7 +227,7 @@ fn put_counts<I: Source, O: Sink>(
 // Drives them, and puts all details.
 fn put_details<I: Source, O: Sink>(
     alloc: Global,
-    tool: &ToolShape,
+    sizes: &Sizes,
     image: &Image,
     from: RequestText,
     timing: Timing,
@@ -234,13 +235,13 @@ fn put_details<I: Source, O: Sink>(
     input: &mut I,
     output: &mut O,
 ) -> Result<u8, ToolFault>
-    requires shape { bad_field tool.now ≡ None }
+    requires sizes { bad_field sizes.now ≡ None }
     requires latency { timing.latency ≤ MOST_LATENCY }
     ensures few { IfOk result (λ status. status ≤ 1) }
-    ensures ends { PutsDetails I.gave I.failed O.took O.refused O.unflushed from timing format tool.now image.now input.old input.new output.old
+    ensures ends { PutsDetails I.gave I.failed O.took O.refused O.unflushed from timing format sizes.now image.now input.old input.new output.old
         output.new result }
 {
-    let run = detail_requests(alloc, tool, image, timing, from, input)?;
+    let run = detail_requests(alloc, sizes, image, timing, from, input)?;
     let told = format!(in alloc; "{}\n", DetailsIn(format, &run.details, run.accesses))?;
     answer(output, told.as_str(), 0)
 }
@@ -248,20 +249,20 @@ fn put_details<I: Source, O: Sink>(
 // Drives them, and draws the counts.
 fn draw_counts<I: Source, O: Sink>(
     alloc: Global,
-    tool: &ToolShape,
+    sizes: &Sizes,
     image: &Image,
     from: RequestText,
     timing: Timing,
     input: &mut I,
     output: &mut O,
 ) -> Result<u8, ToolFault>
-    requires shape { bad_field tool.now ≡ None }
+    requires sizes { bad_field sizes.now ≡ None }
     requires latency { timing.latency ≤ MOST_LATENCY }
     ensures few { IfOk result (λ status. status ≤ 1) }
-    ensures ends { DrawsCounts I.gave I.failed O.took O.refused O.unflushed from timing tool.now image.now input.old input.new output.old
+    ensures ends { DrawsCounts I.gave I.failed O.took O.refused O.unflushed from timing sizes.now image.now input.old input.new output.old
         output.new result }
 {
-    let counted = summarize_requests(alloc, tool, image, timing, from, input)?;
+    let counted = summarize_requests(alloc, sizes, image, timing, from, input)?;
     let figure = format!(in alloc; "{}", LossFigure(counted))?;
     answer(output, figure.as_str(), 0)
 }
@@ -269,7 +270,7 @@ fn draw_counts<I: Source, O: Sink>(
 // Drives them, and shows the counts.
 fn show_counts<I: Source, O: Sink>(
     alloc: Global,
-    tool: &ToolShape,
+    sizes: &Sizes,
     image: &Image,
     from: RequestText,
     timing: Timing,
@@ -278,20 +279,20 @@ fn show_counts<I: Source, O: Sink>(
     input: &mut I,
     output: &mut O,
 ) -> Result<u8, ToolFault>
-    requires shape { bad_field tool.now ≡ None }
+    requires sizes { bad_field sizes.now ≡ None }
     requires latency { timing.latency ≤ MOST_LATENCY }
     ensures few { IfOk result (λ status. status ≤ 1) }
-    ensures ends { counts_by I.gave I.failed O.took O.refused O.unflushed form all from timing tool.now image.now input.old input.new
+    ensures ends { counts_by I.gave I.failed O.took O.refused O.unflushed form all from timing sizes.now image.now input.old input.new
         output.old output.new result }
 {
     match (form, all) {
         (CountForm::Lines(format), false) => {
-            put_counts(alloc, tool, image, from, timing, format, input, output)
+            put_counts(alloc, sizes, image, from, timing, format, input, output)
         }
         (CountForm::Lines(format), true) => {
-            put_details(alloc, tool, image, from, timing, format, input, output)
+            put_details(alloc, sizes, image, from, timing, format, input, output)
         }
-        (CountForm::Figure, _) => draw_counts(alloc, tool, image, from, timing, input, output),
+        (CountForm::Figure, _) => draw_counts(alloc, sizes, image, from, timing, input, output),
     }
 }
 
@@ -299,7 +300,7 @@ fn show_counts<I: Source, O: Sink>(
 #[tactic(auto, unfolding(crate::specs::Program::Drives))]
 pub(crate) fn drive<I: Source, O: Sink, E: Sink>(
     alloc: Global,
-    tool: &ToolShape,
+    sizes: &Sizes,
     image: &Image,
     from: RequestText,
     timing: Timing,
@@ -310,16 +311,16 @@ pub(crate) fn drive<I: Source, O: Sink, E: Sink>(
     output: &mut O,
     errors: &mut E,
 ) -> Result<u8, ToolFault>
-    requires shape { bad_field tool.now ≡ None }
+    requires sizes { bad_field sizes.now ≡ None }
     requires latency { timing.latency ≤ MOST_LATENCY }
     ensures few { IfOk result (λ status. status ≤ 1) }
     ensures ends { Drives I.gave I.failed O.took O.refused O.unflushed E.took E.refused E.unflushed from timing summary all form
-        tool.now image.now errors.old errors.new input.old input.new output.old output.new result }
+        sizes.now image.now errors.old errors.new input.old input.new output.old output.new result }
 {
     if summary {
-        show_counts(alloc, tool, image, from, timing, all, form, input, output)
+        show_counts(alloc, sizes, image, from, timing, all, form, input, output)
     } else {
-        write_run(alloc, tool, image, from, timing, input, output, errors)
+        write_run(alloc, sizes, image, from, timing, input, output, errors)
     }
 }
 
@@ -364,18 +365,18 @@ pub(crate) fn requests<I: Source, O: Sink>(
 #[tactic(auto, unfolding(crate::specs::Program::Draws))]
 pub(crate) fn show<I: Source, O: Sink>(
     alloc: Global,
-    tool: &ToolShape,
+    sizes: &Sizes,
     image: &Image,
     form: Form,
     input: &mut I,
     output: &mut O,
 ) -> Result<u8, ToolFault>
-    requires shape { bad_field tool.now ≡ None }
+    requires sizes { bad_field sizes.now ≡ None }
     ensures few { IfOk result (λ status. status ≤ 1) }
-    ensures ends { Draws I.gave I.failed O.took O.refused O.unflushed form tool.now image.now input.old input.new output.old
+    ensures ends { Draws I.gave I.failed O.took O.refused O.unflushed form sizes.now image.now input.old input.new output.old
         output.new result }
 {
-    let drawing = kroft_jobs::show(alloc, tool, image, form, input)?;
+    let drawing = kroft_jobs::show(alloc, sizes, image, form, input)?;
     answer(output, drawing.as_str(), 0)
 }
 
@@ -486,28 +487,30 @@ fn lines_of_rounds(alloc: Global, format: Format, rows: &[RoundsRow]) -> Result<
     Ok(text)
 }
 
-// Serves the requests with 1, 2, 4 and 8 registers.
+// Serves the requests with each number of registers.
 fn put_registers<R: AllocGlobal + Threads + Sync, I: Source, O: Sink>(
     rt: &R,
-    tool: &ToolShape,
+    sizes: &Sizes,
+    registers: &[u32],
     format: Format,
     input: &mut I,
     output: &mut O,
 ) -> Result<u8, ToolFault>
     ensures few { IfOk result (λ status. status ≤ 1) }
-    ensures ends { SweepsRegisters I.gave I.failed O.took O.refused O.unflushed format tool.now input.old input.new output.old
+    ensures ends { SweepsRegisters I.gave I.failed O.took O.refused O.unflushed format (swept sizes.now registers.now) input.old input.new output.old
         output.new result }
 {
-    let rows = sweep_registers(rt, rt.alloc(), tool, input)?;
+    let rows = sweep_registers(rt, rt.alloc(), sizes, registers, input)?;
     let told = lines_of_rows(rt.alloc(), format, rows.as_slice())?;
     let lines = format!(in rt.alloc(); "{}{}", PumpsHead(format), told.as_str())?;
     answer(output, lines.as_str(), 0)
 }
 
-// Drives the requests in rounds with 1, 2, 4 and 8 registers.
+// Drives the requests in rounds with each number of registers.
 fn put_rounds<R: AllocGlobal + Threads + Sync, I: Source, O: Sink>(
     rt: &R,
-    tool: &ToolShape,
+    sizes: &Sizes,
+    registers: &[u32],
     timing: Timing,
     format: Format,
     input: &mut I,
@@ -515,10 +518,10 @@ fn put_rounds<R: AllocGlobal + Threads + Sync, I: Source, O: Sink>(
 ) -> Result<u8, ToolFault>
     requires { timing.latency ≤ MOST_LATENCY }
     ensures few { IfOk result (λ status. status ≤ 1) }
-    ensures ends { SweepsRounds I.gave I.failed O.took O.refused O.unflushed timing format tool.now input.old input.new output.old
+    ensures ends { SweepsRounds I.gave I.failed O.took O.refused O.unflushed timing format (swept sizes.now registers.now) input.old input.new output.old
         output.new result }
 {
-    let rows = sweep_in_rounds(rt, rt.alloc(), tool, timing, input)?;
+    let rows = sweep_in_rounds(rt, rt.alloc(), sizes, registers, timing, input)?;
     let told = lines_of_rounds(rt.alloc(), format, rows.as_slice())?;
     let rounds = format!(in rt.alloc(); "{}{}", RoundsHead(format), told.as_str())?;
     answer(output, rounds.as_str(), 0)
@@ -555,10 +558,11 @@ fn lines_of_latencies(
     Ok(text)
 }
 
-// Drives the requests in rounds with each of these times of memory, and 1, 2, 4 and 8 registers.
+// Drives the requests in rounds with each of these times of memory, and each number of registers.
 fn put_latencies<R: AllocGlobal + Threads + Sync, I: Source, O: Sink>(
     rt: &R,
-    tool: &ToolShape,
+    sizes: &Sizes,
+    registers: &[u32],
     timings: &[Timing],
     format: Format,
     input: &mut I,
@@ -566,10 +570,10 @@ fn put_latencies<R: AllocGlobal + Threads + Sync, I: Source, O: Sink>(
 ) -> Result<u8, ToolFault>
     requires { All IsTimely timings.now }
     ensures few { IfOk result (λ status. status ≤ 1) }
-    ensures ends { SweepsLatencies I.gave I.failed O.took O.refused O.unflushed timings.now format tool.now input.old input.new
+    ensures ends { SweepsLatencies I.gave I.failed O.took O.refused O.unflushed timings.now format (swept sizes.now registers.now) input.old input.new
         output.old output.new result }
 {
-    let rows = sweep_latencies(rt, rt.alloc(), tool, timings, input)?;
+    let rows = sweep_latencies(rt, rt.alloc(), sizes, registers, timings, input)?;
     let told = lines_of_latencies(rt.alloc(), format, rows.as_slice())?;
     let latencies = format!(in rt.alloc(); "{}{}", LatencyHead(format), told.as_str())?;
     answer(output, latencies.as_str(), 0)
@@ -596,17 +600,18 @@ fn lines_of_figure<'a>(
 // Drives them so, and draws their rounds.
 fn draw_sweep<R: AllocGlobal + Threads + Sync, I: Source, O: Sink>(
     rt: &R,
-    tool: &ToolShape,
+    sizes: &Sizes,
+    registers: &[u32],
     timings: &[Timing],
     input: &mut I,
     output: &mut O,
 ) -> Result<u8, ToolFault>
     requires { All IsTimely timings.now }
     ensures few { IfOk result (λ status. status ≤ 1) }
-    ensures ends { DrawsSweep I.gave I.failed O.took O.refused O.unflushed timings.now tool.now input.old input.new output.old
+    ensures ends { DrawsSweep I.gave I.failed O.took O.refused O.unflushed timings.now (swept sizes.now registers.now) input.old input.new output.old
         output.new result }
 {
-    let rows = sweep_latencies(rt, rt.alloc(), tool, timings, input)?;
+    let rows = sweep_latencies(rt, rt.alloc(), sizes, registers, timings, input)?;
     let lines = lines_of_figure(rt.alloc(), rows.as_slice())?;
     let figure = format!(in rt.alloc(); "{}", SweepFigure(lines.as_slice()))?;
     answer(output, figure.as_str(), 0)
@@ -615,7 +620,8 @@ fn draw_sweep<R: AllocGlobal + Threads + Sync, I: Source, O: Sink>(
 // Serves the requests with each number of registers, or drives them in rounds if there are times of memory.
 fn put_sweep<R: AllocGlobal + Threads + Sync, I: Source, O: Sink>(
     rt: &R,
-    tool: &ToolShape,
+    sizes: &Sizes,
+    registers: &[u32],
     timings: &[Timing],
     format: Format,
     input: &mut I,
@@ -623,13 +629,13 @@ fn put_sweep<R: AllocGlobal + Threads + Sync, I: Source, O: Sink>(
 ) -> Result<u8, ToolFault>
     requires { All IsTimely timings.now }
     ensures few { IfOk result (λ status. status ≤ 1) }
-    ensures ends { sweeps_lines I.gave I.failed O.took O.refused O.unflushed timings.now format tool.now input.old input.new
+    ensures ends { sweeps_lines I.gave I.failed O.took O.refused O.unflushed timings.now format (swept sizes.now registers.now) input.old input.new
         output.old output.new result }
 {
     match timings {
-        [] => put_registers(rt, tool, format, input, output),
-        [timing] => put_rounds(rt, tool, *timing, format, input, output),
-        [_, _, ..] => put_latencies(rt, tool, timings, format, input, output),
+        [] => put_registers(rt, sizes, registers, format, input, output),
+        [timing] => put_rounds(rt, sizes, registers, *timing, format, input, output),
+        [_, _, ..] => put_latencies(rt, sizes, registers, timings, format, input, output),
     }
 }
 
@@ -637,7 +643,8 @@ fn put_sweep<R: AllocGlobal + Threads + Sync, I: Source, O: Sink>(
 #[tactic(auto, unfolding(crate::specs::Program::Sweeps))]
 fn sweep_by<R: AllocGlobal + Threads + Sync, I: Source, O: Sink>(
     rt: &R,
-    tool: &ToolShape,
+    sizes: &Sizes,
+    registers: &[u32],
     timings: &[Timing],
     form: CountForm,
     input: &mut I,
@@ -645,19 +652,20 @@ fn sweep_by<R: AllocGlobal + Threads + Sync, I: Source, O: Sink>(
 ) -> Result<u8, ToolFault>
     requires timely { All IsTimely timings.now }
     ensures few { IfOk result (λ status. status ≤ 1) }
-    ensures ends { Sweeps I.gave I.failed O.took O.refused O.unflushed timings.now form tool.now input.old input.new output.old
+    ensures ends { Sweeps I.gave I.failed O.took O.refused O.unflushed timings.now form (swept sizes.now registers.now) input.old input.new output.old
         output.new result }
 {
     match form {
-        CountForm::Lines(format) => put_sweep(rt, tool, timings, format, input, output),
-        CountForm::Figure => draw_sweep(rt, tool, timings, input, output),
+        CountForm::Lines(format) => put_sweep(rt, sizes, registers, timings, format, input, output),
+        CountForm::Figure => draw_sweep(rt, sizes, registers, timings, input, output),
     }
 }
 
-/// Counts the requests with 1, 2, 4 and 8 registers, by pumps or in rounds, and writes or draws the counts.
+/// Counts the requests with each number of registers, by pumps or in rounds, and writes or draws the counts.
 pub(crate) fn sweep<R: AllocGlobal + Threads + Sync, I: Source, O: Sink>(
     rt: &R,
-    tool: &ToolShape,
+    sizes: &Sizes,
+    registers: &Registers,
     timings: &Timings,
     form: CountForm,
     input: &mut I,
@@ -665,8 +673,18 @@ pub(crate) fn sweep<R: AllocGlobal + Threads + Sync, I: Source, O: Sink>(
 ) -> Result<u8, ToolFault>
     requires { AllByRecursion IsTimely timings.now.all }
     ensures few { IfOk result (λ status. status ≤ 1) }
-    ensures ends { Sweeps I.gave I.failed O.took O.refused O.unflushed (timings_in timings.now) form tool.now input.old input.new
+    ensures ends { Sweeps I.gave I.failed O.took O.refused O.unflushed (timings_in timings.now) form
+        (swept sizes.now (registers_in registers.now)) input.old input.new
         output.old output.new result }
 {
-    sweep_by(rt, tool, timings.as_slice(), form, input, output)
+    let registers = registers.as_slice();
+    sweep_by(
+        rt,
+        sizes,
+        registers,
+        timings.as_slice(),
+        form,
+        input,
+        output,
+    )
 }

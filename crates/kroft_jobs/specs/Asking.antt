@@ -1,5 +1,6 @@
 -- What an input says as requests, if it is a trace or a log.
 use Rattle.std.specs.Prelude.{◌≡◌, ℕ, ◌/◌, min, Option, Some, None, List, []}
+use Rattle.cache_unit.specs.declared.Sizes.{Sizes}
 use Rattle.flat_model.specs.declared.Event.{Event}
 use Rattle.trace_text.specs.Reading.{ReadWhole, ReadFails}
 use Rattle.trace_text.specs.Requests.{requests_of}
@@ -16,13 +17,12 @@ use Rattle.access_logs.specs.declared.writing.TheConstants.{MAX_WORDS}
 use Rattle.access_counts.specs.Counts.{counts_of}
 use Rattle.access_counts.specs.declared.counts.AccessCounts.{AccessCounts}
 use Rattle.round_driver.specs.declared.outcomes.Outcome.{Outcome}
-use Rattle.shape_files.specs.declared.shape_file.ToolShape.{ToolShape}
 use Rattle.kroft_jobs.specs.declared.asked.RequestText.{RequestText}
 use Rattle.kroft_jobs.specs.declared.asked.RequestText.TheVariants.{Trace, Lackey, Din}
 
 -- how many pages of a log memory has room for
-abbrev pub room_of : ToolShape → ℕ
-room_of t = min t.shape.words MAX_WORDS / PAGE_WORDS
+abbrev pub room_of : Sizes → ℕ
+room_of z = min z.words MAX_WORDS / PAGE_WORDS
 
 -- The input was read whole, and says these requests: a trace by its lines; a log by its accesses, of each of which the
 -- requests are a group.

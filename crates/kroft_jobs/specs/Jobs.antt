@@ -4,8 +4,7 @@ use Rattle.trace_text.specs.declared.check.CheckEnd.{CheckEnd}
 use Rattle.trace_text.specs.declared.check.CheckEnd.TheVariants.{Flat, Mismatch}
 use Rattle.trace_text.specs.declared.fault.TraceFault.{TraceFault}
 use Rattle.trace_text.specs.declared.fault.TraceFault.TheVariants as trace
-use Rattle.shape_files.specs.declared.shape_file.TheConstants.{REGISTER_COUNTS}
-use Rattle.shape_files.specs.declared.shape_file.ToolShape.{ToolShape}
+use Rattle.cache_unit.specs.declared.Sizes.{Sizes}
 use Rattle.shape_files.specs.declared.shape_file.ShapeFault.{ShapeFault}
 use Rattle.shape_files.specs.declared.shape_file.ShapeFault.TheVariants as shape
 use Rattle.shape_files.specs.ShapeFile.{fault_text as shape_text}
@@ -18,12 +17,12 @@ use Rattle.run_pictures.specs.declared.show.ShowFault.TheVariants as show
 use Rattle.kroft_jobs.specs.declared.fault.JobFault.{JobFault}
 use Rattle.kroft_jobs.specs.declared.fault.JobFault.TheVariants.{ShapeUnreadable, Shape, Trace, TooManyEvents, TurnLimit, OutOfMemory}
 
--- the shapes that a sweep goes over
-abbrev pub with_registers : ToolShape → ℕ → ToolShape
-with_registers t regs = record t { regs = regs }
+-- the machines that a sweep goes over
+abbrev pub with_registers : Sizes → ℕ → Sizes
+with_registers z regs = record z { regs = regs }
 
-abbrev pub swept : ToolShape → List ToolShape
-swept t = map (with_registers t) REGISTER_COUNTS
+abbrev pub swept : Sizes → (registers : List ℕ) → List Sizes
+swept z registers = map (with_registers z) registers
 
 -- the text of what a check found
 abbrev pub verdict_text : CheckEnd → List ℕ

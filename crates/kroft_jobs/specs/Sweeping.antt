@@ -1,6 +1,8 @@
 -- What becomes of the requests of a trace that are counted in rounds, and why a sweep has no rows.
 use Rattle.std.specs.Prelude.{⊤, ◌≡◌, ℕ, List, [], ◌∷◌, map, Option, Some, None}
 use Rattle.std.specs.List.{All}
+use Rattle.cache_unit.specs.Limits.{bad_field}
+use Rattle.cache_unit.specs.declared.Sizes.{Sizes}
 use Rattle.flat_model.specs.declared.Event.{Event}
 use Rattle.machine_core.specs.Machine.{MachineState}
 use Rattle.trace_text.specs.Reading.{ReadWhole, ReadStops}
@@ -12,12 +14,10 @@ use Rattle.round_driver.specs.Walks.{IsOverInTime}
 use Rattle.round_driver.specs.declared.details.Details.{Details}
 use Rattle.round_driver.specs.declared.table.Table.{Table}
 use Rattle.round_driver.specs.declared.timing.Timing.{Timing}
-use Rattle.shape_files.specs.declared.shape_file.ToolShape.{ToolShape}
 use Rattle.shape_files.specs.declared.shape_file.ShapeFault.TheVariants as shape
-use Rattle.shape_files.specs.ShapeFile.{bad_field}
 use Rattle.register_sweeps.specs.declared.rounds.RoundsRow.{RoundsRow}
 use Rattle.register_sweeps.specs.Rounds.{rounds_row_of}
-use Rattle.register_sweeps.specs.Sweep.{new_machine}
+use Rattle.register_sweeps.specs.Sweep.{bad_from, new_machine}
 use Rattle.access_counts.specs.declared.counts.AccessCounts.{AccessCounts}
 use Rattle.access_logs.specs.declared.reading.AccessGroup.{AccessGroup}
 use Rattle.kroft_jobs.specs.Asking.{Asks, accesses_of}
@@ -25,7 +25,6 @@ use Rattle.kroft_jobs.specs.declared.asked.RequestText.{RequestText}
 use Rattle.kroft_jobs.specs.declared.fault.JobFault.{JobFault}
 use Rattle.kroft_jobs.specs.declared.fault.JobFault.TheVariants.{Shape, Trace, TurnLimit, OutOfMemory}
 use Rattle.kroft_jobs.specs.declared.rounds.LatencyRows.{LatencyRows}
-use Rattle.kroft_jobs.specs.Jobs.{with_registers}
 
 -- the table of these requests in rounds, in a run that is over in time
 abbrev pub IsCounted : (timing : Timing) (s : MachineState) (requests : List Event) → Table → Type 0
@@ -41,27 +40,28 @@ CountsAll gave from room timing s input input' details accesses =
     (requests : List Event) × (groups : List AccessGroup) × Asks gave from room input input' requests groups
     × IsDetailed timing s requests details × (accesses ≡ accesses_of from groups details.outcomes)
 
--- the rows of these requests in rounds on machines of these shapes, each of a run that is over in time
-abbrev pub AreCounted : (timing : Timing) (shapes : List ToolShape) (requests : List Event) → List RoundsRow → Type 0
-AreCounted timing shapes requests rows =
-    (rows ≡ map (rounds_row_of timing requests) shapes) × All (λ t. IsOverInTime timing (new_machine t) requests) shapes
+-- the rows of these requests in rounds on these machines, each of a run that is over in time
+abbrev pub AreCounted : (timing : Timing) (machines : List Sizes) (requests : List Event) → List RoundsRow → Type 0
+AreCounted timing machines requests rows =
+    (rows ≡ map (rounds_row_of timing requests) machines) × All (λ z. IsOverInTime timing (new_machine z) requests) machines
 
--- For each of these times of memory in turn, its latency and the rows of these requests on machines of these shapes.
-abbrev pub AreSwept : (timings : List Timing) (shapes : List ToolShape) (requests : List Event) → List LatencyRows → Type 0
-AreSwept [] shapes requests [] = ⊤
-AreSwept [] shapes requests (swept ∷ rest) = ⊥
-AreSwept (timing ∷ timings) shapes requests [] = ⊥
-AreSwept (timing ∷ timings) shapes requests (swept ∷ rest) =
-    (swept.latency ≡ timing.latency) × AreCounted timing shapes requests swept.rows.items × AreSwept timings shapes requests rest
+-- For each of these times of memory in turn, its latency and the rows of these requests on these machines.
+abbrev pub AreSwept : (timings : List Timing) (machines : List Sizes) (requests : List Event) → List LatencyRows → Type 0
+AreSwept [] machines requests [] = ⊤
+AreSwept [] machines requests (swept ∷ rest) = ⊥
+AreSwept (timing ∷ timings) machines requests [] = ⊥
+AreSwept (timing ∷ timings) machines requests (swept ∷ rest) =
+    (swept.latency ≡ timing.latency) × AreCounted timing machines requests swept.rows.items × AreSwept timings machines requests rest
 
--- Why a sweep over a trace has no rows. A fault of the trace goes before one of the shape, whose own number of registers
--- doesn't matter: it isn't swept. Memory may be missing anywhere.
-abbrev pub SweepFails : {R : Type 0} (gave : R → List ℕ → R → Type 0) (failed : R → R → Type 0) (t : ToolShape) (input input' : R) → JobFault → Type 0
-SweepFails gave failed t input input' (Trace fault) =
+-- Why a sweep over a trace has no rows. A fault of the trace goes before one of the machines, of which the first that has
+-- one is told. Memory may be missing anywhere.
+abbrev pub SweepFails : {R : Type 0} (gave : R → List ℕ → R → Type 0) (failed : R → R → Type 0) (machines : List Sizes) (input input' : R) → JobFault → Type 0
+SweepFails gave failed machines input input' (Trace fault) =
     (texts : List (List ℕ)) × ReadStops gave failed trace_fault MAX_LINE input input' texts fault
-SweepFails gave failed t input input' (Shape (shape.BadShape field)) =
-    (texts : List (List ℕ)) × ReadWhole gave trace_fault MAX_LINE input input' texts × (bad_field (with_registers t 1) ≡ Some field)
-SweepFails gave failed t input input' TurnLimit =
-    (texts : List (List ℕ)) × ReadWhole gave trace_fault MAX_LINE input input' texts × (bad_field (with_registers t 1) ≡ None)
-SweepFails gave failed t input input' OutOfMemory = ⊤
-SweepFails gave failed t input input' fault = ⊥
+SweepFails gave failed machines input input' (Shape (shape.BadShape field)) =
+    (texts : List (List ℕ)) × (place : ℕ) × ReadWhole gave trace_fault MAX_LINE input input' texts
+    × (bad_from bad_field 0 machines ≡ Some (place, field))
+SweepFails gave failed machines input input' TurnLimit =
+    (texts : List (List ℕ)) × ReadWhole gave trace_fault MAX_LINE input input' texts × (bad_from bad_field 0 machines ≡ None)
+SweepFails gave failed machines input input' OutOfMemory = ⊤
+SweepFails gave failed machines input input' fault = ⊥

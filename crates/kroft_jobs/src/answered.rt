@@ -11,9 +11,9 @@ ghost use Rattle.kroft_jobs.specs.Jobs.{verdict_text};
 ghost use Rattle.kroft_jobs.specs.Answering.{tags_owed, owed_below, open_text, tags_text, answered_text, answered_status};
 
 use crate::jobs::Verdict;
+use cache_unit::Sizes;
 use flat_model::FlatMemory;
 use memory_images::Image;
-use shape_files::ToolShape;
 use std::alloc::{AllocError, Global};
 use std::fmt;
 use trace_text::{CheckEnd, Source, TraceFault, check_from};
@@ -94,19 +94,19 @@ impl<'a> fmt::Display for Tags<'a> {
 /// Judges what a run wrote, as [`check`](crate::check) does, and tells which loads weren't answered.
 pub fn check_answered<I: Source>(
     alloc: Global,
-    tool: &ToolShape,
+    sizes: &Sizes,
     image: &Image,
     input: &mut I,
 ) -> Result<AnsweredVerdict, TraceFault>
     ensures judged { IfOk result
         (λ verdict. (texts : List (List ℕ)) × (last : Flat)
         × ReadWhole I.gave pair_fault MAX_PAIR input.old input.new texts
-        × IsJudgedFrom (flat_from image.now tool.now.shape.words) texts verdict.end last
+        × IsJudgedFrom (flat_from image.now sizes.now.words) texts verdict.end last
         × (verdict.tags.items ≡ tags_owed last)) }
     ensures fault { IfErr result
         (ReadFails I.gave I.failed pair_fault MAX_PAIR input.old input.new) }
 {
-    let memory = image.flat_memory(alloc, tool.shape.words)?;
+    let memory = image.flat_memory(alloc, sizes.words)?;
     let checked = check_from(alloc, input, memory)?;
     let tags = open_tags(alloc, &checked.memory)?;
     Ok(AnsweredVerdict {

@@ -14,8 +14,8 @@ use access_counts::{AccessCounts, count_accesses};
 use access_logs::{
     AccessGroup, Din, Lackey, LogFault, LogFormat, LogRequests, MAX_WORDS, read_log,
 };
+use cache_unit::Sizes;
 use round_driver::Outcome;
-use shape_files::ToolShape;
 use std::alloc::Global;
 use trace_text::{Source, read_requests};
 
@@ -78,18 +78,18 @@ fn trace_requests<I: Source>(alloc: Global, input: &mut I) -> Result<LogRequests
 pub(crate) fn read_asked<I: Source>(
     alloc: Global,
     from: RequestText,
-    tool: &ToolShape,
+    sizes: &Sizes,
     input: &mut I,
 ) -> Result<LogRequests, LogFault>
     ensures said { IfOk result
-        (λ asked. Asks I.gave from (room_of tool.now) input.old input.new asked.requests.items
+        (λ asked. Asks I.gave from (room_of sizes.now) input.old input.new asked.requests.items
         asked.groups.items) }
     ensures requests { IfOk result (λ asked. list_all is_request asked.requests.items ≡ true) }
     ensures few { IfOk result (λ asked. length asked.requests.items ≤ most_requests) }
     ensures fault { IfErr result
-        (AsksNothing I.gave I.failed from (room_of tool.now) input.old input.new) }
+        (AsksNothing I.gave I.failed from (room_of sizes.now) input.old input.new) }
 {
-    let words = tool.shape.words.min(MAX_WORDS);
+    let words = sizes.words.min(MAX_WORDS);
     match from {
         RequestText::Trace => trace_requests(alloc, input),
         RequestText::Lackey => log_requests(alloc, &Lackey, words, input),

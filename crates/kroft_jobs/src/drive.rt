@@ -2,7 +2,7 @@
 
 ghost use Rattle.std.specs.Prelude.{◌≡◌, ◌≤◌, true, None, length, IfOk, IfErr, OnOk, OnErr};
 ghost use Rattle.std.specs.List.{list_all};
-ghost use Rattle.shape_files.specs.ShapeFile.{bad_field};
+ghost use Rattle.cache_unit.specs.Limits.{bad_field};
 ghost use Rattle.register_sweeps.specs.Sweep.{machine_over};
 ghost use Rattle.round_driver.specs.declared.driving.TheConstants.{MOST_LATENCY};
 ghost use Rattle.round_driver.specs.Rounds.{most_requests};
@@ -17,16 +17,16 @@ use crate::asked::{RequestText, read_asked};
 use crate::lengths::{RunLength, RunMeasure};
 use crate::writing::put_text;
 use access_logs::LogFault;
+use cache_unit::Sizes;
 use flat_model::Event;
 use memory_images::Image;
 use register_sweeps::new_machine;
 use round_driver::{RoundMachine, Timing, drive_with};
-use shape_files::ToolShape;
 use std::alloc::Global;
 use trace_text::{Sink, Source, TraceFault, write_whole};
 
-/// Drives the requests of a trace or of a log in rounds through a new machine of a shape whose fields are in
-/// range, over an image, as [`drive_with`] does, and writes the run. Gives the number of rounds, behind which the
+/// Drives the requests of a trace or of a log in rounds through a new machine of numbers that are in their
+/// ranges, over an image, as [`drive_with`] does, and writes the run. Gives the number of rounds, behind which the
 /// requests are used up and nothing is on its way. The output isn't flushed.
 ///
 /// A run of more than 16,777,216 lines is told of before it is written, in one line on `errors`, since a check
@@ -38,7 +38,7 @@ use trace_text::{Sink, Source, TraceFault, write_whole};
 /// latency of `timing` is at most `MOST_LATENCY`.
 pub fn drive_requests<I: Source, O: Sink, E: Sink>(
     alloc: Global,
-    tool: &ToolShape,
+    sizes: &Sizes,
     image: &Image,
     timing: Timing,
     from: RequestText,
@@ -46,14 +46,14 @@ pub fn drive_requests<I: Source, O: Sink, E: Sink>(
     output: &mut O,
     errors: &mut E,
 ) -> Result<u64, LogFault>
-    requires shape { bad_field tool.now ≡ None }
+    requires sizes { bad_field sizes.now ≡ None }
     requires latency { timing.latency ≤ MOST_LATENCY }
-    ensures { DrivesAll I.gave I.failed O.took O.refused E.took E.refused E.unflushed from (room_of tool.now) timing
-        (machine_over image.now tool.now) input.old input.new output.old output.new errors.old errors.new result }
+    ensures { DrivesAll I.gave I.failed O.took O.refused E.took E.refused E.unflushed from (room_of sizes.now) timing
+        (machine_over image.now sizes.now) input.old input.new output.old output.new errors.old errors.new result }
 {
-    let asked = read_asked(alloc, from, tool, input)?;
+    let asked = read_asked(alloc, from, sizes, input)?;
     let requests = asked.requests.as_slice();
-    match tell_and_drive(alloc, tool, image, timing, requests, output, errors) {
+    match tell_and_drive(alloc, sizes, image, timing, requests, output, errors) {
         Ok(rounds) => Ok(rounds),
         Err(fault) => Err(LogFault::Trace(fault)),
     }
@@ -62,26 +62,26 @@ pub fn drive_requests<I: Source, O: Sink, E: Sink>(
 // Drives requests on a new machine, and tells before that of a run that is too long for a check.
 fn tell_and_drive<O: Sink, E: Sink>(
     alloc: Global,
-    tool: &ToolShape,
+    sizes: &Sizes,
     image: &Image,
     timing: Timing,
     requests: &[Event],
     output: &mut O,
     errors: &mut E,
 ) -> Result<u64, TraceFault>
-    requires shape { bad_field tool.now ≡ None }
+    requires sizes { bad_field sizes.now ≡ None }
     requires latency { timing.latency ≤ MOST_LATENCY }
     requires few { length requests.now ≤ most_requests }
     requires all { list_all is_request requests.now ≡ true }
-    ensures { IsToldAndDriven O.took O.refused E.took E.refused E.unflushed timing (machine_over image.now tool.now)
+    ensures { IsToldAndDriven O.took O.refused E.took E.refused E.unflushed timing (machine_over image.now sizes.now)
         requests.now output.old output.new errors.old errors.new result }
 {
-    match measure_run(alloc, tool, image, timing, requests)? {
+    match measure_run(alloc, sizes, image, timing, requests)? {
         RunLength::Kept { text, rounds } => put_run(output, text.as_slice(), rounds),
-        RunLength::Readable => drive_all(alloc, tool, image, timing, requests, output),
+        RunLength::Readable => drive_all(alloc, sizes, image, timing, requests, output),
         RunLength::TooLong => {
             tell_length(errors);
-            drive_all(alloc, tool, image, timing, requests, output)
+            drive_all(alloc, sizes, image, timing, requests, output)
         }
     }
 }
@@ -112,21 +112,21 @@ fn put_run<O: Sink>(output: &mut O, text: &[u8], rounds: u64) -> Result<u64, Tra
 // Finds out how long the run of these requests is, by driving them on a new machine. Memory may be missing.
 fn measure_run(
     alloc: Global,
-    tool: &ToolShape,
+    sizes: &Sizes,
     image: &Image,
     timing: Timing,
     requests: &[Event],
 ) -> Result<RunLength, TraceFault>
-    requires shape { bad_field tool.now ≡ None }
+    requires sizes { bad_field sizes.now ≡ None }
     requires latency { timing.latency ≤ MOST_LATENCY }
     requires few { length requests.now ≤ most_requests }
     requires all { list_all is_request requests.now ≡ true }
     ensures measured { IfOk result
-        (IsMeasured timing (machine_over image.now tool.now) requests.now) }
+        (IsMeasured timing (machine_over image.now sizes.now) requests.now) }
     ensures fault { IfErr result (λ fault. fault ≡ TraceFault.OutOfMemory) }
 {
     let mut measure = RunMeasure::new(alloc);
-    match drive_all(alloc, tool, image, timing, requests, &mut measure) {
+    match drive_all(alloc, sizes, image, timing, requests, &mut measure) {
         Ok(rounds) => Ok(measure.length(rounds)),
         Err(TraceFault::Write) => Ok(RunLength::TooLong),
         Err(fault) => Err(fault),
@@ -136,20 +136,20 @@ fn measure_run(
 // Drives requests on a new machine.
 fn drive_all<O: Sink>(
     alloc: Global,
-    tool: &ToolShape,
+    sizes: &Sizes,
     image: &Image,
     timing: Timing,
     requests: &[Event],
     output: &mut O,
 ) -> Result<u64, TraceFault>
-    requires shape { bad_field tool.now ≡ None }
+    requires sizes { bad_field sizes.now ≡ None }
     requires latency { timing.latency ≤ MOST_LATENCY }
     requires few { length requests.now ≤ most_requests }
     requires all { list_all is_request requests.now ≡ true }
-    ensures { IsDriven O.took O.refused timing (machine_over image.now tool.now) requests.now output.old output.new
+    ensures { IsDriven O.took O.refused timing (machine_over image.now sizes.now) requests.now output.old output.new
         result }
 {
-    let Ok(mut machine) = new_machine(alloc, tool, image) else {
+    let Ok(mut machine) = new_machine(alloc, sizes, image) else {
         return Err(TraceFault::OutOfMemory);
     };
     machine.keeps_whole();

@@ -1,39 +1,39 @@
 //! What the program does with a sheet.
 
 ghost use Rattle.std.specs.Prelude.{◌≡◌, None, IfOk};
-ghost use Rattle.shape_files.specs.ShapeFile.{bad_field};
+ghost use Rattle.cache_unit.specs.Limits.{bad_field};
 ghost use Rattle.register_sweeps.specs.Sweep.{machine_over};
 ghost use Rattle.trace_sheets.specs.Grades.{grade_text};
 ghost use Rattle.kroft_jobs.specs.Grading.{SheetGraded, GradesAll};
 ghost use Rattle.kroft_jobs.specs.Writing.{IsWritten};
 
 use crate::writing::put_text;
+use cache_unit::Sizes;
 use memory_images::Image;
 use named_fields::Format;
 use register_sweeps::new_machine;
-use shape_files::ToolShape;
 use std::alloc::Global;
 use trace_sheets::{Grade, GradeHead, Score, ScoreIn, grade_sheet};
 use trace_text::{Sink, Source, TraceFault};
 
-/// Grades a sheet on a new machine of a shape whose fields are in range, over an image, as [`grade_sheet`] does,
+/// Grades a sheet on a new machine of numbers that are in their ranges, over an image, as [`grade_sheet`] does,
 /// and writes the grade in a format: what is told of each wrong prediction, and the score as its last line.
 ///
 /// The whole sheet is read before anything is written: a fault of it leaves the output as it is. A write
 /// that is refused ends the job at once. The output is flushed behind the score.
 pub fn grade<I: Source, O: Sink>(
     alloc: Global,
-    tool: &ToolShape,
+    sizes: &Sizes,
     format: Format,
     image: &Image,
     input: &mut I,
     output: &mut O,
 ) -> Result<Score, TraceFault>
-    requires shape { bad_field tool.now ≡ None }
-    ensures { GradesAll I.gave I.failed O.took O.refused O.unflushed format (machine_over image.now tool.now) input.old input.new
+    requires sizes { bad_field sizes.now ≡ None }
+    ensures { GradesAll I.gave I.failed O.took O.refused O.unflushed format (machine_over image.now sizes.now) input.old input.new
         output.old output.new result }
 {
-    let mut machine = new_machine(alloc, tool, image)?;
+    let mut machine = new_machine(alloc, sizes, image)?;
     let grade = grade_sheet(alloc, format, input, &mut machine)?;
     write_grade(alloc, format, grade, output)
 }

@@ -10,17 +10,17 @@ ghost use Rattle.trace_text.specs.Serving.{trace_fault, Ends};
 ghost use Rattle.trace_text.specs.Checks.{pair_fault, IsJudgedFrom};
 ghost use Rattle.trace_text.specs.Requests.{requests_of};
 ghost use Rattle.run_reasons.specs.Runs.{Explains};
-ghost use Rattle.shape_files.specs.ShapeFile.{bad_field};
+ghost use Rattle.cache_unit.specs.Limits.{bad_field};
 ghost use Rattle.register_sweeps.specs.Sweep.{machine_over, row_of};
-ghost use Rattle.kroft_jobs.specs.Jobs.{swept, verdict_status, verdict_text};
+ghost use Rattle.kroft_jobs.specs.Jobs.{swept, with_registers, verdict_status, verdict_text};
 ghost use Rattle.kroft_jobs.specs.Sweeping.{SweepFails};
 
 use crate::fault::JobFault;
+use cache_unit::Sizes;
 use memory_images::Image;
-use register_sweeps::{OpenGate, Row, new_machine, sweep};
+use register_sweeps::{OpenGate, Row, new_machine, sweep_machines};
 use run_reasons::{Explanation, explain_text};
-use shape_files::{REGISTER_COUNTS, ToolShape};
-use std::alloc::Global;
+use std::alloc::{AllocError, Global};
 use std::fmt;
 use std::thread::Threads;
 use trace_text::{
@@ -30,21 +30,21 @@ use trace_text::{
 // Turns of each thread of the program's sweep. Its gate is always open, so one is enough.
 pub(crate) const SWEEP_TURNS: u64 = 1_000_000;
 
-/// Serves a trace on a new machine of a shape whose fields are in range, over an image, as
+/// Serves a trace on a new machine of numbers that are in their ranges, over an image, as
 /// `serve_text` does.
 pub fn serve<I: Source, O: Sink>(
     alloc: Global,
-    tool: &ToolShape,
+    sizes: &Sizes,
     image: &Image,
     input: &mut I,
     output: &mut O,
 ) -> Result<Counts, TraceFault>
-    requires shape { bad_field tool.now ≡ None }
+    requires sizes { bad_field sizes.now ≡ None }
     ensures { (after : MachineState)
         × Ends I.gave I.failed O.took O.refused O.unflushed input.old input.new output.old output.new
-        (machine_over image.now tool.now) after result }
+        (machine_over image.now sizes.now) after result }
 {
-    let Ok(mut machine) = new_machine(alloc, tool, image) else {
+    let Ok(mut machine) = new_machine(alloc, sizes, image) else {
         return Err(TraceFault::OutOfMemory);
     };
     serve_text(alloc, input, output, &mut machine)
@@ -53,18 +53,18 @@ pub fn serve<I: Source, O: Sink>(
 /// Judges what a run wrote, over as many words of an image as the shape says, as `check_from` does.
 pub fn check<I: Source>(
     alloc: Global,
-    tool: &ToolShape,
+    sizes: &Sizes,
     image: &Image,
     input: &mut I,
 ) -> Result<CheckEnd, TraceFault>
     ensures judged { IfOk result
         (λ end. (texts : List (List ℕ)) × (last : Flat)
         × ReadWhole I.gave pair_fault MAX_PAIR input.old input.new texts
-        × IsJudgedFrom (flat_from image.now tool.now.shape.words) texts end last) }
+        × IsJudgedFrom (flat_from image.now sizes.now.words) texts end last) }
     ensures fault { IfErr result
         (ReadFails I.gave I.failed pair_fault MAX_PAIR input.old input.new) }
 {
-    let memory = image.flat_memory(alloc, tool.shape.words)?;
+    let memory = image.flat_memory(alloc, sizes.words)?;
     let checked = check_from(alloc, input, memory)?;
     Ok(checked.end)
 }
@@ -73,13 +73,13 @@ pub fn check<I: Source>(
 /// `explain_text` does.
 pub fn explain<I: Source>(
     alloc: Global,
-    tool: &ToolShape,
+    sizes: &Sizes,
     image: &Image,
     input: &mut I,
 ) -> Result<Explanation, TraceFault>
-    ensures { Explains I.gave I.failed (memory_from image.now tool.now.shape.words) input.old input.new result }
+    ensures { Explains I.gave I.failed (memory_from image.now sizes.now.words) input.old input.new result }
 {
-    explain_text(alloc, input, image, tool.shape.words)
+    explain_text(alloc, input, image, sizes.words)
 }
 
 /// What a check found, as the program tells it.
@@ -109,46 +109,51 @@ impl fmt::Display for Verdict {
     }
 }
 
-/// The rows of the requests of a trace, with 1, 2, 4 and 8 registers and all else as the shape says. Its
+/// The rows of the requests of a trace, with each of these numbers of registers and all else as `sizes` says. Its
 /// faults are those of [`sweep_in_rounds`](crate::sweep_in_rounds).
 pub fn sweep_registers<R: Threads + Sync, I: Source>(
     rt: &R,
     alloc: Global,
-    tool: &ToolShape,
+    sizes: &Sizes,
+    registers: &[u32],
     input: &mut I,
 ) -> Result<Vec<Row>, JobFault>
     ensures rows { IfOk result
         (λ rows. (texts : List (List ℕ)) × ReadWhole I.gave trace_fault MAX_LINE input.old input.new texts
-        × (rows.items ≡ map (row_of (requests_of texts)) (swept tool.now))) }
-    ensures fault { IfErr result (SweepFails I.gave I.failed tool.now input.old input.new) }
+        × (rows.items ≡ map (row_of (requests_of texts)) (swept sizes.now registers.now))) }
+    ensures fault { IfErr result (SweepFails I.gave I.failed (swept sizes.now registers.now) input.old input.new) }
 {
     let requests = read_requests(alloc, input)?;
-    let rows = sweep(
+    let machines = swept_machines(alloc, sizes, registers)?;
+    let rows = sweep_machines(
         rt,
         alloc,
         requests.as_slice(),
-        &swept_shapes(tool),
+        machines.as_slice(),
         SWEEP_TURNS,
         &OpenGate,
     )?;
     Ok(rows)
 }
 
-// The shapes of a sweep: with each number of registers that a machine may have.
-pub(crate) fn swept_shapes(tool: &ToolShape) -> [ToolShape; 4]
-    ensures { result ≡ swept tool.now }
+// The machines of a sweep: with each of these numbers of registers.
+pub(crate) fn swept_machines(
+    alloc: Global,
+    sizes: &Sizes,
+    registers: &[u32],
+) -> Result<Vec<Sizes>, AllocError>
+    ensures { IfOk result (λ machines. machines.items ≡ swept sizes.now registers.now) }
 {
-    [
-        with_registers(tool, REGISTER_COUNTS[0]),
-        with_registers(tool, REGISTER_COUNTS[1]),
-        with_registers(tool, REGISTER_COUNTS[2]),
-        with_registers(tool, REGISTER_COUNTS[3]),
-    ]
+    let mut machines = Vec::new(alloc);
+    for regs in registers {
+        machines.push(with_registers(sizes, *regs))?;
+    }
+    Ok(machines)
 }
 
-// The shape with so many registers.
-fn with_registers(tool: &ToolShape, regs: u32) -> ToolShape
-    ensures { result ≡ record tool.now { regs = regs } }
+// The machine with so many registers.
+fn with_registers(sizes: &Sizes, regs: u32) -> Sizes
+    ensures { result ≡ with_registers sizes.now regs }
 {
-    ToolShape { regs, ..*tool }
+    Sizes { regs, ..*sizes }
 }

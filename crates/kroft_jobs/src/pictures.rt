@@ -2,29 +2,29 @@
 
 ghost use Rattle.std.specs.Prelude.{◌≡◌, None};
 ghost use Rattle.run_pictures.specs.Drawn.{Shows};
-ghost use Rattle.shape_files.specs.ShapeFile.{bad_field};
+ghost use Rattle.cache_unit.specs.Limits.{bad_field};
 ghost use Rattle.register_sweeps.specs.Sweep.{machine_over};
 
+use cache_unit::Sizes;
 use memory_images::Image;
 use register_sweeps::new_machine;
 use run_pictures::{Form, ShowFault, show_text};
-use shape_files::ToolShape;
 use std::alloc::Global;
 use trace_text::Source;
 
-/// Draws the walk of a new machine of a shape whose fields are in range, over an image, over the events of
+/// Draws the walk of a new machine of numbers that are in their ranges, over an image, over the events of
 /// a trace or of a recorded run, as `show_text` does.
 pub fn show<I: Source>(
     alloc: Global,
-    tool: &ToolShape,
+    sizes: &Sizes,
     image: &Image,
     form: Form,
     input: &mut I,
 ) -> Result<String, ShowFault>
-    requires shape { bad_field tool.now ≡ None }
-    ensures { Shows I.gave I.failed form image.now (machine_over image.now tool.now) input.old input.new result }
+    requires sizes { bad_field sizes.now ≡ None }
+    ensures { Shows I.gave I.failed form image.now (machine_over image.now sizes.now) input.old input.new result }
 {
-    let Ok(mut machine) = new_machine(alloc, tool, image) else {
+    let Ok(mut machine) = new_machine(alloc, sizes, image) else {
         return Err(ShowFault::OutOfMemory);
     };
     show_text(alloc, input, &mut machine, image, form)

@@ -6,7 +6,7 @@ ghost use Rattle.trace_text.specs.declared.fault.TheConstants.{MAX_LINE};
 ghost use Rattle.trace_text.specs.Reading.{ReadWhole, ReadFails};
 ghost use Rattle.trace_text.specs.Serving.{trace_fault};
 ghost use Rattle.trace_text.specs.Requests.{requests_of};
-ghost use Rattle.shape_files.specs.ShapeFile.{bad_field};
+ghost use Rattle.cache_unit.specs.Limits.{bad_field};
 ghost use Rattle.register_sweeps.specs.Sweep.{FaultSays, machine_over};
 ghost use Rattle.round_driver.specs.declared.driving.TheConstants.{MOST_LATENCY};
 ghost use Rattle.round_driver.specs.Details.{details_of};
@@ -20,40 +20,40 @@ ghost use Rattle.kroft_jobs.specs.Sweeping.{IsCounted, CountsAll, AreCounted, Ar
 
 use crate::asked::{RequestText, accesses_of, read_asked};
 use crate::fault::JobFault;
-use crate::jobs::{SWEEP_TURNS, swept_shapes};
+use crate::jobs::{SWEEP_TURNS, swept_machines};
 use access_counts::AccessCounts;
 use access_logs::LogFault;
+use cache_unit::Sizes;
 use flat_model::Event;
 use memory_images::Image;
 use register_sweeps::{OpenGate, RoundsRow, SweepFault, new_machine, rounds_table, sweep_rounds};
 use round_driver::{Details, Table, Timing, detail_with};
-use shape_files::ToolShape;
 use std::alloc::{AllocError, Global};
 use std::thread::Threads;
 use trace_text::{Source, read_requests};
 
-/// Drives the requests of a trace or of a log in rounds through a new machine of a shape whose fields are in
-/// range, over an image, and counts, as [`rounds_table`] does. Behind the rounds that are counted the requests
+/// Drives the requests of a trace or of a log in rounds through a new machine of numbers that are in their
+/// ranges, over an image, and counts, as [`rounds_table`] does. Behind the rounds that are counted the requests
 /// are used up and nothing is on its way. The latency of `timing` is at most `MOST_LATENCY`.
 pub fn summarize_requests<I: Source>(
     alloc: Global,
-    tool: &ToolShape,
+    sizes: &Sizes,
     image: &Image,
     timing: Timing,
     from: RequestText,
     input: &mut I,
 ) -> Result<Table, LogFault>
-    requires shape { bad_field tool.now ≡ None }
+    requires sizes { bad_field sizes.now ≡ None }
     requires latency { timing.latency ≤ MOST_LATENCY }
     ensures table { IfOk result
         (λ table. (requests : List EventValue) × (groups : List Group)
-        × Asks I.gave from (room_of tool.now) input.old input.new requests groups
-        × IsCounted timing (machine_over image.now tool.now) requests table) }
+        × Asks I.gave from (room_of sizes.now) input.old input.new requests groups
+        × IsCounted timing (machine_over image.now sizes.now) requests table) }
     ensures fault { IfErr result
-        (AsksNothing I.gave I.failed from (room_of tool.now) input.old input.new) }
+        (AsksNothing I.gave I.failed from (room_of sizes.now) input.old input.new) }
 {
-    let asked = read_asked(alloc, from, tool, input)?;
-    Ok(rounds_table(alloc, tool, image, timing, asked.requests.as_slice())?)
+    let asked = read_asked(alloc, from, sizes, input)?;
+    Ok(rounds_table(alloc, sizes, image, timing, asked.requests.as_slice())?)
 }
 
 /// What was counted of a run.
@@ -69,22 +69,22 @@ pub struct CountedRun {
 /// and of a log its accesses, as [`count_accesses`](access_counts::count_accesses) does.
 pub fn detail_requests<I: Source>(
     alloc: Global,
-    tool: &ToolShape,
+    sizes: &Sizes,
     image: &Image,
     timing: Timing,
     from: RequestText,
     input: &mut I,
 ) -> Result<CountedRun, LogFault>
-    requires shape { bad_field tool.now ≡ None }
+    requires sizes { bad_field sizes.now ≡ None }
     requires latency { timing.latency ≤ MOST_LATENCY }
     ensures counted { IfOk result
-        (λ run. CountsAll I.gave from (room_of tool.now) timing (machine_over image.now tool.now) input.old input.new
+        (λ run. CountsAll I.gave from (room_of sizes.now) timing (machine_over image.now sizes.now) input.old input.new
         run.details run.accesses) }
     ensures fault { IfErr result
-        (AsksNothing I.gave I.failed from (room_of tool.now) input.old input.new) }
+        (AsksNothing I.gave I.failed from (room_of sizes.now) input.old input.new) }
 {
-    let asked = read_asked(alloc, from, tool, input)?;
-    let details = detail_all(alloc, tool, image, timing, asked.requests.as_slice())?;
+    let asked = read_asked(alloc, from, sizes, input)?;
+    let details = detail_all(alloc, sizes, image, timing, asked.requests.as_slice())?;
     let accesses = accesses_of(from, asked.groups.as_slice(), details.outcomes.as_slice());
     Ok(CountedRun { details, accesses })
 }
@@ -92,48 +92,50 @@ pub fn detail_requests<I: Source>(
 // Counts requests on a new machine over an image.
 fn detail_all(
     alloc: Global,
-    tool: &ToolShape,
+    sizes: &Sizes,
     image: &Image,
     timing: Timing,
     requests: &[Event],
 ) -> Result<Details, AllocError>
-    requires shape { bad_field tool.now ≡ None }
+    requires sizes { bad_field sizes.now ≡ None }
     requires latency { timing.latency ≤ MOST_LATENCY }
     requires few { length requests.now ≤ most_requests }
     ensures details { IfOk result
-        (λ details. details ≡ details_of timing (machine_over image.now tool.now) requests.now) }
-    ensures over { OnOk result (RequestsEnd timing (machine_over image.now tool.now) requests.now) }
+        (λ details. details ≡ details_of timing (machine_over image.now sizes.now) requests.now) }
+    ensures over { OnOk result (RequestsEnd timing (machine_over image.now sizes.now) requests.now) }
 {
-    let mut machine = new_machine(alloc, tool, image)?;
+    let mut machine = new_machine(alloc, sizes, image)?;
     detail_with(alloc, &mut machine, timing, requests)
 }
 
-/// The rows of the requests of a trace in rounds, with 1, 2, 4 and 8 registers and all else as the shape
-/// says, as [`sweep_rounds`] makes them. Each run is over in time. The latency of `timing` is at most
+/// The rows of the requests of a trace in rounds, with each of these numbers of registers and all else as
+/// `sizes` says, as [`sweep_rounds`] makes them. Each run is over in time. The latency of `timing` is at most
 /// `MOST_LATENCY`.
 ///
-/// All requests are read before the shape is judged, with 1 register in place of its own: so a fault of the
-/// trace goes before one of the shape. `TurnLimit` never comes, as the program's gate is always open.
+/// All requests are read before the machines are judged, whose own number of registers `sizes` doesn't have: so a
+/// fault of the trace goes before one of the machine. `TurnLimit` never comes, as the program's gate is always open.
 pub fn sweep_in_rounds<R: Threads + Sync, I: Source>(
     rt: &R,
     alloc: Global,
-    tool: &ToolShape,
+    sizes: &Sizes,
+    registers: &[u32],
     timing: Timing,
     input: &mut I,
 ) -> Result<Vec<RoundsRow>, JobFault>
     requires latency { timing.latency ≤ MOST_LATENCY }
     ensures rows { IfOk result
         (λ rows. (texts : List (List ℕ)) × ReadWhole I.gave trace_fault MAX_LINE input.old input.new texts
-        × AreCounted timing (swept tool.now) (requests_of texts) rows.items) }
-    ensures fault { IfErr result (SweepFails I.gave I.failed tool.now input.old input.new) }
+        × AreCounted timing (swept sizes.now registers.now) (requests_of texts) rows.items) }
+    ensures fault { IfErr result (SweepFails I.gave I.failed (swept sizes.now registers.now) input.old input.new) }
 {
     let requests = read_requests(alloc, input)?;
+    let machines = swept_machines(alloc, sizes, registers)?;
     let rows = sweep_rounds(
         rt,
         alloc,
         timing,
         requests.as_slice(),
-        &swept_shapes(tool),
+        machines.as_slice(),
         SWEEP_TURNS,
         &OpenGate,
     )?;
@@ -145,27 +147,35 @@ pub fn sweep_in_rounds<R: Threads + Sync, I: Source>(
 pub struct LatencyRows {
     /// Rounds from a command's begin to its service.
     pub latency: u64,
-    /// The rows, with 1, 2, 4 and 8 registers.
+    /// The rows, one for each number of registers.
     pub rows: Vec<RoundsRow>,
 }
 
-// The rows of requests with each of these times of memory, over shapes.
+// The rows of requests with each of these times of memory, on machines.
 fn sweep_each<R: Threads + Sync>(
     rt: &R,
     alloc: Global,
-    shapes: &[ToolShape],
+    machines: &[Sizes],
     timings: &[Timing],
     requests: &[Event],
 ) -> Result<Vec<LatencyRows>, SweepFault>
     requires latency { All (λ timing. timing.latency ≤ MOST_LATENCY) timings.now }
     requires few { length requests.now ≤ most_requests }
     requires all { list_all is_request requests.now ≡ true }
-    ensures rows { IfOk result (λ swept. AreSwept timings.now shapes.now requests.now swept.items) }
-    ensures fault { IfErr result (FaultSays shapes.now) }
+    ensures rows { IfOk result (λ swept. AreSwept timings.now machines.now requests.now swept.items) }
+    ensures fault { IfErr result (FaultSays bad_field machines.now) }
 {
     let mut swept = Vec::new(alloc);
     for timing in timings {
-        let made = sweep_rounds(rt, alloc, *timing, requests, shapes, SWEEP_TURNS, &OpenGate)?;
+        let made = sweep_rounds(
+            rt,
+            alloc,
+            *timing,
+            requests,
+            machines,
+            SWEEP_TURNS,
+            &OpenGate,
+        )?;
         let rows = LatencyRows {
             latency: timing.latency,
             rows: made,
@@ -184,17 +194,19 @@ fn sweep_each<R: Threads + Sync>(
 pub fn sweep_latencies<R: Threads + Sync, I: Source>(
     rt: &R,
     alloc: Global,
-    tool: &ToolShape,
+    sizes: &Sizes,
+    registers: &[u32],
     timings: &[Timing],
     input: &mut I,
 ) -> Result<Vec<LatencyRows>, JobFault>
     requires latency { All (λ timing. timing.latency ≤ MOST_LATENCY) timings.now }
     ensures rows { IfOk result
         (λ rows. (texts : List (List ℕ)) × ReadWhole I.gave trace_fault MAX_LINE input.old input.new texts
-        × AreSwept timings.now (swept tool.now) (requests_of texts) rows.items) }
-    ensures fault { IfErr result (SweepFails I.gave I.failed tool.now input.old input.new) }
+        × AreSwept timings.now (swept sizes.now registers.now) (requests_of texts) rows.items) }
+    ensures fault { IfErr result (SweepFails I.gave I.failed (swept sizes.now registers.now) input.old input.new) }
 {
     let requests = read_requests(alloc, input)?;
-    let rows = sweep_each(rt, alloc, &swept_shapes(tool), timings, requests.as_slice())?;
+    let machines = swept_machines(alloc, sizes, registers)?;
+    let rows = sweep_each(rt, alloc, machines.as_slice(), timings, requests.as_slice())?;
     Ok(rows)
 }

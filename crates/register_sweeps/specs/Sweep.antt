@@ -1,6 +1,9 @@
 -- What a sweep counts, over the walk of the machine.
 use Rattle.std.specs.Prelude.{⊤, ℕ, zero, suc, ◌≡◌, ◌<◌, ◌+◌, ◌-◌, Bool, if◌then◌else◌, List, [], ◌∷◌, ◌++◌, length, slice_index_or, codes, decimal, Option, Some, None}
+use Rattle.std.specs.List.{All}
 use Rattle.std.specs.Option.{option_map, option_or}
+use Rattle.cache_unit.specs.Limits.{bad_field}
+use Rattle.cache_unit.specs.declared.Sizes.{Sizes}
 use Rattle.flat_model.specs.Causes.{ends_request}
 use Rattle.flat_model.specs.declared.Event.{Event}
 use Rattle.flat_model.specs.declared.Answer.{Answer}
@@ -15,11 +18,9 @@ use Rattle.memory_images.specs.declared.image.Image.TheVariants.{Zeros}
 use Rattle.machine_core.specs.Machine.{MachineState, opening}
 use Rattle.machine_core.specs.AnyMachine.{answered, after_event, pump_tells, pump_leaves, weight_of}
 use Rattle.round_driver.specs.Rounds.{is_end}
-use Rattle.shape_files.specs.declared.shape_file.ToolShape.{ToolShape}
 use Rattle.register_sweeps.specs.declared.row.Row.{Row}
 use Rattle.register_sweeps.specs.declared.sweeps.SweepFault.{SweepFault}
 use Rattle.register_sweeps.specs.declared.sweeps.SweepFault.TheVariants.{BadShape, TurnLimit, OutOfMemory}
-use Rattle.shape_files.specs.ShapeFile.{sizes_of, bad_field}
 
 -- ---- the counts
 
@@ -84,7 +85,7 @@ pump_times (suc n) c = pump_times n (pump_once c)
 abbrev pub run_dry : Course → Course
 run_dry c = pump_times (weight_of c.state) c
 
--- ---- the row of a machine
+-- ---- the row from a machine's state
 
 abbrev pub empty_row : ℕ → Row
 empty_row regs = record { regs = regs; accepted = 0; denied = 0; stalled = 0; waited = 0; pumps = 0; values = 0 }
@@ -96,18 +97,18 @@ total row = row.accepted + (row.denied + (row.stalled + (row.waited + (row.pumps
 abbrev pub row_from : MachineState → ℕ → List Event → Row
 row_from s regs events = (run_dry (serve_all events (course s (empty_row regs)))).row
 
--- ---- the row of a shape
+-- ---- the row of a machine's numbers
 
--- a new machine of the shape, over an image
-abbrev pub machine_over : Image → ToolShape → MachineState
-machine_over image t = record { sizes = sizes_of t; machine = opening (sizes_of t) (memory_from image t.shape.words) }
+-- a new machine of these numbers, over an image
+abbrev pub machine_over : Image → Sizes → MachineState
+machine_over image z = record { sizes = z; machine = opening z (memory_from image z.words) }
 
 -- over zeros
-abbrev pub new_machine : ToolShape → MachineState
-new_machine t = machine_over Zeros t
+abbrev pub new_machine : Sizes → MachineState
+new_machine z = machine_over Zeros z
 
-abbrev pub row_of : List Event → ToolShape → Row
-row_of events t = row_from (new_machine t) t.regs events
+abbrev pub row_of : List Event → Sizes → Row
+row_of events z = row_from (new_machine z) z.regs events
 
 -- ---- what a row counts
 
@@ -120,24 +121,24 @@ abbrev pub accepted_loads : List Event → Course → ℕ
 accepted_loads [] c = 0
 accepted_loads (event ∷ events) c = loads_between event c.row (serve event c).row + accepted_loads events (serve event c)
 
-abbrev pub new_course : ToolShape → Course
-new_course t = course (new_machine t) (empty_row t.regs)
+abbrev pub new_course : Sizes → Course
+new_course z = course (new_machine z) (empty_row z.regs)
 
--- where the row of a shape ends
-abbrev pub end_of : List Event → ToolShape → Course
-end_of events t = run_dry (serve_all events (new_course t))
+-- where the row of a machine ends
+abbrev pub end_of : List Event → Sizes → Course
+end_of events z = run_dry (serve_all events (new_course z))
 
 -- each request is counted once, as accepted or denied, each accepted load has its value, and no pump
 -- finds anything left to do
-pub record CountsAll (events : List Event) (t : ToolShape) (row : Row) : Type 0 where
+pub record CountsAll (events : List Event) (z : Sizes) (row : Row) : Type 0 where
   pub each_ends : row.accepted + row.denied ≡ length events
-  pub each_is_paid : row.values ≡ accepted_loads events (new_course t)
-  pub nothing_left : pump_tells (end_of events t).state ≡ None
+  pub each_is_paid : row.values ≡ accepted_loads events (new_course z)
+  pub nothing_left : pump_tells (end_of events z).state ≡ None
 
--- each row counts all requests of its shape
-abbrev pub EachCountsAll : List Event → List ToolShape → List Row → Type 0
-EachCountsAll events shapes rows =
-    (i : ℕ) (t : ToolShape) (row : Row) → i < length shapes → CountsAll events (slice_index_or shapes i t) (slice_index_or rows i row)
+-- each row counts all requests on its machine
+abbrev pub EachCountsAll : List Event → List Sizes → List Row → Type 0
+EachCountsAll events machines rows =
+    (i : ℕ) (z : Sizes) (row : Row) → i < length machines → CountsAll events (slice_index_or machines i z) (slice_index_or rows i row)
 
 -- a count behind its name
 abbrev pub count_text : List ℕ → ℕ → List ℕ
@@ -154,16 +155,22 @@ abbrev pub row_text : Row → List ℕ
 row_text row =
     codes "regs " ++ decimal row.regs ++ requests_text row ++ work_text row
 
--- the first shape with a bad field, counted from a place on, and that field
-abbrev pub bad_from : ℕ → List ToolShape → Option (ℕ × ShapeField)
-bad_from place [] = None
-bad_from place (t ∷ ts) = option_or (option_map (λ field. (place, field)) (bad_field t)) (bad_from (place + 1) ts)
+-- Of shapes, or of machines, by what is out of its range in one.
+module _ {S : Type 0} (bad : S → Option ShapeField) where
+  -- the first with a number out of its range, counted from a place on, and that number
+  abbrev pub bad_from : ℕ → List S → Option (ℕ × ShapeField)
+  bad_from place [] = None
+  bad_from place (s ∷ ss) = option_or (option_map (λ field. (place, field)) (bad s)) (bad_from (place + 1) ss)
 
--- what each fault of a sweep says of the shapes
-abbrev pub FaultSays : List ToolShape → SweepFault → Type 0
-FaultSays shapes (BadShape place field) = bad_from 0 shapes ≡ Some (place, field)
-FaultSays shapes TurnLimit = bad_from 0 shapes ≡ None
-FaultSays shapes OutOfMemory = bad_from 0 shapes ≡ None
+  -- what each fault of a sweep says of them
+  abbrev pub FaultSays : List S → SweepFault → Type 0
+  FaultSays ss (BadShape place field) = bad_from 0 ss ≡ Some (place, field)
+  FaultSays ss TurnLimit = bad_from 0 ss ≡ None
+  FaultSays ss OutOfMemory = bad_from 0 ss ≡ None
+
+-- no number of these machines is out of its range
+abbrev pub AreGood : List Sizes → Type 0
+AreGood machines = All (λ z. bad_field z ≡ None) machines
 
 -- a fault as it is told
 abbrev pub sweep_fault_text : SweepFault → List ℕ

@@ -1,9 +1,10 @@
-//! Machines of the shapes that a shape file may say, and sweeps over them: what requests wait for with
-//! several numbers of registers.
+//! Machines of the numbers that a shape file or a machine file may say, and sweeps over them: what requests
+//! wait for with several numbers of registers.
 //!
-//! [`new_machine`] makes the machine of a shape over an image. [`sweep_row`] gives the counts of one shape, and [`sweep`] those of several, each made
-//! by a thread of its own. [`sweep_rounds`] gives their tables, each of a machine that is driven in
-//! rounds with a latency of memory, where `sweep` pumps.
+//! [`new_machine`] makes a machine over an image. [`sweep_row`] gives the counts of one shape, [`sweep`] those of
+//! several, each made by a thread of its own, and [`sweep_machines`] those of machines of any numbers.
+//! [`sweep_rounds`] gives their tables, each of a machine that is driven in rounds with a latency of memory, where
+//! these pump.
 #![tactic(auto)]
 
 mod machines;
@@ -15,4 +16,4 @@ mod threads;
 pub use machines::new_machine;
 pub use rounds::{RoundsRow, rounds_table, sweep_rounds};
 pub use row::Row;
-pub use sweeps::{OpenGate, SweepFault, SweepGate, sweep, sweep_row};
+pub use sweeps::{OpenGate, SweepFault, SweepGate, sweep, sweep_machines, sweep_row};

@@ -1,21 +1,21 @@
 //! The rows of a sweep in rounds: a machine is driven with times of memory, and its table counted.
 
 ghost use Rattle.std.specs.Prelude.{◌≡◌, ◌≤◌, length, map, Some, None, IfOk, IfErr, OnOk};
+ghost use Rattle.cache_unit.specs.Limits.{bad_field};
 ghost use Rattle.round_driver.specs.declared.driving.TheConstants.{MOST_LATENCY};
 ghost use Rattle.round_driver.specs.Rounds.{most_requests};
 ghost use Rattle.round_driver.specs.Tables.{table_of};
 ghost use Rattle.round_driver.specs.Walks.{RequestsEnd};
-ghost use Rattle.shape_files.specs.ShapeFile.{bad_field};
 ghost use Rattle.register_sweeps.specs.Sweep.{FaultSays, bad_from, machine_over};
 ghost use Rattle.register_sweeps.specs.Rounds.{RunEnds, EachRunEnds, rounds_row_of, rounds_row_text};
 
 use crate::machines::new_machine;
 use crate::sweeps::{SweepFault, SweepGate};
-use crate::threads::{RowMaker, rows_on_threads};
+use crate::threads::{RowMaker, all_good, rows_on_threads};
+use cache_unit::Sizes;
 use flat_model::Event;
 use memory_images::Image;
 use round_driver::{Table, Timing, summarize_with};
-use shape_files::ToolShape;
 use std::alloc::{AllocError, Global};
 use std::fmt;
 use std::thread::Threads;
@@ -38,29 +38,29 @@ impl fmt::Display for RoundsRow {
     }
 }
 
-/// The table of requests that are driven in rounds through a new machine of a shape whose fields are
-/// in range, over an image, as [`summarize_with`] counts it. The run is over in time.
+/// The table of requests that are driven in rounds through a new machine of numbers that are in their
+/// ranges, over an image, as [`summarize_with`] counts it. The run is over in time.
 ///
 /// `AllocError` says that there was too little memory.
 pub fn rounds_table(
     alloc: Global,
-    tool: &ToolShape,
+    sizes: &Sizes,
     image: &Image,
     timing: Timing,
     requests: &[Event],
 ) -> Result<Table, AllocError>
-    requires shape { bad_field tool.now ≡ None }
+    requires sizes { bad_field sizes.now ≡ None }
     requires latency { timing.latency ≤ MOST_LATENCY }
     requires requests { length requests.now ≤ most_requests }
     ensures table { IfOk result
-        (λ table. table ≡ table_of timing (machine_over image.now tool.now) requests.now) }
-    ensures over { OnOk result (RequestsEnd timing (machine_over image.now tool.now) requests.now) }
+        (λ table. table ≡ table_of timing (machine_over image.now sizes.now) requests.now) }
+    ensures over { OnOk result (RequestsEnd timing (machine_over image.now sizes.now) requests.now) }
 {
-    let mut machine = new_machine(alloc, tool, image)?;
+    let mut machine = new_machine(alloc, sizes, image)?;
     summarize_with(alloc, &mut machine, timing, requests)
 }
 
-// What makes the row of these requests for each shape, with these times of memory.
+// What makes the row of these requests for each machine, with these times of memory.
 #[derive(Drop)]
 struct RoundsRows<'a> {
     timing: Timing,
@@ -72,43 +72,44 @@ impl RowMaker for RoundsRows<'_> {
 
     ghost can = { λ s. (s.timing.latency ≤ MOST_LATENCY) × (length s.requests.now ≤ most_requests) };
 
-    ghost gives = { λ s tool. rounds_row_of s.timing s.requests.now tool };
+    ghost gives = { λ s sizes. rounds_row_of s.timing s.requests.now sizes };
 
-    ghost shows = { λ s tool. RunEnds s.timing s.requests.now tool };
+    ghost shows = { λ s sizes. RunEnds s.timing s.requests.now sizes };
 
-    fn make_row(&self, alloc: Global, tool: &ToolShape) -> Result<RoundsRow, AllocError> {
-        let table = rounds_table(alloc, tool, &Image::Zeros, self.timing, self.requests)?;
+    fn make_row(&self, alloc: Global, sizes: &Sizes) -> Result<RoundsRow, AllocError> {
+        let table = rounds_table(alloc, sizes, &Image::Zeros, self.timing, self.requests)?;
         Ok(RoundsRow {
-            regs: tool.regs,
+            regs: sizes.regs,
             table,
         })
     }
 }
 
-/// The tables of these shapes, in their order, each by a thread of its own, so all at once: a new
-/// machine of the shape, over zeros, is driven in rounds, as [`rounds_table`] has it. Each run is over in
+/// The tables of machines of these numbers, in their order, each by a thread of its own, so all at once: a new
+/// machine, over zeros, is driven in rounds, as [`rounds_table`] has it. Each run is over in
 /// time.
 ///
 /// `timing` is as that of [`summarize_with`], with a latency of at most [`MOST_LATENCY`](round_driver::MOST_LATENCY).
 /// There may be at most 16,777,216 requests. Turns, gate and faults are those of
-/// [`sweep`](crate::sweep).
+/// [`sweep_machines`](crate::sweep_machines).
 pub fn sweep_rounds<R: Threads + Sync, G: SweepGate>(
     rt: &R,
     alloc: Global,
     timing: Timing,
     requests: &[Event],
-    shapes: &[ToolShape],
+    machines: &[Sizes],
     turns: u64,
     gate: &G,
 ) -> Result<Vec<RoundsRow>, SweepFault>
     requires latency { timing.latency ≤ MOST_LATENCY }
     requires requests { length requests.now ≤ most_requests }
     ensures rows { IfOk result
-        (λ rows. rows.items ≡ map (rounds_row_of timing requests.now) shapes.now) }
-    ensures over { OnOk result (EachRunEnds timing requests.now shapes.now) }
-    ensures good { OnOk result (bad_from 0 shapes.now ≡ None) }
-    ensures fault { IfErr result (FaultSays shapes.now) }
+        (λ rows. rows.items ≡ map (rounds_row_of timing requests.now) machines.now) }
+    ensures over { OnOk result (EachRunEnds timing requests.now machines.now) }
+    ensures good { OnOk result (bad_from bad_field 0 machines.now ≡ None) }
+    ensures fault { IfErr result (FaultSays bad_field machines.now) }
 {
+    all_good(machines)?;
     let maker = RoundsRows { timing, requests };
-    rows_on_threads(rt, alloc, &maker, shapes, turns, gate)
+    rows_on_threads(rt, alloc, &maker, machines, turns, gate)
 }

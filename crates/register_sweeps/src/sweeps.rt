@@ -1,16 +1,18 @@
-//! Sweeps: one row for each shape, each by a thread of its own.
+//! Sweeps: one row for each machine, each by a thread of its own.
 
 ghost use Rattle.std.specs.Prelude.{⊤, ◌≡◌, ◌≢◌, ◌∷◌, [], ◌≤◌, length, map, Some, None, Err, IfOk, IfErr, OnOk, true};
 ghost use Rattle.std.specs.List.{list_all};
 ghost use Rattle.round_driver.specs.Rounds.{most_requests};
 ghost use Rattle.round_driver.specs.Walks.{is_request};
 ghost use Rattle.register_sweeps.specs.declared.sweeps.SweepFault.TheVariants.{TurnLimit};
-ghost use Rattle.shape_files.specs.ShapeFile.{bad_field};
+ghost use Rattle.cache_unit.specs.Limits as limits;
+ghost use Rattle.shape_files.specs.ShapeFile.{bad_field, sizes_of};
 ghost use Rattle.register_sweeps.specs.Sweep.{FaultSays, CountsAll, EachCountsAll, bad_from, row_from, row_of, sweep_fault_text};
 
 use crate::machines::new_machine;
 use crate::row::{Row, row_from};
-use crate::threads::{RowMaker, rows_on_threads};
+use crate::threads::{RowMaker, all_good, rows_on_threads};
+use cache_unit::Sizes;
 use flat_model::{Event, MakeFault, ShapeField};
 use memory_images::Image;
 use shape_files::{ToolShape, bad_field};
@@ -22,10 +24,10 @@ use std::thread::Threads;
 /// Why a sweep gave no rows.
 #[derive(Clone, Copy, PartialEq, Eq, Debug)]
 pub enum SweepFault {
-    /// The first shape, counted from 0, that has a field out of its range, and the first such
-    /// field. It is found before any thread begins.
+    /// The first shape or machine, counted from 0, that has a number out of its range, and the first such
+    /// number. It is found before any thread begins.
     BadShape { place: usize, field: ShapeField },
-    /// The thread of a shape used up its turns before its gate let it begin.
+    /// The thread of a row used up its turns before its gate let it begin.
     TurnLimit,
     /// There was too little memory.
     OutOfMemory,
@@ -62,7 +64,7 @@ impl From<AllocError> for SweepFault {
 
 /// Says when the rows of a sweep may begin, and is told when they have ended.
 pub trait SweepGate: Sync {
-    /// Whether the thread of the shape at this place may begin its row. It asks once in each turn.
+    /// Whether the thread of the row at this place may begin it. It asks once in each turn.
     fn may(&self, place: usize) -> bool;
 
     /// The row at this place has ended.
@@ -83,17 +85,17 @@ impl SweepGate for OpenGate {
     fn ended(&self, _place: usize) {}
 }
 
-// The row of a shape whose fields are in range.
-fn row_of(alloc: Global, tool: &ToolShape, events: &[Event]) -> Result<Row, AllocError>
+// The row of a machine whose numbers are in their ranges.
+fn row_of(alloc: Global, sizes: &Sizes, events: &[Event]) -> Result<Row, AllocError>
     requires events { length events.now ≤ most_requests }
-    requires shape { bad_field tool.now ≡ None }
-    ensures { IfOk result (λ row. row ≡ row_of events.now tool.now) }
+    requires sizes { limits.bad_field sizes.now ≡ None }
+    ensures { IfOk result (λ row. row ≡ row_of events.now sizes.now) }
 {
-    let mut machine = new_machine(alloc, tool, &Image::Zeros)?;
-    Ok(row_from(&mut machine, tool.regs, events))
+    let mut machine = new_machine(alloc, sizes, &Image::Zeros)?;
+    Ok(row_from(&mut machine, sizes.regs, events))
 }
 
-// What makes the row of these requests for each shape.
+// What makes the row of these requests for each machine.
 #[derive(Drop)]
 struct PumpedRows<'a> {
     events: &'a [Event],
@@ -104,12 +106,12 @@ impl RowMaker for PumpedRows<'_> {
 
     ghost can = { λ s. length s.events.now ≤ most_requests };
 
-    ghost gives = { λ s tool. row_of s.events.now tool };
+    ghost gives = { λ s sizes. row_of s.events.now sizes };
 
-    ghost shows = { λ s tool. ⊤ };
+    ghost shows = { λ s sizes. ⊤ };
 
-    fn make_row(&self, alloc: Global, tool: &ToolShape) -> Result<Row, AllocError> {
-        row_of(alloc, tool, self.events)
+    fn make_row(&self, alloc: Global, sizes: &Sizes) -> Result<Row, AllocError> {
+        row_of(alloc, sizes, self.events)
     }
 }
 
@@ -124,28 +126,60 @@ impl RowMaker for PumpedRows<'_> {
 pub fn sweep_row(alloc: Global, shape: &ToolShape, events: &[Event]) -> Result<Row, SweepFault>
     requires { length events.now ≤ most_requests }
     ensures row { IfOk result
-        (λ row. (bad_field shape.now ≡ None) × (row ≡ row_of events.now shape.now)) }
+        (λ row. (bad_field shape.now ≡ None) × (row ≡ row_of events.now (sizes_of shape.now))) }
     ensures counts { IfOk result
-        (λ row. list_all is_request events.now ≡ true → CountsAll events.now shape.now row) }
-    ensures fault { IfErr result (FaultSays (shape.now ∷ [])) }
+        (λ row. list_all is_request events.now ≡ true → CountsAll events.now (sizes_of shape.now) row) }
+    ensures fault { IfErr result (FaultSays bad_field (shape.now ∷ [])) }
     ensures no_turns { result ≢ Err TurnLimit }
 {
     if let Some(field) = bad_field(shape) {
         return Err(SweepFault::BadShape { place: 0, field });
     }
-    Ok(row_of(alloc, shape, events)?)
+    Ok(row_of(alloc, &shape.sizes(), events)?)
 }
 
-/// The rows of these shapes, in their order, each by a thread of its own, so all at once.
+// The machines of these shapes, whose fields are in range.
+fn machines_of(alloc: Global, shapes: &[ToolShape]) -> Result<Vec<Sizes>, AllocError>
+    ensures { IfOk result (λ machines. machines.items ≡ map sizes_of shapes.now) }
+{
+    let mut machines = Vec::new(alloc);
+    for shape in shapes {
+        machines.push(shape.sizes())?;
+    }
+    Ok(machines)
+}
+
+/// The rows of machines of these numbers, in their order, each by a thread of its own, so all at once.
 ///
-/// The thread of the shape at a place has `turns` turns. In each it asks the gate whether it may
-/// begin; once it may, it makes its row as `sweep_row` does, and tells the gate that it has ended.
-/// There may be at most 16,777,216 events, as for `sweep_row`.
+/// The thread of the row at a place has `turns` turns. In each it asks the gate whether it may
+/// begin; once it may, it makes its row as [`sweep_row`] does, and tells the gate that it has ended.
+/// There may be at most 16,777,216 events, as for [`sweep_row`].
 ///
-/// `BadShape` names the first shape with a field out of its range, and the first such field, before
+/// `BadShape` names the first machine with a number out of its range, and the first such number, before
 /// any thread begins. `OutOfMemory` says that there was too little memory, and goes before
 /// `TurnLimit`, which says that a thread used up its turns before its gate let it begin. A fault
 /// gives no row, and all threads have ended then.
+pub fn sweep_machines<R: Threads + Sync, G: SweepGate>(
+    rt: &R,
+    alloc: Global,
+    events: &[Event],
+    machines: &[Sizes],
+    turns: u64,
+    gate: &G,
+) -> Result<Vec<Row>, SweepFault>
+    requires { length events.now ≤ most_requests }
+    ensures rows { IfOk result (λ rows. rows.items ≡ map (row_of events.now) machines.now) }
+    ensures counts { IfOk result
+        (λ rows. list_all is_request events.now ≡ true → EachCountsAll events.now machines.now rows.items) }
+    ensures good { OnOk result (bad_from limits.bad_field 0 machines.now ≡ None) }
+    ensures fault { IfErr result (FaultSays limits.bad_field machines.now) }
+{
+    all_good(machines)?;
+    rows_on_threads(rt, alloc, &PumpedRows { events }, machines, turns, gate)
+}
+
+/// The rows of the machines of these shapes, in their order, as [`sweep_machines`] makes them. Its faults are
+/// those of [`sweep_machines`], where a shape's fields have the ranges of a shape file.
 pub fn sweep<R: Threads + Sync, G: SweepGate>(
     rt: &R,
     alloc: Global,
@@ -155,11 +189,21 @@ pub fn sweep<R: Threads + Sync, G: SweepGate>(
     gate: &G,
 ) -> Result<Vec<Row>, SweepFault>
     requires { length events.now ≤ most_requests }
-    ensures rows { IfOk result (λ rows. rows.items ≡ map (row_of events.now) shapes.now) }
+    ensures rows { IfOk result (λ rows. rows.items ≡ map (row_of events.now) (map sizes_of shapes.now)) }
     ensures counts { IfOk result
-        (λ rows. list_all is_request events.now ≡ true → EachCountsAll events.now shapes.now rows.items) }
-    ensures good { OnOk result (bad_from 0 shapes.now ≡ None) }
-    ensures fault { IfErr result (FaultSays shapes.now) }
+        (λ rows. list_all is_request events.now ≡ true
+        → EachCountsAll events.now (map sizes_of shapes.now) rows.items) }
+    ensures good { OnOk result (bad_from bad_field 0 shapes.now ≡ None) }
+    ensures fault { IfErr result (FaultSays bad_field shapes.now) }
 {
-    rows_on_threads(rt, alloc, &PumpedRows { events }, shapes, turns, gate)
+    all_good(shapes)?;
+    let machines = machines_of(alloc, shapes)?;
+    rows_on_threads(
+        rt,
+        alloc,
+        &PumpedRows { events },
+        machines.as_slice(),
+        turns,
+        gate,
+    )
 }

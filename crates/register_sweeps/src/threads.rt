@@ -1,22 +1,25 @@
-//! A row for each shape, each by a thread of its own.
+//! A row for each machine, each by a thread of its own.
 
-ghost use Rattle.std.specs.Prelude.{◌≡◌, ℕ, ◌<◌, length, map, Result, None, Ok, Err, IfOk, IfErr, OnOk, slice_index_or, true};
+ghost use Rattle.std.specs.Prelude.{◌≡◌, ℕ, ◌<◌, length, map, Option, Result, None, Ok, Err, IfOk, IfErr, OnOk, slice_index_or, true};
 ghost use Rattle.std.specs.List.{All, list_any};
 ghost use Rattle.register_sweeps.specs.declared.sweeps.SweepFault.TheVariants.{OutOfMemory};
 ghost use Rattle.register_sweeps.specs.declared.threads.Stop.{Stop};
-ghost use Rattle.shape_files.specs.declared.shape_file.ToolShape.{ToolShape};
-ghost use Rattle.shape_files.specs.ShapeFile.{bad_field};
-ghost use Rattle.register_sweeps.specs.Sweep.{FaultSays, IsStop, bad_from};
+ghost use Rattle.cache_unit.specs.Limits.{bad_field};
+ghost use Rattle.cache_unit.specs.declared.Sizes.{Sizes as SizesValue};
+ghost use Rattle.flat_model.specs.declared.ShapeField.{ShapeField as Field};
+ghost use Rattle.shape_files.specs.ShapeFile.{bad_field as bad_shape};
+ghost use Rattle.register_sweeps.specs.Sweep.{AreGood, FaultSays, IsStop, bad_from};
 ghost use Rattle.register_sweeps.specs.Threads.{lacks_memory};
 
 use crate::sweeps::{SweepFault, SweepGate};
+use cache_unit::Sizes;
 use flat_model::ShapeField;
-use shape_files::{ToolShape, bad_field};
+use shape_files::{ToolShape, bad_field, bad_number};
 use std::alloc::{AllocError, Global};
 use std::thread;
 use std::thread::Threads;
 
-// What makes a row of a shape.
+// What makes a row of a machine.
 pub(crate) trait RowMaker: Sync {
     // A row.
     type Row: Copy + Send;
@@ -24,17 +27,17 @@ pub(crate) trait RowMaker: Sync {
     // Whether it can be made.
     ghost can: { Self → Type 0 };
 
-    // The row of a shape.
-    ghost gives: { Self → ToolShape → Self.Row };
+    // The row of a machine.
+    ghost gives: { Self → SizesValue → Self.Row };
 
-    // What a row that was made shows of its shape.
-    ghost shows: { Self → ToolShape → Type 0 };
+    // What a row that was made shows of its machine.
+    ghost shows: { Self → SizesValue → Type 0 };
 
-    // Makes the row of a shape whose fields are in range.
-    fn make_row(&self, alloc: Global, tool: &ToolShape) -> Result<Self::Row, AllocError>
+    // Makes the row of a machine whose numbers are in their ranges.
+    fn make_row(&self, alloc: Global, sizes: &Sizes) -> Result<Self::Row, AllocError>
         requires can { can self.now }
-        requires shape { bad_field tool.now ≡ None }
-        ensures { IfOk result (λ row. (row ≡ gives self.now tool.now) × shows self.now tool.now) };
+        requires sizes { bad_field sizes.now ≡ None }
+        ensures { IfOk result (λ row. (row ≡ gives self.now sizes.now) × shows self.now sizes.now) };
 }
 
 // Why a thread gave no row.
@@ -50,37 +53,62 @@ impl From<AllocError> for Stop {
     }
 }
 
-// The first shape with a bad field, and that field.
-fn first_bad(shapes: &[ToolShape]) -> Option<(usize, ShapeField)>
-    ensures first { result ≡ bad_from 0 shapes.now }
-    ensures good { result ≡ None → (i : ℕ) (d : ToolShape) → i < length shapes.now
-        → bad_field (slice_index_or shapes.now i d) ≡ None }
-{
-    for (place, shape) in shapes.iter().enumerate() {
-        if let Some(field) = bad_field(shape) {
-            return Some((place, field));
-        }
-    }
-    None
+// What may have a number out of its range: a shape of the program, or a machine.
+pub(crate) trait Ranged {
+    // The first such number.
+    ghost bad: { Self → Option Field };
+
+    // The first such number.
+    fn bad(&self) -> Option<ShapeField>
+        ensures { result ≡ bad self.now };
 }
 
-// The row of a shape, once its gate lets it begin.
+impl Ranged for ToolShape {
+    ghost bad = { λ shape. bad_shape shape };
+
+    fn bad(&self) -> Option<ShapeField> {
+        bad_field(self)
+    }
+}
+
+impl Ranged for Sizes {
+    ghost bad = { λ sizes. bad_field sizes };
+
+    fn bad(&self) -> Option<ShapeField> {
+        bad_number(self)
+    }
+}
+
+// Sees that no number of these is out of its range. The first that is is told, with its place.
+pub(crate) fn all_good<S: Ranged>(all: &[S]) -> Result<(), SweepFault>
+    ensures good { OnOk result (bad_from S.bad 0 all.now ≡ None) }
+    ensures fault { IfErr result (FaultSays S.bad all.now) }
+{
+    for (place, one) in all.iter().enumerate() {
+        if let Some(field) = one.bad() {
+            return Err(SweepFault::BadShape { place, field });
+        }
+    }
+    Ok(())
+}
+
+// The row of a machine, once its gate lets it begin.
 fn row_in_turn<K: RowMaker, G: SweepGate>(
     alloc: Global,
     maker: &K,
     place: usize,
-    shape: &ToolShape,
+    sizes: &Sizes,
     turns: u64,
     gate: &G,
 ) -> Result<K::Row, Stop>
     requires can { K.can maker.now }
-    requires shape { bad_field shape.now ≡ None }
+    requires sizes { bad_field sizes.now ≡ None }
     ensures { IfOk result
-        (λ row. (row ≡ K.gives maker.now shape.now) × K.shows maker.now shape.now) }
+        (λ row. (row ≡ K.gives maker.now sizes.now) × K.shows maker.now sizes.now) }
 {
     for _turn in 0..turns {
         if gate.may(place) {
-            let row = maker.make_row(alloc, shape);
+            let row = maker.make_row(alloc, sizes);
             gate.ended(place);
             return Ok(row?);
         }
@@ -88,38 +116,35 @@ fn row_in_turn<K: RowMaker, G: SweepGate>(
     Err(Stop::TurnLimit)
 }
 
-// What the threads of these shapes answer, one for each.
+// What the threads of these machines answer, one for each.
 fn all_answers<R: Threads + Sync, K: RowMaker, G: SweepGate>(
     rt: &R,
     alloc: Global,
     maker: &K,
-    shapes: &[ToolShape],
+    machines: &[Sizes],
     turns: u64,
     gate: &G,
 ) -> Result<Vec<Result<K::Row, Stop>>, AllocError>
     requires can { K.can maker.now }
-    requires shapes { (i : ℕ) (t : ToolShape) → i < length shapes.now
-        → bad_field (slice_index_or shapes.now i t) ≡ None }
-    ensures len { IfOk result (λ v. length v.items ≡ length shapes.now) }
+    requires good { AreGood machines.now }
+    ensures len { IfOk result (λ v. length v.items ≡ length machines.now) }
     ensures each { IfOk result
-        (λ v. (i : ℕ) (d : Result K.Row Stop) (t : ToolShape) → i < length shapes.now
+        (λ v. (i : ℕ) (d : Result K.Row Stop) (z : SizesValue) → i < length machines.now
         → IfOk (slice_index_or v.items i d)
-        (λ row. (row ≡ K.gives maker.now (slice_index_or shapes.now i t))
-        × K.shows maker.now (slice_index_or shapes.now i t))) }
+        (λ row. (row ≡ K.gives maker.now (slice_index_or machines.now i z))
+        × K.shows maker.now (slice_index_or machines.now i z))) }
 {
     thread::map_indices(
         rt,
         alloc,
-        shapes.len(),
+        machines.len(),
         &|place: usize| -> Result<K::Row, Stop>
-            requires { (place < length shapes.now) × K.can maker.now
-                × ((i : ℕ) (t : ToolShape) → i < length shapes.now
-                → bad_field (slice_index_or shapes.now i t) ≡ None) }
-            ensures { (t : ToolShape)
+            requires { (place < length machines.now) × K.can maker.now × AreGood machines.now }
+            ensures { (z : SizesValue)
                 → IfOk result (λ row.
-                (row ≡ K.gives maker.entry.now (slice_index_or shapes.entry.now place t))
-                × K.shows maker.entry.now (slice_index_or shapes.entry.now place t)) }
-        { row_in_turn(alloc, maker, place, &shapes[place], turns, gate) },
+                (row ≡ K.gives maker.entry.now (slice_index_or machines.entry.now place z))
+                × K.shows maker.entry.now (slice_index_or machines.entry.now place z)) }
+        { row_in_turn(alloc, maker, place, &machines[place], turns, gate) },
     )
 }
 
@@ -153,24 +178,21 @@ fn all_rows<A: Copy>(alloc: Global, answers: &[Result<A, Stop>]) -> Result<Vec<A
     Ok(rows)
 }
 
-// The rows of these shapes, in their order.
+// The rows of these machines, in their order.
 pub(crate) fn rows_on_threads<R: Threads + Sync, K: RowMaker, G: SweepGate>(
     rt: &R,
     alloc: Global,
     maker: &K,
-    shapes: &[ToolShape],
+    machines: &[Sizes],
     turns: u64,
     gate: &G,
 ) -> Result<Vec<K::Row>, SweepFault>
-    requires { K.can maker.now }
-    ensures rows { IfOk result (λ rows. rows.items ≡ map (K.gives maker.now) shapes.now) }
-    ensures shown { OnOk result (All (K.shows maker.now) shapes.now) }
-    ensures good { OnOk result (bad_from 0 shapes.now ≡ None) }
-    ensures fault { IfErr result (FaultSays shapes.now) }
+    requires can { K.can maker.now }
+    requires good { AreGood machines.now }
+    ensures rows { IfOk result (λ rows. rows.items ≡ map (K.gives maker.now) machines.now) }
+    ensures shown { OnOk result (All (K.shows maker.now) machines.now) }
+    ensures fault { IfErr result IsStop }
 {
-    if let Some((place, field)) = first_bad(shapes) {
-        return Err(SweepFault::BadShape { place, field });
-    }
-    let answers = all_answers(rt, alloc, maker, shapes, turns, gate)?;
+    let answers = all_answers(rt, alloc, maker, machines, turns, gate)?;
     all_rows(alloc, answers.as_slice())
 }

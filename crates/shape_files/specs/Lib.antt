@@ -1,1 +1,2 @@
 pub mod ShapeFile
+pub mod MachineFile

@@ -1,8 +1,11 @@
-//! Shape files: the numbers of a machine that the program makes, as a TOML table of whole numbers.
+//! The files that say a machine's numbers, each a TOML table of whole numbers: a shape file, for the machines whose
+//! words of a block and places of the stack are fixed, and a machine file, for all that there are.
 #![tactic(auto)]
 
+mod machine_file;
 mod shape_file;
 
+pub use machine_file::{MACHINE_FIELDS, MachineFault, bad_number, machine_of_table, read_machine};
 pub use shape_file::{
     BLOCK_WORDS, DEFAULT_SHAPE, DEPTH, MOST_WAYS, REGISTER_COUNTS, ShapeFault, ToolShape,
     bad_field, read_shape, shape_of_table,

@@ -1,6 +1,7 @@
 //! The shape file: the numbers of a machine, as a TOML table.
 
-ghost use Rattle.std.specs.Prelude.{◌≡◌, ◌≢◌, Err};
+ghost use Rattle.std.specs.Prelude.{◌≡◌, ◌≢◌, Err, None};
+ghost use Rattle.cache_unit.specs.Limits as limits;
 ghost use Rattle.toml.specs.Data.{get_member};
 ghost use Rattle.toml.specs.Errors.{IsBlank};
 ghost use Rattle.toml.specs.Parse.{parse_document};
@@ -53,9 +54,11 @@ pub struct ToolShape {
 }
 
 impl ToolShape {
-    /// All numbers of the machine that is made of it.
+    /// All numbers of the machine that is made of it. If no field of the shape is out of its range, none of
+    /// these is.
     pub fn sizes(&self) -> Sizes
-        ensures { result ≡ sizes_of self.now }
+        ensures sizes { result ≡ sizes_of self.now }
+        ensures good { bad_field self.now ≡ None → limits.bad_field result ≡ None }
     {
         Sizes {
             ways: self.ways,
@@ -120,7 +123,7 @@ impl fmt::Display for ShapeFault {
 }
 
 // The key of a number in a shape file. The last five have none there.
-fn key_of(field: ShapeField) -> &'static str
+pub(crate) fn key_of(field: ShapeField) -> &'static str
     ensures { result.now ≡ key_of field }
 {
     match field {
@@ -212,7 +215,7 @@ fn has_other_key(table: &Table) -> bool
 }
 
 // What stands at a key: nothing, a whole number, or (`Some(None)`) something else.
-fn integer_at(table: &Table, key: &str) -> Option<Option<i64>>
+pub(crate) fn integer_at(table: &Table, key: &str) -> Option<Option<i64>>
     ensures { result ≡ integer_at key.now (table_view table.now) }
 {
     match table.get(key) {
@@ -292,7 +295,7 @@ pub fn bad_field(tool: &ToolShape) -> Option<ShapeField>
 }
 
 // A number as 32 bits have it. One that they haven't is out of every range, as the largest is.
-fn fitted(number: i64) -> u32
+pub(crate) fn fitted(number: i64) -> u32
     ensures { result ≡ fitted number }
 {
     if 0 <= number && number <= u32::MAX as i64 {

@@ -47,14 +47,14 @@ fn a_sweep_may_find_no_memory(rt: HostRuntime) -> Result<(), Fail> {
 
 #[test]
 fn a_sweep_in_rounds_may_find_no_memory(rt: HostRuntime) -> Result<(), Fail> {
-    let shapes = [with_registers(1), with_registers(2)];
+    let machines = [with_registers(1).sizes(), with_registers(2).sizes()];
     let timing = Timing::unpipelined(10);
     match sweep_rounds(
         &rt,
         rt.alloc(),
         timing,
         &REQUESTS,
-        &shapes,
+        &machines,
         1_000,
         &OpenGate,
     ) {

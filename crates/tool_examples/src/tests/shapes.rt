@@ -1,8 +1,11 @@
-//! What shape texts, and a table, are read as.
+//! What shape texts, machine texts and tables are read as.
 
 use super::sweeps::with_registers;
 use flat_model::{Shape, ShapeField};
-use shape_files::{ShapeFault, ToolShape, read_shape, shape_of_table};
+use shape_files::{
+    ShapeFault, ToolShape, machine_of_table, read_machine, read_shape,
+    shape_of_table,
+};
 use std::test::Fail;
 
 const SHAPE: Shape = Shape {
@@ -71,5 +74,48 @@ fn shape_texts(rt: HostRuntime) -> Result<(), Fail> {
     let mut long = "# one of many lines\n".repeat(alloc, 100_000)?;
     long.push_str("regs = 2\n")?;
     assert_eq!(rt; read_shape(alloc, long.as_str()), Ok(TWO_REGISTERS));
+    Ok(())
+}
+
+/// Texts of machine files that are refused, and what is told of them.
+const REFUSED: [(&str, &str); 8] = [
+    ("ways =", "machine: not TOML"),
+    ("regs = 4", "machine: unknown key regs"),
+    ("\"a\\nb\u{e9}\" = 1", "machine: unknown key a?b??"),
+    ("z = 1\ndepth = 4", "machine: unknown key depth"),
+    (
+        "words = 0\nstack = true",
+        "machine: stack is not a whole number",
+    ),
+    ("ways = 0\nblock_words = 0", "machine: block_words out of range: 1 to 16"),
+    (
+        "block_words = 3",
+        "machine: words out of range: 1 to 1048576, a multiple of block_words",
+    ),
+    (
+        "words = 4294967296",
+        "machine: words out of range: 1 to 1048576, a multiple of block_words",
+    ),
+];
+
+#[test]
+fn machine_texts(rt: HostRuntime) -> Result<(), Fail> {
+    let alloc = rt.alloc();
+    assert_eq!(rt; read_machine(alloc, "").ok(), Some(DEFAULTS.sizes()));
+    let table = toml::table_from_str(alloc, "registers = 2")?;
+    let two = machine_of_table(alloc, &table);
+    assert_eq!(rt; two.ok(), Some(TWO_REGISTERS.sizes()));
+    let six = read_machine(alloc, "registers = 6\nstack = 9\nblock_words = 8\nways = 3")?;
+    assert_eq!(rt; (six.regs, six.depth, six.block_words), (6, 9, 8));
+    assert_eq!(rt; (six.ways, six.words, six.shape()), (3, 64, SHAPE));
+    for (text, told) in REFUSED {
+        match read_machine(alloc, text) {
+            Ok(_) => assert_eq!(rt; "", told, "{text}"),
+            Err(fault) => {
+                let line = format!(in alloc; "{fault}")?;
+                assert_eq!(rt; line.as_str(), told);
+            }
+        }
+    }
     Ok(())
 }

@@ -1,7 +1,9 @@
 //! Sweeps on threads, in the order that a gate gives them, at their limits and at their largest sizes.
 
 use flat_model::Event;
-use register_sweeps::{OpenGate, Row, SweepFault, SweepGate, sweep, sweep_rounds, sweep_row};
+use register_sweeps::{
+    OpenGate, Row, SweepFault, SweepGate, sweep, sweep_machines, sweep_rounds, sweep_row,
+};
 use round_driver::Timing;
 use shape_files::{ToolShape, read_shape};
 use std::alloc::Global;
@@ -173,7 +175,12 @@ fn swept<R: Abort + AllocGlobal + Threads + Sync>(
     let alloc = rt.alloc();
     if in_rounds {
         let timing = Timing::unpipelined(10);
-        let rows = sweep_rounds(rt, alloc, timing, &REQUESTS, shapes, turns, gate);
+        let mut machines = Vec::new(alloc);
+        for shape in shapes {
+            machines.push(shape.sizes())?;
+        }
+        let machines = machines.as_slice();
+        let rows = sweep_rounds(rt, alloc, timing, &REQUESTS, machines, turns, gate);
         return text_of(alloc, rows);
     }
     text_of(alloc, sweep(rt, alloc, &REQUESTS, shapes, turns, gate))
@@ -187,6 +194,10 @@ fn sweeps_on_threads(rt: HostRuntime) -> Result<(), Fail> {
     let (one, second) = ([with_registers(1)], [with_registers(2)]);
     let both = [with_registers(1), with_registers(2)];
     let bad = [with_registers(1), three_ways];
+    // (a machine may have three ways, but not none)
+    let mut no_ways = with_registers(2);
+    no_ways.ways = 0;
+    let no_machine = [with_registers(1), no_ways];
     let none: [ToolShape; 0] = [];
     let (ways, limit) = ("shape 1: Ways is out of range", "turn limit");
     let sweeps: [(bool, Opens, &[ToolShape], u64, u64, &str); 13] = [
@@ -201,7 +212,7 @@ fn sweeps_on_threads(rt: HostRuntime) -> Result<(), Fail> {
         (true, Opens::SecondFirst, &one, 1_000, 0, limit),
         (false, Opens::AtOnce, &bad, 1_000, 0, ways),
         (false, Opens::AtOnce, &bad, 5_000_000, 0, ways),
-        (true, Opens::AtOnce, &bad, 1_000, 0, ways),
+        (true, Opens::AtOnce, &no_machine, 1_000, 0, ways),
         (false, Opens::AtOnce, &none, 5_000_000, 0, ""),
     ];
     for (in_rounds, opens, shapes, turns, seen, told) in sweeps {
@@ -235,7 +246,7 @@ const LAST_LOAD: Row = Row {
     values: 1,
 };
 
-/// Both calls of the library give this row: alone, and as one of two on threads.
+/// All calls of the library give this row: alone, as one of two on threads, and of the machine's numbers.
 #[test]
 fn rows_of_three_loads(rt: HostRuntime) -> Result<(), Fail> {
     for regs in [1, 2] {
@@ -243,6 +254,9 @@ fn rows_of_three_loads(rt: HostRuntime) -> Result<(), Fail> {
         assert_eq!(rt; sweep_row(rt.alloc(), &shape, &REQUESTS), Ok(row));
         let rows = sweep(&rt, rt.alloc(), &REQUESTS, &[shape, shape], 1, &OpenGate)?;
         assert_eq!(rt; rows.as_slice(), &[row, row][..]);
+        let machine = shape.sizes();
+        let rows = sweep_machines(&rt, rt.alloc(), &REQUESTS, &[machine], 1, &OpenGate)?;
+        assert_eq!(rt; rows.as_slice(), &[row][..]);
     }
     Ok(())
 }

@@ -6,5 +6,5 @@ returns-in_err-find_room-clause-ends g c =
     let told = c.from_residual-in_err-find_room in
     long_image g.I.Source.gave g.I.Source.failed g.O.Sink.took g.O.Sink.refused g.O.Sink.unflushed
     g.E.Sink.took g.E.Sink.refused g.E.Sink.unflushed c.args.asked
-    c.args.errors.now c.args.input.now c.args.output.now c.in_ok-shape.shape c.in_ok-image.image c.in_err-find_room.field-0.0
-    c.in_ok-shape.ensures.shape c.in_ok-image.ensures.image c.in_err-find_room.ensures.fault told.result told.ensures.1
+    c.args.errors.now c.args.input.now c.args.output.now c.in_ok-sizes.sizes c.in_ok-image.image c.in_err-find_room.field-0.0
+    c.in_ok-sizes.ensures.sizes c.in_ok-image.ensures.image c.in_err-find_room.ensures.fault told.result told.ensures.1

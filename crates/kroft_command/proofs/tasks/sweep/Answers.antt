@@ -1,5 +1,8 @@
-use Rattle.std.proofs.Common.{subst}
+use Rattle.std.proofs.Common.{ℕ, List, subst}
+use Rattle.kroft_jobs.specs.Jobs.{swept}
+use Rattle.round_driver.specs.declared.timing.Timing.{Timing}
 use Rattle.kroft_command.specs.Program.{Sweeps}
+use Rattle.kroft_command.specs.Tool.{timings_in}
 use Rattle.kroft_command.proofs.tasks.sweep.Goals as goal
 
 pub sweep_by-requires-clause-timely : goal.sweep_by-requires-clause-timely
@@ -13,6 +16,8 @@ returns-clause-ends g c =
     let refused = g.O.Sink.refused in
     let unflushed = g.O.Sink.unflushed in
     let done = c.sweep_by in
-    subst (λ ts. Sweeps gave failed took refused unflushed ts c.args.form c.args.tool.now c.args.input.now done.new.input
-    c.args.output.now done.new.output done.result)
-    c.as_slice.ensures.given done.ensures.ends
+    let rows = c.as_slice-registers in
+    let of : List Timing → List ℕ → Type 0 = λ ts rs. Sweeps gave failed took refused unflushed ts c.args.form (swept c.args.sizes.now rs)
+    c.args.input.now done.new.input c.args.output.now done.new.output done.result in
+    let timed = subst (λ ts. of ts rows.result.now) c.as_slice.ensures.given done.ensures.ends in
+    subst (of (timings_in c.args.timings.now)) rows.ensures timed

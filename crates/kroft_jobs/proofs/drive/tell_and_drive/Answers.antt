@@ -6,7 +6,7 @@ use Rattle.kroft_jobs.proofs.drive.tell_and_drive.Goals as goal
 
 pub returns-in-Kept : goal.returns-in-Kept
 returns-in-Kept g c =
-    let s = machine_over c.args.image.now c.args.tool.now in
+    let s = machine_over c.args.image.now c.args.sizes.now in
     let kept = c.in-Kept in
     let put = c.put_run in
     let measured = subst (IsMeasured c.args.timing s c.args.requests.now) kept.is c.in_ok-text.ensures.measured in

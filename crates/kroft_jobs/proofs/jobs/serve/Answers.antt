@@ -11,4 +11,4 @@ returns g c =
     (c.serve_text.new.machine, subst of c.in-Ok.ensures.machine c.serve_text.ensures)
 
 pub returns-in_default : goal.returns-in_default
-returns-in_default g c = (machine_over c.args.image.now c.args.tool.now, (refl, refl, refl))
+returns-in_default g c = (machine_over c.args.image.now c.args.sizes.now, (refl, refl, refl))

@@ -1,7 +1,12 @@
+use Rattle.std.proofs.Common.{◌∙◌}
+use Rattle.kroft_jobs.specs.Jobs.{swept}
 use Rattle.kroft_jobs.proofs.Sweeping.{unswept}
 use Rattle.kroft_jobs.proofs.jobs.sweep_registers.Goals as goal
 
 pub returns-in_err-rows-clause-fault : goal.returns-in_err-rows-clause-fault
 returns-in_err-rows-clause-fault g c =
     let read = c.in_ok-requests.ensures.read in
-    unswept g.I.Source.gave g.I.Source.failed c.args.tool.now c.args.input.now c.read_requests.new.reader read.0 read.1 c.swept_shapes.result c.swept_shapes.ensures c.in_err-rows.field-0.0 c.in_err-rows.ensures.fault c.from_residual-in_err-rows.result c.from_residual-in_err-rows.ensures.1
+    let told = c.from_residual-in_err-rows in
+    let made = c.as_slice-2.ensures.value ∙ c.in_ok-machines.ensures in
+    unswept g.I.Source.gave g.I.Source.failed (swept c.args.sizes.now c.args.registers.now) c.args.input.now c.read_requests.new.reader
+    read.0 read.1 c.as_slice-2.result.now made c.in_err-rows.field-0.0 c.in_err-rows.ensures.fault told.result told.ensures.1

@@ -4,9 +4,9 @@ use Rattle.kroft_jobs.proofs.rounds.sweep_each.Goals as goal
 
 pub loop-timing-preserved : goal.loop-timing-preserved
 loop-timing-preserved g c =
-    let shapes = c.args.shapes.now in
+    let machines = c.args.machines.now in
     let requests = c.args.requests.now in
     let rows = c.in_ok-made.ensures in
-    let made = counted _ requests shapes _ c.requires.all rows.rows rows.over in
-    swept_next c.args.timings.now c.loop-timing.timing-index _ shapes requests c.loop-timing.swept.items c.push.new.self.items _
+    let made = counted _ requests machines _ c.requires.all rows.rows rows.over in
+    swept_next c.args.timings.now c.loop-timing.timing-index _ machines requests c.loop-timing.swept.items c.push.new.self.items _
     c.loop-timing.invariant c.loop-timing-test.true refl made c.in-Ok.ensures.items

@@ -1,0 +1,286 @@
+//! The machine file: all numbers of a machine, as a TOML table.
+
+ghost use Rattle.std.specs.Prelude.{◌≡◌, None, IfOk, IfErr, map};
+ghost use Rattle.std.specs.Option.{option_map};
+ghost use Rattle.std.specs.String.{string_bytes};
+ghost use Rattle.cache_unit.specs.Limits as limits;
+ghost use Rattle.toml.specs.Parse.{parse_document};
+ghost use Rattle.toml.specs.View.{table_view};
+ghost use Rattle.shape_files.specs.MachineFile as file;
+
+use crate::shape_file::{DEFAULT_SHAPE, fitted, integer_at, key_of};
+use cache_unit::Sizes;
+use flat_model::{
+    MAX_BANK_QUEUE, MAX_BANKS, MAX_BLOCK_WORDS, MAX_DEPTH, MAX_REGS, MAX_REPLIES, MAX_SETS,
+    MAX_WAYS, MAX_WORDS, MAX_WRITE_QUEUE, ShapeField,
+};
+use std::alloc::{AllocError, Global};
+use std::error::Error;
+use std::fmt;
+use toml::Table;
+
+/// The numbers of a machine file, in the order in which they are looked at.
+pub const MACHINE_FIELDS: [ShapeField; 10] = [
+    ShapeField::BlockWords,
+    ShapeField::Ways,
+    ShapeField::Regs,
+    ShapeField::Depth,
+    ShapeField::Words,
+    ShapeField::Sets,
+    ShapeField::Banks,
+    ShapeField::BankQueue,
+    ShapeField::WriteQueue,
+    ShapeField::Replies,
+];
+
+/// Why a machine file is refused.
+#[derive(Debug, Drop)]
+pub enum MachineFault {
+    /// The text is no TOML.
+    NotToml,
+    /// The table has this key, which no machine has. What isn't a printable ASCII character stands
+    /// as a question mark.
+    UnknownKey(String),
+    /// What stands at the key is no whole number.
+    NotWhole(ShapeField),
+    /// The number at the key is out of its range.
+    OutOfRange(ShapeField),
+    /// There was too little memory.
+    OutOfMemory,
+}
+
+impl Error for MachineFault {}
+
+impl fmt::Display for MachineFault {
+    ghost use Rattle.std.specs.Prelude.{Some};
+    ghost use Rattle.shape_files.specs.MachineFile.{machine_fault_text};
+
+    ghost output = { λ fault. Some (machine_fault_text fault) };
+
+    fn fmt<W: fmt::Write>(&self, f: &mut fmt::Formatter<W>) -> fmt::Result {
+        match self {
+            MachineFault::NotToml => f.write_str("machine: not TOML"),
+            MachineFault::UnknownKey(key) => write!(f, "machine: unknown key {key}"),
+            MachineFault::NotWhole(field) => {
+                write!(f, "machine: {} is not a whole number", machine_key(*field))
+            }
+            MachineFault::OutOfRange(field) => write!(
+                f,
+                "machine: {} out of range: {} to {}{}",
+                machine_key(*field),
+                least_text(*field),
+                most_of(*field),
+                condition_text(*field)
+            ),
+            MachineFault::OutOfMemory => f.write_str("out of memory"),
+        }
+    }
+}
+
+impl From<AllocError> for MachineFault {
+    ghost use Rattle.std.specs.Prelude.{◌≡◌};
+    ghost use Rattle.shape_files.specs.declared.machine_file.MachineFault.TheVariants.{OutOfMemory};
+
+    ghost from_gives = { λ e f. f ≡ OutOfMemory };
+
+    fn from(_fault: AllocError) -> MachineFault {
+        MachineFault::OutOfMemory
+    }
+}
+
+// The key of a number in a machine file. Two are named in full here.
+fn machine_key(field: ShapeField) -> &'static str
+    ensures { result.now ≡ file.machine_key field }
+{
+    match field {
+        ShapeField::Regs => "registers",
+        ShapeField::Depth => "stack",
+        _ => key_of(field),
+    }
+}
+
+// The least that a number may be, as it is told.
+fn least_text(field: ShapeField) -> &'static str
+    ensures { result.now ≡ file.least_text field }
+{
+    match field {
+        ShapeField::BankQueue => "block_words / banks, rounded up,",
+        ShapeField::WriteQueue => "block_words",
+        _ => "1",
+    }
+}
+
+// The most that a number may be. The last three have no key.
+fn most_of(field: ShapeField) -> u32
+    ensures { result ≡ file.most_of field }
+{
+    match field {
+        ShapeField::BlockWords => MAX_BLOCK_WORDS as u32,
+        ShapeField::Ways => MAX_WAYS as u32,
+        ShapeField::Regs => MAX_REGS as u32,
+        ShapeField::Depth => MAX_DEPTH as u32,
+        ShapeField::Words => MAX_WORDS,
+        ShapeField::Sets => MAX_SETS,
+        ShapeField::Banks => MAX_BANKS,
+        ShapeField::BankQueue => MAX_BANK_QUEUE,
+        ShapeField::WriteQueue => MAX_WRITE_QUEUE,
+        ShapeField::Replies => MAX_REPLIES,
+        ShapeField::Ports | ShapeField::Journal | ShapeField::Image => u32::MAX,
+    }
+}
+
+// What a number has to be beside, as it is told.
+fn condition_text(field: ShapeField) -> &'static str
+    ensures { result.now ≡ file.condition_text field }
+{
+    match field {
+        ShapeField::Words => ", a multiple of block_words",
+        _ => "",
+    }
+}
+
+/// The first number of a machine that is out of its range, in the order of [`MACHINE_FIELDS`]:
+/// each is 1 at least but the two queues, which take a whole block, and at most as
+/// [`flat_model`] says; the words are a multiple of those of a block.
+pub fn bad_number(sizes: &Sizes) -> Option<ShapeField>
+    ensures { result ≡ limits.bad_field sizes.now }
+{
+    // More words than a machine of the program may have are out of range, as 0 is.
+    let words = if sizes.words > MAX_WORDS {
+        0
+    } else {
+        sizes.words
+    };
+    cache_unit::bad_size(&Sizes { words, ..*sizes })
+}
+
+/// Reads the text of a machine file: a TOML table of whole numbers, in which a key that is missing has
+/// its default, which is the number of the machine that the program makes without any file.
+///
+/// The text that is no TOML is found first, then a key that no machine has (of several the one whose
+/// bytes come first), then what is no whole number, then a number out of its range; each of the last two
+/// in the order of [`MACHINE_FIELDS`]. Memory is asked for only while the text is read, and for the
+/// name of an unknown key.
+pub fn read_machine(alloc: Global, text: &str) -> Result<Sizes, MachineFault>
+    ensures says { IfOk result (file.TextSays (parse_document text.now)) }
+    ensures good { IfOk result (λ sizes. limits.bad_field sizes ≡ None) }
+    ensures fault { IfErr result (file.TextFails text.now) }
+{
+    match toml::table_from_str(alloc, text) {
+        Ok(table) => machine_of_table(alloc, &table),
+        Err(fault) if fault.is_memory() => Err(MachineFault::OutOfMemory),
+        Err(_) => Err(MachineFault::NotToml),
+    }
+}
+
+/// What a table says: the answer of [`read_machine`] for a text that is TOML. `NotToml` never comes,
+/// and `OutOfMemory` only if there is an unknown key.
+pub fn machine_of_table(alloc: Global, table: &Table) -> Result<Sizes, MachineFault>
+    ensures says { IfOk result (file.TableSays (table_view table.now)) }
+    ensures good { IfOk result (λ sizes. limits.bad_field sizes ≡ None) }
+    ensures fault { IfErr result (file.TableFails (table_view table.now)) }
+{
+    if let Some(key) = other_key(table) {
+        return Err(MachineFault::UnknownKey(printable(alloc, key)?));
+    }
+    if let Some(field) = first_not_whole(table) {
+        return Err(MachineFault::NotWhole(field));
+    }
+    let sizes = sizes_said(table);
+    match bad_number(&sizes) {
+        Some(field) => Err(MachineFault::OutOfRange(field)),
+        None => Ok(sizes),
+    }
+}
+
+// Whether a machine file may have this key.
+fn is_machine_key(key: &str) -> bool
+    ensures { result ≡ file.is_machine_key key.now }
+{
+    MACHINE_FIELDS
+        .iter()
+        .any(|field| key == machine_key(*field))
+}
+
+// The first key at the top that no machine has.
+fn other_key(table: &Table) -> Option<&str>
+    ensures { file.other_key (table_view table.now) ≡ option_map (λ key. key.now) result }
+{
+    for key in table.keys() {
+        if !is_machine_key(key.as_str()) {
+            return Some(key.as_str());
+        }
+    }
+    None
+}
+
+// A key as it is told: in one line, whatever its characters are.
+fn printable(alloc: Global, key: &str) -> Result<String, AllocError>
+    ensures { IfOk result (λ text. string_bytes text ≡ map file.printable_byte key.now) }
+{
+    let mut text = String::new(alloc);
+    for byte in key.as_bytes() {
+        text.push(printable_byte(*byte))?;
+    }
+    Ok(text)
+}
+
+// A byte as a character of ASCII that can be printed.
+fn printable_byte(byte: u8) -> char
+    ensures { result ≡ file.printable_byte byte }
+{
+    if 0x20 <= byte && byte <= 0x7e {
+        byte as char
+    } else {
+        '?'
+    }
+}
+
+// Whether nothing stands at the key of a number, or a whole number.
+fn is_whole_at(table: &Table, field: ShapeField) -> bool
+    ensures { result ≡ file.is_whole_at (table_view table.now) field }
+{
+    match integer_at(table, machine_key(field)) {
+        Some(Some(_)) | None => true,
+        Some(None) => false,
+    }
+}
+
+// The first number that is no whole one.
+fn first_not_whole(table: &Table) -> Option<ShapeField>
+    ensures { result ≡ file.first_not_whole (table_view table.now) }
+{
+    MACHINE_FIELDS
+        .iter()
+        .copied()
+        .find(|field| !is_whole_at(table, *field))
+}
+
+// The number at its key, the default if there is none.
+fn number_at(table: &Table, field: ShapeField, default: u32) -> u32
+    ensures { result ≡ file.number_at (table_view table.now) field default }
+{
+    match integer_at(table, machine_key(field)) {
+        Some(Some(number)) => fitted(number),
+        Some(None) | None => default,
+    }
+}
+
+// The numbers of a table in which none is no whole one.
+fn sizes_said(table: &Table) -> Sizes
+    ensures { result ≡ file.sizes_said (table_view table.now) }
+{
+    let usual = DEFAULT_SHAPE.sizes();
+    Sizes {
+        ways: number_at(table, ShapeField::Ways, usual.ways),
+        block_words: number_at(table, ShapeField::BlockWords, usual.block_words),
+        regs: number_at(table, ShapeField::Regs, usual.regs),
+        depth: number_at(table, ShapeField::Depth, usual.depth),
+        words: number_at(table, ShapeField::Words, usual.words),
+        sets: number_at(table, ShapeField::Sets, usual.sets),
+        banks: number_at(table, ShapeField::Banks, usual.banks),
+        bank_queue: number_at(table, ShapeField::BankQueue, usual.bank_queue),
+        write_queue: number_at(table, ShapeField::WriteQueue, usual.write_queue),
+        replies: number_at(table, ShapeField::Replies, usual.replies),
+    }
+}
