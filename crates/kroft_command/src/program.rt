@@ -1,7 +1,7 @@
 //! The program over a reader and two writers.
 
 ghost use Rattle.std.specs.Prelude.{◌≡◌, ◌≤◌, ℕ, None, Ok, IfOk, IfErr, OnOk, Result};
-ghost use Rattle.cache_unit.specs.Limits.{bad_field};
+ghost use Rattle.shape_files.specs.MachineFile.{bad_machine};
 ghost use Rattle.toml.specs.Parse.{parse_document};
 ghost use Rattle.shape_files.specs.MachineFile.{TextSays};
 ghost use Rattle.shape_files.specs.ShapeFile.{bad_field as bad_shape, text_says};
@@ -116,7 +116,7 @@ fn complete<R: AllocGlobal + Threads + Sync, I: Source, O: Sink, E: Sink>(
     errors: &mut E,
 ) -> Result<u8, ToolFault>
     requires range { IsInRange task }
-    requires sizes { bad_field sizes.now ≡ None }
+    requires sizes { bad_machine sizes.now ≡ None }
     ensures few { IfOk result (λ status. status ≤ 6) }
     ensures ends { IsDone I.gave I.failed O.took O.refused O.unflushed E.took E.refused E.unflushed task sizes.now image.now
         errors.old errors.new input.old input.new output.old output.new result }
@@ -153,7 +153,7 @@ fn complete<R: AllocGlobal + Threads + Sync, I: Source, O: Sink, E: Sink>(
 // The numbers of the machine: those of the file, if one is named.
 fn sizes_of<R: AllocGlobal + Files>(rt: &R, name: MachineName<'_>) -> Result<Sizes, ToolFault>
     ensures sizes { IfOk result (IsMachineOf name.entry) }
-    ensures good { IfOk result (λ sizes. bad_field sizes ≡ None) }
+    ensures good { IfOk result (λ sizes. bad_machine sizes ≡ None) }
     ensures fault { IfErr result (MachineFails name.entry) }
 {
     match name {
@@ -199,7 +199,7 @@ fn shape_said(alloc: Global, text: &str) -> Result<ToolShape, JobFault>
 // The machine that a text says.
 fn machine_said(alloc: Global, text: &str) -> Result<Sizes, ToolFault>
     ensures sizes { IfOk result (TextSays (parse_document text.now)) }
-    ensures good { IfOk result (λ sizes. bad_field sizes ≡ None) }
+    ensures good { IfOk result (λ sizes. bad_machine sizes ≡ None) }
     ensures fault { IfErr result (MachineTextFails text.now) }
 {
     Ok(read_machine(alloc, text)?)

@@ -5,7 +5,7 @@ ghost use Rattle.std.specs.Prelude.{◌≡◌, ◌≤◌, [], ◌++◌, map, Non
 ghost use Rattle.std.specs.List.{All, AllByRecursion, flat_map};
 ghost use Rattle.std.specs.String.{string_bytes};
 ghost use Rattle.access_logs.specs.declared.writing.TheConstants.{MAX_WORDS};
-ghost use Rattle.cache_unit.specs.Limits.{bad_field};
+ghost use Rattle.shape_files.specs.MachineFile.{bad_machine};
 ghost use Rattle.history_text.specs.Answers.{verdict_status as history_status};
 ghost use Rattle.result_figures.specs.Sweeps.{told};
 ghost use Rattle.result_formats.specs.Counts.{rounds_in, latency_in, pumps_in};
@@ -73,7 +73,7 @@ pub(crate) fn run<I: Source, O: Sink>(
     input: &mut I,
     output: &mut O,
 ) -> Result<u8, ToolFault>
-    requires sizes { bad_field sizes.now ≡ None }
+    requires sizes { bad_machine sizes.now ≡ None }
     ensures few { IfOk result (λ status. status ≤ 1) }
     ensures ends { Runs I.gave I.failed O.took O.refused O.unflushed sizes.now image.now input.old input.new output.old output.new
         result }
@@ -171,7 +171,7 @@ pub(crate) fn grade<I: Source, O: Sink>(
     input: &mut I,
     output: &mut O,
 ) -> Result<u8, ToolFault>
-    requires sizes { bad_field sizes.now ≡ None }
+    requires sizes { bad_machine sizes.now ≡ None }
     ensures few { IfOk result (λ status. status ≤ 1) }
     ensures ends { Grades I.gave I.failed O.took O.refused O.unflushed format sizes.now image.now input.old input.new output.old output.new
         result }
@@ -191,7 +191,7 @@ fn write_run<I: Source, O: Sink, E: Sink>(
     output: &mut O,
     errors: &mut E,
 ) -> Result<u8, ToolFault>
-    requires sizes { bad_field sizes.now ≡ None }
+    requires sizes { bad_machine sizes.now ≡ None }
     requires latency { timing.latency ≤ MOST_LATENCY }
     ensures few { IfOk result (λ status. status ≤ 1) }
     ensures ends { WritesRun I.gave I.failed O.took O.refused O.unflushed E.took E.refused E.unflushed from timing sizes.now image.now
@@ -213,7 +213,7 @@ fn put_counts<I: Source, O: Sink>(
     input: &mut I,
     output: &mut O,
 ) -> Result<u8, ToolFault>
-    requires sizes { bad_field sizes.now ≡ None }
+    requires sizes { bad_machine sizes.now ≡ None }
     requires latency { timing.latency ≤ MOST_LATENCY }
     ensures few { IfOk result (λ status. status ≤ 1) }
     ensures ends { PutsCounts I.gave I.failed O.took O.refused O.unflushed from timing format sizes.now image.now input.old input.new output.old
@@ -235,7 +235,7 @@ fn put_details<I: Source, O: Sink>(
     input: &mut I,
     output: &mut O,
 ) -> Result<u8, ToolFault>
-    requires sizes { bad_field sizes.now ≡ None }
+    requires sizes { bad_machine sizes.now ≡ None }
     requires latency { timing.latency ≤ MOST_LATENCY }
     ensures few { IfOk result (λ status. status ≤ 1) }
     ensures ends { PutsDetails I.gave I.failed O.took O.refused O.unflushed from timing format sizes.now image.now input.old input.new output.old
@@ -256,7 +256,7 @@ fn draw_counts<I: Source, O: Sink>(
     input: &mut I,
     output: &mut O,
 ) -> Result<u8, ToolFault>
-    requires sizes { bad_field sizes.now ≡ None }
+    requires sizes { bad_machine sizes.now ≡ None }
     requires latency { timing.latency ≤ MOST_LATENCY }
     ensures few { IfOk result (λ status. status ≤ 1) }
     ensures ends { DrawsCounts I.gave I.failed O.took O.refused O.unflushed from timing sizes.now image.now input.old input.new output.old
@@ -279,7 +279,7 @@ fn show_counts<I: Source, O: Sink>(
     input: &mut I,
     output: &mut O,
 ) -> Result<u8, ToolFault>
-    requires sizes { bad_field sizes.now ≡ None }
+    requires sizes { bad_machine sizes.now ≡ None }
     requires latency { timing.latency ≤ MOST_LATENCY }
     ensures few { IfOk result (λ status. status ≤ 1) }
     ensures ends { counts_by I.gave I.failed O.took O.refused O.unflushed form all from timing sizes.now image.now input.old input.new
@@ -311,7 +311,7 @@ pub(crate) fn drive<I: Source, O: Sink, E: Sink>(
     output: &mut O,
     errors: &mut E,
 ) -> Result<u8, ToolFault>
-    requires sizes { bad_field sizes.now ≡ None }
+    requires sizes { bad_machine sizes.now ≡ None }
     requires latency { timing.latency ≤ MOST_LATENCY }
     ensures few { IfOk result (λ status. status ≤ 1) }
     ensures ends { Drives I.gave I.failed O.took O.refused O.unflushed E.took E.refused E.unflushed from timing summary all form
@@ -371,7 +371,7 @@ pub(crate) fn show<I: Source, O: Sink>(
     input: &mut I,
     output: &mut O,
 ) -> Result<u8, ToolFault>
-    requires sizes { bad_field sizes.now ≡ None }
+    requires sizes { bad_machine sizes.now ≡ None }
     ensures few { IfOk result (λ status. status ≤ 1) }
     ensures ends { Draws I.gave I.failed O.took O.refused O.unflushed form sizes.now image.now input.old input.new output.old
         output.new result }

@@ -3,7 +3,7 @@ use Rattle.std.proofs.Common.{◌≡◌, ℕ, ◌+◌, ◌<◌, true, List, [], 
 use Rattle.std.proofs.Common.{IfErr, IsErrAnd, sym, subst}
 use Rattle.std.proofs.lemmas.List.{take_more}
 use Rattle.std.specs.List.{list_all}
-use Rattle.cache_unit.specs.Limits.{bad_field}
+use Rattle.shape_files.specs.MachineFile.{bad_machine}
 use Rattle.cache_unit.specs.declared.Sizes.{Sizes}
 use Rattle.flat_model.specs.declared.Event.{Event}
 use Rattle.machine_core.specs.Machine.{MachineState}
@@ -29,16 +29,16 @@ use Rattle.kroft_jobs.specs.Sweeping.{IsCounted, IsDetailed, AreCounted, AreSwep
 -- ---- the fault of a sweep over a trace that was read
 
 module _ {R : Type 0} (gave : R → List ℕ → R → Type 0) (failed : R → R → Type 0) (machines : List Sizes) (input input' : R) (texts : List (List ℕ)) (whole : ReadWhole gave trace_fault MAX_LINE input input' texts) where
-  fails : (fault : SweepFault) → FaultSays bad_field machines fault → SweepFails gave failed machines input input' (of_sweep fault)
+  fails : (fault : SweepFault) → FaultSays bad_machine machines fault → SweepFails gave failed machines input input' (of_sweep fault)
   fails (sweep.BadShape place field) says = (texts, place, whole, says)
   fails sweep.TurnLimit says = (texts, whole, says)
   fails sweep.OutOfMemory says = tt
 
-  pub unswept : {X : Type 0} (made : List Sizes) → made ≡ machines → (fault : SweepFault) → FaultSays bad_field made fault
+  pub unswept : {X : Type 0} (made : List Sizes) → made ≡ machines → (fault : SweepFault) → FaultSays bad_machine made fault
       → (result : Result X JobFault) → IsErrAnd result (λ told. told ≡ of_sweep fault) → IfErr result (SweepFails gave failed machines input input')
   unswept made same fault says (Ok rows) told = tt
   unswept made same fault says (Err f) told =
-      let here = fails fault (subst (λ zs. FaultSays bad_field zs fault) same says) in
+      let here = fails fault (subst (λ zs. FaultSays bad_machine zs fault) same says) in
       subst (SweepFails gave failed machines input input') (sym told) here
 
 -- ---- what is counted of requests that were read

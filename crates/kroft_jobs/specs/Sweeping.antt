@@ -1,7 +1,7 @@
 -- What becomes of the requests of a trace that are counted in rounds, and why a sweep has no rows.
 use Rattle.std.specs.Prelude.{⊤, ◌≡◌, ℕ, List, [], ◌∷◌, map, Option, Some, None}
 use Rattle.std.specs.List.{All}
-use Rattle.cache_unit.specs.Limits.{bad_field}
+use Rattle.shape_files.specs.MachineFile.{bad_machine}
 use Rattle.cache_unit.specs.declared.Sizes.{Sizes}
 use Rattle.flat_model.specs.declared.Event.{Event}
 use Rattle.machine_core.specs.Machine.{MachineState}
@@ -60,8 +60,8 @@ SweepFails gave failed machines input input' (Trace fault) =
     (texts : List (List ℕ)) × ReadStops gave failed trace_fault MAX_LINE input input' texts fault
 SweepFails gave failed machines input input' (Shape (shape.BadShape field)) =
     (texts : List (List ℕ)) × (place : ℕ) × ReadWhole gave trace_fault MAX_LINE input input' texts
-    × (bad_from bad_field 0 machines ≡ Some (place, field))
+    × (bad_from bad_machine 0 machines ≡ Some (place, field))
 SweepFails gave failed machines input input' TurnLimit =
-    (texts : List (List ℕ)) × ReadWhole gave trace_fault MAX_LINE input input' texts × (bad_from bad_field 0 machines ≡ None)
+    (texts : List (List ℕ)) × ReadWhole gave trace_fault MAX_LINE input input' texts × (bad_from bad_machine 0 machines ≡ None)
 SweepFails gave failed machines input input' OutOfMemory = ⊤
 SweepFails gave failed machines input input' fault = ⊥

@@ -2,7 +2,7 @@
 
 ghost use Rattle.std.specs.Prelude.{◌≡◌, ◌≤◌, true, None, length, IfOk, IfErr, OnOk, OnErr};
 ghost use Rattle.std.specs.List.{list_all};
-ghost use Rattle.cache_unit.specs.Limits.{bad_field};
+ghost use Rattle.shape_files.specs.MachineFile.{bad_machine};
 ghost use Rattle.register_sweeps.specs.Sweep.{machine_over};
 ghost use Rattle.round_driver.specs.declared.driving.TheConstants.{MOST_LATENCY};
 ghost use Rattle.round_driver.specs.Rounds.{most_requests};
@@ -46,7 +46,7 @@ pub fn drive_requests<I: Source, O: Sink, E: Sink>(
     output: &mut O,
     errors: &mut E,
 ) -> Result<u64, LogFault>
-    requires sizes { bad_field sizes.now ≡ None }
+    requires sizes { bad_machine sizes.now ≡ None }
     requires latency { timing.latency ≤ MOST_LATENCY }
     ensures { DrivesAll I.gave I.failed O.took O.refused E.took E.refused E.unflushed from (room_of sizes.now) timing
         (machine_over image.now sizes.now) input.old input.new output.old output.new errors.old errors.new result }
@@ -69,7 +69,7 @@ fn tell_and_drive<O: Sink, E: Sink>(
     output: &mut O,
     errors: &mut E,
 ) -> Result<u64, TraceFault>
-    requires sizes { bad_field sizes.now ≡ None }
+    requires sizes { bad_machine sizes.now ≡ None }
     requires latency { timing.latency ≤ MOST_LATENCY }
     requires few { length requests.now ≤ most_requests }
     requires all { list_all is_request requests.now ≡ true }
@@ -117,7 +117,7 @@ fn measure_run(
     timing: Timing,
     requests: &[Event],
 ) -> Result<RunLength, TraceFault>
-    requires sizes { bad_field sizes.now ≡ None }
+    requires sizes { bad_machine sizes.now ≡ None }
     requires latency { timing.latency ≤ MOST_LATENCY }
     requires few { length requests.now ≤ most_requests }
     requires all { list_all is_request requests.now ≡ true }
@@ -142,7 +142,7 @@ fn drive_all<O: Sink>(
     requests: &[Event],
     output: &mut O,
 ) -> Result<u64, TraceFault>
-    requires sizes { bad_field sizes.now ≡ None }
+    requires sizes { bad_machine sizes.now ≡ None }
     requires latency { timing.latency ≤ MOST_LATENCY }
     requires few { length requests.now ≤ most_requests }
     requires all { list_all is_request requests.now ≡ true }

@@ -1,7 +1,7 @@
 //! What the program does with a sheet.
 
 ghost use Rattle.std.specs.Prelude.{◌≡◌, None, IfOk};
-ghost use Rattle.cache_unit.specs.Limits.{bad_field};
+ghost use Rattle.shape_files.specs.MachineFile.{bad_machine};
 ghost use Rattle.register_sweeps.specs.Sweep.{machine_over};
 ghost use Rattle.trace_sheets.specs.Grades.{grade_text};
 ghost use Rattle.kroft_jobs.specs.Grading.{SheetGraded, GradesAll};
@@ -29,7 +29,7 @@ pub fn grade<I: Source, O: Sink>(
     input: &mut I,
     output: &mut O,
 ) -> Result<Score, TraceFault>
-    requires sizes { bad_field sizes.now ≡ None }
+    requires sizes { bad_machine sizes.now ≡ None }
     ensures { GradesAll I.gave I.failed O.took O.refused O.unflushed format (machine_over image.now sizes.now) input.old input.new
         output.old output.new result }
 {

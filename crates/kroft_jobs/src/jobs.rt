@@ -10,7 +10,7 @@ ghost use Rattle.trace_text.specs.Serving.{trace_fault, Ends};
 ghost use Rattle.trace_text.specs.Checks.{pair_fault, IsJudgedFrom};
 ghost use Rattle.trace_text.specs.Requests.{requests_of};
 ghost use Rattle.run_reasons.specs.Runs.{Explains};
-ghost use Rattle.cache_unit.specs.Limits.{bad_field};
+ghost use Rattle.shape_files.specs.MachineFile.{bad_machine};
 ghost use Rattle.register_sweeps.specs.Sweep.{machine_over, row_of};
 ghost use Rattle.kroft_jobs.specs.Jobs.{swept, with_registers, verdict_status, verdict_text};
 ghost use Rattle.kroft_jobs.specs.Sweeping.{SweepFails};
@@ -39,7 +39,7 @@ pub fn serve<I: Source, O: Sink>(
     input: &mut I,
     output: &mut O,
 ) -> Result<Counts, TraceFault>
-    requires sizes { bad_field sizes.now ≡ None }
+    requires sizes { bad_machine sizes.now ≡ None }
     ensures { (after : MachineState)
         × Ends I.gave I.failed O.took O.refused O.unflushed input.old input.new output.old output.new
         (machine_over image.now sizes.now) after result }

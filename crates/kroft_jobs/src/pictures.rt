@@ -2,7 +2,7 @@
 
 ghost use Rattle.std.specs.Prelude.{◌≡◌, None};
 ghost use Rattle.run_pictures.specs.Drawn.{Shows};
-ghost use Rattle.cache_unit.specs.Limits.{bad_field};
+ghost use Rattle.shape_files.specs.MachineFile.{bad_machine};
 ghost use Rattle.register_sweeps.specs.Sweep.{machine_over};
 
 use cache_unit::Sizes;
@@ -21,7 +21,7 @@ pub fn show<I: Source>(
     form: Form,
     input: &mut I,
 ) -> Result<String, ShowFault>
-    requires sizes { bad_field sizes.now ≡ None }
+    requires sizes { bad_machine sizes.now ≡ None }
     ensures { Shows I.gave I.failed form image.now (machine_over image.now sizes.now) input.old input.new result }
 {
     let Ok(mut machine) = new_machine(alloc, sizes, image) else {

@@ -6,7 +6,7 @@ ghost use Rattle.trace_text.specs.declared.fault.TheConstants.{MAX_LINE};
 ghost use Rattle.trace_text.specs.Reading.{ReadWhole, ReadFails};
 ghost use Rattle.trace_text.specs.Serving.{trace_fault};
 ghost use Rattle.trace_text.specs.Requests.{requests_of};
-ghost use Rattle.cache_unit.specs.Limits.{bad_field};
+ghost use Rattle.shape_files.specs.MachineFile.{bad_machine};
 ghost use Rattle.register_sweeps.specs.Sweep.{FaultSays, machine_over};
 ghost use Rattle.round_driver.specs.declared.driving.TheConstants.{MOST_LATENCY};
 ghost use Rattle.round_driver.specs.Details.{details_of};
@@ -43,7 +43,7 @@ pub fn summarize_requests<I: Source>(
     from: RequestText,
     input: &mut I,
 ) -> Result<Table, LogFault>
-    requires sizes { bad_field sizes.now ≡ None }
+    requires sizes { bad_machine sizes.now ≡ None }
     requires latency { timing.latency ≤ MOST_LATENCY }
     ensures table { IfOk result
         (λ table. (requests : List EventValue) × (groups : List Group)
@@ -75,7 +75,7 @@ pub fn detail_requests<I: Source>(
     from: RequestText,
     input: &mut I,
 ) -> Result<CountedRun, LogFault>
-    requires sizes { bad_field sizes.now ≡ None }
+    requires sizes { bad_machine sizes.now ≡ None }
     requires latency { timing.latency ≤ MOST_LATENCY }
     ensures counted { IfOk result
         (λ run. CountsAll I.gave from (room_of sizes.now) timing (machine_over image.now sizes.now) input.old input.new
@@ -97,7 +97,7 @@ fn detail_all(
     timing: Timing,
     requests: &[Event],
 ) -> Result<Details, AllocError>
-    requires sizes { bad_field sizes.now ≡ None }
+    requires sizes { bad_machine sizes.now ≡ None }
     requires latency { timing.latency ≤ MOST_LATENCY }
     requires few { length requests.now ≤ most_requests }
     ensures details { IfOk result
@@ -163,7 +163,7 @@ fn sweep_each<R: Threads + Sync>(
     requires few { length requests.now ≤ most_requests }
     requires all { list_all is_request requests.now ≡ true }
     ensures rows { IfOk result (λ swept. AreSwept timings.now machines.now requests.now swept.items) }
-    ensures fault { IfErr result (FaultSays bad_field machines.now) }
+    ensures fault { IfErr result (FaultSays bad_machine machines.now) }
 {
     let mut swept = Vec::new(alloc);
     for timing in timings {

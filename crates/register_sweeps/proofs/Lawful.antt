@@ -4,7 +4,7 @@ use Rattle.std.specs.List.{list_all}
 use Rattle.std.proofs.lemmas.List.{length-replicate, get_or-map}
 use Rattle.flat_model.specs.declared.Event.{Event}
 use Rattle.flat_model.specs.Words.{zero_word}
-use Rattle.cache_unit.specs.Limits.{bad_field}
+use Rattle.shape_files.specs.MachineFile.{bad_machine}
 use Rattle.cache_unit.specs.Sound.{InRange}
 use Rattle.cache_unit.specs.declared.Sizes.{Sizes}
 use Rattle.cache_unit.proofs.Numbers as numbers
@@ -27,7 +27,7 @@ good_machine z r =
     }
 
 -- the row of such a machine counts each request once, and each accepted load's value
-pub counts_all : (z : Sizes) (events : List Event) → bad_field z ≡ None → list_all is_request events ≡ true → CountsAll events z (row_of events z)
+pub counts_all : (z : Sizes) (events : List Event) → bad_machine z ≡ None → list_all is_request events ≡ true → CountsAll events z (row_of events z)
 counts_all z events h r =
     let range = numbers.in_range z h in
     let opened = flat_opening z (lawful z range) (replicate z.words zero_word) (length-replicate z.words zero_word) in

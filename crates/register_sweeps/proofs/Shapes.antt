@@ -4,7 +4,7 @@ use Rattle.std.specs.List.{All}
 use Rattle.std.specs.Option.{option_map, option_or}
 use Rattle.std.proofs.lemmas.List.{drop_more, drop_all, get_or-map, length-map}
 use Rattle.flat_model.specs.declared.ShapeField.{ShapeField}
-use Rattle.cache_unit.specs.Limits as limits
+use Rattle.shape_files.specs.MachineFile.{bad_machine}
 use Rattle.cache_unit.specs.declared.Sizes.{Sizes}
 use Rattle.shape_files.specs.declared.shape_file.TheConstants.{DEFAULT_SHAPE}
 use Rattle.shape_files.specs.declared.shape_file.ToolShape.{ToolShape}
@@ -59,7 +59,7 @@ machines_good ts zs good same = λ i d l.
     let inside : i < length ts = omega (arith, count, l) in
     let one = ap (λ xs. get_or xs i d) same ∙ get_or-map sizes_of ts i DEFAULT_SHAPE d inside in
     let fits = sizes_fit (get_or ts i DEFAULT_SHAPE) (each_good bad_shape ts good i DEFAULT_SHAPE inside) in
-    subst (λ z. limits.bad_field z ≡ None) (sym one) fits
+    subst (λ z. bad_machine z ≡ None) (sym one) fits
 
 -- ---- the rows of these machines, whatever a row is and shows of its machine
 

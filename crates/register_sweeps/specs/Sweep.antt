@@ -2,7 +2,7 @@
 use Rattle.std.specs.Prelude.{⊤, ℕ, zero, suc, ◌≡◌, ◌<◌, ◌+◌, ◌-◌, Bool, if◌then◌else◌, List, [], ◌∷◌, ◌++◌, length, slice_index_or, codes, decimal, Option, Some, None}
 use Rattle.std.specs.List.{All}
 use Rattle.std.specs.Option.{option_map, option_or}
-use Rattle.cache_unit.specs.Limits.{bad_field}
+use Rattle.shape_files.specs.MachineFile.{bad_machine}
 use Rattle.cache_unit.specs.declared.Sizes.{Sizes}
 use Rattle.flat_model.specs.Causes.{ends_request}
 use Rattle.flat_model.specs.declared.Event.{Event}
@@ -170,7 +170,7 @@ module _ {S : Type 0} (bad : S → Option ShapeField) where
 
 -- no number of these machines is out of its range
 abbrev pub AreGood : List Sizes → Type 0
-AreGood machines = All (λ z. bad_field z ≡ None) machines
+AreGood machines = All (λ z. bad_machine z ≡ None) machines
 
 -- a fault as it is told
 abbrev pub sweep_fault_text : SweepFault → List ℕ

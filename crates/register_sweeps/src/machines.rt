@@ -1,7 +1,7 @@
 //! The machine of given numbers.
 
 ghost use Rattle.std.specs.Prelude.{◌≡◌, ◌^◌, ◌<◌, ◌≤◌, None, IfOk};
-ghost use Rattle.cache_unit.specs.Limits.{bad_field};
+ghost use Rattle.shape_files.specs.MachineFile.{bad_machine};
 ghost use Rattle.flat_model.specs.declared.limits.TheConstants.{MAX_BANKS};
 ghost use Rattle.machine_core.specs.Law.{most_weight};
 ghost use Rattle.register_sweeps.specs.Sweep.{machine_over};
@@ -15,7 +15,7 @@ use std::alloc::{AllocError, Global};
 /// A new machine of numbers that are in their ranges, over an image. Of an image that is longer than its
 /// memory the machine has what fits. An error says that there was too little memory.
 pub fn new_machine(alloc: Global, sizes: &Sizes, image: &Image) -> Result<ShapedMachine, AllocError>
-    requires sizes { bad_field sizes.now ≡ None }
+    requires sizes { bad_machine sizes.now ≡ None }
     ensures machine { IfOk result (λ machine. machine ≡ machine_over image.now sizes.now) }
     ensures banks { IfOk result (λ machine. machine.sizes.banks ≤ MAX_BANKS) }
     ensures few { IfOk result (λ machine. most_weight machine.sizes < 2 ^ 32) }

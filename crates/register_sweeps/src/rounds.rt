@@ -1,7 +1,7 @@
 //! The rows of a sweep in rounds: a machine is driven with times of memory, and its table counted.
 
 ghost use Rattle.std.specs.Prelude.{◌≡◌, ◌≤◌, length, map, Some, None, IfOk, IfErr, OnOk};
-ghost use Rattle.cache_unit.specs.Limits.{bad_field};
+ghost use Rattle.shape_files.specs.MachineFile.{bad_machine};
 ghost use Rattle.round_driver.specs.declared.driving.TheConstants.{MOST_LATENCY};
 ghost use Rattle.round_driver.specs.Rounds.{most_requests};
 ghost use Rattle.round_driver.specs.Tables.{table_of};
@@ -49,7 +49,7 @@ pub fn rounds_table(
     timing: Timing,
     requests: &[Event],
 ) -> Result<Table, AllocError>
-    requires sizes { bad_field sizes.now ≡ None }
+    requires sizes { bad_machine sizes.now ≡ None }
     requires latency { timing.latency ≤ MOST_LATENCY }
     requires requests { length requests.now ≤ most_requests }
     ensures table { IfOk result
@@ -106,8 +106,8 @@ pub fn sweep_rounds<R: Threads + Sync, G: SweepGate>(
     ensures rows { IfOk result
         (λ rows. rows.items ≡ map (rounds_row_of timing requests.now) machines.now) }
     ensures over { OnOk result (EachRunEnds timing requests.now machines.now) }
-    ensures good { OnOk result (bad_from bad_field 0 machines.now ≡ None) }
-    ensures fault { IfErr result (FaultSays bad_field machines.now) }
+    ensures good { OnOk result (bad_from bad_machine 0 machines.now ≡ None) }
+    ensures fault { IfErr result (FaultSays bad_machine machines.now) }
 {
     all_good(machines)?;
     let maker = RoundsRows { timing, requests };

@@ -5,7 +5,7 @@ ghost use Rattle.std.specs.List.{list_all};
 ghost use Rattle.round_driver.specs.Rounds.{most_requests};
 ghost use Rattle.round_driver.specs.Walks.{is_request};
 ghost use Rattle.register_sweeps.specs.declared.sweeps.SweepFault.TheVariants.{TurnLimit};
-ghost use Rattle.cache_unit.specs.Limits as limits;
+ghost use Rattle.shape_files.specs.MachineFile.{bad_machine};
 ghost use Rattle.shape_files.specs.ShapeFile.{bad_field, sizes_of};
 ghost use Rattle.register_sweeps.specs.Sweep.{FaultSays, CountsAll, EachCountsAll, bad_from, row_from, row_of, sweep_fault_text};
 
@@ -88,7 +88,7 @@ impl SweepGate for OpenGate {
 // The row of a machine whose numbers are in their ranges.
 fn row_of(alloc: Global, sizes: &Sizes, events: &[Event]) -> Result<Row, AllocError>
     requires events { length events.now ≤ most_requests }
-    requires sizes { limits.bad_field sizes.now ≡ None }
+    requires sizes { bad_machine sizes.now ≡ None }
     ensures { IfOk result (λ row. row ≡ row_of events.now sizes.now) }
 {
     let mut machine = new_machine(alloc, sizes, &Image::Zeros)?;
@@ -171,8 +171,8 @@ pub fn sweep_machines<R: Threads + Sync, G: SweepGate>(
     ensures rows { IfOk result (λ rows. rows.items ≡ map (row_of events.now) machines.now) }
     ensures counts { IfOk result
         (λ rows. list_all is_request events.now ≡ true → EachCountsAll events.now machines.now rows.items) }
-    ensures good { OnOk result (bad_from limits.bad_field 0 machines.now ≡ None) }
-    ensures fault { IfErr result (FaultSays limits.bad_field machines.now) }
+    ensures good { OnOk result (bad_from bad_machine 0 machines.now ≡ None) }
+    ensures fault { IfErr result (FaultSays bad_machine machines.now) }
 {
     all_good(machines)?;
     rows_on_threads(rt, alloc, &PumpedRows { events }, machines, turns, gate)

@@ -4,7 +4,7 @@ ghost use Rattle.std.specs.Prelude.{◌≡◌, ℕ, ◌<◌, length, map, Option
 ghost use Rattle.std.specs.List.{All, list_any};
 ghost use Rattle.register_sweeps.specs.declared.sweeps.SweepFault.TheVariants.{OutOfMemory};
 ghost use Rattle.register_sweeps.specs.declared.threads.Stop.{Stop};
-ghost use Rattle.cache_unit.specs.Limits.{bad_field};
+ghost use Rattle.shape_files.specs.MachineFile.{bad_machine};
 ghost use Rattle.cache_unit.specs.declared.Sizes.{Sizes as SizesValue};
 ghost use Rattle.flat_model.specs.declared.ShapeField.{ShapeField as Field};
 ghost use Rattle.shape_files.specs.ShapeFile.{bad_field as bad_shape};
@@ -36,7 +36,7 @@ pub(crate) trait RowMaker: Sync {
     // Makes the row of a machine whose numbers are in their ranges.
     fn make_row(&self, alloc: Global, sizes: &Sizes) -> Result<Self::Row, AllocError>
         requires can { can self.now }
-        requires sizes { bad_field sizes.now ≡ None }
+        requires sizes { bad_machine sizes.now ≡ None }
         ensures { IfOk result (λ row. (row ≡ gives self.now sizes.now) × shows self.now sizes.now) };
 }
 
@@ -72,7 +72,7 @@ impl Ranged for ToolShape {
 }
 
 impl Ranged for Sizes {
-    ghost bad = { λ sizes. bad_field sizes };
+    ghost bad = { λ sizes. bad_machine sizes };
 
     fn bad(&self) -> Option<ShapeField> {
         bad_number(self)
@@ -102,7 +102,7 @@ fn row_in_turn<K: RowMaker, G: SweepGate>(
     gate: &G,
 ) -> Result<K::Row, Stop>
     requires can { K.can maker.now }
-    requires sizes { bad_field sizes.now ≡ None }
+    requires sizes { bad_machine sizes.now ≡ None }
     ensures { IfOk result
         (λ row. (row ≡ K.gives maker.now sizes.now) × K.shows maker.now sizes.now) }
 {

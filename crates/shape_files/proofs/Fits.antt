@@ -7,9 +7,9 @@ use Rattle.flat_model.specs.declared.ShapeField.TheVariants.{Ways, Regs}
 use Rattle.flat_model.specs.declared.limits.TheConstants.{MAX_WAYS, MAX_REGS}
 use Rattle.flat_model.specs.Ranges.{is_between}
 use Rattle.flat_model.proofs.Ranges.{between, inside}
-use Rattle.cache_unit.specs.Limits as limits
 use Rattle.shape_files.specs.declared.shape_file.TheConstants.{MOST_WAYS}
 use Rattle.shape_files.specs.declared.shape_file.ToolShape.{ToolShape}
+use Rattle.shape_files.specs.MachineFile.{bad_machine}
 use Rattle.shape_files.specs.ShapeFile.{is_register_count, sizes_of, bad_field}
 
 -- a test that is passed names no field
@@ -29,7 +29,7 @@ some_registers n h = go (1 == n) refl (2 == n) refl (4 == n) refl (8 == n) refl
         let none : is_register_count n ≡ false = rw (e, f, i, j) refl in
         absurd (no (sym h ∙ none))
 
-pub sizes_fit : (t : ToolShape) → bad_field t ≡ None → limits.bad_field (sizes_of t) ≡ None
+pub sizes_fit : (t : ToolShape) → bad_field t ≡ None → bad_machine (sizes_of t) ≡ None
 sizes_fit t h =
     let ways = passed (is_between t.ways 1 MOST_WAYS) Ways _ h in
     let regs = passed (is_register_count t.regs) Regs _ ways.1 in

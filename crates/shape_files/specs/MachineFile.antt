@@ -77,6 +77,16 @@ sizes_said ms =
       replies = number_at ms Replies usual_machine.replies;
     }
 
+-- ---- ranges
+
+-- the largest numbers of a machine of the program: of its memory the most that a type has, of the others the most at run time
+abbrev pub most_of_program : limits.Most
+most_of_program = record { ways = MAX_WAYS; regs = MAX_REGS; depth = MAX_DEPTH; words = MAX_WORDS }
+
+-- the first number of such a machine that is out of its range
+abbrev pub bad_machine : Sizes → Option ShapeField
+bad_machine z = limits.bad_field_within most_of_program z
+
 -- ---- what a table says
 
 -- a byte as one of ASCII that can be printed, or a question mark
@@ -85,7 +95,7 @@ printable_byte b = if is_between b 32 126 then b else 63
 
 -- All keys are a machine's, all numbers are whole ones, and in their ranges.
 abbrev pub TableSays : Members → Sizes → Type 0
-TableSays ms z = (other_key ms ≡ None) × (first_not_whole ms ≡ None) × (z ≡ sizes_said ms) × (limits.bad_field z ≡ None)
+TableSays ms z = (other_key ms ≡ None) × (first_not_whole ms ≡ None) × (z ≡ sizes_said ms) × (bad_machine z ≡ None)
 
 -- Why not: the first cause in this order. Memory may be missing for the name of a key.
 abbrev pub TableFails : Members → MachineFault → Type 0
@@ -93,7 +103,7 @@ TableFails ms NotToml = ⊥
 TableFails ms (UnknownKey name) = (key : List ℕ) × (other_key ms ≡ Some key) × (string_bytes name ≡ map printable_byte key)
 TableFails ms (NotWhole field) = (other_key ms ≡ None) × (first_not_whole ms ≡ Some field)
 TableFails ms (OutOfRange field) =
-    (other_key ms ≡ None) × (first_not_whole ms ≡ None) × (limits.bad_field (sizes_said ms) ≡ Some field)
+    (other_key ms ≡ None) × (first_not_whole ms ≡ None) × (bad_machine (sizes_said ms) ≡ Some field)
 TableFails ms OutOfMemory = IsSome (other_key ms)
 
 -- ---- what a text says

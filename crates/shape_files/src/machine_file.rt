@@ -3,7 +3,6 @@
 ghost use Rattle.std.specs.Prelude.{◌≡◌, None, IfOk, IfErr, map};
 ghost use Rattle.std.specs.Option.{option_map};
 ghost use Rattle.std.specs.String.{string_bytes};
-ghost use Rattle.cache_unit.specs.Limits as limits;
 ghost use Rattle.toml.specs.Parse.{parse_document};
 ghost use Rattle.toml.specs.View.{table_view};
 ghost use Rattle.shape_files.specs.MachineFile as file;
@@ -143,7 +142,7 @@ fn condition_text(field: ShapeField) -> &'static str
 /// each is 1 at least but the two queues, which take a whole block, and at most as
 /// [`flat_model`] says; the words are a multiple of those of a block.
 pub fn bad_number(sizes: &Sizes) -> Option<ShapeField>
-    ensures { result ≡ limits.bad_field sizes.now }
+    ensures { result ≡ file.bad_machine sizes.now }
 {
     // More words than a machine of the program may have are out of range, as 0 is.
     let words = if sizes.words > MAX_WORDS {
@@ -163,7 +162,7 @@ pub fn bad_number(sizes: &Sizes) -> Option<ShapeField>
 /// name of an unknown key.
 pub fn read_machine(alloc: Global, text: &str) -> Result<Sizes, MachineFault>
     ensures says { IfOk result (file.TextSays (parse_document text.now)) }
-    ensures good { IfOk result (λ sizes. limits.bad_field sizes ≡ None) }
+    ensures good { IfOk result (λ sizes. file.bad_machine sizes ≡ None) }
     ensures fault { IfErr result (file.TextFails text.now) }
 {
     match toml::table_from_str(alloc, text) {
@@ -177,7 +176,7 @@ pub fn read_machine(alloc: Global, text: &str) -> Result<Sizes, MachineFault>
 /// and `OutOfMemory` only if there is an unknown key.
 pub fn machine_of_table(alloc: Global, table: &Table) -> Result<Sizes, MachineFault>
     ensures says { IfOk result (file.TableSays (table_view table.now)) }
-    ensures good { IfOk result (λ sizes. limits.bad_field sizes ≡ None) }
+    ensures good { IfOk result (λ sizes. file.bad_machine sizes ≡ None) }
     ensures fault { IfErr result (file.TableFails (table_view table.now)) }
 {
     if let Some(key) = other_key(table) {

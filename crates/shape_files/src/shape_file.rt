@@ -1,7 +1,7 @@
 //! The shape file: the numbers of a machine, as a TOML table.
 
 ghost use Rattle.std.specs.Prelude.{◌≡◌, ◌≢◌, Err, None};
-ghost use Rattle.cache_unit.specs.Limits as limits;
+ghost use Rattle.shape_files.specs.MachineFile.{bad_machine};
 ghost use Rattle.toml.specs.Data.{get_member};
 ghost use Rattle.toml.specs.Errors.{IsBlank};
 ghost use Rattle.toml.specs.Parse.{parse_document};
@@ -58,7 +58,7 @@ impl ToolShape {
     /// these is.
     pub fn sizes(&self) -> Sizes
         ensures sizes { result ≡ sizes_of self.now }
-        ensures good { bad_field self.now ≡ None → limits.bad_field result ≡ None }
+        ensures good { bad_field self.now ≡ None → bad_machine result ≡ None }
     {
         Sizes {
             ways: self.ways,
