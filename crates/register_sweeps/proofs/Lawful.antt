@@ -5,6 +5,7 @@ use Rattle.std.proofs.lemmas.List.{length-replicate, get_or-map}
 use Rattle.flat_model.specs.declared.Event.{Event}
 use Rattle.flat_model.specs.Words.{zero_word}
 use Rattle.shape_files.specs.MachineFile.{bad_machine}
+use Rattle.shape_files.proofs.Fits.{at_run_time}
 use Rattle.cache_unit.specs.Sound.{InRange}
 use Rattle.cache_unit.specs.declared.Sizes.{Sizes}
 use Rattle.cache_unit.proofs.Numbers as numbers
@@ -29,7 +30,7 @@ good_machine z r =
 -- the row of such a machine counts each request once, and each accepted load's value
 pub counts_all : (z : Sizes) (events : List Event) → bad_machine z ≡ None → list_all is_request events ≡ true → CountsAll events z (row_of events z)
 counts_all z events h r =
-    let range = numbers.in_range z h in
+    let range = numbers.in_size z (at_run_time z h) in
     let opened = flat_opening z (lawful z range) (replicate z.words zero_word) (length-replicate z.words zero_word) in
     let words = range.some_memory in
     let counts = row_counts (new_machine z) z.regs events (good_machine z range) (omega (arith, words)) (λ tag. ap (λ f. is_some (f.due tag)) opened) r in
