@@ -6,23 +6,48 @@ use station_parts::MAX_PORTS;
 use std::alloc::{AllocError, Global};
 use std::sync::atomic::{AtomicU32, Ordering};
 
+// A port that is refused again and again waits for twice as long each time, and so many times as long
+// at most: a thread that has what is in its way may be without a processor for a while.
+const MOST_TIMES: u32 = 16;
+
 /// Holds nobody, but that a port lets some turns go by before it offers an ask again.
 #[derive(Drop)]
 pub(crate) struct PatientGate {
     turns: u32,
-    // For how many turns each port is still held. Only the port's own thread changes its number, so
-    // each has cache lines of its own: others would wait for them at every turn.
-    left: Vec<CachePadded<AtomicU32>>,
+    // Only a port's own thread changes its numbers, so each has cache lines of its own: others would
+    // wait for them at every turn.
+    holds: Vec<CachePadded<Hold>>,
+}
+
+/// What a port waits for.
+#[derive(Drop)]
+struct Hold {
+    // For how many turns it is still held.
+    left: AtomicU32,
+    // For how many it is held if it is refused next.
+    next: AtomicU32,
 }
 
 impl PatientGate {
-    /// A gate for as many ports as a station has at most, with so many turns.
+    /// A gate for as many ports as a station has at most, with so many turns behind a first refusal.
     pub(crate) fn new(alloc: Global, turns: u32) -> Result<PatientGate, AllocError> {
-        let mut left = Vec::with_capacity(alloc, MAX_PORTS as usize)?;
+        let mut holds = Vec::with_capacity(alloc, MAX_PORTS as usize)?;
         for _port in 0..MAX_PORTS {
-            left.push(CachePadded::new(AtomicU32::new(0)))?;
+            holds.push(CachePadded::new(Hold {
+                left: AtomicU32::new(0),
+                next: AtomicU32::new(turns),
+            }))?;
         }
-        Ok(PatientGate { turns, left })
+        Ok(PatientGate { turns, holds })
+    }
+
+    // The port's ask was refused for a cause that passes.
+    fn hold_back(&self, hold: &Hold) {
+        let turns = hold.next.load(Ordering::SeqCst);
+        let most = self.turns.saturating_mul(MOST_TIMES);
+        hold.left.store(turns, Ordering::SeqCst);
+        hold.next
+            .store(turns.saturating_mul(2).min(most), Ordering::SeqCst);
     }
 }
 
@@ -31,23 +56,25 @@ impl Gate for PatientGate {
         let Actor::Port(port) = actor else {
             return true;
         };
-        let Some(left) = self.left.get(port as usize) else {
+        let Some(hold) = self.holds.get(port as usize) else {
             return true;
         };
-        let turns = left.load(Ordering::SeqCst);
+        let turns = hold.left.load(Ordering::SeqCst);
         if turns == 0 {
             return true;
         }
-        left.store(turns - 1, Ordering::SeqCst);
+        hold.left.store(turns - 1, Ordering::SeqCst);
         false
     }
 
     fn told(&self, port: u32, told: &Told) {
-        if let Told::Refused(cause) = *told
-            && cause.passes()
-            && let Some(left) = self.left.get(port as usize)
-        {
-            left.store(self.turns, Ordering::SeqCst);
+        let Some(hold) = self.holds.get(port as usize) else {
+            return;
+        };
+        match *told {
+            Told::Refused(cause) if cause.passes() => self.hold_back(hold),
+            Told::Accepted | Told::Refused(_) => hold.next.store(self.turns, Ordering::SeqCst),
+            Told::Value { .. } => {}
         }
     }
 }

@@ -27,9 +27,9 @@ const TURNS: u64 = 100_000_000;
 // cache side and the banks to pass, and each offer that comes too early fills the journal.
 const PATIENCE: u32 = 200;
 
-// Asks of all ports between two renewals. A journal takes sixteen times as many entries, and an ask
-// makes four to six: so there is room for many that are offered again.
-const ASKS_OF_A_SEGMENT: u32 = 65_536;
+// Asks of all ports between two renewals. A journal takes 64 times as many entries, and an ask makes
+// four to six: so there is room for many that are offered again, as on a machine with much else to do.
+const ASKS_OF_A_SEGMENT: u32 = 16_384;
 
 type TourStation = Station<WAYS, BLOCK_WORDS, REGS, DEPTH>;
 
@@ -123,7 +123,9 @@ fn look_at(
     segment: &Segment,
     course: &mut Course,
 ) -> Result<Findings, AllocError> {
-    course.tally.note(asks_in(scripts), &segment.lists, &segment.journal);
+    course
+        .tally
+        .note(asks_in(scripts), &segment.lists, &segment.journal);
     Findings::of_segment(
         alloc,
         Audit::Clean,
