@@ -3,8 +3,7 @@
 use super::sweeps::with_registers;
 use flat_model::{Shape, ShapeField};
 use shape_files::{
-    ShapeFault, ToolShape, machine_of_table, read_machine, read_shape,
-    shape_of_table,
+    ShapeFault, ToolShape, machine_of_table, read_machine, read_shape, shape_of_table,
 };
 use std::test::Fail;
 
@@ -87,7 +86,10 @@ const REFUSED: [(&str, &str); 8] = [
         "words = 0\nstack = true",
         "machine: stack is not a whole number",
     ),
-    ("ways = 0\nblock_words = 0", "machine: block_words out of range: 1 to 16"),
+    (
+        "ways = 0\nblock_words = 0",
+        "machine: block_words out of range: 1 to 16",
+    ),
     (
         "block_words = 3",
         "machine: words out of range: 1 to 1048576, a multiple of block_words",
