@@ -373,22 +373,47 @@ fn makers_refuse_shapes(rt: HostRuntime) -> Result<(), Fail> {
     Ok(())
 }
 
+// Each part is made in a function of its own: a function takes the checker longer, the more values it drops at
+// each early return.
+fn makes_directory<R: Abort>(rt: &R, alloc: Global) -> Result<(), Fail> {
+    let directory: Directory<1, 4> = Directory::new(alloc, 2)?;
+    same(rt, "a look", directory.look(1), None);
+    same(rt, "a choice", directory.choose(1), Choice::Free(1));
+    Ok(())
+}
+
+fn makes_registers<R: Abort>(rt: &R, alloc: Global) -> Result<(), Fail> {
+    let registers: RegisterFile<4, 2> = RegisterFile::new(alloc)?;
+    same(rt, "a free slot", registers.free_slot(), Some(0));
+    Ok(())
+}
+
+fn makes_stack<R: Abort>(rt: &R) -> Result<(), Fail> {
+    let stack: InputStack<2> = InputStack::new()?;
+    same(rt, "the stack", stack.len(), 0);
+    Ok(())
+}
+
+fn makes_banks<R: Abort>(rt: &R, alloc: Global) -> Result<(), Fail> {
+    let banks = banks_of(alloc, &SMALL_SHAPE)?;
+    same(rt, "word 5", banks.word(5), Some(numbered(5)));
+    same(rt, "idle banks", banks.idle(), true);
+    Ok(())
+}
+
+fn makes_unit<R: Abort>(rt: &R, alloc: Global) -> Result<(), Fail> {
+    let unit: Unit = CacheUnit::new(alloc, &SMALL_SHAPE)?;
+    same(rt, "a clean unit", unit.clean(), true);
+    Ok(())
+}
+
 #[test]
 fn makers(rt: HostRuntime) -> Result<(), Fail> {
-    let alloc = rt.alloc();
-    let directory: Directory<1, 4> = Directory::new(alloc, 2)?;
-    same(&rt, "a look", directory.look(1), None);
-    same(&rt, "a choice", directory.choose(1), Choice::Free(1));
-    let registers: RegisterFile<4, 2> = RegisterFile::new(alloc)?;
-    same(&rt, "a free slot", registers.free_slot(), Some(0));
-    let stack: InputStack<2> = InputStack::new()?;
-    same(&rt, "the stack", stack.len(), 0);
-    let banks = banks_of(alloc, &SMALL_SHAPE)?;
-    same(&rt, "word 5", banks.word(5), Some(numbered(5)));
-    assert!(rt; banks.idle());
-    let unit: Unit = CacheUnit::new(alloc, &SMALL_SHAPE)?;
-    assert!(rt; unit.clean());
-    Ok(())
+    makes_directory(&rt, rt.alloc())?;
+    makes_registers(&rt, rt.alloc())?;
+    makes_stack(&rt)?;
+    makes_banks(&rt, rt.alloc())?;
+    makes_unit(&rt, rt.alloc())
 }
 
 #[test]
@@ -515,14 +540,25 @@ const CALLS: &[(&str, &[Call])] = &[
     ),
 ];
 
+/// Asserts what a unit answers to these calls.
+fn answers<R: Abort>(rt: &R, name: &str, unit: &mut Unit, banks: &mut Banks, calls: &[Call]) {
+    for call in calls {
+        same(rt, name, call.made(unit, banks), *call);
+    }
+}
+
+/// Asserts what a new unit answers to these calls.
+fn answers_anew<R: Abort>(rt: &R, alloc: Global, name: &str, calls: &[Call]) -> Result<(), Fail> {
+    let mut banks = banks_of(alloc, &SMALL_SHAPE)?;
+    let mut unit: Unit = CacheUnit::new(alloc, &SMALL_SHAPE)?;
+    answers(rt, name, &mut unit, &mut banks, calls);
+    Ok(())
+}
+
 #[test]
 fn cache_units(rt: HostRuntime) -> Result<(), Fail> {
     for (name, calls) in CALLS {
-        let mut unit: Unit = CacheUnit::new(rt.alloc(), &SMALL_SHAPE)?;
-        let mut banks = banks_of(rt.alloc(), &SMALL_SHAPE)?;
-        for call in *calls {
-            same(&rt, name, call.made(&mut unit, &mut banks), *call);
-        }
+        answers_anew(&rt, rt.alloc(), name, calls)?;
     }
     Ok(())
 }

@@ -308,26 +308,32 @@ fn ends<R: Abort>(
     Ok(())
 }
 
-#[test]
-fn mismatches(rt: HostRuntime) -> Result<(), Fail> {
-    for Told {
+/// Asserts what is told of a run that a line isn't one of.
+fn tells<R: Abort>(rt: &R, alloc: Global, row: &Told) -> Result<(), Fail> {
+    let Told {
         name,
         before,
         line,
         number,
         why,
-    } in TOLD {
-        let run = format!(in rt.alloc(); "{before}{line}\n")?;
-        let told = format!(in rt.alloc(); "mismatch at line {number}: {line}\n{why}")?;
-        ends(
-            &rt,
-            rt.alloc(),
-            name,
-            run.as_str(),
-            Behind::End,
-            Ok(told.as_str()),
-            1,
-        )?;
+    } = row;
+    let run = format!(in alloc; "{before}{line}\n")?;
+    let told = format!(in alloc; "mismatch at line {number}: {line}\n{why}")?;
+    ends(
+        rt,
+        alloc,
+        name,
+        run.as_str(),
+        Behind::End,
+        Ok(told.as_str()),
+        1,
+    )
+}
+
+#[test]
+fn mismatches(rt: HostRuntime) -> Result<(), Fail> {
+    for row in TOLD {
+        tells(&rt, rt.alloc(), row)?;
     }
     Ok(())
 }

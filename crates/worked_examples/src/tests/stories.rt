@@ -646,6 +646,29 @@ take 0 -> value 1 11223344
     },
 ];
 
+fn tell_weight(weight: u64, told: &mut Vec<u8>) -> Result<(), Fail> {
+    Ok(writeln!(told, "weight -> {weight}")?)
+}
+
+fn tell_pump(made: Option<(Event, Answer)>, told: &mut Vec<u8>) -> Result<(), Fail> {
+    match made {
+        Some((event, answer)) => Ok(writeln!(told, "pump -> {event} -> {answer}")?),
+        None => Ok(writeln!(told, "pump -> none")?),
+    }
+}
+
+/// Asks the machine a line of a trace, and writes it with its answer.
+fn tell_served<M: AnyMachine>(
+    alloc: Global,
+    machine: &mut M,
+    line: &str,
+    told: &mut Vec<u8>,
+) -> Result<(), Fail> {
+    let line = format!(in alloc; "{line}\n")?;
+    serve_text(alloc, &mut line.as_bytes(), told, machine)?;
+    Ok(())
+}
+
 /// Asks the machine one line, and writes it with what it answers.
 fn tell_line<M: AnyMachine>(
     alloc: Global,
@@ -654,17 +677,10 @@ fn tell_line<M: AnyMachine>(
     told: &mut Vec<u8>,
 ) -> Result<(), Fail> {
     match line {
-        "weight" => writeln!(told, "weight -> {}", machine.weight())?,
-        "pump" => match machine.pump() {
-            Some((event, answer)) => writeln!(told, "pump -> {event} -> {answer}")?,
-            None => writeln!(told, "pump -> none")?,
-        },
-        _ => {
-            let line = format!(in alloc; "{line}\n")?;
-            serve_text(alloc, &mut line.as_bytes(), told, machine)?;
-        }
+        "weight" => tell_weight(machine.weight(), told),
+        "pump" => tell_pump(machine.pump(), told),
+        _ => tell_served(alloc, machine, line, told),
     }
-    Ok(())
 }
 
 /// The lines of these pieces as the machine answers them, one after another.
@@ -686,19 +702,26 @@ pub fn joined(alloc: Global, pieces: &[&str]) -> Result<String, Fail> {
     Ok(text)
 }
 
+/// The event of a line and its answer; of other lines nothing.
+fn event_of(alloc: Global, line: &str) -> Result<Option<(Event, Answer)>, Fail> {
+    let line = format!(in alloc; "{line}\n")?;
+    match read_pair(line.as_bytes()) {
+        Ok(
+            Pair {
+                line: Line::Event(event),
+                answer: Some(answer),
+            },
+        ) => Ok(Some((event, answer))),
+        _ => Ok(None),
+    }
+}
+
 /// The events of these lines, and their answers.
 fn recorded(alloc: Global, lines: &str) -> Result<(Vec<Event>, Vec<Answer>), Fail> {
     let mut events = Vec::new(alloc);
     let mut answers = Vec::new(alloc);
     for line in lines.lines() {
-        let line = format!(in alloc; "{line}\n")?;
-        if let Ok(
-            Pair {
-                line: Line::Event(event),
-                answer: Some(answer),
-            },
-        ) = read_pair(line.as_bytes())
-        {
+        if let Some((event, answer)) = event_of(alloc, line)? {
             events.push(event)?;
             answers.push(answer)?;
         }
@@ -706,14 +729,12 @@ fn recorded(alloc: Global, lines: &str) -> Result<(Vec<Event>, Vec<Answer>), Fai
     Ok((events, answers))
 }
 
-/// Asserts that a new machine answers the lines of the story as they say, one after another, and another one
-/// its events by one call.
-fn plays<R: Abort, const WAYS: usize, const WORDS: usize, const REGS: usize, const DEPTH: usize>(
+/// Asserts that a machine answers the lines of the story as they say, one after another.
+fn answers_lines<R: Abort>(
     rt: &R,
     alloc: Global,
     story: &Story,
     machine: &mut ShapedMachine,
-    other: &mut Machine<WAYS, WORDS, REGS, DEPTH>,
 ) -> Result<(), Fail> {
     let lines = joined(alloc, story.lines)?;
     let told = told(alloc, machine, lines.as_str())?;
@@ -723,10 +744,53 @@ fn plays<R: Abort, const WAYS: usize, const WORDS: usize, const REGS: usize, con
         std::str::from_utf8(told.as_slice())?,
         lines.as_str(),
     );
+    Ok(())
+}
+
+/// Asserts that a machine answers the events of the story as they say, by one call.
+fn answers_events<
+    R: Abort,
+    const WAYS: usize,
+    const WORDS: usize,
+    const REGS: usize,
+    const DEPTH: usize,
+>(
+    rt: &R,
+    alloc: Global,
+    story: &Story,
+    machine: &mut Machine<WAYS, WORDS, REGS, DEPTH>,
+) -> Result<(), Fail> {
+    let lines = joined(alloc, story.lines)?;
     let (events, answers) = recorded(alloc, lines.as_str())?;
-    let answered = other.run(alloc, &events)?;
+    let answered = machine.run(alloc, &events)?;
     same(rt, story.name, answered.as_slice(), answers.as_slice());
     Ok(())
+}
+
+/// Asserts the lines of the story of a new machine over so many words.
+fn plays_lines<R: Abort>(
+    rt: &R,
+    alloc: Global,
+    story: &Story,
+    sizes: &Sizes,
+    words: u8,
+) -> Result<(), Fail> {
+    let image = image(alloc, words)?;
+    let mut machine = ShapedMachine::new(alloc, sizes, &image)?;
+    answers_lines(rt, alloc, story, &mut machine)
+}
+
+/// Asserts the events of the story of a new machine over so many words.
+fn plays_events<
+    R: Abort,
+    const WAYS: usize,
+    const WORDS: usize,
+    const REGS: usize,
+    const DEPTH: usize,
+>(rt: &R, alloc: Global, story: &Story, shape: Shape, words: u8) -> Result<(), Fail> {
+    let image = image(alloc, words)?;
+    let mut machine = Machine::<WAYS, WORDS, REGS, DEPTH>::new(alloc, shape, &image)?;
+    answers_events(rt, alloc, story, &mut machine)
 }
 
 /// Asserts the story of machines with 4 words in a block and a stack of 2.
@@ -736,38 +800,43 @@ fn plays_of<R: Abort, const WAYS: usize, const REGS: usize>(
     story: &Story,
     shape: Shape,
 ) -> Result<(), Fail> {
-    let image = image(alloc, 32)?;
     let sizes = Sizes {
         ways: u32::try_from(WAYS).unwrap_or(u32::MAX),
         regs: u32::try_from(REGS).unwrap_or(u32::MAX),
         ..sizes_of::<1, 4, 1, 2>(&shape)
     };
-    let mut machine = ShapedMachine::new(alloc, &sizes, &image)?;
-    let mut other = Machine::<WAYS, 4, REGS, 2>::new(alloc, shape, &image)?;
-    plays(rt, alloc, story, &mut machine, &mut other)
+    plays_lines(rt, alloc, story, &sizes, 32)?;
+    plays_events::<_, WAYS, 4, REGS, 2>(rt, alloc, story, shape, 32)
 }
 
 /// Asserts the story of the smallest machines.
 fn plays_of_smallest<R: Abort>(rt: &R, alloc: Global, story: &Story) -> Result<(), Fail> {
-    let image = image(alloc, 8)?;
     let sizes = sizes_of::<1, 1, 1, 1>(&SMALLEST_SHAPE);
-    let mut machine = ShapedMachine::new(alloc, &sizes, &image)?;
-    let mut other = Machine::<1, 1, 1, 1>::new(alloc, SMALLEST_SHAPE, &image)?;
-    plays(rt, alloc, story, &mut machine, &mut other)
+    plays_lines(rt, alloc, story, &sizes, 8)?;
+    plays_events::<_, 1, 1, 1, 1>(rt, alloc, story, SMALLEST_SHAPE, 8)
+}
+
+/// Asserts a story of the machines that it names.
+fn plays_story<R: Abort>(rt: &R, alloc: Global, story: &Story) -> Result<(), Fail> {
+    match story.kind {
+        Kind::Small => plays_of::<_, 1, 2>(rt, alloc, story, SMALL_SHAPE),
+        Kind::TwoWays => plays_of::<_, 2, 2>(rt, alloc, story, SMALL_SHAPE),
+        Kind::OneRegister => plays_of::<_, 1, 1>(rt, alloc, story, SMALL_SHAPE),
+        Kind::FourRegisters => plays_of::<_, 1, 4>(rt, alloc, story, SMALL_SHAPE),
+        Kind::EightReplies => plays_of::<_, 1, 2>(rt, alloc, story, EIGHT_REPLIES),
+        Kind::Smallest => plays_of_smallest(rt, alloc, story),
+    }
+}
+
+// The table comes as a slice, since its texts would else stand in each goal of the loop.
+fn play<R: Abort>(rt: &R, alloc: Global, stories: &[Story]) -> Result<(), Fail> {
+    for story in stories {
+        plays_story(rt, alloc, story)?;
+    }
+    Ok(())
 }
 
 #[test]
 fn stories(rt: HostRuntime) -> Result<(), Fail> {
-    let alloc = rt.alloc();
-    for story in STORIES {
-        match story.kind {
-            Kind::Small => plays_of::<_, 1, 2>(&rt, alloc, story, SMALL_SHAPE),
-            Kind::TwoWays => plays_of::<_, 2, 2>(&rt, alloc, story, SMALL_SHAPE),
-            Kind::OneRegister => plays_of::<_, 1, 1>(&rt, alloc, story, SMALL_SHAPE),
-            Kind::FourRegisters => plays_of::<_, 1, 4>(&rt, alloc, story, SMALL_SHAPE),
-            Kind::EightReplies => plays_of::<_, 1, 2>(&rt, alloc, story, EIGHT_REPLIES),
-            Kind::Smallest => plays_of_smallest(&rt, alloc, story),
-        }?;
-    }
-    Ok(())
+    play(&rt, rt.alloc(), STORIES)
 }
