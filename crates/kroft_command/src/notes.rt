@@ -26,9 +26,9 @@ Keys of a shape file, a TOML table of whole numbers:
 
 Keys of a machine file (--machine), such a table with all numbers of a machine:
   block_words  1 to 16                              default 4
-  ways         1 to 8                               default 2
-  registers    1 to 16                              default 4
-  stack        1 to 16                              default 4
+  ways         1 to 16                              default 2
+  registers    1 to 64                              default 4
+  stack        1 to 64                              default 4
   words        1 to 1048576, a multiple of block_words         default 64
   sets, banks, bank_queue, write_queue, replies     as above, with block_words in place of 4
 
