@@ -9,4 +9,5 @@ mod refusals;
 mod rounds;
 mod sizes;
 mod stories;
+mod telling;
 mod texts;

@@ -1,7 +1,8 @@
 //! The parts: what waits in those of a machine, flat memory, the makers, and the cache unit over its banks.
 
 use super::fixture::{SMALL_SHAPE, ZERO, image, numbered, same, small_machine};
-use super::stories::{ARRIVED, joined, told};
+use super::stories::ARRIVED;
+use super::telling::{joined, told};
 use cache_directory::{Choice, Directory};
 use cache_unit::{CacheUnit, Request};
 use flat_model::{

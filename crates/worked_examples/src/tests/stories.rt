@@ -4,14 +4,13 @@
 //! tells what is on its way, and `pump` makes the driver's event and tells it with its answer.
 
 use super::fixture::{SMALL_SHAPE, image, same};
+use super::telling::{joined, recorded, told};
 use cache_unit::{Sizes, sizes_of};
-use flat_model::{Answer, Event, Shape};
-use machine_core::{AnyMachine, Machine, ShapedMachine};
+use flat_model::Shape;
+use machine_core::{Machine, ShapedMachine};
 use std::alloc::Global;
-use std::io::Write;
 use std::process::Abort;
 use std::test::Fail;
-use trace_text::{Line, Pair, read_pair, serve_text};
 
 /// The machines of the stories. All but the last have 4 words in a block and a stack of 2.
 #[derive(Clone, Copy)]
@@ -645,89 +644,6 @@ take 0 -> value 1 11223344
         ],
     },
 ];
-
-fn tell_weight(weight: u64, told: &mut Vec<u8>) -> Result<(), Fail> {
-    Ok(writeln!(told, "weight -> {weight}")?)
-}
-
-fn tell_pump(made: Option<(Event, Answer)>, told: &mut Vec<u8>) -> Result<(), Fail> {
-    match made {
-        Some((event, answer)) => Ok(writeln!(told, "pump -> {event} -> {answer}")?),
-        None => Ok(writeln!(told, "pump -> none")?),
-    }
-}
-
-/// Asks the machine a line of a trace, and writes it with its answer.
-fn tell_served<M: AnyMachine>(
-    alloc: Global,
-    machine: &mut M,
-    line: &str,
-    told: &mut Vec<u8>,
-) -> Result<(), Fail> {
-    let line = format!(in alloc; "{line}\n")?;
-    serve_text(alloc, &mut line.as_bytes(), told, machine)?;
-    Ok(())
-}
-
-/// Asks the machine one line, and writes it with what it answers.
-fn tell_line<M: AnyMachine>(
-    alloc: Global,
-    machine: &mut M,
-    line: &str,
-    told: &mut Vec<u8>,
-) -> Result<(), Fail> {
-    match line {
-        "weight" => tell_weight(machine.weight(), told),
-        "pump" => tell_pump(machine.pump(), told),
-        _ => tell_served(alloc, machine, line, told),
-    }
-}
-
-/// The lines of these pieces as the machine answers them, one after another.
-pub fn told<M: AnyMachine>(alloc: Global, machine: &mut M, lines: &str) -> Result<Vec<u8>, Fail> {
-    let mut told = Vec::new(alloc);
-    for line in lines.lines() {
-        let (asked, _) = line.split_once(" -> ").ok_or("an answer")?;
-        tell_line(alloc, machine, asked, &mut told)?;
-    }
-    Ok(told)
-}
-
-/// The text of these pieces.
-pub fn joined(alloc: Global, pieces: &[&str]) -> Result<String, Fail> {
-    let mut text = String::new(alloc);
-    for piece in pieces {
-        text.push_str(piece)?;
-    }
-    Ok(text)
-}
-
-/// The event of a line and its answer; of other lines nothing.
-fn event_of(alloc: Global, line: &str) -> Result<Option<(Event, Answer)>, Fail> {
-    let line = format!(in alloc; "{line}\n")?;
-    match read_pair(line.as_bytes()) {
-        Ok(
-            Pair {
-                line: Line::Event(event),
-                answer: Some(answer),
-            },
-        ) => Ok(Some((event, answer))),
-        _ => Ok(None),
-    }
-}
-
-/// The events of these lines, and their answers.
-fn recorded(alloc: Global, lines: &str) -> Result<(Vec<Event>, Vec<Answer>), Fail> {
-    let mut events = Vec::new(alloc);
-    let mut answers = Vec::new(alloc);
-    for line in lines.lines() {
-        if let Some((event, answer)) = event_of(alloc, line)? {
-            events.push(event)?;
-            answers.push(answer)?;
-        }
-    }
-    Ok((events, answers))
-}
 
 /// Asserts that a machine answers the lines of the story as they say, one after another.
 fn answers_lines<R: Abort>(
