@@ -9,5 +9,4 @@ mod refusals;
 mod rounds;
 mod sizes;
 mod stories;
-mod telling;
 mod texts;

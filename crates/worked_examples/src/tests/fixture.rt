@@ -8,7 +8,7 @@ use std::io;
 use std::io::Read;
 use std::process::Abort;
 use std::test::Fail;
-use trace_text::{Counts, Sink, Source, TraceFault, serve_text};
+use trace_text::Counts;
 
 /// The shape of most examples: 32 words, 2 sets, 2 banks, and queues of 4.
 pub const SMALL_SHAPE: Shape = Shape {
@@ -110,16 +110,6 @@ pub fn small_machine(alloc: Global) -> Result<Machine<1, 4, 2, 2>, MakeFault> {
 pub fn default_machine(alloc: Global) -> Result<ShapedMachine, Fail> {
     let image = vec![in alloc; Word::default(); 64]?;
     Ok(Machine::<2, 4, 4, 4>::new(alloc, PROGRAM_SHAPE, &image)?.into_shaped())
-}
-
-/// What comes of serving a text by a new machine of the program's default shape.
-pub fn served<R: Source, W: Sink>(
-    alloc: Global,
-    reader: &mut R,
-    writer: &mut W,
-) -> Result<Result<Counts, TraceFault>, Fail> {
-    let mut machine = default_machine(alloc)?;
-    Ok(serve_text(alloc, reader, writer, &mut machine))
 }
 
 /// What a reader does in a read behind its text.

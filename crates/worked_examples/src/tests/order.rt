@@ -1,11 +1,12 @@
 //! The order in which a trace is read, and its answers are written and flushed.
 
-use super::fixture::{same, served};
+use super::fixture::{default_machine, same};
 use std::alloc::Global;
 use std::cell::RefCell;
 use std::io;
 use std::io::{Read, Write};
 use std::test::Fail;
+use trace_text::serve_text;
 
 /// What a reader gave, behind `<`, what a writer took, behind `>`, and a `!` for each flush.
 type Log = RefCell<Vec<u8>>;
@@ -63,13 +64,14 @@ impl Write for NotedWriter<'_> {
 /// The log of serving these pieces on a new machine.
 fn log_of(alloc: Global, pieces: &[&str]) -> Result<Vec<u8>, Fail> {
     let log = RefCell::new(Vec::new(alloc));
+    let mut machine = default_machine(alloc)?;
     let mut reader = NotedReader {
         pieces,
         given: 0,
         log: &log,
     };
     let mut writer = NotedWriter { log: &log };
-    let _ended = served(alloc, &mut reader, &mut writer)?;
+    let _ended = serve_text(alloc, &mut reader, &mut writer, &mut machine);
     Ok(log.into_inner())
 }
 

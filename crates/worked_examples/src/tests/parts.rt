@@ -1,8 +1,7 @@
 //! The parts: what waits in those of a machine, flat memory, the makers, and the cache unit over its banks.
 
 use super::fixture::{SMALL_SHAPE, ZERO, image, numbered, same, small_machine};
-use super::stories::ARRIVED;
-use super::telling::{joined, told};
+use super::stories::{ARRIVED, joined, told};
 use cache_directory::{Choice, Directory};
 use cache_unit::{CacheUnit, Request};
 use flat_model::{
@@ -374,47 +373,22 @@ fn makers_refuse_shapes(rt: HostRuntime) -> Result<(), Fail> {
     Ok(())
 }
 
-// Each part is made in a function of its own: a function takes the checker longer, the more values it drops at
-// each early return.
-fn makes_directory<R: Abort>(rt: &R, alloc: Global) -> Result<(), Fail> {
-    let directory: Directory<1, 4> = Directory::new(alloc, 2)?;
-    same(rt, "a look", directory.look(1), None);
-    same(rt, "a choice", directory.choose(1), Choice::Free(1));
-    Ok(())
-}
-
-fn makes_registers<R: Abort>(rt: &R, alloc: Global) -> Result<(), Fail> {
-    let registers: RegisterFile<4, 2> = RegisterFile::new(alloc)?;
-    same(rt, "a free slot", registers.free_slot(), Some(0));
-    Ok(())
-}
-
-fn makes_stack<R: Abort>(rt: &R) -> Result<(), Fail> {
-    let stack: InputStack<2> = InputStack::new()?;
-    same(rt, "the stack", stack.len(), 0);
-    Ok(())
-}
-
-fn makes_banks<R: Abort>(rt: &R, alloc: Global) -> Result<(), Fail> {
-    let banks = banks_of(alloc, &SMALL_SHAPE)?;
-    same(rt, "word 5", banks.word(5), Some(numbered(5)));
-    same(rt, "idle banks", banks.idle(), true);
-    Ok(())
-}
-
-fn makes_unit<R: Abort>(rt: &R, alloc: Global) -> Result<(), Fail> {
-    let unit: Unit = CacheUnit::new(alloc, &SMALL_SHAPE)?;
-    same(rt, "a clean unit", unit.clean(), true);
-    Ok(())
-}
-
 #[test]
 fn makers(rt: HostRuntime) -> Result<(), Fail> {
-    makes_directory(&rt, rt.alloc())?;
-    makes_registers(&rt, rt.alloc())?;
-    makes_stack(&rt)?;
-    makes_banks(&rt, rt.alloc())?;
-    makes_unit(&rt, rt.alloc())
+    let alloc = rt.alloc();
+    let directory: Directory<1, 4> = Directory::new(alloc, 2)?;
+    same(&rt, "a look", directory.look(1), None);
+    same(&rt, "a choice", directory.choose(1), Choice::Free(1));
+    let registers: RegisterFile<4, 2> = RegisterFile::new(alloc)?;
+    same(&rt, "a free slot", registers.free_slot(), Some(0));
+    let stack: InputStack<2> = InputStack::new()?;
+    same(&rt, "the stack", stack.len(), 0);
+    let banks = banks_of(alloc, &SMALL_SHAPE)?;
+    same(&rt, "word 5", banks.word(5), Some(numbered(5)));
+    assert!(rt; banks.idle());
+    let unit: Unit = CacheUnit::new(alloc, &SMALL_SHAPE)?;
+    assert!(rt; unit.clean());
+    Ok(())
 }
 
 #[test]
@@ -541,25 +515,14 @@ const CALLS: &[(&str, &[Call])] = &[
     ),
 ];
 
-/// Asserts what a unit answers to these calls.
-fn answers<R: Abort>(rt: &R, name: &str, unit: &mut Unit, banks: &mut Banks, calls: &[Call]) {
-    for call in calls {
-        same(rt, name, call.made(unit, banks), *call);
-    }
-}
-
-/// Asserts what a new unit answers to these calls.
-fn answers_anew<R: Abort>(rt: &R, alloc: Global, name: &str, calls: &[Call]) -> Result<(), Fail> {
-    let mut banks = banks_of(alloc, &SMALL_SHAPE)?;
-    let mut unit: Unit = CacheUnit::new(alloc, &SMALL_SHAPE)?;
-    answers(rt, name, &mut unit, &mut banks, calls);
-    Ok(())
-}
-
 #[test]
 fn cache_units(rt: HostRuntime) -> Result<(), Fail> {
     for (name, calls) in CALLS {
-        answers_anew(&rt, rt.alloc(), name, calls)?;
+        let mut unit: Unit = CacheUnit::new(rt.alloc(), &SMALL_SHAPE)?;
+        let mut banks = banks_of(rt.alloc(), &SMALL_SHAPE)?;
+        for call in *calls {
+            same(&rt, name, call.made(&mut unit, &mut banks), *call);
+        }
     }
     Ok(())
 }

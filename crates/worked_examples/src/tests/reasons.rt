@@ -308,32 +308,26 @@ fn ends<R: Abort>(
     Ok(())
 }
 
-/// Asserts what is told of a run that a line isn't one of.
-fn tells<R: Abort>(rt: &R, alloc: Global, row: &Told) -> Result<(), Fail> {
-    let Told {
+#[test]
+fn mismatches(rt: HostRuntime) -> Result<(), Fail> {
+    for Told {
         name,
         before,
         line,
         number,
         why,
-    } = row;
-    let run = format!(in alloc; "{before}{line}\n")?;
-    let told = format!(in alloc; "mismatch at line {number}: {line}\n{why}")?;
-    ends(
-        rt,
-        alloc,
-        name,
-        run.as_str(),
-        Behind::End,
-        Ok(told.as_str()),
-        1,
-    )
-}
-
-#[test]
-fn mismatches(rt: HostRuntime) -> Result<(), Fail> {
-    for row in TOLD {
-        tells(&rt, rt.alloc(), row)?;
+    } in TOLD {
+        let run = format!(in rt.alloc(); "{before}{line}\n")?;
+        let told = format!(in rt.alloc(); "mismatch at line {number}: {line}\n{why}")?;
+        ends(
+            &rt,
+            rt.alloc(),
+            name,
+            run.as_str(),
+            Behind::End,
+            Ok(told.as_str()),
+            1,
+        )?;
     }
     Ok(())
 }

@@ -13,7 +13,6 @@ use memory_banks::Banks;
 use memory_images::Image;
 use miss_registers::RegisterFile;
 use run_reasons::{Explanation, explain_text};
-use std::alloc::Global;
 use std::io::Cursor;
 use std::process::Abort;
 use std::test::Fail;
@@ -98,24 +97,6 @@ fn some_refusals_come_before_memory(rt: HostRuntime) -> Result<(), Fail> {
     Ok(())
 }
 
-/// Asserts that a machine answers these events so, at first or once it has found no memory.
-fn runs<R: Abort>(
-    rt: &R,
-    alloc: Global,
-    machine: &mut Machine<1, 4, 2, 2>,
-    events: &[Event],
-    wanted: &[Answer],
-) -> Result<(), Fail> {
-    let mut answers = machine.run(alloc, events);
-    if answers.is_err() {
-        same(rt, "settled", machine.settled(), true);
-        same(rt, "the weight", machine.weight(), 0);
-        answers = machine.run(alloc, events);
-    }
-    same(rt, "the answers", answers?.as_slice(), wanted);
-    Ok(())
-}
-
 #[test]
 fn run_may_find_no_memory(rt: HostRuntime) -> Result<(), Fail> {
     let alloc = rt.alloc();
@@ -137,37 +118,42 @@ fn run_may_find_no_memory(rt: HostRuntime) -> Result<(), Fail> {
     };
     let moved = Answer::Moved;
     let wanted = [Answer::Accepted, moved, moved, moved, value];
-    runs(&rt, alloc, &mut machine, &events, &wanted)
+    let mut answers = machine.run(alloc, &events);
+    if answers.is_err() {
+        assert!(rt; machine.settled());
+        same(&rt, "the weight", machine.weight(), 0);
+        answers = machine.run(alloc, &events);
+    }
+    same(&rt, "the answers", answers?.as_slice(), &wanted[..]);
+    Ok(())
 }
 
-/// Asserts that a machine serves the stored run, at first or once it has found no memory.
-fn serves<R: Abort>(rt: &R, alloc: Global, machine: &mut Machine<2, 4, 4, 4>) {
+#[test]
+fn serving_may_find_no_memory(rt: HostRuntime) -> Result<(), Fail> {
+    let alloc = rt.alloc();
+    let image = [ZERO; 64];
+    let Ok(mut machine) = Machine::<2, 4, 4, 4>::new(alloc, PROGRAM_SHAPE, &image) else {
+        return Ok(());
+    };
     let mut reader = STORED_INPUT.as_bytes();
     // Written without an allocation.
     let mut writer = Cursor::new([0u8; 1024]);
-    let mut ended = serve_text(alloc, &mut reader, &mut writer, machine);
+    let mut ended = serve_text(alloc, &mut reader, &mut writer, &mut machine);
     if ended == Err(TraceFault::OutOfMemory) {
-        same(rt, "the reader", reader, STORED_INPUT.as_bytes());
-        same(rt, "the writer", writer.position(), 0);
-        same(rt, "settled", machine.settled(), true);
-        ended = serve_text(alloc, &mut reader, &mut writer, machine);
+        same(&rt, "the reader", reader, STORED_INPUT.as_bytes());
+        same(&rt, "the writer", writer.position(), 0);
+        assert!(rt; machine.settled());
+        ended = serve_text(alloc, &mut reader, &mut writer, &mut machine);
     }
-    same(rt, "the counts", ended, Ok(STORED_COUNTS));
+    same(&rt, "the counts", ended, Ok(STORED_COUNTS));
     let end = writer.position().min(1024) as usize;
     same(
-        rt,
+        &rt,
         "what was written",
         &writer.get_ref()[..end],
         STORED_OUTPUT.as_bytes(),
     );
-}
-
-#[test]
-fn serving_may_find_no_memory(rt: HostRuntime) {
-    let image = [ZERO; 64];
-    if let Ok(mut machine) = Machine::<2, 4, 4, 4>::new(rt.alloc(), PROGRAM_SHAPE, &image) {
-        serves(&rt, rt.alloc(), &mut machine);
-    }
+    Ok(())
 }
 
 #[test]

@@ -7,7 +7,6 @@ use round_driver::{
     LostRounds, MOST_LATENCY, Table, Timing, drive, drive_with, summarize, summarize_with,
 };
 use std::alloc::Global;
-use std::process::Abort;
 use std::test::Fail;
 use trace_text::{CheckEnd, check_text, read_requests};
 
@@ -165,41 +164,26 @@ const TABLES: &[Rounds] = &[
     },
 ];
 
-// The table of these rounds. A function with no other call that may fail has the machine, here and below: each
-// such call is one more place at which the checker drops it.
-fn table_of<R: Abort>(rt: &R, alloc: Global, rounds: &Rounds) -> Result<Table, Fail> {
-    assert!(rt; rounds.requests.len() <= 4);
-    let mut machine = machine(alloc, 1, NARROW_SHAPE)?;
-    Ok(summarize(alloc, &mut machine, rounds.latency, rounds.requests)?)
-}
-
-fn has_table<R: Abort>(rt: &R, alloc: Global, rounds: &Rounds) -> Result<(), Fail> {
-    let table = table_of(rt, alloc, rounds)?;
-    same(rt, rounds.name, table, rounds.table);
-    let shown = format!(in alloc; "{table}")?;
-    same(rt, rounds.name, shown.as_str(), rounds.shown);
-    Ok(())
-}
-
 #[test]
 fn tables_of_rounds(rt: HostRuntime) -> Result<(), Fail> {
     for rounds in TABLES {
-        has_table(&rt, rt.alloc(), rounds)?;
+        let name = rounds.name;
+        assert!(rt; rounds.requests.len() <= 4);
+        let mut machine = machine(rt.alloc(), 1, NARROW_SHAPE)?;
+        let table = summarize(rt.alloc(), &mut machine, rounds.latency, rounds.requests)?;
+        same(&rt, name, table, rounds.table);
+        let shown = format!(in rt.alloc(); "{table}")?;
+        same(&rt, name, shown.as_str(), rounds.shown);
     }
     Ok(())
 }
 
-// The rounds of one load without latency, written.
-fn drives_a_load(alloc: Global, written: &mut Vec<u8>) -> Result<u64, Fail> {
-    let mut machine = machine(alloc, 1, NARROW_SHAPE)?;
-    let requests = [Event::Load { tag: 1, at: 0 }];
-    Ok(drive(alloc, &mut machine, 0, &requests, written)?)
-}
-
 #[test]
 fn a_load_without_latency(rt: HostRuntime) -> Result<(), Fail> {
+    let mut machine = machine(rt.alloc(), 1, NARROW_SHAPE)?;
+    let requests = [Event::Load { tag: 1, at: 0 }];
     let mut written = Vec::new(rt.alloc());
-    let rounds = drives_a_load(rt.alloc(), &mut written)?;
+    let rounds = drive(rt.alloc(), &mut machine, 0, &requests, &mut written)?;
     same(&rt, "rounds", rounds, 6);
     let wanted = "load 1 0 -> accepted
 serve 0 -> moved
@@ -308,25 +292,17 @@ load 39 17
 evict 4
 ";
 
-// The rounds of one load through one bank.
-fn rounds_through_one_bank<R: Abort>(rt: &R, alloc: Global, timing: Timing) -> Result<u64, Fail> {
-    assert!(rt; timing.latency <= MOST_LATENCY);
-    let shape = Shape {
-        banks: 1,
-        ..NARROW_SHAPE
-    };
-    let requests = [Event::Load { tag: 1, at: 0 }];
-    let mut machine = machine(alloc, 1, shape)?;
-    let table = summarize_with(alloc, &mut machine, timing, &requests)?;
-    Ok(table.rounds)
-}
-
 // The load is accepted in round 1, and the bank begins the first of its four reads in round 2. A pipelined bank begins
 // another each `busy` rounds, so it serves the last one in round 2 + 3 * busy + latency, in which the word
 // arrives and is processed; nothing moves in the next one. A bank that isn't pipelined begins each read in the
 // round behind the one in which it served the last, so every latency + 1 rounds.
 #[test]
 fn one_load_through_one_bank(rt: HostRuntime) -> Result<(), Fail> {
+    let shape = Shape {
+        banks: 1,
+        ..NARROW_SHAPE
+    };
+    let requests = [Event::Load { tag: 1, at: 0 }];
     for (latency, busy, wanted) in [
         (5, 1, 11),
         (5, 2, 14),
@@ -337,47 +313,28 @@ fn one_load_through_one_bank(rt: HostRuntime) -> Result<(), Fail> {
         (9, 9, 42),
         (1, 1, 10),
     ] {
+        let mut machine = machine(rt.alloc(), 1, shape)?;
         let timing = Timing { latency, busy };
-        let rounds = rounds_through_one_bank(&rt, rt.alloc(), timing)?;
-        same(&rt, "rounds", rounds, wanted);
+        assert!(rt; timing.latency <= MOST_LATENCY);
+        let table = summarize_with(rt.alloc(), &mut machine, timing, &requests)?;
+        same(&rt, "rounds", table.rounds, wanted);
     }
-    Ok(())
-}
-
-// Writes the run of these requests, and gives what is on its way in the machine then.
-fn weight_behind<R: Abort>(
-    rt: &R,
-    alloc: Global,
-    timing: Timing,
-    requests: &[Event],
-    written: &mut Vec<u8>,
-) -> Result<u64, Fail> {
-    assert!(rt; requests.len() == 80);
-    assert!(rt; timing.latency <= MOST_LATENCY);
-    let mut machine = machine(alloc, 2, NARROW_SHAPE)?;
-    drive_with(alloc, &mut machine, timing, requests, written)?;
-    Ok(machine.weight())
-}
-
-fn is_flat<R: Abort>(
-    rt: &R,
-    alloc: Global,
-    timing: Timing,
-    requests: &[Event],
-) -> Result<(), Fail> {
-    let mut written = Vec::new(alloc);
-    let weight = weight_behind(rt, alloc, timing, requests, &mut written)?;
-    let verdict = check_text(alloc, &mut written.as_slice(), 64)?;
-    assert!(rt; matches!(verdict, CheckEnd::Flat { .. }));
-    same(rt, "the weight", weight, 0);
     Ok(())
 }
 
 #[test]
 fn runs_are_flat(rt: HostRuntime) -> Result<(), Fail> {
     let requests = read_requests(rt.alloc(), &mut LOADS_AND_EVICTIONS.as_bytes())?;
+    assert!(rt; requests.len() == 80);
     for (latency, busy) in [(3, 3), (3, 1), (9, 2), (1_000, 1)] {
-        is_flat(&rt, rt.alloc(), Timing { latency, busy }, &requests)?;
+        let mut machine = machine(rt.alloc(), 2, NARROW_SHAPE)?;
+        let mut written = Vec::new(rt.alloc());
+        let timing = Timing { latency, busy };
+        assert!(rt; timing.latency <= MOST_LATENCY);
+        drive_with(rt.alloc(), &mut machine, timing, &requests, &mut written)?;
+        let verdict = check_text(rt.alloc(), &mut written.as_slice(), 64)?;
+        assert!(rt; matches!(verdict, CheckEnd::Flat { .. }));
+        same(&rt, "the weight", machine.weight(), 0);
     }
     Ok(())
 }

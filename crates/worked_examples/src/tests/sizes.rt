@@ -2,11 +2,10 @@
 
 use super::fixture::{default_machine, image, same};
 use cache_directory::Directory;
-use flat_model::{Answer, Event, FlatMemory, ReplayFault, Shape, Word};
+use flat_model::{Answer, Event, FlatMemory, Shape, Word};
 use machine_core::Machine;
 use memory_banks::{Banks, Lines};
 use std::alloc::{AllocError, Global};
-use std::process::Abort;
 use std::test::Fail;
 use trace_text::{CheckEnd, check_text, read_requests};
 use write_queue::WriteQueue;
@@ -44,34 +43,21 @@ fn memory_of_the_largest_shape(rt: HostRuntime) -> Result<(), Fail> {
     Ok(())
 }
 
-fn largest_queue<R: Abort>(rt: &R, alloc: Global) -> Result<(), Fail> {
+#[test]
+fn parts_of_the_largest_shape(rt: HostRuntime) -> Result<(), Fail> {
+    let alloc = rt.alloc();
+    let image = vec![in alloc; Word::default(); 1_048_576]?;
     let queue = WriteQueue::new(alloc, 256)?;
-    same(rt, "room", queue.room(), 256);
-    Ok(())
-}
-
-fn largest_directory<R: Abort>(rt: &R, alloc: Global) -> Result<(), Fail> {
+    same(&rt, "room", queue.room(), 256);
     let directory = Directory::<2, 4>::new(alloc, 1_024)?;
-    same(rt, "a look", directory.look(1_023), None);
-    Ok(())
-}
-
-fn largest_machine<R: Abort>(rt: &R, alloc: Global, image: &[Word]) -> Result<(), Fail> {
-    let mut machine = Machine::<2, 4, 8, 4>::new(alloc, LARGEST, image)?;
+    same(&rt, "a look", directory.look(1_023), None);
+    let mut machine = Machine::<2, 4, 8, 4>::new(alloc, LARGEST, &image)?;
     let load = Event::Load {
         tag: 1,
         at: 1_048_575,
     };
-    same(rt, "the load", machine.apply(load), Answer::Accepted);
+    same(&rt, "the load", machine.apply(load), Answer::Accepted);
     Ok(())
-}
-
-#[test]
-fn parts_of_the_largest_shape(rt: HostRuntime) -> Result<(), Fail> {
-    largest_queue(&rt, rt.alloc())?;
-    largest_directory(&rt, rt.alloc())?;
-    let image = vec![in rt.alloc(); Word::default(); 1_048_576]?;
-    largest_machine(&rt, rt.alloc(), &image)
 }
 
 #[test]
@@ -94,29 +80,19 @@ fn words_that_the_banks_do_not_share_evenly(rt: HostRuntime) -> Result<(), Fail>
     Ok(())
 }
 
-/// What the machine of the program's default shape answers to all of these.
-fn answers_to(alloc: Global, events: &[Event]) -> Result<Vec<Answer>, Fail> {
-    let mut machine = default_machine(alloc)?;
-    Ok(machine.run(alloc, events)?)
-}
-
-/// What becomes of these in a flat memory of four words.
-fn replayed(
-    alloc: Global,
-    events: &[Event],
-    answers: &[Answer],
-) -> Result<Result<(), ReplayFault>, Fail> {
-    let mut memory = FlatMemory::new(alloc, &[Word::default(); 4])?;
-    Ok(memory.replay(alloc, events, answers))
-}
-
 #[test]
 fn a_long_run(rt: HostRuntime) -> Result<(), Fail> {
+    let mut machine = default_machine(rt.alloc())?;
     let events = vec![in rt.alloc(); Event::Drain; MANY]?;
-    let answers = answers_to(rt.alloc(), &events)?;
+    let answers = machine.run(rt.alloc(), &events)?;
     same(&rt, "answers", answers.len(), MANY);
-    let ended = replayed(rt.alloc(), &events, &answers)?;
-    same(&rt, "the replay", ended, Ok(()));
+    let mut memory = FlatMemory::new(rt.alloc(), &[Word::default(); 4])?;
+    same(
+        &rt,
+        "the replay",
+        memory.replay(rt.alloc(), &events, &answers),
+        Ok(()),
+    );
     Ok(())
 }
 
@@ -197,23 +173,17 @@ fn machine_of_the_largest_numbers(rt: HostRuntime) -> Result<(), Fail> {
     Ok(())
 }
 
-/// A load of one word under each tag, and then each tag's value.
-fn run_of_every_tag(alloc: Global) -> Result<String, AllocError> {
-    let mut run = String::new(alloc);
-    for tag in 0..=u16::MAX {
-        write!(&mut run, "load {tag} 3 -> accepted\n")?;
-    }
-    for tag in 0..=u16::MAX {
-        write!(&mut run, "take 0 -> value {tag} 00000000\n")?;
-    }
-    Ok(run)
-}
-
 // Each tag is owed its word at the same time; once all are taken, the first is owed nothing.
 #[test]
 fn check_of_every_tag(rt: HostRuntime) -> Result<(), Fail> {
     let alloc = rt.alloc();
-    let mut run = run_of_every_tag(alloc)?;
+    let mut run = String::new(alloc);
+    for tag in 0..=u16::MAX {
+        run.push_str(format!(in alloc; "load {tag} 3 -> accepted\n")?.as_str())?;
+    }
+    for tag in 0..=u16::MAX {
+        run.push_str(format!(in alloc; "take 0 -> value {tag} 00000000\n")?.as_str())?;
+    }
     let end = check_text(alloc, &mut run.as_bytes(), 4);
     same(&rt, "all taken", end, Ok(CheckEnd::Flat { steps: 131_072 }));
     run.push_str("take 0 -> value 0 00000000\n")?;

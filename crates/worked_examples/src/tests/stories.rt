@@ -4,13 +4,14 @@
 //! tells what is on its way, and `pump` makes the driver's event and tells it with its answer.
 
 use super::fixture::{SMALL_SHAPE, image, same};
-use super::telling::{joined, recorded, told};
 use cache_unit::{Sizes, sizes_of};
-use flat_model::Shape;
-use machine_core::{Machine, ShapedMachine};
+use flat_model::{Answer, Event, Shape};
+use machine_core::{AnyMachine, Machine, ShapedMachine};
 use std::alloc::Global;
+use std::io::Write;
 use std::process::Abort;
 use std::test::Fail;
+use trace_text::{Line, Pair, read_pair, serve_text};
 
 /// The machines of the stories. All but the last have 4 words in a block and a stack of 2.
 #[derive(Clone, Copy)]
@@ -645,12 +646,74 @@ take 0 -> value 1 11223344
     },
 ];
 
-/// Asserts that a machine answers the lines of the story as they say, one after another.
-fn answers_lines<R: Abort>(
+/// Asks the machine one line, and writes it with what it answers.
+fn tell_line<M: AnyMachine>(
+    alloc: Global,
+    machine: &mut M,
+    line: &str,
+    told: &mut Vec<u8>,
+) -> Result<(), Fail> {
+    match line {
+        "weight" => writeln!(told, "weight -> {}", machine.weight())?,
+        "pump" => match machine.pump() {
+            Some((event, answer)) => writeln!(told, "pump -> {event} -> {answer}")?,
+            None => writeln!(told, "pump -> none")?,
+        },
+        _ => {
+            let line = format!(in alloc; "{line}\n")?;
+            serve_text(alloc, &mut line.as_bytes(), told, machine)?;
+        }
+    }
+    Ok(())
+}
+
+/// The lines of these pieces as the machine answers them, one after another.
+pub fn told<M: AnyMachine>(alloc: Global, machine: &mut M, lines: &str) -> Result<Vec<u8>, Fail> {
+    let mut told = Vec::new(alloc);
+    for line in lines.lines() {
+        let (asked, _) = line.split_once(" -> ").ok_or("an answer")?;
+        tell_line(alloc, machine, asked, &mut told)?;
+    }
+    Ok(told)
+}
+
+/// The text of these pieces.
+pub fn joined(alloc: Global, pieces: &[&str]) -> Result<String, Fail> {
+    let mut text = String::new(alloc);
+    for piece in pieces {
+        text.push_str(piece)?;
+    }
+    Ok(text)
+}
+
+/// The events of these lines, and their answers.
+fn recorded(alloc: Global, lines: &str) -> Result<(Vec<Event>, Vec<Answer>), Fail> {
+    let mut events = Vec::new(alloc);
+    let mut answers = Vec::new(alloc);
+    for line in lines.lines() {
+        let line = format!(in alloc; "{line}\n")?;
+        if let Ok(
+            Pair {
+                line: Line::Event(event),
+                answer: Some(answer),
+            },
+        ) = read_pair(line.as_bytes())
+        {
+            events.push(event)?;
+            answers.push(answer)?;
+        }
+    }
+    Ok((events, answers))
+}
+
+/// Asserts that a new machine answers the lines of the story as they say, one after another, and another one
+/// its events by one call.
+fn plays<R: Abort, const WAYS: usize, const WORDS: usize, const REGS: usize, const DEPTH: usize>(
     rt: &R,
     alloc: Global,
     story: &Story,
     machine: &mut ShapedMachine,
+    other: &mut Machine<WAYS, WORDS, REGS, DEPTH>,
 ) -> Result<(), Fail> {
     let lines = joined(alloc, story.lines)?;
     let told = told(alloc, machine, lines.as_str())?;
@@ -660,53 +723,10 @@ fn answers_lines<R: Abort>(
         std::str::from_utf8(told.as_slice())?,
         lines.as_str(),
     );
-    Ok(())
-}
-
-/// Asserts that a machine answers the events of the story as they say, by one call.
-fn answers_events<
-    R: Abort,
-    const WAYS: usize,
-    const WORDS: usize,
-    const REGS: usize,
-    const DEPTH: usize,
->(
-    rt: &R,
-    alloc: Global,
-    story: &Story,
-    machine: &mut Machine<WAYS, WORDS, REGS, DEPTH>,
-) -> Result<(), Fail> {
-    let lines = joined(alloc, story.lines)?;
     let (events, answers) = recorded(alloc, lines.as_str())?;
-    let answered = machine.run(alloc, &events)?;
+    let answered = other.run(alloc, &events)?;
     same(rt, story.name, answered.as_slice(), answers.as_slice());
     Ok(())
-}
-
-/// Asserts the lines of the story of a new machine over so many words.
-fn plays_lines<R: Abort>(
-    rt: &R,
-    alloc: Global,
-    story: &Story,
-    sizes: &Sizes,
-    words: u8,
-) -> Result<(), Fail> {
-    let image = image(alloc, words)?;
-    let mut machine = ShapedMachine::new(alloc, sizes, &image)?;
-    answers_lines(rt, alloc, story, &mut machine)
-}
-
-/// Asserts the events of the story of a new machine over so many words.
-fn plays_events<
-    R: Abort,
-    const WAYS: usize,
-    const WORDS: usize,
-    const REGS: usize,
-    const DEPTH: usize,
->(rt: &R, alloc: Global, story: &Story, shape: Shape, words: u8) -> Result<(), Fail> {
-    let image = image(alloc, words)?;
-    let mut machine = Machine::<WAYS, WORDS, REGS, DEPTH>::new(alloc, shape, &image)?;
-    answers_events(rt, alloc, story, &mut machine)
 }
 
 /// Asserts the story of machines with 4 words in a block and a stack of 2.
@@ -716,43 +736,38 @@ fn plays_of<R: Abort, const WAYS: usize, const REGS: usize>(
     story: &Story,
     shape: Shape,
 ) -> Result<(), Fail> {
+    let image = image(alloc, 32)?;
     let sizes = Sizes {
         ways: u32::try_from(WAYS).unwrap_or(u32::MAX),
         regs: u32::try_from(REGS).unwrap_or(u32::MAX),
         ..sizes_of::<1, 4, 1, 2>(&shape)
     };
-    plays_lines(rt, alloc, story, &sizes, 32)?;
-    plays_events::<_, WAYS, 4, REGS, 2>(rt, alloc, story, shape, 32)
+    let mut machine = ShapedMachine::new(alloc, &sizes, &image)?;
+    let mut other = Machine::<WAYS, 4, REGS, 2>::new(alloc, shape, &image)?;
+    plays(rt, alloc, story, &mut machine, &mut other)
 }
 
 /// Asserts the story of the smallest machines.
 fn plays_of_smallest<R: Abort>(rt: &R, alloc: Global, story: &Story) -> Result<(), Fail> {
+    let image = image(alloc, 8)?;
     let sizes = sizes_of::<1, 1, 1, 1>(&SMALLEST_SHAPE);
-    plays_lines(rt, alloc, story, &sizes, 8)?;
-    plays_events::<_, 1, 1, 1, 1>(rt, alloc, story, SMALLEST_SHAPE, 8)
-}
-
-/// Asserts a story of the machines that it names.
-fn plays_story<R: Abort>(rt: &R, alloc: Global, story: &Story) -> Result<(), Fail> {
-    match story.kind {
-        Kind::Small => plays_of::<_, 1, 2>(rt, alloc, story, SMALL_SHAPE),
-        Kind::TwoWays => plays_of::<_, 2, 2>(rt, alloc, story, SMALL_SHAPE),
-        Kind::OneRegister => plays_of::<_, 1, 1>(rt, alloc, story, SMALL_SHAPE),
-        Kind::FourRegisters => plays_of::<_, 1, 4>(rt, alloc, story, SMALL_SHAPE),
-        Kind::EightReplies => plays_of::<_, 1, 2>(rt, alloc, story, EIGHT_REPLIES),
-        Kind::Smallest => plays_of_smallest(rt, alloc, story),
-    }
-}
-
-// The table comes as a slice, since its texts would else stand in each goal of the loop.
-fn play<R: Abort>(rt: &R, alloc: Global, stories: &[Story]) -> Result<(), Fail> {
-    for story in stories {
-        plays_story(rt, alloc, story)?;
-    }
-    Ok(())
+    let mut machine = ShapedMachine::new(alloc, &sizes, &image)?;
+    let mut other = Machine::<1, 1, 1, 1>::new(alloc, SMALLEST_SHAPE, &image)?;
+    plays(rt, alloc, story, &mut machine, &mut other)
 }
 
 #[test]
 fn stories(rt: HostRuntime) -> Result<(), Fail> {
-    play(&rt, rt.alloc(), STORIES)
+    let alloc = rt.alloc();
+    for story in STORIES {
+        match story.kind {
+            Kind::Small => plays_of::<_, 1, 2>(&rt, alloc, story, SMALL_SHAPE),
+            Kind::TwoWays => plays_of::<_, 2, 2>(&rt, alloc, story, SMALL_SHAPE),
+            Kind::OneRegister => plays_of::<_, 1, 1>(&rt, alloc, story, SMALL_SHAPE),
+            Kind::FourRegisters => plays_of::<_, 1, 4>(&rt, alloc, story, SMALL_SHAPE),
+            Kind::EightReplies => plays_of::<_, 1, 2>(&rt, alloc, story, EIGHT_REPLIES),
+            Kind::Smallest => plays_of_smallest(&rt, alloc, story),
+        }?;
+    }
+    Ok(())
 }

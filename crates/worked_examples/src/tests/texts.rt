@@ -1,7 +1,7 @@
 //! Traces as text: single lines and pairs, and texts whose readers and writers come in pieces, end or fail.
 
 use super::fixture::{
-    Behind, STORED_COUNTS, STORED_INPUT, STORED_OUTPUT, Script, ZERO, default_machine, same, served,
+    Behind, STORED_COUNTS, STORED_INPUT, STORED_OUTPUT, Script, ZERO, default_machine, same,
 };
 use flat_model::{Answer, Cause, Event, Lanes, Word};
 use machine_core::ShapedMachine;
@@ -225,13 +225,14 @@ const SERVED: &[Served] = &[
 
 #[test]
 fn served_texts(rt: HostRuntime) -> Result<(), Fail> {
-    for row in SERVED {
-        let name = row.name;
+    for served in SERVED {
+        let name = served.name;
+        let mut machine = default_machine(rt.alloc())?;
         let mut output = Vec::new(rt.alloc());
-        let mut reader = Script::new(row.text, 64, [row.first, row.later]);
-        let ended = served(rt.alloc(), &mut reader, &mut output)?;
-        same(&rt, name, ended, row.ended);
-        same(&rt, name, output.as_slice(), row.written.as_bytes());
+        let mut reader = Script::new(served.text, 64, [served.first, served.later]);
+        let ended = serve_text(rt.alloc(), &mut reader, &mut output, &mut machine);
+        same(&rt, name, ended, served.ended);
+        same(&rt, name, output.as_slice(), served.written.as_bytes());
         same(&rt, name, reader.reads, 2);
     }
     Ok(())
@@ -317,6 +318,7 @@ impl Write for Limited {
 #[test]
 fn stored_run_in_pieces(rt: HostRuntime) -> Result<(), Fail> {
     for most in [1usize, 2, 3, 7, 64, 4096] {
+        let mut machine = default_machine(rt.alloc())?;
         let mut reader = Script::new(STORED_INPUT, most, [Behind::End, Behind::End]);
         let mut writer = Limited {
             taken: Vec::new(rt.alloc()),
@@ -324,7 +326,7 @@ fn stored_run_in_pieces(rt: HostRuntime) -> Result<(), Fail> {
             most,
             fails: true,
         };
-        let ended = served(rt.alloc(), &mut reader, &mut writer)?;
+        let ended = serve_text(rt.alloc(), &mut reader, &mut writer, &mut machine);
         same(&rt, "the counts", ended, Ok(STORED_COUNTS));
         same(
             &rt,
@@ -349,52 +351,42 @@ fn answers_to(alloc: Global, input: &[u8]) -> Result<(u64, String), Fail> {
     Ok((lines, answers))
 }
 
-/// What is counted of an input that is cut here, behind so many whole lines.
-fn lines_of(input: &[u8], lines: u64) -> Result<u64, TraceFault> {
-    match input.last() {
-        None | Some(b'\n') => Ok(lines),
-        Some(_) => Err(TraceFault::Line {
-            number: lines.saturating_add(1),
-            fault: LineFault::NotEnded,
-        }),
-    }
-}
-
-/// Asserts what comes of the first bytes of the stored run.
-fn serves_front<R: Abort>(rt: &R, alloc: Global, input: &[u8]) -> Result<(), Fail> {
-    let mut output = Vec::new(alloc);
-    let mut reader = input;
-    let ended = served(alloc, &mut reader, &mut output)?;
-    let (lines, answers) = answers_to(alloc, input)?;
-    same(
-        rt,
-        "what was written",
-        output.as_slice(),
-        answers.as_str().as_bytes(),
-    );
-    let counted = ended.map(|counts| counts.lines);
-    same(rt, "the lines", counted, lines_of(input, lines));
-    Ok(())
-}
-
 #[test]
 fn cut_input(rt: HostRuntime) -> Result<(), Fail> {
     for cut in 0..=STORED_INPUT.len() {
         let input = STORED_INPUT.as_bytes().get(..cut).ok_or("the first bytes")?;
-        serves_front(&rt, rt.alloc(), input)?;
+        let mut machine = default_machine(rt.alloc())?;
+        let mut output = Vec::new(rt.alloc());
+        let mut reader = input;
+        let ended = serve_text(rt.alloc(), &mut reader, &mut output, &mut machine);
+        let (lines, answers) = answers_to(rt.alloc(), input)?;
+        same(
+            &rt,
+            "what was written",
+            output.as_slice(),
+            answers.as_str().as_bytes(),
+        );
+        let wanted = match input.last() {
+            None | Some(b'\n') => Ok(lines),
+            Some(_) => Err(TraceFault::Line {
+                number: lines.saturating_add(1),
+                fault: LineFault::NotEnded,
+            }),
+        };
+        same(&rt, "the lines", ended.map(|counts| counts.lines), wanted);
     }
     Ok(())
 }
 
 /// Asserts what comes of the stored run where the writer has so much room and then fails, or takes no
-/// byte.
+/// byte, and gives the machine.
 fn serves_until<R: Abort>(
     rt: &R,
     alloc: Global,
-    machine: &mut ShapedMachine,
     room: usize,
     fails: bool,
-) {
+) -> Result<ShapedMachine, Fail> {
+    let mut machine = default_machine(alloc)?;
     let mut writer = Limited {
         taken: Vec::new(alloc),
         room,
@@ -402,22 +394,11 @@ fn serves_until<R: Abort>(
         fails,
     };
     let mut reader = STORED_INPUT.as_bytes();
-    let ended = serve_text(alloc, &mut reader, &mut writer, machine);
+    let ended = serve_text(alloc, &mut reader, &mut writer, &mut machine);
     same(rt, "the fault", ended, Err(TraceFault::Write));
     let front = STORED_OUTPUT.as_bytes().get(..room);
     same(rt, "what was written", Some(writer.taken.as_slice()), front);
-}
-
-/// Asserts the same of a new machine, and gives the code that it then has of word 5.
-fn code_behind<R: Abort>(
-    rt: &R,
-    alloc: Global,
-    room: usize,
-    fails: bool,
-) -> Result<Option<Lanes>, Fail> {
-    let mut machine = default_machine(alloc)?;
-    serves_until(rt, alloc, &mut machine, room, fails);
-    Ok(machine.field(0, 1).map(|field| field.code))
+    Ok(machine)
 }
 
 // The line whose text was refused has been applied, and no line behind it: with room for 20 bytes that is the
@@ -425,14 +406,15 @@ fn code_behind<R: Abort>(
 #[test]
 fn failing_writer(rt: HostRuntime) -> Result<(), Fail> {
     for room in 0..STORED_OUTPUT.len() {
-        let code = code_behind(&rt, rt.alloc(), room, true)?.ok_or("a word's field")?;
+        let machine = serves_until(&rt, rt.alloc(), room, true)?;
+        let field = machine.field(0, 1).ok_or("a word's field")?;
         match room {
-            20 => same(&rt, "room for 20", code, Lanes::none()),
-            21 => same(&rt, "room for 21", code, Lanes::LANE_0),
+            20 => same(&rt, "room for 20", field.code, Lanes::none()),
+            21 => same(&rt, "room for 21", field.code, Lanes::LANE_0),
             _ => {}
         }
     }
-    let _code = code_behind(&rt, rt.alloc(), 0, false)?;
+    serves_until(&rt, rt.alloc(), 0, false)?;
     Ok(())
 }
 
