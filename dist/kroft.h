@@ -209,10 +209,10 @@ typedef struct {
  * The numbers of a machine: any within their ranges.
  */
 typedef struct {
-    uint32_t ways;        /* ways of a set: 1 to 8                                                    */
+    uint32_t ways;        /* ways of a set: 1 to 16                                                   */
     uint32_t block_words; /* words of a block: 1 to 16                                                */
-    uint32_t regs;        /* miss registers (MSHRs): 1 to 16                                          */
-    uint32_t depth;       /* places of the input stack: 1 to 16                                       */
+    uint32_t regs;        /* miss registers (MSHRs): 1 to 64                                          */
+    uint32_t depth;       /* places of the input stack: 1 to 64                                       */
     uint32_t words;       /* words of memory: 1 to 4294967295, and a multiple of block_words          */
     uint32_t sets;        /* sets of the cache: 1 to 1024                                             */
     uint32_t banks;       /* banks of memory: 1 to 16                                                 */
