@@ -1,9 +1,8 @@
 -- A word comes into the stack.
-use Rattle.std.proofs.Common.{◌≡◌, ℕ, suc, zero, nat_lt, nat_le, ◌<◌, ◌≤◌, ◌==◌, Bool, true, false, ◌&&◌, ◌||◌, not, if◌then◌else◌, List, [], ◌∷◌, ◌++◌, map, length, set, Option, Some, None, is_some, refl, ap, sym, ◌∙◌, arith, length-set, length-append, ◌-◌, ◌⊎◌, inl, inr, subst}
+use Rattle.std.proofs.Common.{◌≡◌, ℕ, suc, zero, nat_lt, nat_le, ◌<◌, ◌≤◌, ◌==◌, Bool, true, false, ◌&&◌, ◌||◌, not, if◌then◌else◌, List, [], ◌∷◌, ◌++◌, length, set, Option, Some, None, is_some, refl, ap, sym, ◌∙◌, arith, length-set, length-append, ◌-◌, ◌⊎◌, inl, inr, subst}
 use Rattle.std.specs.List.{find}
 use Rattle.std.specs.Option.{option_map}
 use Rattle.std.proofs.lemmas.List.{get_or-set_same, get_or-set_other, get_or_past, get_or_append_left, get_or-append_right}
-use Rattle.std.proofs.Math.Seq.{map-set_same}
 use Rattle.std.proofs.lemmas.Bool.{false≢true, cases_lt, cases_eq}
 use Rattle.std.proofs.lemmas.Bool.Decides.{nat_tests}
 use Rattle.std.proofs.lemmas.Grind.{common_steps}
@@ -17,17 +16,14 @@ use Rattle.write_queue.specs.declared.Queued.{Queued}
 use Rattle.input_stack.specs.Stack.{stack_word}
 use Rattle.write_queue.specs.Queue.{Queue}
 use Rattle.cache_unit.specs.declared.Sizes.{Sizes}
-use Rattle.cache_unit.specs.State.{UnitState, Field, Register, Cache}
+use Rattle.cache_unit.specs.State.{Cache, register_at, field_at}
 use Rattle.cache_unit.specs.Causes.{is_stray, arrive_cause}
 use Rattle.flat_model.specs.declared.Cause.TheVariants.{StrayWord, StackFull}
 use Rattle.flat_model.specs.declared.Answer.TheVariants.{Refused}
-use Rattle.cache_unit.specs.Steps.{Stepped, moved, arrived, arrive_step}
-use Rattle.cache_unit.specs.Shown.{as_frame, as_field, as_register, as_cache}
+use Rattle.cache_unit.specs.Steps.{moved, arrived, arrive_step}
 use Rattle.cache_unit.specs.Sound.{no_entry, entry_at, HasInStack, Stands, HasFrame, FilledBy, IsSound, loads_of}
 use Rattle.miss_registers.specs.Whole.{IsWhole}
 use Rattle.cache_unit.proofs.Owing.{loads-set, owes-same}
-use Rattle.cache_unit.proofs.Process.{register_at-shown}
-use Rattle.cache_unit.proofs.Lists.{get_or-map}
 use Rattle.cache_unit.proofs.Keeps.{Since, live_before}
 
 -- ---- the marks are those of the stack
@@ -80,14 +76,14 @@ pub is_some-map : {X Y : Type 0} (f : X → Y) (o : Option X) → is_some (optio
 is_some-map f None = refl
 is_some-map f (Some x) = refl
 
-pub in_stack-shown : (z : Sizes) (d : dir.Frames) (rs : List regs.Register) (st : List Entry) (q : Queue) (ready : List Reply) (s i : ℕ) → IsSound z d rs st q ready → is_some (stack_word st s i) ≡ (regs.field_of (regs.register_at rs s) i).in_stack
+pub in_stack-shown : (z : Sizes) (c : Cache) (s i : ℕ) → IsSound z c → is_some (stack_word c.stack s i) ≡ (field_at c s i).in_stack
 unfolding stack_word
-in_stack-shown z d rs st q ready s i h =
-    is_some-map (λ (e : Entry). e.word) (find (is_for s i) st) ∙ same_bool _ _ (λ t. (
-    let w = Stands-found st s i t in
+in_stack-shown z c s i h =
+    is_some-map (λ (e : Entry). e.word) (find (is_for s i) c.stack) ∙ same_bool _ _ (λ t. (
+    let w = Stands-found c.stack s i t in
     let m = (h.stack_sound.entries w.place w.within).marked in
-    subst (λ (x : ℕ). (regs.field_of (regs.register_at rs s) x).in_stack ≡ true) w.word (subst (λ (x : ℕ). (regs.field_of (regs.register_at rs x) (entry_at st w.place).i).in_stack ≡ true) w.slot m)))
-    (λ t. (let w = h.stack_sound.marks s i t in found_at st s i w.place w.within w.slot w.word))
+    subst (λ (x : ℕ). (field_at c s x).in_stack ≡ true) w.word (subst (λ (x : ℕ). (field_at c x (entry_at c.stack w.place).i).in_stack ≡ true) w.slot m)))
+    (λ t. (let w = h.stack_sound.marks s i t in found_at c.stack s i w.place w.within w.slot w.word))
 
 -- ---- a stray word
 
@@ -101,21 +97,13 @@ stray_by : (v : Bool) (w n : ℕ) (p m t : Bool) → (v ≡ true → n ≡ w) �
 stray_by false w n p m t l e i = refl
 stray_by true w n p m t l e i = rw (l refl, e) (stray_tests (nat_lt i w) p m)
 
-pub stray-shown : (z : Sizes) (d : dir.Frames) (rs : List regs.Register) (st : List Entry) (q : Queue) (ready : List Reply) (s i : ℕ) → IsSound z d rs st q ready → not (regs.expects (regs.register_at rs s) i) ≡ is_stray z (as_cache d rs st q.entries ready) s i
-stray-shown z d rs st q ready s i h =
-    let r = regs.register_at rs s in
-    let a = stray_by r.valid z.block_words (length r.fields) (regs.field_of r i).processed (regs.field_of r i).in_stack (is_some (stack_word st s i)) ((h.registers.each s).fields_there) (in_stack-shown z d rs st q ready s i h) i in
-    a ∙ rw (register_at-shown d rs st q.entries ready s, get_or-map as_field r.fields i regs.clear_field) refl
+pub stray-shown : (z : Sizes) (c : Cache) (s i : ℕ) → IsSound z c → not (regs.expects (register_at c s) i) ≡ is_stray z c s i
+stray-shown z c s i h =
+    let r = register_at c s in
+    stray_by r.valid z.block_words (length r.fields) (regs.field_of r i).processed (regs.field_of r i).in_stack
+    (is_some (stack_word c.stack s i)) (h.registers.each s).fields_there (in_stack-shown z c s i h) i
 
 -- ---- what the mark changes
-
-pub register-marked : (r : regs.Register) (i : ℕ) → as_register (regs.marked r i) ≡ as_register r
-unfolding regs.marked
-register-marked r i =
-    ap (λ (fs : List Field). record { valid = r.valid; obsolete = r.obsolete; block = r.block; fields = fs }) (map-set_same as_field r.fields i (record (regs.field_of r i) { in_stack = true }) regs.clear_field refl)
-
-pub registers-marked : (rs : List regs.Register) (s i : ℕ) → map as_register (set rs s (regs.marked (regs.register_at rs s) i)) ≡ map as_register rs
-registers-marked rs s i = map-set_same as_register rs s (regs.marked (regs.register_at rs s) i) regs.free_register (register-marked (regs.register_at rs s) i)
 
 -- a field of a register with a new mark
 field-marked_other : (r : regs.Register) (i j : ℕ) → (j ≡ i → ⊥) → regs.field_of (regs.marked r i) j ≡ regs.field_of r j
@@ -258,18 +246,18 @@ Stands-new st e =
 mark-marked : (r : regs.Register) (i j : ℕ) → (regs.field_of (regs.marked r i) j).in_stack ≡ true → (j ≡ i) ⊎ ((regs.field_of r j).in_stack ≡ true)
 mark-marked r i j h = elim (cases_eq j i) [ inl e ↦ inl e | inr e ↦ inr (rw (field-marked_other r i j e) at h) ]
 
-no_other : (z : Sizes) (d : dir.Frames) (rs : List regs.Register) (st : List Entry) (q : Queue) (ready : List Reply) (s i k : ℕ) → IsSound z d rs st q ready → Expected (regs.register_at rs s) i → k < length st → (entry_at st k).slot ≡ s → (entry_at st k).i ≡ i → ⊥
-no_other z d rs st q ready s i k h x p a b =
+no_other : (z : Sizes) (c : Cache) (s i k : ℕ) → IsSound z c → Expected (register_at c s) i → k < length c.stack → (entry_at c.stack k).slot ≡ s → (entry_at c.stack k).i ≡ i → ⊥
+no_other z c s i k h x p a b =
     let m = (h.stack_sound.entries k p).marked in
-    let m' : (regs.field_of (regs.register_at rs s) i).in_stack ≡ true = subst (λ (y : ℕ). (regs.field_of (regs.register_at rs s) y).in_stack ≡ true) b (subst (λ (y : ℕ). (regs.field_of (regs.register_at rs y) (entry_at st k).i).in_stack ≡ true) a m) in
+    let m' : (field_at c s i).in_stack ≡ true = subst (λ (y : ℕ). (field_at c s y).in_stack ≡ true) b (subst (λ (y : ℕ). (field_at c y (entry_at c.stack k).i).in_stack ≡ true) a m) in
     false≢true (sym x.unmarked ∙ m')
 
-pub IsSound-arrived : (z : Sizes) (d : dir.Frames) (rs : List regs.Register) (st : List Entry) (q : Queue) (ready : List Reply) (e : Entry) → IsSound z d rs st q ready → Expected (regs.register_at rs e.slot) e.i → IsWhole z.block_words z.regs (set rs e.slot (regs.marked (regs.register_at rs e.slot) e.i)) → IsSound z d (set rs e.slot (regs.marked (regs.register_at rs e.slot) e.i)) (st ++ e ∷ []) q ready
-IsSound-arrived z d rs st q ready e h x whole =
-    let r = regs.register_at rs e.slot in
-    let l = slot_of rs e.slot e.i x in
-    let n = length-append st (e ∷ []) in
-    let since : (s : ℕ) → regs.is_live (regs.register_at (set rs e.slot (regs.marked r e.i)) s) ≡ true → Since (regs.register_at rs s) (regs.register_at (set rs e.slot (regs.marked r e.i)) s) = λ s. live_before rs e.slot s (regs.marked r e.i) l (Since-marked r e.i) in
+pub IsSound-arrived : (z : Sizes) (c : Cache) (e : Entry) → IsSound z c → Expected (register_at c e.slot) e.i → IsWhole z.block_words z.regs (set c.registers e.slot (regs.marked (register_at c e.slot) e.i)) → IsSound z (record c { registers = set c.registers e.slot (regs.marked (register_at c e.slot) e.i); stack = c.stack ++ e ∷ [] })
+IsSound-arrived z c e h x whole =
+    let r = register_at c e.slot in
+    let l = slot_of c.registers e.slot e.i x in
+    let n = length-append c.stack (e ∷ []) in
+    let since : (s : ℕ) → regs.is_live (regs.register_at (set c.registers e.slot (regs.marked r e.i)) s) ≡ true → Since (register_at c s) (regs.register_at (set c.registers e.slot (regs.marked r e.i)) s) = λ s. live_before c.registers e.slot s (regs.marked r e.i) l (Since-marked r e.i) in
     record {
       ranges = h.ranges;
       directory = h.directory;
@@ -277,28 +265,28 @@ IsSound-arrived z d rs st q ready e h x whole =
       in_memory = h.in_memory;
       registers = whole;
       stack_sound = record {
-        entries = λ k p. elim (cases_lt k (length st)) [
-          | inl q ↦ rw (entry_at-old st e k q) (register_at-set (λ y. HasInStack y (entry_at st k).i) rs e.slot (entry_at st k).slot (regs.marked r e.i) l (λ a. HasInStack-still r e.i (entry_at st k).i (subst (λ (y : ℕ). HasInStack (regs.register_at rs y) (entry_at st k).i) a (h.stack_sound.entries k q))) (λ a. h.stack_sound.entries k q))
+        entries = λ k p. elim (cases_lt k (length c.stack)) [
+          | inl q ↦ rw (entry_at-old c.stack e k q) (register_at-set (λ y. HasInStack y (entry_at c.stack k).i) c.registers e.slot (entry_at c.stack k).slot (regs.marked r e.i) l (λ a. HasInStack-still r e.i (entry_at c.stack k).i (subst (λ (y : ℕ). HasInStack (register_at c y) (entry_at c.stack k).i) a (h.stack_sound.entries k q))) (λ a. h.stack_sound.entries k q))
           | inr q ↦ (
-              let m : k ≡ length st = omega arith in
-              rw (m, entry_at-new st e) (register_at-set (λ y. HasInStack y e.i) rs e.slot e.slot (regs.marked r e.i) l (λ a. HasInStack-marked r e.i x.valid x.there x.waits) (λ a. absurd (a refl))))
+              let m : k ≡ length c.stack = omega arith in
+              rw (m, entry_at-new c.stack e) (register_at-set (λ y. HasInStack y e.i) c.registers e.slot e.slot (regs.marked r e.i) l (λ a. HasInStack-marked r e.i x.valid x.there x.waits) (λ a. absurd (a refl))))
         ];
-        distinct = λ j k o p a b. elim (cases_lt k (length st)) [
-          | inl w ↦ h.stack_sound.distinct j k o w (rw (entry_at-old st e j (omega arith), entry_at-old st e k w) at a) (rw (entry_at-old st e j (omega arith), entry_at-old st e k w) at b)
+        distinct = λ j k o p a b. elim (cases_lt k (length c.stack)) [
+          | inl w ↦ h.stack_sound.distinct j k o w (rw (entry_at-old c.stack e j (omega arith), entry_at-old c.stack e k w) at a) (rw (entry_at-old c.stack e j (omega arith), entry_at-old c.stack e k w) at b)
           | inr w ↦ (
-              let m : k ≡ length st = omega arith in
-              no_other z d rs st q ready e.slot e.i j h x (omega arith) (rw (m, entry_at-new st e, entry_at-old st e j (omega arith)) at a) (rw (m, entry_at-new st e, entry_at-old st e j (omega arith)) at b))
+              let m : k ≡ length c.stack = omega arith in
+              no_other z c e.slot e.i j h x (omega arith) (rw (m, entry_at-new c.stack e, entry_at-old c.stack e j (omega arith)) at a) (rw (m, entry_at-new c.stack e, entry_at-old c.stack e j (omega arith)) at b))
         ];
-        marks = λ s i. register_at-set (λ y. (regs.field_of y i).in_stack ≡ true → Stands (st ++ e ∷ []) s i) rs e.slot s (regs.marked r e.i) l
+        marks = λ s i. register_at-set (λ y. (regs.field_of y i).in_stack ≡ true → Stands (c.stack ++ e ∷ []) s i) c.registers e.slot s (regs.marked r e.i) l
             (λ a v. elim (mark-marked r e.i i v) [
-              | inl c ↦ rw (a, c) (Stands-new st e)
-              | inr c ↦ rw a (Stands-push st e e.slot i (h.stack_sound.marks e.slot i c))
+              | inl q ↦ rw (a, q) (Stands-new c.stack e)
+              | inr q ↦ rw a (Stands-push c.stack e e.slot i (h.stack_sound.marks e.slot i q))
             ])
-            (λ a v. Stands-push st e s i (h.stack_sound.marks s i v));
+            (λ a v. Stands-push c.stack e s i (h.stack_sound.marks s i v));
       };
-      tied = record { frames = λ s v. HasFrame-marked d.frames _ _ (since s v) (h.tied.frames s (since s v).live); pending = λ f v. FilledBy-marked rs e.slot e.i f l (h.tied.pending f v) };
+      tied = record { frames = λ s v. HasFrame-marked c.directory.frames _ _ (since s v) (h.tied.frames s (since s v).live); pending = λ f v. FilledBy-marked c.registers e.slot e.i f l (h.tied.pending f v) };
       queue_sound = h.queue_sound;
-      owes = owes-same z ready rs e.slot (regs.marked r e.i) l (λ p. loads-marked p r e.i x.there) h.owes;
+      owes = owes-same z c.ready c.registers e.slot (regs.marked r e.i) l (λ p. loads-marked p r e.i x.there) h.owes;
     }
 
 -- ---- the step
@@ -309,30 +297,24 @@ le-leb {m} {n} h = grind (arith, nat_tests)
 not_le : {m n : ℕ} → n < m → nat_le m n ≡ false
 not_le {m} {n} h = grind (arith, nat_tests)
 
-abbrev made : Sizes → Cache → UnitState
-made z c = record { sizes = z; cache = c }
-
-pub arrive-stray : (z : Sizes) (c : Cache) (u : UnitState) (s i : ℕ) (word : Word) → made z c ≡ u → is_stray z c s i ≡ true → arrive_step u.sizes u.cache s i word ≡ record { answer = Refused StrayWord; cache = u.cache; sent = [] }
+pub arrive-stray : (z : Sizes) (c : Cache) (s i : ℕ) (word : Word) → is_stray z c s i ≡ true
+    → arrive_step z c s i word ≡ record { answer = Refused StrayWord; cache = c; sent = [] }
 unfolding arrive_step arrive_cause
-arrive-stray z c u s i word e h = subst (λ (v : UnitState). arrive_step v.sizes v.cache s i word ≡ record { answer = Refused StrayWord; cache = v.cache; sent = [] }) e (rw h refl)
+arrive-stray z c s i word h = rw h refl
 
-pub arrive-full : (z : Sizes) (c : Cache) (u : UnitState) (s i : ℕ) (word : Word) → made z c ≡ u → is_stray z c s i ≡ false → z.depth ≤ length c.stack → arrive_step u.sizes u.cache s i word ≡ record { answer = Refused StackFull; cache = u.cache; sent = [] }
+pub arrive-full : (z : Sizes) (c : Cache) (s i : ℕ) (word : Word) → is_stray z c s i ≡ false → z.depth ≤ length c.stack
+    → arrive_step z c s i word ≡ record { answer = Refused StackFull; cache = c; sent = [] }
 unfolding arrive_step arrive_cause
-arrive-full z c u s i word e h f = subst (λ (v : UnitState). arrive_step v.sizes v.cache s i word ≡ record { answer = Refused StackFull; cache = v.cache; sent = [] }) e (rw (h, le-leb f) refl)
+arrive-full z c s i word h f = rw (h, le-leb f) refl
 
-pub arrive-moved : (z : Sizes) (c : Cache) (u : UnitState) (s i : ℕ) (word : Word) → made z c ≡ u → is_stray z c s i ≡ false → length c.stack < z.depth → arrive_step u.sizes u.cache s i word ≡ moved (arrived u.cache s i word)
+pub arrive-moved : (z : Sizes) (c : Cache) (s i : ℕ) (word : Word) → is_stray z c s i ≡ false → length c.stack < z.depth
+    → arrive_step z c s i word ≡ moved (arrived c s i word)
 unfolding arrive_step arrive_cause
-arrive-moved z c u s i word e h f = subst (λ (v : UnitState). arrive_step v.sizes v.cache s i word ≡ moved (arrived v.cache s i word)) e (rw (h, not_le f) refl)
+arrive-moved z c s i word h f = rw (h, not_le f) refl
 
-pub arrived-shown : (d : dir.Frames) (rs : List regs.Register) (st : List Entry) (q : List Queued) (ready : List Reply) (s i : ℕ) (word : Word) → as_cache d (set rs s (regs.marked (regs.register_at rs s) i)) (st ++ record { slot = s; i = i; word = word } ∷ []) q ready ≡ arrived (as_cache d rs st q ready) s i word
+pub arrived-shown : (c : Cache) (s i : ℕ) (word : Word) → (record c { registers = set c.registers s (regs.marked (register_at c s) i); stack = c.stack ++ record { slot = s; i = i; word = word } ∷ [] }) ≡ arrived c s i word
 unfolding arrived
-arrived-shown d rs st q ready s i word =
-    ap (λ (xs : List Register). record { frames = map as_frame d.frames; orders = d.orders; registers = xs; stack = st ++ record { slot = s; i = i; word = word } ∷ []; queue = q; ready = ready }) (registers-marked rs s i)
-
-pub view_after : (z : Sizes) (u : UnitState) (c x : Cache) (s i : ℕ) (word : Word) → made z c ≡ u → x ≡ arrived c s i word → arrive_step u.sizes u.cache s i word ≡ moved (arrived u.cache s i word) → record { sizes = z; cache = x } ≡ record u { cache = (arrive_step u.sizes u.cache s i word).cache }
-view_after z u c x s i word e p m =
-    let a : record { sizes = z; cache = x } ≡ record u { cache = arrived u.cache s i word } = subst (λ (v : UnitState). record { sizes = z; cache = x } ≡ record v { cache = arrived v.cache s i word }) e (ap (made z) p) in
-    a ∙ ap (λ (y : Stepped). record u { cache = y.cache }) (sym m)
+arrived-shown c s i word = refl
 
 pub at_least : {m n : ℕ} → (n < m → ⊥) → m ≤ n
 at_least {m} {n} h = elim (cases_lt n m) [ inl p ↦ absurd (h p) | inr p ↦ p ]

@@ -1,5 +1,5 @@
 -- What a miss may take, by the parts and by what they show.
-use Rattle.std.proofs.Common.{◌≡◌, ℕ, suc, ◌-◌, ◌*◌, ◌%◌, ◌/◌, ◌<◌, ◌≤◌, nat_lt, ◌==◌, ◌&&◌, not, Bool, true, false, cond, List, [], ◌∷◌, map, length, get_or, Option, Some, None, is_none, is_some, refl, sym, ap, ap₂, ◌∙◌, arith, add-zero, eq-eqb, ne_eqb}
+use Rattle.std.proofs.Common.{◌≡◌, ℕ, suc, ◌-◌, ◌*◌, ◌%◌, ◌/◌, ◌<◌, ◌≤◌, nat_lt, ◌==◌, ◌&&◌, not, Bool, true, false, cond, List, [], ◌∷◌, length, get_or, Option, Some, None, is_none, is_some, refl, sym, ap, ap₂, ◌∙◌, arith, eq-eqb, ne_eqb}
 use Rattle.std.specs.Option.{option_or, option_map}
 use Rattle.std.specs.List.{find, filter, list_all, list_any, range_with_len}
 use Rattle.std.proofs.lemmas.Bool.{false≢true}
@@ -7,7 +7,6 @@ use Rattle.std.proofs.lemmas.Option.{none-some}
 use Rattle.flat_model.specs.declared.Cause.{Cause}
 use Rattle.flat_model.specs.declared.Cause.TheVariants.{NoRegister, SetPending, QueueFull, BankFull}
 use Rattle.flat_model.specs.Places.{place_of}
-use Rattle.flat_model.proofs.Places.{place_of-map}
 use Rattle.input_stack.specs.declared.Entry.{Entry}
 use Rattle.write_queue.specs.declared.Queued.{Queued}
 use Rattle.write_queue.specs.Queue.{Queue}
@@ -18,17 +17,14 @@ use Rattle.cache_directory.proofs.Whole.{order_held}
 use Rattle.miss_registers.specs.Registers as regs
 use Rattle.cache_unit.specs.declared.Reply.{Reply}
 use Rattle.cache_unit.specs.declared.Sizes.{Sizes}
-use Rattle.cache_unit.specs.State.{Frame, Register, frame_at, free_slot, is_pending, is_pending_block}
-use Rattle.cache_unit.specs.Causes.{first_cause, is_resident_block, ways_of, order_of, choose, lacks_room, lacks_places}
-use Rattle.cache_unit.specs.Shown.{as_register, as_cache}
+use Rattle.cache_unit.specs.State.{Frame, Register, frame_at, free_slot, is_pending, is_pending_block, Cache, live_for}
+use Rattle.cache_unit.specs.Causes.{first_cause, is_resident_block, ways_of, choose, lacks_room, lacks_places}
 use Rattle.cache_unit.specs.Sound.{IsSound}
 use Rattle.cache_unit.specs.Reads.{is_short}
 use Rattle.cache_unit.specs.GivenUp.{owed_words}
 use Rattle.cache_unit.specs.Miss.{chosen_frame}
 use Rattle.cache_directory.proofs.Choices.{chosen-free, chosen-victim, chosen-all_pending}
-use Rattle.cache_unit.proofs.Process.{frame_at-shown}
-use Rattle.cache_unit.proofs.Same.{live_for-shown, pending_is}
-use Rattle.cache_unit.proofs.FetchShown.{owed-shown}
+use Rattle.cache_unit.proofs.Same.{pending_is}
 
 -- ---- tests over lists
 
@@ -43,15 +39,11 @@ list_all-same p q (x ∷ xs) h = ap₂ (λ a b. a && b) (h x) (list_all-same p q
 
 -- ---- the free register
 
-pub free_slot-shown : (d : dir.Frames) (rs : List regs.Register) (st : List Entry) (q : List Queued) (ready : List Reply) → free_slot (as_cache d rs st q ready) ≡ regs.free_slot rs
-unfolding regs.free_slot
-free_slot-shown d rs st q ready = place_of-map (λ (r : Register). not r.valid) as_register rs
-
 -- all registers are valid exactly where none is free
 record CountsValid (rs : List regs.Register) (o : Option ℕ) : Type 0 where
-  within : length (filter (λ (r : Register). r.valid) (map as_register rs)) ≤ length rs
-  all : o ≡ None → length (filter (λ (r : Register). r.valid) (map as_register rs)) ≡ length rs
-  some : (k : ℕ) → o ≡ Some k → length (filter (λ (r : Register). r.valid) (map as_register rs)) < length rs
+  within : length (filter (λ (r : Register). r.valid) rs) ≤ length rs
+  all : o ≡ None → length (filter (λ (r : Register). r.valid) rs) ≡ length rs
+  some : (k : ℕ) → o ≡ Some k → length (filter (λ (r : Register). r.valid) rs) < length rs
 
 counts_valid : (rs : List regs.Register) → CountsValid rs (regs.free_slot rs)
 unfolding regs.free_slot
@@ -60,7 +52,11 @@ counts_valid (r ∷ rs) =
     let t = go r.valid (place_of (λ (x : regs.Register). not x.valid) rs) (counts_valid rs) in
     record { within = t.0; all = t.1; some = t.2 }
   where
-    go : (v : Bool) (o : Option ℕ) → CountsValid rs o → (length (cond v (as_register r ∷ filter (λ (x : Register). x.valid) (map as_register rs)) (filter (λ (x : Register). x.valid) (map as_register rs))) ≤ suc (length rs)) × (cond (not v) (Some 0) (option_map (λ k. suc k) o) ≡ None → length (cond v (as_register r ∷ filter (λ (x : Register). x.valid) (map as_register rs)) (filter (λ (x : Register). x.valid) (map as_register rs))) ≡ suc (length rs)) × ((k : ℕ) → cond (not v) (Some 0) (option_map (λ k. suc k) o) ≡ Some k → length (cond v (as_register r ∷ filter (λ (x : Register). x.valid) (map as_register rs)) (filter (λ (x : Register). x.valid) (map as_register rs))) < suc (length rs))
+    go : (v : Bool) (o : Option ℕ) → CountsValid rs o → (length (cond v (r ∷ filter (λ (x : Register). x.valid) rs) (filter
+        (λ (x : Register). x.valid) rs)) ≤ suc (length rs)) × (cond (not v) (Some 0) (option_map (λ k. suc k) o) ≡ None
+        → length (cond v (r ∷ filter (λ (x : Register). x.valid) rs) (filter (λ (x : Register). x.valid) rs))
+        ≡ suc (length rs)) × ((k : ℕ) → cond (not v) (Some 0) (option_map (λ k. suc k) o) ≡ Some k
+        → length (cond v (r ∷ filter (λ (x : Register). x.valid) rs) (filter (λ (x : Register). x.valid) rs)) < suc (length rs))
     go false o c = (let w = c.within in omega arith, λ e. absurd (none-some 0 (sym e)), λ k e. (let w = c.within in omega arith))
     go true None c = (let w = c.within in omega arith, λ e. ap suc (c.all refl), λ k e. absurd (none-some k e))
     go true (Some j) c = (let w = c.within in omega arith, λ e. absurd (none-some (suc j) (sym e)), λ k e. (let l = c.some j refl in omega arith))
@@ -96,46 +92,45 @@ chosen_none ways words d set h = go (dir.chosen ways d set) ∙ chosen-all_pendi
 
 -- ---- which frames are pending
 
-module _ (z : Sizes) (d : dir.Frames) (rs : List regs.Register) (st : List Entry) (q : Queue) (ready : List Reply) (h : IsSound z d rs st q ready) where
-  pub pending-shown : (f : ℕ) → is_pending (as_cache d rs st q.entries ready) f ≡ (dir.frame_at d.frames f).pending
+module _ (z : Sizes) (c : Cache) (h : IsSound z c) where
+  pub pending-shown : (f : ℕ) → is_pending c f ≡ (frame_at c f).pending
   pending-shown f =
-      ap (λ (x : Frame). is_pending_block (as_cache d rs st q.entries ready) x.block) (frame_at-shown d.frames f) ∙ go (dir.frame_at d.frames f).block refl
+      go (frame_at c f).block refl
     where
-      go : (o : Option ℕ) → (dir.frame_at d.frames f).block ≡ o → is_pending_block (as_cache d rs st q.entries ready) o ≡ (dir.frame_at d.frames f).pending
+      go : (o : Option ℕ) → (frame_at c f).block ≡ o → is_pending_block c o ≡ (frame_at c f).pending
       go None e = sym (ap (λ (x : dir.Frame). x.pending) (h.directory.empty f e))
       go (Some b) e =
-          ap is_some (live_for-shown d rs st q.entries ready b) ∙ sym (pending_is d.frames rs f b h.tied e (λ g k. h.directory.alone f g b e k))
+          sym (pending_is c.directory.frames c.registers f b h.tied e (λ g k. h.directory.alone f g b e k))
 
-  resident-shown : (f : ℕ) → dir.is_held d f ≡ true → is_resident_block (as_cache d rs st q.entries ready) (frame_at (as_cache d rs st q.entries ready) f).block ≡ not (dir.frame_at d.frames f).pending
+  resident-shown : (f : ℕ) → dir.is_held c.directory f ≡ true → is_resident_block c (frame_at c f).block ≡ not (frame_at c f).pending
   resident-shown f held =
-      ap (λ (x : Frame). is_resident_block (as_cache d rs st q.entries ready) x.block) (frame_at-shown d.frames f) ∙ go (dir.frame_at d.frames f).block refl held
+      go (frame_at c f).block refl held
     where
       opposite : (o : Option ℕ) → is_none o ≡ not (is_some o)
       opposite None = refl
       opposite (Some x) = refl
 
-      go : (o : Option ℕ) → (dir.frame_at d.frames f).block ≡ o → is_some o ≡ true → is_resident_block (as_cache d rs st q.entries ready) o ≡ not (dir.frame_at d.frames f).pending
+      go : (o : Option ℕ) → (frame_at c f).block ≡ o → is_some o ≡ true → is_resident_block c o ≡ not (frame_at c f).pending
       go None e k = absurd (false≢true k)
       go (Some b) e k =
-          ap is_none (live_for-shown d rs st q.entries ready b) ∙ opposite (regs.live_for rs b) ∙ ap not (sym (pending_is d.frames rs f b h.tied e (λ g k. h.directory.alone f g b e k)))
+          opposite (live_for c b) ∙ ap not (sym (pending_is c.directory.frames c.registers f b h.tied e (λ g k. h.directory.alone f g b e k)))
 
-  pub all_pending-shown : (block : ℕ) → list_all (is_pending (as_cache d rs st q.entries ready)) (ways_of z block) ≡ dir.are_pending z.ways d (block % z.sets)
+  pub all_pending-shown : (block : ℕ) → list_all (is_pending c) (ways_of z block) ≡ dir.are_pending z.ways c.directory (block % z.sets)
   all_pending-shown block =
-      list_all-same (is_pending (as_cache d rs st q.entries ready)) (λ f. (dir.frame_at d.frames f).pending) (ways_of z block) pending-shown
+      list_all-same (is_pending c) (λ f. (frame_at c f).pending) (ways_of z block) pending-shown
 
-  pub choose-shown : (block : ℕ) → choose z (as_cache d rs st q.entries ready) block ≡ chosen_frame (dir.chosen z.ways d (block % z.sets))
+  pub choose-shown : (block : ℕ) → choose z c block ≡ chosen_frame (dir.chosen z.ways c.directory (block % z.sets))
   unfolding choose dir.chosen dir.free_way dir.oldest
   choose-shown block =
-      ap₂ option_or free old ∙ go (find (λ f. is_none (dir.frame_at d.frames f).block) (dir.ways_of z.ways (block % z.sets))) (find (λ f. not (dir.frame_at d.frames f).pending) (dir.order_of d (block % z.sets)))
+      ap (option_or (find (λ f. is_none (frame_at c f).block) (dir.ways_of z.ways set))) old
+      ∙ go (find (λ f. is_none (frame_at c f).block) (dir.ways_of z.ways (block % z.sets))) (find
+      (λ f. not (frame_at c f).pending) (dir.order_of c.directory (block % z.sets)))
     where
       set : ℕ
       set = block % z.sets
 
-      free : find (λ f. is_none (frame_at (as_cache d rs st q.entries ready) f).block) (ways_of z block) ≡ find (λ f. is_none (dir.frame_at d.frames f).block) (dir.ways_of z.ways (block % z.sets))
-      free = find-same (λ f. is_none (frame_at (as_cache d rs st q.entries ready) f).block) (λ f. is_none (dir.frame_at d.frames f).block) (ways_of z block) (λ k l. ap (λ (x : Frame). is_none x.block) (frame_at-shown d.frames (get_or (ways_of z block) k 0)))
-
-      old : find (λ f. is_resident_block (as_cache d rs st q.entries ready) (frame_at (as_cache d rs st q.entries ready) f).block) (order_of d.orders (block % z.sets)) ≡ find (λ f. not (dir.frame_at d.frames f).pending) (dir.order_of d (block % z.sets))
-      old = find-same (λ f. is_resident_block (as_cache d rs st q.entries ready) (frame_at (as_cache d rs st q.entries ready) f).block) (λ f. not (dir.frame_at d.frames f).pending) (order_of d.orders (block % z.sets)) (λ k l. resident-shown (get_or (order_of d.orders (block % z.sets)) k 0) (order_held z.ways z.block_words d (block % z.sets) h.directory k 0 l).0)
+      old : find (λ f. is_resident_block c (frame_at c f).block) (dir.order_of c.directory (block % z.sets)) ≡ find (λ f. not (frame_at c f).pending) (dir.order_of c.directory (block % z.sets))
+      old = find-same (λ f. is_resident_block c (frame_at c f).block) (λ f. not (frame_at c f).pending) (dir.order_of c.directory (block % z.sets)) (λ k l. resident-shown (get_or (dir.order_of c.directory (block % z.sets)) k 0) (order_held z.ways z.block_words c.directory (block % z.sets) h.directory k 0 l).0)
 
       go : (o p : Option ℕ) → option_or o p ≡ chosen_frame (dir.choice_from o p)
       go (Some f) p = refl
@@ -179,20 +174,17 @@ no_test false false false false h = record { register = refl; set = refl; queue 
 
 -- ---- the four tests, by the parts
 
-pub register-test : (d : dir.Frames) (rs : List regs.Register) (st : List Entry) (q : List Queued) (ready : List Reply) (n : ℕ) → length rs ≡ n → (length (filter (λ (r : Register). r.valid) (as_cache d rs st q ready).registers) == n) ≡ is_none (regs.free_slot rs)
-register-test d rs st q ready n e = go (regs.free_slot rs) refl
+pub register-test : (c : Cache) (n : ℕ) → length c.registers ≡ n → (length (filter (λ (r : Register). r.valid) c.registers) == n) ≡ is_none (regs.free_slot c.registers)
+register-test c n e = go (regs.free_slot c.registers) refl
   where
-    c : CountsValid rs (regs.free_slot rs)
-    c = counts_valid rs
+    go : (o : Option ℕ) → regs.free_slot c.registers ≡ o → (length (filter (λ (r : Register). r.valid) c.registers) == n) ≡ is_none o
+    go None k = eq-eqb _ n ((counts_valid c.registers).all k ∙ e)
+    go (Some j) k = let l = (counts_valid c.registers).some j k in ne_eqb _ n (λ m. (let x : length (filter (λ (r : Register). r.valid) c.registers)
+        ≡ n = m in omega arith))
 
-    go : (o : Option ℕ) → regs.free_slot rs ≡ o → (length (filter (λ (r : Register). r.valid) (map as_register rs)) == n) ≡ is_none o
-    go None k = eq-eqb _ n ((counts_valid rs).all k ∙ e)
-    go (Some j) k = let l = (counts_valid rs).some j k in ne_eqb _ n (λ m. (let x : length (filter (λ (r : Register). r.valid) (map as_register rs)) ≡ n = m in omega arith))
-
-pub queue-test : (z : Sizes) (d : dir.Frames) (rs : List regs.Register) (st : List Entry) (q : Queue) (ready : List Reply) (f : ℕ) → q.limit ≡ z.write_queue → lacks_places z (as_cache d rs st q.entries ready) (Some f) ≡ nat_lt (q.limit - length q.entries) (length (owed_words z.block_words d f))
-queue-test z d rs st q ready f e =
-    ap₂ (λ n (l : List Queued). nat_lt (n - length q.entries) (length l)) (sym e) (owed-shown z d rs st q.entries ready f)
+pub queue-test : (z : Sizes) (c : Cache) (f : ℕ) → lacks_places z c (Some f) ≡ nat_lt (z.write_queue - length c.queue) (length (owed_words z.block_words c.directory f))
+queue-test z c f = refl
 
 pub bank-test : (z : Sizes) (room : ℕ → ℕ) (block : ℕ) → list_any (is_short room (block * z.block_words) z.block_words z.banks) (range_with_len 0 z.banks) ≡ lacks_room z room block
 bank-test z room block =
-    ap (λ k. list_any (λ b. nat_lt (room b) (length (filter (λ at. at % z.banks == b) (range_with_len k z.block_words)))) (range_with_len 0 z.banks)) (sym (add-zero (block * z.block_words)))
+    refl

@@ -1,5 +1,5 @@
 -- What an eviction answers and leaves.
-use Rattle.std.proofs.Common.{◌≡◌, ℕ, ◌+◌, ◌*◌, ◌<◌, ◌≤◌, nat_lt, true, false, Some, None, [], refl, sym, arith, subst}
+use Rattle.std.proofs.Common.{◌≡◌, ℕ, ◌*◌, ◌<◌, ◌≤◌, nat_lt, true, false, Some, None, [], refl, sym, arith, subst}
 use Rattle.std.proofs.lemmas.Bool.Decides.{nat_tests}
 use Rattle.std.proofs.Math.Nat.{mul-le-mul_left}
 use Rattle.flat_model.specs.declared.limits.TheConstants.{MAX_BLOCK_WORDS}
@@ -18,10 +18,10 @@ refused cause c = record { answer = Refused cause; cache = c; sent = [] }
 pub product_fits : (a b : ℕ) → a < 4294967296 → b ≤ MAX_BLOCK_WORDS → a * b < 18446744073709551616
 product_fits a b p q = omega (arith, mul-le-mul_left a q)
 
-below : (a b : ℕ) → a < b → nat_lt (a + 0) b ≡ true
+below : (a b : ℕ) → a < b → nat_lt a b ≡ true
 below a b h = grind (arith, nat_tests)
 
-not_below : (a b : ℕ) → b ≤ a → nat_lt (a + 0) b ≡ false
+not_below : (a b : ℕ) → b ≤ a → nat_lt a b ≡ false
 not_below a b h = grind (arith, nat_tests)
 
 pub evict_outside : (z : Sizes) (c : Cache) (block : ℕ) → z.words ≤ block * z.block_words → evict_step z c block ≡ refused OutOfRange c

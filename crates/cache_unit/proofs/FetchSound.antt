@@ -15,12 +15,14 @@ use Rattle.cache_directory.specs.declared.Cell.{Cell}
 use Rattle.cache_directory.specs.Frames as dir
 use Rattle.miss_registers.specs.Registers as regs
 use Rattle.miss_registers.specs.Whole.{IsWhole}
+use Rattle.cache_unit.specs.State.{Cache, frame_at, frame_of, register_at}
 use Rattle.cache_unit.specs.declared.Reply.{Reply}
 use Rattle.cache_unit.specs.declared.Sizes.{Sizes}
 use Rattle.cache_unit.specs.Causes.{dirty_from}
 use Rattle.cache_unit.specs.Sound.{entry_at, HasInStack, HasFrame, FilledBy, loads_of, loads_of_field, Stands, StackSound, Tied, QueueSound, OwesSound, IsSound}
 use Rattle.cache_unit.specs.Begun.{begun_cell, begun_field, begun_frame, begun_register}
-use Rattle.cache_unit.specs.GivenUp.{owed_by, owed_words, given_up, missed_frames, missed_registers}
+use Rattle.cache_unit.specs.Causes.{owed_by}
+use Rattle.cache_unit.specs.GivenUp.{owed_words, given_up, missed_frames, missed_registers}
 use Rattle.cache_unit.proofs.Lists.{place_of-only, place_of-none}
 use Rattle.cache_unit.proofs.Keeps.{frame_of-some}
 use Rattle.cache_unit.proofs.Owing.{owes-same}
@@ -54,14 +56,12 @@ owed_in z d f whole within = go (dir.frame_at d.frames f).block refl
         dirty_in b (b * z.block_words) (dir.frame_at d.frames f).cells z.words (omega arith)
 
 -- what a frame gives up is queued
-pub QueueSound-given : (z : Sizes) (d : dir.Frames) (f : ℕ) (q : Queue) → dir.IsWhole z.ways z.block_words d → ((g block : ℕ) → (dir.frame_at d.frames g).block ≡ Some block → block * z.block_words + z.block_words ≤ z.words) → length q.entries + length (owed_words z.block_words d f) ≤ q.limit → QueueSound z q → QueueSound z (queue_of (q.entries ++ owed_words z.block_words d f) q.limit)
+pub QueueSound-given : (z : Sizes) (d : dir.Frames) (f : ℕ) (q : List Queued) → dir.IsWhole z.ways z.block_words d → ((g block : ℕ) → (dir.frame_at d.frames g).block ≡ Some block → block * z.block_words + z.block_words ≤ z.words) → length q + length (owed_words z.block_words d f) ≤ z.write_queue → QueueSound z q → QueueSound z (q ++ owed_words z.block_words d f)
 QueueSound-given z d f q whole within room h =
-    let n = length-append q.entries (owed_words z.block_words d f) in
-    let l = h.limit in
+    let n = length-append q (owed_words z.block_words d f) in
     record {
-      limit = h.limit;
       within = omega arith;
-      addresses = All-append (λ (e : Queued). e.at < z.words) q.entries (owed_words z.block_words d f) h.addresses (owed_in z d f whole within);
+      addresses = All-append (λ (e : Queued). e.at < z.words) q (owed_words z.block_words d f) h.addresses (owed_in z d f whole within);
     }
 
 -- ---- the frames
@@ -108,98 +108,101 @@ no_loads : (p : ℕ → Bool) (q : List Queued) (xs : List ℕ) → sum_by (load
 no_loads p q [] = refl
 no_loads p q (x ∷ xs) = let e = no_loads p q xs in omega arith
 
-module _ (z : Sizes) (d : dir.Frames) (rs : List regs.Register) (st : List Entry) (q : Queue) (ready : List Reply) (h : IsSound z d rs st q ready) (block f slot : ℕ) (q' : List Queued) (in_range : f < length d.frames) (idle : (dir.frame_at d.frames f).pending ≡ false) (absent : dir.frame_of d.frames block ≡ None) (there : slot < length rs) (free : (regs.register_at rs slot).valid ≡ false) where
-  fs : List dir.Frame
-  fs = set d.frames f (begun_frame z.block_words q' block)
+module _ (z : Sizes) (c : Cache) (h : IsSound z c) (block f slot : ℕ) (q' : List Queued) (in_range : f < length c.directory.frames) (idle : (frame_at c f).pending ≡ false) (absent : frame_of c block ≡ None) (there : slot < length c.registers) (free : (register_at c slot).valid ≡ false) where
+  abbrev fs : List dir.Frame
+  fs = set c.directory.frames f (begun_frame z.block_words q' block)
 
-  here : dir.frame_at (set d.frames f (begun_frame z.block_words q' block)) f ≡ begun_frame z.block_words q' block
-  here = at_new d.frames f (begun_frame z.block_words q' block) in_range
+  abbrev rs : List regs.Register
+  rs = set c.registers slot (begun_register z.block_words q' block f)
 
-  elsewhere : (g : ℕ) → (g ≡ f → ⊥) → dir.frame_at (set d.frames f (begun_frame z.block_words q' block)) g ≡ dir.frame_at d.frames g
-  elsewhere g n = at_other d.frames f g (begun_frame z.block_words q' block) n
+  here : dir.frame_at fs f ≡ begun_frame z.block_words q' block
+  here = at_new c.directory.frames f (begun_frame z.block_words q' block) in_range
 
-  slot_new : regs.register_at (set rs slot (begun_register z.block_words q' block f)) slot ≡ begun_register z.block_words q' block f
-  slot_new = get_or-set_same rs slot (begun_register z.block_words q' block f) regs.free_register there
+  elsewhere : (g : ℕ) → (g ≡ f → ⊥) → dir.frame_at fs g ≡ frame_at c g
+  elsewhere g n = at_other c.directory.frames f g (begun_frame z.block_words q' block) n
 
-  slot_other : (s : ℕ) → (s ≡ slot → ⊥) → regs.register_at (set rs slot (begun_register z.block_words q' block f)) s ≡ regs.register_at rs s
-  slot_other s n = get_or-set_other rs slot s (begun_register z.block_words q' block f) regs.free_register n
+  slot_new : regs.register_at rs slot ≡ begun_register z.block_words q' block f
+  slot_new = get_or-set_same c.registers slot (begun_register z.block_words q' block f) regs.free_register there
+
+  slot_other : (s : ℕ) → (s ≡ slot → ⊥) → regs.register_at rs s ≡ register_at c s
+  slot_other s n = get_or-set_other c.registers slot s (begun_register z.block_words q' block f) regs.free_register n
 
   -- a live register isn't the one that was free
-  live_other : (s : ℕ) → regs.is_live (regs.register_at rs s) ≡ true → s ≡ slot → ⊥
+  live_other : (s : ℕ) → regs.is_live (register_at c s) ≡ true → s ≡ slot → ⊥
   live_other s live e =
-      let v : (regs.register_at rs s).valid ≡ false = ap (λ k. (regs.register_at rs k).valid) e ∙ free in
-      false≢true (sym (ap (λ (b : Bool). b && not (regs.register_at rs s).obsolete) v) ∙ live)
+      let v : (register_at c s).valid ≡ false = ap (λ k. (register_at c k).valid) e ∙ free in
+      false≢true (sym (ap (λ (b : Bool). b && not (register_at c s).obsolete) v) ∙ live)
 
-  pub missed_in_memory : block * z.block_words + z.block_words ≤ z.words → (g b : ℕ) → (dir.frame_at (set d.frames f (begun_frame z.block_words q' block)) g).block ≡ Some b → b * z.block_words + z.block_words ≤ z.words
+  pub missed_in_memory : block * z.block_words + z.block_words ≤ z.words → (g b : ℕ) → (dir.frame_at fs g).block ≡ Some b → b * z.block_words + z.block_words ≤ z.words
   missed_in_memory small g b e = go (cases_eq g f)
     where
       go : (g ≡ f) ⊎ (g ≡ f → ⊥) → b * z.block_words + z.block_words ≤ z.words
       go (inl k) =
-          let same : block ≡ b = same_some block b (sym (ap (λ n. (dir.frame_at (set d.frames f (begun_frame z.block_words q' block)) n).block) k ∙ ap (λ (x : dir.Frame). x.block) here) ∙ e) in
+          let same : block ≡ b = same_some block b (sym (ap (λ n. (dir.frame_at fs n).block) k ∙ ap (λ (x : dir.Frame). x.block) here) ∙ e) in
           subst (λ n. n * z.block_words + z.block_words ≤ z.words) same small
       go (inr n) = h.in_memory g b (sym (ap (λ (x : dir.Frame). x.block) (elsewhere g n)) ∙ e)
 
   -- the new block is where it was put
-  new_found : dir.frame_of (set d.frames f (begun_frame z.block_words q' block)) block ≡ Some f
-  new_found = found_alone (set d.frames f (begun_frame z.block_words q' block)) block f (ap (λ (x : dir.Frame). x.block) here) only
+  new_found : dir.frame_of fs block ≡ Some f
+  new_found = found_alone fs block f (ap (λ (x : dir.Frame). x.block) here) only
     where
-      only : (g : ℕ) → (dir.frame_at (set d.frames f (begun_frame z.block_words q' block)) g).block ≡ Some block → g ≡ f
+      only : (g : ℕ) → (dir.frame_at fs g).block ≡ Some block → g ≡ f
       only g e = go (cases_eq g f)
         where
           go : (g ≡ f) ⊎ (g ≡ f → ⊥) → g ≡ f
           go (inl k) = k
-          go (inr n) = absurd (absent_from d.frames block g absent (sym (ap (λ (x : dir.Frame). x.block) (elsewhere g n)) ∙ e))
+          go (inr n) = absurd (absent_from c.directory.frames block g absent (sym (ap (λ (x : dir.Frame). x.block) (elsewhere g n)) ∙ e))
 
   -- the other blocks of registers stay where they were
-  old_found : (b g : ℕ) → dir.frame_of d.frames b ≡ Some g → (g ≡ f → ⊥) → dir.frame_of (set d.frames f (begun_frame z.block_words q' block)) b ≡ Some g
-  old_found b g e n = found_alone (set d.frames f (begun_frame z.block_words q' block)) b g (ap (λ (x : dir.Frame). x.block) (elsewhere g n) ∙ held) only
+  old_found : (b g : ℕ) → frame_of c b ≡ Some g → (g ≡ f → ⊥) → dir.frame_of fs b ≡ Some g
+  old_found b g e n = found_alone fs b g (ap (λ (x : dir.Frame). x.block) (elsewhere g n) ∙ held) only
     where
-      held : (dir.frame_at d.frames g).block ≡ Some b
-      held = (frame_of-some d.frames b g e).1
+      held : (frame_at c g).block ≡ Some b
+      held = (frame_of-some c.directory.frames b g e).1
 
-      only : (j : ℕ) → (dir.frame_at (set d.frames f (begun_frame z.block_words q' block)) j).block ≡ Some b → j ≡ g
+      only : (j : ℕ) → (dir.frame_at fs j).block ≡ Some b → j ≡ g
       only j k = go (cases_eq j f)
         where
           go : (j ≡ f) ⊎ (j ≡ f → ⊥) → j ≡ g
           go (inl m) =
-              let same : block ≡ b = same_some block b (sym (ap (λ n. (dir.frame_at (set d.frames f (begun_frame z.block_words q' block)) n).block) m ∙ ap (λ (x : dir.Frame). x.block) here) ∙ k) in
-              let no : ◌≡◌ {A = Option ℕ} None (Some g) = sym absent ∙ ap (dir.frame_of d.frames) same ∙ e in
+              let same : block ≡ b = same_some block b (sym (ap (λ n. (dir.frame_at fs n).block) m ∙ ap (λ (x : dir.Frame). x.block) here) ∙ k) in
+              let no : ◌≡◌ {A = Option ℕ} None (Some g) = sym absent ∙ ap (frame_of c) same ∙ e in
               absurd (none-some g no)
           go (inr m) = h.directory.alone j g b (sym (ap (λ (x : dir.Frame). x.block) (elsewhere j m)) ∙ k) held
 
-  old_frame : (s : ℕ) → regs.is_live (regs.register_at rs s) ≡ true → (regs.register_at rs s).frame ≡ f → ⊥
+  old_frame : (s : ℕ) → regs.is_live (register_at c s) ≡ true → (register_at c s).frame ≡ f → ⊥
   old_frame s live e =
-      let p : (dir.frame_at d.frames f).pending ≡ true = sym (ap (λ k. (dir.frame_at d.frames k).pending) e) ∙ (h.tied.frames s live).pending in
+      let p : (frame_at c f).pending ≡ true = sym (ap (λ k. (frame_at c k).pending) e) ∙ (h.tied.frames s live).pending in
       false≢true (sym idle ∙ p)
 
-  pub missed_tied : Tied (set d.frames f (begun_frame z.block_words q' block)) (set rs slot (begun_register z.block_words q' block f))
+  pub missed_tied : Tied fs rs
   missed_tied = record { frames = λ s live. frames s live (cases_eq s slot); pending = λ g p. pending g p (cases_eq g f) }
     where
-      new_frame : HasFrame (set d.frames f (begun_frame z.block_words q' block)) (begun_register z.block_words q' block f)
+      new_frame : HasFrame fs (begun_register z.block_words q' block f)
       new_frame = record {
         holds = new_found;
         cells = ap (λ (x : dir.Frame). length x.cells) here ∙ length-map-range_with_len (begun_cell q') (block * z.block_words) z.block_words ∙ sym (length-map-range_with_len (begun_field q') (block * z.block_words) z.block_words);
         pending = ap (λ (x : dir.Frame). x.pending) here;
       }
 
-      frames : (s : ℕ) → regs.is_live (regs.register_at (set rs slot (begun_register z.block_words q' block f)) s) ≡ true → (s ≡ slot) ⊎ (s ≡ slot → ⊥) → HasFrame (set d.frames f (begun_frame z.block_words q' block)) (regs.register_at (set rs slot (begun_register z.block_words q' block f)) s)
+      frames : (s : ℕ) → regs.is_live (regs.register_at rs s) ≡ true → (s ≡ slot) ⊎ (s ≡ slot → ⊥) → HasFrame fs (regs.register_at rs s)
       frames s live (inl e) =
-          let P : regs.Register → Type 0 = HasFrame (set d.frames f (begun_frame z.block_words q' block)) in
-          subst P (sym (ap (regs.register_at (set rs slot (begun_register z.block_words q' block f))) e ∙ slot_new)) new_frame
+          let P : regs.Register → Type 0 = HasFrame fs in
+          subst P (sym (ap (regs.register_at rs) e ∙ slot_new)) new_frame
       frames s live (inr n) =
-          let was : regs.is_live (regs.register_at rs s) ≡ true = ap regs.is_live (sym (slot_other s n)) ∙ live in
+          let was : regs.is_live (register_at c s) ≡ true = ap regs.is_live (sym (slot_other s n)) ∙ live in
           let old = h.tied.frames s was in
           let apart = old_frame s was in
-          let r = regs.register_at rs s in
-          let now : HasFrame (set d.frames f (begun_frame z.block_words q' block)) (regs.register_at rs s) = record {
+          let r = register_at c s in
+          let now : HasFrame fs (register_at c s) = record {
             holds = old_found r.block r.frame old.holds apart;
             cells = ap (λ (x : dir.Frame). length x.cells) (elsewhere r.frame apart) ∙ old.cells;
             pending = ap (λ (x : dir.Frame). x.pending) (elsewhere r.frame apart) ∙ old.pending;
           } in
-          let P : regs.Register → Type 0 = HasFrame (set d.frames f (begun_frame z.block_words q' block)) in
+          let P : regs.Register → Type 0 = HasFrame fs in
           subst P (sym (slot_other s n)) now
 
-      pending : (g : ℕ) → (dir.frame_at (set d.frames f (begun_frame z.block_words q' block)) g).pending ≡ true → (g ≡ f) ⊎ (g ≡ f → ⊥) → FilledBy (set rs slot (begun_register z.block_words q' block f)) g
+      pending : (g : ℕ) → (dir.frame_at fs g).pending ≡ true → (g ≡ f) ⊎ (g ≡ f → ⊥) → FilledBy rs g
       pending g p (inl e) =
           record { slot = slot; live = ap regs.is_live slot_new; frame = ap (λ (r : regs.Register). r.frame) slot_new ∙ sym e }
       pending g p (inr n) =
@@ -207,45 +210,45 @@ module _ (z : Sizes) (d : dir.Frames) (rs : List regs.Register) (st : List Entry
           let apart = live_other old.slot old.live in
           record { slot = old.slot; live = ap regs.is_live (slot_other old.slot apart) ∙ old.live; frame = ap (λ (r : regs.Register). r.frame) (slot_other old.slot apart) ∙ old.frame }
 
-  pub missed_stack : StackSound (set rs slot (begun_register z.block_words q' block f)) st
+  pub missed_stack : StackSound rs c.stack
   missed_stack = record { entries = entries; distinct = h.stack_sound.distinct; marks = λ s i m. marks s i m (cases_eq s slot) }
     where
-      entries : (k : ℕ) → k < length st → HasInStack (regs.register_at (set rs slot (begun_register z.block_words q' block f)) (entry_at st k).slot) (entry_at st k).i
+      entries : (k : ℕ) → k < length c.stack → HasInStack (regs.register_at rs (entry_at c.stack k).slot) (entry_at c.stack k).i
       entries k l =
           let old = h.stack_sound.entries k l in
-          let apart : (entry_at st k).slot ≡ slot → ⊥ = λ e. false≢true (sym (ap (λ s. (regs.register_at rs s).valid) e ∙ free) ∙ old.valid) in
-          let P : regs.Register → Type 0 = λ r. HasInStack r (entry_at st k).i in
-          subst P (sym (slot_other (entry_at st k).slot apart)) old
+          let apart : (entry_at c.stack k).slot ≡ slot → ⊥ = λ e. false≢true (sym (ap (λ s. (register_at c s).valid) e ∙ free) ∙ old.valid) in
+          let P : regs.Register → Type 0 = λ r. HasInStack r (entry_at c.stack k).i in
+          subst P (sym (slot_other (entry_at c.stack k).slot apart)) old
 
-      marks : (s i : ℕ) → (regs.field_of (regs.register_at (set rs slot (begun_register z.block_words q' block f)) s) i).in_stack ≡ true → (s ≡ slot) ⊎ (s ≡ slot → ⊥) → Stands st s i
+      marks : (s i : ℕ) → (regs.field_of (regs.register_at rs s) i).in_stack ≡ true → (s ≡ slot) ⊎ (s ≡ slot → ⊥) → Stands c.stack s i
       marks s i m (inl e) =
-          let now = ap (regs.register_at (set rs slot (begun_register z.block_words q' block f))) e ∙ slot_new in
+          let now = ap (regs.register_at rs) e ∙ slot_new in
           let no = ap (λ (r : regs.Register). (regs.field_of r i).in_stack) now ∙ not_in_stack q' (range_with_len (block * z.block_words) z.block_words) i in
           absurd (false≢true (sym no ∙ m))
       marks s i m (inr n) = h.stack_sound.marks s i (sym (ap (λ (r : regs.Register). (regs.field_of r i).in_stack) (slot_other s n)) ∙ m)
 
-  pub missed_owes : OwesSound z ready (set rs slot (begun_register z.block_words q' block f))
+  pub missed_owes : OwesSound z c.ready rs
   missed_owes =
-      owes-same z ready rs slot (begun_register z.block_words q' block f) there (λ p. no_loads p q' (range_with_len (block * z.block_words) z.block_words) ∙ sym (ap (λ (r : regs.Register). loads_of p r) ((h.registers.each slot).free free))) h.owes
+      owes-same z c.ready c.registers slot (begun_register z.block_words q' block f) there (λ p. no_loads p q' (range_with_len (block * z.block_words) z.block_words) ∙ sym (ap (λ (r : regs.Register). loads_of p r) ((h.registers.each slot).free free))) h.owes
 
 -- the whole miss
-pub IsSound-missed : (z : Sizes) (d : dir.Frames) (rs : List regs.Register) (st : List Entry) (q : Queue) (ready : List Reply) (block f slot : ℕ) → IsSound z d rs st q ready → f < length d.frames → (dir.frame_at d.frames f).pending ≡ false → dir.frame_of d.frames block ≡ None → slot < length rs → (regs.register_at rs slot).valid ≡ false → block * z.block_words + z.block_words ≤ z.words → length q.entries + length (owed_words z.block_words d f) ≤ q.limit → dir.IsWhole z.ways z.block_words (missed_frames z.ways z.block_words d (q.entries ++ owed_words z.block_words d f) f block) → IsWhole z.block_words z.regs (missed_registers z.block_words rs (q.entries ++ owed_words z.block_words d f) f slot block) → IsSound z (missed_frames z.ways z.block_words d (q.entries ++ owed_words z.block_words d f) f block) (missed_registers z.block_words rs (q.entries ++ owed_words z.block_words d f) f slot block) st (queue_of (q.entries ++ owed_words z.block_words d f) q.limit) ready
-IsSound-missed z d rs st q ready block f slot h in_range idle absent there free small room whole whole' =
-    let q' = q.entries ++ owed_words z.block_words d f in
-    let frames = sym (missed_is z.ways z.block_words d q' f block) in
-    let registers = sym (set-set rs slot (regs.fresh z.block_words block f) (begun_register z.block_words q' block f)) in
-    let tied = missed_tied z d rs st q ready h block f slot q' in_range idle absent there free in
-    let stack_sound = missed_stack z d rs st q ready h block f slot q' in_range idle absent there free in
-    let owes = missed_owes z d rs st q ready h block f slot q' in_range idle absent there free in
-    let in_memory = missed_in_memory z d rs st q ready h block f slot q' in_range idle absent there free small in
+pub IsSound-missed : (z : Sizes) (c : Cache) (block f slot : ℕ) → IsSound z c → f < length c.directory.frames → (frame_at c f).pending ≡ false → frame_of c block ≡ None → slot < length c.registers → (register_at c slot).valid ≡ false → block * z.block_words + z.block_words ≤ z.words → length c.queue + length (owed_words z.block_words c.directory f) ≤ z.write_queue → dir.IsWhole z.ways z.block_words (missed_frames z.ways z.block_words c.directory (c.queue ++ owed_words z.block_words c.directory f) f block) → IsWhole z.block_words z.regs (missed_registers z.block_words c.registers (c.queue ++ owed_words z.block_words c.directory f) f slot block) → IsSound z (record c { directory = missed_frames z.ways z.block_words c.directory (c.queue ++ owed_words z.block_words c.directory f) f block; registers = missed_registers z.block_words c.registers (c.queue ++ owed_words z.block_words c.directory f) f slot block; queue = c.queue ++ owed_words z.block_words c.directory f })
+IsSound-missed z c block f slot h in_range idle absent there free small room whole whole' =
+    let q' = c.queue ++ owed_words z.block_words c.directory f in
+    let frames = sym (missed_is z.ways z.block_words c.directory q' f block) in
+    let registers = sym (set-set c.registers slot (regs.fresh z.block_words block f) (begun_register z.block_words q' block f)) in
+    let tied = missed_tied z c h block f slot q' in_range idle absent there free in
+    let stack_sound = missed_stack z c h block f slot q' in_range idle absent there free in
+    let owes = missed_owes z c h block f slot q' in_range idle absent there free in
+    let in_memory = missed_in_memory z c h block f slot q' in_range idle absent there free small in
     record {
       ranges = h.ranges;
       directory = whole;
-      sets = missed_orders z.ways z.block_words d q' f block h.directory ∙ h.sets;
+      sets = missed_orders z.ways z.block_words c.directory q' f block h.directory ∙ h.sets;
       in_memory = λ g b e. in_memory g b (ap (λ (fs : List dir.Frame). (dir.frame_at fs g).block) frames ∙ e);
       registers = whole';
-      stack_sound = let P : List regs.Register → Type 0 = λ rs. StackSound rs st in subst P registers stack_sound;
-      tied = let P : List dir.Frame → Type 0 = λ fs. Tied fs (missed_registers z.block_words rs q' f slot block) in subst P frames (let Q : List regs.Register → Type 0 = Tied (set d.frames f (begun_frame z.block_words q' block)) in subst Q registers tied);
-      queue_sound = QueueSound-given z d f q h.directory h.in_memory room h.queue_sound;
-      owes = let P : List regs.Register → Type 0 = OwesSound z ready in subst P registers owes;
+      stack_sound = let P : List regs.Register → Type 0 = λ rs. StackSound rs c.stack in subst P registers stack_sound;
+      tied = let P : List dir.Frame → Type 0 = λ fs. Tied fs (missed_registers z.block_words c.registers q' f slot block) in subst P frames (let Q : List regs.Register → Type 0 = Tied (set c.directory.frames f (begun_frame z.block_words q' block)) in subst Q registers tied);
+      queue_sound = QueueSound-given z c.directory f c.queue h.directory h.in_memory room h.queue_sound;
+      owes = let P : List regs.Register → Type 0 = OwesSound z c.ready in subst P registers owes;
     }

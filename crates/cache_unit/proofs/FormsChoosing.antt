@@ -10,11 +10,15 @@ use Rattle.std.proofs.lemmas.List.{set-set}
 use Rattle.flat_model.specs.Places.{place_of}
 use Rattle.flat_model.proofs.Places.{place_of-passes}
 use Rattle.write_queue.specs.declared.Queued.{Queued}
+use Rattle.miss_registers.specs.Registers as regs
+use Rattle.cache_unit.specs.Begun.{begun_frame, begun_register}
+use Rattle.cache_directory.specs.Frames.{order_of}
+use Rattle.cache_directory.specs.Frames as dir
 use Rattle.cache_unit.specs.declared.Sizes.{Sizes}
 use Rattle.cache_unit.specs.State.{Frame, Register, Cache, empty_frame, free_register, frame_at, frame_of, is_present, register_at}
 use Rattle.cache_unit.specs.State.{is_live, live_for, is_pending, is_pending_block, free_slot}
-use Rattle.cache_unit.specs.Causes.{choose, ways_of, order_of, is_resident_block, dirty_words}
-use Rattle.cache_unit.specs.Steps.{fresh_frame, fresh_register, released, installed, missed, reads, fetched, fetches}
+use Rattle.cache_unit.specs.Causes.{choose, ways_of, is_resident_block, dirty_words}
+use Rattle.cache_unit.specs.Steps.{released, installed, missed, reads, fetched, fetches}
 use Rattle.cache_unit.specs.FormLaws.{form_at, missed_words, fetched_words}
 use Rattle.cache_unit.specs.SoundCache.{IsSoundCache}
 use Rattle.cache_unit.proofs.FormsPlaces.{frame-comes}
@@ -89,10 +93,10 @@ MayGo c f = ((frame_at c f).block ≡ None) ⊎ ((b : ℕ) × ((frame_at c f).bl
 
 -- a frame of the set, by its number or by the set's order
 abbrev pub OfSet : Sizes → Cache → ℕ → ℕ → Type 0
-OfSet z c s f = (f / z.ways ≡ s) ⊎ (is_in (order_of c.orders s) f ≡ true)
+OfSet z c s f = (f / z.ways ≡ s) ⊎ (is_in (order_of c.directory s) f ≡ true)
 
 chosen : (z : Sizes) (c : Cache) → IsSoundCache z c → (block f : ℕ) → choose z c block ≡ Some f
-    → (f < length c.frames) × MayGo c f × OfSet z c (block % z.sets) f
+    → (f < length c.directory.frames) × MayGo c f × OfSet z c (block % z.sets) f
 unfolding choose
 chosen z c h block f e = go (find free ways) refl (find resident order) refl e
   where
@@ -100,7 +104,7 @@ chosen z c h block f e = go (find free ways) refl (find resident order) refl e
     ways = range_with_len (block % z.sets * z.ways) z.ways
 
     order : List ℕ
-    order = order_of c.orders (block % z.sets)
+    order = order_of c.directory (block % z.sets)
 
     free : ℕ → Bool
     free g = is_none (frame_at c g).block
@@ -108,7 +112,7 @@ chosen z c h block f e = go (find free ways) refl (find resident order) refl e
     resident : ℕ → Bool
     resident g = is_resident_block c (frame_at c g).block
 
-    by_free : find free ways ≡ Some f → (f < length c.frames) × MayGo c f × OfSet z c (block % z.sets) f
+    by_free : find free ways ≡ Some f → (f < length c.directory.frames) × MayGo c f × OfSet z c (block % z.sets) f
     by_free q =
         let r = find_range free (block % z.sets * z.ways) z.ways f q in
         let l : block % z.sets < z.sets = mod-lt block h.some_sets in
@@ -118,17 +122,18 @@ chosen z c h block f e = go (find free ways) refl (find resident order) refl e
         let own : f / z.ways ≡ block % z.sets = div-eq_of_lt-le z.ways (let r0 = r.0 in omega arith) (let r2 = r.1 in omega arith) in
         (omega arith, inl (none_from _ (find-passes free ways f q)), inl own)
 
-    by_resident : find resident order ≡ Some f → (f < length c.frames) × MayGo c f × OfSet z c (block % z.sets) f
+    by_resident : find resident order ≡ Some f → (f < length c.directory.frames) × MayGo c f × OfSet z c (block % z.sets) f
     by_resident q =
         let p = resident_from c (frame_at c f).block (find-passes resident order f q) in
-        (in_range (λ (x : Frame). is_some x.block) empty_frame c.frames f refl (ap is_some p.1), inr p, inr (member resident order f q))
+        (in_range (λ (x : Frame). is_some x.block) empty_frame c.directory.frames f refl (ap is_some p.1), inr p, inr (member resident order f q))
 
     go : (a : Option ℕ) → find free ways ≡ a → (b : Option ℕ) → find resident order ≡ b → option_or a b ≡ Some f
-        → (f < length c.frames) × MayGo c f × OfSet z c (block % z.sets) f
+        → (f < length c.directory.frames) × MayGo c f × OfSet z c (block % z.sets) f
     go (Some x) p b q r = by_free (p ∙ r)
     go None p b q r = by_resident (q ∙ r)
 
 pub free_register_at : (c : Cache) (slot : ℕ) → free_slot c ≡ Some slot → (slot < length c.registers) × ((register_at c slot).valid ≡ false)
+unfolding regs.free_slot
 free_register_at c slot e =
     let p = place_of-passes (λ (r : Register). not r.valid) c.registers slot free_register e in
     (p.0, not-true (register_at c slot).valid p.1)
@@ -154,6 +159,7 @@ all_valid (r ∷ registers) e = go r.valid (place_of (λ (x : Register). not x.v
 
 some_slot : (z : Sizes) (c : Cache) → IsSoundCache z c → (length (filter (λ r. r.valid) c.registers) == z.regs) ≡ false
     → is_none (free_slot c) ≡ false
+unfolding regs.free_slot
 some_slot z c h e = go (free_slot c) refl
   where
     go : (o : Option ℕ) → free_slot c ≡ o → is_none o ≡ false
@@ -197,13 +203,13 @@ some_frame z c h block e = go (frame_at c x.0).block refl x.3
     none (Some k) q = cc
 
     go : (o : Option ℕ) → (frame_at c x.0).block ≡ o → is_pending_block c (frame_at c x.0).block ≡ false
-        → is_none (option_or (find free (ways_of z block)) (find resident (order_of c.orders (block % z.sets)))) ≡ false
+        → is_none (option_or (find free (ways_of z block)) (find resident (order_of c.directory (block % z.sets)))) ≡ false
     go None q r = left _ _ (found_in free (ways_of z block) x.0 x.4 (ap is_none q))
     go (Some b) q r =
-        let here : is_in (order_of c.orders (block % z.sets)) x.0 ≡ true = ap (λ s. is_in (order_of c.orders s) x.0) (sym own)
+        let here : is_in (order_of c.directory (block % z.sets)) x.0 ≡ true = ap (λ s. is_in (order_of c.directory s) x.0) (sym own)
         ∙ h.placed x.0 b q in
         let waits : is_some (live_for c b) ≡ false = ap (is_pending_block c) (sym q) ∙ r in
-        right (find free (ways_of z block)) _ (found_in resident (order_of c.orders (block % z.sets)) x.0 here
+        right (find free (ways_of z block)) _ (found_in resident (order_of c.directory (block % z.sets)) x.0 here
         (ap (is_resident_block c) q ∙ none (live_for c b) waits))
 
 -- ---- the block is fetched
@@ -215,7 +221,7 @@ module _ (z : Sizes) (c : Cache) (h : IsSoundCache z c) (block f slot : ℕ) (ab
   queue_then = c.queue ++ dirty_words z c (Some f)
 
   orders_then : List (List ℕ)
-  orders_then = (installed z (released z c f) block f slot).orders
+  orders_then = (installed z (released z c f) block f slot).directory.orders
 
   free : (slot < length c.registers) × ((register_at c slot).valid ≡ false)
   free = free_register_at c slot es
@@ -223,26 +229,24 @@ module _ (z : Sizes) (c : Cache) (h : IsSoundCache z c) (block f slot : ℕ) (ab
   -- the frame is cleared, and then taken
   taken_is : installed z (released z c f) block f slot
       ≡ record {
-        frames = set c.frames f (fresh_frame z queue_then block);
-        orders = orders_then;
+        directory = record { frames = set c.directory.frames f (begun_frame z.block_words queue_then block); orders = orders_then };
         registers =
-            set c.registers slot (fresh_register z queue_then block);
+            set c.registers slot (begun_register z.block_words queue_then block f);
         stack = c.stack;
         queue = queue_then;
         ready = c.ready;
       }
-  unfolding installed released queue_then orders_then
+  unfolding installed released dir.released queue_then orders_then
   taken_is =
       let with_frames : List Frame → Cache = λ fs. record {
-        frames = fs;
-        orders = orders_then;
+        directory = record { frames = fs; orders = orders_then };
         registers =
-            set c.registers slot (fresh_register z queue_then block);
+            set c.registers slot (begun_register z.block_words queue_then block f);
         stack = c.stack;
         queue = queue_then;
         ready = c.ready;
       } in
-      ap with_frames (set-set c.frames f empty_frame (fresh_frame z queue_then block))
+      ap with_frames (set-set c.directory.frames f empty_frame (begun_frame z.block_words queue_then block))
 
   pub fetched_is : fetched z c block ≡ installed z (released z c f) block f slot
   unfolding fetched
@@ -338,14 +342,14 @@ fetched-by z c h block able = go (frame_of c block) refl
 -- a block that is fetched lies in the frame that was chosen for it
 pub fetched_frame : (z : Sizes) (c : Cache) → IsSoundCache z c → (block f slot : ℕ) → frame_of c block ≡ None → choose z c block ≡ Some f
     → free_slot c ≡ Some slot → frame_of (fetched z c block) block ≡ Some f
-unfolding fetched installed released
+unfolding fetched installed released dir.released
 fetched_frame z c h block f slot absent ef es =
     ap (λ (x : Cache). frame_of x block) (fetched_is z c h block f slot absent ef es)
-    ∙ frame-comes c (installed z (released z c f) block f slot) f (fresh_frame z queue block) block frames
+    ∙ frame-comes c (installed z (released z c f) block f slot) f (begun_frame z.block_words queue block) block frames
     (chosen z c h block f ef).0 refl (λ k e. absurd (none_in_frames c block absent k e))
   where
     queue : List Queued
     queue = c.queue ++ dirty_words z c (Some f)
 
-    frames : (installed z (released z c f) block f slot).frames ≡ set c.frames f (fresh_frame z queue block)
-    frames = set-set c.frames f empty_frame (fresh_frame z queue block)
+    frames : (installed z (released z c f) block f slot).directory.frames ≡ set c.directory.frames f (begun_frame z.block_words queue block)
+    frames = set-set c.directory.frames f empty_frame (begun_frame z.block_words queue block)

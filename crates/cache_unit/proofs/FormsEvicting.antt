@@ -1,20 +1,21 @@
 -- A block is given up.
 use Rattle.std.proofs.Common.{◌≡◌, ℕ, zero, suc, ◌+◌, ◌<◌, Bool, true, false, cond, not, ◌&&◌, ◌==◌, nat_lt, is_some, List, [], ◌∷◌, ◌++◌}
-use Rattle.std.proofs.Common.{map, length, get_or, set, Option, Some, None, refl, sym, ap, ◌∙◌, subst, length-set, ⊎_elim, get_or-set_same}
+use Rattle.std.proofs.Common.{map, length, get_or, set, Option, Some, None, refl, sym, ap, ◌∙◌, length-set, ⊎_elim, get_or-set_same}
 use Rattle.std.proofs.Common.{get_or-set_other, eq-eqb, ne_eqb}
 use Rattle.std.proofs.lemmas.Bool.{cases_eq}
-use Rattle.flat_model.specs.declared.Cause.{Cause}
 use Rattle.flat_model.specs.declared.Cause.TheVariants.{OutOfRange, NotPresent, QueueFull}
-use Rattle.flat_model.specs.declared.Answer.{Answer}
-use Rattle.flat_model.specs.declared.Answer.TheVariants.{Accepted, Refused}
+use Rattle.flat_model.specs.declared.Answer.TheVariants.{Accepted}
+use Rattle.miss_registers.specs.Registers as regs
 use Rattle.cache_unit.specs.declared.Reply.{Reply}
+use Rattle.cache_directory.specs.Frames as dir
 use Rattle.cache_unit.specs.declared.Sizes.{Sizes}
 use Rattle.cache_directory.specs.Frames.{zero_cell}
 use Rattle.cache_unit.specs.State.{Frame, Field, Register, Cache, empty_frame, clear_field, free_register, frame_at}
 use Rattle.cache_unit.specs.State.{frame_of, register_at, is_live, live_for, cell_in, cell_of, gathered, targets_of, targets_of_field}
-use Rattle.cache_unit.specs.State.{Target, targets, tags, block_of, place_in, address}
+use Rattle.cache_unit.specs.State.{Target, targets, tags, block_of, place_in, first_of}
 use Rattle.cache_unit.specs.Causes.{evict_cause, lacks_places}
-use Rattle.cache_unit.specs.Steps.{Stepped, unless, without_code, made_obsolete, obsoleted, released, evicted, evicted_from, evict_step}
+use Rattle.miss_registers.specs.Registers.{without_code, made_obsolete}
+use Rattle.cache_unit.specs.Steps.{Stepped, unless, obsoleted, released, evicted, evicted_from, evict_step}
 use Rattle.cache_unit.specs.Forms.{owed}
 use Rattle.cache_unit.specs.FormLaws.{form_at, forms, words_without, EvictForms}
 use Rattle.cache_unit.specs.SoundCache.{IsSoundCache}
@@ -31,7 +32,7 @@ codeless_targets slot n [] = refl
 codeless_targets slot n (f ∷ fields) = ap (λ l. targets_of_field slot n f ++ l) (codeless_targets slot (suc n) fields)
 
 -- the word of another block stands in another frame
-pub cell-other : (z : Sizes) (c d : Cache) (at f : ℕ) (new : Frame) → d.frames ≡ set c.frames f new
+pub cell-other : (z : Sizes) (c d : Cache) (at f : ℕ) (new : Frame) → d.directory.frames ≡ set c.directory.frames f new
     → frame_of d (block_of z at) ≡ frame_of c (block_of z at) → ((frame_at c f).block ≡ Some (block_of z at) → ⊥)
     → cell_of d (block_of z at) (place_in z at) ≡ cell_of c (block_of z at) (place_in z at)
 cell-other z c d at f new ed ef n =
@@ -43,7 +44,7 @@ cell-other z c d at f new ed ef n =
         let p = frame_of-some c (block_of z at) k e in
         ap (λ (fs : List Frame). get_or (get_or fs k empty_frame).cells (place_in z at) zero_cell) ed
         ∙ ap (λ (x : Frame). get_or x.cells (place_in z at) zero_cell)
-        (get_or-set_other c.frames f k new empty_frame (λ q. n (ap (λ x. (frame_at c x).block) (sym q) ∙ p.1)))
+        (get_or-set_other c.directory.frames f k new empty_frame (λ q. n (ap (λ x. (frame_at c x).block) (sym q) ∙ p.1)))
 
 codeless_processed : (fields : List Field) (j : ℕ)
     → (get_or (map without_code fields) j clear_field).processed ≡ (get_or fields j clear_field).processed
@@ -55,7 +56,7 @@ codeless_length : (fields : List Field) → length (map without_code fields) ≡
 codeless_length [] = refl
 codeless_length (f ∷ fields) = ap suc (codeless_length fields)
 
-abbrev waits_in : Sizes → ℕ → Register → Bool
+abbrev pub waits_in : Sizes → ℕ → Register → Bool
 waits_in z j r = r.valid && (nat_lt j z.block_words && not (get_or r.fields j clear_field).processed)
 
 -- the unit once a block is given up
@@ -77,8 +78,8 @@ module _ (z : Sizes) (c : Cache) (h : IsSoundCache z c) (block : ℕ) where
     pub not_live : (t : ℕ) → is_live (get_or registers t free_register) ≡ true → (register_at c t).block ≡ block → ⊥
     pub waits : (t j : ℕ) → waits_in z j (get_or registers t free_register) ≡ waits_for z c t j
 
-  retired : (o : Option ℕ) → live_for c block ≡ o → Retired (obsoleted c o)
-  unfolding targets live_for
+  retired : (o : Option ℕ) → live_for c block ≡ o → Retired (obsoleted c.registers o)
+  unfolding targets regs.live_for made_obsolete
   retired None e =
       record {
         stays = λ b n d ed. ap (λ rs. live_for (record c { registers = rs }) b) ed;
@@ -122,13 +123,13 @@ module _ (z : Sizes) (c : Cache) (h : IsSoundCache z c) (block : ℕ) where
     gone = evicted z c block f
 
     word_gone : (at : ℕ) → form_at z gone at ≡ words_without z (form_at z c) (Some block) at
-    unfolding evicted released
+    unfolding evicted released dir.released
     word_gone at = ⊎_elim here there (cases_eq block (block_of z at))
       where
-        held : (f < length c.frames) × ((frame_at c f).block ≡ Some block)
+        held : (f < length c.directory.frames) × ((frame_at c f).block ≡ Some block)
         held = frame_of-some c block f found
 
-        ret : Retired (obsoleted c (live_for c block))
+        ret : Retired (obsoleted c.registers (live_for c block))
         ret = retired (live_for c block) refl
 
         here : block ≡ block_of z at → form_at z gone at ≡ cond (block == block_of z at) None (form_at z c at)
@@ -154,11 +155,11 @@ module _ (z : Sizes) (c : Cache) (h : IsSoundCache z c) (block : ℕ) where
             ∙ sym (ap (λ b. cond b None (form_at z c at)) (ne_eqb block (block_of z at) n))
 
     gone_within : Within c gone
-    unfolding evicted released
+    unfolding evicted released dir.released
     gone_within =
         record {
           frames = record {
-            number = length-set c.frames f empty_frame;
+            number = length-set c.directory.frames f empty_frame;
             held = λ k b e. let same = elsewhere k (holds_other k b e) in
                 (ap (λ (x : Frame). x.block) (sym same) ∙ e, ap (λ (x : Frame). length x.cells) same);
           };
@@ -168,24 +169,24 @@ module _ (z : Sizes) (c : Cache) (h : IsSoundCache z c) (block : ℕ) where
               ∙ ap (λ x. (frame_at c x).block) q ∙ held.1 in cc))) ∙ e;
         }
       where
-        held : (f < length c.frames) × ((frame_at c f).block ≡ Some block)
+        held : (f < length c.directory.frames) × ((frame_at c f).block ≡ Some block)
         held = frame_of-some c block f found
 
-        ret : Retired (obsoleted c (live_for c block))
+        ret : Retired (obsoleted c.registers (live_for c block))
         ret = retired (live_for c block) refl
 
-        elsewhere : (k : ℕ) → (k ≡ f → ⊥) → get_or (set c.frames f empty_frame) k empty_frame ≡ frame_at c k
-        elsewhere k n = get_or-set_other c.frames f k empty_frame empty_frame n
+        elsewhere : (k : ℕ) → (k ≡ f → ⊥) → get_or (set c.directory.frames f empty_frame) k empty_frame ≡ frame_at c k
+        elsewhere k n = get_or-set_other c.directory.frames f k empty_frame empty_frame n
 
-        holds_other : (k b : ℕ) → (get_or (set c.frames f empty_frame) k empty_frame).block ≡ Some b → (k ≡ f → ⊥)
+        holds_other : (k b : ℕ) → (get_or (set c.directory.frames f empty_frame) k empty_frame).block ≡ Some b → (k ≡ f → ⊥)
         holds_other k b e q =
-            let no : (get_or (set c.frames f empty_frame) k empty_frame).block ≡ None =
-            ap (λ x. (get_or (set c.frames f empty_frame) x empty_frame).block) q
-            ∙ ap (λ (x : Frame). x.block) (get_or-set_same c.frames f empty_frame empty_frame held.0) in
+            let no : (get_or (set c.directory.frames f empty_frame) k empty_frame).block ≡ None =
+            ap (λ x. (get_or (set c.directory.frames f empty_frame) x empty_frame).block) q
+            ∙ ap (λ (x : Frame). x.block) (get_or-set_same c.directory.frames f empty_frame empty_frame held.0) in
             cc
 
     pub evicted-by : EvictedBy z c block gone
-    unfolding evicted released
+    unfolding evicted released dir.released
     evicted-by =
         record {
           within = gone_within;
@@ -200,16 +201,16 @@ module _ (z : Sizes) (c : Cache) (h : IsSoundCache z c) (block : ℕ) where
               (frame-stays c gone f empty_frame (block_of z at) refl (sym (holds-not (frame_at c f) (block_of z at) far))) far;
         }
       where
-        held : (f < length c.frames) × ((frame_at c f).block ≡ Some block)
+        held : (f < length c.directory.frames) × ((frame_at c f).block ≡ Some block)
         held = frame_of-some c block f found
 
-        ret : Retired (obsoleted c (live_for c block))
+        ret : Retired (obsoleted c.registers (live_for c block))
         ret = retired (live_for c block) refl
 
-evict_ok : (z : Sizes) (c : Cache) → IsSoundCache z c → (block : ℕ)
+pub evict_forms : (z : Sizes) (c : Cache) → IsSoundCache z c → (block : ℕ)
     → EvictForms z c block (evict_step z c block).answer (evict_step z c block).cache
 unfolding EvictForms evict_step evict_cause
-evict_ok z c h block = go (nat_lt (address z block 0) z.words) (frame_of c block) refl
+evict_forms z c h block = go (nat_lt (first_of z block) z.words) (frame_of c block) refl
   where
     accept : Option ℕ → Stepped
     accept o = record { answer = Accepted; cache = evicted_from z c block o; sent = [] }
@@ -228,13 +229,3 @@ evict_ok z c h block = go (nat_lt (address z block 0) z.words) (frame_of c block
     go false o e = refl
     go true None e = refl
     go true (Some f) e = by_room f e (lacks_places z c (Some f))
-
-pub evict_forms : (z : Sizes) (c : Cache) → IsSoundCache z c → (block : ℕ) (a : Answer) (d : Cache) → a ≡ (evict_step z c block).answer
-    → d ≡ (evict_step z c block).cache → EvictForms z c block a d
-evict_forms z c h block a d ea ed =
-    subst (λ x. EvictForms z c block x d) (sym ea)
-    (subst (λ x. EvictForms z c block (evict_step z c block).answer x) (sym ed) (evict_ok z c h block))
-
-pub evict_refused : (z : Sizes) (c : Cache) (block : ℕ) (cause : Cause) → EvictForms z c block (Refused cause) c
-unfolding EvictForms
-evict_refused z c block cause = refl

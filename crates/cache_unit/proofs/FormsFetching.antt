@@ -10,13 +10,13 @@ use Rattle.flat_model.specs.Words.{zero_word, no_lanes}
 use Rattle.write_queue.specs.declared.Queued.{Queued}
 use Rattle.write_queue.specs.Queue.{overlaid, queued_lanes}
 use Rattle.input_stack.specs.Stack.{stack_word}
+use Rattle.cache_unit.specs.Begun.{begun_frame, begun_register, begun_field}
 use Rattle.cache_unit.specs.declared.Sizes.{Sizes}
 use Rattle.cache_directory.specs.Frames.{zero_cell}
 use Rattle.cache_unit.specs.State.{Frame, Field, Register, Cache, empty_frame, clear_field, free_register, frame_at}
 use Rattle.cache_unit.specs.State.{frame_of, is_present, register_at, field_at, is_live, live_for, cell_in, cell_of, gathered, targets_of}
-use Rattle.cache_unit.specs.State.{targets_of_field, targets, block_of, place_in, address}
+use Rattle.cache_unit.specs.State.{targets_of_field, targets, block_of, place_in, first_of}
 use Rattle.cache_unit.specs.Causes.{dirty_words, addresses}
-use Rattle.cache_unit.specs.Steps.{fresh_frame, fresh_register}
 use Rattle.cache_unit.specs.Forms.{Form, Asked, bytes_of, missing_form, over_form, form_in}
 use Rattle.cache_unit.specs.FormLaws.{form_at, words_without, asked_form, missed_words, fetched_words}
 use Rattle.cache_unit.specs.SoundCache.{IsSoundCache}
@@ -33,12 +33,11 @@ range_at g d a (suc n) zero l = ap g (sym (add-zero a))
 range_at g d a (suc n) (suc j) l = let e : a + 1 + j ≡ a + suc j = omega arith in range_at g d (a + 1) n j (omega arith) ∙ ap g e
 
 pub no_loads : (queue : List Queued) (slot n a k : ℕ)
-    → gathered (targets_of_field slot) n (map
-    (λ (at : ℕ). let f : Field = record { processed = false; code = queued_lanes queue at; waiting = [] } in f) (range_with_len a k)) ≡ []
+    → gathered (targets_of_field slot) n (map (begun_field queue) (range_with_len a k)) ≡ []
 no_loads queue slot n a zero = refl
 no_loads queue slot n a (suc k) = no_loads queue slot (suc n) (a + 1) k
 
-pub address_is : (z : Sizes) (at : ℕ) → address z (block_of z at) 0 + place_in z at ≡ at
+pub address_is : (z : Sizes) (at : ℕ) → first_of z (block_of z at) + place_in z at ≡ at
 address_is z at = let e = div-add-mod' at z.block_words in omega arith
 
 -- the unit in which a block is present
@@ -56,11 +55,11 @@ pub record FetchedBy (z : Sizes) (c : Cache) (block : ℕ) (d : Cache) : Type 0 
 
 -- the unit in which a missing block has this frame and this register
 pub record MissedBy (z : Sizes) (c : Cache) (block f slot : ℕ) (d : Cache) : Type 0 where
-  pub number_of_frames : length d.frames ≡ length c.frames
-  pub own_frame : frame_at d f ≡ fresh_frame z d.queue block
+  pub number_of_frames : length d.directory.frames ≡ length c.directory.frames
+  pub own_frame : frame_at d f ≡ begun_frame z.block_words d.queue block
   pub other_frame : (k : ℕ) → (k ≡ f → ⊥) → frame_at d k ≡ frame_at c k
   pub number_of_registers : length d.registers ≡ length c.registers
-  pub own_register : register_at d slot ≡ fresh_register z d.queue block
+  pub own_register : register_at d slot ≡ begun_register z.block_words d.queue block f
   pub other_register : (t : ℕ) → (t ≡ slot → ⊥) → register_at d t ≡ register_at c t
   pub words : (at : ℕ) → form_at z d at ≡ missed_words z c block (Some f) (Some slot) at
   pub same_targets : targets d.registers ≡ targets c.registers
@@ -75,14 +74,13 @@ pub record MissedBy (z : Sizes) (c : Cache) (block f slot : ℕ) (d : Cache) : T
       → cell_of d (block_of z at) (place_in z at) ≡ cell_of c (block_of z at) (place_in z at)
 
 none_wait : (queue : List Queued) (xs : List ℕ) (j : ℕ)
-    → (get_or (map (λ at. let x : Field = record { processed = false; code = queued_lanes queue at; waiting = [] } in
-    x) xs) j clear_field).waiting ≡ []
+    → (get_or (map (begun_field queue) xs) j clear_field).waiting ≡ []
 none_wait queue [] j = refl
 none_wait queue (x ∷ xs) zero = refl
 none_wait queue (x ∷ xs) (suc j) = none_wait queue xs j
 
 module _ (z : Sizes) (c : Cache) (h : IsSoundCache z c) (block f slot : ℕ) (absent : frame_of c block ≡ None)
-    (f_there : f < length c.frames) (slot_there : slot < length c.registers) (invalid : (register_at c slot).valid ≡ false)
+    (f_there : f < length c.directory.frames) (slot_there : slot < length c.registers) (invalid : (register_at c slot).valid ≡ false)
     (orders : List (List ℕ)) where
   abbrev queue_then : List Queued
   queue_then = c.queue ++ dirty_words z c (Some f)
@@ -90,9 +88,8 @@ module _ (z : Sizes) (c : Cache) (h : IsSoundCache z c) (block f slot : ℕ) (ab
   abbrev with_block : Cache
   with_block =
       record {
-        frames = set c.frames f (fresh_frame z queue_then block);
-        orders = orders;
-        registers = set c.registers slot (fresh_register z queue_then block);
+        directory = record { frames = set c.directory.frames f (begun_frame z.block_words queue_then block); orders = orders };
+        registers = set c.registers slot (begun_register z.block_words queue_then block f);
         stack = c.stack;
         queue = queue_then;
         ready = c.ready;
@@ -100,20 +97,20 @@ module _ (z : Sizes) (c : Cache) (h : IsSoundCache z c) (block f slot : ℕ) (ab
 
   -- ---- frames and registers
 
-  own_frame : frame_at with_block f ≡ fresh_frame z queue_then block
-  own_frame = get_or-set_same c.frames f _ empty_frame f_there
+  own_frame : frame_at with_block f ≡ begun_frame z.block_words queue_then block
+  own_frame = get_or-set_same c.directory.frames f _ empty_frame f_there
 
-  own_register : register_at with_block slot ≡ fresh_register z queue_then block
+  own_register : register_at with_block slot ≡ begun_register z.block_words queue_then block f
   own_register = get_or-set_same c.registers slot _ free_register slot_there
 
   found_now : frame_of with_block block ≡ Some f
   found_now =
-      frame-comes c with_block f (fresh_frame z queue_then block) block refl f_there refl
+      frame-comes c with_block f (begun_frame z.block_words queue_then block) block refl f_there refl
       (λ k e. absurd (none_in_frames c block absent k e))
 
   live_now : live_for with_block block ≡ Some slot
   live_now =
-      live-comes c with_block slot (fresh_register z queue_then block) block refl slot_there (eq-eqb block block refl)
+      live-comes c with_block slot (begun_register z.block_words queue_then block f) block refl slot_there (eq-eqb block block refl)
       (λ t l e. let p = h.live_present t l in absurd (none_in_frames c block absent p.0 (p.1 ∙ ap Some e)))
 
   not_live : is_live (register_at c slot) ≡ true → ⊥
@@ -121,7 +118,7 @@ module _ (z : Sizes) (c : Cache) (h : IsSoundCache z c) (block f slot : ℕ) (ab
 
   live_same : (b : ℕ) → (b ≡ block → ⊥) → live_for with_block b ≡ live_for c b
   live_same b n =
-      live-stays c with_block slot (fresh_register z queue_then block) b refl
+      live-stays c with_block slot (begun_register z.block_words queue_then block f) b refl
       (ne_eqb block b (λ q. n (sym q)) ∙ sym (serves-not (register_at c slot) b (λ l e. not_live l)))
 
   block_other : (b : ℕ) → (b ≡ block → ⊥) → Some block ≡ Some b → ⊥
@@ -129,33 +126,34 @@ module _ (z : Sizes) (c : Cache) (h : IsSoundCache z c) (block f slot : ℕ) (ab
 
   frame_gone : (b : ℕ) → (b ≡ block → ⊥) → (frame_at c f).block ≡ Some b → frame_of with_block b ≡ None
   frame_gone b n e =
-      frame-goes c with_block f (fresh_frame z queue_then block) b refl f_there (block_other b n) (λ k q. h.frames_apart k f b q e)
+      frame-goes c with_block f (begun_frame z.block_words queue_then block) b refl f_there (block_other b n)
+      (λ k q. h.frames_apart k f b q e)
 
   frame_same : (b : ℕ) → (b ≡ block → ⊥) → ((frame_at c f).block ≡ Some b → ⊥) → frame_of with_block b ≡ frame_of c b
   frame_same b n far =
       let no = holds-not (frame_at c f) b far in
-      frame-stays c with_block f (fresh_frame z queue_then block) b refl (ne_eqb block b (λ q. n (sym q)) ∙ sym no)
+      frame-stays c with_block f (begun_frame z.block_words queue_then block) b refl (ne_eqb block b (λ q. n (sym q)) ∙ sym no)
 
   cell_same : (at : ℕ) → (block_of z at ≡ block → ⊥) → ((frame_at c f).block ≡ Some (block_of z at) → ⊥)
       → cell_of with_block (block_of z at) (place_in z at) ≡ cell_of c (block_of z at) (place_in z at)
   cell_same at n far =
-      cell-other z c with_block at f (fresh_frame z queue_then block) refl (frame_same (block_of z at) n far) far
+      cell-other z c with_block at f (begun_frame z.block_words queue_then block) refl (frame_same (block_of z at) n far) far
 
   -- ---- the block's words
 
   own_cell : (j : ℕ) → j < z.block_words → cell_in with_block (Some f) j
-      ≡ record { word = overlaid zero_word queue_then (address z block 0 + j); dirty = no_lanes }
+      ≡ record { word = overlaid zero_word queue_then (first_of z block + j); dirty = no_lanes }
   own_cell j l =
       ap (λ (x : Frame). get_or x.cells j zero_cell) own_frame
       ∙ range_at (λ at. record { word = overlaid zero_word queue_then at; dirty = no_lanes }) zero_cell
-      (address z block 0) z.block_words j l
+      (first_of z block) z.block_words j l
 
   own_field : (j : ℕ) → j < z.block_words → field_at with_block slot j
-      ≡ record { processed = false; code = queued_lanes queue_then (address z block 0 + j); waiting = [] }
+      ≡ begun_field queue_then (first_of z block + j)
   own_field j l =
       ap (λ (r : Register). get_or r.fields j clear_field) own_register
-      ∙ range_at (λ at. record { processed = false; code = queued_lanes queue_then at; waiting = [] }) clear_field
-      (address z block 0) z.block_words j l
+      ∙ range_at (begun_field queue_then) clear_field
+      (first_of z block) z.block_words j l
 
   none_came : (j : ℕ) → stack_word c.stack slot j ≡ None
   none_came j =
@@ -169,13 +167,13 @@ module _ (z : Sizes) (c : Cache) (h : IsSoundCache z c) (block f slot : ℕ) (ab
   word_asked at e =
       let j = place_in z at in
       let l : place_in z at < z.block_words = mod-lt at h.some_words in
-      let a : address z block 0 + place_in z at ≡ at = ap (λ b. address z b 0 + place_in z at) (sym e) ∙ address_is z at in
-      let w = overlaid zero_word queue_then (address z block 0 + place_in z at) in
+      let a : first_of z block + place_in z at ≡ at = ap (λ b. first_of z b + place_in z at) (sym e) ∙ address_is z at in
+      let w = overlaid zero_word queue_then (first_of z block + place_in z at) in
       form_at-live z with_block at f slot (place_in z at) (ap (frame_of with_block) e ∙ found_now)
       (ap (live_for with_block) e ∙ live_now) refl
       ∙ ap (λ x. Some (form_in with_block (Some slot) (place_in z at) x.word)) (own_cell (place_in z at) l)
       ∙ ap (λ x. Some (form_with (place_in z at) w x (stack_word c.stack slot (place_in z at)))) (own_field (place_in z at) l)
-      ∙ ap (λ o. Some (over_form (queued_lanes queue_then (address z block 0 + place_in z at)) w
+      ∙ ap (λ o. Some (over_form (queued_lanes queue_then (first_of z block + place_in z at)) w
       (missing_form o slot (place_in z at)))) (none_came (place_in z at))
       ∙ ap (λ n. Some (over_form (queued_lanes queue_then n) (overlaid zero_word queue_then n) (λ k. Asked slot (place_in z at) k))) a
 
@@ -206,7 +204,7 @@ module _ (z : Sizes) (c : Cache) (h : IsSoundCache z c) (block f slot : ℕ) (ab
           let no = holds-not (frame_at c f) (block_of z at) far in
           form_at-same z c with_block at (frame_same (block_of z at) n far) (live_same (block_of z at) n)
           (ap (λ x. x.word) (cell_same at n far)) (λ t l.
-          let same = get_or-set_other c.registers slot t (fresh_register z queue_then block) free_register
+          let same = get_or-set_other c.registers slot t (begun_register z.block_words queue_then block f) free_register
           (λ q. not_live (ap (λ x. is_live (register_at c x)) (sym q) ∙ (live_for-some c (block_of z at) t l).0)) in (
             ap (λ (r : Register). (get_or r.fields (place_in z at) clear_field).processed) same,
             ap
@@ -236,16 +234,16 @@ module _ (z : Sizes) (c : Cache) (h : IsSoundCache z c) (block f slot : ℕ) (ab
   targets_kept =
       let p = gathered_part targets_of free_register 0 c.registers slot slot_there in
       let r = register_at c slot in
-      p.then (fresh_register z queue_then block)
-      ∙ ap (λ l. p.front ++ (l ++ p.back)) (no_loads queue_then (0 + slot) 0 (address z block 0) z.block_words
+      p.then (begun_register z.block_words queue_then block f)
+      ∙ ap (λ l. p.front ++ (l ++ p.back)) (no_loads queue_then (0 + slot) 0 (first_of z block) z.block_words
       ∙ sym (ap (λ v. cond v (gathered (targets_of_field (0 + slot)) 0 r.fields) []) invalid)) ∙ sym p.now
 
   pub missed-by : MissedBy z c block f slot with_block
   missed-by =
       record {
-        number_of_frames = length-set c.frames f _;
+        number_of_frames = length-set c.directory.frames f _;
         own_frame = own_frame;
-        other_frame = λ k n. get_or-set_other c.frames f k _ empty_frame n;
+        other_frame = λ k n. get_or-set_other c.directory.frames f k _ empty_frame n;
         number_of_registers = length-set c.registers slot _;
         own_register = own_register;
         other_register = λ t n. get_or-set_other c.registers slot t _ free_register n;
@@ -274,8 +272,8 @@ module _ (z : Sizes) (c : Cache) (h : IsSoundCache z c) (block f slot : ℕ) (ab
         waits = λ a s l j. let q : s ≡ slot = let e : Some s ≡ Some slot = sym l
             ∙ live_now in cc in ap (λ x. (field_at with_block x j).waiting) q
             ∙ ap (λ (r : Register). (get_or r.fields j clear_field).waiting) own_register ∙ none_wait queue_then (addresses z block) j;
-        cells = ap (λ (x : Frame). length x.cells) own_frame ∙ length-map-range_with_len _ (address z block 0) z.block_words;
+        cells = ap (λ (x : Frame). length x.cells) own_frame ∙ length-map-range_with_len _ (first_of z block) z.block_words;
         fields = λ s l. let q : s ≡ slot = let e : Some s ≡ Some slot = sym l
             ∙ live_now in cc in ap (λ x. length (register_at with_block x).fields) q ∙ ap (λ (r : Register). length r.fields) own_register
-            ∙ length-map-range_with_len _ (address z block 0) z.block_words;
+            ∙ length-map-range_with_len _ (first_of z block) z.block_words;
       }

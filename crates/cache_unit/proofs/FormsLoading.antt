@@ -7,6 +7,8 @@ use Rattle.flat_model.specs.Words.{Lane, byte, has, has_all, merged, zero_word}
 use Rattle.flat_model.proofs.Lanewise.{byte-merged, all_from_all}
 use Rattle.input_stack.specs.Stack.{stack_word}
 use Rattle.miss_registers.specs.declared.Owed.{Owed}
+use Rattle.cache_directory.specs.Frames as dir
+use Rattle.miss_registers.specs.Registers as regs
 use Rattle.cache_unit.specs.declared.Reply.{Reply}
 use Rattle.cache_unit.specs.declared.Sizes.{Sizes}
 use Rattle.cache_unit.specs.State.{Field, Register, Target, Cache, frame_of, register_at, field_at, live_for, cell_in, cell_of}
@@ -51,7 +53,7 @@ pub record LoadedBy (z : Sizes) (c : Cache) (tag at : ℕ) (d : Cache) : Type 0 
   pub frame : ℕ
   pub present : frame_of d (block_of z at) ≡ Some frame
   pub beside : Beside z c d
-  pub frames : d.frames ≡ c.frames
+  pub frames : d.directory.frames ≡ c.directory.frames
   pub more : Adds tag (tags c) (tags d)
 
 module _ (z : Sizes) (some : 0 < z.block_words) (c : Cache) (tag at : ℕ) (hit : Hit z c (block_of z at))
@@ -70,7 +72,7 @@ module _ (z : Sizes) (some : 0 < z.block_words) (c : Cache) (tag at : ℕ) (hit 
   -- ---- the word is ready
 
   replied_ok : (w : Word) → form_at z c at ≡ Some (bytes_of w) → LoadedBy z c tag at (replied c tag w)
-  unfolding form_at frame_of live_for dues
+  unfolding form_at dir.frame_of regs.live_for dues
   replied_ok w right =
       record {
         words = λ a. refl;
@@ -86,7 +88,7 @@ module _ (z : Sizes) (some : 0 < z.block_words) (c : Cache) (tag at : ℕ) (hit 
       r = record { tag = tag; word = w }
 
       like : Within c (replied c tag w)
-      like = within_like c (replied c tag w) (frames_like-same c.frames) (registers_within-same c.registers)
+      like = within_like c (replied c tag w) (frames_like-same c.directory.frames) (registers_within-same c.registers)
 
       more : Adds (due_ready (record { tag = tag; word = w })) (dues c) (dues (replied c tag w))
       more = Adds-right (map (due_to c.stack) (targets c.registers)) (due_ready r) _ _
@@ -114,7 +116,7 @@ module _ (z : Sizes) (some : 0 < z.block_words) (c : Cache) (tag at : ℕ) (hit 
     fit = fits z some c at hit s live
 
     awaited_words : (a : ℕ) → form_at z waiting_more a ≡ form_at z c a
-    unfolding frame_of
+    unfolding dir.frame_of
     awaited_words a =
         form_at-same z c waiting_more a refl (live-stays c waiting_more s
         (with_fields (register_at c s) (set (register_at c s).fields (place_in z at) longer)) (block_of z a) refl refl) refl
@@ -161,7 +163,7 @@ module _ (z : Sizes) (some : 0 < z.block_words) (c : Cache) (tag at : ℕ) (hit 
         let registers = registers_within-set c.registers s new (λ l. (l, refl))
         (λ v. (v, length-set (register_at c s).fields (place_in z at) longer)) in
         record {
-          within = within_like c waiting_more (frames_like-same c.frames) registers;
+          within = within_like c waiting_more (frames_like-same c.directory.frames) registers;
           waits = λ t j. ap₂ (λ x y. x && (nat_lt j z.block_words && not y))
               (same_at c.registers s (place_in z at) longer (λ (r : Register). r.valid) refl t)
               (field_part c.registers s (place_in z at) longer (λ (x : Field). x.processed) (fit).slot_there (fit).field_there refl t j);
@@ -171,7 +173,7 @@ module _ (z : Sizes) (some : 0 < z.block_words) (c : Cache) (tag at : ℕ) (hit 
         }
 
     awaited_ok : LoadedBy z c tag at (awaited c s (place_in z at) tag buffer)
-    unfolding with_field frame_of
+    unfolding with_field dir.frame_of
     awaited_ok =
         record {
           words = awaited_words;

@@ -4,6 +4,8 @@ use Rattle.std.proofs.lemmas.Bool.{cases_eq, and_parts, false_from_ne_true}
 use Rattle.flat_model.specs.Places.{place_of, is_number}
 use Rattle.input_stack.specs.declared.Entry.{Entry}
 use Rattle.input_stack.specs.Stack.{stack_word}
+use Rattle.cache_directory.specs.Frames as dir
+use Rattle.miss_registers.specs.Registers as regs
 use Rattle.cache_unit.specs.State.{Frame, Register, Cache, empty_frame, free_register, frame_at, frame_of, register_at, is_live, live_for}
 use Rattle.cache_unit.proofs.FormsLists.{read_set}
 use Rattle.cache_unit.proofs.FormsParts.{place_of-like}
@@ -32,19 +34,19 @@ holds b f = is_number f.block b
 pub holds-not : (f : Frame) (b : ℕ) → (f.block ≡ Some b → ⊥) → holds b f ≡ false
 holds-not f b n = false_from_ne_true _ (λ e. n (number_from f.block b e))
 
-pub frame-stays : (c d : Cache) (f : ℕ) (new : Frame) (b : ℕ) → d.frames ≡ set c.frames f new → holds b new ≡ holds b (frame_at c f) → frame_of d b ≡ frame_of c b
-unfolding frame_of
-frame-stays c d f new b ed e = ap (place_of (holds b)) ed ∙ place_of-set (holds b) empty_frame c.frames f new e
+pub frame-stays : (c d : Cache) (f : ℕ) (new : Frame) (b : ℕ) → d.directory.frames ≡ set c.directory.frames f new → holds b new ≡ holds b (frame_at c f) → frame_of d b ≡ frame_of c b
+unfolding dir.frame_of
+frame-stays c d f new b ed e = ap (place_of (holds b)) ed ∙ place_of-set (holds b) empty_frame c.directory.frames f new e
 
-pub frame-comes : (c d : Cache) (f : ℕ) (new : Frame) (b : ℕ) → d.frames ≡ set c.frames f new → f < length c.frames → new.block ≡ Some b → ((k : ℕ) → (frame_at c k).block ≡ Some b → k ≡ f) → frame_of d b ≡ Some f
-unfolding frame_of
+pub frame-comes : (c d : Cache) (f : ℕ) (new : Frame) (b : ℕ) → d.directory.frames ≡ set c.directory.frames f new → f < length c.directory.frames → new.block ≡ Some b → ((k : ℕ) → (frame_at c k).block ≡ Some b → k ≡ f) → frame_of d b ≡ Some f
+unfolding dir.frame_of
 frame-comes c d f new b ed there e only =
-    ap (place_of (holds b)) ed ∙ place_of-set_here (holds b) empty_frame c.frames f new refl there (number_is new.block b e) (λ k q. only k (number_from (frame_at c k).block b q))
+    ap (place_of (holds b)) ed ∙ place_of-set_here (holds b) empty_frame c.directory.frames f new refl there (number_is new.block b e) (λ k q. only k (number_from (frame_at c k).block b q))
 
-pub frame-goes : (c d : Cache) (f : ℕ) (new : Frame) (b : ℕ) → d.frames ≡ set c.frames f new → f < length c.frames → (new.block ≡ Some b → ⊥) → ((k : ℕ) → (frame_at c k).block ≡ Some b → k ≡ f) → frame_of d b ≡ None
-unfolding frame_of
+pub frame-goes : (c d : Cache) (f : ℕ) (new : Frame) (b : ℕ) → d.directory.frames ≡ set c.directory.frames f new → f < length c.directory.frames → (new.block ≡ Some b → ⊥) → ((k : ℕ) → (frame_at c k).block ≡ Some b → k ≡ f) → frame_of d b ≡ None
+unfolding dir.frame_of
 frame-goes c d f new b ed there e only =
-    ap (place_of (holds b)) ed ∙ place_of-set_gone (holds b) empty_frame c.frames f new there (holds-not new b e) (λ k q. only k (number_from (frame_at c k).block b q))
+    ap (place_of (holds b)) ed ∙ place_of-set_gone (holds b) empty_frame c.directory.frames f new there (holds-not new b e) (λ k q. only k (number_from (frame_at c k).block b q))
 
 -- ---- live registers
 
@@ -55,16 +57,16 @@ pub serves-not : (r : Register) (b : ℕ) → (is_live r ≡ true → r.block �
 serves-not r b n = false_from_ne_true _ (λ e. let p = and_parts (is_live r) (r.block == b) e in n p.0 (eqb-true r.block b p.1))
 
 pub live-stays : (c d : Cache) (s : ℕ) (new : Register) (b : ℕ) → d.registers ≡ set c.registers s new → serves b new ≡ serves b (register_at c s) → live_for d b ≡ live_for c b
-unfolding live_for
+unfolding regs.live_for
 live-stays c d s new b ed e = ap (place_of (serves b)) ed ∙ place_of-set (serves b) free_register c.registers s new e
 
 pub live-comes : (c d : Cache) (s : ℕ) (new : Register) (b : ℕ) → d.registers ≡ set c.registers s new → s < length c.registers → serves b new ≡ true → ((t : ℕ) → is_live (register_at c t) ≡ true → (register_at c t).block ≡ b → t ≡ s) → live_for d b ≡ Some s
-unfolding live_for
+unfolding regs.live_for
 live-comes c d s new b ed there e only =
     ap (place_of (serves b)) ed ∙ place_of-set_here (serves b) free_register c.registers s new refl there e (λ t q. let p = and_parts (is_live (register_at c t)) ((register_at c t).block == b) q in only t p.0 (eqb-true _ b p.1))
 
 pub live-goes : (c d : Cache) (s : ℕ) (new : Register) (b : ℕ) → d.registers ≡ set c.registers s new → s < length c.registers → serves b new ≡ false → ((t : ℕ) → is_live (register_at c t) ≡ true → (register_at c t).block ≡ b → t ≡ s) → live_for d b ≡ None
-unfolding live_for
+unfolding regs.live_for
 live-goes c d s new b ed there e only =
     ap (place_of (serves b)) ed ∙ place_of-set_gone (serves b) free_register c.registers s new there e (λ t q. let p = and_parts (is_live (register_at c t)) ((register_at c t).block == b) q in only t p.0 (eqb-true _ b p.1))
 

@@ -7,28 +7,30 @@ use Rattle.std.specs.List.{list_all}
 use Rattle.std.proofs.lemmas.Bool.{cases_eq, cases_Bool, and_parts, false_from_ne_true}
 use Rattle.std.proofs.lemmas.List.{map-append}
 use Rattle.flat_model.specs.declared.Word.{Word}
-use Rattle.flat_model.specs.declared.Answer.{Answer}
-use Rattle.flat_model.specs.Words.{merged, no_lanes}
+use Rattle.flat_model.specs.Words.{merged}
 use Rattle.flat_model.specs.declared.Lanes.{Lanes}
 use Rattle.input_stack.specs.declared.Entry.{Entry}
 use Rattle.input_stack.specs.Stack.{stack_word}
 use Rattle.miss_registers.specs.declared.Owed.{Owed}
 use Rattle.cache_directory.specs.declared.Cell.{Cell}
+use Rattle.cache_directory.specs.Frames as dir
 use Rattle.cache_unit.specs.declared.Sizes.{Sizes}
 use Rattle.cache_directory.specs.Frames.{zero_cell}
 use Rattle.cache_unit.specs.State.{Frame, Field, Register, Cache, empty_frame, clear_field, free_register, frame_at}
 use Rattle.cache_unit.specs.State.{frame_of, register_at, field_at, is_live, live_for, cell_in, cell_of, gathered, targets_of}
 use Rattle.cache_unit.specs.State.{targets_of_field, targets, tags, with_cell, block_of, place_in}
-use Rattle.cache_unit.specs.Steps.{answered, filled, filled_in, finished, processed, process_entry, process_step}
+use Rattle.cache_directory.specs.Frames.{settled}
+use Rattle.miss_registers.specs.Registers.{finished, finished_field, finished_fields, is_done}
+use Rattle.cache_unit.specs.Steps.{answered, filled, filled_in, settled_in, settled_for, processed, process_entry, process_step}
 use Rattle.cache_unit.specs.Forms.{bytes_of, missing_form, coming_form, over_form, owed}
 use Rattle.cache_unit.specs.FormLaws.{form_at, forms, ProcessForms}
 use Rattle.cache_unit.specs.SoundCache.{HasWord, IsSoundCache}
 use Rattle.cache_unit.specs.Counts.{tally}
-use Rattle.cache_unit.proofs.FormsLists.{Adds, Adds-find_other, Adds-remove, find-only, gathered_part}
+use Rattle.cache_unit.proofs.FormsLists.{read_set, Adds, Adds-find_other, Adds-remove, find-only, gathered_part}
 use Rattle.cache_unit.proofs.FormsParts.{in_range, nested_same, nested_other, find_swapped, tally_swapped, targets_map, WordPart, word_part}
 use Rattle.cache_unit.proofs.FormsFinding.{frame_of-some, frame_of-is, live_for-some, live_for-is}
 use Rattle.cache_unit.proofs.FormsFields.{with_fields, with_field_in, same_at, field_elsewhere, field_here}
-use Rattle.cache_unit.proofs.FormsPlaces.{frame-stays, live-stays, live-goes, serves, is_entry}
+use Rattle.cache_unit.proofs.FormsPlaces.{holds, frame-stays, live-stays, live-goes, serves, is_entry}
 use Rattle.cache_unit.proofs.FormsSame.{form_at-same, form_at-live, form_at-resident, form_at-absent, Due, due_ready, due_to, dues, has_tag}
 use Rattle.cache_unit.proofs.FormsSame.{due_in, owed-due, dues-passing, dues-tally, forms-from}
 use Rattle.cache_unit.proofs.Within.{waits_for, FramesLike, frames_like-same, frames_like-set, RegistersWithin, registers_within-set}
@@ -36,7 +38,7 @@ use Rattle.cache_unit.proofs.Within.{Within, within_like}
 use Rattle.cache_unit.proofs.FormsStoring.{bytes-merged, with_cells}
 
 abbrev pub done : Field
-done = record { processed = true; code = no_lanes; waiting = [] }
+done = finished_field
 
 pub all_processed : (fields : List Field) → list_all (λ f. f.processed) fields ≡ true → (j : ℕ) → j < length fields
     → (get_or fields j clear_field).processed ≡ true
@@ -70,7 +72,7 @@ pub record ProcessedBy (z : Sizes) (c : Cache) (place : ℕ) (e : Entry) (d : Ca
   pub own : waits_for z d e.slot e.i ≡ false
   pub others : (t j : ℕ) → (t ≡ e.slot → j ≡ e.i → ⊥) → waits_for z d t j ≡ waits_for z c t j
   pub cells : (at : ℕ) → (cell_of d (block_of z at) (place_in z at) ≡ cell_of c (block_of z at) (place_in z at)) ⊎ HasCome z c d at
-  pub orders : d.orders ≡ c.orders
+  pub orders : d.directory.orders ≡ c.directory.orders
   pub stack : d.stack ≡ remove c.stack place
   pub queue : d.queue ≡ c.queue
 
@@ -81,24 +83,37 @@ never false b = refl
 
 -- how the buffer is filled by a word
 record Filling (c : Cache) (e : Entry) (frames : List Frame) : Type 0 where
-  pub stays : (d : Cache) → d.frames ≡ frames → (b : ℕ) → frame_of d b ≡ frame_of c b
+  pub stays : (d : Cache) → d.directory.frames ≡ frames → (b : ℕ) → frame_of d b ≡ frame_of c b
   pub others : (k j : ℕ) → (is_live (register_at c e.slot) ≡ true → (frame_at c k).block ≡ Some (register_at c e.slot).block → j ≡ e.i
       → ⊥) → get_or (get_or frames k empty_frame).cells j zero_cell ≡ get_or (frame_at c k).cells j zero_cell
   pub here : is_live (register_at c e.slot) ≡ true → (k : ℕ) → frame_of c (register_at c e.slot).block ≡ Some k
       → get_or (get_or frames k empty_frame).cells e.i zero_cell
       ≡ filled_cell e (get_or (frame_at c k).cells e.i zero_cell) (field_at c e.slot e.i).code
-  pub like : FramesLike c.frames frames
+  pub like : FramesLike c.directory.frames frames
 
 -- filling changes the frames alone
-pub filled_only : (c : Cache) (s i : ℕ) (w : Word) → filled c s i w ≡ record c { frames = (filled c s i w).frames }
+pub filled_only : (c : Cache) (s i : ℕ) (w : Word) → filled c s i w ≡ record c { directory = record c.directory { frames = (filled c s i w).directory.frames } }
 unfolding with_cell
 filled_only c s i w = go (is_live (register_at c s)) (frame_of c (register_at c s).block)
   where
     go : (b : Bool) (o : Option ℕ) → cond b (filled_in c o i w (field_at c s i).code) c
-        ≡ record c { frames = (cond b (filled_in c o i w (field_at c s i).code) c).frames }
+        ≡ record c { directory = record c.directory { frames = (cond b (filled_in c o i w (field_at c s i).code) c).directory.frames } }
     go true None = refl
     go true (Some f) = refl
     go false o = refl
+
+pub settled_only : (c : Cache) (s i : ℕ) (w : Word)
+    → settled_for c s i (filled c s i w) ≡ record c { directory = record c.directory { frames = (settled_for c s i (filled c s i w)).directory.frames } }
+settled_only c s i w =
+    go (is_live (register_at c s) && is_done (finished_fields (register_at c s) i)) (frame_of c (register_at c s).block)
+  where
+    go : (b : Bool) (o : Option ℕ) → cond b (settled_in (filled c s i w) o) (filled c s i w)
+        ≡ record c { directory = record c.directory { frames = (cond b (settled_in (filled c s i w) o) (filled c s i w)).directory.frames } }
+    go true None = filled_only c s i w
+    go true (Some f) =
+        let d = filled c s i w in
+        ap (λ (x : Cache). record x { directory = record x.directory { frames = set d.directory.frames f (settled (frame_at d f)) } }) (filled_only c s i w)
+    go false o = filled_only c s i w
 
 module _ (z : Sizes) (c : Cache) (h : IsSoundCache z c) (place : ℕ) (e : Entry) (found : slice_get c.stack place ≡ Some e) where
   abbrev reg : Register
@@ -111,10 +126,10 @@ module _ (z : Sizes) (c : Cache) (h : IsSoundCache z c) (place : ℕ) (e : Entry
   waits = h.entries place e found
 
   slot_there : e.slot < length c.registers
-  slot_there = in_range (λ (r : Register). r.valid) free_register c.registers e.slot refl (waits).valid
+  slot_there = in_range (λ (r : Register). r.valid) free_register c.registers e.slot refl waits.valid
 
   field_there : e.i < length reg.fields
-  field_there = let l = h.fields e.slot (waits).valid in let k = (waits).there in omega arith
+  field_there = let l = h.fields e.slot waits.valid in let k = waits.there in omega arith
 
   -- ---- the stack
 
@@ -164,14 +179,14 @@ module _ (z : Sizes) (c : Cache) (h : IsSoundCache z c) (place : ℕ) (e : Entry
   done_before all j l n =
       ap (λ (x : Field). x.processed) (sym (get_or-set_other reg.fields e.i j done clear_field n))
       ∙ all_processed (set reg.fields e.i done) all j
-      (let k = h.fields e.slot (waits).valid in let m = length-set reg.fields e.i done in omega arith)
+      (let k = h.fields e.slot waits.valid in let m = length-set reg.fields e.i done in omega arith)
 
   targets2 : AllDone → targets registers2 ≡ targets registers1
   unfolding targets
   targets2 all =
       let p = gathered_part targets_of free_register 0 c.registers e.slot slot_there in
       p.then free_register ∙ ap (λ l. p.front ++ (l ++ p.back))
-      (sym (ap (λ x. cond x (gathered (targets_of_field (0 + e.slot)) 0 (set reg.fields e.i done)) []) (waits).valid
+      (sym (ap (λ x. cond x (gathered (targets_of_field (0 + e.slot)) 0 (set reg.fields e.i done)) []) waits.valid
       ∙ no_targets (0 + e.slot) 0 (set reg.fields e.i done) all)) ∙ sym (p.then worked)
 
   within1 : RegistersWithin c.registers registers1
@@ -186,8 +201,7 @@ module _ (z : Sizes) (c : Cache) (h : IsSoundCache z c) (place : ℕ) (e : Entry
     abbrev turned : List Register → Cache
     turned registers =
         record {
-          frames = frames;
-          orders = c.orders;
+          directory = record c.directory { frames = frames };
           registers = registers;
           stack = remove c.stack place;
           queue = c.queue;
@@ -234,7 +248,7 @@ module _ (z : Sizes) (c : Cache) (h : IsSoundCache z c) (place : ℕ) (e : Entry
         let k = hit_frame at hit in
         let buffer = (cell_in c (Some k.0) e.i).word in
         form_at-live z c at k.0 e.slot e.i k.1 (hit_live at hit) (sym hit.2)
-        ∙ ap (λ b. Some (cond b (bytes_of buffer) (over_form fld.code buffer (coming_form c e.slot e.i)))) (waits).waits
+        ∙ ap (λ b. Some (cond b (bytes_of buffer) (over_form fld.code buffer (coming_form c e.slot e.i)))) waits.waits
         ∙ ap (λ o. Some (over_form fld.code buffer (missing_form o e.slot e.i))) comes
         ∙ ap Some (sym (bytes-merged e.word buffer fld.code))
 
@@ -349,14 +363,14 @@ module _ (z : Sizes) (c : Cache) (h : IsSoundCache z c) (place : ℕ) (e : Entry
     -- ---- what is owed
 
     part : WordPart c.registers e.slot e.i fld
-    part = word_part c.registers e.slot e.i (waits).valid field_there
+    part = word_part c.registers e.slot e.i waits.valid field_there
 
     abbrev seg : List Due
     seg = map due_ready (answered e.word fld.waiting)
 
     seg_is : map (due_to c.stack) (targets_of_field e.slot e.i fld) ≡ seg
     seg_is =
-        ap (λ b. map (due_to c.stack) (cond b [] (map (λ w. record { slot = e.slot; i = e.i; load = w }) fld.waiting))) (waits).waits
+        ap (λ b. map (due_to c.stack) (cond b [] (map (λ w. record { slot = e.slot; i = e.i; load = w }) fld.waiting))) waits.waits
         ∙ go fld.waiting
       where
         one : (w : Owed) → over_form w.lanes w.held (missing_form (stack_word c.stack e.slot e.i) e.slot e.i)
@@ -369,22 +383,22 @@ module _ (z : Sizes) (c : Cache) (h : IsSoundCache z c) (place : ℕ) (e : Entry
         go (w ∷ ws) = ap₂ (λ (x : Due) xs. x ∷ xs) (ap (λ f. record { tag = w.tag; form = f }) (one w)) (go ws)
 
     front : List Due
-    front = map (due_to c.stack) (part).front
+    front = map (due_to c.stack) part.front
 
     back : List Due
-    back = map (due_to c.stack) (part).back
+    back = map (due_to c.stack) part.back
 
     dues_before : dues c ≡ map due_ready c.ready ++ (front ++ (seg ++ back))
     unfolding dues front back
     dues_before =
-        ap (λ l. map due_ready c.ready ++ map (due_to c.stack) l) (part).now
-        ∙ ap (λ l. map due_ready c.ready ++ l) (map-append (due_to c.stack) (part).front _
-        ∙ ap (λ l. map (due_to c.stack) (part).front ++ l)
-        (map-append (due_to c.stack) (targets_of_field e.slot e.i fld) (part).back
-        ∙ ap (λ l. l ++ map (due_to c.stack) (part).back) seg_is))
+        ap (λ l. map due_ready c.ready ++ map (due_to c.stack) l) part.now
+        ∙ ap (λ l. map due_ready c.ready ++ l) (map-append (due_to c.stack) part.front _
+        ∙ ap (λ l. map (due_to c.stack) part.front ++ l)
+        (map-append (due_to c.stack) (targets_of_field e.slot e.i fld) part.back
+        ∙ ap (λ l. l ++ map (due_to c.stack) part.back) seg_is))
 
-    targets1 : targets registers1 ≡ (part).front ++ (part).back
-    targets1 = (part).then worked done (waits).valid refl
+    targets1 : targets registers1 ≡ part.front ++ part.back
+    targets1 = part.then worked done waits.valid refl
 
     same_dues : map (due_to (remove c.stack place)) (targets registers1) ≡ map (due_to c.stack) (targets registers1)
     same_dues = targets_map (due_to (remove c.stack place)) (due_to c.stack) registers1 each
@@ -427,7 +441,7 @@ module _ (z : Sizes) (c : Cache) (h : IsSoundCache z c) (place : ℕ) (e : Entry
     dues_after registers same =
         ap₂ ◌++◌ (map-append due_ready c.ready (answered e.word fld.waiting))
         (ap (map (due_to (remove c.stack place))) same ∙ same_dues ∙ ap (map (due_to c.stack)) targets1
-        ∙ map-append (due_to c.stack) (part).front (part).back)
+        ∙ map-append (due_to c.stack) part.front part.back)
 
     owed_same : (registers : List Register) → targets registers ≡ targets registers1 → (tag : ℕ) → owed (turned registers) tag ≡ owed c tag
     unfolding due_in
@@ -503,6 +517,7 @@ module _ (z : Sizes) (c : Cache) (h : IsSoundCache z c) (place : ℕ) (e : Entry
     -- ---- both cases
 
     turned_by : ProcessedBy z c place e (turned (set c.registers e.slot (finished reg e.i)))
+    unfolding finished
     turned_by = go (list_all (λ f. f.processed) (set reg.fields e.i done)) refl
       where
         by : (registers : List Register) → RegistersWithin c.registers registers
@@ -530,21 +545,21 @@ module _ (z : Sizes) (c : Cache) (h : IsSoundCache z c) (place : ℕ) (e : Entry
 
   -- ---- the buffer is filled
 
-  filling_of : Filling c e (filled c e.slot e.i e.word).frames
-  unfolding with_cell frame_of
+  filling_of : Filling c e (filled c e.slot e.i e.word).directory.frames
+  unfolding with_cell dir.frame_of
   filling_of = go (is_live reg) refl (frame_of c reg.block) refl
     where
-      unfilled : (is_live reg ≡ true → (k : ℕ) → frame_of c reg.block ≡ Some k → ⊥) → Filling c e c.frames
+      unfilled : (is_live reg ≡ true → (k : ℕ) → frame_of c reg.block ≡ Some k → ⊥) → Filling c e c.directory.frames
       unfilled impossible =
           record {
-            stays = λ d ed b. ap (λ fs. frame_of (record c { frames = fs }) b) ed;
+            stays = λ d ed b. ap (λ fs. frame_of (record c { directory = record c.directory { frames = fs } }) b) ed;
             others = λ k j n. refl;
             here = λ l k q. absurd (impossible l k q);
-            like = frames_like-same c.frames;
+            like = frames_like-same c.directory.frames;
           }
 
       go : (b : Bool) → is_live reg ≡ b → (o : Option ℕ) → frame_of c reg.block ≡ o
-          → Filling c e (cond b (filled_in c o e.i e.word fld.code) c).frames
+          → Filling c e (cond b (filled_in c o e.i e.word fld.code) c).directory.frames
       go false l o q = unfilled (λ l' k p. cc)
       go true l None q = unfilled (λ l' k p. cc)
       go true l (Some f) q =
@@ -552,22 +567,70 @@ module _ (z : Sizes) (c : Cache) (h : IsSoundCache z c) (place : ℕ) (e : Entry
           let whole = h.cells f reg.block at_f.1 in
           let cell = get_or (frame_at c f).cells e.i zero_cell in
           let cell' : Cell = record { word = merged e.word cell.word fld.code; dirty = cell.dirty } in
-          let w = (waits).there in
+          let w = waits.there in
           let room : e.i < length (frame_at c f).cells = omega arith in
           record {
             stays = λ d ed b. frame-stays c d f (with_cells (frame_at c f) (set (frame_at c f).cells e.i cell')) b ed refl;
             others = λ k j n. nested_other (λ (x : Frame). x.cells) with_cells
-                (λ x ys. refl) empty_frame zero_cell c.frames f e.i k j cell' (λ p r. n l (ap (λ x. (frame_at c x).block) p ∙ at_f.1) r);
+                (λ x ys. refl) empty_frame zero_cell c.directory.frames f e.i k j cell' (λ p r. n l (ap (λ x. (frame_at c x).block) p ∙ at_f.1) r);
             here = λ l' k p.
                 let same : f ≡ k = cc in
                 let there = nested_same (λ (x : Frame). x.cells) with_cells
-                (λ x ys. refl) empty_frame zero_cell c.frames f e.i cell' at_f.0 room in
-                let new = set c.frames f (with_cells (frame_at c f) (set (frame_at c f).cells e.i cell')) in
+                (λ x ys. refl) empty_frame zero_cell c.directory.frames f e.i cell' at_f.0 room in
+                let new = set c.directory.frames f (with_cells (frame_at c f) (set (frame_at c f).cells e.i cell')) in
                 subst (λ x. get_or (get_or new x empty_frame).cells e.i zero_cell
                 ≡ filled_cell e (get_or (frame_at c x).cells e.i zero_cell) fld.code) same there;
-            like = frames_like-set c.frames f (with_cells (frame_at c f) (set (frame_at c f).cells e.i cell')) refl
+            like = frames_like-set c.directory.frames f (with_cells (frame_at c f) (set (frame_at c f).cells e.i cell')) refl
                 (length-set (frame_at c f).cells e.i cell');
           }
+
+  -- a frame that is no longer pending has the words that it had
+  settled_filling : (frames : List Frame) → Filling c e frames → (o : Option ℕ)
+      → Filling c e (settled_in (record c { directory = record c.directory { frames = frames } }) o).directory.frames
+  unfolding settled
+  settled_filling frames h None = h
+  settled_filling frames h (Some f) =
+      let d : Cache = record c { directory = record c.directory { frames = frames } } in
+      let new = settled (get_or frames f empty_frame) in
+      let read = cell_settled frames f in
+      let like = frames_like-settled frames f in
+      record {
+        stays = λ x ex b. frame-stays d x f new b ex (same_block frames f b) ∙ h.stays d refl b;
+        others = λ k j n. read k j ∙ h.others k j n;
+        here = λ l k q. read k e.i ∙ h.here l k q;
+        like = record {
+          number = like.number ∙ h.like.number;
+          blocks = λ k. like.blocks k ∙ h.like.blocks k;
+          cells = λ k. like.cells k ∙ h.like.cells k;
+        };
+      }
+    where
+      cell_settled : (fs : List Frame) (f k j : ℕ)
+          → get_or (get_or (set fs f (settled (get_or fs f empty_frame))) k empty_frame).cells j zero_cell
+          ≡ get_or (get_or fs k empty_frame).cells j zero_cell
+      cell_settled fs f k j =
+          read_set (λ (x : Frame). get_or x.cells j zero_cell) empty_frame fs f (settled (get_or fs f empty_frame)) refl k
+
+      frames_like-settled : (fs : List Frame) (f : ℕ) → FramesLike fs (set fs f (settled (get_or fs f empty_frame)))
+      frames_like-settled fs f = frames_like-set fs f (settled (get_or fs f empty_frame)) refl refl
+
+      same_block : (fs : List Frame) (f b : ℕ) → holds b (settled (get_or fs f empty_frame)) ≡ holds b (get_or fs f empty_frame)
+      same_block fs f b = refl
+
+  last : Bool
+  last = is_live reg && is_done (finished_fields reg e.i)
+
+  turned_frames : Filling c e (settled_for c e.slot e.i (filled c e.slot e.i e.word)).directory.frames
+  unfolding last
+  turned_frames = subst (λ d. Filling c e (settled_for c e.slot e.i d).directory.frames) (sym (filled_only c e.slot e.i e.word)) (go last)
+    where
+      filled_frames : List Frame
+      filled_frames = (filled c e.slot e.i e.word).directory.frames
+
+      go : (b : Bool) → Filling c e (cond b (settled_in (record c { directory = record c.directory { frames = filled_frames } }) (frame_of c reg.block))
+          (record c { directory = record c.directory { frames = filled_frames } })).directory.frames
+      go true = settled_filling filled_frames filling_of (frame_of c reg.block)
+      go false = filling_of
 
   after : Cache → Cache
   after d =
@@ -580,15 +643,15 @@ module _ (z : Sizes) (c : Cache) (h : IsSoundCache z c) (place : ℕ) (e : Entry
   pub processed-by : ProcessedBy z c place e (processed c place e)
   unfolding processed after
   processed-by =
-      subst (λ d. ProcessedBy z c place e (after d)) (sym (filled_only c e.slot e.i e.word))
-      (turned_by (filled c e.slot e.i e.word).frames filling_of)
+      subst (λ d. ProcessedBy z c place e (after d)) (sym (settled_only c e.slot e.i e.word))
+      (turned_by (settled_for c e.slot e.i (filled c e.slot e.i e.word)).directory.frames turned_frames)
 
 process_ok : (z : Sizes) (c : Cache) → IsSoundCache z c → (place : ℕ) (o : Option Entry) → slice_get c.stack place ≡ o
     → forms z (process_entry c place o).cache ≡ forms z c
 process_ok z c h place None e = refl
 process_ok z c h place (Some x) e = (processed-by z c h place x e).same_forms
 
-pub process_forms : (z : Sizes) (c : Cache) → IsSoundCache z c → (place : ℕ) (a : Answer) (d : Cache) → d ≡ (process_step c place).cache
-    → ProcessForms z c a d
+pub process_forms : (z : Sizes) (c : Cache) → IsSoundCache z c → (place : ℕ)
+    → ProcessForms z c (process_step c place).answer (process_step c place).cache
 unfolding ProcessForms process_step
-process_forms z c h place a d e = ap (forms z) e ∙ process_ok z c h place (slice_get c.stack place) refl
+process_forms z c h place = process_ok z c h place (slice_get c.stack place) refl

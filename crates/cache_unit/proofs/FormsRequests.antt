@@ -1,12 +1,11 @@
 -- What a request makes of the forms.
 use Rattle.std.proofs.Common.{◌≡◌, ℕ, Bool, true, false, cond, ◌||◌, ◌==◌, List, [], ◌∷◌, ◌++◌, map, length, Option, Some, None, option_map}
-use Rattle.std.proofs.Common.{filter, is_some, refl, sym, ap, ap₂, ◌∙◌, subst}
+use Rattle.std.proofs.Common.{filter, is_some, refl, ap, ap₂, ◌∙◌, subst}
 use Rattle.std.specs.List.{list_any}
 use Rattle.flat_model.specs.declared.Word.{Word}
 use Rattle.flat_model.specs.declared.Lanes.{Lanes}
 use Rattle.flat_model.specs.declared.Cause.{Cause}
 use Rattle.flat_model.specs.declared.Cause.TheVariants.{OutOfRange, NoLanes, TagInUse, RepliesFull, NoRegister, SetPending}
-use Rattle.flat_model.specs.declared.Answer.{Answer}
 use Rattle.flat_model.specs.declared.Answer.TheVariants.{Accepted}
 use Rattle.memory_banks.specs.declared.Command.{Command}
 use Rattle.cache_unit.specs.declared.Reply.{Reply}
@@ -106,27 +105,22 @@ unless-ok z c (Prefetch at) (Some cause) d sent ok = refl
 unless-ok z c request None d sent ok = ok refl
 
 module _ (z : Sizes) (room : ℕ → ℕ) (c : Cache) (h : IsSoundCache z c) where
-  request-ok : (request : Request) → RequestForms z c request (request_step z room c request).answer (request_step z room c request).cache
+  pub request_forms : (request : Request) → RequestForms z c request (request_step z room c request).answer
+      (request_step z room c request).cache
   unfolding RequestForms load_step store_step prefetch_step load_cause store_cause prefetch_cause
-  request-ok (Load tag at) =
+  request_forms (Load tag at) =
       unless-ok z c (Load tag at) (load_cause z room c tag at) _ _ (λ e.
       let p = no-cause _ OutOfRange _ e in
       let q = no-cause _ TagInUse _ p.1 in
       let r = no-cause _ RepliesFull _ q.1 in
       load-ok z c h at (fetched z c (block_of z at)) (fetched-by z c h (block_of z at) (missing z room c (block_of z at) _ r.1)) tag q.0)
-  request-ok (Store at word lanes) =
+  request_forms (Store at word lanes) =
       unless-ok z c (Store at word lanes) (store_cause z room c at lanes) _ _ (λ e.
       let p = no-cause _ OutOfRange _ e in
       let q = no-cause _ NoLanes _ p.1 in
       store-ok z c h at (fetched z c (block_of z at))
       (fetched-by z c h (block_of z at) (missing z room c (block_of z at) _ q.1)) word lanes)
-  request-ok (Prefetch at) =
+  request_forms (Prefetch at) =
       unless-ok z c (Prefetch at) (prefetch_cause z room c at) _ _ (λ e.
       let p = no-cause _ OutOfRange _ e in
       prefetch-ok z c h at (fetched z c (block_of z at)) (fetched-by z c h (block_of z at) (missing z room c (block_of z at) _ p.1)))
-
-pub request_forms : (z : Sizes) (room : ℕ → ℕ) (c : Cache) → IsSoundCache z c → (request : Request) (a : Answer) (d : Cache)
-    → a ≡ (request_step z room c request).answer → d ≡ (request_step z room c request).cache → RequestForms z c request a d
-request_forms z room c h request a d ea ed =
-    subst (λ x. RequestForms z c request x d) (sym ea)
-    (subst (λ x. RequestForms z c request (request_step z room c request).answer x) (sym ed) (request-ok z room c h request))

@@ -8,7 +8,9 @@ use Rattle.flat_model.specs.declared.Lanes.{Lanes}
 use Rattle.flat_model.specs.Words.{Lane, byte, has, merged, joined}
 use Rattle.flat_model.proofs.Lanewise.{byte-merged, has-joined}
 use Rattle.cache_directory.specs.declared.Cell.{Cell}
+use Rattle.miss_registers.specs.Registers as regs
 use Rattle.cache_unit.specs.declared.Reply.{Reply}
+use Rattle.cache_directory.specs.Frames as dir
 use Rattle.cache_unit.specs.declared.Sizes.{Sizes}
 use Rattle.cache_directory.specs.Frames.{zero_cell}
 use Rattle.cache_unit.specs.State.{Frame, Field, Register, Cache, empty_frame, clear_field, free_register, frame_at}
@@ -108,7 +110,7 @@ with_bytes cell w lanes = record { word = merged cell.word w lanes; dirty = join
 
 module _ (z : Sizes) (some : 0 < z.block_words) (c : Cache) (at : ℕ) (hit : Hit z c (block_of z at)) (w : Word) (lanes : Lanes) where
   live_like : (d : Cache) → d.registers ≡ c.registers → (b : ℕ) → live_for d b ≡ live_for c b
-  unfolding live_for
+  unfolding regs.live_for
   live_like d e b = ap (λ rs. live_for (record c { registers = rs }) b) e
 
   noting : (o : Option ℕ) → live_for c (block_of z at) ≡ o → NotedBy c o (place_in z at) lanes (noted_in c o (place_in z at) lanes)
@@ -176,11 +178,12 @@ module _ (z : Sizes) (some : 0 < z.block_words) (c : Cache) (at : ℕ) (hit : Hi
     abbrev stored : Cache
     stored =
         record c {
-          frames = set c.frames hit.frame (with_cells (frame_at c hit.frame) (set (frame_at c hit.frame).cells (place_in z at) new_cell));
+          directory = dir.with_frame c.directory hit.frame
+              (with_cells (frame_at c hit.frame) (set (frame_at c hit.frame).cells (place_in z at) new_cell));
           registers = registers;
         }
 
-    at_k : (hit.frame < length c.frames) × ((frame_at c hit.frame).block ≡ Some (block_of z at))
+    at_k : (hit.frame < length c.directory.frames) × ((frame_at c hit.frame).block ≡ Some (block_of z at))
     at_k = frame_of-some c (block_of z at) hit.frame hit.present
 
     room : place_in z at < length (frame_at c hit.frame).cells
@@ -194,7 +197,7 @@ module _ (z : Sizes) (some : 0 < z.block_words) (c : Cache) (at : ℕ) (hit : Hi
     cell_there : cell_in stored (Some hit.frame) (place_in z at) ≡ new_cell
     cell_there =
         nested_same (λ (x : Frame). x.cells) with_cells
-        (λ x ys. refl) empty_frame zero_cell c.frames hit.frame (place_in z at) new_cell at_k.0 room
+        (λ x ys. refl) empty_frame zero_cell c.directory.frames hit.frame (place_in z at) new_cell at_k.0 room
 
     -- at another address something differs
     apart : (a : ℕ) → (a ≡ at → ⊥) → block_of z a ≡ block_of z at → place_in z a ≡ place_in z at → ⊥
@@ -208,7 +211,7 @@ module _ (z : Sizes) (some : 0 < z.block_words) (c : Cache) (at : ℕ) (hit : Hi
         go (Some f) e =
             let p = frame_of-some c (block_of z a) f e in
             nested_other (λ (x : Frame). x.cells) with_cells
-            (λ x ys. refl) empty_frame zero_cell c.frames hit.frame (place_in z at) f (place_in z a) new_cell (λ q i.
+            (λ x ys. refl) empty_frame zero_cell c.directory.frames hit.frame (place_in z at) f (place_in z a) new_cell (λ q i.
             let same : Some (block_of z a) ≡ Some (block_of z at) = sym p.1 ∙ ap (λ x. (frame_at c x).block) q ∙ at_k.1 in
             let b : block_of z a ≡ block_of z at = cc in
             apart a n b i)
@@ -288,7 +291,7 @@ module _ (z : Sizes) (some : 0 < z.block_words) (c : Cache) (at : ℕ) (hit : Hi
     stored_within : Within c stored
     stored_within =
         let frame = with_cells (frame_at c hit.frame) (set (frame_at c hit.frame).cells (place_in z at) new_cell) in
-        let frames = frames_like-set c.frames hit.frame frame refl (length-set (frame_at c hit.frame).cells (place_in z at) new_cell) in
+        let frames = frames_like-set c.directory.frames hit.frame frame refl (length-set (frame_at c hit.frame).cells (place_in z at) new_cell) in
         within_like c stored frames note.within
 
     stored_waits : (t j : ℕ) → waits_for z stored t j ≡ waits_for z c t j

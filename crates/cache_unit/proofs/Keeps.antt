@@ -9,6 +9,7 @@ use Rattle.flat_model.specs.declared.Lanes.{Lanes}
 use Rattle.cache_directory.specs.Frames as dir
 use Rattle.miss_registers.specs.Registers as regs
 use Rattle.input_stack.specs.declared.Entry.{Entry}
+use Rattle.cache_unit.specs.State.{Cache, frame_at, register_at, field_at}
 use Rattle.cache_unit.specs.declared.Reply.{Reply}
 use Rattle.std.proofs.lemmas.Option.{none-some, same_Some}
 use Rattle.flat_model.specs.declared.limits.TheConstants.{MAX_REPLIES}
@@ -129,11 +130,11 @@ frame_of-some fs b f e =
     (s.0, number_from _ b s.1)
 
 -- two live registers bring the words of two frames
-pub frame_apart : (z : Sizes) (d : dir.Frames) (rs : List regs.Register) (st : List Entry) (q : Queue) (ready : List Reply) (s t : ℕ) → IsSound z d rs st q ready → regs.is_live (regs.register_at rs s) ≡ true → regs.is_live (regs.register_at rs t) ≡ true → (regs.register_at rs s).frame ≡ (regs.register_at rs t).frame → s ≡ t
-frame_apart z d rs st q ready s t h a b e =
-    let x = (frame_of-some d.frames _ _ (h.tied.frames s a).holds).1 in
-    let y = (frame_of-some d.frames _ _ (h.tied.frames t b).holds).1 in
-    let m : Some (regs.register_at rs s).block ≡ Some (regs.register_at rs t).block = sym x ∙ ap (λ f. (dir.frame_at d.frames f).block) e ∙ y in
+pub frame_apart : (z : Sizes) (c : Cache) (s t : ℕ) → IsSound z c → regs.is_live (register_at c s) ≡ true → regs.is_live (register_at c t) ≡ true → (register_at c s).frame ≡ (register_at c t).frame → s ≡ t
+frame_apart z c s t h a b e =
+    let x = (frame_of-some c.directory.frames _ _ (h.tied.frames s a).holds).1 in
+    let y = (frame_of-some c.directory.frames _ _ (h.tied.frames t b).holds).1 in
+    let m : Some (register_at c s).block ≡ Some (register_at c t).block = sym x ∙ ap (λ f. (frame_at c f).block) e ∙ y in
     h.registers.one_live s t a b (same_Some _ _ m)
 
 live_of-some : (o : Bool) (f g : ℕ) → (if o then None else Some f) ≡ Some g → (o ≡ false) × (f ≡ g)
@@ -176,8 +177,8 @@ slot_within rs s i h =
     ]
 
 -- no other entry is for the same word
-other_word : (z : Sizes) (d : dir.Frames) (rs : List regs.Register) (st : List Entry) (q : Queue) (ready : List Reply) (k m : ℕ) → IsSound z d rs st q ready → k < length st → m < length st → (m ≡ k → ⊥) → (entry_at st m).slot ≡ (entry_at st k).slot → (entry_at st m).i ≡ (entry_at st k).i → ⊥
-other_word z d rs st q ready k m h p o n a b =
+other_word : (z : Sizes) (c : Cache) (k m : ℕ) → IsSound z c → k < length c.stack → m < length c.stack → (m ≡ k → ⊥) → (entry_at c.stack m).slot ≡ (entry_at c.stack k).slot → (entry_at c.stack m).i ≡ (entry_at c.stack k).i → ⊥
+other_word z c k m h p o n a b =
     elim (cases_order m k) [
       | inl e ↦ n e
       | inr w ↦ elim w [ inl l ↦ h.stack_sound.distinct m k l p a b | inr l ↦ h.stack_sound.distinct k m l o (sym a) (sym b) ]
@@ -288,91 +289,91 @@ mark_kept rs st k s i s' i' p l t a b f h =
           Stands-remove st k s' i' p w (λ z. e (sym w.slot ∙ ap (λ (n : ℕ). (entry_at st n).slot) z ∙ a)))
     ]
 
-module _ (z : Sizes) (d : dir.Frames) (rs : List regs.Register) (st : List Entry) (q : Queue) (ready : List Reply) (h : IsSound z d rs st q ready) (k : ℕ) (p : k < length st) (word : Word) (keep : Lanes) where
+module _ (z : Sizes) (c : Cache) (h : IsSound z c) (k : ℕ) (p : k < length c.stack) (word : Word) (keep : Lanes) where
   abbrev e : Entry
-  e = entry_at st k
+  e = entry_at c.stack k
 
   abbrev r : regs.Register
-  r = regs.register_at rs (entry_at st k).slot
+  r = register_at c e.slot
 
   abbrev last : Bool
-  last = regs.is_done (regs.finished_fields (regs.register_at rs (entry_at st k).slot) (entry_at st k).i)
+  last = regs.is_done (regs.finished_fields r e.i)
 
   abbrev pub d_processed : dir.Frames
-  d_processed = filled_live d (live_of (regs.register_at rs (entry_at st k).slot)) (entry_at st k).i word keep (regs.is_done (regs.finished_fields (regs.register_at rs (entry_at st k).slot) (entry_at st k).i))
+  d_processed = filled_live c.directory (live_of r) e.i word keep last
 
   abbrev pub rs_processed : List regs.Register
-  rs_processed = set rs (entry_at st k).slot (regs.finished (regs.register_at rs (entry_at st k).slot) (entry_at st k).i)
+  rs_processed = set c.registers e.slot (regs.finished r e.i)
 
-  slot_there : (entry_at st k).slot < length rs
-  slot_there = slot_within rs (entry_at st k).slot (entry_at st k).i (h.stack_sound.entries k p)
+  slot_there : e.slot < length c.registers
+  slot_there = slot_within c.registers e.slot e.i (h.stack_sound.entries k p)
 
-  since : (s : ℕ) → regs.is_live (regs.register_at rs_processed s) ≡ true → Since (regs.register_at rs s) (regs.register_at rs_processed s)
-  since s = live_before rs (entry_at st k).slot s _ slot_there (finished-since (regs.register_at rs (entry_at st k).slot) (entry_at st k).i)
+  since : (s : ℕ) → regs.is_live (regs.register_at rs_processed s) ≡ true → Since (register_at c s) (regs.register_at rs_processed s)
+  since s = live_before c.registers e.slot s _ slot_there (finished-since r e.i)
 
-  own : regs.register_at rs_processed (entry_at st k).slot ≡ regs.finished (regs.register_at rs (entry_at st k).slot) (entry_at st k).i
-  own = get_or-set_same rs (entry_at st k).slot _ regs.free_register slot_there
+  own : regs.register_at rs_processed e.slot ≡ regs.finished r e.i
+  own = get_or-set_same c.registers e.slot _ regs.free_register slot_there
 
   -- where the last word comes, no other live register has the frame, and its own is free
-  not_settled : (s : ℕ) → regs.is_live (regs.register_at rs_processed s) ≡ true → last ≡ true → live_of r ≡ Some (regs.register_at rs s).frame → ⊥
+  not_settled : (s : ℕ) → regs.is_live (regs.register_at rs_processed s) ≡ true → last ≡ true → live_of r ≡ Some (register_at c s).frame → ⊥
   not_settled s l t w =
       let o = live_of-some r.obsolete r.frame _ w in
       let live : regs.is_live r ≡ true = rw ((h.stack_sound.entries k p).valid, o.0) refl in
-      let x : s ≡ (entry_at st k).slot = frame_apart z d rs st q ready s _ h (since s l).live live (sym o.1) in
-      let l' : regs.is_live (regs.finished r (entry_at st k).i) ≡ true = sym (ap regs.is_live (ap (regs.register_at rs_processed) x ∙ own)) ∙ l in
-      false≢true (sym (finished-last r (entry_at st k).i l') ∙ t)
+      let x : s ≡ e.slot = frame_apart z c s _ h (since s l).live live (sym o.1) in
+      let l' : regs.is_live (regs.finished r e.i) ≡ true = sym (ap regs.is_live (ap (regs.register_at rs_processed) x ∙ own)) ∙ l in
+      false≢true (sym (finished-last r e.i l') ∙ t)
 
   frames_kept : (s : ℕ) → regs.is_live (regs.register_at rs_processed s) ≡ true → HasFrame d_processed.frames (regs.register_at rs_processed s)
   frames_kept s l =
       let w = since s l in
-      HasFrame-since d.frames _ _ _ w (SameBlocks-filled d (live_of r) (entry_at st k).i word keep last) (pending-filled d (live_of r) (entry_at st k).i word keep last (regs.register_at rs s).frame (not_settled s l)) (h.tied.frames s w.live)
+      HasFrame-since c.directory.frames _ _ _ w (SameBlocks-filled c.directory (live_of r) e.i word keep last) (pending-filled c.directory (live_of r) e.i word keep last (register_at c s).frame (not_settled s l)) (h.tied.frames s w.live)
 
   pending_kept : (f : ℕ) → (dir.frame_at d_processed.frames f).pending ≡ true → FilledBy rs_processed f
   pending_kept f t =
-      let b = was_pending d (live_of r) (entry_at st k).i word keep last f t in
+      let b = was_pending c.directory (live_of r) e.i word keep last f t in
       let w = h.tied.pending f b.0 in
-      elim (cases_eq w.slot (entry_at st k).slot) [
+      elim (cases_eq w.slot e.slot) [
         | inl x ↦ here w b.1 x
         | inr x ↦ (
-            let same : regs.register_at rs_processed w.slot ≡ regs.register_at rs w.slot = get_or-set_other rs (entry_at st k).slot w.slot _ regs.free_register x in
+            let same : regs.register_at rs_processed w.slot ≡ register_at c w.slot = get_or-set_other c.registers e.slot w.slot _ regs.free_register x in
             record { slot = w.slot; live = ap regs.is_live same ∙ w.live; frame = ap (λ (y : regs.Register). y.frame) same ∙ w.frame })
       ]
     where
-      here : (w : FilledBy rs f) → (last ≡ true → live_of r ≡ Some f → ⊥) → w.slot ≡ (entry_at st k).slot → FilledBy rs_processed f
+      here : (w : FilledBy c.registers f) → (last ≡ true → live_of r ≡ Some f → ⊥) → w.slot ≡ e.slot → FilledBy rs_processed f
       here w n x =
-          let live : regs.is_live r ≡ true = ap (λ s. regs.is_live (regs.register_at rs s)) (sym x) ∙ w.live in
-          let frame : r.frame ≡ f = ap (λ s. (regs.register_at rs s).frame) (sym x) ∙ w.frame in
+          let live : regs.is_live r ≡ true = ap (λ s. regs.is_live (register_at c s)) (sym x) ∙ w.live in
+          let frame : r.frame ≡ f = ap (λ s. (register_at c s).frame) (sym x) ∙ w.frame in
           let open_ : r.obsolete ≡ false = live-open r live in
           let few : last ≡ false = false_from_ne_true last (λ t. n t (rw open_ (ap Some frame))) in
-          let s = finished-still r (entry_at st k).i few live in
-          record { slot = (entry_at st k).slot; live = ap regs.is_live own ∙ s.0; frame = ap (λ (y : regs.Register). y.frame) own ∙ s.1 ∙ frame }
+          let s = finished-still r e.i few live in
+          record { slot = e.slot; live = ap regs.is_live own ∙ s.0; frame = ap (λ (y : regs.Register). y.frame) own ∙ s.1 ∙ frame }
 
-  blocks_kept : (f : ℕ) → (dir.frame_at d_processed.frames f).block ≡ (dir.frame_at d.frames f).block
-  blocks_kept f = (SameBlocks-filled d (live_of r) (entry_at st k).i word keep last).blocks f
+  blocks_kept : (f : ℕ) → (dir.frame_at d_processed.frames f).block ≡ (frame_at c f).block
+  blocks_kept f = (SameBlocks-filled c.directory (live_of r) e.i word keep last).blocks f
 
-  pub IsSound-processed : dir.IsWhole z.ways z.block_words d_processed → IsWhole z.block_words z.regs rs_processed → IsSound z d_processed rs_processed (remove st k) q (ready ++ answered word (regs.field_of r (entry_at st k).i).waiting)
+  pub IsSound-processed : dir.IsWhole z.ways z.block_words d_processed → IsWhole z.block_words z.regs rs_processed → IsSound z (record c { directory = d_processed; registers = rs_processed; stack = remove c.stack k; ready = c.ready ++ answered word (regs.field_of r e.i).waiting })
   IsSound-processed whole_directory whole_registers =
       record {
         ranges = h.ranges;
         directory = whole_directory;
-        sets = ap length (filled_live-orders d (live_of r) (entry_at st k).i word keep last) ∙ h.sets;
+        sets = ap length (filled_live-orders c.directory (live_of r) e.i word keep last) ∙ h.sets;
         in_memory = λ f block t. h.in_memory f block (sym (blocks_kept f) ∙ t);
         registers = whole_registers;
         stack_sound =
             record {
               entries = λ j l. (
-                  let b = Before-at st k j p l in
-                  rw b.same (entry_kept rs (entry_at st k).slot (entry_at st k).i _ _ slot_there (h.stack_sound.entries (before k j) b.within) (λ a c. other_word z d rs st q ready k (before k j) h p b.within b.other a c)));
-              distinct = λ i j l m a c. (
-                  let t = length-remove st k p in
-                  let bi = Before-at st k i p (omega arith) in
-                  let bj = Before-at st k j p m in
-                  h.stack_sound.distinct (before k i) (before k j) (before-lt k i j l) bj.within (rw (bi.same, bj.same) at a) (rw (bi.same, bj.same) at c));
-              marks = λ s i t. mark_kept rs st k (entry_at st k).slot (entry_at st k).i s i p slot_there (h.stack_sound.entries k p).there refl refl h.stack_sound.marks t;
+                  let b = Before-at c.stack k j p l in
+                  rw b.same (entry_kept c.registers e.slot e.i _ _ slot_there (h.stack_sound.entries (before k j) b.within) (λ a i. other_word z c k (before k j) h p b.within b.other a i)));
+              distinct = λ i j l m a b. (
+                  let t = length-remove c.stack k p in
+                  let bi = Before-at c.stack k i p (omega arith) in
+                  let bj = Before-at c.stack k j p m in
+                  h.stack_sound.distinct (before k i) (before k j) (before-lt k i j l) bj.within (rw (bi.same, bj.same) at a) (rw (bi.same, bj.same) at b));
+              marks = λ s i t. mark_kept c.registers c.stack k e.slot e.i s i p slot_there (h.stack_sound.entries k p).there refl refl h.stack_sound.marks t;
             };
         tied = record { frames = frames_kept; pending = pending_kept };
         queue_sound = h.queue_sound;
-        owes = owes-finished z ready rs (entry_at st k).slot (entry_at st k).i word slot_there (h.stack_sound.entries k p).there h.owes;
+        owes = owes-finished z c.ready c.registers e.slot e.i word slot_there (h.stack_sound.entries k p).there h.owes;
       }
 
 -- ---- what the calls of the step need
@@ -392,17 +393,17 @@ CanFill-by false d r i e v l h =
     let f = h (rw (v, e) refl) in
     (held_from d r.frame r.block (frame_of-some d.frames r.block r.frame f.holds).1, subst (λ n. i < n) (sym f.cells) l)
 
-pub CanFill-live : (z : Sizes) (d : dir.Frames) (rs : List regs.Register) (st : List Entry) (q : Queue) (ready : List Reply) (k : ℕ) → IsSound z d rs st q ready → k < length st → CanFill d (live_of (regs.register_at rs (entry_at st k).slot)) (entry_at st k).i
-CanFill-live z d rs st q ready k h p =
-    let r = regs.register_at rs (entry_at st k).slot in
+pub CanFill-live : (z : Sizes) (c : Cache) (k : ℕ) → IsSound z c → k < length c.stack → CanFill c.directory (live_of (register_at c (entry_at c.stack k).slot)) (entry_at c.stack k).i
+CanFill-live z c k h p =
+    let r = register_at c (entry_at c.stack k).slot in
     let e = h.stack_sound.entries k p in
-    CanFill-by r.obsolete d r (entry_at st k).i refl e.valid e.there (h.tied.frames (entry_at st k).slot)
+    CanFill-by r.obsolete c.directory r (entry_at c.stack k).i refl e.valid e.there (h.tied.frames (entry_at c.stack k).slot)
 
-pub room_for : (z : Sizes) (d : dir.Frames) (rs : List regs.Register) (st : List Entry) (q : Queue) (ready : List Reply) (k : ℕ) → IsSound z d rs st q ready → k < length st → length ready + length (regs.field_of (regs.register_at rs (entry_at st k).slot) (entry_at st k).i).waiting ≤ MAX_REPLIES
-room_for z d rs st q ready k h p =
-    let e = entry_at st k in
-    let within = slot_within rs e.slot e.i (h.stack_sound.entries k p) in
-    let a = loads_there (λ t. true) rs e.slot e.i within (h.stack_sound.entries k p).there in
-    let b = count_by-all (regs.field_of (regs.register_at rs e.slot) e.i).waiting in
-    let c = count_by-all ready in
+pub room_for : (z : Sizes) (c : Cache) (k : ℕ) → IsSound z c → k < length c.stack → length c.ready + length (regs.field_of (register_at c (entry_at c.stack k).slot) (entry_at c.stack k).i).waiting ≤ MAX_REPLIES
+room_for z c k h p =
+    let e = entry_at c.stack k in
+    let within = slot_within c.registers e.slot e.i (h.stack_sound.entries k p) in
+    let a = loads_there (λ t. true) c.registers e.slot e.i within (h.stack_sound.entries k p).there in
+    let b = count_by-all (field_at c e.slot e.i).waiting in
+    let n = count_by-all c.ready in
     omega (arith, h.owes.few, h.ranges.few_replies)

@@ -41,3 +41,6 @@ pub mod Numbers
 pub mod Made
 pub mod Views
 pub mod Requesting
+pub mod Making
+pub mod Marks
+pub mod UnitForms

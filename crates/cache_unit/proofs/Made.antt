@@ -1,5 +1,5 @@
 -- A unit that holds nothing is sound.
-use Rattle.std.proofs.Common.{◌≡◌, ℕ, suc, zero, ◌*◌, ◌==◌, Bool, true, List, [], ◌∷◌, map, replicate, get_or, Some, None, refl, ap, sym, ◌∙◌, arith, subst, inl, inr}
+use Rattle.std.proofs.Common.{◌≡◌, ℕ, ◌*◌, ◌==◌, Bool, true, List, [], replicate, get_or, Some, None, refl, ap, sym, ◌∙◌, arith, subst, inl, inr}
 use Rattle.std.specs.List.{sum_by}
 use Rattle.std.proofs.lemmas.List.{get_or-replicate, get_or_past, length-replicate}
 use Rattle.std.proofs.lemmas.List.Folds.{sum_by-replicate}
@@ -9,10 +9,8 @@ use Rattle.cache_unit.specs.declared.Reply.{Reply}
 use Rattle.cache_directory.specs.Frames as dir
 use Rattle.miss_registers.specs.Registers as regs
 use Rattle.miss_registers.specs.Whole.{IsWhole}
-use Rattle.write_queue.specs.Queue.{Queue, queue as queue_of}
 use Rattle.cache_unit.specs.declared.Sizes.{Sizes}
-use Rattle.cache_unit.specs.State.{Frame, Register, Cache, empty_frame, opening_cache}
-use Rattle.cache_unit.specs.Shown.{as_frame, as_register, as_cache}
+use Rattle.cache_unit.specs.State.{Frame, Register, empty_frame, opening_cache}
 use Rattle.cache_unit.specs.Sound.{InRange, owing, loads_of, IsSound}
 
 -- each element of a list of equal ones, and what stands past its end
@@ -23,10 +21,6 @@ all_same n k x =
       | inr h ↦ get_or_past (replicate n x) k x (let l = length-replicate n x in omega arith)
     ]
 
-map-replicate : {X Y : Type 0} (f : X → Y) (n : ℕ) (x : X) → map f (replicate n x) ≡ replicate n (f x)
-map-replicate f zero x = refl
-map-replicate f (suc n) x = ap (λ l. f x ∷ l) (map-replicate f n x)
-
 abbrev free_file : ℕ → List regs.Register
 free_file n = replicate n regs.free_register
 
@@ -35,7 +29,7 @@ no_loads p n =
     let e : sum_by (loads_of p) (free_file n) ≡ n * 0 = sum_by-replicate (loads_of p) n regs.free_register in
     omega arith
 
-pub IsSound-opening : (z : Sizes) → InRange z → dir.IsWhole z.ways z.block_words (dir.all_empty z.ways z.sets) → IsWhole z.block_words z.regs (free_file z.regs) → IsSound z (dir.all_empty z.ways z.sets) (free_file z.regs) [] (queue_of [] z.write_queue) []
+pub IsSound-opening : (z : Sizes) → InRange z → dir.IsWhole z.ways z.block_words (dir.all_empty z.ways z.sets) → IsWhole z.block_words z.regs (free_file z.regs) → IsSound z (opening_cache z)
 IsSound-opening z r d w =
     let frame : (f : ℕ) → dir.frame_at (replicate (z.sets * z.ways) dir.empty_frame) f ≡ dir.empty_frame = λ f. all_same (z.sets * z.ways) f dir.empty_frame in
     let register : (s : ℕ) → regs.register_at (free_file z.regs) s ≡ regs.free_register = λ s. all_same z.regs s regs.free_register in
@@ -54,35 +48,9 @@ IsSound-opening z r d w =
         frames = λ s e. absurd (false≢true (sym (ap regs.is_live (register s)) ∙ e));
         pending = λ f e. absurd (false≢true (sym (ap (λ (x : dir.Frame). x.pending) (frame f)) ∙ e));
       };
-      queue_sound = record { limit = refl; within = omega arith; addresses = λ k e l. absurd (omega arith) };
+      queue_sound = record { within = omega arith; addresses = λ k e l. absurd (omega arith) };
       owes = record {
         few = let n = no_loads (λ t. true) z.regs in omega arith;
         once = λ tag. let n = no_loads (λ t. t == tag) z.regs in omega arith;
       };
     }
-
-pub opening-shown : (z : Sizes) → as_cache (dir.all_empty z.ways z.sets) (free_file z.regs) [] [] [] ≡ opening_cache z
-opening-shown z =
-    let f = map-replicate as_frame (z.sets * z.ways) dir.empty_frame in
-    let r = map-replicate as_register z.regs regs.free_register in
-    ap (λ (xs : List Frame). let c : Cache = record { frames = xs; orders = replicate z.sets []; registers = map as_register (free_file z.regs); stack = []; queue = []; ready = [] } in c) f ∙ ap (λ (xs : List Register). let c : Cache = record { frames = replicate (z.sets * z.ways) empty_frame; orders = replicate z.sets []; registers = xs; stack = []; queue = []; ready = [] } in c) r
-
--- ---- the parts as they are made
-
--- parts that hold nothing
-pub record AsMade (z : Sizes) (d : dir.Frames) (rs : List regs.Register) (st : List Entry) (q : Queue) (ready : List Reply) : Type 0 where
-  pub directory : d ≡ dir.all_empty z.ways z.sets
-  pub registers : rs ≡ free_file z.regs
-  pub stack : st ≡ []
-  pub queue : q ≡ queue_of [] z.write_queue
-  pub ready_none : ready ≡ []
-
-pub IsSound-made : (z : Sizes) (d : dir.Frames) (rs : List regs.Register) (st : List Entry) (q : Queue) (ready : List Reply) → AsMade z d rs st q ready → InRange z → dir.IsWhole z.ways z.block_words d → IsWhole z.block_words z.regs rs → IsSound z d rs st q ready
-IsSound-made z d rs st q ready m r w v =
-    let whole = subst (dir.IsWhole z.ways z.block_words) m.directory w in
-    let file = subst (IsWhole z.block_words z.regs) m.registers v in
-    rw (m.directory, m.registers, m.stack, m.queue, m.ready_none) (IsSound-opening z r whole file)
-
-pub made-shown : (z : Sizes) (d : dir.Frames) (rs : List regs.Register) (st : List Entry) (q : Queue) (ready : List Reply) → AsMade z d rs st q ready → as_cache d rs st q.entries ready ≡ opening_cache z
-made-shown z d rs st q ready m =
-    rw (m.directory, m.registers, m.stack, m.queue, m.ready_none) (opening-shown z)

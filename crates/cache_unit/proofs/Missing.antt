@@ -1,26 +1,22 @@
 -- A block that no frame holds.
-use Rattle.std.proofs.Common.{◌≡◌, ℕ, ◌*◌, ◌%◌, ◌/◌, false, cond, List, [], map, Option, Some, None, is_some, refl, sym, ap, ◌∙◌, add-zero}
-use Rattle.std.specs.List.{range_with_len}
+use Rattle.std.proofs.Common.{◌≡◌, ℕ, ◌*◌, false, cond, List, [], Option, Some, None, is_some, refl, sym, ap, ◌∙◌}
 use Rattle.std.proofs.lemmas.Bool.{false≢true}
 use Rattle.std.proofs.lemmas.Option.{none-some}
 use Rattle.input_stack.specs.declared.Entry.{Entry}
 use Rattle.write_queue.specs.declared.Queued.{Queued}
-use Rattle.memory_banks.specs.declared.Command.TheVariants.{Read}
 use Rattle.cache_directory.specs.Frames as dir
 use Rattle.miss_registers.specs.Registers as regs
 use Rattle.cache_unit.specs.declared.Reply.{Reply}
 use Rattle.cache_unit.specs.declared.Sizes.{Sizes}
-use Rattle.cache_unit.specs.State.{Cache, is_present, free_slot}
+use Rattle.cache_unit.specs.State.{Cache, is_present, free_slot, frame_of}
 use Rattle.cache_unit.specs.Steps.{reads, fetches}
-use Rattle.cache_unit.specs.Shown.{as_cache}
 use Rattle.cache_unit.specs.Sound.{Tied}
 use Rattle.cache_unit.specs.Reads.{block_reads}
-use Rattle.cache_unit.proofs.Process.{frame_of-shown}
 use Rattle.cache_unit.proofs.Same.{live_for-none}
 
-pub absent_frame : (d : dir.Frames) (rs : List regs.Register) (st : List Entry) (q : List Queued) (ready : List Reply) (block : ℕ) → is_present (as_cache d rs st q ready) block ≡ false → dir.frame_of d.frames block ≡ None
-absent_frame d rs st q ready block e =
-    go (dir.frame_of d.frames block) (sym (ap is_some (frame_of-shown d rs st q ready block)) ∙ e)
+pub absent_frame : (c : Cache) (block : ℕ) → is_present c block ≡ false → frame_of c block ≡ None
+absent_frame c block e =
+    go (frame_of c block) e
   where
     go : (o : Option ℕ) → is_some o ≡ false → o ≡ None
     go None k = refl
@@ -35,4 +31,4 @@ no_live fs rs block h absent =
 pub fetches-shown : (z : Sizes) (c : Cache) (block slot : ℕ) → is_present c block ≡ false → free_slot c ≡ Some slot → block_reads slot (block * z.block_words) z.block_words z.banks z.block_words ≡ fetches z c block
 unfolding fetches
 fetches-shown z c block slot absent free =
-    ap (λ k. map (λ at. (at % z.banks, Read slot (at % z.block_words) (at / z.banks))) (range_with_len k z.block_words)) (sym (add-zero (block * z.block_words))) ∙ ap (reads z block) (sym free) ∙ ap (λ b. cond b [] (reads z block (free_slot c))) (sym absent)
+    ap (reads z block) (sym free) ∙ ap (λ b. cond b [] (reads z block (free_slot c))) (sym absent)

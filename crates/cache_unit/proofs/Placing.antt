@@ -10,79 +10,78 @@ use Rattle.miss_registers.proofs.Places.{free_slot-found}
 use Rattle.cache_unit.specs.declared.Reply.{Reply}
 use Rattle.cache_unit.specs.declared.Places.{Places}
 use Rattle.cache_unit.specs.declared.Sizes.{Sizes}
-use Rattle.cache_unit.specs.State.{Register, is_pending}
+use Rattle.cache_unit.specs.State.{Register, is_pending, Cache, frame_at, register_at}
 use Rattle.cache_unit.specs.Causes.{first_cause, ways_of, choose, lacks_places, miss_causes}
-use Rattle.cache_unit.specs.Shown.{as_cache}
 use Rattle.cache_unit.specs.Sound.{IsSound}
 use Rattle.cache_unit.specs.Reads.{is_short}
 use Rattle.cache_unit.specs.GivenUp.{owed_words}
 use Rattle.cache_unit.specs.Miss.{MayTake, chosen_frame}
-use Rattle.cache_unit.proofs.Choosing.{free_slot-shown, chosen_can, chosen_none, all_pending-shown, choose-shown, no_register, set_pending, queue_full, bank_full, no_cause, no_test, register-test, queue-test, bank-test}
+use Rattle.cache_unit.proofs.Choosing.{chosen_can, chosen_none, all_pending-shown, choose-shown, no_register, set_pending, queue_full}
+use Rattle.cache_unit.proofs.Choosing.{bank_full, no_cause, no_test, register-test, queue-test, bank-test}
 
-module _ (z : Sizes) (d : dir.Frames) (rs : List regs.Register) (st : List Entry) (q : Queue) (ready : List Reply) (h : IsSound z d rs st q ready) (room : ℕ → ℕ) (block : ℕ) where
+module _ (z : Sizes) (c : Cache) (h : IsSound z c) (room : ℕ → ℕ) (block : ℕ) where
   -- the four tests of a miss
   full_file : Bool
-  full_file = length (filter (λ (r : Register). r.valid) (as_cache d rs st q.entries ready).registers) == z.regs
+  full_file = length (filter (λ (r : Register). r.valid) c.registers) == z.regs
 
-  registers_valid : (o : Option ℕ) → regs.free_slot rs ≡ o → (length (filter (λ (r : Register). r.valid) (as_cache d rs st q.entries ready).registers) == z.regs) ≡ is_none o
-  registers_valid o e = register-test d rs st q.entries ready z.regs h.registers.registers_there ∙ ap is_none e
+  registers_valid : (o : Option ℕ) → regs.free_slot c.registers ≡ o → (length (filter (λ (r : Register). r.valid) c.registers) == z.regs) ≡ is_none o
+  registers_valid o e = register-test c z.regs h.registers.registers_there ∙ ap is_none e
 
-  set_is : dir.set_of d block ≡ block % z.sets
+  set_is : dir.set_of c.directory block ≡ block % z.sets
   set_is = ap (λ n. block % n) h.sets
 
-  ways_pending : (o : Option ℕ) → chosen_frame (dir.chosen z.ways d (dir.set_of d block)) ≡ o → list_all (is_pending (as_cache d rs st q.entries ready)) (ways_of z block) ≡ is_none o
+  ways_pending : (o : Option ℕ) → chosen_frame (dir.chosen z.ways c.directory (dir.set_of c.directory block)) ≡ o → list_all (is_pending c) (ways_of z block) ≡ is_none o
   ways_pending o e =
-      all_pending-shown z d rs st q ready h block ∙ sym (chosen_none z.ways z.block_words d (block % z.sets) h.directory) ∙ ap (λ s. is_none (chosen_frame (dir.chosen z.ways d s))) (sym set_is) ∙ ap is_none e
+      all_pending-shown z c h block ∙ sym (chosen_none z.ways z.block_words c.directory (block % z.sets) h.directory) ∙ ap (λ s. is_none (chosen_frame (dir.chosen z.ways c.directory s))) (sym set_is) ∙ ap is_none e
 
-  frame_chosen : (f : ℕ) → chosen_frame (dir.chosen z.ways d (dir.set_of d block)) ≡ Some f → choose z (as_cache d rs st q.entries ready) block ≡ Some f
+  frame_chosen : (f : ℕ) → chosen_frame (dir.chosen z.ways c.directory (dir.set_of c.directory block)) ≡ Some f → choose z c block ≡ Some f
   frame_chosen f e =
-      choose-shown z d rs st q ready h block ∙ ap (λ s. chosen_frame (dir.chosen z.ways d s)) (sym set_is) ∙ e
+      choose-shown z c h block ∙ ap (λ s. chosen_frame (dir.chosen z.ways c.directory s)) (sym set_is) ∙ e
 
-  queue_lacks : (f : ℕ) → chosen_frame (dir.chosen z.ways d (dir.set_of d block)) ≡ Some f → lacks_places z (as_cache d rs st q.entries ready) (choose z (as_cache d rs st q.entries ready) block) ≡ nat_lt (q.limit - length q.entries) (length (owed_words z.block_words d f))
+  queue_lacks : (f : ℕ) → chosen_frame (dir.chosen z.ways c.directory (dir.set_of c.directory block)) ≡ Some f → lacks_places z c (choose z c block) ≡ nat_lt (z.write_queue - length c.queue) (length (owed_words z.block_words c.directory f))
   queue_lacks f e =
-      ap (lacks_places z (as_cache d rs st q.entries ready)) (frame_chosen f e) ∙ queue-test z d rs st q ready f h.queue_sound.limit
+      ap (lacks_places z c) (frame_chosen f e) ∙ queue-test z c f
 
-  pub find_no_register : regs.free_slot rs ≡ None → first_cause (miss_causes z room (as_cache d rs st q.entries ready) block) ≡ Some NoRegister
+  pub find_no_register : regs.free_slot c.registers ≡ None → first_cause (miss_causes z room c block) ≡ Some NoRegister
   find_no_register e = no_register _ _ _ _ (registers_valid None e)
 
-  pub find_set_pending : (s : ℕ) → regs.free_slot rs ≡ Some s → chosen_frame (dir.chosen z.ways d (dir.set_of d block)) ≡ None → first_cause (miss_causes z room (as_cache d rs st q.entries ready) block) ≡ Some SetPending
+  pub find_set_pending : (s : ℕ) → regs.free_slot c.registers ≡ Some s → chosen_frame (dir.chosen z.ways c.directory (dir.set_of c.directory block)) ≡ None → first_cause (miss_causes z room c block) ≡ Some SetPending
   find_set_pending s e k = set_pending _ _ _ _ (registers_valid (Some s) e) (ways_pending None k)
 
-  pub find_queue_full : (s f : ℕ) → regs.free_slot rs ≡ Some s → chosen_frame (dir.chosen z.ways d (dir.set_of d block)) ≡ Some f → q.limit - length q.entries < length (owed_words z.block_words d f) → first_cause (miss_causes z room (as_cache d rs st q.entries ready) block) ≡ Some QueueFull
+  pub find_queue_full : (s f : ℕ) → regs.free_slot c.registers ≡ Some s → chosen_frame (dir.chosen z.ways c.directory (dir.set_of c.directory block)) ≡ Some f → z.write_queue - length c.queue < length (owed_words z.block_words c.directory f) → first_cause (miss_causes z room c block) ≡ Some QueueFull
   find_queue_full s f e k l =
       queue_full _ _ _ _ (registers_valid (Some s) e) (ways_pending (Some f) k) (queue_lacks f k ∙ lt-ltb _ _ l)
 
-  pub find_bank_full : (s f : ℕ) → regs.free_slot rs ≡ Some s → chosen_frame (dir.chosen z.ways d (dir.set_of d block)) ≡ Some f → length (owed_words z.block_words d f) ≤ q.limit - length q.entries → list_any (is_short room (block * z.block_words) z.block_words z.banks) (range_with_len 0 z.banks) ≡ true → first_cause (miss_causes z room (as_cache d rs st q.entries ready) block) ≡ Some BankFull
+  pub find_bank_full : (s f : ℕ) → regs.free_slot c.registers ≡ Some s → chosen_frame (dir.chosen z.ways c.directory (dir.set_of c.directory block)) ≡ Some f → length (owed_words z.block_words c.directory f) ≤ z.write_queue - length c.queue → list_any (is_short room (block * z.block_words) z.block_words z.banks) (range_with_len 0 z.banks) ≡ true → first_cause (miss_causes z room c block) ≡ Some BankFull
   find_bank_full s f e k l m =
       bank_full _ _ _ _ (registers_valid (Some s) e) (ways_pending (Some f) k) (queue_lacks f k ∙ le-ltb _ _ l) (sym (bank-test z room block) ∙ m)
 
-  pub find_places : (s f : ℕ) → regs.free_slot rs ≡ Some s → chosen_frame (dir.chosen z.ways d (dir.set_of d block)) ≡ Some f → length (owed_words z.block_words d f) ≤ q.limit - length q.entries → list_any (is_short room (block * z.block_words) z.block_words z.banks) (range_with_len 0 z.banks) ≡ false → MayTake z room (as_cache d rs st q.entries ready) block (record { frame = f; slot = s })
+  pub find_places : (s f : ℕ) → regs.free_slot c.registers ≡ Some s → chosen_frame (dir.chosen z.ways c.directory (dir.set_of c.directory block)) ≡ Some f → length (owed_words z.block_words c.directory f) ≤ z.write_queue - length c.queue → list_any (is_short room (block * z.block_words) z.block_words z.banks) (range_with_len 0 z.banks) ≡ false → MayTake z room c block (record { frame = f; slot = s })
   find_places s f e k l m = record {
     no_cause = no_cause _ _ _ _ (registers_valid (Some s) e) (ways_pending (Some f) k) (queue_lacks f k ∙ le-ltb _ _ l) (sym (bank-test z room block) ∙ m);
     frame = frame_chosen f k;
-    slot = free_slot-shown d rs st q.entries ready ∙ e;
+    slot = e;
   }
 
 -- what a miss may take is there, by the parts
-pub record Takes (z : Sizes) (d : dir.Frames) (rs : List regs.Register) (q : Queue) (room : ℕ → ℕ) (block : ℕ) (places : Places) : Type 0 where
-  pub there : places.frame < length d.frames
-  pub of_set : places.frame / z.ways ≡ dir.set_of d block
-  pub idle : (dir.frame_at d.frames places.frame).pending ≡ false
-  pub slot : places.slot < length rs
-  pub free : (regs.register_at rs places.slot).valid ≡ false
-  pub queue : length q.entries + length (owed_words z.block_words d places.frame) ≤ q.limit
+pub record Takes (z : Sizes) (c : Cache) (room : ℕ → ℕ) (block : ℕ) (places : Places) : Type 0 where
+  pub there : places.frame < length c.directory.frames
+  pub of_set : places.frame / z.ways ≡ dir.set_of c.directory block
+  pub idle : (frame_at c places.frame).pending ≡ false
+  pub slot : places.slot < length c.registers
+  pub free : (register_at c places.slot).valid ≡ false
+  pub queue : length c.queue + length (owed_words z.block_words c.directory places.frame) ≤ z.write_queue
   pub banks : list_any (is_short room (block * z.block_words) z.block_words z.banks) (range_with_len 0 z.banks) ≡ false
 
-pub takes_from : (z : Sizes) (d : dir.Frames) (rs : List regs.Register) (st : List Entry) (q : Queue) (ready : List Reply) → IsSound z d rs st q ready → (room : ℕ → ℕ) (block : ℕ) (places : Places) → MayTake z room (as_cache d rs st q.entries ready) block places → Takes z d rs q room block places
-takes_from z d rs st q ready h room block places m =
-    let chosen : chosen_frame (dir.chosen z.ways d (block % z.sets)) ≡ Some places.frame = sym (choose-shown z d rs st q ready h block) ∙ m.frame in
-    let same : dir.set_of d block ≡ block % z.sets = ap (λ n. block % n) h.sets in
-    let there : block % z.sets < length d.orders = subst (λ n. block % z.sets < n) (sym h.sets) (omega (arith, h.ranges.some_sets)) in
-    let can = chosen_can z.ways z.block_words d (block % z.sets) places.frame h.directory there chosen in
-    let found = free_slot-found rs places.slot (sym (free_slot-shown d rs st q.entries ready) ∙ m.slot) in
+pub takes_from : (z : Sizes) (c : Cache) → IsSound z c → (room : ℕ → ℕ) (block : ℕ) (places : Places) → MayTake z room c block places → Takes z c room block places
+takes_from z c h room block places m =
+    let chosen : chosen_frame (dir.chosen z.ways c.directory (block % z.sets)) ≡ Some places.frame = sym (choose-shown z c h block) ∙ m.frame in
+    let same : dir.set_of c.directory block ≡ block % z.sets = ap (λ n. block % n) h.sets in
+    let there : block % z.sets < length c.directory.orders = subst (λ n. block % z.sets < n) (sym h.sets) (omega (arith, h.ranges.some_sets)) in
+    let can = chosen_can z.ways z.block_words c.directory (block % z.sets) places.frame h.directory there chosen in
+    let found = free_slot-found c.registers places.slot (m.slot) in
     let none = no_test _ _ _ _ m.no_cause in
-    let fits = ltb-false _ _ (sym (queue_lacks z d rs st q ready h room block places.frame (ap (λ s. chosen_frame (dir.chosen z.ways d s)) same ∙ chosen)) ∙ none.queue) in
-    let limit = h.queue_sound.limit in
+    let fits = ltb-false _ _ (sym (queue_lacks z c h room block places.frame (ap (λ s. chosen_frame (dir.chosen z.ways c.directory s)) same ∙ chosen)) ∙ none.queue) in
     let within = h.queue_sound.within in
     record {
       there = can.there;

@@ -1,5 +1,5 @@
 -- Requests, by their causes.
-use Rattle.std.proofs.Common.{◌≡◌, ℕ, ◌<◌, nat_lt, nat_le, not, ◌&&◌, ◌||◌, Bool, true, false, cond, List, [], ◌∷◌, ◌++◌, map, length, Option, Some, None, refl, sym, ap, ap₂, ◌∙◌, subst, leb-false}
+use Rattle.std.proofs.Common.{◌≡◌, ℕ, ◌<◌, nat_lt, nat_le, not, ◌&&◌, ◌||◌, Bool, true, false, cond, List, [], ◌∷◌, ◌++◌, map, length, Option, Some, None, refl, sym, ap, ap₂, ◌∙◌, leb-false}
 use Rattle.std.proofs.lemmas.Bool.{false≢true}
 use Rattle.flat_model.specs.declared.Word.{Word}
 use Rattle.flat_model.specs.declared.Lanes.{Lanes}
@@ -9,9 +9,9 @@ use Rattle.flat_model.specs.declared.Answer.TheVariants.{Accepted}
 use Rattle.flat_model.specs.Words.{has_any, has_all}
 use Rattle.input_stack.specs.Stack.{stack_word}
 use Rattle.memory_banks.specs.declared.Command.{Command}
-use Rattle.memory_banks.specs.Banks.{HasSent}
+use Rattle.miss_registers.specs.declared.TheConstants.{MAX_WAITING}
 use Rattle.cache_unit.specs.declared.Sizes.{Sizes}
-use Rattle.cache_unit.specs.State.{Cache, UnitState, is_present, free_slot, field_at, live_for, cell_of, tags, block_of, place_in}
+use Rattle.cache_unit.specs.State.{Cache, is_present, free_slot, field_at, live_for, cell_of, tags, block_of, place_in}
 use Rattle.cache_unit.specs.Causes.{first_cause, miss_causes, Found, Here, Coming, found_missing, found_in, found, targets_full, choose, is_in_use, load_cause, store_cause, prefetch_cause}
 use Rattle.cache_unit.specs.Steps.{Stepped, unless, missed, reads, fetched, fetches, loaded, written, load_step, store_step, prefetch_step}
 use Rattle.cache_unit.specs.Requests.{absence_cause, is_full_for, load_answer, load_present}
@@ -51,7 +51,7 @@ targets_free c block i h = go (live_for c block) refl
   where
     coming : (s : ℕ) → live_for c block ≡ Some s → (o : Option Word) → targets_full c i (found_missing o s (field_at c s i).code (cell_of c block i).word) ≡ false
     coming s e (Some w) = refl
-    coming s e None = ap (λ l. nat_le 4 (length l)) (h s e i)
+    coming s e None = ap (λ l. nat_le MAX_WAITING (length l)) (h s e i)
 
     by_field : (s : ℕ) → live_for c block ≡ Some s → (b : Bool) → targets_full c i (cond b (Here (cell_of c block i).word) (found_missing (stack_word c.stack s i) s (field_at c s i).code (cell_of c block i).word)) ≡ false
     by_field s e true = refl
@@ -80,13 +80,13 @@ present_where_full : (b t : Bool) → (b && t) ≡ true → b ≡ true
 present_where_full true t e = refl
 present_where_full false t e = e
 
--- ---- four loads for a word
+-- ---- as many loads as may wait for a word
 
-abbrev pub awaited_by_four : Finding → Bool
-awaited_by_four (finding.Here w) = false
-awaited_by_four (finding.Coming slot held code waiting) = nat_le 4 waiting
+abbrev pub awaited_by_most : Finding → Bool
+awaited_by_most (finding.Here w) = false
+awaited_by_most (finding.Coming slot held code waiting) = nat_le MAX_WAITING waiting
 
-pub awaited_full : (c : Cache) (block i : ℕ) (x : Found) → awaited_by_four (finding_of c block i x) ≡ targets_full c i x
+pub awaited_full : (c : Cache) (block i : ℕ) (x : Found) → awaited_by_most (finding_of c block i x) ≡ targets_full c i x
 awaited_full c block i (Here w) = refl
 awaited_full c block i (Coming slot) = refl
 
@@ -226,18 +226,6 @@ module _ (z : Sizes) (room : ℕ → ℕ) (c : Cache) (at : ℕ) where
 
   pub prefetch_done : not (nat_lt at z.words) ≡ false → absence_cause z room c (block_of z at) ≡ None → prefetch_step z room c at ≡ prefetch_to
   prefetch_done e m = prefetch_by None false e m
-
--- ---- what a step leaves of the unit and the lines
-
--- a unit whose step leaves it
-pub kept_by : (u : UnitState) (s : Stepped) (t : Stepped) → s ≡ t → t.cache ≡ u.cache → u ≡ record u { cache = s.cache }
-kept_by u s t e k = ap (λ (c : Cache). let v : UnitState = record { sizes = u.sizes; cache = c } in v) (sym (ap (λ (x : Stepped). x.cache) e ∙ k))
-
-pub made_by : (u v : UnitState) (s t : Stepped) → s ≡ t → v ≡ record u { cache = t.cache } → v ≡ record u { cache = s.cache }
-made_by u v s t e k = k ∙ ap (λ (x : Stepped). let w : UnitState = record { sizes = u.sizes; cache = x.cache } in w) (sym e)
-
-pub sent_by : {L : Type 0} (sent_to : L → ℕ → List Command) (room_of : L → ℕ → ℕ) (same : L → L → Type 0) (a b : L) (s t : Stepped) → s ≡ t → HasSent sent_to room_of same a b t.sent → HasSent sent_to room_of same a b s.sent
-sent_by sent_to room_of same a b s t e h = subst (λ (x : Stepped). HasSent sent_to room_of same a b x.sent) (sym e) h
 
 -- ---- tests
 

@@ -4,14 +4,11 @@ use Rattle.std.proofs.lemmas.List.{get_or-set_same, get_or-set_other}
 use Rattle.std.proofs.lemmas.Bool.{false≢true, cases_eq, and_parts, and_from, false_from_ne_true}
 use Rattle.std.proofs.lemmas.Option.{same_Some}
 use Rattle.flat_model.specs.Places.{is_number}
-use Rattle.flat_model.proofs.Places.{place_of-map, place_of-passes}
+use Rattle.flat_model.proofs.Places.{place_of-passes}
 use Rattle.cache_directory.specs.Frames as dir
 use Rattle.miss_registers.specs.Registers as regs
 use Rattle.input_stack.specs.declared.Entry.{Entry}
-use Rattle.write_queue.specs.declared.Queued.{Queued}
-use Rattle.cache_unit.specs.declared.Reply.{Reply}
-use Rattle.cache_unit.specs.State.{Register, is_live, live_for}
-use Rattle.cache_unit.specs.Shown.{as_register, as_cache}
+use Rattle.cache_unit.specs.State.{live_for}
 use Rattle.cache_unit.specs.Sound.{entry_at, StackSound, Tied}
 use Rattle.cache_unit.proofs.Lists.{place_of-only, place_of-none, place_of-all_none}
 use Rattle.cache_unit.proofs.Keeps.{SameBlocks, frame_of-some}
@@ -119,10 +116,6 @@ frame_of-is fs b k apart h =
     place_of-only (λ (f : dir.Frame). is_number f.block b) dir.empty_frame fs k refl (number_is _ b h) (λ j e. apart j k b (number_from _ b e) h)
 
 -- ---- which register is live for a block
-
-pub live_for-shown : (d : dir.Frames) (rs : List regs.Register) (st : List Entry) (q : List Queued) (ready : List Reply) (b : ℕ) → live_for (as_cache d rs st q ready) b ≡ regs.live_for rs b
-unfolding live_for regs.live_for
-live_for-shown d rs st q ready b = place_of-map (λ (r : Register). is_live r && r.block == b) as_register rs
 
 pub live_for-some : (rs : List regs.Register) (b s : ℕ) → regs.live_for rs b ≡ Some s → (s < length rs) × (regs.is_live (regs.register_at rs s) ≡ true) × ((regs.register_at rs s).block ≡ b)
 unfolding regs.live_for

@@ -2,7 +2,6 @@
 use Rattle.std.proofs.Common.{◌≡◌, ℕ, suc, zero, ◌<◌, ◌≤◌, List, [], ◌∷◌, length, get_or, Some, None, refl, ap, sym, ◌∙◌, arith, subst, slice_get}
 use Rattle.std.specs.List.{remove}
 use Rattle.std.proofs.lemmas.Option.{slice_get-get_or}
-use Rattle.flat_model.specs.declared.Answer.{Answer}
 use Rattle.flat_model.specs.declared.Answer.TheVariants.{Value, Nothing}
 use Rattle.cache_directory.specs.Frames as dir
 use Rattle.miss_registers.specs.Registers as regs
@@ -11,19 +10,11 @@ use Rattle.write_queue.specs.Queue.{Queue}
 use Rattle.cache_unit.specs.declared.Reply.{Reply}
 use Rattle.cache_unit.specs.declared.Sizes.{Sizes}
 use Rattle.cache_unit.specs.State.{Cache, UnitState}
-use Rattle.cache_unit.specs.Steps.{Stepped, take_step, take_reply}
+use Rattle.cache_unit.specs.Steps.{take_step, take_reply}
 use Rattle.cache_unit.specs.Sound.{OwesSound, IsSound}
 
 abbrev pub made : Sizes → Cache → UnitState
 made z c = record { sizes = z; cache = c }
-
--- what a step answers and leaves, of the unit that the parts show
-pub answer_of : (z : Sizes) (c : Cache) (u : UnitState) (step : Sizes → Cache → Stepped) (a : Answer) → made z c ≡ u → a ≡ (step z c).answer → a ≡ (step u.sizes u.cache).answer
-answer_of z c u step a e p = p ∙ ap (λ (v : UnitState). (step v.sizes v.cache).answer) e
-
-pub cache_of : (z : Sizes) (c x : Cache) (u : UnitState) (step : Sizes → Cache → Stepped) → made z c ≡ u → x ≡ (step z c).cache → made z x ≡ record u { cache = (step u.sizes u.cache).cache }
-cache_of z c x u step e p =
-    subst (λ (v : UnitState). made z x ≡ record v { cache = (step v.sizes v.cache).cache }) e (ap (made z) p)
 
 -- a unit whose shown state is another function of it
 pub cache_by : (z : Sizes) (c x : Cache) (u : UnitState) (f : Sizes → Cache → Cache) → made z c ≡ u → x ≡ f z c → made z x ≡ record u { cache = f u.sizes u.cache }
@@ -50,8 +41,8 @@ none_taken c k l = ap (take_reply c k) (past c.ready k l)
     past (x ∷ xs) (suc n) h = past xs n (omega arith)
 
 -- other replies
-pub IsSound-ready : (z : Sizes) (d : dir.Frames) (rs : List regs.Register) (st : List Entry) (q : Queue) (ready ready' : List Reply) → OwesSound z ready' rs → IsSound z d rs st q ready → IsSound z d rs st q ready'
-IsSound-ready z d rs st q ready ready' o h = record {
+pub IsSound-ready : (z : Sizes) (c : Cache) (ready : List Reply) → OwesSound z ready c.registers → IsSound z c → IsSound z (record c { ready = ready })
+IsSound-ready z c ready o h = record {
   ranges = h.ranges;
   directory = h.directory;
   sets = h.sets;

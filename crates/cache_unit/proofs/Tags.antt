@@ -14,10 +14,9 @@ use Rattle.input_stack.specs.declared.Entry.{Entry}
 use Rattle.write_queue.specs.declared.Queued.{Queued}
 use Rattle.cache_unit.specs.declared.Reply.{Reply}
 use Rattle.cache_unit.specs.declared.Sizes.{Sizes}
-use Rattle.cache_unit.specs.State.{Target, gathered, targets_of_field, targets_of, targets, tags}
+use Rattle.cache_unit.specs.State.{Target, gathered, targets_of_field, targets_of, targets, tags, Cache}
 use Rattle.cache_unit.specs.Causes.{is_in_use}
-use Rattle.cache_unit.specs.Shown.{as_field, as_register, as_cache}
-use Rattle.cache_unit.specs.Sound.{loads_of_field, loads_of, owing, OwesSound}
+use Rattle.cache_unit.specs.Sound.{loads_of_field, loads_of, owing, OwesSound, IsSound}
 use Rattle.cache_unit.proofs.Owing.{count_by-all, owing-set, loads-set}
 
 abbrev tag_of : Target → ℕ
@@ -33,29 +32,33 @@ tags_of-field : (slot i : ℕ) (b : Bool) (f : regs.Field) → f.processed ≡ b
 tags_of-field slot i true f e h = sym (ap (map (λ (w : Owed). w.tag)) (h e))
 tags_of-field slot i false f e h = same_tags slot i f.waiting
 
-tags_of-fields : (slot n : ℕ) (fs : List regs.Field) → ((i : ℕ) → (get_or fs i regs.clear_field).processed ≡ true → (get_or fs i regs.clear_field).waiting ≡ []) → map tag_of (gathered (targets_of_field slot) n (map as_field fs)) ≡ flat_map regs.tags_of_field fs
+tags_of-fields : (slot n : ℕ) (fs : List regs.Field) → ((i : ℕ) → (get_or fs i regs.clear_field).processed ≡ true
+    → (get_or fs i regs.clear_field).waiting ≡ []) → map tag_of (gathered (targets_of_field slot) n fs) ≡ flat_map regs.tags_of_field fs
 tags_of-fields slot n [] h = refl
 tags_of-fields slot n (f ∷ fs) h =
-    map-append tag_of (targets_of_field slot n (as_field f)) (gathered (targets_of_field slot) (suc n) (map as_field fs)) ∙ ap₂ ◌++◌ (tags_of-field slot n f.processed f refl (h 0)) (tags_of-fields slot (suc n) fs (λ i. h (suc i)))
+    map-append tag_of (targets_of_field slot n f) (gathered (targets_of_field slot) (suc n) fs)
+    ∙ ap₂ ◌++◌ (tags_of-field slot n f.processed f refl (h 0)) (tags_of-fields slot (suc n) fs (λ i. h (suc i)))
 
-tags_of-register : (words n : ℕ) (r : regs.Register) → IsWholeRegister words r → map tag_of (targets_of n (as_register r)) ≡ regs.tags_of r
+tags_of-register : (words n : ℕ) (r : regs.Register) → IsWholeRegister words r → map tag_of (targets_of n r) ≡ regs.tags_of r
 tags_of-register words n r w = go r.valid refl
   where
-    go : (b : Bool) → r.valid ≡ b → map tag_of (if b then gathered (targets_of_field n) 0 (map as_field r.fields) else []) ≡ regs.tags_of r
+    go : (b : Bool) → r.valid ≡ b → map tag_of (if b then gathered (targets_of_field n) 0 r.fields else []) ≡ regs.tags_of r
     go true e = tags_of-fields n 0 r.fields (λ i p. ap (λ (f : regs.Field). f.waiting) (w.done i p))
     go false e = sym (ap regs.tags_of (w.free e))
 
-tags_of-registers : (words n : ℕ) (rs : List regs.Register) → ((s : ℕ) → IsWholeRegister words (get_or rs s regs.free_register)) → map tag_of (gathered targets_of n (map as_register rs)) ≡ flat_map regs.tags_of rs
+tags_of-registers : (words n : ℕ) (rs : List regs.Register) → ((s : ℕ) → IsWholeRegister words (get_or rs s regs.free_register))
+    → map tag_of (gathered targets_of n rs) ≡ flat_map regs.tags_of rs
 tags_of-registers words n [] h = refl
 tags_of-registers words n (r ∷ rs) h =
-    map-append tag_of (targets_of n (as_register r)) (gathered targets_of (suc n) (map as_register rs)) ∙ ap₂ ◌++◌ (tags_of-register words n r (h 0)) (tags_of-registers words (suc n) rs (λ s. h (suc s)))
+    map-append tag_of (targets_of n r) (gathered targets_of (suc n) rs)
+    ∙ ap₂ ◌++◌ (tags_of-register words n r (h 0)) (tags_of-registers words (suc n) rs (λ s. h (suc s)))
 
-pub waiting-shown : (words regs' : ℕ) (rs : List regs.Register) → IsWhole words regs' rs → map tag_of (targets (map as_register rs)) ≡ regs.waiting_tags rs
+pub waiting-shown : (words regs' : ℕ) (rs : List regs.Register) → IsWhole words regs' rs → map tag_of (targets rs) ≡ regs.waiting_tags rs
 unfolding targets regs.waiting_tags
 waiting-shown words regs' rs w = tags_of-registers words 0 rs w.each
 
-pub tags-shown : (words regs' : ℕ) (d : dir.Frames) (rs : List regs.Register) (st : List Entry) (q : List Queued) (ready : List Reply) → IsWhole words regs' rs → tags (as_cache d rs st q ready) ≡ map (λ r. r.tag) ready ++ regs.waiting_tags rs
-tags-shown words regs' d rs st q ready w = ap (λ l. map (λ (r : Reply). r.tag) ready ++ l) (waiting-shown words regs' rs w)
+pub tags-shown : {words regs' : ℕ} (c : Cache) → IsWhole words regs' c.registers → tags c ≡ map (λ r. r.tag) c.ready ++ regs.waiting_tags c.registers
+tags-shown c w = ap (λ l. map (λ (r : Reply). r.tag) c.ready ++ l) (waiting-shown _ _ c.registers w)
 
 -- ---- counts
 
@@ -89,15 +92,15 @@ owing-tags p ready rs =
     omega arith
 
 -- how many are owed
-pub owing-all : (words regs' : ℕ) (d : dir.Frames) (rs : List regs.Register) (st : List Entry) (q : List Queued) (ready : List Reply) → IsWhole words regs' rs → owing (λ t. true) ready rs ≡ length (tags (as_cache d rs st q ready))
-owing-all words regs' d rs st q ready w =
-    owing-tags (λ t. true) ready rs ∙ count_by-all (map (λ (r : Reply). r.tag) ready ++ regs.waiting_tags rs) ∙ ap length (sym (tags-shown words regs' d rs st q ready w))
+pub owing-all : {words regs' : ℕ} (c : Cache) → IsWhole words regs' c.registers → owing (λ t. true) c.ready c.registers ≡ length (tags c)
+owing-all c w =
+    owing-tags (λ t. true) c.ready c.registers ∙ count_by-all (map (λ (r : Reply). r.tag) c.ready ++ regs.waiting_tags c.registers) ∙ ap length (sym (tags-shown c w))
 
-pub length-tags : (words regs' : ℕ) (d : dir.Frames) (rs : List regs.Register) (st : List Entry) (q : List Queued) (ready : List Reply) → IsWhole words regs' rs → length (tags (as_cache d rs st q ready)) ≡ length (regs.waiting_tags rs) + length ready
-length-tags words regs' d rs st q ready w =
-    let a = ap length (tags-shown words regs' d rs st q ready w) in
-    let b = length-append (map (λ (r : Reply). r.tag) ready) (regs.waiting_tags rs) in
-    let c = length-map ready (λ (r : Reply). r.tag) in
+pub length-tags : {words regs' : ℕ} (c : Cache) → IsWhole words regs' c.registers → length (tags c) ≡ length (regs.waiting_tags c.registers) + length c.ready
+length-tags c w =
+    let a = ap length (tags-shown c w) in
+    let b = length-append (map (λ (r : Reply). r.tag) c.ready) (regs.waiting_tags c.registers) in
+    let n = length-map c.ready (λ (r : Reply). r.tag) in
     omega arith
 
 -- ---- a tag in use
@@ -106,9 +109,9 @@ pub any-map : {X Y : Type 0} (p : Y → Bool) (f : X → Y) (xs : List X) → li
 any-map p f [] = refl
 any-map p f (x ∷ xs) = ap (λ b. p (f x) || b) (any-map p f xs)
 
-pub in_use-shown : (words regs' : ℕ) (d : dir.Frames) (rs : List regs.Register) (st : List Entry) (q : List Queued) (ready : List Reply) (tag : ℕ) → IsWhole words regs' rs → is_in_use (as_cache d rs st q ready) tag ≡ (list_any (λ r. r.tag == tag) ready || regs.tag_waits rs tag)
-in_use-shown words regs' d rs st q ready tag w =
-    ap (list_any (λ t. t == tag)) (tags-shown words regs' d rs st q ready w) ∙ list_any-append (λ t. t == tag) (map (λ (r : Reply). r.tag) ready) (regs.waiting_tags rs) ∙ ap (λ b. b || regs.tag_waits rs tag) (any-map (λ t. t == tag) (λ (r : Reply). r.tag) ready)
+pub in_use-shown : {words regs' : ℕ} (c : Cache) (tag : ℕ) → IsWhole words regs' c.registers → is_in_use c tag ≡ (list_any (λ r. r.tag == tag) c.ready || regs.tag_waits c.registers tag)
+in_use-shown c tag w =
+    ap (list_any (λ t. t == tag)) (tags-shown c w) ∙ list_any-append (λ t. t == tag) (map (λ (r : Reply). r.tag) c.ready) (regs.waiting_tags c.registers) ∙ ap (λ b. b || regs.tag_waits c.registers tag) (any-map (λ t. t == tag) (λ (r : Reply). r.tag) c.ready)
 
 none_counted : {X : Type 0} (p : X → Bool) (xs : List X) → list_any p xs ≡ false → count_by p xs ≡ 0
 none_counted p [] h = refl
@@ -124,30 +127,34 @@ none_counted p (x ∷ xs) h =
         let one : bit (p x) ≡ 0 = ap bit e in
         omega arith
 
-pub not_waiting : (words regs' : ℕ) (d : dir.Frames) (rs : List regs.Register) (st : List Entry) (q : List Queued) (ready : List Reply) (tag : ℕ) → IsWhole words regs' rs → is_in_use (as_cache d rs st q ready) tag ≡ false → regs.tag_waits rs tag ≡ false
-not_waiting words regs' d rs st q ready tag w h =
-    (or_parts _ _ (sym (in_use-shown words regs' d rs st q ready tag w) ∙ h)).1
+pub not_waiting : {words regs' : ℕ} (c : Cache) (tag : ℕ) → IsWhole words regs' c.registers → is_in_use c tag ≡ false → regs.tag_waits c.registers tag ≡ false
+not_waiting c tag w h =
+    (or_parts _ _ (sym (in_use-shown c tag w) ∙ h)).1
 
 -- one value more is owed
-pub owes-added : (z : Sizes) (words regs' : ℕ) (d : dir.Frames) (rs rs' : List regs.Register) (st : List Entry) (q : List Queued) (ready ready' : List Reply) (tag : ℕ) → IsWhole words regs' rs → is_in_use (as_cache d rs st q ready) tag ≡ false → length (tags (as_cache d rs st q ready)) < z.replies → ((p : ℕ → Bool) → owing p ready' rs' ≡ owing p ready rs + (if p tag then 1 else 0)) → OwesSound z ready rs → OwesSound z ready' rs'
-owes-added z words regs' d rs rs' st q ready ready' tag w new room add h = record {
+pub owes-added : (z : Sizes) (c : Cache) (rs : List regs.Register) (ready : List Reply) (tag : ℕ) → IsSound z c → is_in_use c tag ≡ false
+    → length (tags c) < z.replies → ((p : ℕ → Bool) → owing p ready rs ≡ owing p c.ready c.registers + (if p tag then 1 else 0))
+    → OwesSound z ready rs
+owes-added z c rs ready tag h new room add = record {
   few = (
       let a = add (λ t. true) in
-      let b = owing-all words regs' d rs st q ready w in
+      let b = owing-all c h.registers in
       omega arith);
   once = λ t. go t (tag == t) refl;
 }
   where
-    go : (t : ℕ) (b : Bool) → (tag == t) ≡ b → owing (λ x. x == t) ready' rs' ≤ 1
+    go : (t : ℕ) (b : Bool) → (tag == t) ≡ b → owing (λ x. x == t) ready rs ≤ 1
     go t true e =
         let same : tag ≡ t = eqb-true tag t e in
-        let none : list_any (λ x. x == t) (map (λ (r : Reply). r.tag) ready ++ regs.waiting_tags rs) ≡ false = ap (list_any (λ x. x == t)) (sym (tags-shown words regs' d rs st q ready w)) ∙ ap (λ n. list_any (λ x. x == n) (tags (as_cache d rs st q ready))) (sym same) ∙ new in
-        let zero' = owing-tags (λ x. x == t) ready rs ∙ none_counted (λ x. x == t) (map (λ (r : Reply). r.tag) ready ++ regs.waiting_tags rs) none in
-        let a = add (λ x. x == t) ∙ ap (λ v. owing (λ x. x == t) ready rs + cond v 1 0) e in
+        let none : list_any (λ x. x == t) (map (λ (r : Reply). r.tag) c.ready ++ regs.waiting_tags c.registers) ≡ false =
+        ap (list_any (λ x. x == t)) (sym (tags-shown c h.registers)) ∙ ap (λ n. list_any (λ x. x == n) (tags c)) (sym same) ∙ new in
+        let zero' = owing-tags (λ x. x == t) c.ready c.registers
+        ∙ none_counted (λ x. x == t) (map (λ (r : Reply). r.tag) c.ready ++ regs.waiting_tags c.registers) none in
+        let a = add (λ x. x == t) ∙ ap (λ v. owing (λ x. x == t) c.ready c.registers + cond v 1 0) e in
         omega arith
     go t false e =
-        let a = add (λ x. x == t) ∙ ap (λ v. owing (λ x. x == t) ready rs + cond v 1 0) e in
-        let b = h.once t in
+        let a = add (λ x. x == t) ∙ ap (λ v. owing (λ x. x == t) c.ready c.registers + cond v 1 0) e in
+        let b = h.owes.once t in
         omega arith
 
 -- a reply goes last

@@ -84,13 +84,13 @@ registers_within-set registers s new live fields =
 -- ---- units
 
 pub record Within (c d : Cache) : Type 0 where
-  pub frames : FramesWithin c.frames d.frames
+  pub frames : FramesWithin c.directory.frames d.directory.frames
   pub registers : RegistersWithin c.registers d.registers
   -- the block of a live register is still there
   pub stays : (s k : ℕ) → is_live (register_at d s) ≡ true → (frame_at c k).block ≡ Some (register_at c s).block
       → (frame_at d k).block ≡ Some (register_at c s).block
 
-pub within_like : (c d : Cache) → FramesLike c.frames d.frames → RegistersWithin c.registers d.registers → Within c d
+pub within_like : (c d : Cache) → FramesLike c.directory.frames d.directory.frames → RegistersWithin c.registers d.registers → Within c d
 within_like c d frames registers =
     record {
       frames = record { number = frames.number; held = λ k b e. (sym (frames.blocks k) ∙ e, frames.cells k) };
@@ -102,6 +102,6 @@ within_like c d frames registers =
 pub record Beside (z : Sizes) (c d : Cache) : Type 0 where
   pub within : Within c d
   pub waits : (s i : ℕ) → waits_for z d s i ≡ waits_for z c s i
-  pub orders : d.orders ≡ c.orders
+  pub orders : d.directory.orders ≡ c.directory.orders
   pub stack : d.stack ≡ c.stack
   pub queue : d.queue ≡ c.queue

@@ -1,5 +1,5 @@
 -- Why an event is refused.
-use Rattle.std.specs.Prelude.{ℕ, ◌+◌, ◌-◌, ◌*◌, ◌%◌, Bool, false, ◌||◌, not, if◌then◌else◌, ◌==◌, nat_lt, nat_le, List, [], ◌∷◌, length, Option, Some, None, is_none, is_some, slice_index_or}
+use Rattle.std.specs.Prelude.{ℕ, ◌+◌, ◌-◌, ◌*◌, ◌%◌, Bool, false, ◌||◌, not, if◌then◌else◌, ◌==◌, nat_lt, nat_le, List, [], ◌∷◌, length, Option, Some, None, is_none, is_some}
 use Rattle.std.specs.Option.{option_or}
 use Rattle.std.specs.List.{find, list_any, list_all, filter, range_with_len}
 use Rattle.miss_registers.specs.declared.TheConstants.{MAX_WAITING}
@@ -12,7 +12,8 @@ use Rattle.write_queue.specs.declared.Queued.{Queued}
 use Rattle.input_stack.specs.Stack.{stack_word}
 use Rattle.cache_directory.specs.declared.Cell.{Cell}
 use Rattle.cache_unit.specs.declared.Sizes.{Sizes}
-use Rattle.cache_unit.specs.State.{Cache, frame_at, frame_of, is_present, register_at, field_at, live_for, is_pending, cell_of, tags, block_of, place_in, address}
+use Rattle.cache_unit.specs.State.{Cache, frame_at, frame_of, is_present, register_at, field_at, live_for, is_pending, cell_of, tags}
+use Rattle.cache_unit.specs.State.{block_of, place_in, first_of, order_of}
 
 -- the first of the causes that holds
 abbrev pub first_cause : List (Bool × Cause) → Option Cause
@@ -28,13 +29,10 @@ is_resident_block c (Some block) = is_none (live_for c block)
 abbrev pub ways_of : Sizes → ℕ → List ℕ
 ways_of z block = range_with_len (block % z.sets * z.ways) z.ways
 
-abbrev pub order_of : List (List ℕ) → ℕ → List ℕ
-order_of orders set = slice_index_or orders set []
-
 -- the free way of lowest number, else the resident way that was allocated longest ago
 unfoldable pub choose : Sizes → Cache → ℕ → Option ℕ
 choose z c block =
-    option_or (find (λ f. is_none (frame_at c f).block) (ways_of z block)) (find (λ f. is_resident_block c (frame_at c f).block) (order_of c.orders (block % z.sets)))
+    option_or (find (λ f. is_none (frame_at c f).block) (ways_of z block)) (find (λ f. is_resident_block c (frame_at c f).block) (order_of c.directory (block % z.sets)))
 
 -- ---- the words that a frame owes to memory
 
@@ -46,19 +44,20 @@ dirty_from block at (cell ∷ rest) =
     then record { block = block; at = at; word = merged zero_word cell.word cell.dirty; lanes = cell.dirty } ∷ dirty_from block (at + 1) rest
     else dirty_from block (at + 1) rest
 
-abbrev pub dirty_of_block : Sizes → Option ℕ → List Cell → List Queued
-dirty_of_block z None cells = []
-dirty_of_block z (Some block) cells = dirty_from block (address z block 0) cells
+-- those of the block that stands here, of blocks of so many words
+abbrev pub owed_by : ℕ → Option ℕ → List Cell → List Queued
+owed_by words None cells = []
+owed_by words (Some block) cells = dirty_from block (block * words) cells
 
 abbrev pub dirty_words : Sizes → Cache → Option ℕ → List Queued
 dirty_words z c None = []
-dirty_words z c (Some f) = dirty_of_block z (frame_at c f).block (frame_at c f).cells
+dirty_words z c (Some f) = owed_by z.block_words (frame_at c f).block (frame_at c f).cells
 
 -- ---- causes
 
 -- the words of a block
 abbrev pub addresses : Sizes → ℕ → List ℕ
-addresses z block = range_with_len (address z block 0) z.block_words
+addresses z block = range_with_len (first_of z block) z.block_words
 
 abbrev pub lacks_room : Sizes → (ℕ → ℕ) → ℕ → Bool
 lacks_room z room block =
@@ -118,7 +117,11 @@ prefetch_cause z room c at =
 unfoldable pub evict_cause : Sizes → Cache → ℕ → Option Cause
 evict_cause z c block =
     first_cause
-    ((not (nat_lt (address z block 0) z.words), OutOfRange) ∷ (not (is_present c block), NotPresent) ∷ (lacks_places z c (frame_of c block), QueueFull) ∷ [])
+    ((not (nat_lt (first_of z block) z.words), OutOfRange) ∷ (not (is_present c block), NotPresent) ∷ (
+      lacks_places z c
+          (frame_of c block),
+      QueueFull,
+    ) ∷ [])
 
 -- a word that no register waits for
 abbrev pub is_stray : Sizes → Cache → ℕ → ℕ → Bool

@@ -4,12 +4,13 @@ use Rattle.std.specs.List.{sum_by, count_by, All}
 use Rattle.flat_model.specs.declared.limits.TheConstants.{MAX_BLOCK_WORDS, MAX_WAYS, MAX_REGS, MAX_DEPTH, MAX_MEMORY, MAX_SETS, MAX_BANKS, MAX_BANK_QUEUE, MAX_WRITE_QUEUE, MAX_REPLIES}
 use Rattle.flat_model.specs.Words.{zero_word}
 use Rattle.input_stack.specs.declared.Entry.{Entry}
-use Rattle.write_queue.specs.Queue.{Queue}
+use Rattle.write_queue.specs.declared.Queued.{Queued}
 use Rattle.cache_unit.specs.declared.Reply.{Reply}
 use Rattle.cache_directory.specs.Frames as dir
 use Rattle.miss_registers.specs.Registers as regs
 use Rattle.miss_registers.specs.Whole.{IsWhole}
 use Rattle.cache_unit.specs.declared.Sizes.{Sizes}
+use Rattle.cache_unit.specs.State.{Cache, frame_at}
 
 -- each number of a unit is in its range
 pub record InRange (z : Sizes) : Type 0 where
@@ -90,24 +91,23 @@ pub record Tied (fs : List dir.Frame) (rs : List regs.Register) : Type 0 where
   pub pending : (f : ℕ) → (dir.frame_at fs f).pending ≡ true → FilledBy rs f
 
 -- the write queue is within its limit, and its words are in memory
-pub record QueueSound (z : Sizes) (queue : Queue) : Type 0 where
-  pub limit : queue.limit ≡ z.write_queue
-  pub within : length queue.entries ≤ z.write_queue
-  pub addresses : All (λ e. e.at < z.words) queue.entries
+pub record QueueSound (z : Sizes) (queue : List Queued) : Type 0 where
+  pub within : length queue ≤ z.write_queue
+  pub addresses : All (λ e. e.at < z.words) queue
 
 -- so many are owed at most, and no tag twice
 pub record OwesSound (z : Sizes) (ready : List Reply) (rs : List regs.Register) : Type 0 where
   pub few : owing (λ t. true) ready rs ≤ z.replies
   pub once : (tag : ℕ) → owing (λ t. t == tag) ready rs ≤ 1
 
-pub record IsSound (z : Sizes) (d : dir.Frames) (rs : List regs.Register) (stack : List Entry) (queue : Queue) (ready : List Reply) : Type 0 where
+pub record IsSound (z : Sizes) (c : Cache) : Type 0 where
   pub ranges : InRange z
-  pub directory : dir.IsWhole z.ways z.block_words d
-  pub sets : length d.orders ≡ z.sets
+  pub directory : dir.IsWhole z.ways z.block_words c.directory
+  pub sets : length c.directory.orders ≡ z.sets
   -- the words of each block that a frame holds are in memory
-  pub in_memory : (f block : ℕ) → (dir.frame_at d.frames f).block ≡ Some block → block * z.block_words + z.block_words ≤ z.words
-  pub registers : IsWhole z.block_words z.regs rs
-  pub stack_sound : StackSound rs stack
-  pub tied : Tied d.frames rs
-  pub queue_sound : QueueSound z queue
-  pub owes : OwesSound z ready rs
+  pub in_memory : (f block : ℕ) → (frame_at c f).block ≡ Some block → block * z.block_words + z.block_words ≤ z.words
+  pub registers : IsWhole z.block_words z.regs c.registers
+  pub stack_sound : StackSound c.registers c.stack
+  pub tied : Tied c.directory.frames c.registers
+  pub queue_sound : QueueSound z c.queue
+  pub owes : OwesSound z c.ready c.registers

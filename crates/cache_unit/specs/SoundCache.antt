@@ -3,8 +3,7 @@ use Rattle.std.specs.Prelude.{ℕ, ◌≡◌, ◌<◌, ◌≤◌, ◌*◌, ◌/�
 use Rattle.std.specs.List.{filter, list_any}
 use Rattle.input_stack.specs.declared.Entry.{Entry}
 use Rattle.cache_unit.specs.declared.Sizes.{Sizes}
-use Rattle.cache_unit.specs.State.{Cache, frame_at, register_at, field_at, is_live, tags}
-use Rattle.cache_unit.specs.Causes.{order_of}
+use Rattle.cache_unit.specs.State.{Cache, frame_at, register_at, field_at, is_live, tags, order_of}
 
 -- the register of an entry of the stack has the word, and hasn't processed it
 pub record HasWord (z : Sizes) (c : Cache) (e : Entry) : Type 0 where
@@ -17,7 +16,7 @@ pub record IsSoundCache (z : Sizes) (c : Cache) : Type 0 where
   pub some_words : 0 < z.block_words
   pub some_sets : 0 < z.sets
   -- the numbers of frames and registers
-  pub frames_are : length c.frames ≡ z.sets * z.ways
+  pub frames_are : length c.directory.frames ≡ z.sets * z.ways
   pub registers_are : length c.registers ≡ z.regs
   -- a block is in one frame, and has one live register, and then it is present
   pub frames_apart : (f g block : ℕ) → (frame_at c f).block ≡ Some block → (frame_at c g).block ≡ Some block → f ≡ g
@@ -27,7 +26,7 @@ pub record IsSoundCache (z : Sizes) (c : Cache) : Type 0 where
   pub cells : (f block : ℕ) → (frame_at c f).block ≡ Some block → length (frame_at c f).cells ≡ z.block_words
   pub fields : (s : ℕ) → (register_at c s).valid ≡ true → length (register_at c s).fields ≡ z.block_words
   -- a frame that holds a block stands in the order of its set
-  pub placed : (f block : ℕ) → (frame_at c f).block ≡ Some block → list_any (λ g. g == f) (order_of c.orders (f / z.ways)) ≡ true
+  pub placed : (f block : ℕ) → (frame_at c f).block ≡ Some block → list_any (λ g. g == f) (order_of c.directory (f / z.ways)) ≡ true
   -- a word stands in the stack once, where its register still waits for it
   pub entries : (k : ℕ) (e : Entry) → slice_get c.stack k ≡ Some e → HasWord z c e
   pub entries_apart : (j k : ℕ) (d e : Entry) → slice_get c.stack j ≡ Some d → slice_get c.stack k ≡ Some e → d.slot ≡ e.slot → d.i ≡ e.i → j ≡ k

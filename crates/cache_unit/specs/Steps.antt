@@ -1,13 +1,14 @@
 -- What each event makes of the cache unit.
-use Rattle.std.specs.Prelude.{ℕ, ◌/◌, ◌%◌, true, false, not, if◌then◌else◌, ◌==◌, nat_lt, List, [], ◌∷◌, ◌++◌, map, Option, Some, None, slice_get, slice_set, slice_index_or}
-use Rattle.std.specs.List.{list_all, remove}
+use Rattle.std.specs.Prelude.{ℕ, ◌/◌, ◌%◌, ◌&&◌, if◌then◌else◌, nat_lt, List, [], ◌∷◌, ◌++◌, map, Option, Some, None}
+use Rattle.std.specs.Prelude.{slice_get, slice_set}
+use Rattle.std.specs.List.{remove}
 use Rattle.flat_model.specs.declared.Word.{Word}
 use Rattle.flat_model.specs.declared.Lanes.{Lanes}
 use Rattle.flat_model.specs.declared.Cause.{Cause}
 use Rattle.flat_model.specs.declared.Cause.TheVariants.{BankFull}
 use Rattle.flat_model.specs.declared.Answer.{Answer}
 use Rattle.flat_model.specs.declared.Answer.TheVariants.{Accepted, Moved, Value, Nothing, Refused}
-use Rattle.flat_model.specs.Words.{zero_word, no_lanes, joined, merged}
+use Rattle.flat_model.specs.Words.{zero_word, joined, merged}
 use Rattle.memory_banks.specs.declared.Command.{Command}
 use Rattle.memory_banks.specs.declared.Command.TheVariants.{Read, Write}
 use Rattle.cache_unit.specs.declared.Request.{Request}
@@ -15,12 +16,14 @@ use Rattle.cache_unit.specs.declared.Request.TheVariants.{Load, Store, Prefetch}
 use Rattle.cache_unit.specs.declared.Reply.{Reply}
 use Rattle.input_stack.specs.declared.Entry.{Entry}
 use Rattle.write_queue.specs.declared.Queued.{Queued}
-use Rattle.write_queue.specs.Queue.{overlaid, queued_lanes}
 use Rattle.miss_registers.specs.declared.Owed.{Owed}
 use Rattle.cache_unit.specs.declared.Sizes.{Sizes}
-use Rattle.cache_directory.specs.Frames.{zero_cell, without}
-use Rattle.cache_unit.specs.State.{Frame, Field, Register, Cache, empty_frame, clear_field, free_register, frame_at, frame_of, is_present, register_at, field_at, is_live, live_for, free_slot, cell_of, with_cell, with_field, block_of, place_in}
-use Rattle.cache_unit.specs.Causes.{choose, order_of, dirty_words, addresses, Found, Here, Coming, found, load_cause, store_cause, prefetch_cause, evict_cause, arrive_cause}
+use Rattle.cache_directory.specs.Frames as dir
+use Rattle.miss_registers.specs.Registers.{marked, finished, finished_fields, is_done}
+use Rattle.miss_registers.specs.Registers as regs
+use Rattle.cache_unit.specs.State.{Register, Cache, frame_at, frame_of, is_present, register_at, field_at, is_live, live_for, free_slot, cell_of, with_cell, with_field, block_of, place_in, order_of}
+use Rattle.cache_unit.specs.Begun.{begun_frame, begun_register}
+use Rattle.cache_unit.specs.Causes.{choose, dirty_words, addresses, Found, Here, Coming, found, load_cause, store_cause, prefetch_cause, evict_cause, arrive_cause}
 
 -- an answer, the unit after it, and the commands sent, each with its bank
 pub record Stepped : Type 0 where
@@ -38,55 +41,33 @@ moved c = record { answer = Moved; cache = c; sent = [] }
 
 -- ---- a frame is given up
 
--- a block's register no longer changes the buffer, and its codes are cleared
-abbrev pub without_code : Field → Field
-without_code f = record f { code = no_lanes }
-
-abbrev pub made_obsolete : Register → Register
-made_obsolete r = record r { obsolete = true; fields = map without_code r.fields }
-
-abbrev pub obsoleted : Cache → Option ℕ → List Register
-obsoleted c None = c.registers
-obsoleted c (Some slot) = slice_set c.registers slot (made_obsolete (register_at c slot))
+-- the registers once this one is obsolete
+abbrev pub obsoleted : List Register → Option ℕ → List Register
+obsoleted rs None = rs
+obsoleted rs (Some slot) = slice_set rs slot (regs.made_obsolete (regs.register_at rs slot))
 
 -- the frame's dirty words are queued, and it holds nothing
 unfoldable pub released : Sizes → Cache → ℕ → Cache
 released z c f =
     record c {
-      frames = slice_set c.frames f empty_frame;
-      orders = slice_set c.orders (f / z.ways) (without (order_of c.orders (f / z.ways)) f);
+      directory = dir.released z.ways c.directory f;
       queue = c.queue ++ dirty_words z c (Some f);
     }
 
 unfoldable pub evicted : Sizes → Cache → ℕ → ℕ → Cache
-evicted z c block f = record (released z c f) { registers = obsoleted c (live_for c block) }
+evicted z c block f = record (released z c f) { registers = obsoleted c.registers (live_for c block) }
 
 -- ---- a miss
 
--- the block in its frame, with the newest bytes of its words that are queued
-abbrev pub fresh_frame : Sizes → List Queued → ℕ → Frame
-fresh_frame z queue block =
-    record {
-      block = Some block;
-      cells = map (λ at. record { word = overlaid zero_word queue at; dirty = no_lanes }) (addresses z block);
-    }
-
--- the block's register, which keeps the lanes of these bytes
-abbrev pub fresh_register : Sizes → List Queued → ℕ → Register
-fresh_register z queue block =
-    record {
-      valid = true;
-      obsolete = false;
-      block = block;
-      fields = map (λ at. record { processed = false; code = queued_lanes queue at; waiting = [] }) (addresses z block);
-    }
-
+-- the block in its frame, and its register, begin with the newest bytes of its words that are queued
 unfoldable pub installed : Sizes → Cache → ℕ → ℕ → ℕ → Cache
 installed z c block f slot =
     record c {
-      frames = slice_set c.frames f (fresh_frame z c.queue block);
-      orders = slice_set c.orders (block % z.sets) (order_of c.orders (block % z.sets) ++ f ∷ []);
-      registers = slice_set c.registers slot (fresh_register z c.queue block);
+      directory = record {
+        frames = slice_set c.directory.frames f (begun_frame z.block_words c.queue block);
+        orders = slice_set c.directory.orders (block % z.sets) (order_of c.directory (block % z.sets) ++ f ∷ []);
+      };
+      registers = slice_set c.registers slot (begun_register z.block_words c.queue block f);
     }
 
 abbrev pub missed : Sizes → Cache → ℕ → Option ℕ → Option ℕ → Cache
@@ -131,7 +112,7 @@ noted c (Some slot) i lanes =
 abbrev pub written_in : Cache → Option ℕ → ℕ → Word → Lanes → Cache
 written_in c None i word lanes = c
 written_in c (Some f) i word lanes =
-    let cell = slice_index_or (frame_at c f).cells i zero_cell in
+    let cell = dir.cell_at (frame_at c f) i in
     with_cell c f i (record { word = merged cell.word word lanes; dirty = joined cell.dirty lanes })
 
 abbrev pub written : Cache → ℕ → ℕ → Word → Lanes → Cache
@@ -196,7 +177,11 @@ unfoldable pub drain_step : Sizes → (ℕ → ℕ) → Cache → Stepped
 drain_step z room c = drain_first z room c c.queue
 
 unfoldable pub arrived : Cache → ℕ → ℕ → Word → Cache
-arrived c slot i word = record c { stack = c.stack ++ record { slot = slot; i = i; word = word } ∷ [] }
+arrived c slot i word =
+    record c {
+      stack = c.stack ++ record { slot = slot; i = i; word = word } ∷ [];
+      registers = slice_set c.registers slot (marked (register_at c slot) i);
+    }
 
 unfoldable pub arrive_step : Sizes → Cache → ℕ → ℕ → Word → Stepped
 arrive_step z c slot i word = unless (arrive_cause z c slot i) c (moved (arrived c slot i word))
@@ -205,7 +190,7 @@ arrive_step z c slot i word = unless (arrive_cause z c slot i) c (moved (arrived
 abbrev pub filled_in : Cache → Option ℕ → ℕ → Word → Lanes → Cache
 filled_in c None i word code = c
 filled_in c (Some f) i word code =
-    let cell = slice_index_or (frame_at c f).cells i zero_cell in
+    let cell = dir.cell_at (frame_at c f) i in
     with_cell c f i (record cell { word = merged word cell.word code })
 
 -- a live register's word goes into the buffer
@@ -214,18 +199,22 @@ filled c slot i word =
     let r = register_at c slot in
     if is_live r then filled_in c (frame_of c r.block) i word (field_at c slot i).code else c
 
--- the word is processed, and the register is free where it was the last one
-abbrev pub finished : Register → ℕ → Register
-finished r i =
-    let fields = slice_set r.fields i (record clear_field { processed = true }) in
-    if list_all (λ f. f.processed) fields then free_register else record r { fields = fields }
+-- the frame of a live register whose last word this is is no longer pending
+abbrev pub settled_in : Cache → Option ℕ → Cache
+settled_in c None = c
+settled_in c (Some f) = record c { directory = dir.with_frame c.directory f (dir.settled (frame_at c f)) }
+
+abbrev pub settled_for : Cache → ℕ → ℕ → Cache → Cache
+settled_for c slot i d =
+    let r = register_at c slot in
+    if is_live r && is_done (finished_fields r i) then settled_in d (frame_of c r.block) else d
 
 abbrev pub answered : Word → List Owed → List Reply
 answered word waiting = map (λ w. record { tag = w.tag; word = merged word w.held w.lanes }) waiting
 
 unfoldable pub processed : Cache → ℕ → Entry → Cache
 processed c place e =
-    let d = filled c e.slot e.i e.word in
+    let d = settled_for c e.slot e.i (filled c e.slot e.i e.word) in
     record d {
       stack = remove c.stack place;
       ready = c.ready ++ answered e.word (field_at c e.slot e.i).waiting;

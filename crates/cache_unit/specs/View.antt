@@ -1,16 +1,16 @@
 -- What the unit shows, and what holds of its parts.
+use Rattle.std.specs.Prelude.{◌≡◌}
 use Rattle.cache_unit.specs.declared.unit.ShapedUnit.TheInside.{Inside}
-use Rattle.cache_unit.specs.State.{UnitState}
-use Rattle.cache_unit.specs.Shown.{as_cache}
+use Rattle.cache_unit.specs.State.{Cache, UnitState}
 use Rattle.cache_unit.specs.Sound.{IsSound}
 
-abbrev pub unit_shown : Inside → UnitState
-unit_shown u =
-    record {
-      sizes = u.sizes;
-      cache = as_cache u.directory u.registers u.stack u.queue.entries u.ready.items;
-    }
+abbrev pub cache_of : Inside → Cache
+cache_of u =
+    record { directory = u.directory; registers = u.registers; stack = u.stack; queue = u.queue.entries; ready = u.ready.items }
 
-abbrev pub IsSoundUnit : Inside → Type 0
-IsSoundUnit u =
-    IsSound u.sizes u.directory u.registers u.stack u.queue u.ready.items
+abbrev pub unit_shown : Inside → UnitState
+unit_shown u = record { sizes = u.sizes; cache = cache_of u }
+
+pub record IsSoundUnit (u : Inside) : Type 0 where
+  pub sound : IsSound u.sizes (cache_of u)
+  pub limit : u.queue.limit ≡ u.sizes.write_queue

@@ -1,5 +1,5 @@
 -- What the views of the unit show.
-use Rattle.std.specs.Prelude.{ℕ, ◌+◌, Bool, true, false, ◌&&◌, not, if◌then◌else◌, nat_lt, List, [], ◌∷◌, length, Option, Some, None, is_some, slice_get}
+use Rattle.std.specs.Prelude.{ℕ, Bool, true, false, ◌&&◌, not, if◌then◌else◌, nat_lt, List, [], ◌∷◌, length, Option, Some, None, is_some, slice_get}
 use Rattle.std.specs.Option.{unwrap_or, option_map}
 use Rattle.std.specs.List.{list_all}
 use Rattle.flat_model.specs.declared.Answer.{Answer}
@@ -11,7 +11,7 @@ use Rattle.cache_directory.specs.declared.Cell.{Cell}
 use Rattle.miss_registers.specs.declared.Owed.{Owed}
 use Rattle.miss_registers.specs.declared.RegisterView.{RegisterView}
 use Rattle.miss_registers.specs.declared.FieldView.{FieldView}
-use Rattle.miss_registers.specs.Views.{load_at_front}
+use Rattle.miss_registers.specs.Views.{load_at_front, processed_shown}
 use Rattle.input_stack.specs.Stack.{stack_word}
 use Rattle.cache_unit.specs.declared.Sizes.{Sizes}
 use Rattle.cache_unit.specs.State.{Field, Register, Cache, frame_at, frame_of, field_at, is_live}
@@ -19,11 +19,6 @@ use Rattle.cache_unit.specs.State.{Field, Register, Cache, frame_at, frame_of, f
 -- a live register's frame is the one that holds its block
 abbrev pub frame_shown : Cache → Register → ℕ
 frame_shown c r = if is_live r then unwrap_or (frame_of c r.block) 0 else 0
-
--- how many words are processed
-abbrev pub processed_shown : List Field → ℕ
-processed_shown [] = 0
-processed_shown (f ∷ rest) = (if f.processed then 1 else 0) + processed_shown rest
 
 abbrev pub shown_register : Cache → Register → RegisterView
 shown_register c r =
@@ -81,4 +76,4 @@ is_empty (x ∷ xs) = false
 -- no valid register, and nothing that memory doesn't have
 abbrev pub is_clean : Cache → Bool
 is_clean c =
-    list_all (λ r. not r.valid) c.registers && (list_all (λ f. list_all (λ cell. not (has_any cell.dirty)) f.cells) c.frames && is_empty c.queue)
+    list_all (λ r. not r.valid) c.registers && (list_all (λ f. list_all (λ cell. not (has_any cell.dirty)) f.cells) c.directory.frames && is_empty c.queue)

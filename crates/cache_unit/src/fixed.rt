@@ -1,6 +1,5 @@
 //! A unit whose ways, words of a block, registers and places of the stack stand in its type.
 ghost use Rattle.std.specs.Prelude.{◌≡◌, ◌≤◌, length, slice_get, IfOk, IfErr, OnOk, None};
-ghost use Rattle.memory_banks.specs.Banks.{HasSent};
 ghost use Rattle.memory_banks.specs.Memory.{fault_of};
 ghost use Rattle.cache_unit.specs.State.{opening_cache, tags};
 ghost use Rattle.cache_unit.specs.Shown.{sizes_of};
@@ -10,8 +9,7 @@ ghost use Rattle.cache_unit.specs.SoundCache.{IsSoundCache};
 ghost use Rattle.cache_unit.specs.Steps as steps;
 ghost use Rattle.cache_unit.specs.Steps.{request_step};
 ghost use Rattle.cache_unit.specs.Views as views;
-ghost use Rattle.cache_unit.specs.FormLaws as laws;
-ghost use Rattle.cache_unit.specs.FormLaws.{RequestForms};
+ghost use Rattle.cache_unit.specs.Makes.{Makes, MakesOver};
 
 use crate::{Lookup, Request, ShapedUnit, bad_field, sizes_of};
 use flat_model::{Answer, Lanes, MakeFault, Shape, Word};
@@ -72,13 +70,9 @@ impl<const WAYS: usize, const WORDS: usize, const REGS: usize, const DEPTH: usiz
 
     /// Sends the front of the write queue to its bank. [`ShapedUnit::drain`] says more.
     pub fn drain<L: Lines>(&mut self, lines: &mut L) -> Answer
-        ensures answer { result
-            ≡ (steps.drain_step self.old.sizes (L.room_of lines.old) self.old.cache).answer }
-        ensures unit { self.new
-            ≡ record self.old { cache = (steps.drain_step self.old.sizes (L.room_of lines.old) self.old.cache).cache } }
-        ensures forms { laws.DrainForms self.old.sizes self.old.cache result self.new.cache }
-        ensures lines { HasSent L.sent_to L.room_of L.same lines.old lines.new
-            (steps.drain_step self.old.sizes (L.room_of lines.old) self.old.cache).sent }
+        ensures { MakesOver L.sent_to L.room_of L.same
+            (steps.drain_step self.old.sizes (L.room_of lines.old) self.old.cache)
+            self.old lines.old result self.new lines.new }
     {
         self.unit.drain(lines)
     }
@@ -86,20 +80,15 @@ impl<const WAYS: usize, const WORDS: usize, const REGS: usize, const DEPTH: usiz
     /// Gives a block up: its words with dirty lanes are queued, its frame is released, and its live
     /// register becomes obsolete. [`ShapedUnit::evict`] says more.
     pub fn evict(&mut self, block: u32) -> Answer
-        ensures answer { result ≡ (steps.evict_step self.old.sizes self.old.cache block).answer }
-        ensures unit { self.new
-            ≡ record self.old { cache = (steps.evict_step self.old.sizes self.old.cache block).cache } }
-        ensures forms { laws.EvictForms self.old.sizes self.old.cache block result self.new.cache }
+        ensures { Makes (steps.evict_step self.old.sizes self.old.cache block)
+            self.old result self.new }
     {
         self.unit.evict(block)
     }
 
     /// Takes the ready reply at `place`: its value. [`ShapedUnit::take`] says more.
     pub fn take(&mut self, place: u32) -> Answer
-        ensures answer { result ≡ (steps.take_step self.old.cache place).answer }
-        ensures unit { self.new
-            ≡ record self.old { cache = (steps.take_step self.old.cache place).cache } }
-        ensures forms { laws.TakenForms self.old.sizes self.old.cache result self.new.cache }
+        ensures { Makes (steps.take_step self.old.cache place) self.old result self.new }
     {
         self.unit.take(place)
     }
@@ -107,22 +96,15 @@ impl<const WAYS: usize, const WORDS: usize, const REGS: usize, const DEPTH: usiz
     /// Puts the word `i` for the register in `slot`, which came from memory, last into the stack.
     /// [`ShapedUnit::arrive`] says more.
     pub fn arrive(&mut self, slot: u32, i: u32, word: Word) -> Answer
-        ensures answer { result
-            ≡ (steps.arrive_step self.old.sizes self.old.cache slot i word).answer }
-        ensures unit { self.new
-            ≡ record self.old { cache = (steps.arrive_step self.old.sizes self.old.cache slot i word).cache } }
-        ensures forms { laws.ArriveForms self.old.sizes self.old.cache slot i word result
-            self.new.cache }
+        ensures { Makes (steps.arrive_step self.old.sizes self.old.cache slot i word)
+            self.old result self.new }
     {
         self.unit.arrive(slot, i, word)
     }
 
     /// Takes the word at `place` out of the stack. [`ShapedUnit::process`] says more.
     pub fn process(&mut self, place: u32) -> Answer
-        ensures answer { result ≡ (steps.process_step self.old.cache place).answer }
-        ensures unit { self.new
-            ≡ record self.old { cache = (steps.process_step self.old.cache place).cache } }
-        ensures forms { laws.ProcessForms self.old.sizes self.old.cache result self.new.cache }
+        ensures { Makes (steps.process_step self.old.cache place) self.old result self.new }
     {
         self.unit.process(place)
     }
@@ -130,13 +112,9 @@ impl<const WAYS: usize, const WORDS: usize, const REGS: usize, const DEPTH: usiz
     /// Serves a request of the processor. [`ShapedUnit::request`] says more.
     #[inline(always)]
     pub fn request<L: Lines>(&mut self, request: Request, lines: &mut L) -> Answer
-        ensures answer { result
-            ≡ (request_step self.old.sizes (L.room_of lines.old) self.old.cache request).answer }
-        ensures unit { self.new
-            ≡ record self.old { cache = (request_step self.old.sizes (L.room_of lines.old) self.old.cache request).cache } }
-        ensures lines { HasSent L.sent_to L.room_of L.same lines.old lines.new
-            (request_step self.old.sizes (L.room_of lines.old) self.old.cache request).sent }
-        ensures forms { RequestForms self.old.sizes self.old.cache request result self.new.cache }
+        ensures { MakesOver L.sent_to L.room_of L.same
+            (request_step self.old.sizes (L.room_of lines.old) self.old.cache request)
+            self.old lines.old result self.new lines.new }
     {
         self.unit.request(request, lines)
     }

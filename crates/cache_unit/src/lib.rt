@@ -4,6 +4,7 @@
 mod begin;
 mod fetch;
 mod fixed;
+pub mod laws;
 mod limits;
 mod reads;
 mod unit;

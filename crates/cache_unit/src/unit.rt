@@ -2,14 +2,13 @@
 ghost use Rattle.std.specs.Prelude.{◌≡◌, ℕ, ◌+◌, ◌≤◌, ◌++◌, length, false, Some};
 ghost use Rattle.flat_model.specs.declared.limits.TheConstants.{MAX_REGS};
 ghost use Rattle.cache_unit.specs.declared.unit.TheConstants.{REPLY_PLACES};
-ghost use Rattle.memory_banks.specs.Banks.{HasSent};
 ghost use Rattle.cache_directory.specs.Frames as dir;
 ghost use Rattle.cache_unit.specs.Steps as steps;
 ghost use Rattle.cache_unit.specs.Views as views;
-ghost use Rattle.cache_unit.specs.FormLaws as laws;
+ghost use Rattle.cache_unit.specs.Makes.{Makes, MakesOver};
 ghost use Rattle.cache_unit.specs.State.{frame_of};
 ghost use Rattle.cache_unit.specs.Causes.{lacks_places};
-ghost use Rattle.cache_unit.specs.Parts.{filled_live, retired, CanFill};
+ghost use Rattle.cache_unit.specs.Parts.{filled_live, CanFill};
 ghost use Rattle.miss_registers.specs.Registers as regs;
 ghost use Rattle.miss_registers.specs.Whole.{IsWhole};
 
@@ -40,6 +39,10 @@ const REPLY_PLACES: usize = MAX_REPLIES as usize;
 /// `b * block_words` on, and set `s` the frames from `s * ways` on. The unit sends its reads and
 /// writes to banks over [`Lines`], and is given the words that come back by [`ShapedUnit::arrive`].
 /// All memory is taken by [`ShapedUnit::new`]; no other call asks for any.
+///
+/// A call that changes a unit has one clause: the unit was sound, and the answer, the unit after it
+/// and the commands sent are those of one step. [`each_step_makes_forms`](crate::laws::each_step_makes_forms)
+/// is what each step makes of the bytes that haven't come, whatever they will be.
 #[derive(Drop)]
 pub struct ShapedUnit {
     sizes: Sizes,
@@ -67,13 +70,9 @@ impl ShapedUnit {
     /// a refusal (10) that the bank has no room; both leave everything unchanged.
     #[tactic(auto, unfolding(crate::specs::Steps::drain_step))]
     pub fn drain<L: Lines>(&mut self, lines: &mut L) -> Answer
-        ensures answer { result
-            ≡ (steps.drain_step self.old.sizes (L.room_of lines.old) self.old.cache).answer }
-        ensures unit { self.new
-            ≡ record self.old { cache = (steps.drain_step self.old.sizes (L.room_of lines.old) self.old.cache).cache } }
-        ensures forms { laws.DrainForms self.old.sizes self.old.cache result self.new.cache }
-        ensures lines { HasSent L.sent_to L.room_of L.same lines.old lines.new
-            (steps.drain_step self.old.sizes (L.room_of lines.old) self.old.cache).sent }
+        ensures { MakesOver L.sent_to L.room_of L.same
+            (steps.drain_step self.old.sizes (L.room_of lines.old) self.old.cache)
+            self.old lines.old result self.new lines.new }
     {
         let Some(front) = self.queue.front() else {
             return Answer::Nothing;
@@ -100,10 +99,8 @@ impl ShapedUnit {
     /// or the write queue has too few free places (9); each leaves everything unchanged.
     #[inline(never)]
     pub fn evict(&mut self, block: u32) -> Answer
-        ensures answer { result ≡ (steps.evict_step self.old.sizes self.old.cache block).answer }
-        ensures unit { self.new
-            ≡ record self.old { cache = (steps.evict_step self.old.sizes self.old.cache block).cache } }
-        ensures forms { laws.EvictForms self.old.sizes self.old.cache block result self.new.cache }
+        ensures { Makes (steps.evict_step self.old.sizes self.old.cache block)
+            self.old result self.new }
     {
         let words = u64::from(self.sizes.words);
         let first = u64::from(block) * u64::from(self.sizes.block_words);
@@ -137,10 +134,7 @@ impl ShapedUnit {
     #[tactic(auto, unfolding(crate::specs::Steps::take_step))]
     #[inline(never)]
     pub fn take(&mut self, place: u32) -> Answer
-        ensures answer { result ≡ (steps.take_step self.old.cache place).answer }
-        ensures unit { self.new
-            ≡ record self.old { cache = (steps.take_step self.old.cache place).cache } }
-        ensures forms { laws.TakenForms self.old.sizes self.old.cache result self.new.cache }
+        ensures { Makes (steps.take_step self.old.cache place) self.old result self.new }
     {
         if (place as usize) < self.ready.len() {
             let reply = self.ready.remove(place as usize);
@@ -157,12 +151,8 @@ impl ShapedUnit {
     /// Refused where no register waits for it (13) or the stack is full (12); both leave everything
     /// unchanged.
     pub fn arrive(&mut self, slot: u32, i: u32, word: Word) -> Answer
-        ensures answer { result
-            ≡ (steps.arrive_step self.old.sizes self.old.cache slot i word).answer }
-        ensures unit { self.new
-            ≡ record self.old { cache = (steps.arrive_step self.old.sizes self.old.cache slot i word).cache } }
-        ensures forms { laws.ArriveForms self.old.sizes self.old.cache slot i word result
-            self.new.cache }
+        ensures { Makes (steps.arrive_step self.old.sizes self.old.cache slot i word)
+            self.old result self.new }
     {
         if !self.registers.expects(slot, i) {
             return Answer::Refused(Cause::StrayWord);
@@ -182,10 +172,7 @@ impl ShapedUnit {
     #[tactic(auto, unfolding(crate::specs::Steps::process_step))]
     #[inline(never)]
     pub fn process(&mut self, place: u32) -> Answer
-        ensures answer { result ≡ (steps.process_step self.old.cache place).answer }
-        ensures unit { self.new
-            ≡ record self.old { cache = (steps.process_step self.old.cache place).cache } }
-        ensures forms { laws.ProcessForms self.old.sizes self.old.cache result self.new.cache }
+        ensures { Makes (steps.process_step self.old.cache place) self.old result self.new }
     {
         let Some(e) = self.stack.remove(place) else {
             return Answer::Nothing;
@@ -200,7 +187,7 @@ impl ShapedUnit {
 // The block's live register, where it has one, becomes obsolete.
 fn retire(registers: &mut RegisterTable, block: u32)
     requires { length registers.old ≤ MAX_REGS }
-    ensures retired { registers.new ≡ retired registers.old (regs.live_for registers.old block) }
+    ensures retired { registers.new ≡ steps.obsoleted registers.old (regs.live_for registers.old block) }
     ensures whole { (words regs : ℕ) → IsWhole words regs registers.old
         → IsWhole words regs registers.new }
 {

@@ -172,19 +172,20 @@ pub extern "C" fn kroft_wrong_place(
     history_handles::wrong_place(alloc, handle, number, bytes, place)
 }
 
-/// What [`kroft_wrong_place`] says of these bytes, and why the load may not return the byte at that place: who
-/// stored it last, and who overwrote that store last before the load's request, by the numbers of the stores and of
-/// the events that requested them (how many events were taken before). It isn't told. Which store is the last goes
-/// by the order of the requests.
+/// What [`kroft_wrong_place`] says of these bytes, and why the load may not return them: the first byte for which there is
+/// a reason, of those from that place on that lie in one unit, with who stored it last, and who overwrote that store last
+/// before the load's request, by the numbers of the stores and of the events that requested them (how many events were
+/// taken before). It isn't told. Which store is the last goes by the order of the requests.
 ///
-/// 16: `row` has the place and the reason. 0, 14, 15, 105, 101 and 3 as of `kroft_wrong_place`, and `row` is as it
+/// 16: `row` has the byte's place and the reason. 0, 14, 15, 105, 101 and 3 as of `kroft_wrong_place`, and `row` is as it
 /// was.
 ///
-/// The reason is the regular law's, of that byte alone, and depends on the history alone. While fewer than 8,192
-/// bytes were stored, there is none (0) exactly if that law allows the byte, as it may if the history is judged by
-/// another. Then the first stores are forgotten, 4,096 bytes at a time, and the last 4,096 to 8,191 are left: the
-/// reason is 3 if one of them had the byte and the load may see none of those that had it, and otherwise there is
-/// none.
+/// The reason is the regular law's, of that byte alone, and depends on the history alone. By the regular and the flat law
+/// each byte is a unit. While fewer than 8,192 bytes were stored, there is none exactly if the regular law allows each byte
+/// of the unit: then by the atomic law it is 4, they stood there together at no moment, and by the flat law none (0); `row`
+/// has the first wrong place. Then the first stores are forgotten, 4,096 bytes at a time, and the last 4,096 to 8,191 are
+/// left: a byte's reason is 3 if one of them had the byte and the load may see none of those that had it, and otherwise
+/// there is none (0).
 #[unsafe(no_mangle)]
 pub extern "C" fn kroft_why(
     alloc: Global,

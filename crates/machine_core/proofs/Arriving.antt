@@ -1,5 +1,6 @@
 -- An answer moves from its bank to the stack.
-use Rattle.std.proofs.Common.{◌≡◌, ℕ, ◌+◌, ◌/◌, ◌%◌, ◌<◌, Bool, true, false, cond, not, ◌&&◌, ◌||◌, nat_lt, nat_le, List, [], ◌∷◌, length}
+use Rattle.std.proofs.Common.{◌≡◌, ℕ, ◌+◌, ◌/◌, ◌%◌, ◌<◌, Bool, true, false, cond, not, ◌&&◌, ◌||◌, nat_lt, nat_le, ◌==◌, ◌≤◌, List, []}
+use Rattle.std.proofs.Common.{◌∷◌, ◌++◌, map, length}
 use Rattle.std.proofs.Common.{set, Option, Some, None, option_map, is_some, slice_get, refl, sym, ap, ap₂, ◌∙◌, subst, arith, length-set}
 use Rattle.std.proofs.Common.{⊎_elim, eq-eqb}
 use Rattle.std.proofs.lemmas.Bool.{cases_lt}
@@ -12,8 +13,10 @@ use Rattle.memory_banks.specs.Banks.{Bank, bank_at, no_bank, pending, all_pendin
 use Rattle.input_stack.specs.declared.Entry.{Entry}
 use Rattle.input_stack.specs.Stack.{stack_word}
 use Rattle.write_queue.specs.Queue.{overlaid}
+use Rattle.cache_directory.specs.Frames as dir
 use Rattle.cache_unit.specs.declared.Sizes.{Sizes}
-use Rattle.cache_unit.specs.State.{frame_of, register_at, field_at}
+use Rattle.cache_unit.specs.declared.Reply.{Reply}
+use Rattle.cache_unit.specs.State.{frame_of, register_at, field_at, Target, tags}
 use Rattle.cache_unit.specs.Causes.{is_stray, first_cause, arrive_cause}
 use Rattle.cache_unit.specs.Steps.{arrived}
 use Rattle.cache_unit.specs.Forms.{Form, filled_by, owed}
@@ -22,12 +25,13 @@ use Rattle.cache_unit.specs.Counts.{tally, bit}
 use Rattle.cache_unit.proofs.FormsLists.{Adds, Adds-tally, Adds-push, Adds-left, Adds-right, Adds-same, Adds-remove, find_none}
 use Rattle.cache_unit.proofs.FormsLists.{flat_map_part, read_set}
 use Rattle.cache_unit.proofs.FormsEvents.{arrived_forms}
-use Rattle.cache_unit.proofs.Within.{waits_for}
+use Rattle.cache_unit.proofs.Within.{waits_for, frames_like-same, within_like}
+use Rattle.cache_unit.proofs.Marks.{targets-marked, within-marked, waits-marked}
 use Rattle.memory_banks.specs.Memory.{without_answer}
 use Rattle.machine_core.specs.Machine.{Machine, backing, take_in, arrive_from}
 use Rattle.machine_core.specs.Sound.{is_for, is_entry_for, wanted, IsSound}
 use Rattle.machine_core.proofs.FromForms.{filled-arrived, word_from, flat_word-form, Same, flat_of-same, Kept, KeptBy}
-use Rattle.machine_core.proofs.Units.{bit-le, bit-pos, kept_same, sound_within, within_refl}
+use Rattle.machine_core.proofs.Units.{bit-le, bit-pos, kept_same, sound_within}
 
 expected : (v n p s : Bool) → (v && (n && not p)) ≡ true → s ≡ false → (not v || (not n || (p || s))) ≡ false
 expected true true false s e k = k
@@ -120,18 +124,23 @@ module _ (z : Sizes) (m : Machine) (b place : ℕ) (a : BankAnswer) (h : IsSound
       due (Some f) = ap Some (filled f)
 
   sound_after : IsSound z (moved_in m b place a)
-  unfolding moved_in arrived frame_of
+  unfolding moved_in arrived dir.frame_of
   sound_after =
       let m' = moved_in m b place a in
       let count : (s i : ℕ) → tally (is_for s i) (all_pending m'.banks) + tally (is_entry_for s i) m'.cache.stack
-      ≡ wanted z (register_at m.cache s) i = λ s i. (
+      ≡ wanted z (register_at m'.cache s) i = λ s i. (
       let n = Adds-tally (is_for s i) a _ _ less_pending in
       let k = Adds-tally (is_entry_for s i) (entry_of a) _ _ more_stack in
       let same : bit (is_for s i a) ≡ bit (is_entry_for s i (entry_of a)) = refl in
       let c = h.counted s i in
+      let w = ap bit (waits-marked m.cache a.slot a.i z s i) in
       omega arith) in
+      let once : (tag : ℕ) → tally (λ t. t == tag) (tags m'.cache) ≤ 1 = λ tag.
+      subst (λ ts. tally (λ t. t == tag) (map (λ (r : Reply). r.tag) m.cache.ready ++ map (λ (t : Target). t.load.tag) ts) ≤ 1)
+      (sym (targets-marked m.cache a.slot a.i)) (h.once tag) in
+      let within = within_like m.cache m'.cache (frames_like-same m.cache.directory.frames) (within-marked m.cache a.slot a.i) in
       let lengths = read_set (λ (x : Bank). length x.words) no_bank m.banks b (without_answer (bank_at m.banks b) place) refl in
-      sound_within z m m' h (within_refl m.cache m'.cache refl refl) h.in_order h.queue_in h.once count
+      sound_within z m m' h within h.in_order h.queue_in once count
       (λ at. kept_same z m m' h at (flat.words at) refl (backing_same at)) (record { number = length-set m.banks b _; lengths = lengths })
 
   -- the word is one that its register waits for
@@ -164,7 +173,8 @@ arrived_ok z m b place h (Some a) e =
         record {
           sound = sound_after z m b place a h e;
           run = ap Some (sym (flat_of-same z m (moved_in m b place a) (flat z m b place a h e)));
-          few = λ l. l;
+          few = λ l. subst (λ ts. length (map (λ (r : Reply). r.tag) m.cache.ready ++ map (λ (t : Target). t.load.tag) ts) ≤ z.replies)
+              (sym (targets-marked m.cache a.slot a.i)) l;
         }
 
 pub arrive_ok : (z : Sizes) (m : Machine) (b place : ℕ) → IsSound z m → Kept z m (Arrive b place)

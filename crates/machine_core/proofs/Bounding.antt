@@ -21,17 +21,18 @@ use Rattle.memory_banks.specs.Banks.{Bank, bank_at, no_bank, with_command, serve
 use Rattle.memory_banks.proofs.Sending.{all_sent-length}
 use Rattle.input_stack.specs.declared.Entry.{Entry}
 use Rattle.write_queue.specs.declared.Queued.{Queued}
-use Rattle.write_queue.specs.Queue.{queued_lanes}
+use Rattle.cache_unit.specs.Begun.{begun_register, begun_field}
 use Rattle.cache_unit.specs.declared.Reply.{Reply}
 use Rattle.cache_unit.specs.declared.Sizes.{Sizes}
 use Rattle.cache_unit.specs.State.{Field, Register, Cache, clear_field, free_register, frame_of, is_present, register_at, field_at}
-use Rattle.cache_unit.specs.State.{live_for, free_slot, with_cell, with_field, block_of, place_in, address, tags, is_pending}
+use Rattle.cache_unit.specs.State.{live_for, free_slot, with_cell, with_field, block_of, place_in, first_of, tags, is_pending}
 use Rattle.cache_unit.specs.Causes.{first_cause, ways_of, targets_full, found, is_in_use, choose, dirty_words, addresses, lacks_places}
 use Rattle.cache_unit.specs.Causes.{lacks_room, miss_causes, Found, Here, Coming, load_cause, store_cause, prefetch_cause, evict_cause}
 use Rattle.cache_unit.specs.Causes.{arrive_cause}
-use Rattle.cache_unit.specs.Steps.{Stepped, unless, without_code, made_obsolete, obsoleted, released, evicted, evicted_from, fresh_register}
+use Rattle.miss_registers.specs.Registers.{without_code, made_obsolete, finished, marked}
+use Rattle.cache_unit.specs.Steps.{Stepped, unless, obsoleted, released, evicted, evicted_from}
 use Rattle.cache_unit.specs.Steps.{installed, missed, reads, fetched, fetches, loaded, noted, written_in, written, load_step, store_step}
-use Rattle.cache_unit.specs.Steps.{prefetch_step, evict_step, drain_first, drain_step, arrived, finished, processed, process_entry}
+use Rattle.cache_unit.specs.Steps.{prefetch_step, evict_step, drain_first, drain_step, arrived, processed, process_entry}
 use Rattle.cache_unit.specs.Steps.{process_step, take_reply, take_step}
 use Rattle.cache_unit.specs.Counts.{bit}
 use Rattle.cache_unit.proofs.FormsChoosing.{Able}
@@ -40,7 +41,7 @@ use Rattle.machine_core.specs.Law.{IsLawful}
 use Rattle.memory_banks.specs.Memory.{without_answer}
 use Rattle.machine_core.specs.Machine.{Machine, apply, joined_with, serve_from, take_in, arrive_from}
 use Rattle.machine_core.specs.Sound.{IsSound}
-use Rattle.cache_unit.proofs.FormsProcessing.{filled_only}
+use Rattle.cache_unit.proofs.FormsProcessing.{settled_only}
 
 each-set : {X : Type 0} (P : X → Type 0) (d : X) (xs : List X) (k : ℕ) (y : X) → ((t : ℕ) → P (get_or xs t d)) → P y → (t : ℕ)
     → P (get_or (set xs k y) t d)
@@ -79,7 +80,7 @@ all-codeless (f ∷ fields) = ap (λ b. f.processed && b) (all-codeless fields)
 
 fresh_waits : (queue : List Queued) (a n : ℕ) → 0 < n
     → list_all (λ (x : Field). x.processed) (map
-    (λ at. record { processed = false; code = queued_lanes queue at; waiting = [] }) (range_with_len a n)) ≡ false
+    (begun_field queue) (range_with_len a n)) ≡ false
 fresh_waits queue a zero l = absurd (omega arith)
 fresh_waits queue a (suc n) l = refl
 
@@ -98,8 +99,8 @@ little_installed : (z : Sizes) (c : Cache) (block f slot : ℕ) → 0 < z.block_
 unfolding installed
 little_installed z c block f slot some h =
     record {
-      wait = each-set Waits free_register c.registers slot (fresh_register z c.queue block) h.wait
-          (λ v. fresh_waits c.queue (address z block 0) z.block_words some);
+      wait = each-set Waits free_register c.registers slot (begun_register z.block_words c.queue block f) h.wait
+          (λ v. fresh_waits c.queue (first_of z block) z.block_words some);
       queued = h.queued;
     }
 
@@ -157,11 +158,11 @@ little_written z c block i word lanes h =
 
 little_evicted : (z : Sizes) (c : Cache) (block : ℕ) (o : Option ℕ) → Little z c → lacks_places z c o ≡ false
     → Little z (evicted_from z c block o)
-unfolding evicted
+unfolding evicted made_obsolete
 little_evicted z c block None h e = h
 little_evicted z c block (Some f) h e = both (little_released z c f h e)
   where
-    waits : (o : Option ℕ) (s : ℕ) → Waits (get_or (obsoleted c o) s free_register)
+    waits : (o : Option ℕ) (s : ℕ) → Waits (get_or (obsoleted c.registers o) s free_register)
     waits None = h.wait
     waits (Some slot) =
         each-set Waits free_register c.registers slot (made_obsolete (register_at c slot)) h.wait
@@ -171,12 +172,12 @@ little_evicted z c block (Some f) h e = both (little_released z c f h e)
     both r = record { wait = waits (live_for c block); queued = r.queued }
 
 little_processed : (z : Sizes) (c : Cache) (place : ℕ) (e : Entry) → Little z c → Little z (processed c place e)
-unfolding processed
+unfolding processed finished
 little_processed z c place e h =
     record {
       wait = each-set Waits free_register c.registers e.slot (finished (register_at c e.slot) e.i) h.wait
           (fin (list_all (λ (x : Field). x.processed) (set (register_at c e.slot).fields e.i done)) refl);
-      queued = subst (λ (d : Cache). length d.queue ≤ z.write_queue) (sym (filled_only c e.slot e.i e.word)) h.queued;
+      queued = subst (λ (d : Cache). length d.queue ≤ z.write_queue) (sym (settled_only c e.slot e.i e.word)) h.queued;
     }
   where
     fin : (b : Bool) → list_all (λ (x : Field). x.processed) (set (register_at c e.slot).fields e.i done) ≡ b
@@ -398,7 +399,7 @@ prefetch_may_miss z m at e absent = go (nat_lt at z.words) (is_present m.cache (
 evict_places : (z : Sizes) (c : Cache) (block : ℕ) → evict_cause z c block ≡ None → lacks_places z c (frame_of c block) ≡ false
 unfolding evict_cause
 evict_places z c block e =
-    go (nat_lt (address z block 0) z.words) (is_present c block) (lacks_places z c (frame_of c block)) e
+    go (nat_lt (first_of z block) z.words) (is_present c block) (lacks_places z c (frame_of c block)) e
   where
     go : (a b c : Bool) → cond (not a) (Some OutOfRange) (cond (not b) (Some NotPresent) (cond c (Some QueueFull) None)) ≡ None → c ≡ false
     go true true false q = refl
@@ -508,7 +509,7 @@ module _ (z : Sizes) (lawful : IsLawful z) (m : Machine) (sound : IsSound z m) (
           }
 
   arrive_within : (bank place : ℕ) → Within z (apply z m (Arrive bank place)).machine
-  unfolding arrived
+  unfolding arrived marked with_field
   arrive_within bank place = go (slice_get (bank_at m.banks bank).answers place)
     where
       go : (o : Option BankAnswer) → Within z (arrive_from z m bank place o).machine
@@ -519,7 +520,10 @@ module _ (z : Sizes) (lawful : IsLawful z) (m : Machine) (sound : IsSound z m) (
           by_cause (Some cause) = h
           by_cause None =
               record {
-                little = record { wait = h.little.wait; queued = h.little.queued };
+                little = record {
+                  wait = (little_field z m.cache a.slot a.i (record (field_at m.cache a.slot a.i) { in_stack = true }) h.little refl).wait;
+                  queued = h.little.queued;
+                };
                 fits = each-set (Fits z) no_bank m.banks bank (without_answer (bank_at m.banks bank) place) h.fits (h.fits bank);
               }
 

@@ -14,8 +14,8 @@ use Rattle.write_queue.specs.Queue.{overlaid}
 use Rattle.cache_directory.specs.declared.Cell.{Cell}
 use Rattle.cache_unit.specs.declared.Sizes.{Sizes}
 use Rattle.cache_directory.specs.Frames.{zero_cell}
-use Rattle.cache_unit.specs.State.{frame_at, cell_in, block_of, place_in, address}
-use Rattle.cache_unit.specs.Causes.{dirty_from, dirty_of_block, dirty_words}
+use Rattle.cache_unit.specs.State.{frame_at, cell_in, block_of, place_in, first_of}
+use Rattle.cache_unit.specs.Causes.{dirty_from, owed_by, dirty_words}
 use Rattle.cache_unit.proofs.FormsFinding.{frame_of-is}
 use Rattle.cache_unit.proofs.FormsFetching.{address_is}
 use Rattle.machine_core.specs.Law.{IsLawful}
@@ -80,7 +80,7 @@ overlaid_past w block n cells at l =
 -- ---- addresses
 
 -- a block that begins in memory lies in it
-block_in : (z : Sizes) → IsLawful z → (b : ℕ) → address z b 0 < z.words → address z b 0 + z.block_words ≤ z.words
+block_in : (z : Sizes) → IsLawful z → (b : ℕ) → first_of z b < z.words → first_of z b + z.block_words ≤ z.words
 block_in z lawful b l =
     let whole : z.words / z.block_words * z.block_words ≡ z.words = let e = div-add-mod' z.words z.block_words in let r =
     lawful.whole_blocks in omega arith in
@@ -90,7 +90,7 @@ block_in z lawful b l =
     omega arith
 
 -- an address of another block is outside
-outside : (z : Sizes) → IsLawful z → (b at : ℕ) → (block_of z at ≡ b → ⊥) → (at < address z b 0) ⊎ (address z b 0 + z.block_words ≤ at)
+outside : (z : Sizes) → IsLawful z → (b at : ℕ) → (block_of z at ≡ b → ⊥) → (at < first_of z b) ⊎ (first_of z b + z.block_words ≤ at)
 outside z lawful b at n = go (cases_lt (block_of z at) b)
   where
     e : block_of z at * z.block_words + place_in z at ≡ at
@@ -99,7 +99,7 @@ outside z lawful b at n = go (cases_lt (block_of z at) b)
     r : place_in z at < z.block_words
     r = mod-lt at lawful.some_words
 
-    go : (block_of z at < b) ⊎ (b ≤ block_of z at) → (at < address z b 0) ⊎ (address z b 0 + z.block_words ≤ at)
+    go : (block_of z at < b) ⊎ (b ≤ block_of z at) → (at < first_of z b) ⊎ (first_of z b + z.block_words ≤ at)
     go (inl l) =
         let le : suc (block_of z at) * z.block_words ≤ b * z.block_words = mul-le-mul_right z.block_words l in
         inl (let e' = e in let r' = r in omega arith)
@@ -122,8 +122,8 @@ AllIn-dirty z block n (cell ∷ rest) l =
 -- ---- a frame's dirty words
 
 dirty_is : (z : Sizes) (m : Machine) (f b : ℕ) → (frame_at m.cache f).block ≡ Some b
-    → dirty_words z m.cache (Some f) ≡ dirty_from b (address z b 0) (frame_at m.cache f).cells
-dirty_is z m f b e = ap (λ o. dirty_of_block z o (frame_at m.cache f).cells) e
+    → dirty_words z m.cache (Some f) ≡ dirty_from b (first_of z b) (frame_at m.cache f).cells
+dirty_is z m f b e = ap (λ o. owed_by z.block_words o (frame_at m.cache f).cells) e
 
 -- laid over the backing, they are what is kept of their block, and nothing of another
 pub dirty_within : (z : Sizes) (m : Machine) → IsSound z m → (f at : ℕ) → (frame_at m.cache f).block ≡ Some (block_of z at)
@@ -133,7 +133,7 @@ dirty_within z m h f at e =
     let b = block_of z at in
     let found = frame_of-is m.cache b f h.frames_apart e in
     ap (λ q. overlaid (backing z m at) q at) (dirty_is z m f b e)
-    ∙ overlaid_at (backing z m at) b (address z b 0) cells (place_in z at) at (sym (address_is z at))
+    ∙ overlaid_at (backing z m at) b (first_of z b) cells (place_in z at) at (sym (address_is z at))
     ∙ ap (λ o. merged (backing z m at) (cell_in m.cache o (place_in z at)).word (cell_in m.cache o (place_in z at)).dirty) (sym found)
 
 pub dirty_elsewhere : (z : Sizes) → IsLawful z → (m : Machine) → IsSound z m → (f at : ℕ)
@@ -142,26 +142,26 @@ pub dirty_elsewhere : (z : Sizes) → IsLawful z → (m : Machine) → IsSound z
 dirty_elsewhere z lawful m h f at n = go (frame_at m.cache f).block refl
   where
     go : (o : Option ℕ) → (frame_at m.cache f).block ≡ o
-        → overlaid (backing z m at) (dirty_of_block z o (frame_at m.cache f).cells) at ≡ backing z m at
+        → overlaid (backing z m at) (owed_by z.block_words o (frame_at m.cache f).cells) at ≡ backing z m at
     go None e = refl
     go (Some b) e =
         let cells = (frame_at m.cache f).cells in
         let k = (h.whole_frames f b e).0 in
         let far : block_of z at ≡ b → ⊥ = λ q. n (e ∙ ap Some (sym q)) in
-        ⊎_elim (λ l. overlaid_below (backing z m at) b (address z b 0) cells at l)
-        (λ l. overlaid_past (backing z m at) b (address z b 0) cells at (omega arith)) (outside z lawful b at far)
+        ⊎_elim (λ l. overlaid_below (backing z m at) b (first_of z b) cells at l)
+        (λ l. overlaid_past (backing z m at) b (first_of z b) cells at (omega arith)) (outside z lawful b at far)
 
 -- the queue with them lies in memory
 pub dirty_in : (z : Sizes) → IsLawful z → (m : Machine) → IsSound z m → (f : ℕ) → AllIn z (m.cache.queue ++ dirty_words z m.cache (Some f))
 dirty_in z lawful m h f = AllIn-append z m.cache.queue _ h.queue_in (go (frame_at m.cache f).block refl)
   where
-    go : (o : Option ℕ) → (frame_at m.cache f).block ≡ o → AllIn z (dirty_of_block z o (frame_at m.cache f).cells)
+    go : (o : Option ℕ) → (frame_at m.cache f).block ≡ o → AllIn z (owed_by z.block_words o (frame_at m.cache f).cells)
     go None e = tt
     go (Some b) e =
         let w = h.whole_frames f b e in
         let k = w.0 in
         let l = block_in z lawful b w.1 in
-        AllIn-dirty z b (address z b 0) (frame_at m.cache f).cells (omega arith)
+        AllIn-dirty z b (first_of z b) (frame_at m.cache f).cells (omega arith)
 
 -- the backing of a machine whose queue has them, too
 pub backing_dirty : (z : Sizes) (m m' : Machine) (f at : ℕ)

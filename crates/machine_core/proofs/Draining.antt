@@ -14,6 +14,8 @@ use Rattle.memory_banks.specs.declared.Command.{Command}
 use Rattle.memory_banks.specs.declared.Command.TheVariants.{Read, Write}
 use Rattle.memory_banks.specs.Banks.{Bank, bank_at, no_bank, pending, all_pending, words_after, answers_to, after, with_command, room_in}
 use Rattle.write_queue.specs.declared.Queued.{Queued}
+use Rattle.cache_directory.specs.Frames as dir
+use Rattle.miss_registers.specs.Registers as regs
 use Rattle.cache_unit.specs.declared.Sizes.{Sizes}
 use Rattle.cache_unit.specs.State.{frame_of, live_for, register_at}
 use Rattle.cache_unit.specs.FormLaws.{form_at, forms}
@@ -135,14 +137,14 @@ module _ (z : Sizes) (lawful : IsLawful z) (m : Machine) (h : IsSound z m) (q : 
       ∙ ap (λ qs. overlaid (word_at (words_after (bank_at m.banks (at % z.banks))) (at / z.banks)) qs at) (sym e)
 
   same_forms : forms z drained.cache ≡ forms z m.cache
-  unfolding drained form_at frame_of live_for
+  unfolding drained form_at dir.frame_of regs.live_for
   same_forms = refl
 
   flat : Same z m drained
   flat = forms_same z m drained same_forms pending_same backing_same
 
   sound_after : IsSound z drained
-  unfolding drained frame_of with_command
+  unfolding drained dir.frame_of with_command
   sound_after =
       let count : (s i : ℕ) → tally (is_for s i) (all_pending drained.banks) + tally (is_entry_for s i) m.cache.stack
       ≡ wanted z (register_at m.cache s) i = λ s i. ap

@@ -36,9 +36,9 @@ module _ (z : Sizes) (lawful : IsLawful z) (m : Machine) (h : IsSound z m) (bloc
   unfolding evicted released
   stack = refl
 
-  order : InOrder z gone.cache.frames gone.cache.orders
+  order : InOrder z gone.cache.directory
   unfolding evicted released
-  order = InOrder-released z m.cache.frames m.cache.orders f h.in_order
+  order = InOrder-released z m.cache.directory f h.in_order
 
   held : (frame_at m.cache f).block ≡ Some block
   held = (frame_of-some m.cache block f found).1

@@ -13,12 +13,13 @@ use Rattle.write_queue.specs.declared.Queued.{Queued}
 use Rattle.write_queue.specs.Queue.{overlaid, queued_lanes}
 use Rattle.cache_directory.specs.declared.Cell.{Cell}
 use Rattle.memory_banks.specs.declared.Command.{Command}
+use Rattle.cache_unit.specs.Begun.{begun_frame, begun_field}
 use Rattle.cache_unit.specs.declared.Reply.{Reply}
 use Rattle.cache_unit.specs.declared.Sizes.{Sizes}
 use Rattle.cache_unit.specs.State.{Frame, Field, Register, Cache, clear_field, frame_at, frame_of, is_present, register_at, field_at}
-use Rattle.cache_unit.specs.State.{is_live, live_for, free_slot, cell_of, Target, tags, block_of, place_in, address}
+use Rattle.cache_unit.specs.State.{is_live, live_for, free_slot, cell_of, Target, tags, block_of, place_in, first_of}
 use Rattle.cache_unit.specs.Causes.{addresses, dirty_words, choose}
-use Rattle.cache_unit.specs.Steps.{fresh_frame, released, installed, reads, missed, fetched, fetches}
+use Rattle.cache_unit.specs.Steps.{released, installed, reads, missed, fetched, fetches}
 use Rattle.cache_unit.specs.Forms.{Asked, Form, filled_by}
 use Rattle.cache_unit.specs.FormLaws.{form_at, words_without, asked_form}
 use Rattle.cache_unit.specs.Counts.{tally, bit}
@@ -53,7 +54,7 @@ holds_or_not None b = inr (λ e. cc)
 holds_or_not (Some x) b = ⊎_elim (λ q. inl (ap Some q)) (λ n. inr (λ e. let q : x ≡ b = cc in n q)) (cases_eq x b)
 
 module _ (z : Sizes) (lawful : IsLawful z) (m : Machine) (h : IsSound z m) (block : ℕ) (absent : frame_of m.cache block ≡ None)
-    (in_memory : address z block 0 < z.words) (miss : Misses z m.cache block) where
+    (in_memory : first_of z block < z.words) (miss : Misses z m.cache block) where
   abbrev f : ℕ
   f = miss.frame
 
@@ -145,7 +146,7 @@ module _ (z : Sizes) (lawful : IsLawful z) (m : Machine) (h : IsSound z m) (bloc
   unfolding answers
   own_tally j =
       let a = AddsAll-tally (is_for slot j) answers _ _ (sent_adds z lawful.some_banks slot (addresses z block) m.banks h.banks_are) in
-      let r = reads_tally z m.banks slot block 0 z.block_words (address z block 0) j refl (omega arith) in
+      let r = reads_tally z m.banks slot block 0 z.block_words (first_of z block) j (omega arith) (omega arith) in
       let n = none_pending j in
       let e : bit (nat_le 0 j && nat_lt j (0 + z.block_words)) ≡ bit (nat_lt j z.block_words) =
       ap₂ (λ x k. bit (x && nat_lt j k)) (le-leb 0 j (omega arith)) (zero-add z.block_words) in
@@ -169,11 +170,11 @@ module _ (z : Sizes) (lawful : IsLawful z) (m : Machine) (h : IsSound z m) (bloc
   unfolding answers
   own_find j l =
       let n = none_pending j in
-      let r = reads_tally z m.banks slot block 0 z.block_words (address z block 0) j refl (omega arith) in
+      let r = reads_tally z m.banks slot block 0 z.block_words (first_of z block) j (omega arith) (omega arith) in
       let b = bit-le (nat_le 0 j && nat_lt j (0 + z.block_words)) in
       let one = AddsAll-find (is_for slot j) answers _ _ (sent_adds z lawful.some_banks slot (addresses z block) m.banks h.banks_are) n.0
       (omega arith) in
-      ap word_in (one ∙ reads_find z m.banks slot block 0 z.block_words (address z block 0) j refl (omega arith) (omega arith)
+      ap word_in (one ∙ reads_find z m.banks slot block 0 z.block_words (first_of z block) j (omega arith) (omega arith) (omega arith)
       (omega arith))
 
   -- ---- the backing
@@ -197,7 +198,7 @@ module _ (z : Sizes) (lawful : IsLawful z) (m : Machine) (h : IsSound z m) (bloc
       let j = place_in z at in
       let ps = all_pending with_block.banks in
       let back = backing z with_block at in
-      let here : block * z.block_words + place_in z at ≡ at = let k = ap (λ b. address z b 0 + place_in z at) (sym e)
+      let here : block * z.block_words + place_in z at ≡ at = let k = ap (λ b. first_of z b + place_in z at) (sym e)
       ∙ address_is z at in omega arith in
       let asked : form_at z with_block.cache at ≡ Some (asked_form z queue slot at) = miss.by.words at
       ∙ ap (λ b. cond b (Some (asked_form z queue slot at)) (words_without z (form_at z m.cache) (frame_at m.cache f).block at))
@@ -265,17 +266,17 @@ module _ (z : Sizes) (lawful : IsLawful z) (m : Machine) (h : IsSound z m) (bloc
 
   -- ---- all of it
 
-  installed_order : f / z.ways ≡ block % z.sets → (let c = installed z (released z m.cache f) block f slot in InOrder z c.frames c.orders)
+  installed_order : f / z.ways ≡ block % z.sets → (let c = installed z (released z m.cache f) block f slot in InOrder z c.directory)
   unfolding installed released
   installed_order own =
       let c = released z m.cache f in
-      InOrder-installed z c.frames c.orders f (block % z.sets) (fresh_frame z c.queue block) own (mod-lt block lawful.some_sets)
-      (InOrder-released z m.cache.frames m.cache.orders f h.in_order)
+      InOrder-installed z c.directory f (block % z.sets) (begun_frame z.block_words c.queue block) own (mod-lt block lawful.some_sets)
+      (InOrder-released z m.cache.directory f h.in_order)
 
-  order : InOrder z with_block.cache.frames with_block.cache.orders
+  order : InOrder z with_block.cache.directory
   order =
       let own : f / z.ways ≡ block % z.sets = ⊎_elim (λ e. e) (h.in_order.in_set (block % z.sets) f) miss.of_set in
-      subst (λ (c : Cache). InOrder z c.frames c.orders) (sym miss.is) (installed_order own)
+      subst (λ (c : Cache). InOrder z c.directory) (sym miss.is) (installed_order own)
 
   same_tags : tags with_block.cache ≡ tags m.cache
   same_tags =
@@ -298,8 +299,8 @@ module _ (z : Sizes) (lawful : IsLawful z) (m : Machine) (h : IsSound z m) (bloc
         kept = kept;
         whole_frames = λ k b e. ⊎_elim (λ x. (
           ap (λ y. length (frame_at with_block.cache y).cells) x.0 ∙ ap (λ (y : Frame). length y.cells) miss.by.own_frame
-              ∙ length-map-range_with_len _ (address z block 0) z.block_words,
-          subst (λ y. address z y 0 < z.words) (sym x.1) in_memory,
+              ∙ length-map-range_with_len _ (first_of z block) z.block_words,
+          subst (λ y. first_of z y < z.words) (sym x.1) in_memory,
         ))
             (λ x. let p = h.whole_frames k b x.1 in (ap (λ (y : Frame). length y.cells) (miss.by.other_frame k x.0) ∙ p.0, p.1))
             (holds k b e);
@@ -314,11 +315,11 @@ module _ (z : Sizes) (lawful : IsLawful z) (m : Machine) (h : IsSound z m) (bloc
       }
     where
       own_field : (j : ℕ) → j < z.block_words → field_at with_block.cache slot j
-          ≡ record { processed = false; code = queued_lanes with_block.cache.queue (address z block 0 + j); waiting = [] }
+          ≡ begun_field with_block.cache.queue (first_of z block + j)
       own_field j l =
           ap (λ (r : Register). get_or r.fields j clear_field) miss.by.own_register
-          ∙ range_at (λ at. record { processed = false; code = queued_lanes with_block.cache.queue at; waiting = [] }) clear_field
-          (address z block 0) z.block_words j l
+          ∙ range_at (begun_field with_block.cache.queue) clear_field
+          (first_of z block) z.block_words j l
 
       counted_after : (t j : ℕ) → tally (is_for t j) (all_pending with_block.banks) + tally (is_entry_for t j) m.cache.stack
           ≡ wanted z (register_at with_block.cache t) j
@@ -355,7 +356,7 @@ module _ (z : Sizes) (lawful : IsLawful z) (m : Machine) (h : IsSound z m) (bloc
 
       whole_after : (t : ℕ) → (register_at with_block.cache t).valid ≡ true → length (register_at with_block.cache t).fields ≡ z.block_words
       whole_after t v = ⊎_elim (λ q. ap (λ x. length (register_at with_block.cache x).fields) q
-          ∙ ap (λ (r : Register). length r.fields) miss.by.own_register ∙ length-map-range_with_len _ (address z block 0) z.block_words)
+          ∙ ap (λ (r : Register). length r.fields) miss.by.own_register ∙ length-map-range_with_len _ (first_of z block) z.block_words)
           (λ n. ap (λ (r : Register). length r.fields) (miss.by.other_register t n)
           ∙ h.whole_registers t (ap (λ (r : Register). r.valid) (sym (miss.by.other_register t n)) ∙ v)) (cases_eq t slot)
 
@@ -366,7 +367,7 @@ module _ (z : Sizes) (lawful : IsLawful z) (m : Machine) (h : IsSound z m) (bloc
       subst P (sym miss.sent) (record { sound = with_block_sound; same = with_block_same; same_tags = same_tags })
 
 -- a block is fetched where it is absent, a frame may be chosen and a register is free
-pub fetch_ok : (z : Sizes) (lawful : IsLawful z) (m : Machine) → IsSound z m → (block : ℕ) → address z block 0 < z.words
+pub fetch_ok : (z : Sizes) (lawful : IsLawful z) (m : Machine) → IsSound z m → (block : ℕ) → first_of z block < z.words
     → (is_present m.cache block ≡ false → Able z m.cache block) → FetchedBy z m block (fetched_machine z m block)
 unfolding fetched fetches
 fetch_ok z lawful m h block in_memory able = go (frame_of m.cache block) refl

@@ -58,8 +58,8 @@ module _ (z : Sizes) (lawful : IsLawful z) (image : List Word) (fits : length im
   no_live : (t : ℕ) → is_live (register_at m0.cache t) ≡ true → ⊥
   no_live t e = let n : is_live (register_at m0.cache t) ≡ false = ap is_live (free_registers t) in cc
 
-  no_order : (s f : ℕ) → list_any (λ g. g == f) (get_or m0.cache.orders s []) ≡ true → ⊥
-  no_order s f e = let n : list_any (λ g. g == f) (get_or m0.cache.orders s []) ≡ false =
+  no_order : (s f : ℕ) → list_any (λ g. g == f) (get_or m0.cache.directory.orders s []) ≡ true → ⊥
+  no_order s f e = let n : list_any (λ g. g == f) (get_or m0.cache.directory.orders s []) ≡ false =
       ap (list_any (λ g. g == f)) (all_same z.sets s []) in cc
 
   absent : (b : ℕ) → frame_of m0.cache b ≡ None
@@ -156,7 +156,7 @@ pub settled_ok : (z : Sizes) (m : Machine) → IsSound z m → settled m ≡ tru
 settled_ok z m h s at l =
     let r = and_parts (is_clean m.cache) (list_all (λ (b : Bank). is_empty b.queue) m.banks) s in
     let p = and_parts (list_all (λ (x : Register). not x.valid) m.cache.registers) _ r.0 in
-    let q = and_parts (list_all (λ (f : Frame). list_all (λ (cell : Cell). not (has_any cell.dirty)) f.cells) m.cache.frames) _ p.1 in
+    let q = and_parts (list_all (λ (f : Frame). list_all (λ (cell : Cell). not (has_any cell.dirty)) f.cells) m.cache.directory.frames) _ p.1 in
     let queue : m.cache.queue ≡ [] = nil_from m.cache.queue q.1 in
     let bank : (bank_at m.banks (at % z.banks)).queue ≡ [] =
     nil_from _ (all_at (λ (b : Bank). is_empty b.queue) no_bank m.banks (at % z.banks) refl r.1) in
@@ -166,10 +166,10 @@ settled_ok z m h s at l =
     let clean : has_any (cell_of m.cache (block_of z at) (place_in z at)).dirty ≡ false = by_frame (frame_of m.cache (block_of z at)) q.0 in
     sym (mem_at z m at l ∙ h.kept at ∙ merged_no_lane (backing z m at) _ _ clean ∙ base)
   where
-    by_frame : (o : Option ℕ) → list_all (λ (f : Frame). list_all (λ (cell : Cell). not (has_any cell.dirty)) f.cells) m.cache.frames
+    by_frame : (o : Option ℕ) → list_all (λ (f : Frame). list_all (λ (cell : Cell). not (has_any cell.dirty)) f.cells) m.cache.directory.frames
         ≡ true → has_any (cell_in m.cache o (place_in z at)).dirty ≡ false
     by_frame None e = none_dirty
     by_frame (Some f) e =
         not-true _ (all_at (λ (cell : Cell). not (has_any cell.dirty)) zero_cell (frame_at m.cache f).cells (place_in z at)
         (ap not none_dirty) (all_at (λ (x : Frame). list_all
-        (λ (cell : Cell). not (has_any cell.dirty)) x.cells) empty_frame m.cache.frames f refl e))
+        (λ (cell : Cell). not (has_any cell.dirty)) x.cells) empty_frame m.cache.directory.frames f refl e))

@@ -16,7 +16,6 @@ use Rattle.flat_model.specs.declared.Event.TheVariants.{Load, Store, Prefetch, E
 use Rattle.flat_model.specs.declared.Answer.TheVariants.{Accepted, Refused}
 use Rattle.flat_model.specs.Words.{merged, has_any, zero_word}
 use Rattle.flat_model.specs.Flat.{word_at, stored, with_due, flat_after, may_answer, load_refusals, store_refusals, prefetch_refusals}
-use Rattle.flat_model.specs.Flat.{number}
 use Rattle.flat_model.specs.Causes.{is_of_a_load, is_of_a_miss}
 use Rattle.flat_model.proofs.Lanewise.{merged_over}
 use Rattle.memory_banks.specs.declared.BankAnswer.{BankAnswer}
@@ -24,7 +23,7 @@ use Rattle.memory_banks.specs.Banks.{bank_at, words_after, all_pending, room_in}
 use Rattle.write_queue.specs.Queue.{overlaid}
 use Rattle.cache_directory.specs.declared.Cell.{Cell}
 use Rattle.cache_unit.specs.declared.Sizes.{Sizes}
-use Rattle.cache_unit.specs.State.{Cache, frame_of, is_present, cell_of, tags, block_of, place_in, address, is_pending}
+use Rattle.cache_unit.specs.State.{Cache, frame_of, is_present, cell_of, tags, block_of, place_in, first_of, is_pending}
 use Rattle.cache_unit.specs.Causes.{first_cause, ways_of, choose, found, targets_full, is_in_use, miss_causes, lacks_places, lacks_room}
 use Rattle.cache_unit.specs.Causes.{load_cause, store_cause, prefetch_cause, evict_cause}
 use Rattle.cache_unit.specs.Steps.{load_step, store_step, prefetch_step, evict_step, Stepped, unless, fetched, fetches, loaded, written}
@@ -128,7 +127,7 @@ once_more tag xs ys more none once t = go (tag == t) refl
 -- ---- the causes of a miss
 
 -- a block begins in memory where one of its words is there
-pub starts_in : (z : Sizes) (at : ℕ) → at < z.words → address z (block_of z at) 0 < z.words
+pub starts_in : (z : Sizes) (at : ℕ) → at < z.words → first_of z (block_of z at) < z.words
 starts_in z at l = let e = div-add-mod' at z.block_words in omega arith
 
 -- ---- requests
@@ -408,7 +407,7 @@ module _ (z : Sizes) (lawful : IsLawful z) (m : Machine) (h : IsSound z m) where
 
   pub evict_ok : (block : ℕ) → Kept z m (Evict block)
   unfolding evict_step evict_cause
-  evict_ok block = go (nat_lt (address z block 0) z.words) (frame_of m.cache block) refl
+  evict_ok block = go (nat_lt (first_of z block) z.words) (frame_of m.cache block) refl
     where
       accept : (o : Option ℕ) → frame_of m.cache block ≡ o
           → KeptBy z m (Evict block) (record {

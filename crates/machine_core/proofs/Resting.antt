@@ -23,8 +23,8 @@ use Rattle.cache_unit.specs.declared.Reply.{Reply}
 use Rattle.cache_unit.specs.declared.Sizes.{Sizes}
 use Rattle.cache_unit.specs.State.{Field, Register, Target, Cache, clear_field, free_register, frame_at, frame_of, is_present}
 use Rattle.cache_unit.specs.State.{register_at, is_live, live_for, is_pending_block, is_pending, cell_of, gathered, targets_of, targets}
-use Rattle.cache_unit.specs.State.{tags, block_of, place_in, address}
-use Rattle.cache_unit.specs.Causes.{first_cause, ways_of, choose, dirty_from, dirty_of_block, dirty_words, addresses, lacks_places}
+use Rattle.cache_unit.specs.State.{tags, block_of, place_in, first_of}
+use Rattle.cache_unit.specs.Causes.{first_cause, ways_of, choose, dirty_from, owed_by, dirty_words, addresses, lacks_places}
 use Rattle.cache_unit.specs.Causes.{lacks_room, miss_causes, found, found_in, targets_full, is_in_use, load_cause, store_cause}
 use Rattle.cache_unit.specs.Causes.{prefetch_cause, evict_cause}
 use Rattle.cache_unit.specs.Steps.{Stepped, unless, load_step, store_step, prefetch_step, evict_step}
@@ -243,11 +243,11 @@ module _ (z : Sizes) (lawful : IsLawful z) (roomy : HasRoom z) (m : Machine) (so
   few_dirty None = omega arith
   few_dirty (Some f) = go (frame_at m.cache f).block refl
     where
-      go : (o : Option ℕ) → (frame_at m.cache f).block ≡ o → length (dirty_of_block z o (frame_at m.cache f).cells) ≤ z.block_words
+      go : (o : Option ℕ) → (frame_at m.cache f).block ≡ o → length (owed_by z.block_words o (frame_at m.cache f).cells) ≤ z.block_words
       go None e = omega arith
       go (Some b) e =
           let whole = (sound.whole_frames f b e).0 in
-          let l = dirty_few b (address z b 0) (frame_at m.cache f).cells in
+          let l = dirty_few b (first_of z b) (frame_at m.cache f).cells in
           omega arith
 
   has_places : (o : Option ℕ) → lacks_places z m.cache o ≡ false
@@ -267,7 +267,7 @@ module _ (z : Sizes) (lawful : IsLawful z) (roomy : HasRoom z) (m : Machine) (so
           let none = ap length (idle b there).1 in
           let room : room_in z.bank_queue m.banks b ≡ z.bank_queue - length (bank_at m.banks b).queue =
           ap (λ t. cond t (z.bank_queue - length (bank_at m.banks b).queue) 0) (lt-ltb b (length m.banks) there) in
-          let few = hits_few z.banks b (address z block 0) z.block_words z.bank_queue (omega arith) roomy.banks_take_a_block in
+          let few = hits_few z.banks b (first_of z block) z.block_words z.bank_queue (omega arith) roomy.banks_take_a_block in
           le-ltb (room_in z.bank_queue m.banks b) (length (filter (λ at. at % z.banks == b) (addresses z block))) (omega arith)
 
   -- a miss has no cause
@@ -353,7 +353,7 @@ module _ (z : Sizes) (lawful : IsLawful z) (roomy : HasRoom z) (m : Machine) (so
   evict_served : (block : ℕ) → serves_eviction (apply z m (Evict block)).answer ≡ true
   unfolding evict_step evict_cause
   evict_served block =
-      go (nat_lt (address z block 0) z.words) (is_present m.cache block) (lacks_places z m.cache (frame_of m.cache block))
+      go (nat_lt (first_of z block) z.words) (is_present m.cache block) (lacks_places z m.cache (frame_of m.cache block))
       (has_places (frame_of m.cache block)) _
     where
       go : (a p c : Bool) → c ≡ false → (cache : Cache)

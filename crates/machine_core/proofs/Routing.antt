@@ -20,12 +20,14 @@ use Rattle.memory_banks.specs.declared.BankAnswer.{BankAnswer}
 use Rattle.memory_banks.specs.Banks.{Bank, bank_at, no_bank, pending, all_pending, answers_to, with_command, served, room_in, all_sent}
 use Rattle.input_stack.specs.declared.Entry.{Entry}
 use Rattle.write_queue.specs.declared.Queued.{Queued}
+use Rattle.cache_unit.specs.Begun.{begun_register}
 use Rattle.cache_unit.specs.declared.Reply.{Reply}
 use Rattle.cache_unit.specs.declared.Sizes.{Sizes}
 use Rattle.cache_unit.specs.State.{Field, Register, Cache, free_register, frame_of, is_present, register_at, field_at, live_for}
-use Rattle.cache_unit.specs.State.{free_slot, with_cell, with_field, block_of, address}
+use Rattle.cache_unit.specs.State.{free_slot, with_cell, with_field, block_of, address, first_of}
 use Rattle.cache_unit.specs.Causes.{choose, Found, Here, Coming, load_cause, store_cause, prefetch_cause, evict_cause, arrive_cause}
-use Rattle.cache_unit.specs.Steps.{Stepped, unless, made_obsolete, obsoleted, released, evicted, evicted_from, fresh_register, installed}
+use Rattle.miss_registers.specs.Registers.{made_obsolete, finished, marked}
+use Rattle.cache_unit.specs.Steps.{Stepped, unless, obsoleted, released, evicted, evicted_from, installed}
 use Rattle.cache_unit.specs.Steps.{missed, reads, fetched, fetches, loaded, noted, written_in, written, load_step, store_step}
 use Rattle.cache_unit.specs.Steps.{prefetch_step, evict_step, drain_first, drain_step, arrived, processed, process_entry, process_step}
 use Rattle.cache_unit.specs.Steps.{take_reply, take_step}
@@ -191,10 +193,10 @@ routed_miss : (z : Sizes) (lawful : IsLawful z) (m : Machine) → IsSound z m �
     → Routed z (record { cache = installed z (released z m.cache f) block f slot; banks = all_sent m.banks (reads z block (Some slot)) })
 unfolding installed released
 routed_miss z lawful m sound h block f slot there free b s i l =
-    ⊎_elim before now (all_reads z lawful.some_banks slot z.block_words (address z block 0) m.banks b s i l)
+    ⊎_elim before now (all_reads z lawful.some_banks slot z.block_words (first_of z block) m.banks b s i l)
   where
     fresh : Register
-    fresh = fresh_register z (released z m.cache f).queue block
+    fresh = begun_register z.block_words (released z m.cache f).queue block f
 
     registers : List Register
     registers = set m.cache.registers slot fresh
@@ -207,10 +209,10 @@ routed_miss z lawful m sound h block f slot there free b s i l =
         ap (λ (r : Register). address z r.block i % z.banks) (get_or-set_other m.cache.registers slot s fresh free_register other)
         ∙ h b s i k
 
-    now : ReadFrom z slot (address z block 0) z.block_words b s i → address z (get_or registers s free_register).block i % z.banks ≡ b
+    now : ReadFrom z slot (first_of z block) z.block_words b s i → address z (get_or registers s free_register).block i % z.banks ≡ b
     now r =
         let at = r.0 in
-        let k = at - address z block 0 in
+        let k = at - first_of z block in
         let whole : at ≡ block * z.block_words + k = let lo = r.1 in omega arith in
         let small : k < z.block_words = let hi = r.2 in let lo = r.1 in omega arith in
         let place : k ≡ i = sym (mod-mul-add block z.block_words k small) ∙ ap (λ x. x % z.block_words) (sym whole) ∙ r.5 in
@@ -275,16 +277,16 @@ blocks_written c block i word lanes s v = buffer (frame_of c block) (live_for c 
     buffer (Some f) o v' = code (written_in c (Some f) i word lanes) refl o
 
 blocks_evicted : (z : Sizes) (c : Cache) (block : ℕ) (o : Option ℕ) → Blocks c (evicted_from z c block o)
-unfolding evicted released
+unfolding evicted released made_obsolete
 blocks_evicted z c block None s v = refl
 blocks_evicted z c block (Some f) s v = go (live_for c block)
   where
-    go : (o : Option ℕ) → (get_or (obsoleted c o) s free_register).block ≡ (register_at c s).block
+    go : (o : Option ℕ) → (get_or (obsoleted c.registers o) s free_register).block ≡ (register_at c s).block
     go None = refl
     go (Some slot) = same_blocks c slot (made_obsolete (register_at c slot)) refl s
 
 blocks_processed : (c : Cache) (place : ℕ) (e : Entry) → Blocks c (processed c place e)
-unfolding processed
+unfolding processed finished
 blocks_processed c place e s v = go (list_all (λ (f : Field). f.processed) fields) v
   where
     fields : List Field
@@ -397,7 +399,7 @@ module _ (z : Sizes) (lawful : IsLawful z) (m : Machine) (sound : IsSound z m) (
           (λ s i. (let k = ap (tally (is_for s i)) (served-pending (bank_at m.banks b) first rest e) in omega arith))) (λ s v. refl) h
 
   arrive_routed : (b place : ℕ) → Routed z (apply z m (Arrive b place)).machine
-  unfolding arrived
+  unfolding arrived marked
   arrive_routed b place =
       go (slice_get (bank_at m.banks b).answers place) refl (event_ok z lawful m sound (Arrive b place)).sound
     where
@@ -418,7 +420,8 @@ module _ (z : Sizes) (lawful : IsLawful z) (m : Machine) (sound : IsSound z m) (
 
           by_cause : (o : Option Cause) → IsSound z (take_in z m b place a o).machine → Routed z (take_in z m b place a o).machine
           by_cause (Some cause) k = h
-          by_cause None k = still_routed z m _ k (one_bank m.banks b (without_answer bank place) fewer) (λ s v. refl) h
+          by_cause None k = still_routed z m _ k (one_bank m.banks b (without_answer bank place) fewer)
+              (λ s v. same_blocks m.cache a.slot (marked (register_at m.cache a.slot) a.i) refl s) h
 
   process_routed : (place : ℕ) → Routed z (apply z m (Process place)).machine
   unfolding process_step

@@ -3,22 +3,24 @@ use Rattle.std.proofs.Common.{◌≡◌, ℕ, List, [], ◌∷◌, ◌++◌, sli
 use Rattle.flat_model.specs.declared.Cause.{Cause}
 use Rattle.flat_model.specs.declared.Event.{Event}
 use Rattle.flat_model.specs.declared.Answer.{Answer}
-use Rattle.flat_model.specs.declared.Answer.TheVariants.{Accepted, Moved}
+use Rattle.flat_model.specs.declared.Answer.TheVariants.{Accepted, Moved, Refused}
 use Rattle.memory_banks.specs.declared.Command.{Command}
 use Rattle.memory_banks.specs.declared.BankAnswer.{BankAnswer}
-use Rattle.memory_banks.specs.Banks.{bank_at, room_in, all_sent, HasSent}
+use Rattle.memory_banks.specs.Banks.{bank_at, room_in, all_sent}
 use Rattle.memory_banks.specs.Memory.{Memory, with_banks, SameButQueues}
 use Rattle.memory_banks.proofs.Sending.{banks_sent}
 use Rattle.input_stack.specs.declared.Entry.{Entry}
 use Rattle.cache_unit.specs.declared.Reply.{Reply}
 use Rattle.cache_unit.specs.declared.Sizes.{Sizes}
 use Rattle.cache_unit.specs.State.{Cache, UnitState, frame_of}
+use Rattle.cache_unit.specs.Makes as cache
+use Rattle.cache_unit.specs.Makes.{MakesOver}
 use Rattle.cache_unit.specs.Causes.{arrive_cause, evict_cause}
 use Rattle.cache_unit.specs.Steps.{Stepped, unless, evicted_from, moved, arrived, arrive_step, evict_step, process_step, process_entry}
 use Rattle.cache_unit.specs.Steps.{take_step, take_reply}
 use Rattle.memory_banks.specs.Memory.{without_answer}
-use Rattle.machine_core.specs.Machine.{Machine, Outcome, apply, walked, told, take_in, arrive_from}
-use Rattle.machine_core.specs.Whole.{machine_of}
+use Rattle.machine_core.specs.Machine.{Machine, Outcome, joined_with, apply, walked, told, take_in, arrive_from}
+use Rattle.machine_core.specs.Whole.{machine_of, Makes}
 
 -- ---- sends
 
@@ -29,15 +31,19 @@ sent_of m b = (bank_at m.banks b).queue
 abbrev rooms : Memory → ℕ → ℕ
 rooms m b = room_in m.limit m.banks b
 
-pub memory_sent : (old new : Memory) (limit : ℕ) (step : (ℕ → ℕ) → Stepped) → old.limit ≡ limit
-    → HasSent (λ (m : Memory) b. (bank_at m.banks b).queue)
-    (λ (m : Memory) b. room_in m.limit m.banks b) SameButQueues old new (step (room_in old.limit old.banks)).sent
-    → new ≡ with_banks old (all_sent old.banks (step (room_in limit old.banks)).sent)
-memory_sent old new limit step e h =
-    let P : ℕ → Type 0 = λ l. HasSent sent_of rooms SameButQueues old new (step (room_in l old.banks)).sent in
-    let g : P limit = subst P e h in
-    let same = banks_sent old new (step (room_in limit old.banks)).sent g in
-    λ i. record { words = g.kept.words i; limit = g.kept.limit i; banks = same i }
+pub joins : (step : (ℕ → ℕ) → Stepped) (unit : UnitState) (old : Memory) (answer : Answer) (unit' : UnitState) (new : Memory)
+    → old.limit ≡ unit.sizes.bank_queue
+    → MakesOver sent_of rooms SameButQueues (step (room_in old.limit old.banks)) unit old answer unit' new
+    → Makes (joined_with old.banks (step (room_in unit.sizes.bank_queue old.banks))) unit old answer unit' new
+joins step unit old answer unit' new e h =
+    let by : ℕ → Type 0 = λ l. MakesOver sent_of rooms SameButQueues (step (room_in l old.banks)) unit old answer unit' new in
+    let g : by unit.sizes.bank_queue = subst by e h in
+    let same = banks_sent old new (step (room_in unit.sizes.bank_queue old.banks)).sent g.lines in
+    record {
+      answer = g.made.answer;
+      unit = g.made.unit;
+      banks = λ i. record { words = g.lines.kept.words i; limit = g.lines.kept.limit i; banks = same i };
+    }
 
 -- ---- events that send nothing
 
@@ -70,46 +76,55 @@ take_silent c place = go (slice_get c.ready place)
     go None = refl
     go (Some e) = refl
 
--- an event that sends nothing, and changes no bank
-pub unsent : (unit : UnitState) (old : Memory) (event e : Event) → event ≡ e
-    → old.banks ≡ (apply unit.sizes (machine_of unit old) e).machine.banks
-    → old ≡ with_banks old (apply unit.sizes (machine_of unit old) event).machine.banks
-unsent unit old event e is same =
-    ap (with_banks old) same ∙ ap (λ x. with_banks old (apply unit.sizes (machine_of unit old) x).machine.banks) (sym is)
+-- a step that sends nothing changes no bank
+pub joins_silent : (step : Stepped) (unit : UnitState) (old : Memory) (answer : Answer) (unit' : UnitState) → step.sent ≡ []
+    → cache.Makes step unit answer unit' → Makes (joined_with old.banks step) unit old answer unit' old
+joins_silent step unit old answer unit' silent h =
+    record { answer = h.answer; unit = h.unit; banks = ap (λ l. with_banks old (all_sent old.banks l)) (sym silent) }
+
+-- what an event makes, by what it is
+pub of_event : (unit : UnitState) (old : Memory) (event e : Event) (answer : Answer) (unit' : UnitState) (new : Memory) → event ≡ e
+    → Makes (apply unit.sizes (machine_of unit old) e) unit old answer unit' new
+    → Makes (apply unit.sizes (machine_of unit old) event) unit old answer unit' new
+of_event unit old event e answer unit' new is =
+    subst (λ x. Makes (apply unit.sizes (machine_of unit old) x) unit old answer unit' new) (sym is)
 
 -- ---- an answer that comes
 
-module _ (z : Sizes) (m : Machine) (b place : ℕ) where
-  -- the unit's step, and the event
-  record Brings (a : BankAnswer) (o : Option Cause) (s : Stepped) : Type 0 where
-    answer : (take_in z m b place a o).answer ≡ s.answer
-    cache : (take_in z m b place a o).machine.cache ≡ s.cache
-    taken : s.answer ≡ Moved → (take_in z m b place a o).machine.banks ≡ slice_set m.banks b (without_answer (bank_at m.banks b) place)
-    stays : (s.answer ≡ Moved → ⊥) → (take_in z m b place a o).machine.banks ≡ m.banks
+module _ (unit : UnitState) (old : Memory) (b place : ℕ) (o : Option BankAnswer) (a : BankAnswer) (is : o ≡ Some a) (answer : Answer)
+    (unit' : UnitState) (made : cache.Makes (arrive_step unit.sizes unit.cache a.slot a.i a.word) unit answer unit') where
+  abbrev step_for : Option Cause → Stepped
+  step_for cause = unless cause unit.cache (moved (arrived unit.cache a.slot a.i a.word))
 
-  brings : (a : BankAnswer) → Brings a (arrive_cause z m.cache a.slot a.i) (arrive_step z m.cache a.slot a.i a.word)
+  abbrev taken_for : Option Cause → Outcome
+  taken_for cause = take_in unit.sizes (machine_of unit old) b place a cause
+
+  abbrev cause_is : Option Cause
+  cause_is = arrive_cause unit.sizes unit.cache a.slot a.i
+
+  by_cause : cache.Makes (step_for cause_is) unit answer unit'
   unfolding arrive_step
-  brings a = go (arrive_cause z m.cache a.slot a.i)
+  by_cause = made
+
+  of_bank : (new : Memory) → Makes (taken_for cause_is) unit old answer unit' new
+      → Makes (arrive_from unit.sizes (machine_of unit old) b place o) unit old answer unit' new
+  of_bank new = subst (λ x. Makes (arrive_from unit.sizes (machine_of unit old) b place x) unit old answer unit' new) (sym is)
+
+  -- it leaves its bank where the unit takes it in
+  pub brought : answer ≡ Moved → (new : Memory) → new ≡ with_banks old (slice_set old.banks b (without_answer (bank_at old.banks b) place))
+      → Makes (arrive_from unit.sizes (machine_of unit old) b place o) unit old answer unit' new
+  brought moves new without = of_bank new (go cause_is by_cause)
     where
-      go : (o : Option Cause) → Brings a o (unless o m.cache (moved (arrived m.cache a.slot a.i a.word)))
-      go None = record { answer = refl; cache = refl; taken = λ e. refl; stays = λ d. absurd (d refl) }
-      go (Some cause) = record { answer = refl; cache = refl; taken = λ e. cc; stays = λ d. refl }
+      go : (cause : Option Cause) → cache.Makes (step_for cause) unit answer unit' → Makes (taken_for cause) unit old answer unit' new
+      go None h = record { answer = h.answer; unit = h.unit; banks = without }
+      go (Some cause) h = let never : Refused cause ≡ Moved = sym h.answer ∙ moves in cc
 
-  pub brought_answer : (o : Option BankAnswer) (a : BankAnswer) (told : Answer) → o ≡ Some a
-      → told ≡ (arrive_step z m.cache a.slot a.i a.word).answer → told ≡ (arrive_from z m b place o).answer
-  brought_answer o a told is e = e ∙ sym (brings a).answer ∙ ap (λ x. (arrive_from z m b place x).answer) (sym is)
-
-  pub brought_cache : (o : Option BankAnswer) (a : BankAnswer) → o ≡ Some a
-      → (arrive_step z m.cache a.slot a.i a.word).cache ≡ (arrive_from z m b place o).machine.cache
-  brought_cache o a is = sym (brings a).cache ∙ ap (λ x. (arrive_from z m b place x).machine.cache) (sym is)
-
-  pub brought_taken : (o : Option BankAnswer) (a : BankAnswer) → o ≡ Some a → (arrive_step z m.cache a.slot a.i a.word).answer ≡ Moved
-      → slice_set m.banks b (without_answer (bank_at m.banks b) place) ≡ (arrive_from z m b place o).machine.banks
-  brought_taken o a is e = sym ((brings a).taken e) ∙ ap (λ x. (arrive_from z m b place x).machine.banks) (sym is)
-
-  pub brought_stays : (o : Option BankAnswer) (a : BankAnswer) → o ≡ Some a
-      → ((arrive_step z m.cache a.slot a.i a.word).answer ≡ Moved → ⊥) → m.banks ≡ (arrive_from z m b place o).machine.banks
-  brought_stays o a is d = sym ((brings a).stays d) ∙ ap (λ x. (arrive_from z m b place x).machine.banks) (sym is)
+  pub left : (answer ≡ Moved → ⊥) → Makes (arrive_from unit.sizes (machine_of unit old) b place o) unit old answer unit' old
+  left stays = of_bank old (go cause_is by_cause)
+    where
+      go : (cause : Option Cause) → cache.Makes (step_for cause) unit answer unit' → Makes (taken_for cause) unit old answer unit' old
+      go None h = absurd (stays h.answer)
+      go (Some cause) h = record { answer = h.answer; unit = h.unit; banks = refl }
 
 -- ---- a walk
 

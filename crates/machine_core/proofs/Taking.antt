@@ -7,6 +7,7 @@ use Rattle.flat_model.specs.declared.Event.TheVariants.{Take}
 use Rattle.flat_model.specs.declared.Answer.TheVariants.{Value}
 use Rattle.flat_model.specs.Flat.{with_due, same_word, is_owed, flat_after}
 use Rattle.memory_banks.specs.Banks.{all_pending}
+use Rattle.cache_directory.specs.Frames as dir
 use Rattle.cache_unit.specs.declared.Reply.{Reply}
 use Rattle.cache_unit.specs.declared.Sizes.{Sizes}
 use Rattle.cache_unit.specs.State.{Target, tags, targets, frame_of}
@@ -30,7 +31,7 @@ same_word-same w =
 
 took_ok : (z : Sizes) (lawful : IsLawful z) (m : Machine) (place : ℕ) → IsSound z m → (o : Option Reply)
     → slice_get m.cache.ready place ≡ o → KeptBy z m (Take place) (joined_with m.banks (take_reply m.cache place o))
-unfolding frame_of
+unfolding dir.frame_of
 took_ok z lawful m place h None e = record { sound = h; run = refl; few = λ l. l }
 took_ok z lawful m place h (Some r) e =
     let m' : Machine = record { cache = record m.cache { ready = remove m.cache.ready place }; banks = m.banks } in

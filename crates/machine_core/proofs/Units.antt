@@ -7,6 +7,7 @@ use Rattle.flat_model.specs.Words.{merged}
 use Rattle.memory_banks.specs.Banks.{Bank, bank_at, all_pending}
 use Rattle.input_stack.specs.declared.Entry.{Entry}
 use Rattle.cache_directory.specs.declared.Cell.{Cell}
+use Rattle.cache_directory.specs.Frames as dir
 use Rattle.cache_unit.specs.declared.Sizes.{Sizes}
 use Rattle.cache_unit.specs.State.{Cache, tags, frame_of, cell_of, block_of, place_in, register_at, field_at}
 use Rattle.cache_unit.specs.SoundCache.{HasWord, IsSoundCache}
@@ -92,9 +93,9 @@ sound_unit z lawful m h =
 -- ---- what is kept
 
 -- the cells go by the frames alone
-pub cell_frames : (c d : Cache) → d.frames ≡ c.frames → (b i : ℕ) → cell_of d b i ≡ cell_of c b i
-unfolding frame_of
-cell_frames c d e b i = ap (λ fs. cell_of (record c { frames = fs }) b i) e
+pub cell_frames : (c d : Cache) → d.directory.frames ≡ c.directory.frames → (b i : ℕ) → cell_of d b i ≡ cell_of c b i
+unfolding dir.frame_of
+cell_frames c d e b i = ap (λ fs. cell_of (record c { directory = record c.directory { frames = fs } }) b i) e
 
 -- a word's backing, with the buffer's bytes in the dirty lanes
 abbrev pub kept_word : Sizes → Machine → ℕ → Word
@@ -114,13 +115,13 @@ pub record BanksLike (old new : List Bank) : Type 0 where
 
 -- ---- machines within a sound one
 
-pub InOrder-within : (z : Sizes) (c d : Cache) → Within c d → d.orders ≡ c.orders → InOrder z c.frames c.orders
-    → InOrder z d.frames d.orders
+pub InOrder-within : (z : Sizes) (c d : Cache) → Within c d → d.directory.orders ≡ c.directory.orders → InOrder z c.directory
+    → InOrder z d.directory
 InOrder-within z c d w e h =
-    let P : List (List ℕ) → Type 0 = λ os. InOrder z d.frames os in
+    let P : List (List ℕ) → Type 0 = λ os. InOrder z (record d.directory { orders = os }) in
     subst P (sym e) (record { placed = λ f b q. h.placed f b (w.frames.held f b q).0; in_set = h.in_set; sized = h.sized })
 
-pub sound_within : (z : Sizes) (m m' : Machine) → IsSound z m → Within m.cache m'.cache → InOrder z m'.cache.frames m'.cache.orders
+pub sound_within : (z : Sizes) (m m' : Machine) → IsSound z m → Within m.cache m'.cache → InOrder z m'.cache.directory
     → AllIn z m'.cache.queue → ((tag : ℕ) → tally (λ t. t == tag) (tags m'.cache) ≤ 1)
     → ((s i : ℕ) → tally (is_for s i) (all_pending m'.banks) + tally (is_entry_for s i) m'.cache.stack ≡ bit (waits_for z m'.cache s i))
     → ((at : ℕ) → flat_word z m' at ≡ kept_word z m' at) → BanksLike m.banks m'.banks → IsSound z m'
@@ -156,7 +157,7 @@ sound_beside z m d h b once kept =
     kept (record { number = refl; lengths = λ k. refl })
 
 -- the same frames and registers
-pub within_refl : (c d : Cache) → d.frames ≡ c.frames → d.registers ≡ c.registers → Within c d
+pub within_refl : (c d : Cache) → d.directory.frames ≡ c.directory.frames → d.registers ≡ c.registers → Within c d
 within_refl c d ef er =
-    within_like c d (subst (λ fs. FramesLike c.frames fs) (sym ef) (frames_like-same c.frames))
+    within_like c d (subst (λ fs. FramesLike c.directory.frames fs) (sym ef) (frames_like-same c.directory.frames))
     (subst (λ rs. RegistersWithin c.registers rs) (sym er) (registers_within-same c.registers))

@@ -17,9 +17,10 @@ use Rattle.input_stack.specs.declared.Entry.{Entry}
 use Rattle.write_queue.specs.declared.Queued.{Queued}
 use Rattle.miss_registers.specs.declared.Owed.{Owed}
 use Rattle.cache_unit.specs.declared.Sizes.{Sizes}
-use Rattle.cache_unit.specs.State.{Field, Cache, clear_field, free_register, register_at, field_at}
+use Rattle.cache_unit.specs.State.{Field, Register, Cache, clear_field, free_register, register_at, field_at}
 use Rattle.cache_unit.specs.Causes.{arrive_cause}
-use Rattle.cache_unit.specs.Steps.{answered, filled, finished, processed, process_entry, arrived, drain_first, take_step, process_step}
+use Rattle.miss_registers.specs.Registers.{finished, marked, field_of}
+use Rattle.cache_unit.specs.Steps.{answered, filled, settled_for, processed, process_entry, arrived, drain_first, take_step, process_step}
 use Rattle.cache_unit.specs.Steps.{drain_step}
 use Rattle.cache_unit.specs.Counts.{tally, bit}
 use Rattle.cache_unit.proofs.FormsProcessing.{all_processed, done}
@@ -32,7 +33,7 @@ use Rattle.machine_core.specs.Law.{IsLawful, HasRoom, WalkIsDriven}
 use Rattle.machine_core.specs.Sound.{IsSound, is_entry_for, wanted, is_for}
 use Rattle.machine_core.proofs.Processing.{slot_there, field_there}
 use Rattle.machine_core.proofs.Units.{entry_waits}
-use Rattle.cache_unit.proofs.FormsProcessing.{filled_only}
+use Rattle.cache_unit.proofs.FormsProcessing.{settled_only}
 use Rattle.machine_core.proofs.Arriving.{not_stray}
 use Rattle.machine_core.proofs.Opening.{opening_sound}
 use Rattle.machine_core.proofs.Walking.{walk_sound}
@@ -45,6 +46,11 @@ total_set : {X : Type 0} (f : X → ℕ) (d : X) (xs : List X) (k : ℕ) (y : X)
 total_set f d [] k y l = absurd (omega arith)
 total_set f d (x ∷ xs) zero y l = omega arith
 total_set f d (x ∷ xs) (suc k) y l = let ih = total_set f d xs k y (omega arith) in omega arith
+
+total_same : {X : Type 0} (f : X → ℕ) (d : X) (xs : List X) (k : ℕ) (y : X) → f y ≡ f (get_or xs k d) → total f (set xs k y) ≡ total f xs
+total_same f d [] k y e = refl
+total_same f d (x ∷ xs) zero y e = ap (λ n. n + total f xs) e
+total_same f d (x ∷ xs) (suc k) y e = ap (λ n. f x + n) (total_same f d xs k y e)
 
 total_none : {X : Type 0} (f : X → ℕ) (d : X) (xs : List X) → ((k : ℕ) → k < length xs → f (get_or xs k d) ≡ 0) → total f xs ≡ 0
 total_none f d [] h = refl
@@ -99,6 +105,17 @@ all_idle (x ∷ banks) f =
     let p = f 0 (omega arith) in
     ap₂ ◌++◌ (ap₂ (λ xs q. xs ++ answers_to x.words q) p.0 p.1) (all_idle banks (λ b l. f (suc b) (omega arith)))
 
+-- a mark weighs nothing
+register-marked : (r : Register) (i : ℕ) → register_weight (marked r i) ≡ register_weight r
+unfolding marked
+register-marked r i =
+    ap (λ n. cond r.valid n 0) (total_same field_weight clear_field r.fields i (record (field_of r i) { in_stack = true }) refl)
+
+registers-marked : (c : Cache) (slot i : ℕ)
+    → total register_weight (set c.registers slot (marked (register_at c slot) i)) ≡ total register_weight c.registers
+registers-marked c slot i =
+    total_same register_weight free_register c.registers slot (marked (register_at c slot) i) (register-marked (register_at c slot) i)
+
 -- ---- each event
 
 module _ (z : Sizes) (lawful : IsLawful z) (roomy : HasRoom z) (m : Machine) (h : IsSound z m) where
@@ -110,7 +127,7 @@ module _ (z : Sizes) (lawful : IsLawful z) (roomy : HasRoom z) (m : Machine) (h 
       (slice_get l 0))).machine < weight (record { cache = record c { ready = l }; banks = m.banks })) (sym e) (omega arith)
 
   pub process_lowers : (x : Entry) (rest : List Entry) → m.cache.stack ≡ x ∷ rest → weight (apply z m (Process 0)).machine < weight m
-  unfolding processed process_step
+  unfolding processed process_step finished
   process_lowers x rest e =
       let c = m.cache in
       let found : slice_get c.stack 0 ≡ Some x = ap (λ l. slice_get l 0) e in
@@ -129,7 +146,8 @@ module _ (z : Sizes) (lawful : IsLawful z) (roomy : HasRoom z) (m : Machine) (h 
       let ready = length-append c.ready (answered x.word f.waiting) in
       let stack : length (remove c.stack 0) + 1 ≡ length c.stack = ap (λ l. length (remove l 0) + 1) e
       ∙ (let k : length rest + 1 ≡ suc (length rest) = omega arith in k) ∙ sym (ap length e) in
-      let queue : (filled c x.slot x.i x.word).queue ≡ c.queue = ap (λ (d : Cache). d.queue) (filled_only c x.slot x.i x.word) in
+      let queue : (settled_for c x.slot x.i (filled c x.slot x.i x.word)).queue ≡ c.queue =
+      ap (λ (d : Cache). d.queue) (settled_only c x.slot x.i x.word) in
       let queue' = ap length queue in
       subst (λ o. weight (joined_with m.banks (process_entry m.cache 0 o)).machine < weight m) (sym found) (omega arith)
     where
@@ -161,6 +179,7 @@ module _ (z : Sizes) (lawful : IsLawful z) (roomy : HasRoom z) (m : Machine) (h 
       let answers : length (remove bank.answers 0) + 1 ≡ length bank.answers = ap (λ xs. length (remove xs 0) + 1) e
       ∙ (let k : length rest + 1 ≡ suc (length rest) = omega arith in k) ∙ sym (ap length e) in
       let stack = length-append m.cache.stack (record { slot = a.slot; i = a.i; word = a.word } ∷ []) in
+      let weights = registers-marked m.cache a.slot a.i in
       subst (λ (o : Outcome). weight o.machine < weight m) (sym step) (omega arith)
 
   pub serve_lowers : (b : ℕ) (first : Command) (rest : List Command) → b < length m.banks → (bank_at m.banks b).queue ≡ first ∷ rest

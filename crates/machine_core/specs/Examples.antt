@@ -12,7 +12,10 @@ use Rattle.flat_model.specs.declared.Answer.TheVariants.{Accepted, Moved, Value,
 use Rattle.flat_model.specs.Words.{has, joined, merged}
 use Rattle.input_stack.specs.Stack.{stack_word}
 use Rattle.memory_banks.specs.Banks.{with_command, served}
+use Rattle.miss_registers.specs.Registers as regs
 use Rattle.cache_unit.specs.declared.Sizes.{Sizes}
+use Rattle.cache_directory.specs.Frames as dir
+use Rattle.miss_registers.specs.Registers.{made_obsolete, marked, finished}
 use Rattle.cache_unit.specs.State.{frame_of, live_for, targets, with_cell, with_field}
 use Rattle.cache_unit.specs.Causes.{choose, load_cause, store_cause, prefetch_cause, evict_cause, arrive_cause}
 use Rattle.cache_unit.specs.Steps.{released, evicted, installed, fetched, fetches, load_step, store_step, prefetch_step, evict_step, drain_step, arrived, processed, process_step, take_step}
@@ -66,7 +69,9 @@ word_brought = (Serve 1, Moved) ∷ (Arrive 1 0, Moved) ∷ (Process 0, Moved) �
 
 -- what the examples compute with
 all_steps : ℕ
-unfolding has joined merged stack_word with_command served frame_of live_for targets with_cell with_field choose load_cause store_cause prefetch_cause evict_cause arrive_cause released evicted installed fetched fetches load_step store_step prefetch_step evict_step drain_step arrived processed process_step take_step
+unfolding has joined merged stack_word dir.settled dir.released made_obsolete marked finished with_command served dir.frame_of regs.live_for regs.free_slot targets
+    with_cell with_field choose load_cause store_cause prefetch_cause evict_cause arrive_cause released evicted installed fetched fetches
+    load_step store_step prefetch_step evict_step drain_step arrived processed process_step take_step
 all_steps = zero
 
 empty_list : IsTrue (settled (start shape_S)) × (bank_words shape_S (start shape_S) ≡ image shape_S)

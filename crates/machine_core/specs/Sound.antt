@@ -7,10 +7,11 @@ use Rattle.memory_banks.specs.declared.BankAnswer.{BankAnswer}
 use Rattle.memory_banks.specs.Banks.{bank_at, pending, all_pending}
 use Rattle.input_stack.specs.declared.Entry.{Entry}
 use Rattle.write_queue.specs.declared.Queued.{Queued}
+use Rattle.cache_directory.specs.Frames as dir
 use Rattle.cache_unit.specs.declared.Sizes.{Sizes}
-use Rattle.cache_unit.specs.State.{Frame, Register, empty_frame, clear_field, frame_at, register_at, is_live, cell_of, tags, block_of, place_in, address}
+use Rattle.cache_unit.specs.State.{Frames, Register, clear_field, frame_at, register_at, is_live, cell_of, tags, block_of}
+use Rattle.cache_unit.specs.State.{place_in, address, first_of}
 use Rattle.cache_unit.specs.Counts.{bit, tally}
-use Rattle.cache_unit.specs.Causes.{order_of}
 use Rattle.machine_core.specs.Machine.{Machine, backing, flat_word}
 
 -- ---- words on their way
@@ -42,15 +43,11 @@ word_in (Some a) = a.word
 abbrev pub is_in : List ℕ → ℕ → Bool
 is_in order f = list_any (λ g. g == f) order
 
--- the block that a frame holds
-abbrev pub block_at : List Frame → ℕ → Option ℕ
-block_at frames f = (slice_index_or frames f empty_frame).block
-
 -- each frame that holds a block stands in its set's order, and no other set's
-pub record InOrder (z : Sizes) (frames : List Frame) (orders : List (List ℕ)) : Type 0 where
-  pub placed : (f b : ℕ) → block_at frames f ≡ Some b → is_in (order_of orders (f / z.ways)) f ≡ true
-  pub in_set : (s f : ℕ) → is_in (order_of orders s) f ≡ true → f / z.ways ≡ s
-  pub sized : length orders ≡ z.sets
+pub record InOrder (z : Sizes) (d : Frames) : Type 0 where
+  pub placed : (f b : ℕ) → (dir.frame_at d.frames f).block ≡ Some b → is_in (dir.order_of d (f / z.ways)) f ≡ true
+  pub in_set : (s f : ℕ) → is_in (dir.order_of d s) f ≡ true → f / z.ways ≡ s
+  pub sized : length d.orders ≡ z.sets
 
 -- ---- the invariants
 
@@ -72,12 +69,13 @@ pub record IsSound (z : Sizes) (m : Machine) : Type 0 where
   -- a word is its backing with the buffer's bytes in the dirty lanes
   pub kept : (at : ℕ) → flat_word z m at ≡ merged (backing z m at) (cell_of m.cache (block_of z at) (place_in z at)).word (cell_of m.cache (block_of z at) (place_in z at)).dirty
   -- the sizes of the parts
-  pub whole_frames : (f b : ℕ) → (frame_at m.cache f).block ≡ Some b → (length (frame_at m.cache f).cells ≡ z.block_words) × (address z b 0 < z.words)
+  pub whole_frames : (f b : ℕ) → (frame_at m.cache f).block ≡ Some b → (length (frame_at m.cache f).cells
+      ≡ z.block_words) × (first_of z b < z.words)
   pub whole_registers : (s : ℕ) → (register_at m.cache s).valid ≡ true → length (register_at m.cache s).fields ≡ z.block_words
   pub queue_in : AllIn z m.cache.queue
-  pub in_order : InOrder z m.cache.frames m.cache.orders
+  pub in_order : InOrder z m.cache.directory
   pub registers_are : length m.cache.registers ≡ z.regs
-  pub frames_are : length m.cache.frames ≡ z.sets * z.ways
+  pub frames_are : length m.cache.directory.frames ≡ z.sets * z.ways
   pub banks_are : length m.banks ≡ z.banks
   pub banks_hold : (at : ℕ) → at < z.words → at / z.banks < length (bank_at m.banks (at % z.banks)).words
 

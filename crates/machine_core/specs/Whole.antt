@@ -9,13 +9,13 @@ use Rattle.flat_model.specs.declared.Event.TheVariants.{Load, Store, Prefetch, E
 use Rattle.flat_model.specs.declared.Answer.{Answer}
 use Rattle.flat_model.specs.declared.Answer.TheVariants.{Accepted}
 use Rattle.flat_model.specs.Words.{has_any}
-use Rattle.memory_banks.specs.Memory.{Memory}
+use Rattle.memory_banks.specs.Memory.{Memory, with_banks}
 use Rattle.cache_unit.specs.declared.Sizes.{Sizes}
 use Rattle.cache_unit.specs.State.{UnitState}
 use Rattle.cache_unit.specs.Shown.{sizes_of, shape_of}
 use Rattle.cache_unit.specs.Sound.{InRange}
 use Rattle.cache_unit.specs.Limits as limits
-use Rattle.machine_core.specs.Machine.{Machine, MachineState, apply, bank_word}
+use Rattle.machine_core.specs.Machine.{Machine, MachineState, Outcome, apply, bank_word}
 use Rattle.machine_core.specs.Law.{serves_eviction}
 use Rattle.machine_core.specs.Sound.{IsSound, IsBounded}
 
@@ -26,6 +26,12 @@ machine_of unit memory = record { cache = unit.cache; banks = memory.banks }
 -- what the parts of a machine show
 abbrev pub state_of : UnitState → Memory → MachineState
 state_of unit memory = record { sizes = unit.sizes; machine = machine_of unit memory }
+
+-- an event on a unit and a memory answers and leaves what this outcome says
+pub record Makes (o : Outcome) (old : UnitState) (before : Memory) (told : Answer) (new : UnitState) (after : Memory) : Type 0 where
+  pub answer : told ≡ o.answer
+  pub unit : new ≡ record old { cache = o.machine.cache }
+  pub banks : after ≡ with_banks before o.machine.banks
 
 -- the numbers of a machine whose type has four of them
 abbrev pub IsOfType : ℕ → ℕ → ℕ → ℕ → Sizes → Type 0

@@ -1,11 +1,12 @@
 //! One event, on a unit and its banks.
 ghost use Rattle.std.specs.Prelude.{◌≡◌, ℕ, ◌≤◌, [], length, slice_get, vec_capacity, take};
 ghost use Rattle.memory_banks.specs.declared.bank.TheConstants.{MAX_ANSWERS};
-ghost use Rattle.memory_banks.specs.Banks.{bank_at, room_in, all_sent};
+ghost use Rattle.memory_banks.specs.Banks.{bank_at, room_in};
 ghost use Rattle.memory_banks.specs.Memory.{with_banks};
 ghost use Rattle.cache_unit.specs.Steps as steps;
 ghost use Rattle.machine_core.specs.Machine as machine;
-ghost use Rattle.machine_core.specs.Whole.{machine_of};
+ghost use Rattle.cache_unit.specs.State.{UnitState};
+ghost use Rattle.machine_core.specs.Whole.{machine_of, Makes};
 
 use cache_unit::{Request, ShapedUnit};
 use flat_model::{Answer, Event};
@@ -18,16 +19,8 @@ use memory_banks::Banks;
 pub(crate) fn step(unit: &mut ShapedUnit, banks: &mut Banks, event: Event) -> Answer
     requires limit { banks.old.limit ≡ unit.old.sizes.bank_queue }
     requires few { (b : ℕ) → length (bank_at banks.old.banks b).answers ≤ MAX_ANSWERS }
-    ensures answer { result
-        ≡ (machine.apply unit.old.sizes (machine_of unit.old banks.old) event).answer }
-    ensures unit { unit.new
-        ≡ record unit.old {
-          cache =
-              (machine.apply unit.old.sizes (machine_of unit.old banks.old) event).machine.cache;
-        } }
-    ensures banks { banks.new
-        ≡ with_banks banks.old
-        (machine.apply unit.old.sizes (machine_of unit.old banks.old) event).machine.banks }
+    ensures { Makes (machine.apply unit.old.sizes (machine_of unit.old banks.old) event)
+        unit.old banks.old result unit.new banks.new }
 {
     match event {
         Event::Load { tag, at } => ask(unit, banks, Request::Load { tag, at }),
@@ -76,20 +69,9 @@ pub(crate) fn walk(
 #[inline(always)]
 fn ask(unit: &mut ShapedUnit, banks: &mut Banks, request: Request) -> Answer
     requires { banks.old.limit ≡ unit.old.sizes.bank_queue }
-    ensures answer { result
-        ≡ (steps.request_step unit.old.sizes
-        (room_in unit.old.sizes.bank_queue banks.old.banks) unit.old.cache request).answer }
-    ensures unit { unit.new
-        ≡ record unit.old {
-          cache =
-              (steps.request_step unit.old.sizes
-              (room_in unit.old.sizes.bank_queue banks.old.banks) unit.old.cache request).cache;
-        } }
-    ensures banks { banks.new
-        ≡ with_banks banks.old
-        (all_sent banks.old.banks
-        (steps.request_step unit.old.sizes
-        (room_in unit.old.sizes.bank_queue banks.old.banks) unit.old.cache request).sent) }
+    ensures { Makes (machine.joined_with banks.old.banks
+        (steps.request_step unit.old.sizes (room_in unit.old.sizes.bank_queue banks.old.banks)
+        unit.old.cache request)) unit.old banks.old result unit.new banks.new }
 {
     unit.request(request, banks)
 }
@@ -98,20 +80,9 @@ fn ask(unit: &mut ShapedUnit, banks: &mut Banks, request: Request) -> Answer
 #[inline(never)]
 fn drain(unit: &mut ShapedUnit, banks: &mut Banks) -> Answer
     requires { banks.old.limit ≡ unit.old.sizes.bank_queue }
-    ensures answer { result
-        ≡ (steps.drain_step unit.old.sizes
-        (room_in unit.old.sizes.bank_queue banks.old.banks) unit.old.cache).answer }
-    ensures unit { unit.new
-        ≡ record unit.old {
-          cache =
-              (steps.drain_step unit.old.sizes
-              (room_in unit.old.sizes.bank_queue banks.old.banks) unit.old.cache).cache;
-        } }
-    ensures banks { banks.new
-        ≡ with_banks banks.old
-        (all_sent banks.old.banks
-        (steps.drain_step unit.old.sizes
-        (room_in unit.old.sizes.bank_queue banks.old.banks) unit.old.cache).sent) }
+    ensures { Makes (machine.joined_with banks.old.banks
+        (steps.drain_step unit.old.sizes (room_in unit.old.sizes.bank_queue banks.old.banks)
+        unit.old.cache)) unit.old banks.old result unit.new banks.new }
 {
     unit.drain(banks)
 }
@@ -120,13 +91,8 @@ fn drain(unit: &mut ShapedUnit, banks: &mut Banks) -> Answer
 #[inline(never)]
 fn serve(banks: &mut Banks, bank: u32) -> Answer
     requires { length (bank_at banks.old.banks bank).answers ≤ MAX_ANSWERS }
-    ensures answer { (m : machine.Machine) → m.banks ≡ banks.old.banks
-        → result ≡ (machine.serve_from m bank (bank_at banks.old.banks bank).queue).answer }
-    ensures cache { (m : machine.Machine) → m.banks ≡ banks.old.banks
-        → m.cache ≡ (machine.serve_from m bank (bank_at banks.old.banks bank).queue).machine.cache }
-    ensures banks { (m : machine.Machine) → m.banks ≡ banks.old.banks
-        → banks.new ≡ with_banks banks.old
-        (machine.serve_from m bank (bank_at banks.old.banks bank).queue).machine.banks }
+    ensures { (unit : UnitState) → Makes (machine.serve_from (machine_of unit banks.old) bank
+        (bank_at banks.old.banks bank).queue) unit banks.old result unit banks.new }
 {
     if banks.serve(bank) {
         Answer::Moved
@@ -138,19 +104,9 @@ fn serve(banks: &mut Banks, bank: u32) -> Answer
 // The bank's answer at a place goes to the unit, and stays where the unit refuses it.
 #[inline(never)]
 fn bring(unit: &mut ShapedUnit, banks: &mut Banks, bank: u32, place: u32) -> Answer
-    ensures answer { result
-        ≡ (machine.arrive_from unit.old.sizes (machine_of unit.old banks.old) bank place
-        (slice_get (bank_at banks.old.banks bank).answers place)).answer }
-    ensures unit { unit.new
-        ≡ record unit.old {
-          cache =
-              (machine.arrive_from unit.old.sizes (machine_of unit.old banks.old) bank place
-              (slice_get (bank_at banks.old.banks bank).answers place)).machine.cache;
-        } }
-    ensures banks { banks.new
-        ≡ with_banks banks.old
-        (machine.arrive_from unit.old.sizes (machine_of unit.old banks.old) bank place
-        (slice_get (bank_at banks.old.banks bank).answers place)).machine.banks }
+    ensures { Makes (machine.arrive_from unit.old.sizes (machine_of unit.old banks.old) bank place
+        (slice_get (bank_at banks.old.banks bank).answers place))
+        unit.old banks.old result unit.new banks.new }
 {
     let Some(answer) = banks.answer_at(bank, place) else {
         return Answer::Nothing;

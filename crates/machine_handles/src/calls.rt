@@ -1,7 +1,7 @@
 //! The calls of a machine behind a handle.
 ghost use Rattle.std.specs.Prelude.{◌≡◌, Some};
 ghost use Rattle.std.specs.Option.{option_map, unwrap_or};
-ghost use Rattle.machine_core.specs.AnyMachine.{weight_of, is_settled, bank_shown, register_shown, field_shown, target_shown, pump_tells};
+ghost use Rattle.machine_core.specs.AnyMachine.{weight_of, is_settled, bank_shown, register_shown, field_shown, target_shown, pump_tells, pump_leaves};
 ghost use Rattle.machine_handles.specs.Behind.{standing, standing_of, behind, idle, idle_in};
 ghost use Rattle.flat_judge.specs.Rows.{event_of};
 ghost use Rattle.machine_handles.specs.Rows as rows;
@@ -12,8 +12,8 @@ use crate::kept::Kept;
 use crate::status::{CLOSED, DONE, FOUND, IN_ROUNDS, NO_EVENT, NOT_THERE};
 use crate::views::{FieldRow, RegisterRow, TargetRow, field_row, register_row, target_row};
 use flat_judge::{AnswerRow, EventRow, answer_row, event_row};
-use flat_model::Word;
-use machine_core::AnyMachine;
+use flat_model::{Answer, Event, Word};
+use machine_core::ShapedMachine;
 use std::alloc::Global;
 
 /// Makes one event.
@@ -37,6 +37,7 @@ pub fn apply(alloc: Global, handle: &mut Handle, event: &EventRow, answer: &mut 
 }
 
 // Makes one event, unless rounds make them.
+#[tactic(auto, unfolding(machine_core::specs::AnyMachine::answered, machine_core::specs::AnyMachine::after_event, machine_core::specs::AnyMachine::flat))]
 fn apply_in(kept: &mut Kept, event: &EventRow, answer: &mut AnswerRow) -> u32
     ensures status { result ≡ apply_status (Some (standing_of kept.old)) (event_of event.now) }
     ensures answer { answer.new
@@ -50,7 +51,7 @@ fn apply_in(kept: &mut Kept, event: &EventRow, answer: &mut AnswerRow) -> u32
     }
     match event.event() {
         Some(event) => {
-            *answer = answer_row(AnyMachine::apply(&mut kept.machine, event));
+            *answer = answer_row(kept.machine.apply(event));
             DONE
         }
         None => NO_EVENT,
@@ -78,6 +79,15 @@ pub fn pump(alloc: Global, handle: &mut Handle, event: &mut EventRow, answer: &m
     status
 }
 
+// Makes the driver's event, as the machine shows it.
+#[tactic(auto, unfolding(machine_core::specs::AnyMachine::answered, machine_core::specs::AnyMachine::after_event, machine_core::specs::AnyMachine::pump_tells, machine_core::specs::AnyMachine::pump_leaves))]
+fn pump_machine(machine: &mut ShapedMachine) -> Option<(Event, Answer)>
+    ensures told { result ≡ pump_tells machine.old }
+    ensures after { machine.new ≡ pump_leaves machine.old }
+{
+    machine.pump()
+}
+
 // Makes the driver's event, unless rounds make them.
 fn pump_in(kept: &mut Kept, event: &mut EventRow, answer: &mut AnswerRow) -> u32
     ensures status { result ≡ pump_status (Some (standing_of kept.old)) }
@@ -92,7 +102,7 @@ fn pump_in(kept: &mut Kept, event: &mut EventRow, answer: &mut AnswerRow) -> u32
     if !kept.is_idle() {
         return IN_ROUNDS;
     }
-    let made = AnyMachine::pump(&mut kept.machine);
+    let made = pump_machine(&mut kept.machine);
     match made {
         Some((pumped, told)) => {
             *event = event_row(pumped);
@@ -104,6 +114,7 @@ fn pump_in(kept: &mut Kept, event: &mut EventRow, answer: &mut AnswerRow) -> u32
 }
 
 /// What is on its way, weighed. 0: `weight` is it. 3: the handle is closed, and `weight` is as it was.
+#[tactic(auto, unfolding(machine_core::specs::AnyMachine::weight_of))]
 pub fn weight(alloc: Global, handle: &mut Handle, weight: &mut u64) -> u32
     ensures status { result ≡ told_status (behind handle.old) }
     ensures weight { weight.new
@@ -113,12 +124,13 @@ pub fn weight(alloc: Global, handle: &mut Handle, weight: &mut u64) -> u32
     let Some(kept) = handle.take(alloc) else {
         return CLOSED;
     };
-    *weight = AnyMachine::weight(&kept.as_ref().machine);
+    *weight = kept.as_ref().machine.weight();
     handle.keep(kept);
     DONE
 }
 
 /// Whether nothing is on its way to memory. 1: nothing is. 0: something is. 3: the handle is closed.
+#[tactic(auto, unfolding(machine_core::specs::AnyMachine::is_settled))]
 pub fn settled(alloc: Global, handle: &mut Handle) -> u32
     ensures status { result ≡ test_status (option_map is_settled (behind handle.old)) }
     ensures same { standing handle.new ≡ standing handle.old }
@@ -126,13 +138,14 @@ pub fn settled(alloc: Global, handle: &mut Handle) -> u32
     let Some(kept) = handle.take(alloc) else {
         return CLOSED;
     };
-    let settled = AnyMachine::settled(&kept.as_ref().machine);
+    let settled = kept.as_ref().machine.settled();
     handle.keep(kept);
     u32::from(settled)
 }
 
 /// The word of memory at `at`, as it stands in its bank. 1: `word` is it. 0: there is no such word.
 /// 3: the handle is closed. After 0 and 3 `word` is as it was.
+#[tactic(auto, unfolding(machine_core::specs::AnyMachine::bank_shown))]
 pub fn bank_word(alloc: Global, handle: &mut Handle, at: u32, word: &mut Word) -> u32
     ensures status { result
         ≡ found_status (option_map (λ m. bank_shown m at) (behind handle.old)) }
@@ -143,7 +156,7 @@ pub fn bank_word(alloc: Global, handle: &mut Handle, at: u32, word: &mut Word) -
     let Some(kept) = handle.take(alloc) else {
         return CLOSED;
     };
-    let found = AnyMachine::bank_word(&kept.as_ref().machine, at);
+    let found = kept.as_ref().machine.bank_word(at);
     handle.keep(kept);
     match found {
         Some(stored) => {
@@ -156,6 +169,7 @@ pub fn bank_word(alloc: Global, handle: &mut Handle, at: u32, word: &mut Word) -
 
 /// What the register `slot` shows. 1: `row` is it. 0: there is no such register. 3: the handle is
 /// closed. After 0 and 3 `row` is as it was.
+#[tactic(auto, unfolding(machine_core::specs::AnyMachine::register_shown))]
 pub fn register(alloc: Global, handle: &mut Handle, slot: u32, row: &mut RegisterRow) -> u32
     ensures status { result
         ≡ found_status (option_map (λ m. register_shown m slot) (behind handle.old)) }
@@ -167,7 +181,7 @@ pub fn register(alloc: Global, handle: &mut Handle, slot: u32, row: &mut Registe
     let Some(kept) = handle.take(alloc) else {
         return CLOSED;
     };
-    let found = AnyMachine::register(&kept.as_ref().machine, slot);
+    let found = kept.as_ref().machine.register(slot);
     handle.keep(kept);
     match found {
         Some(view) => {
@@ -180,6 +194,7 @@ pub fn register(alloc: Global, handle: &mut Handle, slot: u32, row: &mut Registe
 
 /// What the register `slot` shows of word `i` of its block. 1: `row` is it. 0: there is no such
 /// register or word. 3: the handle is closed. After 0 and 3 `row` is as it was.
+#[tactic(auto, unfolding(machine_core::specs::AnyMachine::field_shown))]
 pub fn field(alloc: Global, handle: &mut Handle, slot: u32, i: u32, row: &mut FieldRow) -> u32
     ensures status { result
         ≡ found_status (option_map (λ m. field_shown m slot i) (behind handle.old)) }
@@ -191,7 +206,7 @@ pub fn field(alloc: Global, handle: &mut Handle, slot: u32, i: u32, row: &mut Fi
     let Some(kept) = handle.take(alloc) else {
         return CLOSED;
     };
-    let found = AnyMachine::field(&kept.as_ref().machine, slot, i);
+    let found = kept.as_ref().machine.field(slot, i);
     handle.keep(kept);
     match found {
         Some(view) => {
@@ -205,6 +220,7 @@ pub fn field(alloc: Global, handle: &mut Handle, slot: u32, i: u32, row: &mut Fi
 /// The load at `place` among those that wait for word `i` of the block of register `slot`, in the
 /// order in which they were accepted. 1: `row` is it. 0: there is none. 3: the handle is closed.
 /// After 0 and 3 `row` is as it was.
+#[tactic(auto, unfolding(machine_core::specs::AnyMachine::target_shown))]
 pub fn target(
     alloc: Global,
     handle: &mut Handle,
@@ -223,7 +239,7 @@ pub fn target(
     let Some(kept) = handle.take(alloc) else {
         return CLOSED;
     };
-    let found = AnyMachine::target(&kept.as_ref().machine, slot, i, place);
+    let found = kept.as_ref().machine.target(slot, i, place);
     handle.keep(kept);
     match found {
         Some(owed) => {

@@ -7,7 +7,10 @@ ghost use Rattle.machine_handles.specs.Calls.{found_status, shown_row};
 
 use crate::handle::Handle;
 use crate::part_rows::{ArrivalRow, CommandRow, FrameRow, FrameWordRow, QueuedRow};
-use crate::parts::ShownMachine;
+use crate::parts::{
+    bank_answer_of, command_of, frame_of, frame_word_of, lookup_of, queue_entry_of, reply_of,
+    stack_entry_of,
+};
 use crate::status::{CLOSED, FOUND, NOT_THERE};
 use flat_judge::AnswerRow;
 use std::alloc::Global;
@@ -39,7 +42,7 @@ pub fn frame(alloc: Global, handle: &mut Handle, frame: u32, row: &mut FrameRow)
     let Some(kept) = handle.take(alloc) else {
         return CLOSED;
     };
-    let found = kept.as_ref().machine.frame(frame);
+    let found = frame_of(&kept.as_ref().machine, frame);
     handle.keep(kept);
     tell(found, row)
 }
@@ -63,7 +66,7 @@ pub fn frame_word(
     let Some(kept) = handle.take(alloc) else {
         return CLOSED;
     };
-    let found = kept.as_ref().machine.frame_word(frame, i);
+    let found = frame_word_of(&kept.as_ref().machine, frame, i);
     handle.keep(kept);
     tell(found, row)
 }
@@ -81,7 +84,7 @@ pub fn stack_entry(alloc: Global, handle: &mut Handle, place: u32, row: &mut Arr
     let Some(kept) = handle.take(alloc) else {
         return CLOSED;
     };
-    let found = ShownMachine::stack_entry(&kept.as_ref().machine, place);
+    let found = stack_entry_of(&kept.as_ref().machine, place);
     handle.keep(kept);
     tell(found, row)
 }
@@ -99,7 +102,7 @@ pub fn queue_entry(alloc: Global, handle: &mut Handle, place: u32, row: &mut Que
     let Some(kept) = handle.take(alloc) else {
         return CLOSED;
     };
-    let found = ShownMachine::queue_entry(&kept.as_ref().machine, place);
+    let found = queue_entry_of(&kept.as_ref().machine, place);
     handle.keep(kept);
     tell(found, row)
 }
@@ -124,7 +127,7 @@ pub fn bank_command(
     let Some(kept) = handle.take(alloc) else {
         return CLOSED;
     };
-    let found = kept.as_ref().machine.bank_command(bank, place);
+    let found = command_of(&kept.as_ref().machine, bank, place);
     handle.keep(kept);
     tell(found, row)
 }
@@ -149,7 +152,7 @@ pub fn bank_answer(
     let Some(kept) = handle.take(alloc) else {
         return CLOSED;
     };
-    let found = kept.as_ref().machine.bank_answer(bank, place);
+    let found = bank_answer_of(&kept.as_ref().machine, bank, place);
     handle.keep(kept);
     tell(found, row)
 }
@@ -167,7 +170,7 @@ pub fn reply(alloc: Global, handle: &mut Handle, place: u32, row: &mut AnswerRow
     let Some(kept) = handle.take(alloc) else {
         return CLOSED;
     };
-    let found = ShownMachine::reply(&kept.as_ref().machine, place);
+    let found = reply_of(&kept.as_ref().machine, place);
     handle.keep(kept);
     tell(found, row)
 }
@@ -187,7 +190,7 @@ pub fn find(alloc: Global, handle: &mut Handle, at: u32, lookup: &mut u32) -> u3
     let Some(kept) = handle.take(alloc) else {
         return CLOSED;
     };
-    let found = kept.as_ref().machine.lookup(at);
+    let found = lookup_of(&kept.as_ref().machine, at);
     handle.keep(kept);
     tell(found, lookup)
 }

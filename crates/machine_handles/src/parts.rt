@@ -1,4 +1,4 @@
-//! What the parts of a machine show, whatever it is made of.
+//! What the parts of a machine show, as rows. `None` is no such thing.
 ghost use Rattle.std.specs.Prelude.{◌≡◌};
 ghost use Rattle.machine_handles.specs.Parts as parts;
 
@@ -7,81 +7,74 @@ use crate::part_rows::{
     entry_row, frame_row, frame_word_row, lookup_number, queued_row,
 };
 use flat_judge::{AnswerRow, answer_row};
-use machine_core::{AnyMachine, ShapedMachine};
+use machine_core::ShapedMachine;
 
-/// A machine that shows its parts as rows: its frames, what waits in it, and what a request would
-/// find. `None` is no such thing.
-pub trait ShownMachine: AnyMachine {
-    /// A frame. Set `s` has the frames from `s` times its ways on.
-    fn frame(&self, frame: u32) -> Option<FrameRow>
-        ensures { result ≡ parts.frame_shown (Self.state self.now) frame };
-
-    /// Word `i` of the block that a frame holds.
-    fn frame_word(&self, frame: u32, i: u32) -> Option<FrameWordRow>
-        ensures { result ≡ parts.frame_word_shown (Self.state self.now) frame i };
-
-    /// The entry of the input stack at `place`, the one that came first at 0.
-    fn stack_entry(&self, place: u32) -> Option<ArrivalRow>
-        ensures { result ≡ parts.stack_shown (Self.state self.now) place };
-
-    /// The word of the write queue at `place`, the one that is drained next at 0.
-    fn queue_entry(&self, place: u32) -> Option<QueuedRow>
-        ensures { result ≡ parts.queue_shown (Self.state self.now) place };
-
-    /// The command that waits at `place` of a bank's queue, the one that is served next at 0.
-    fn bank_command(&self, bank: u32, place: u32) -> Option<CommandRow>
-        ensures { result ≡ parts.command_shown (Self.state self.now) bank place };
-
-    /// The answer that stands at `place` in a bank, the oldest one at 0.
-    fn bank_answer(&self, bank: u32, place: u32) -> Option<ArrivalRow>
-        ensures { result ≡ parts.bank_answer_shown (Self.state self.now) bank place };
-
-    /// The answer that a take at `place` would get.
-    fn reply(&self, place: u32) -> Option<AnswerRow>
-        ensures { result ≡ parts.reply_shown (Self.state self.now) place };
-
-    /// What a request for the word at `at` would find, by its number.
-    fn lookup(&self, at: u32) -> Option<u32>
-        ensures { result ≡ parts.lookup_shown (Self.state self.now) at };
+// A frame. Set `s` has the frames from `s` times its ways on.
+#[tactic(auto, unfolding(crate::specs::Parts::frame_shown))]
+pub(crate) fn frame_of(machine: &ShapedMachine, frame: u32) -> Option<FrameRow>
+    ensures { result ≡ parts.frame_shown machine.now frame }
+{
+    // (its numbers are in their ranges, as its weight's contract says)
+    let _weight = machine.weight();
+    if frame < machine.sizes().sets * machine.sizes().ways {
+        Some(frame_row(machine.frame_block(frame)))
+    } else {
+        None
+    }
 }
 
-#[tactic(auto, unfolding(crate::specs::Parts::frame_shown, crate::specs::Parts::frame_word_shown, crate::specs::Parts::stack_shown, crate::specs::Parts::queue_shown, crate::specs::Parts::command_shown, crate::specs::Parts::bank_answer_shown, crate::specs::Parts::reply_shown, crate::specs::Parts::lookup_shown))]
-impl ShownMachine for ShapedMachine {
-    fn frame(&self, frame: u32) -> Option<FrameRow> {
-        // (its numbers are in their ranges, as its weight's contract says)
-        let _weight = self.weight();
-        if frame < self.sizes().sets * self.sizes().ways {
-            Some(frame_row(self.frame_block(frame)))
-        } else {
-            None
-        }
-    }
+// Word `i` of the block that a frame holds.
+#[tactic(auto, unfolding(crate::specs::Parts::frame_word_shown))]
+pub(crate) fn frame_word_of(machine: &ShapedMachine, frame: u32, i: u32) -> Option<FrameWordRow>
+    ensures { result ≡ parts.frame_word_shown machine.now frame i }
+{
+    frame_word_row(machine.buffer_word(frame, i), machine.dirty(frame, i))
+}
 
-    fn frame_word(&self, frame: u32, i: u32) -> Option<FrameWordRow> {
-        frame_word_row(self.buffer_word(frame, i), self.dirty(frame, i))
-    }
+// The entry of the input stack at `place`, the one that came first at 0.
+#[tactic(auto, unfolding(crate::specs::Parts::stack_shown))]
+pub(crate) fn stack_entry_of(machine: &ShapedMachine, place: u32) -> Option<ArrivalRow>
+    ensures { result ≡ parts.stack_shown machine.now place }
+{
+    machine.stack_entry(place).map(entry_row)
+}
 
-    fn stack_entry(&self, place: u32) -> Option<ArrivalRow> {
-        ShapedMachine::stack_entry(self, place).map(entry_row)
-    }
+// The word of the write queue at `place`, the one that is drained next at 0.
+#[tactic(auto, unfolding(crate::specs::Parts::queue_shown))]
+pub(crate) fn queue_entry_of(machine: &ShapedMachine, place: u32) -> Option<QueuedRow>
+    ensures { result ≡ parts.queue_shown machine.now place }
+{
+    machine.queue_entry(place).map(queued_row)
+}
 
-    fn queue_entry(&self, place: u32) -> Option<QueuedRow> {
-        ShapedMachine::queue_entry(self, place).map(queued_row)
-    }
+// The command that waits at `place` of a bank's queue, the one that is served next at 0.
+#[tactic(auto, unfolding(crate::specs::Parts::command_shown))]
+pub(crate) fn command_of(machine: &ShapedMachine, bank: u32, place: u32) -> Option<CommandRow>
+    ensures { result ≡ parts.command_shown machine.now bank place }
+{
+    machine.command_at(bank, place).map(command_row)
+}
 
-    fn bank_command(&self, bank: u32, place: u32) -> Option<CommandRow> {
-        self.command_at(bank, place).map(command_row)
-    }
+// The answer that stands at `place` in a bank, the oldest one at 0.
+#[tactic(auto, unfolding(crate::specs::Parts::bank_answer_shown))]
+pub(crate) fn bank_answer_of(machine: &ShapedMachine, bank: u32, place: u32) -> Option<ArrivalRow>
+    ensures { result ≡ parts.bank_answer_shown machine.now bank place }
+{
+    machine.answer_at(bank, place).map(bank_answer_row)
+}
 
-    fn bank_answer(&self, bank: u32, place: u32) -> Option<ArrivalRow> {
-        self.answer_at(bank, place).map(bank_answer_row)
-    }
+// The answer that a take at `place` would get.
+#[tactic(auto, unfolding(crate::specs::Parts::reply_shown))]
+pub(crate) fn reply_of(machine: &ShapedMachine, place: u32) -> Option<AnswerRow>
+    ensures { result ≡ parts.reply_shown machine.now place }
+{
+    machine.reply(place).map(|answer| answer_row(answer))
+}
 
-    fn reply(&self, place: u32) -> Option<AnswerRow> {
-        ShapedMachine::reply(self, place).map(|answer| answer_row(answer))
-    }
-
-    fn lookup(&self, at: u32) -> Option<u32> {
-        self.find(at).map(lookup_number)
-    }
+// What a request for the word at `at` would find, by its number.
+#[tactic(auto, unfolding(crate::specs::Parts::lookup_shown))]
+pub(crate) fn lookup_of(machine: &ShapedMachine, at: u32) -> Option<u32>
+    ensures { result ≡ parts.lookup_shown machine.now at }
+{
+    machine.find(at).map(lookup_number)
 }

@@ -13,7 +13,7 @@ use crate::status::{CLOSED, DONE, IN_ROUNDS, NO_EVENT, NO_ROUNDS, OUT_OF_MEMORY}
 use flat_judge::EventRow;
 use flat_model::Event;
 use machine_core::ShapedMachine;
-use round_driver::{MOST_LATENCY, RoundMachine, Table, Timing, summarize_with};
+use round_driver::{MOST_LATENCY, Table, Timing, keeps_whole, summarize_with};
 use std::alloc::{AllocError, Global};
 
 /// The most requests of a run.
@@ -228,7 +228,7 @@ fn drive_machine(
     if !are_requests(rows) {
         return Err(RoundsFault::NoRequest);
     }
-    machine.keeps_whole();
+    keeps_whole(machine);
     let requests = requests_of(alloc, rows)?;
     let timing = Timing {
         latency: u64::from(latency),

@@ -13,7 +13,7 @@ use crate::rounds::{CountsRow, RoundsFault, counts_row, request_of, rounds_numbe
 use crate::status::{CLOSED, DONE, NO_ROUNDS};
 use flat_judge::{EventRow, answer_row};
 use flat_model::{Answer, Event, Word};
-use round_driver::{MOST_LATENCY, MOST_ROUNDS, Note, RoundMachine, RoundReport, Rounds, Timing};
+use round_driver::{MOST_LATENCY, MOST_ROUNDS, Note, RoundReport, Rounds, Timing, keeps_whole};
 use std::alloc::{AllocError, Global};
 
 /// What is told of a round. What doesn't apply is 0.
@@ -136,7 +136,7 @@ fn round_in(kept: &mut Kept, requests: &[EventRow]) -> Result<RoundRow, RoundsFa
     if rounds.count() >= MOST_ROUNDS {
         return Err(RoundsFault::TooMany);
     }
-    machine.keeps_whole();
+    keeps_whole(machine);
     let report = rounds.make(machine, request_in(requests));
     Ok(row_of(rounds.count(), &report))
 }

@@ -457,7 +457,7 @@ no_turn : (event : Event) (c : Course) → (ask_again 0 event c).state.sizes ≡
 unfolding ask_again
 no_turn event c = refl
 
-again_sizes : (n : ℕ) (event : Event) (c : Course) → (ask_again n event c).state.sizes ≡ c.state.sizes
+pub again_sizes : (n : ℕ) (event : Event) (c : Course) → (ask_again n event c).state.sizes ≡ c.state.sizes
 again_sizes zero event c = no_turn event c
 again_sizes (suc n) event c = go (ends event (pump_and_wait c)) refl (again_sizes n event (ask event (pump_and_wait c)))
   where

@@ -5,3 +5,4 @@ pub mod Steps
 pub mod Ending
 pub mod EnoughTurns
 pub mod Lawful
+pub mod Lacking

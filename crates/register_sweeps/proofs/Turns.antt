@@ -2,8 +2,11 @@
 use Rattle.std.proofs.Common.{◌≡◌, ℕ, suc, ◌+◌, ◌-◌, ◌<◌, ◌≤◌, true, false, cond, Option, Some, None, refl, sym, ap, ◌∙◌, arith}
 use Rattle.flat_model.specs.declared.Event.{Event}
 use Rattle.machine_core.specs.Machine.{MachineState}
-use Rattle.machine_core.specs.AnyMachine.{after_event, after_some, pump_leaves}
+use Rattle.machine_core.specs.AnyMachine.{answered, after_event, after_some, pump_tells, pump_leaves}
+use Rattle.machine_core.specs.Pump as driver
 use Rattle.machine_core.specs.Pump.{pumped}
+use Rattle.machine_core.specs.Whole.{with_answer}
+use Rattle.std.specs.Option.{option_map}
 use Rattle.register_sweeps.specs.declared.row.Row.{Row}
 use Rattle.register_sweeps.specs.Sweep.{Course, course, pump_once, pump_and_wait, ask, ends, ask_again, pump_times}
 
@@ -54,3 +57,16 @@ pump_sizes s = go (pumped s.sizes s.machine)
     go : (o : Option Event) → (after_some s o).sizes ≡ s.sizes
     go None = refl
     go (Some event) = refl
+
+-- what a pump of the machine leaves and tells, by its state
+pub left_by_pump : (s : MachineState) → record s { machine = driver.after_event s.sizes s.machine (pumped s.sizes s.machine) } ≡ pump_leaves s
+unfolding pump_leaves after_event
+left_by_pump s = go (pumped s.sizes s.machine)
+  where
+    go : (o : Option Event) → record s { machine = driver.after_event s.sizes s.machine o } ≡ after_some s o
+    go None = refl
+    go (Some event) = refl
+
+pub told_by_pump : (s : MachineState) → option_map (with_answer s.sizes s.machine) (pumped s.sizes s.machine) ≡ pump_tells s
+unfolding pump_tells answered
+told_by_pump s = refl

@@ -1,3 +1,4 @@
 pub mod Sweep
+pub mod Lacking
 pub mod Rounds
 pub mod Threads

@@ -8,6 +8,7 @@
 #![tactic(auto)]
 
 mod machines;
+mod room;
 mod rounds;
 mod row;
 mod sweeps;

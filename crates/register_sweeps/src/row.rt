@@ -4,15 +4,17 @@ ghost use Rattle.std.specs.Prelude.{◌≡◌, ◌+◌, ◌*◌, ◌^◌, ◌<�
 ghost use Rattle.std.specs.Fmt.{WritesOnOk};
 ghost use Rattle.machine_core.specs.Law.{most_weight};
 ghost use Rattle.machine_core.specs.Whole.{IsWholeState};
-ghost use Rattle.machine_core.specs.AnyMachine.{answered, weight_of};
+ghost use Rattle.machine_core.specs.AnyMachine.{answered, weight_of, pump_tells};
 ghost use Rattle.round_driver.specs.Rounds.{is_end, most_requests};
 ghost use Rattle.round_driver.specs.Walks.{is_request};
 ghost use Rattle.register_sweeps.specs.Sweep as sweep;
 ghost use Rattle.register_sweeps.specs.Sweep.{course, total};
+ghost use Rattle.register_sweeps.specs.Lacking.{has_ended, has_no_room, lacks_room, may_make_room};
 
+use crate::room::{is_refused_room, may_make_room};
 use flat_model::{Answer, Event};
-use machine_core::AnyMachine;
-use round_driver::RoundMachine;
+use machine_core::ShapedMachine;
+use round_driver::keeps_whole;
 use std::fmt;
 
 // As many turns as any weight at least: rows are counted of machines whose weight is below 2^32.
@@ -111,31 +113,88 @@ impl Row {
     }
 }
 
-// Asks a request once, and says whether it ended.
+// How a request stands once it was asked.
+#[derive(Clone, Copy)]
+pub(crate) enum Asked {
+    // It was accepted or denied.
+    Ended,
+    // It lacks room for its block, which few pumps make.
+    LacksRoom,
+    // It waits for something else.
+    Waits,
+}
+
+impl Asked {
+    #[inline(always)]
+    fn is_ended(self) -> bool
+        ensures { result ≡ has_ended self }
+    {
+        matches!(self, Asked::Ended)
+    }
+
+    #[inline(always)]
+    fn lacks_room(self) -> bool
+        ensures { result ≡ has_no_room self }
+    {
+        matches!(self, Asked::LacksRoom)
+    }
+}
+
+// Asks a request once.
 #[inline(always)]
-fn ask<M: AnyMachine>(machine: &mut M, row: &mut Row, event: Event) -> bool
+#[tactic(auto, unfolding(machine_core::specs::AnyMachine::answered, machine_core::specs::AnyMachine::after_event))]
+fn ask(machine: &mut ShapedMachine, row: &mut Row, event: Event) -> Asked
     requires { total row.old < 2 ^ 63 }
-    ensures ends { result ≡ sweep.ends event (course (M.state machine.old) row.old) }
-    ensures course { course (M.state machine.new) row.new
-        ≡ sweep.ask event (course (M.state machine.old) row.old) }
-    ensures sizes { (M.state machine.new).sizes ≡ (M.state machine.old).sizes }
+    ensures ends { has_ended result ≡ sweep.ends event (course machine.old row.old) }
+    ensures course { course machine.new row.new ≡ sweep.ask event (course machine.old row.old) }
+    ensures lacks { has_no_room result ≡ true → lacks_room machine.new event ≡ true }
+    ensures sizes { machine.new.sizes ≡ machine.old.sizes }
     ensures total { total row.new ≤ total row.old + 1 }
 {
     let answer = machine.apply(event);
-    row.count_end(answer)
+    if row.count_end(answer) {
+        Asked::Ended
+    } else if is_refused_room(event, answer) {
+        Asked::LacksRoom
+    } else {
+        Asked::Waits
+    }
 }
 
-// Pumps once. Like `ask` it is called in each turn, and pays for no frame of its own.
+// Pumps once, and says whether that may have made room for a block. Like `ask` it is called in each turn, and
+// pays for no frame of its own.
 #[inline(always)]
-fn pump_once<M: AnyMachine>(machine: &mut M, row: &mut Row)
+#[tactic(auto, unfolding(machine_core::specs::AnyMachine::answered, machine_core::specs::AnyMachine::after_event, machine_core::specs::AnyMachine::pump_tells, machine_core::specs::AnyMachine::pump_leaves))]
+fn pump_once(machine: &mut ShapedMachine, row: &mut Row) -> bool
     requires { total row.old < 2 ^ 63 }
-    ensures course { course (M.state machine.new) row.new
-        ≡ sweep.pump_once (course (M.state machine.old) row.old) }
-    ensures sizes { (M.state machine.new).sizes ≡ (M.state machine.old).sizes }
+    ensures room { result ≡ may_make_room (pump_tells machine.old) }
+    ensures course { course machine.new row.new ≡ sweep.pump_once (course machine.old row.old) }
     ensures total { total row.new ≤ total row.old + 2 }
 {
     let told = machine.pump();
     row.count_pump(told);
+    may_make_room(told)
+}
+
+// A turn of a request that waits: a pump, and then the request is asked. One that lacks room is refused again
+// behind a pump that makes none, and isn't asked: most pumps serve, bring or take a word.
+#[inline(always)]
+fn turn(machine: &mut ShapedMachine, row: &mut Row, event: Event, asked: Asked) -> Asked
+    requires room { total row.old + 4 < 2 ^ 63 }
+    requires lacks { has_no_room asked ≡ true → lacks_room machine.old event ≡ true }
+    ensures ends { has_ended result
+        ≡ sweep.ends event (sweep.pump_and_wait (course machine.old row.old)) }
+    ensures course { course machine.new row.new
+        ≡ sweep.ask event (sweep.pump_and_wait (course machine.old row.old)) }
+    ensures lacks { has_no_room result ≡ true → lacks_room machine.new event ≡ true }
+    ensures total { total row.new ≤ total row.old + 4 }
+{
+    let made_room = pump_once(machine, row);
+    row.waited += 1;
+    if asked.lacks_room() && !made_room {
+        return Asked::LacksRoom;
+    }
+    ask(machine, row, event)
 }
 
 // Whether an event is a load, a store, a prefetch or an eviction.
@@ -151,13 +210,13 @@ fn is_request(event: Event) -> bool
 // How often an event that has to wait is asked again at most: as often as what is on its way weighs.
 // To a whole machine a request ends by then, so for one any higher number does the same, and the
 // machine isn't weighed.
-fn most_turns<M: AnyMachine>(machine: &M, event: Event) -> u64
-    requires few { most_weight (M.state machine.now).sizes < 2 ^ 32 }
-    requires whole { IsWholeState (M.state machine.now) }
-    requires waits { IsTrue (is_request event)
-        → is_end (answered (M.state machine.now) event) ≡ false }
+#[tactic(auto, unfolding(machine_core::specs::AnyMachine::weight_of))]
+fn most_turns(machine: &ShapedMachine, event: Event) -> u64
+    requires few { most_weight machine.now.sizes < 2 ^ 32 }
+    requires whole { IsWholeState machine.now }
+    requires waits { IsTrue (is_request event) → is_end (answered machine.now event) ≡ false }
     ensures few { result < 2 ^ 32 }
-    ensures same { (c : sweep.Course) → c.state ≡ M.state machine.now
+    ensures same { (c : sweep.Course) → c.state ≡ machine.now
         → sweep.ask_again result event c ≡ sweep.ask_again (weight_of c.state) event c }
 {
     if is_request(event) {
@@ -168,62 +227,60 @@ fn most_turns<M: AnyMachine>(machine: &M, event: Event) -> u64
 }
 
 // Asks a request again, after a pump each time, until it ends.
-fn ask_again<M: AnyMachine>(machine: &mut M, row: &mut Row, event: Event)
-    requires few { most_weight (M.state machine.old).sizes < 2 ^ 32 }
+fn ask_again(machine: &mut ShapedMachine, row: &mut Row, event: Event, asked: Asked)
+    requires few { most_weight machine.old.sizes < 2 ^ 32 }
     requires room { total row.old < 2 ^ 62 }
-    requires whole { IsWholeState (M.state machine.old) }
-    requires waits { IsTrue (is_request event)
-        → is_end (answered (M.state machine.old) event) ≡ false }
-    ensures sizes { (M.state machine.new).sizes ≡ (M.state machine.old).sizes }
-    ensures course { course (M.state machine.new) row.new
-        ≡ sweep.ask_again (weight_of (M.state machine.old)) event
-        (course (M.state machine.old) row.old) }
+    requires whole { IsWholeState machine.old }
+    requires waits { IsTrue (is_request event) → is_end (answered machine.old event) ≡ false }
+    requires lacks { has_no_room asked ≡ true → lacks_room machine.old event ≡ true }
+    ensures course { course machine.new row.new
+        ≡ sweep.ask_again (weight_of machine.old) event (course machine.old row.old) }
     ensures total { total row.new ≤ total row.old + 2 ^ 34 }
 {
+    let mut asked = asked;
     for _turn in 0..most_turns(machine, event) {
-        pump_once(machine, row);
-        row.waited += 1;
-        if ask(machine, row, event) {
+        asked = turn(machine, row, event, asked);
+        if asked.is_ended() {
             return;
         }
     }
 }
 
 // Serves a request to its end.
-fn serve<M: AnyMachine>(machine: &mut M, row: &mut Row, event: Event)
-    requires few { most_weight (M.state machine.old).sizes < 2 ^ 32 }
+fn serve(machine: &mut ShapedMachine, row: &mut Row, event: Event)
+    requires few { most_weight machine.old.sizes < 2 ^ 32 }
     requires room { total row.old < 2 ^ 61 }
-    requires whole { IsWholeState (M.state machine.old) }
-    ensures sizes { (M.state machine.new).sizes ≡ (M.state machine.old).sizes }
-    ensures course { course (M.state machine.new) row.new
-        ≡ sweep.serve event (course (M.state machine.old) row.old) }
+    requires whole { IsWholeState machine.old }
+    ensures course { course machine.new row.new ≡ sweep.serve event (course machine.old row.old) }
     ensures total { total row.new ≤ total row.old + 2 ^ 35 }
-    ensures whole { IsWholeState (M.state machine.new) }
+    ensures whole { IsWholeState machine.new }
+    ensures sizes { machine.new.sizes ≡ machine.old.sizes }
 {
-    if !ask(machine, row, event) {
+    let asked = ask(machine, row, event);
+    if !asked.is_ended() {
         row.stalled += 1;
-        ask_again(machine, row, event);
+        ask_again(machine, row, event, asked);
     }
 }
 
 // Pumps until there is nothing left to do.
-fn run_dry<M: AnyMachine>(machine: &mut M, row: &mut Row)
-    requires few { most_weight (M.state machine.old).sizes < 2 ^ 32 }
+#[tactic(auto, unfolding(machine_core::specs::AnyMachine::weight_of))]
+fn run_dry(machine: &mut ShapedMachine, row: &mut Row)
+    requires few { most_weight machine.old.sizes < 2 ^ 32 }
     requires room { total row.old < 2 ^ 61 }
-    ensures { course (M.state machine.new) row.new
-        ≡ sweep.run_dry (course (M.state machine.old) row.old) }
+    ensures { course machine.new row.new ≡ sweep.run_dry (course machine.old row.old) }
 {
     for _turn in 0..machine.weight() {
-        pump_once(machine, row);
+        let _made_room = pump_once(machine, row);
     }
 }
 
 // Serves all requests, and then pumps until there is nothing left to do.
-fn count_all<M: AnyMachine>(machine: &mut M, regs: u32, events: &[Event]) -> Row
-    requires few { most_weight (M.state machine.old).sizes < 2 ^ 32 }
+fn count_all(machine: &mut ShapedMachine, regs: u32, events: &[Event]) -> Row
+    requires few { most_weight machine.old.sizes < 2 ^ 32 }
     requires events { length events.now ≤ most_requests }
-    requires whole { IsWholeState (M.state machine.old) }
-    ensures { result ≡ sweep.row_from (M.state machine.old) regs events.now }
+    requires whole { IsWholeState machine.old }
+    ensures { result ≡ sweep.row_from machine.old regs events.now }
 {
     let mut row = Row::default();
     row.regs = regs;
@@ -235,11 +292,11 @@ fn count_all<M: AnyMachine>(machine: &mut M, regs: u32, events: &[Event]) -> Row
 }
 
 // The row of a machine, which says itself that it is whole.
-pub(crate) fn row_from<M: RoundMachine>(machine: &mut M, regs: u32, events: &[Event]) -> Row
-    requires few { most_weight (M.state machine.old).sizes < 2 ^ 32 }
+pub(crate) fn row_from(machine: &mut ShapedMachine, regs: u32, events: &[Event]) -> Row
+    requires few { most_weight machine.old.sizes < 2 ^ 32 }
     requires events { length events.now ≤ most_requests }
-    ensures { result ≡ sweep.row_from (M.state machine.old) regs events.now }
+    ensures { result ≡ sweep.row_from machine.old regs events.now }
 {
-    machine.keeps_whole();
+    keeps_whole(machine);
     count_all(machine, regs, events)
 }

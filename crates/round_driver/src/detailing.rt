@@ -9,13 +9,14 @@ ghost use Rattle.round_driver.specs.Machines as machines;
 
 use crate::details::{Details, RoundEnds, Told};
 use crate::driving::{is_over, most_rounds, round};
-use crate::machine::RoundMachine;
+use crate::machine::{keeps_whole, numbers_of, used_registers};
 use crate::outcomes::{Outcomes, Recording};
 use crate::round::Notes;
 use crate::schedule::Schedule;
 use crate::table::{Counter, Table};
 use crate::timing::Timing;
 use flat_model::Event;
+use machine_core::ShapedMachine;
 use std::alloc::{AllocError, Global};
 
 // The details of a run with this table and these outcomes, whose last round ends with so many registers
@@ -48,25 +49,25 @@ fn details_from(
 ///
 /// `AllocError` says that there was too little memory; nothing has been asked then. As many counts are
 /// held as the machine has sets, two rounds for each tag, and an outcome for each request.
-pub fn detail_with<M: RoundMachine>(
+pub fn detail_with(
     alloc: Global,
-    machine: &mut M,
+    machine: &mut ShapedMachine,
     timing: Timing,
     requests: &[Event],
 ) -> Result<Details, AllocError>
-    requires banks { (M.state machine.old).sizes.banks ≤ MAX_BANKS }
+    requires banks { machine.old.sizes.banks ≤ MAX_BANKS }
     requires latency { timing.latency ≤ MOST_LATENCY }
     requires requests { length requests.now ≤ most_requests }
     ensures details { IfOk result
-        (λ details. details ≡ details_of timing (M.state machine.old) requests.now) }
+        (λ details. details ≡ details_of timing machine.old requests.now) }
     ensures machine { OnOk result
-        (M.state machine.new ≡ (whole_run timing (M.state machine.old) requests.now).state) }
-    ensures over { OnOk result (RequestsEnd timing (M.state machine.old) requests.now) }
-    ensures early { OnOk result (EndsInTime timing (M.state machine.old) requests.now) }
-    ensures unchanged { OnErr result (M.state machine.new ≡ M.state machine.old) }
+        (machine.new ≡ (whole_run timing machine.old requests.now).state) }
+    ensures over { OnOk result (RequestsEnd timing machine.old requests.now) }
+    ensures early { OnOk result (EndsInTime timing machine.old requests.now) }
+    ensures unchanged { OnErr result (machine.new ≡ machine.old) }
 {
-    machine.keeps_whole();
-    let numbers = machine.numbers();
+    keeps_whole(machine);
+    let numbers = numbers_of(machine);
     let mut counter = Counter::new(alloc)?;
     let mut told = Told::new(alloc, numbers)?;
     let mut ends = RoundEnds::new(alloc, numbers)?;
@@ -81,7 +82,7 @@ pub fn detail_with<M: RoundMachine>(
                 table,
                 told,
                 ends,
-                machine.used_registers(),
+                used_registers(machine),
                 outcomes.finish(),
             ));
         }
@@ -89,14 +90,14 @@ pub fn detail_with<M: RoundMachine>(
         counter.count_all(notes.as_slice());
         told.count_all(numbers, notes.as_slice());
         outcomes.record_all(notes.as_slice());
-        ends.count(machine.used_registers(), &told);
+        ends.count(used_registers(machine), &told);
     }
     let table = counter.table_after(schedule.round + 1);
     Ok(details_from(
         table,
         told,
         ends,
-        machine.used_registers(),
+        used_registers(machine),
         outcomes.finish(),
     ))
 }

@@ -12,13 +12,14 @@ ghost use Rattle.round_driver.specs.Timings.{unpipelined};
 ghost use Rattle.round_driver.specs.Walks.{RequestsEnd};
 ghost use Rattle.round_driver.specs.Written.{run_text, BreaksOff};
 
-use crate::machine::RoundMachine;
+use crate::machine::{keeps_whole, most_moves};
 use crate::round::{Notes, ask, moves};
 use crate::schedule::Schedule;
 use crate::table::{Counter, Table};
 use crate::timing::Timing;
 use crate::writing::round_text;
 use flat_model::Event;
+use machine_core::ShapedMachine;
 use std::alloc::{AllocError, Global};
 use trace_text::{Failed, Sink, TraceFault, write_whole};
 
@@ -27,19 +28,19 @@ pub const MOST_LATENCY: u64 = 1_000;
 
 // One round: what is told of it stands in `notes`, and the requests that are left come back.
 #[tactic(auto, unfolding(crate::specs::Rounds::after_round))]
-pub(crate) fn round<'a, M: RoundMachine>(
-    machine: &mut M,
+pub(crate) fn round<'a>(
+    machine: &mut ShapedMachine,
     schedule: &mut Schedule,
     notes: &mut Notes,
     left: &'a [Event],
 ) -> &'a [Event]
-    requires banks { (M.state machine.old).sizes.banks ≤ MAX_BANKS }
+    requires banks { machine.old.sizes.banks ≤ MAX_BANKS }
     requires next { schedule.old.next ≤ MAX_BANKS }
     requires time { schedule.old.round < 2 ^ 62 }
     ensures run { (told : List NoteValue)
-        → run_of (M.state machine.new) schedule.new result.now (told ++ notes.new.items)
-        ≡ rounds.after_round (run_of (M.state machine.old) schedule.old left.now told) }
-    ensures sizes { (M.state machine.new).sizes ≡ (M.state machine.old).sizes }
+        → run_of machine.new schedule.new result.now (told ++ notes.new.items)
+        ≡ rounds.after_round (run_of machine.old schedule.old left.now told) }
+    ensures sizes { machine.new.sizes ≡ machine.old.sizes }
     ensures time { schedule.new.round ≡ schedule.old.round + 1 }
     ensures next { schedule.new.next ≤ MAX_BANKS }
 {
@@ -59,20 +60,21 @@ pub(crate) fn round<'a, M: RoundMachine>(
 }
 
 // Whether the requests are used up, and nothing is on its way.
-pub(crate) fn is_over<M: RoundMachine>(machine: &M, left: &[Event]) -> bool
-    ensures { result ≡ rounds.is_over_at (M.state machine.now) left.now }
+#[tactic(auto, unfolding(machine_core::specs::AnyMachine::weight_of))]
+pub(crate) fn is_over(machine: &ShapedMachine, left: &[Event]) -> bool
+    ensures { result ≡ rounds.is_over_at machine.now left.now }
 {
     left.is_empty() && machine.weight() == 0
 }
 
 // More rounds than a run takes.
-pub(crate) fn most_rounds<M: RoundMachine>(machine: &M, latency: u64, requests: usize) -> u64
+pub(crate) fn most_rounds(machine: &ShapedMachine, latency: u64, requests: usize) -> u64
     requires latency { latency ≤ MOST_LATENCY }
     requires requests { requests ≤ most_requests }
-    ensures value { result ≡ rounds.most_rounds (M.state machine.now).sizes latency requests }
+    ensures value { result ≡ rounds.most_rounds machine.now.sizes latency requests }
     ensures few { result < 2 ^ 48 }
 {
-    (requests as u64 + 1) * (machine.most_moves() * (latency + 1))
+    (requests as u64 + 1) * (most_moves(machine) * (latency + 1))
 }
 
 /// Drives these requests through the machine in rounds, and writes the run: each request whenever it
@@ -93,31 +95,31 @@ pub(crate) fn most_rounds<M: RoundMachine>(machine: &M, latency: u64, requests: 
 /// `TraceFault::Write` says that a write was refused or took no byte: a front of the run is written.
 /// `TraceFault::OutOfMemory` says that there was too little memory for the lines of a round: the run
 /// up to that round is written. No other fault comes.
-pub fn drive_with<W: Sink, M: RoundMachine>(
+pub fn drive_with<W: Sink>(
     alloc: Global,
-    machine: &mut M,
+    machine: &mut ShapedMachine,
     timing: Timing,
     requests: &[Event],
     writer: &mut W,
 ) -> Result<u64, TraceFault>
-    requires banks { (M.state machine.old).sizes.banks ≤ MAX_BANKS }
+    requires banks { machine.old.sizes.banks ≤ MAX_BANKS }
     requires latency { timing.latency ≤ MOST_LATENCY }
     requires requests { length requests.now ≤ most_requests }
     ensures ok { IfOk result
-        (λ n. n ≡ (whole_run timing (M.state machine.old) requests.now).schedule.round + 1) }
+        (λ n. n ≡ (whole_run timing machine.old requests.now).schedule.round + 1) }
     ensures machine { OnOk result
-        (M.state machine.new ≡ (whole_run timing (M.state machine.old) requests.now).state) }
-    ensures over { OnOk result (RequestsEnd timing (M.state machine.old) requests.now) }
-    ensures early { OnOk result (EndsInTime timing (M.state machine.old) requests.now) }
+        (machine.new ≡ (whole_run timing machine.old requests.now).state) }
+    ensures over { OnOk result (RequestsEnd timing machine.old requests.now) }
+    ensures early { OnOk result (EndsInTime timing machine.old requests.now) }
     ensures written { OnOk result
         (Moves W.took writer.old
-        (run_text (whole_run timing (M.state machine.old) requests.now).told) writer.new) }
+        (run_text (whole_run timing machine.old requests.now).told) writer.new) }
     ensures fault { IfErr result
         (λ fault. (n : ℕ) × BreaksOff W.took W.refused writer.old
-        (run_text (rounds_until_over n (start_of timing (M.state machine.old) requests.now)).told)
+        (run_text (rounds_until_over n (start_of timing machine.old requests.now)).told)
         writer.new fault) }
 {
-    machine.keeps_whole();
+    keeps_whole(machine);
     let mut schedule = Schedule::new(timing);
     let mut notes = Notes::new();
     let mut left = requests;
@@ -139,28 +141,28 @@ pub fn drive_with<W: Sink, M: RoundMachine>(
 ///
 /// `latency` is how many rounds pass from the one in which a bank begins a command to the one in
 /// which it serves it, [`MOST_LATENCY`] at most.
-pub fn drive<W: Sink, M: RoundMachine>(
+pub fn drive<W: Sink>(
     alloc: Global,
-    machine: &mut M,
+    machine: &mut ShapedMachine,
     latency: u64,
     requests: &[Event],
     writer: &mut W,
 ) -> Result<u64, TraceFault>
-    requires banks { (M.state machine.old).sizes.banks ≤ MAX_BANKS }
+    requires banks { machine.old.sizes.banks ≤ MAX_BANKS }
     requires latency { latency ≤ MOST_LATENCY }
     requires requests { length requests.now ≤ most_requests }
     ensures ok { IfOk result
-        (λ n. n ≡ (whole_run (unpipelined latency) (M.state machine.old) requests.now).schedule.round + 1) }
+        (λ n. n ≡ (whole_run (unpipelined latency) machine.old requests.now).schedule.round + 1) }
     ensures machine { OnOk result
-        (M.state machine.new ≡ (whole_run (unpipelined latency) (M.state machine.old) requests.now).state) }
-    ensures over { OnOk result (RequestsEnd (unpipelined latency) (M.state machine.old) requests.now) }
-    ensures early { OnOk result (EndsInTime (unpipelined latency) (M.state machine.old) requests.now) }
+        (machine.new ≡ (whole_run (unpipelined latency) machine.old requests.now).state) }
+    ensures over { OnOk result (RequestsEnd (unpipelined latency) machine.old requests.now) }
+    ensures early { OnOk result (EndsInTime (unpipelined latency) machine.old requests.now) }
     ensures written { OnOk result
         (Moves W.took writer.old
-        (run_text (whole_run (unpipelined latency) (M.state machine.old) requests.now).told) writer.new) }
+        (run_text (whole_run (unpipelined latency) machine.old requests.now).told) writer.new) }
     ensures fault { IfErr result
         (λ fault. (n : ℕ) × BreaksOff W.took W.refused writer.old
-        (run_text (rounds_until_over n (start_of (unpipelined latency) (M.state machine.old) requests.now)).told)
+        (run_text (rounds_until_over n (start_of (unpipelined latency) machine.old requests.now)).told)
         writer.new fault) }
 {
     drive_with(
@@ -175,24 +177,24 @@ pub fn drive<W: Sink, M: RoundMachine>(
 /// Drives these requests through the machine in rounds, as [`drive_with`] does, and counts.
 ///
 /// `AllocError` says that there was too little memory; nothing has been asked then.
-pub fn summarize_with<M: RoundMachine>(
+pub fn summarize_with(
     alloc: Global,
-    machine: &mut M,
+    machine: &mut ShapedMachine,
     timing: Timing,
     requests: &[Event],
 ) -> Result<Table, AllocError>
-    requires banks { (M.state machine.old).sizes.banks ≤ MAX_BANKS }
+    requires banks { machine.old.sizes.banks ≤ MAX_BANKS }
     requires latency { timing.latency ≤ MOST_LATENCY }
     requires requests { length requests.now ≤ most_requests }
     ensures table { IfOk result
-        (λ table. table ≡ table_of timing (M.state machine.old) requests.now) }
+        (λ table. table ≡ table_of timing machine.old requests.now) }
     ensures machine { OnOk result
-        (M.state machine.new ≡ (whole_run timing (M.state machine.old) requests.now).state) }
-    ensures over { OnOk result (RequestsEnd timing (M.state machine.old) requests.now) }
-    ensures early { OnOk result (EndsInTime timing (M.state machine.old) requests.now) }
-    ensures unchanged { OnErr result (M.state machine.new ≡ M.state machine.old) }
+        (machine.new ≡ (whole_run timing machine.old requests.now).state) }
+    ensures over { OnOk result (RequestsEnd timing machine.old requests.now) }
+    ensures early { OnOk result (EndsInTime timing machine.old requests.now) }
+    ensures unchanged { OnErr result (machine.new ≡ machine.old) }
 {
-    machine.keeps_whole();
+    keeps_whole(machine);
     let mut counter = Counter::new(alloc)?;
     let mut schedule = Schedule::new(timing);
     let mut notes = Notes::new();
@@ -209,21 +211,21 @@ pub fn summarize_with<M: RoundMachine>(
 
 /// Counts these requests as [`summarize_with`] does, with banks that have one command at a time, as
 /// [`drive`] has them.
-pub fn summarize<M: RoundMachine>(
+pub fn summarize(
     alloc: Global,
-    machine: &mut M,
+    machine: &mut ShapedMachine,
     latency: u64,
     requests: &[Event],
 ) -> Result<Table, AllocError>
-    requires banks { (M.state machine.old).sizes.banks ≤ MAX_BANKS }
+    requires banks { machine.old.sizes.banks ≤ MAX_BANKS }
     requires latency { latency ≤ MOST_LATENCY }
     requires requests { length requests.now ≤ most_requests }
     ensures table { IfOk result
-        (λ table. table ≡ table_of (unpipelined latency) (M.state machine.old) requests.now) }
+        (λ table. table ≡ table_of (unpipelined latency) machine.old requests.now) }
     ensures machine { OnOk result
-        (M.state machine.new ≡ (whole_run (unpipelined latency) (M.state machine.old) requests.now).state) }
-    ensures over { OnOk result (RequestsEnd (unpipelined latency) (M.state machine.old) requests.now) }
-    ensures early { OnOk result (EndsInTime (unpipelined latency) (M.state machine.old) requests.now) }
+        (machine.new ≡ (whole_run (unpipelined latency) machine.old requests.now).state) }
+    ensures over { OnOk result (RequestsEnd (unpipelined latency) machine.old requests.now) }
+    ensures early { OnOk result (EndsInTime (unpipelined latency) machine.old requests.now) }
 {
     summarize_with(alloc, machine, Timing::unpipelined(latency), requests)
 }

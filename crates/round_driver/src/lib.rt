@@ -39,7 +39,7 @@ mod writing;
 pub use detailing::detail_with;
 pub use details::{ByKind, BySet, Details, Finds};
 pub use driving::{MOST_LATENCY, drive, drive_with, summarize, summarize_with};
-pub use machine::{MachineNumbers, RoundMachine};
+pub use machine::{MachineNumbers, keeps_whole};
 pub use note::Note;
 pub use outcomes::{Outcome, Outcomes};
 pub use stepping::{MOST_ROUNDS, RoundReport, Rounds};

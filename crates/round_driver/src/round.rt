@@ -7,12 +7,12 @@ ghost use Rattle.round_driver.specs.Rounds.{course, Run};
 ghost use Rattle.round_driver.specs.Rounds as rounds;
 ghost use Rattle.round_driver.specs.Machines as machines;
 
-use crate::machine::RoundMachine;
+use crate::machine::{command_count, has_answer, has_stack_room, used_registers};
 use crate::note::Note;
 use crate::schedule::Schedule;
 use arrayvec::ArrayVec;
 use flat_model::{Answer, Event};
-use machine_core::Lookup;
+use machine_core::{Lookup, ShapedMachine};
 
 /// The most that is told of a round: of each bank, one arrival, the stack, the replies, the write
 /// queue, and one request.
@@ -44,11 +44,11 @@ pub(crate) fn is_end(answer: Answer) -> bool
 
 // Makes an event, and tells it if it did something.
 #[tactic(auto, unfolding(crate::specs::Rounds::attempt, machine_core::specs::AnyMachine::answered, machine_core::specs::AnyMachine::after_event))]
-fn attempt<M: RoundMachine>(machine: &mut M, schedule: &Schedule, notes: &mut Notes, event: Event)
+fn attempt(machine: &mut ShapedMachine, schedule: &Schedule, notes: &mut Notes, event: Event)
     requires room { array_vec_len notes.old < MOST_NOTES }
-    ensures course { course (M.state machine.new) schedule.now notes.new.items
-        ≡ rounds.attempt event (course (M.state machine.old) schedule.now notes.old.items) }
-    ensures sizes { (M.state machine.new).sizes ≡ (M.state machine.old).sizes }
+    ensures course { course machine.new schedule.now notes.new.items
+        ≡ rounds.attempt event (course machine.old schedule.now notes.old.items) }
+    ensures sizes { machine.new.sizes ≡ machine.old.sizes }
     ensures len { array_vec_len notes.new ≤ array_vec_len notes.old + 1 }
 {
     let answer = machine.apply(event);
@@ -65,31 +65,26 @@ fn attempt<M: RoundMachine>(machine: &mut M, schedule: &Schedule, notes: &mut No
 
 // A bank that may begin a command begins one that waits.
 #[tactic(auto, unfolding(crate::specs::Rounds::begin))]
-fn begin<M: RoundMachine>(machine: &M, schedule: &mut Schedule, notes: &Notes, bank: u32)
+fn begin(machine: &ShapedMachine, schedule: &mut Schedule, notes: &Notes, bank: u32)
     requires bank { bank < MAX_BANKS }
-    ensures course { course (M.state machine.now) schedule.new notes.now.items
-        ≡ rounds.begin bank (course (M.state machine.now) schedule.old notes.now.items) }
+    ensures course { course machine.now schedule.new notes.now.items
+        ≡ rounds.begin bank (course machine.now schedule.old notes.now.items) }
     ensures time { schedule.new.round ≡ schedule.old.round }
     ensures next { schedule.new.next ≡ schedule.old.next }
 {
-    if schedule.is_free(bank) && schedule.in_flight(bank) < machine.command_count(bank) {
+    if schedule.is_free(bank) && schedule.in_flight(bank) < command_count(machine, bank) {
         schedule.begin(bank);
     }
 }
 
 // A bank serves its command if it was begun long enough ago.
 #[tactic(auto, unfolding(crate::specs::Rounds::serve_due))]
-fn serve_due<M: RoundMachine>(
-    machine: &mut M,
-    schedule: &mut Schedule,
-    notes: &mut Notes,
-    bank: u32,
-)
+fn serve_due(machine: &mut ShapedMachine, schedule: &mut Schedule, notes: &mut Notes, bank: u32)
     requires bank { bank < MAX_BANKS }
     requires room { array_vec_len notes.old < MOST_NOTES }
-    ensures course { course (M.state machine.new) schedule.new notes.new.items
-        ≡ rounds.serve_due bank (course (M.state machine.old) schedule.old notes.old.items) }
-    ensures sizes { (M.state machine.new).sizes ≡ (M.state machine.old).sizes }
+    ensures course { course machine.new schedule.new notes.new.items
+        ≡ rounds.serve_due bank (course machine.old schedule.old notes.old.items) }
+    ensures sizes { machine.new.sizes ≡ machine.old.sizes }
     ensures len { array_vec_len notes.new ≤ array_vec_len notes.old + 1 }
     ensures time { schedule.new.round ≡ schedule.old.round }
     ensures next { schedule.new.next ≡ schedule.old.next }
@@ -101,30 +96,30 @@ fn serve_due<M: RoundMachine>(
 }
 
 // Each bank, by number, begins a command and serves one that is due.
-fn bank_turns<M: RoundMachine>(machine: &mut M, schedule: &mut Schedule, notes: &mut Notes)
-    requires banks { (M.state machine.old).sizes.banks ≤ MAX_BANKS }
+fn bank_turns(machine: &mut ShapedMachine, schedule: &mut Schedule, notes: &mut Notes)
+    requires banks { machine.old.sizes.banks ≤ MAX_BANKS }
     requires room { array_vec_len notes.old ≡ 0 }
-    ensures course { course (M.state machine.new) schedule.new notes.new.items
-        ≡ rounds.bank_turns (M.state machine.old).sizes.banks 0
-        (course (M.state machine.old) schedule.old notes.old.items) }
-    ensures sizes { (M.state machine.new).sizes ≡ (M.state machine.old).sizes }
+    ensures course { course machine.new schedule.new notes.new.items
+        ≡ rounds.bank_turns machine.old.sizes.banks 0
+        (course machine.old schedule.old notes.old.items) }
+    ensures sizes { machine.new.sizes ≡ machine.old.sizes }
     ensures len { array_vec_len notes.new ≤ MAX_BANKS }
     ensures time { schedule.new.round ≡ schedule.old.round }
     ensures next { schedule.new.next ≡ schedule.old.next }
 {
-    for bank in 0..machine.bank_count() {
+    for bank in 0..machine.sizes().banks {
         begin(machine, schedule, notes, bank);
         serve_due(machine, schedule, notes, bank);
     }
 }
 
 // The first of these banks with an answer.
-fn first_with_answer<M: RoundMachine>(machine: &M, from: u32, to: u32) -> Option<u32>
-    ensures bank { result ≡ rounds.first_with_answer (M.state machine.now) (to - from) from }
+fn first_with_answer(machine: &ShapedMachine, from: u32, to: u32) -> Option<u32>
+    ensures bank { result ≡ rounds.first_with_answer machine.now (to - from) from }
     ensures below { IfSome result (λ b. b < to) }
 {
     for bank in from..to {
-        if machine.has_answer(bank) {
+        if has_answer(machine, bank) {
             return Some(bank);
         }
     }
@@ -132,13 +127,13 @@ fn first_with_answer<M: RoundMachine>(machine: &M, from: u32, to: u32) -> Option
 }
 
 // The first bank with an answer, from the next one on and then from the first on.
-fn next_with_answer<M: RoundMachine>(machine: &M, next: u32) -> Option<u32>
-    requires banks { (M.state machine.now).sizes.banks ≤ MAX_BANKS }
+fn next_with_answer(machine: &ShapedMachine, next: u32) -> Option<u32>
+    requires banks { machine.now.sizes.banks ≤ MAX_BANKS }
     requires next { next ≤ MAX_BANKS }
-    ensures bank { result ≡ rounds.next_with_answer (M.state machine.now) next }
+    ensures bank { result ≡ rounds.next_with_answer machine.now next }
     ensures below { IfSome result (λ b. b < MAX_BANKS) }
 {
-    match first_with_answer(machine, next, machine.bank_count()) {
+    match first_with_answer(machine, next, machine.sizes().banks) {
         Some(bank) => Some(bank),
         None => first_with_answer(machine, 0, next),
     }
@@ -146,18 +141,18 @@ fn next_with_answer<M: RoundMachine>(machine: &M, next: u32) -> Option<u32>
 
 // The next bank's first answer arrives, if the stack has room.
 #[tactic(auto, unfolding(crate::specs::Rounds::arrive))]
-fn arrive<M: RoundMachine>(machine: &mut M, schedule: &mut Schedule, notes: &mut Notes)
-    requires banks { (M.state machine.old).sizes.banks ≤ MAX_BANKS }
+fn arrive(machine: &mut ShapedMachine, schedule: &mut Schedule, notes: &mut Notes)
+    requires banks { machine.old.sizes.banks ≤ MAX_BANKS }
     requires next { schedule.old.next ≤ MAX_BANKS }
     requires room { array_vec_len notes.old < MOST_NOTES }
-    ensures course { course (M.state machine.new) schedule.new notes.new.items
-        ≡ rounds.arrive (course (M.state machine.old) schedule.old notes.old.items) }
-    ensures sizes { (M.state machine.new).sizes ≡ (M.state machine.old).sizes }
+    ensures course { course machine.new schedule.new notes.new.items
+        ≡ rounds.arrive (course machine.old schedule.old notes.old.items) }
+    ensures sizes { machine.new.sizes ≡ machine.old.sizes }
     ensures len { array_vec_len notes.new ≤ array_vec_len notes.old + 1 }
     ensures time { schedule.new.round ≡ schedule.old.round }
     ensures next { schedule.new.next ≤ MAX_BANKS }
 {
-    if !machine.has_stack_room() {
+    if !has_stack_room(machine) {
         return;
     }
     if let Some(bank) = next_with_answer(machine, schedule.next) {
@@ -167,8 +162,9 @@ fn arrive<M: RoundMachine>(machine: &mut M, schedule: &mut Schedule, notes: &mut
 }
 
 // What a request finds, if it asks for a word.
-fn finding<M: RoundMachine>(machine: &M, event: Event) -> Option<Lookup>
-    ensures { result ≡ rounds.finding (M.state machine.now) event }
+#[tactic(auto, unfolding(crate::specs::Machines::found_at))]
+fn finding(machine: &ShapedMachine, event: Event) -> Option<Lookup>
+    ensures { result ≡ rounds.finding machine.now event }
 {
     match event {
         Event::Load { at, .. } | Event::Store { at, .. } | Event::Prefetch { at } => {
@@ -179,29 +175,29 @@ fn finding<M: RoundMachine>(machine: &M, event: Event) -> Option<Lookup>
 }
 
 // The registers in use behind a miss that was accepted.
-fn registers_behind<M: RoundMachine>(machine: &M, answer: Answer, found: Option<Lookup>) -> u32
-    ensures { result ≡ rounds.registers_behind answer found (M.state machine.now) }
+fn registers_behind(machine: &ShapedMachine, answer: Answer, found: Option<Lookup>) -> u32
+    ensures { result ≡ rounds.registers_behind answer found machine.now }
 {
     match (answer, found) {
-        (Answer::Accepted, Some(Lookup::Miss)) => machine.used_registers(),
+        (Answer::Accepted, Some(Lookup::Miss)) => used_registers(machine),
         _ => 0,
     }
 }
 
 // Asks a request and tells it, and says whether that ended it.
-#[tactic(auto, unfolding(crate::specs::Rounds::ask, machine_core::specs::AnyMachine::after_event))]
-pub(crate) fn ask<M: RoundMachine>(
-    machine: &mut M,
+#[tactic(auto, unfolding(crate::specs::Rounds::ask, machine_core::specs::AnyMachine::answered, machine_core::specs::AnyMachine::after_event))]
+pub(crate) fn ask(
+    machine: &mut ShapedMachine,
     schedule: &Schedule,
     notes: &mut Notes,
     event: Event,
 ) -> bool
     requires room { array_vec_len notes.old < MOST_NOTES }
     ensures ends { result
-        ≡ rounds.ends event (course (M.state machine.old) schedule.now notes.old.items) }
-    ensures course { course (M.state machine.new) schedule.now notes.new.items
-        ≡ rounds.ask event (course (M.state machine.old) schedule.now notes.old.items) }
-    ensures sizes { (M.state machine.new).sizes ≡ (M.state machine.old).sizes }
+        ≡ rounds.ends event (course machine.old schedule.now notes.old.items) }
+    ensures course { course machine.new schedule.now notes.new.items
+        ≡ rounds.ask event (course machine.old schedule.now notes.old.items) }
+    ensures sizes { machine.new.sizes ≡ machine.old.sizes }
 {
     let found = finding(machine, event);
     let answer = machine.apply(event);
@@ -217,13 +213,13 @@ pub(crate) fn ask<M: RoundMachine>(
 
 // What a round moves before it asks.
 #[tactic(auto, unfolding(crate::specs::Rounds::moves))]
-pub(crate) fn moves<M: RoundMachine>(machine: &mut M, schedule: &mut Schedule, notes: &mut Notes)
-    requires banks { (M.state machine.old).sizes.banks ≤ MAX_BANKS }
+pub(crate) fn moves(machine: &mut ShapedMachine, schedule: &mut Schedule, notes: &mut Notes)
+    requires banks { machine.old.sizes.banks ≤ MAX_BANKS }
     requires next { schedule.old.next ≤ MAX_BANKS }
     requires room { array_vec_len notes.old ≡ 0 }
-    ensures course { course (M.state machine.new) schedule.new notes.new.items
-        ≡ rounds.moves (course (M.state machine.old) schedule.old notes.old.items) }
-    ensures sizes { (M.state machine.new).sizes ≡ (M.state machine.old).sizes }
+    ensures course { course machine.new schedule.new notes.new.items
+        ≡ rounds.moves (course machine.old schedule.old notes.old.items) }
+    ensures sizes { machine.new.sizes ≡ machine.old.sizes }
     ensures len { array_vec_len notes.new ≤ MAX_BANKS + 4 }
     ensures time { schedule.new.round ≡ schedule.old.round }
     ensures next { schedule.new.next ≤ MAX_BANKS }

@@ -5,13 +5,13 @@ ghost use Rattle.round_driver.specs.Stepping as stepping;
 ghost use Rattle.round_driver.specs.Stepping.{one_round, after_one, report_of};
 
 use crate::driving::round;
-use crate::machine::RoundMachine;
 use crate::note::Note;
 use crate::round::Notes;
 use crate::schedule::Schedule;
 use crate::table::{Counter, Table};
 use crate::timing::Timing;
 use flat_model::{Answer, Event};
+use machine_core::ShapedMachine;
 use std::alloc::{AllocError, Global};
 use std::marker::Model;
 
@@ -77,15 +77,15 @@ impl Rounds {
     ///
     /// Fewer than [`MOST_ROUNDS`] rounds were made. The machine has at most 16 banks, as each one that
     /// is made.
-    pub fn make<M: RoundMachine>(&mut self, machine: &mut M, request: Option<Event>) -> RoundReport
-        requires banks { (M.state machine.old).sizes.banks ≤ MAX_BANKS }
+    pub fn make(&mut self, machine: &mut ShapedMachine, request: Option<Event>) -> RoundReport
+        requires banks { machine.old.sizes.banks ≤ MAX_BANKS }
         requires rounds { self.old.schedule.round < MOST_ROUNDS }
         ensures report { result
-            ≡ report_of request (one_round (M.state machine.old) self.old request) }
-        ensures machine { M.state machine.new
-            ≡ (one_round (M.state machine.old) self.old request).state }
+            ≡ report_of request (one_round machine.old self.old request) }
+        ensures machine { machine.new
+            ≡ (one_round machine.old self.old request).state }
         ensures rounds { self.new
-            ≡ after_one self.old (one_round (M.state machine.old) self.old request) }
+            ≡ after_one self.old (one_round machine.old self.old request) }
     {
         let mut notes = Notes::new();
         match request {

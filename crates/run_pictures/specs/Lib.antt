@@ -1,5 +1,5 @@
 pub mod Numbered
-pub mod Extents
+pub mod Layouts
 pub mod Places
 pub mod Asked
 pub mod Steps

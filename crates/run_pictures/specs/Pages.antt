@@ -7,11 +7,10 @@ use Rattle.std.specs.declared.string.String.{String}
 use Rattle.flat_model.specs.Texts.{event_text, answer_text}
 use Rattle.machine_core.specs.Machine.{MachineState}
 use Rattle.memory_images.specs.declared.image.Image.{Image}
-use Rattle.run_pictures.specs.declared.machine.Extent.{Extent}
+use Rattle.cache_unit.specs.declared.Sizes.{Sizes}
 use Rattle.run_pictures.specs.declared.page.Page.{Page}
 use Rattle.run_pictures.specs.declared.place.Place.{Place}
 use Rattle.run_pictures.specs.declared.step.Made.{Made}
-use Rattle.run_pictures.specs.Extents.{extent_of}
 use Rattle.run_pictures.specs.Places.{name_text}
 use Rattle.run_pictures.specs.Steps.{other_text}
 use Rattle.run_pictures.specs.Pictures.{Texts, is_changed, Begins, GoesOn}
@@ -39,8 +38,8 @@ step_text made words before after = event_line made words ++ changes_text before
 
 -- ---- the text before the first step
 
-abbrev pub extent_text : Extent → List ℕ
-extent_text z =
+abbrev pub sizes_text : Sizes → List ℕ
+sizes_text z =
     codes "const blockWords = " ++ (decimal z.block_words ++ (codes ";\nconst ways = " ++ (decimal z.ways ++ codes ";\n")))
 
 abbrev pub place_line : Place → List ℕ
@@ -57,7 +56,7 @@ first_text texts = codes "const steps = [\n[\"\",\"\",\"the machine before the f
 -- Before the first event: behind the page's head stand the machine's numbers, the places' names, and the first picture.
 pub record PageOpens (head : List ℕ) (image : Image) (s : MachineState) (p : Page) : Type 0 where
   pub film : Begins image s p.film
-  pub text : string_bytes p.text ≡ head ++ (extent_text (extent_of s.sizes) ++ (places_text p.film.places.items ++ first_text p.film.texts.items))
+  pub text : string_bytes p.text ≡ head ++ (sizes_text s.sizes ++ (places_text p.film.places.items ++ first_text p.film.texts.items))
 
 -- The step of an event that was made, told in these words: its text stands behind the others.
 pub record PageGoesOn (s : MachineState) (made : Made) (words : List ℕ) (old new : Page) : Type 0 where

@@ -14,7 +14,6 @@ use Rattle.machine_core.specs.Machine.{MachineState}
 use Rattle.run_pictures.specs.declared.place.Place.{Place}
 use Rattle.run_pictures.specs.declared.film.Film.{Film}
 use Rattle.run_pictures.specs.Cells.{IsTextAt}
-use Rattle.run_pictures.specs.Extents.{extent_of}
 use Rattle.run_pictures.specs.Places.{places_in}
 
 abbrev pub Texts : Type 0
@@ -46,7 +45,7 @@ pub record IsFilmed (s : MachineState) (flat : Flat) (f : Film) : Type 0 where
 -- the film of a new machine over an image, with all places of its pictures
 pub record Begins (image : Image) (s : MachineState) (f : Film) : Type 0 where
   pub film : IsFilmed s (flat_from image s.sizes.words) f
-  pub places : f.places.items ≡ places_in (extent_of s.sizes)
+  pub places : f.places.items ≡ places_in s.sizes
 
 -- A film goes on by one picture: that of the machine behind an event, with what flat memory owes behind it.
 pub record GoesOn (s : MachineState) (event : Event) (answer : Answer) (old new : Film) : Type 0 where

@@ -2,8 +2,8 @@
 use Rattle.std.specs.Prelude.{ℕ, ◌*◌, if◌then◌else◌, nat_lt, List, [], ◌∷◌, ◌++◌, codes, decimal}
 use Rattle.std.specs.List.{flat_map, range_with_len}
 use Rattle.miss_registers.specs.declared.TheConstants.{MAX_WAITING}
-use Rattle.run_pictures.specs.Extents.{fitted}
-use Rattle.run_pictures.specs.declared.machine.Extent.{Extent}
+use Rattle.run_pictures.specs.Layouts.{fitted}
+use Rattle.cache_unit.specs.declared.Sizes.{Sizes}
 use Rattle.run_pictures.specs.declared.place.Place.{Place}
 use Rattle.run_pictures.specs.declared.place.TheConstants.{MOST_MEMORY}
 use Rattle.run_pictures.specs.declared.place.Place.TheVariants.{Register, Line, Field, Load, Frame, Cell, Stack, Queue, Command, Answer, Reply, Memory}
@@ -36,13 +36,13 @@ load_place slot i place = Load slot i place ∷ []
 abbrev pub field_places : ℕ → ℕ → List Place
 field_places slot i = Field slot i ∷ of_each (load_place slot i) MAX_WAITING
 
-abbrev pub register_places : Extent → ℕ → List Place
+abbrev pub register_places : Sizes → ℕ → List Place
 register_places z slot = Register slot ∷ (Line slot ∷ of_each (field_places slot) z.block_words)
 
 abbrev pub cell_place : ℕ → ℕ → List Place
 cell_place frame i = Cell frame i ∷ []
 
-abbrev pub frame_places : Extent → ℕ → List Place
+abbrev pub frame_places : Sizes → ℕ → List Place
 frame_places z frame = Frame frame ∷ of_each (cell_place frame) z.block_words
 
 abbrev pub stack_place : ℕ → List Place
@@ -58,7 +58,7 @@ abbrev pub answer_place : ℕ → ℕ → List Place
 answer_place bank place = Answer bank place ∷ []
 
 -- the commands that may wait at a bank, and the answers that may stand there: each word of a register is asked for once
-abbrev pub bank_places : Extent → ℕ → List Place
+abbrev pub bank_places : Sizes → ℕ → List Place
 bank_places z bank = of_each (command_place bank) z.bank_queue ++ of_each (answer_place bank) (fitted (z.regs * z.block_words))
 
 abbrev pub reply_place : ℕ → List Place
@@ -72,7 +72,7 @@ abbrev pub memory_shown : ℕ → ℕ
 memory_shown words = if nat_lt MOST_MEMORY words then MOST_MEMORY else words
 
 -- the places of a machine's picture, in the order in which they are drawn
-abbrev pub places_in : Extent → List Place
+abbrev pub places_in : Sizes → List Place
 places_in z =
     of_each (register_places z) z.regs ++ of_each (frame_places z) (fitted (z.sets * z.ways)) ++ of_each stack_place z.depth ++ of_each queue_place z.write_queue
     ++ of_each (bank_places z) z.banks ++ of_each reply_place z.replies ++ of_each memory_place (memory_shown z.words)

@@ -15,9 +15,8 @@ use Rattle.memory_banks.specs.Banks.{bank_at}
 use Rattle.miss_registers.specs.declared.RegisterView.{RegisterView}
 use Rattle.machine_core.specs.Machine.{MachineState}
 use Rattle.machine_core.specs.AnyMachine.{register_shown}
-use Rattle.run_pictures.specs.Extents.{extent_of}
 use Rattle.run_pictures.specs.Pictures.{Texts, is_changed}
-use Rattle.run_pictures.specs.declared.machine.Extent.{Extent}
+use Rattle.cache_unit.specs.declared.Sizes.{Sizes}
 use Rattle.run_pictures.specs.declared.step.Made.{Made}
 use Rattle.run_pictures.specs.declared.waveform.Waveform.{Waveform}
 use Rattle.run_pictures.specs.declared.level.Level.{Level}
@@ -192,7 +191,7 @@ abbrev pub bank_signals : ℕ → List Signal
 bank_signals bank = Commands bank ∷ (Answers bank ∷ [])
 
 -- the signals of a machine, in the order in which they are declared
-abbrev pub signals_in : Extent → List Signal
+abbrev pub signals_in : Sizes → List Signal
 signals_in z =
     event_signals ++ flat_map register_signals (range_with_len 0 z.regs) ++ Stack ∷ [] ++ Queue ∷ [] ++ flat_map bank_signals (range_with_len 0 z.banks) ++ Replies ∷ []
 
@@ -232,7 +231,7 @@ step_text n changes = codes "#" ++ (decimal n ++ (codes "\n" ++ changes))
 
 -- Before the first event: all signals are declared, and then stand their values.
 pub record WaveOpens (s : MachineState) (w : Waveform) : Type 0 where
-  pub signals : w.signals.items ≡ signals_in (extent_of s.sizes)
+  pub signals : w.signals.items ≡ signals_in s.sizes
   pub values : map string_bytes w.values.items ≡ values_of None s w.signals.items
   pub text : string_bytes w.text ≡ declarations_text w.signals.items ++ (codes "#0\n$dumpvars\n" ++ (changes_text [] w.values.items ++ codes "$end\n"))
 

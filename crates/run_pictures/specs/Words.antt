@@ -23,8 +23,9 @@ use Rattle.cache_unit.specs.Views.{frame_view, dirty_view, reply_view}
 use Rattle.machine_core.specs.Machine.{MachineState}
 use Rattle.machine_core.specs.AnyMachine.{answered}
 use Rattle.run_pictures.specs.declared.before.Before.{Before}
-use Rattle.run_pictures.specs.declared.machine.Extent.{Extent}
-use Rattle.run_pictures.specs.Extents.{extent_of, frames_in, block_in, set_in, set_of_frame, bank_in}
+use Rattle.cache_unit.specs.declared.Sizes.{Sizes}
+use Rattle.cache_unit.specs.State.{block_of}
+use Rattle.run_pictures.specs.Layouts.{frames_in, set_in, set_of_frame, bank_in}
 use Rattle.run_pictures.specs.Cells.{is_pending}
 
 -- ---- what is seen of the machine before an event
@@ -60,10 +61,10 @@ seen s event =
     }
 
 -- the block that a request or an eviction is about; block 0 for other events
-abbrev pub block_about : Extent → Event → ℕ
-block_about z (Load tag at) = block_in z at
-block_about z (Store at word lanes) = block_in z at
-block_about z (Prefetch at) = block_in z at
+abbrev pub block_about : Sizes → Event → ℕ
+block_about z (Load tag at) = block_of z at
+block_about z (Store at word lanes) = block_of z at
+block_about z (Prefetch at) = block_of z at
 block_about z (Evict block) = block
 block_about z event = 0
 
@@ -87,7 +88,7 @@ request_words block event (Some Miss) =
     codes "a miss: a register is taken, and block " ++ (decimal block ++ codes "'s words are asked for")
 request_words block event None = []
 
-abbrev pub accepted_words : Extent → Event → Option Lookup → List ℕ
+abbrev pub accepted_words : Sizes → Event → Option Lookup → List ℕ
 accepted_words z (Evict block) found = codes "the frame of block " ++ (decimal block ++ codes " is given up")
 accepted_words z event found = request_words (block_about z event) event found
 
@@ -98,10 +99,10 @@ drained_text lanes at bank =
     codes "the bytes " ++ (lanes_text lanes ++ (codes " of word " ++ (decimal at ++ (codes " go to bank " ++ decimal bank))))
 
 -- a word that leaves the write queue
-abbrev pub sent_words : Extent → Queued → List ℕ
+abbrev pub sent_words : Sizes → Queued → List ℕ
 sent_words z q = drained_text q.lanes q.at (bank_in z q.at)
 
-abbrev pub drained_words : Extent → Option Queued → List ℕ
+abbrev pub drained_words : Sizes → Option Queued → List ℕ
 drained_words z None = []
 drained_words z (Some q) = sent_words z q
 
@@ -121,7 +122,7 @@ processed_words None = []
 processed_words (Some e) =
     codes "word " ++ (decimal e.i ++ (codes " of register " ++ (decimal e.slot ++ codes "'s block has come: its loads are answered")))
 
-abbrev pub moved_words : Extent → Before → Event → List ℕ
+abbrev pub moved_words : Sizes → Before → Event → List ℕ
 moved_words z before Drain = drained_words z before.front
 moved_words z before (Serve bank) = served_words bank
 moved_words z before (Arrive bank place) = arrived_words bank before.answer
@@ -143,17 +144,17 @@ idle_words event = []
 
 -- ---- why it was refused
 
-abbrev pub word_outside : Extent → ℕ → List ℕ
+abbrev pub word_outside : Sizes → ℕ → List ℕ
 word_outside z at = codes "word " ++ (decimal at ++ (codes " is outside memory, which has " ++ (decimal z.words ++ codes " words")))
 
 abbrev pub block_outside_text : ℕ → ℕ → List ℕ
 block_outside_text block blocks =
     codes "block " ++ (decimal block ++ (codes " is outside memory, which has " ++ (decimal blocks ++ codes " blocks")))
 
-abbrev pub block_outside : Extent → ℕ → List ℕ
-block_outside z block = block_outside_text block (block_in z z.words)
+abbrev pub block_outside : Sizes → ℕ → List ℕ
+block_outside z block = block_outside_text block (block_of z z.words)
 
-abbrev pub outside_words : Extent → Event → List ℕ
+abbrev pub outside_words : Sizes → Event → List ℕ
 outside_words z (Load tag at) = word_outside z at
 outside_words z (Store at word lanes) = word_outside z at
 outside_words z (Prefetch at) = word_outside z at
@@ -194,17 +195,17 @@ is_dirty s frame i = any_lane (dirty_view s.machine.cache frame i)
 
 -- how many such words a frame has
 unfoldable pub dirty_count : MachineState → ℕ → ℕ
-dirty_count s frame = length (filter (λ i. is_dirty s frame i) (range_with_len 0 (extent_of s.sizes).block_words))
+dirty_count s frame = length (filter (λ i. is_dirty s frame i) (range_with_len 0 s.sizes.block_words))
 
 -- whether a block of a set has all its words
 unfoldable pub is_whole_in : MachineState → ℕ → ℕ → ℕ → Bool
-is_whole_in s set frame block = set_of_frame (extent_of s.sizes) frame == set && not (is_pending s block)
+is_whole_in s set frame block = set_of_frame s.sizes frame == set && not (is_pending s block)
 
 abbrev pub held_may_go : MachineState → Event → ℕ → Option ℕ → Bool
 held_may_go s event frame None = false
 held_may_go s (Evict block) frame (Some held) = held == block
 held_may_go s event frame (Some held) =
-    let z = extent_of s.sizes in
+    let z = s.sizes in
     is_whole_in s (set_in z (block_about z event)) frame held
 
 -- whether a frame may be the one that an event gives up: an eviction that of its block, and a miss one of its set that waits
@@ -214,11 +215,11 @@ may_go s event frame = held_may_go s event frame (frame_view s.machine.cache fra
 
 -- how many frames may go
 unfoldable pub count_that_may_go : MachineState → Event → ℕ
-count_that_may_go s event = length (filter (λ frame. may_go s event frame) (range_with_len 0 (frames_in (extent_of s.sizes))))
+count_that_may_go s event = length (filter (λ frame. may_go s event frame) (range_with_len 0 (frames_in s.sizes)))
 
 -- the first frame that may go
 unfoldable pub first_that_may_go : MachineState → Event → Option ℕ
-first_that_may_go s event = find (λ frame. may_go s event frame) (range_with_len 0 (frames_in (extent_of s.sizes)))
+first_that_may_go s event = find (λ frame. may_go s event frame) (range_with_len 0 (frames_in s.sizes))
 
 -- the frame that goes, if no other may: which frame of a set was taken first isn't shown
 unfoldable pub victim : MachineState → Event → Option ℕ
@@ -226,7 +227,7 @@ victim s event = if count_that_may_go s event == 1 then first_that_may_go s even
 
 -- how many places of the write queue are free
 unfoldable pub free_places : MachineState → ℕ
-free_places s = (extent_of s.sizes).write_queue - length s.machine.cache.queue
+free_places s = s.sizes.write_queue - length s.machine.cache.queue
 
 abbrev pub free_text : ℕ → ℕ → List ℕ
 free_text free dirty =
@@ -243,50 +244,50 @@ queue_words s event = queue_words_for s (victim s event)
 -- ---- why a bank has too little room
 
 -- whether a word of a block lies in a bank
-abbrev pub lies_in : Extent → ℕ → ℕ → ℕ → Bool
+abbrev pub lies_in : Sizes → ℕ → ℕ → ℕ → Bool
 lies_in z block bank i = bank_in z (block * z.block_words + i) == bank
 
 -- how many words of a block lie in a bank
-unfoldable pub reads_in : Extent → ℕ → ℕ → ℕ
+unfoldable pub reads_in : Sizes → ℕ → ℕ → ℕ
 reads_in z block bank = length (filter (λ i. lies_in z block bank i) (range_with_len 0 z.block_words))
 
 -- how many more commands a bank takes
 unfoldable pub room_at : MachineState → ℕ → ℕ
-room_at s bank = (extent_of s.sizes).bank_queue - length (bank_at s.machine.banks bank).queue
+room_at s bank = s.sizes.bank_queue - length (bank_at s.machine.banks bank).queue
 
 -- whether a bank has too little room for the reads of a block
 unfoldable pub is_short : MachineState → ℕ → ℕ → Bool
-is_short s block bank = nat_lt (room_at s bank) (reads_in (extent_of s.sizes) block bank)
+is_short s block bank = nat_lt (room_at s bank) (reads_in s.sizes block bank)
 
 -- the first such bank
 unfoldable pub short_bank : MachineState → ℕ → Option ℕ
-short_bank s block = find (λ bank. is_short s block bank) (range_with_len 0 (extent_of s.sizes).banks)
+short_bank s block = find (λ bank. is_short s block bank) (range_with_len 0 s.sizes.banks)
 
 abbrev pub shortage_text : ℕ → ℕ → ℕ → List ℕ
 shortage_text bank room reads =
     codes "bank " ++ (decimal bank ++ (codes " has room for " ++ (decimal room ++ (codes " commands, and is to be sent " ++ decimal reads))))
 
 abbrev pub shortage_words : MachineState → ℕ → ℕ → List ℕ
-shortage_words s block bank = shortage_text bank (room_at s bank) (reads_in (extent_of s.sizes) block bank)
+shortage_words s block bank = shortage_text bank (room_at s bank) (reads_in s.sizes block bank)
 
 abbrev pub short_words : MachineState → ℕ → Option ℕ → List ℕ
 short_words s block None = []
 short_words s block (Some bank) = shortage_words s block bank
 
-abbrev pub no_room_words : Extent → Option Queued → List ℕ
+abbrev pub no_room_words : Sizes → Option Queued → List ℕ
 no_room_words z None = []
 no_room_words z (Some q) = codes "bank " ++ (decimal (bank_in z q.at) ++ codes " has no room for a command")
 
 abbrev pub bank_words : MachineState → Event → List ℕ
-bank_words s Drain = no_room_words (extent_of s.sizes) (slice_get s.machine.cache.queue 0)
+bank_words s Drain = no_room_words s.sizes (slice_get s.machine.cache.queue 0)
 bank_words s event =
-    let block = block_about (extent_of s.sizes) event in
+    let block = block_about s.sizes event in
     short_words s block (short_bank s block)
 
 -- ---- each cause
 
 -- by a machine's numbers alone
-abbrev pub limit_words : Extent → Event → Cause → List ℕ
+abbrev pub limit_words : Sizes → Event → Cause → List ℕ
 limit_words z event OutOfRange = outside_words z event
 limit_words z event RepliesFull = codes "as many loads are owed values as may be: " ++ decimal z.replies
 limit_words z event NoRegister = codes "all registers are in use: " ++ decimal z.regs
@@ -300,14 +301,14 @@ abbrev pub refused_words : MachineState → Event → Cause → List ℕ
 refused_words s event TagInUse = in_use_words s event
 refused_words s event QueueFull = queue_words s event
 refused_words s event BankFull = bank_words s event
-refused_words s event cause = limit_words (extent_of s.sizes) event cause
+refused_words s event cause = limit_words s.sizes event cause
 
 -- ---- all words
 
 -- by what is seen before the event, and the machine that a refusal leaves as it was
 abbrev pub words_by : Before → MachineState → Event → Answer → List ℕ
-words_by before s event Accepted = accepted_words (extent_of s.sizes) event before.found
-words_by before s event Moved = moved_words (extent_of s.sizes) before event
+words_by before s event Accepted = accepted_words s.sizes event before.found
+words_by before s event Moved = moved_words s.sizes before event
 words_by before s event (Value tag word) = taken_words tag word
 words_by before s event Nothing = idle_words event
 words_by before s event (Refused cause) = refused_words s event cause

@@ -6,7 +6,6 @@ ghost use Rattle.flat_model.specs.Flat.{flat_step};
 ghost use Rattle.run_pictures.specs.Pictures as pictures;
 
 use crate::cells::text_at;
-use crate::machine::Extent;
 use crate::place::{Place, places_of};
 use flat_model::{Answer, Event, FlatMemory};
 use machine_core::ShapedMachine;
@@ -66,9 +65,9 @@ impl Film {
     ) -> Result<Film, AllocError>
         ensures { IfOk result (λ film. pictures.Begins image.now machine.now film) }
     {
-        let extent = Extent::of(machine);
-        let places = places_of(alloc, &extent)?;
-        let flat = image.flat_memory(alloc, extent.words)?;
+        let sizes = machine.sizes();
+        let places = places_of(alloc, sizes)?;
+        let flat = image.flat_memory(alloc, sizes.words)?;
         let texts = texts_of(alloc, machine, &flat, places.as_slice())?;
         Ok(Film {
             flat,

@@ -6,10 +6,10 @@ ghost use Rattle.std.specs.String.{string_bytes};
 ghost use Rattle.run_pictures.specs.Pages as pages;
 
 use crate::film::{Film, is_changed};
-use crate::machine::Extent;
 use crate::page_parts::{PAGE_END, PAGE_HEAD};
 use crate::place::Place;
 use crate::step::{Other, Step};
+use cache_unit::Sizes;
 use machine_core::ShapedMachine;
 use memory_images::Image;
 use std::alloc::{AllocError, Global};
@@ -22,11 +22,11 @@ pub(crate) struct Page {
 }
 
 // The numbers that the page is laid out by.
-fn push_extent(text: &mut String, extent: Extent) -> Result<(), AllocError>
-    ensures { OnOk result (string_bytes text.new ≡ string_bytes text.old ++ pages.extent_text extent) }
+fn push_sizes(text: &mut String, sizes: &Sizes) -> Result<(), AllocError>
+    ensures { OnOk result (string_bytes text.new ≡ string_bytes text.old ++ pages.sizes_text sizes.now) }
 {
-    let words = extent.block_words;
-    let ways = extent.ways;
+    let words = sizes.block_words;
+    let ways = sizes.ways;
     write!(text, "const blockWords = {words};\nconst ways = {ways};\n")
 }
 
@@ -125,7 +125,7 @@ impl Page {
     {
         let film = Film::new(alloc, machine, image)?;
         let mut text = String::from_str(alloc, PAGE_HEAD)?;
-        push_extent(&mut text, Extent::of(machine))?;
+        push_sizes(&mut text, machine.sizes())?;
         push_places(&mut text, film.places())?;
         push_first(&mut text, film.texts())?;
         Ok(Page { film, text })

@@ -1,13 +1,13 @@
 //! The places of a picture.
 ghost use Rattle.std.specs.Prelude.{◌≡◌, ◌*◌, ◌++◌, Some, OnOk, IfOk};
 ghost use Rattle.miss_registers.specs.declared.TheConstants.{MAX_WAITING};
-ghost use Rattle.run_pictures.specs.Extents.{fitted};
+ghost use Rattle.run_pictures.specs.Layouts.{fitted};
 ghost use Rattle.run_pictures.specs.Numbered.{text_of};
 ghost use Rattle.run_pictures.specs.Places as spots;
-ghost use Rattle.run_pictures.specs.declared.machine.Extent.{Extent as ExtentValue};
 
-use crate::machine::Extent;
+use crate::layout::{answers_in, frames_in};
 use crate::numbered::Numbered;
+use cache_unit::Sizes;
 use miss_registers::MAX_WAITING;
 use std::alloc::{AllocError, Global};
 use std::fmt;
@@ -95,119 +95,119 @@ fn push_field(places: &mut Vec<Place>, slot: u32, i: u32) -> Result<(), AllocErr
 }
 
 // The words of a register.
-fn push_fields(places: &mut Vec<Place>, extent: &Extent, slot: u32) -> Result<(), AllocError>
-    ensures { OnOk result (places.new.items ≡ places.old.items ++ spots.of_each (spots.field_places slot) extent.now.block_words) }
+fn push_fields(places: &mut Vec<Place>, sizes: &Sizes, slot: u32) -> Result<(), AllocError>
+    ensures { OnOk result (places.new.items ≡ places.old.items ++ spots.of_each (spots.field_places slot) sizes.now.block_words) }
 {
-    for i in 0..extent.block_words {
+    for i in 0..sizes.block_words {
         push_field(places, slot, i)?;
     }
     Ok(())
 }
 
 // A register.
-fn push_register(places: &mut Vec<Place>, extent: &Extent, slot: u32) -> Result<(), AllocError>
-    ensures { OnOk result (places.new.items ≡ places.old.items ++ spots.register_places extent.now slot) }
+fn push_register(places: &mut Vec<Place>, sizes: &Sizes, slot: u32) -> Result<(), AllocError>
+    ensures { OnOk result (places.new.items ≡ places.old.items ++ spots.register_places sizes.now slot) }
 {
     places.push(Place::Register { slot })?;
     places.push(Place::Line { slot })?;
-    push_fields(places, extent, slot)
+    push_fields(places, sizes, slot)
 }
 
-fn push_registers(places: &mut Vec<Place>, extent: &Extent) -> Result<(), AllocError>
-    ensures { OnOk result (places.new.items ≡ places.old.items ++ spots.of_each (spots.register_places extent.now) extent.now.regs) }
+fn push_registers(places: &mut Vec<Place>, sizes: &Sizes) -> Result<(), AllocError>
+    ensures { OnOk result (places.new.items ≡ places.old.items ++ spots.of_each (spots.register_places sizes.now) sizes.now.regs) }
 {
-    for slot in 0..extent.regs {
-        push_register(places, extent, slot)?;
+    for slot in 0..sizes.regs {
+        push_register(places, sizes, slot)?;
     }
     Ok(())
 }
 
 // The words of a frame.
-fn push_cells(places: &mut Vec<Place>, extent: &Extent, frame: u32) -> Result<(), AllocError>
-    ensures { OnOk result (places.new.items ≡ places.old.items ++ spots.of_each (spots.cell_place frame) extent.now.block_words) }
+fn push_cells(places: &mut Vec<Place>, sizes: &Sizes, frame: u32) -> Result<(), AllocError>
+    ensures { OnOk result (places.new.items ≡ places.old.items ++ spots.of_each (spots.cell_place frame) sizes.now.block_words) }
 {
-    for i in 0..extent.block_words {
+    for i in 0..sizes.block_words {
         places.push(Place::Cell { frame, i })?;
     }
     Ok(())
 }
 
 // A frame.
-fn push_frame(places: &mut Vec<Place>, extent: &Extent, frame: u32) -> Result<(), AllocError>
-    ensures { OnOk result (places.new.items ≡ places.old.items ++ spots.frame_places extent.now frame) }
+fn push_frame(places: &mut Vec<Place>, sizes: &Sizes, frame: u32) -> Result<(), AllocError>
+    ensures { OnOk result (places.new.items ≡ places.old.items ++ spots.frame_places sizes.now frame) }
 {
     places.push(Place::Frame { frame })?;
-    push_cells(places, extent, frame)
+    push_cells(places, sizes, frame)
 }
 
-fn push_frames(places: &mut Vec<Place>, extent: &Extent) -> Result<(), AllocError>
-    ensures { OnOk result (places.new.items ≡ places.old.items ++ spots.of_each (spots.frame_places extent.now) (fitted (extent.now.sets * extent.now.ways))) }
+fn push_frames(places: &mut Vec<Place>, sizes: &Sizes) -> Result<(), AllocError>
+    ensures { OnOk result (places.new.items ≡ places.old.items ++ spots.of_each (spots.frame_places sizes.now) (fitted (sizes.now.sets * sizes.now.ways))) }
 {
-    for frame in 0..extent.frames() {
-        push_frame(places, extent, frame)?;
+    for frame in 0..frames_in(sizes) {
+        push_frame(places, sizes, frame)?;
     }
     Ok(())
 }
 
-fn push_stack(places: &mut Vec<Place>, extent: &Extent) -> Result<(), AllocError>
-    ensures { OnOk result (places.new.items ≡ places.old.items ++ spots.of_each spots.stack_place extent.now.depth) }
+fn push_stack(places: &mut Vec<Place>, sizes: &Sizes) -> Result<(), AllocError>
+    ensures { OnOk result (places.new.items ≡ places.old.items ++ spots.of_each spots.stack_place sizes.now.depth) }
 {
-    for place in 0..extent.depth {
+    for place in 0..sizes.depth {
         places.push(Place::Stack { place })?;
     }
     Ok(())
 }
 
-fn push_queue(places: &mut Vec<Place>, extent: &Extent) -> Result<(), AllocError>
-    ensures { OnOk result (places.new.items ≡ places.old.items ++ spots.of_each spots.queue_place extent.now.write_queue) }
+fn push_queue(places: &mut Vec<Place>, sizes: &Sizes) -> Result<(), AllocError>
+    ensures { OnOk result (places.new.items ≡ places.old.items ++ spots.of_each spots.queue_place sizes.now.write_queue) }
 {
-    for place in 0..extent.write_queue {
+    for place in 0..sizes.write_queue {
         places.push(Place::Queue { place })?;
     }
     Ok(())
 }
 
 // The commands that may wait at a bank.
-fn push_commands(places: &mut Vec<Place>, extent: &Extent, bank: u32) -> Result<(), AllocError>
-    ensures { OnOk result (places.new.items ≡ places.old.items ++ spots.of_each (spots.command_place bank) extent.now.bank_queue) }
+fn push_commands(places: &mut Vec<Place>, sizes: &Sizes, bank: u32) -> Result<(), AllocError>
+    ensures { OnOk result (places.new.items ≡ places.old.items ++ spots.of_each (spots.command_place bank) sizes.now.bank_queue) }
 {
-    for place in 0..extent.bank_queue {
+    for place in 0..sizes.bank_queue {
         places.push(Place::Command { bank, place })?;
     }
     Ok(())
 }
 
 // The answers that may stand in a bank.
-fn push_answers(places: &mut Vec<Place>, extent: &Extent, bank: u32) -> Result<(), AllocError>
-    ensures { OnOk result (places.new.items ≡ places.old.items ++ spots.of_each (spots.answer_place bank) (fitted (extent.now.regs * extent.now.block_words))) }
+fn push_answers(places: &mut Vec<Place>, sizes: &Sizes, bank: u32) -> Result<(), AllocError>
+    ensures { OnOk result (places.new.items ≡ places.old.items ++ spots.of_each (spots.answer_place bank) (fitted (sizes.now.regs * sizes.now.block_words))) }
 {
-    for place in 0..extent.answers() {
+    for place in 0..answers_in(sizes) {
         places.push(Place::Answer { bank, place })?;
     }
     Ok(())
 }
 
 // A bank.
-fn push_bank(places: &mut Vec<Place>, extent: &Extent, bank: u32) -> Result<(), AllocError>
-    ensures { OnOk result (places.new.items ≡ places.old.items ++ spots.bank_places extent.now bank) }
+fn push_bank(places: &mut Vec<Place>, sizes: &Sizes, bank: u32) -> Result<(), AllocError>
+    ensures { OnOk result (places.new.items ≡ places.old.items ++ spots.bank_places sizes.now bank) }
 {
-    push_commands(places, extent, bank)?;
-    push_answers(places, extent, bank)
+    push_commands(places, sizes, bank)?;
+    push_answers(places, sizes, bank)
 }
 
-fn push_banks(places: &mut Vec<Place>, extent: &Extent) -> Result<(), AllocError>
-    ensures { OnOk result (places.new.items ≡ places.old.items ++ spots.of_each (spots.bank_places extent.now) extent.now.banks) }
+fn push_banks(places: &mut Vec<Place>, sizes: &Sizes) -> Result<(), AllocError>
+    ensures { OnOk result (places.new.items ≡ places.old.items ++ spots.of_each (spots.bank_places sizes.now) sizes.now.banks) }
 {
-    for bank in 0..extent.banks {
-        push_bank(places, extent, bank)?;
+    for bank in 0..sizes.banks {
+        push_bank(places, sizes, bank)?;
     }
     Ok(())
 }
 
-fn push_replies(places: &mut Vec<Place>, extent: &Extent) -> Result<(), AllocError>
-    ensures { OnOk result (places.new.items ≡ places.old.items ++ spots.of_each spots.reply_place extent.now.replies) }
+fn push_replies(places: &mut Vec<Place>, sizes: &Sizes) -> Result<(), AllocError>
+    ensures { OnOk result (places.new.items ≡ places.old.items ++ spots.of_each spots.reply_place sizes.now.replies) }
 {
-    for place in 0..extent.replies {
+    for place in 0..sizes.replies {
         places.push(Place::Reply { place })?;
     }
     Ok(())
@@ -224,10 +224,10 @@ fn memory_shown(words: u32) -> u32
     }
 }
 
-fn push_memory(places: &mut Vec<Place>, extent: &Extent) -> Result<(), AllocError>
-    ensures { OnOk result (places.new.items ≡ places.old.items ++ spots.of_each spots.memory_place (spots.memory_shown extent.now.words)) }
+fn push_memory(places: &mut Vec<Place>, sizes: &Sizes) -> Result<(), AllocError>
+    ensures { OnOk result (places.new.items ≡ places.old.items ++ spots.of_each spots.memory_place (spots.memory_shown sizes.now.words)) }
 {
-    for at in 0..memory_shown(extent.words) {
+    for at in 0..memory_shown(sizes.words) {
         places.push(Place::Memory { at })?;
     }
     Ok(())
@@ -237,16 +237,16 @@ fn push_memory(places: &mut Vec<Place>, extent: &Extent) -> Result<(), AllocErro
 /// words and waiting loads, the frames with their words, the input stack, the write queue, the commands
 /// and answers of each bank, the ready values, and the first 256 words of memory. `AllocError` says that
 /// there was too little memory.
-pub(crate) fn places_of(alloc: Global, extent: &Extent) -> Result<Vec<Place>, AllocError>
-    ensures { IfOk result (λ places. places.items ≡ spots.places_in extent.now) }
+pub(crate) fn places_of(alloc: Global, sizes: &Sizes) -> Result<Vec<Place>, AllocError>
+    ensures { IfOk result (λ places. places.items ≡ spots.places_in sizes.now) }
 {
     let mut places = Vec::new(alloc);
-    push_registers(&mut places, extent)?;
-    push_frames(&mut places, extent)?;
-    push_stack(&mut places, extent)?;
-    push_queue(&mut places, extent)?;
-    push_banks(&mut places, extent)?;
-    push_replies(&mut places, extent)?;
-    push_memory(&mut places, extent)?;
+    push_registers(&mut places, sizes)?;
+    push_frames(&mut places, sizes)?;
+    push_stack(&mut places, sizes)?;
+    push_queue(&mut places, sizes)?;
+    push_banks(&mut places, sizes)?;
+    push_replies(&mut places, sizes)?;
+    push_memory(&mut places, sizes)?;
     Ok(places)
 }

@@ -6,9 +6,10 @@ ghost use Rattle.run_pictures.specs.Numbered.{text_of};
 ghost use Rattle.run_pictures.specs.Words as words;
 
 use crate::before::Before;
-use crate::machine::Extent;
+use crate::layout::{bank_in, block_in, set_in};
 use crate::numbered::Numbered;
 use crate::shortage::{bank_full, queue_full};
+use cache_unit::Sizes;
 use flat_model::{Answer, Cause, Event, Word};
 use input_stack::Entry;
 use machine_core::{Lookup, ShapedMachine};
@@ -33,8 +34,8 @@ pub fn words_by(
         (λ text. string_bytes text ≡ words.words_by before machine.now event answer) }
 {
     match answer {
-        Answer::Accepted => { written(alloc, accepted(&Extent::of(machine), event, before.found)) }
-        Answer::Moved => moved(alloc, &Extent::of(machine), before, event),
+        Answer::Accepted => { written(alloc, accepted(machine.sizes(), event, before.found)) }
+        Answer::Moved => moved(alloc, machine.sizes(), before, event),
         Answer::Value { tag, word } => taken(alloc, tag, word),
         Answer::Nothing => written(alloc, idle(event)),
         Answer::Refused(cause) => refused(alloc, machine, event, cause),
@@ -49,24 +50,24 @@ fn written(alloc: Global, sentence: Numbered) -> Result<String, AllocError>
 }
 
 // The block that a request or an eviction is about: block 0 for other events.
-pub(crate) fn block_about(extent: &Extent, event: Event) -> u32
-    ensures { result ≡ words.block_about extent.now event }
+pub(crate) fn block_about(sizes: &Sizes, event: Event) -> u32
+    ensures { result ≡ words.block_about sizes.now event }
 {
     match event {
         Event::Load { at, .. } | Event::Store { at, .. } | Event::Prefetch { at } => {
-            extent.block_of(at)
+            block_in(sizes, at)
         }
         Event::Evict { block } => block,
         _ => 0,
     }
 }
 
-fn accepted(extent: &Extent, event: Event, found: Option<Lookup>) -> Numbered
-    ensures { text_of result ≡ words.accepted_words extent.now event found }
+fn accepted(sizes: &Sizes, event: Event, found: Option<Lookup>) -> Numbered
+    ensures { text_of result ≡ words.accepted_words sizes.now event found }
 {
     match event {
         Event::Evict { block } => Numbered::Between("the frame of block ", block, " is given up"),
-        _ => requested(block_about(extent, event), event, found),
+        _ => requested(block_about(sizes, event), event, found),
     }
 }
 
@@ -106,12 +107,12 @@ fn joined(event: Event) -> &'static str
     }
 }
 
-fn moved(alloc: Global, extent: &Extent, before: Before, event: Event) -> Result<String, AllocError>
+fn moved(alloc: Global, sizes: &Sizes, before: Before, event: Event) -> Result<String, AllocError>
     ensures { IfOk result
-        (λ text. string_bytes text ≡ words.moved_words extent.now before event) }
+        (λ text. string_bytes text ≡ words.moved_words sizes.now before event) }
 {
     match event {
-        Event::Drain => drained(alloc, extent, before.front),
+        Event::Drain => drained(alloc, sizes, before.front),
         Event::Serve { bank } => format!(in alloc; "bank {bank} serves its first command"),
         Event::Arrive { bank, .. } => arrived(alloc, bank, before.answer),
         Event::Process { .. } => written(alloc, processed(before.entry)),
@@ -119,22 +120,22 @@ fn moved(alloc: Global, extent: &Extent, before: Before, event: Event) -> Result
     }
 }
 
-fn drained(alloc: Global, extent: &Extent, front: Option<Queued>) -> Result<String, AllocError>
-    ensures { IfOk result (λ text. string_bytes text ≡ words.drained_words extent.now front) }
+fn drained(alloc: Global, sizes: &Sizes, front: Option<Queued>) -> Result<String, AllocError>
+    ensures { IfOk result (λ text. string_bytes text ≡ words.drained_words sizes.now front) }
 {
     match front {
-        Some(front) => sent(alloc, extent, front),
+        Some(front) => sent(alloc, sizes, front),
         None => Ok(String::new(alloc)),
     }
 }
 
 // A word that leaves the write queue.
-fn sent(alloc: Global, extent: &Extent, front: Queued) -> Result<String, AllocError>
-    ensures { IfOk result (λ text. string_bytes text ≡ words.sent_words extent.now front) }
+fn sent(alloc: Global, sizes: &Sizes, front: Queued) -> Result<String, AllocError>
+    ensures { IfOk result (λ text. string_bytes text ≡ words.sent_words sizes.now front) }
 {
     let at = front.at;
     let lanes = front.lanes;
-    let bank = extent.bank_of(u64::from(at));
+    let bank = bank_in(sizes, u64::from(at));
     format!(in alloc; "the bytes {lanes} of word {at} go to bank {bank}")
 }
 
@@ -205,64 +206,64 @@ fn refused(
         Cause::TagInUse => written(alloc, in_use(machine, event)),
         Cause::QueueFull => queue_full(alloc, machine, event),
         Cause::BankFull => bank_full(alloc, machine, event),
-        _ => written(alloc, limited(&Extent::of(machine), event, cause)),
+        _ => written(alloc, limited(machine.sizes(), event, cause)),
     }
 }
 
 // Why it was refused, if no more of the machine is to be told than its numbers.
-fn limited(extent: &Extent, event: Event, cause: Cause) -> Numbered
-    ensures { text_of result ≡ words.limit_words extent.now event cause }
+fn limited(sizes: &Sizes, event: Event, cause: Cause) -> Numbered
+    ensures { text_of result ≡ words.limit_words sizes.now event cause }
 {
     match cause {
-        Cause::OutOfRange => outside(extent, event),
+        Cause::OutOfRange => outside(sizes, event),
         Cause::RepliesFull => Numbered::One(
             "as many loads are owed values as may be: ",
-            extent.replies,
+            sizes.replies,
         ),
-        Cause::NoRegister => Numbered::One("all registers are in use: ", extent.regs),
+        Cause::NoRegister => Numbered::One("all registers are in use: ", sizes.regs),
         Cause::SetPending => Numbered::Between(
             "every way of set ",
-            extent.set_of(block_about(extent, event)),
+            set_in(sizes, block_about(sizes, event)),
             " waits for words",
         ),
-        Cause::NotPresent => Numbered::One("no frame holds block ", block_about(extent, event)),
-        Cause::StackFull => Numbered::Between("the input stack is full: ", extent.depth, " words"),
+        Cause::NotPresent => Numbered::One("no frame holds block ", block_about(sizes, event)),
+        Cause::StackFull => Numbered::Between("the input stack is full: ", sizes.depth, " words"),
         _ => Numbered::Word(cause.words()),
     }
 }
 
-fn outside(extent: &Extent, event: Event) -> Numbered
-    ensures { text_of result ≡ words.outside_words extent.now event }
+fn outside(sizes: &Sizes, event: Event) -> Numbered
+    ensures { text_of result ≡ words.outside_words sizes.now event }
 {
     match event {
         Event::Load { at, .. } | Event::Store { at, .. } | Event::Prefetch { at } => {
-            word_outside(extent, at)
+            word_outside(sizes, at)
         }
-        Event::Evict { block } => block_outside(extent, block),
+        Event::Evict { block } => block_outside(sizes, block),
         _ => Numbered::Word(""),
     }
 }
 
-fn word_outside(extent: &Extent, at: u32) -> Numbered
-    ensures { text_of result ≡ words.word_outside extent.now at }
+fn word_outside(sizes: &Sizes, at: u32) -> Numbered
+    ensures { text_of result ≡ words.word_outside sizes.now at }
 {
     Numbered::Around(
         "word ",
         at,
         " is outside memory, which has ",
-        extent.words,
+        sizes.words,
         " words",
     )
 }
 
-fn block_outside(extent: &Extent, block: u32) -> Numbered
-    ensures { text_of result ≡ words.block_outside extent.now block }
+fn block_outside(sizes: &Sizes, block: u32) -> Numbered
+    ensures { text_of result ≡ words.block_outside sizes.now block }
 {
     Numbered::Around(
         "block ",
         block,
         " is outside memory, which has ",
-        extent.block_of(extent.words),
+        block_in(sizes, sizes.words),
         " blocks",
     )
 }

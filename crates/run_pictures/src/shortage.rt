@@ -5,8 +5,9 @@ ghost use Rattle.std.specs.String.{string_bytes};
 ghost use Rattle.run_pictures.specs.Words as words;
 
 use crate::cells::is_pending;
-use crate::machine::Extent;
+use crate::layout::{bank_in, frames_in, set_in, set_of_frame};
 use crate::reasons::block_about;
+use cache_unit::Sizes;
 use flat_model::Event;
 use machine_core::ShapedMachine;
 use std::alloc::{AllocError, Global};
@@ -40,7 +41,8 @@ pub(crate) fn queue_full(
 fn free_places(machine: &ShapedMachine) -> u32
     ensures { result ≡ words.free_places machine.now }
 {
-    Extent::of(machine)
+    machine
+        .sizes()
         .write_queue
         .saturating_sub(machine.queue_len())
 }
@@ -61,7 +63,7 @@ fn is_dirty(machine: &ShapedMachine, frame: u32, i: u32) -> bool
 fn dirty_count(machine: &ShapedMachine, frame: u32) -> usize
     ensures { result ≡ words.dirty_count machine.now frame }
 {
-    let words = Extent::of(machine).block_words;
+    let words = machine.sizes().block_words;
     (0..words).filter(|i| is_dirty(machine, frame, *i)).count()
 }
 
@@ -70,7 +72,7 @@ fn dirty_count(machine: &ShapedMachine, frame: u32) -> usize
 fn is_whole_in(machine: &ShapedMachine, set: u32, frame: u32, block: u32) -> bool
     ensures { result ≡ words.is_whole_in machine.now set frame block }
 {
-    Extent::of(machine).set_of_frame(frame) == set && !is_pending(machine, block)
+    set_of_frame(machine.sizes(), frame) == set && !is_pending(machine, block)
 }
 
 // Whether a frame may be the one that an event gives up: an eviction that of its block, and a miss
@@ -85,8 +87,8 @@ fn may_go(machine: &ShapedMachine, event: Event, frame: u32) -> bool
     match event {
         Event::Evict { block } => held == block,
         _ => {
-            let extent = Extent::of(machine);
-            let set = extent.set_of(block_about(&extent, event));
+            let sizes = machine.sizes();
+            let set = set_in(sizes, block_about(sizes, event));
             is_whole_in(machine, set, frame, held)
         }
     }
@@ -97,7 +99,7 @@ fn may_go(machine: &ShapedMachine, event: Event, frame: u32) -> bool
 fn count_that_may_go(machine: &ShapedMachine, event: Event) -> usize
     ensures { result ≡ words.count_that_may_go machine.now event }
 {
-    let frames = Extent::of(machine).frames();
+    let frames = frames_in(machine.sizes());
     (0..frames)
         .filter(|frame| may_go(machine, event, *frame))
         .count()
@@ -108,7 +110,7 @@ fn count_that_may_go(machine: &ShapedMachine, event: Event) -> usize
 fn first_that_may_go(machine: &ShapedMachine, event: Event) -> Option<u32>
     ensures { result ≡ words.first_that_may_go machine.now event }
 {
-    let frames = Extent::of(machine).frames();
+    let frames = frames_in(machine.sizes());
     (0..frames).find(|frame| may_go(machine, event, *frame))
 }
 
@@ -134,18 +136,18 @@ pub(crate) fn bank_full(
         (λ text. string_bytes text ≡ words.bank_words machine.now event) }
 {
     match event {
-        Event::Drain => no_room(alloc, &Extent::of(machine), machine.queue_entry(0)),
-        _ => bank_short(alloc, machine, block_about(&Extent::of(machine), event)),
+        Event::Drain => no_room(alloc, machine.sizes(), machine.queue_entry(0)),
+        _ => bank_short(alloc, machine, block_about(machine.sizes(), event)),
     }
 }
 
 // The bank of the write queue's front takes no command.
-fn no_room(alloc: Global, extent: &Extent, front: Option<Queued>) -> Result<String, AllocError>
-    ensures { IfOk result (λ text. string_bytes text ≡ words.no_room_words extent.now front) }
+fn no_room(alloc: Global, sizes: &Sizes, front: Option<Queued>) -> Result<String, AllocError>
+    ensures { IfOk result (λ text. string_bytes text ≡ words.no_room_words sizes.now front) }
 {
     match front {
         Some(front) => {
-            let bank = extent.bank_of(u64::from(front.at));
+            let bank = bank_in(sizes, u64::from(front.at));
             format!(in alloc; "bank {bank} has no room for a command")
         }
         None => Ok(String::new(alloc)),
@@ -174,25 +176,25 @@ fn shortage(
         (λ text. string_bytes text ≡ words.shortage_words machine.now block bank) }
 {
     let room = room_at(machine, bank);
-    let reads = reads_in(&Extent::of(machine), block, bank);
+    let reads = reads_in(machine.sizes(), block, bank);
     format!(in alloc; "bank {bank} has room for {room} commands, and is to be sent {reads}")
 }
 
 // Whether a word of a block lies in a bank.
-fn lies_in(extent: &Extent, block: u32, bank: u32, i: u32) -> bool
-    ensures { result ≡ words.lies_in extent.now block bank i }
+fn lies_in(sizes: &Sizes, block: u32, bank: u32, i: u32) -> bool
+    ensures { result ≡ words.lies_in sizes.now block bank i }
 {
-    let first = u64::from(block) * u64::from(extent.block_words);
-    extent.bank_of(first + u64::from(i)) == u64::from(bank)
+    let first = u64::from(block) * u64::from(sizes.block_words);
+    bank_in(sizes, first + u64::from(i)) == u64::from(bank)
 }
 
 // How many words of a block lie in a bank.
 #[tactic(auto, unfolding(crate::specs::Words::reads_in))]
-fn reads_in(extent: &Extent, block: u32, bank: u32) -> usize
-    ensures { result ≡ words.reads_in extent.now block bank }
+fn reads_in(sizes: &Sizes, block: u32, bank: u32) -> usize
+    ensures { result ≡ words.reads_in sizes.now block bank }
 {
-    (0..extent.block_words)
-        .filter(|i| lies_in(extent, block, bank, *i))
+    (0..sizes.block_words)
+        .filter(|i| lies_in(sizes, block, bank, *i))
         .count()
 }
 
@@ -201,7 +203,8 @@ fn reads_in(extent: &Extent, block: u32, bank: u32) -> usize
 fn room_at(machine: &ShapedMachine, bank: u32) -> u32
     ensures { result ≡ words.room_at machine.now bank }
 {
-    Extent::of(machine)
+    machine
+        .sizes()
         .bank_queue
         .saturating_sub(machine.commands(bank))
 }
@@ -211,7 +214,7 @@ fn room_at(machine: &ShapedMachine, bank: u32) -> u32
 fn is_short(machine: &ShapedMachine, block: u32, bank: u32) -> bool
     ensures { result ≡ words.is_short machine.now block bank }
 {
-    (room_at(machine, bank) as usize) < reads_in(&Extent::of(machine), block, bank)
+    (room_at(machine, bank) as usize) < reads_in(machine.sizes(), block, bank)
 }
 
 // The first such bank.
@@ -219,6 +222,6 @@ fn is_short(machine: &ShapedMachine, block: u32, bank: u32) -> bool
 fn short_bank(machine: &ShapedMachine, block: u32) -> Option<u32>
     ensures { result ≡ words.short_bank machine.now block }
 {
-    let banks = Extent::of(machine).banks;
+    let banks = machine.sizes().banks;
     (0..banks).find(|bank| is_short(machine, block, *bank))
 }

@@ -6,9 +6,9 @@ ghost use Rattle.run_pictures.specs.Numbered.{text_of};
 ghost use Rattle.run_pictures.specs.Waves as waves;
 
 use crate::level::Level;
-use crate::machine::Extent;
 use crate::numbered::Numbered;
 use crate::step::Made;
+use cache_unit::Sizes;
 use flat_model::{Answer, Event};
 use machine_core::ShapedMachine;
 use miss_registers::RegisterView;
@@ -274,11 +274,11 @@ fn push_register(signals: &mut Vec<Signal>, slot: u32) -> Result<(), AllocError>
     Ok(())
 }
 
-fn push_registers(signals: &mut Vec<Signal>, extent: &Extent) -> Result<(), AllocError>
+fn push_registers(signals: &mut Vec<Signal>, sizes: &Sizes) -> Result<(), AllocError>
     ensures { OnOk result
-        (signals.new.items ≡ signals.old.items ++ flat_map waves.register_signals (range_with_len 0 extent.now.regs)) }
+        (signals.new.items ≡ signals.old.items ++ flat_map waves.register_signals (range_with_len 0 sizes.now.regs)) }
 {
-    for slot in 0..extent.regs {
+    for slot in 0..sizes.regs {
         push_register(signals, slot)?;
     }
     Ok(())
@@ -293,11 +293,11 @@ fn push_bank(signals: &mut Vec<Signal>, bank: u32) -> Result<(), AllocError>
     Ok(())
 }
 
-fn push_banks(signals: &mut Vec<Signal>, extent: &Extent) -> Result<(), AllocError>
+fn push_banks(signals: &mut Vec<Signal>, sizes: &Sizes) -> Result<(), AllocError>
     ensures { OnOk result
-        (signals.new.items ≡ signals.old.items ++ flat_map waves.bank_signals (range_with_len 0 extent.now.banks)) }
+        (signals.new.items ≡ signals.old.items ++ flat_map waves.bank_signals (range_with_len 0 sizes.now.banks)) }
 {
-    for bank in 0..extent.banks {
+    for bank in 0..sizes.banks {
         push_bank(signals, bank)?;
     }
     Ok(())
@@ -305,15 +305,15 @@ fn push_banks(signals: &mut Vec<Signal>, extent: &Extent) -> Result<(), AllocErr
 
 /// The signals of a machine, in the order in which they are declared. `AllocError` says that there was
 /// too little memory.
-pub(crate) fn signals_of(alloc: Global, extent: &Extent) -> Result<Vec<Signal>, AllocError>
-    ensures { IfOk result (λ signals. signals.items ≡ waves.signals_in extent.now) }
+pub(crate) fn signals_of(alloc: Global, sizes: &Sizes) -> Result<Vec<Signal>, AllocError>
+    ensures { IfOk result (λ signals. signals.items ≡ waves.signals_in sizes.now) }
 {
     let mut signals = Vec::new(alloc);
     push_event(&mut signals)?;
-    push_registers(&mut signals, extent)?;
+    push_registers(&mut signals, sizes)?;
     signals.push(Signal::Stack)?;
     signals.push(Signal::Queue)?;
-    push_banks(&mut signals, extent)?;
+    push_banks(&mut signals, sizes)?;
     signals.push(Signal::Replies)?;
     Ok(signals)
 }

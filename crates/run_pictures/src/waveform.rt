@@ -6,7 +6,6 @@ ghost use Rattle.std.specs.String.{string_bytes};
 ghost use Rattle.run_pictures.specs.Waves as waves;
 
 use crate::film::is_changed;
-use crate::machine::Extent;
 use crate::signal::{Signal, signals_of};
 use crate::step::{Made, Step};
 use machine_core::ShapedMachine;
@@ -152,7 +151,7 @@ impl Waveform {
     pub(crate) fn new(alloc: Global, machine: &ShapedMachine) -> Result<Waveform, AllocError>
         ensures { IfOk result (λ wave. waves.WaveOpens machine.now wave) }
     {
-        let signals = signals_of(alloc, &Extent::of(machine))?;
+        let signals = signals_of(alloc, machine.sizes())?;
         let values = values_of(alloc, machine, None, signals.as_slice())?;
         let text = opening_text(alloc, signals.as_slice(), values.as_slice())?;
         Ok(Waveform {

@@ -48,7 +48,9 @@ impl ShapedUnit {
         has_tag(self.ready.as_slice(), tag) || self.registers.tag_waits(tag)
     }
 
-    // Where a load of the word of a block finds it, whose frame is known.
+    // Where a load of the word of a block finds it, whose frame is known. Inlined: a load that hits doesn't
+    // pay for a call.
+    #[inline(always)]
     pub(super) fn find_word(&self, block: u32, i: u32, frame: u32) -> Finding
         requires word { i < self.now.sizes.block_words }
         requires held { frame_of self.now.cache block ≡ Some frame }

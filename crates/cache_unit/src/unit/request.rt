@@ -4,7 +4,7 @@ ghost use Rattle.memory_banks.specs.Banks.{HasSent};
 ghost use Rattle.cache_unit.specs.State.{frame_of, block_of, place_in, tags};
 ghost use Rattle.cache_unit.specs.Causes.{found, targets_full};
 ghost use Rattle.cache_unit.specs.SoundCache.{IsSoundCache};
-ghost use Rattle.cache_unit.specs.FormLaws.{RequestForms};
+ghost use Rattle.cache_unit.specs.Makes.{MakesOver};
 ghost use Rattle.cache_unit.specs.Lookups.{lookup, lookup_of};
 ghost use Rattle.cache_unit.specs.Requests.{absence_cause, is_full_for};
 ghost use Rattle.cache_unit.specs.Steps.{fetched, fetches, load_step, store_step, prefetch_step, request_step};
@@ -27,13 +27,9 @@ impl ShapedUnit {
     /// words (9), or a bank has too little room for its reads (10).
     #[inline(always)]
     pub fn request<L: Lines>(&mut self, request: Request, lines: &mut L) -> Answer
-        ensures answer { result
-            ≡ (request_step self.old.sizes (L.room_of lines.old) self.old.cache request).answer }
-        ensures unit { self.new
-            ≡ record self.old { cache = (request_step self.old.sizes (L.room_of lines.old) self.old.cache request).cache } }
-        ensures lines { HasSent L.sent_to L.room_of L.same lines.old lines.new
-            (request_step self.old.sizes (L.room_of lines.old) self.old.cache request).sent }
-        ensures forms { RequestForms self.old.sizes self.old.cache request result self.new.cache }
+        ensures { MakesOver L.sent_to L.room_of L.same
+            (request_step self.old.sizes (L.room_of lines.old) self.old.cache request)
+            self.old lines.old result self.new lines.new }
     {
         match request {
             Request::Load { tag, at } => self.load(tag, at, lines),
@@ -73,13 +69,9 @@ impl ShapedUnit {
     // Not inlined, as a store and a prefetch aren't: each pays for its own locals alone.
     #[inline(never)]
     fn load<L: Lines>(&mut self, tag: u16, at: u32, lines: &mut L) -> Answer
-        ensures answer { result
-            ≡ (load_step self.old.sizes (L.room_of lines.old) self.old.cache tag at).answer }
-        ensures unit { self.new
-            ≡ record self.old { cache = (load_step self.old.sizes (L.room_of lines.old) self.old.cache tag at).cache } }
-        ensures lines { HasSent L.sent_to L.room_of L.same lines.old lines.new
-            (load_step self.old.sizes (L.room_of lines.old) self.old.cache tag at).sent }
-        ensures sound { IsSoundCache self.old.sizes self.old.cache }
+        ensures { MakesOver L.sent_to L.room_of L.same
+            (load_step self.old.sizes (L.room_of lines.old) self.old.cache tag at)
+            self.old lines.old result self.new lines.new }
     {
         if self.is_outside(at) {
             return Answer::Refused(Cause::OutOfRange);
@@ -100,14 +92,9 @@ impl ShapedUnit {
 
     #[inline(never)]
     fn store<L: Lines>(&mut self, at: u32, word: Word, lanes: Lanes, lines: &mut L) -> Answer
-        ensures answer { result
-            ≡ (store_step self.old.sizes
-            (L.room_of lines.old) self.old.cache at word lanes).answer }
-        ensures unit { self.new
-            ≡ record self.old { cache = (store_step self.old.sizes (L.room_of lines.old) self.old.cache at word lanes).cache } }
-        ensures lines { HasSent L.sent_to L.room_of L.same lines.old lines.new
-            (store_step self.old.sizes (L.room_of lines.old) self.old.cache at word lanes).sent }
-        ensures sound { IsSoundCache self.old.sizes self.old.cache }
+        ensures { MakesOver L.sent_to L.room_of L.same
+            (store_step self.old.sizes (L.room_of lines.old) self.old.cache at word lanes)
+            self.old lines.old result self.new lines.new }
     {
         if self.is_outside(at) {
             return Answer::Refused(Cause::OutOfRange);
@@ -128,13 +115,9 @@ impl ShapedUnit {
 
     #[inline(never)]
     fn prefetch<L: Lines>(&mut self, at: u32, lines: &mut L) -> Answer
-        ensures answer { result
-            ≡ (prefetch_step self.old.sizes (L.room_of lines.old) self.old.cache at).answer }
-        ensures unit { self.new
-            ≡ record self.old { cache = (prefetch_step self.old.sizes (L.room_of lines.old) self.old.cache at).cache } }
-        ensures lines { HasSent L.sent_to L.room_of L.same lines.old lines.new
-            (prefetch_step self.old.sizes (L.room_of lines.old) self.old.cache at).sent }
-        ensures sound { IsSoundCache self.old.sizes self.old.cache }
+        ensures { MakesOver L.sent_to L.room_of L.same
+            (prefetch_step self.old.sizes (L.room_of lines.old) self.old.cache at)
+            self.old lines.old result self.new lines.new }
     {
         if self.is_outside(at) {
             return Answer::Refused(Cause::OutOfRange);

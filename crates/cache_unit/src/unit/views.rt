@@ -90,7 +90,7 @@ impl ShapedUnit {
 
     // How many frames there are.
     fn frames(&self) -> u32
-        ensures { result ≡ length self.now.cache.frames }
+        ensures { result ≡ length self.now.cache.directory.frames }
     {
         self.sizes.sets * self.sizes.ways
     }

@@ -1,7 +1,7 @@
 //! The parts: what waits in those of a machine, flat memory, the makers, and the cache unit over its banks.
 
 use super::fixture::{SMALL_SHAPE, ZERO, image, numbered, same, small_machine};
-use super::stories::{ARRIVED, joined, told};
+use super::stories::{ARRIVED, joined, serve_line};
 use cache_directory::{Choice, Directory};
 use cache_unit::{CacheUnit, Request};
 use flat_model::{
@@ -136,7 +136,11 @@ fn stands<R: Abort>(
 ) -> Result<(), Fail> {
     let mut machine = small_machine(alloc)?;
     let lines = joined(alloc, lines)?;
-    let told = told(alloc, &mut machine, lines.as_str())?;
+    let mut told = Vec::new(alloc);
+    for line in lines.as_str().lines() {
+        let (asked, _) = line.split_once(" -> ").ok_or("an answer")?;
+        serve_line(alloc, &mut machine, asked, &mut told)?;
+    }
     same(
         rt,
         name,

@@ -279,6 +279,69 @@ byte 1: owed 0b, stored in line 3; got 01, which no last store put there: line 2
 byte 2: owed 0e, stored in line 3; got 0c, which no last store put there: line 5 did, and line 6 overwrote it
 byte 3: owed 0d, stored in line 1; got 0a, which no last store put there: no store ever did",
     },
+    // The load gets the word that two partial stores make behind it, before a third.
+    Told {
+        name: "a_late_word_is_told_as_one_of_an_atomic_history",
+        before: "store 9 1111 01010101 -> accepted
+load 7 9 -> accepted
+store 9 0011 00000202 -> accepted
+store 9 1000 03000000 -> accepted
+store 9 1111 04040404 -> accepted
+",
+        line: "take 0 -> value 7 03010202",
+        number: 6,
+        why: "the load of line 2 (tag 7, word 9) is owed 01010101
+byte 0: owed 01, stored in line 1; got 03, which no last store put there: line 4 did, and line 5 overwrote it
+byte 2: owed 01, stored in line 1; got 02, which no last store put there: line 3 did, and line 5 overwrote it
+byte 3: owed 01, stored in line 1; got 02, which no last store put there: line 3 did, and line 5 overwrote it
+the whole word stood there after the load: no run of flat memory from acceptance on; as a history it is atomic",
+    },
+    // Each byte stood there after the load, and they stood there at no moment together.
+    Told {
+        name: "a_torn_word_is_told_as_nothing_more",
+        before: "load 7 9 -> accepted
+store 9 1111 01010101 -> accepted
+store 9 1111 02020202 -> accepted
+",
+        line: "take 0 -> value 7 00000102",
+        number: 4,
+        why: "the load of line 1 (tag 7, word 9) is owed 00000000
+byte 2: owed 00, of the initial zeros; got 01, which no last store put there: line 2 did, and line 3 overwrote it
+byte 3: owed 00, of the initial zeros; got 02, stored in line 3, after the load",
+    },
+    // The word stood there until a store before the load, and for a load that is open no longer.
+    Told {
+        name: "a_word_from_before_the_load_is_told_as_nothing_more",
+        before: "load 6 9 -> accepted
+store 9 1000 01000000 -> accepted
+store 9 1000 02000000 -> accepted
+load 7 9 -> accepted
+take 0 -> value 6 00000000
+store 9 1000 03000000 -> accepted
+",
+        line: "take 0 -> value 7 01000000",
+        number: 7,
+        why: "the load of line 4 (tag 7, word 9) is owed 02000000
+byte 0: owed 02, stored in line 3; got 01, which no last store put there: line 2 did, and line 3 overwrote it",
+    },
+    // A word is remembered for a load that is open, while another load of it is accepted and answered.
+    Told {
+        name: "a_late_word_beside_other_loads",
+        before: "load 6 9 -> accepted
+store 9 1000 01000000 -> accepted
+load 7 9 -> accepted
+load 8 8 -> accepted
+store 8 1000 05000000 -> accepted
+take 0 -> value 7 01000000
+store 9 1000 02000000 -> accepted
+take 0 -> value 8 00000000
+",
+        line: "take 0 -> value 6 01000000",
+        number: 9,
+        why: "the load of line 1 (tag 6, word 9) is owed 00000000
+byte 0: owed 00, of the initial zeros; got 01, which no last store put there: line 2 did, and line 7 overwrote it
+the whole word stood there after the load: no run of flat memory from acceptance on; as a history it is atomic",
+    },
 ];
 
 /// How many bytes come at once, at most.
@@ -494,7 +557,8 @@ fn a_load_is_told_by_its_line(rt: HostRuntime) -> Result<(), Fail> {
     }
     let told = "mismatch at line 6248: take 0 -> value 137 a661caed
 the load of line 6239 (tag 137, word 38) is owed 7d61caed
-byte 0: owed 7d, stored in line 4062; got a6, stored in line 6240, after the load";
+byte 0: owed 7d, stored in line 4062; got a6, stored in line 6240, after the load
+the whole word stood there after the load: no run of flat memory from acceptance on; as a history it is atomic";
     ends(
         &rt,
         rt.alloc(),

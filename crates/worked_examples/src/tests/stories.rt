@@ -646,10 +646,22 @@ take 0 -> value 1 11223344
     },
 ];
 
-/// Asks the machine one line, and writes it with what it answers.
-fn tell_line<M: AnyMachine>(
+/// Asks the machine one line of a trace, and writes it with what it answers.
+pub fn serve_line<M: AnyMachine>(
     alloc: Global,
     machine: &mut M,
+    line: &str,
+    told: &mut Vec<u8>,
+) -> Result<(), Fail> {
+    let line = format!(in alloc; "{line}\n")?;
+    serve_text(alloc, &mut line.as_bytes(), told, machine)?;
+    Ok(())
+}
+
+/// Asks the machine one line, which may be its weight or a pump too, and writes it with what it answers.
+fn tell_line(
+    alloc: Global,
+    machine: &mut ShapedMachine,
     line: &str,
     told: &mut Vec<u8>,
 ) -> Result<(), Fail> {
@@ -659,16 +671,13 @@ fn tell_line<M: AnyMachine>(
             Some((event, answer)) => writeln!(told, "pump -> {event} -> {answer}")?,
             None => writeln!(told, "pump -> none")?,
         },
-        _ => {
-            let line = format!(in alloc; "{line}\n")?;
-            serve_text(alloc, &mut line.as_bytes(), told, machine)?;
-        }
+        _ => serve_line(alloc, machine, line, told)?,
     }
     Ok(())
 }
 
 /// The lines of these pieces as the machine answers them, one after another.
-pub fn told<M: AnyMachine>(alloc: Global, machine: &mut M, lines: &str) -> Result<Vec<u8>, Fail> {
+fn told(alloc: Global, machine: &mut ShapedMachine, lines: &str) -> Result<Vec<u8>, Fail> {
     let mut told = Vec::new(alloc);
     for line in lines.lines() {
         let (asked, _) = line.split_once(" -> ").ok_or("an answer")?;

@@ -1,7 +1,8 @@
 use Rattle.cache_unit.specs.Steps.{request_step}
-use Rattle.machine_core.proofs.Stepping.{memory_sent}
+use Rattle.machine_core.proofs.Stepping.{joins}
 use Rattle.machine_core.proofs.step.ask.Goals as goal
 
-pub returns-clause-banks : goal.returns-clause-banks
-returns-clause-banks c = memory_sent _ _ _
-    (λ room. request_step c.args.unit.now.sizes room c.args.unit.now.cache c.args.request) c.requires c.request.ensures.lines
+pub returns : goal.returns
+returns c =
+    let unit = c.args.unit.now in
+    joins (λ room. request_step unit.sizes room unit.cache c.args.request) unit _ _ _ _ c.requires c.request.ensures

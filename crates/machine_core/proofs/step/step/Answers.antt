@@ -1,26 +1,24 @@
-use Rattle.std.proofs.Common.{ap, sym}
 use Rattle.flat_model.specs.declared.Event.TheVariants.{Evict, Process, Take}
-use Rattle.memory_banks.specs.Banks.{all_sent}
-use Rattle.machine_core.proofs.Stepping.{evict_silent, process_silent, take_silent, unsent}
+use Rattle.machine_core.proofs.Stepping.{evict_silent, process_silent, take_silent, joins_silent, of_event}
 use Rattle.machine_core.proofs.step.step.Goals as goal
 
-pub returns-in-Evict-clause-banks : goal.returns-in-Evict-clause-banks
-returns-in-Evict-clause-banks c =
+pub returns-in-Evict : goal.returns-in-Evict
+returns-in-Evict c =
     let unit = c.args.unit.now in
-    let old = c.args.banks.now in
-    let none = ap (all_sent old.banks) (sym (evict_silent unit.sizes unit.cache c.in-Evict.block)) in
-    unsent unit old c.args.event (Evict c.in-Evict.block) c.in-Evict.is none
+    let memory = c.args.banks.now in
+    of_event unit memory c.args.event (Evict c.in-Evict.block) _ _ _ c.in-Evict.is
+    (joins_silent _ unit memory _ _ (evict_silent unit.sizes unit.cache c.in-Evict.block) c.evict.ensures)
 
-pub returns-in-Process-clause-banks : goal.returns-in-Process-clause-banks
-returns-in-Process-clause-banks c =
+pub returns-in-Process : goal.returns-in-Process
+returns-in-Process c =
     let unit = c.args.unit.now in
-    let old = c.args.banks.now in
-    let none = ap (all_sent old.banks) (sym (process_silent unit.cache c.in-Process.place)) in
-    unsent unit old c.args.event (Process c.in-Process.place) c.in-Process.is none
+    let memory = c.args.banks.now in
+    of_event unit memory c.args.event (Process c.in-Process.place) _ _ _ c.in-Process.is
+    (joins_silent _ unit memory _ _ (process_silent unit.cache c.in-Process.place) c.process.ensures)
 
-pub returns-in-Take-clause-banks : goal.returns-in-Take-clause-banks
-returns-in-Take-clause-banks c =
+pub returns-in-Take : goal.returns-in-Take
+returns-in-Take c =
     let unit = c.args.unit.now in
-    let old = c.args.banks.now in
-    let none = ap (all_sent old.banks) (sym (take_silent unit.cache c.in-Take.place)) in
-    unsent unit old c.args.event (Take c.in-Take.place) c.in-Take.is none
+    let memory = c.args.banks.now in
+    of_event unit memory c.args.event (Take c.in-Take.place) _ _ _ c.in-Take.is
+    (joins_silent _ unit memory _ _ (take_silent unit.cache c.in-Take.place) c.take.ensures)

@@ -1,6 +1,10 @@
-use Rattle.std.proofs.Common.{ap, ◌∙◌}
-use Rattle.register_sweeps.proofs.Turns.{pump_sizes}
+use Rattle.std.proofs.Common.{ap, ap₂, ◌∙◌}
+use Rattle.register_sweeps.specs.Sweep.{course, with_pumped}
+use Rattle.register_sweeps.proofs.Turns.{left_by_pump, told_by_pump}
 use Rattle.register_sweeps.proofs.row.pump_once.Goals as goal
 
-pub returns-clause-sizes : goal.returns-clause-sizes
-returns-clause-sizes g c = ap (λ s. s.sizes) c.pump-told.ensures.after ∙ pump_sizes (g.M.AnyMachine.state c.args.machine.now)
+pub returns-clause-course : goal.returns-clause-course
+returns-clause-course c =
+    let left = c.pump-told.ensures.machine ∙ left_by_pump c.args.machine.now in
+    let told = c.pump-told.ensures.event ∙ told_by_pump c.args.machine.now in
+    ap₂ course left (c.count_pump.ensures.row ∙ ap (with_pumped c.args.row.now) told)

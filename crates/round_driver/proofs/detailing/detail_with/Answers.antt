@@ -11,14 +11,14 @@ use Rattle.round_driver.proofs.Counted.{nothing_is_told, nothing_has_ended, told
 use Rattle.round_driver.proofs.detailing.detail_with.Goals as goal
 
 pub loop-turn-init : goal.loop-turn-init
-loop-turn-init g c =
-    let s = g.M.AnyMachine.state c.args.machine.now in
+loop-turn-init c =
+    let s = c.args.machine.now in
     let fresh = c.in_ok-counter.ensures.nothing in
     let none : total c.in_ok-counter.counter.table ≡ 0 = ap (λ c. total c.table) fresh in
     let unwaited : c.in_ok-counter.counter.table.waited ≡ 0 = ap (λ c. c.table.waited) fresh in
-    let untold : told_total c.in_ok-told.told ≡ 0 = ap told_total c.in_ok-told.ensures ∙ nothing_is_told c.numbers-numbers.result in
+    let untold : told_total c.in_ok-told.told ≡ 0 = ap told_total c.in_ok-told.ensures ∙ nothing_is_told c.numbers_of-numbers.result in
     let unheard : told_rounds c.in_ok-told.told ≡ 0 = ap told_rounds c.in_ok-told.ensures in
-    let unended : ends_total c.in_ok-ends.ends ≡ 0 = ap ends_total c.in_ok-ends.ensures ∙ nothing_has_ended c.numbers-numbers.result in
+    let unended : ends_total c.in_ok-ends.ends ≡ 0 = ap ends_total c.in_ok-ends.ensures ∙ nothing_has_ended c.numbers_of-numbers.result in
     let time : c.new-schedule.result.round ≡ 0 = ap (λ p. p.round) c.new-schedule.ensures in
     let next : c.new-schedule.result.next ≡ 0 = ap (λ p. p.next) c.new-schedule.ensures in
     let room = length c.args.requests.now in
@@ -26,8 +26,8 @@ loop-turn-init g c =
     record {
       run = run_begins c.args.timing s c.args.requests.now c.new-schedule.result c.new-schedule.ensures;
       counts = counts_begin c.args.timing s c.args.requests.now (counting c.in_ok-counter.counter) fresh;
-      told = told_begins c.args.timing s c.args.requests.now c.numbers-numbers.result c.in_ok-told.told c.in_ok-told.ensures;
-      ends = ends_begin c.args.timing s c.args.requests.now c.numbers-numbers.result c.in_ok-ends.ends c.in_ok-ends.ensures;
+      told = told_begins c.args.timing s c.args.requests.now c.numbers_of-numbers.result c.in_ok-told.told c.in_ok-told.ensures;
+      ends = ends_begin c.args.timing s c.args.requests.now c.numbers_of-numbers.result c.in_ok-ends.ends c.in_ok-ends.ensures;
       outcomes = outcomes;
       recorded = ap (λ x. x.ended) outcomes ∙ all_recorded room (rounds_until_over 0 (start_of c.args.timing s c.args.requests.now)).told;
       sizes = λ i. s.sizes;
@@ -42,42 +42,42 @@ loop-turn-init g c =
     }
 
 pub returns-then-is_over-clause-details : goal.returns-then-is_over-clause-details
-returns-then-is_over-clause-details g c =
-    let s = g.M.AnyMachine.state c.args.machine.now in
+returns-then-is_over-clause-details c =
+    let s = c.args.machine.now in
     let start = start_of c.args.timing s c.args.requests.now in
     let here = c.loop-turn.invariant.run in
     let over = sym c.is_over.ensures ∙ c.if-is_over.true in
     let le : c.loop-turn._turn ≤ c.most_rounds-turn-end.result = omega (arith, c.loop-turn-test.true) in
-    let whole = over_here c.loop-turn._turn start (g.M.AnyMachine.state c.loop-turn.machine) c.loop-turn.schedule c.loop-turn.left.now here c.most_rounds-turn-end.result le over ∙ ap (λ n. rounds_until_over n start) c.most_rounds-turn-end.ensures.value in
+    let whole = over_here c.loop-turn._turn start c.loop-turn.machine c.loop-turn.schedule c.loop-turn.left.now here c.most_rounds-turn-end.result le over ∙ ap (λ n. rounds_until_over n start) c.most_rounds-turn-end.ensures.value in
     let table : c.table_after-table.result ≡ table_of c.args.timing s c.args.requests.now = c.table_after-table.ensures ∙ ap (λ x. with_rounds x (c.loop-turn.schedule.round + 1)) c.loop-turn.invariant.counts ∙ ap (λ r. with_rounds (counted_all nothing r.told) (r.schedule.round + 1)) whole in
-    let told = c.loop-turn.invariant.told ∙ ap (told_of c.numbers-numbers.result) whole ∙ ap (λ z. told_of z (whole_run c.args.timing s c.args.requests.now)) c.numbers-numbers.ensures in
+    let told = c.loop-turn.invariant.told ∙ ap (told_of c.numbers_of-numbers.result) whole ∙ ap (λ z. told_of z (whole_run c.args.timing s c.args.requests.now)) c.numbers_of-numbers.ensures in
     let time = sym c.loop-turn.invariant.time ∙ ap (λ r. r.schedule.round) whole in
-    let ends = c.loop-turn.invariant.ends ∙ ap (λ k. ends_of k c.numbers-numbers.result start) time ∙ ap (λ z. ends_of (whole_run c.args.timing s c.args.requests.now).schedule.round z start) c.numbers-numbers.ensures in
+    let ends = c.loop-turn.invariant.ends ∙ ap (λ k. ends_of k c.numbers_of-numbers.result start) time ∙ ap (λ z. ends_of (whole_run c.args.timing s c.args.requests.now).schedule.round z start) c.numbers_of-numbers.ensures in
     let in_use = c.used_registers.ensures ∙ ap (λ r. used_registers r.state) whole in
     let outcomes = c.finish.ensures ∙ c.loop-turn.invariant.recorded ∙ ap (outcomes_in (length c.args.requests.now)) whole in
     c.details_from.ensures ∙ details_alike _ _ _ _ _ _ _ _ _ _ table told ends in_use outcomes
 
 pub returns-then-is_over-clause-machine : goal.returns-then-is_over-clause-machine
-returns-then-is_over-clause-machine g c =
-    let start = start_of c.args.timing (g.M.AnyMachine.state c.args.machine.now) c.args.requests.now in
+returns-then-is_over-clause-machine c =
+    let start = start_of c.args.timing c.args.machine.now c.args.requests.now in
     let here = c.loop-turn.invariant.run in
     let over = sym c.is_over.ensures ∙ c.if-is_over.true in
     let le : c.loop-turn._turn ≤ c.most_rounds-turn-end.result = omega (arith, c.loop-turn-test.true) in
-    let whole = over_here c.loop-turn._turn start (g.M.AnyMachine.state c.loop-turn.machine) c.loop-turn.schedule c.loop-turn.left.now here c.most_rounds-turn-end.result le over ∙ ap (λ n. rounds_until_over n start) c.most_rounds-turn-end.ensures.value in
+    let whole = over_here c.loop-turn._turn start c.loop-turn.machine c.loop-turn.schedule c.loop-turn.left.now here c.most_rounds-turn-end.result le over ∙ ap (λ n. rounds_until_over n start) c.most_rounds-turn-end.ensures.value in
     ap (λ r. r.state) whole
 
 pub returns-then-is_over-clause-early : goal.returns-then-is_over-clause-early
-returns-then-is_over-clause-early g c =
-    let start = start_of c.args.timing (g.M.AnyMachine.state c.args.machine.now) c.args.requests.now in
+returns-then-is_over-clause-early c =
+    let start = start_of c.args.timing c.args.machine.now c.args.requests.now in
     let here = c.loop-turn.invariant.run in
     let over = sym c.is_over.ensures ∙ c.if-is_over.true in
     let le : c.loop-turn._turn ≤ c.most_rounds-turn-end.result = omega (arith, c.loop-turn-test.true) in
-    let whole = over_here c.loop-turn._turn start (g.M.AnyMachine.state c.loop-turn.machine) c.loop-turn.schedule c.loop-turn.left.now here c.most_rounds-turn-end.result le over ∙ ap (λ n. rounds_until_over n start) c.most_rounds-turn-end.ensures.value in
+    let whole = over_here c.loop-turn._turn start c.loop-turn.machine c.loop-turn.schedule c.loop-turn.left.now here c.most_rounds-turn-end.result le over ∙ ap (λ n. rounds_until_over n start) c.most_rounds-turn-end.ensures.value in
     λ h. sym (ap is_over whole) ∙ over
 
 pub returns-clause-machine : goal.returns-clause-machine
-returns-clause-machine g c =
-    let start = start_of c.args.timing (g.M.AnyMachine.state c.args.machine.now) c.args.requests.now in
+returns-clause-machine c =
+    let start = start_of c.args.timing c.args.machine.now c.args.requests.now in
     let here = c.loop-turn.invariant.run in
     let turns = c.loop-turn._turn in
     let all : turns ≡ c.most_rounds-turn-end.result = omega (arith, c.loop-turn-test.false, c.loop-turn.auto._turn-end) in
@@ -85,19 +85,19 @@ returns-clause-machine g c =
     ap (λ r. r.state) whole
 
 pub returns-clause-early : goal.returns-clause-early
-returns-clause-early g c =
-    let start = start_of c.args.timing (g.M.AnyMachine.state c.args.machine.now) c.args.requests.now in
+returns-clause-early c =
+    let start = start_of c.args.timing c.args.machine.now c.args.requests.now in
     let here = c.loop-turn.invariant.run in
     let turns = c.loop-turn._turn in
     let round : c.loop-turn.schedule.round ≡ turns = c.loop-turn.invariant.time in
     let all : turns ≡ c.most_rounds-turn-end.result = omega (arith, c.loop-turn-test.false, c.loop-turn.auto._turn-end) in
     let whole = here ∙ ap (λ n. rounds_until_over n start) (all ∙ c.most_rounds-turn-end.ensures.value) in
-    let last : c.loop-turn.schedule.round ≡ (whole_run c.args.timing (g.M.AnyMachine.state c.args.machine.now) c.args.requests.now).schedule.round = ap (λ r. r.schedule.round) whole in
+    let last : c.loop-turn.schedule.round ≡ (whole_run c.args.timing c.args.machine.now c.args.requests.now).schedule.round = ap (λ r. r.schedule.round) whole in
     λ h. absurd (no_more c.most_rounds-turn-end.result _ _ (sym last ∙ round ∙ all) c.most_rounds-turn-end.ensures.value h)
 
 pub loop-turn-preserved : goal.loop-turn-preserved
-loop-turn-preserved g c =
-    let start = start_of c.args.timing (g.M.AnyMachine.state c.args.machine.now) c.args.requests.now in
+loop-turn-preserved c =
+    let start = start_of c.args.timing c.args.machine.now c.args.requests.now in
     let here = c.loop-turn.invariant.run in
     let going = sym c.is_over.ensures ∙ c.if-is_over.false in
     let made = c.round-left.ensures.run in
@@ -107,9 +107,9 @@ loop-turn-preserved g c =
     let more = c.count_all.ensures.total in
     let waited = c.loop-turn.invariant.waited in
     let longer = c.count_all.ensures.waited in
-    let run = run_next c.loop-turn._turn start (g.M.AnyMachine.state c.loop-turn.machine) c.loop-turn.schedule c.loop-turn.left.now here (g.M.AnyMachine.state c.round-left.new.machine) c.round-left.new.schedule c.round-left.result.now c.round-left.new.notes.items made going in
-    let notes = notes_next c.loop-turn._turn start (g.M.AnyMachine.state c.loop-turn.machine) c.loop-turn.schedule c.loop-turn.left.now here (g.M.AnyMachine.state c.round-left.new.machine) c.round-left.new.schedule c.round-left.result.now c.round-left.new.notes.items made going in
-    let told = told_next c.numbers-numbers.result (rounds_until_over c.loop-turn._turn start).told c.round-left.new.notes.items (rounds_until_over (c.loop-turn._turn + 1) start).told c.loop-turn.told c.count_all-in-loop-turn.new.self notes c.loop-turn.invariant.told (c.count_all-in-loop-turn.ensures.counts ∙ ap (λ ns. told_all c.numbers-numbers.result c.loop-turn.told ns) c.as_slice-in-loop-turn.ensures.value) in
+    let run = run_next c.loop-turn._turn start c.loop-turn.machine c.loop-turn.schedule c.loop-turn.left.now here c.round-left.new.machine c.round-left.new.schedule c.round-left.result.now c.round-left.new.notes.items made going in
+    let notes = notes_next c.loop-turn._turn start c.loop-turn.machine c.loop-turn.schedule c.loop-turn.left.now here c.round-left.new.machine c.round-left.new.schedule c.round-left.result.now c.round-left.new.notes.items made going in
+    let told = told_next c.numbers_of-numbers.result (rounds_until_over c.loop-turn._turn start).told c.round-left.new.notes.items (rounds_until_over (c.loop-turn._turn + 1) start).told c.loop-turn.told c.count_all-in-loop-turn.new.self notes c.loop-turn.invariant.told (c.count_all-in-loop-turn.ensures.counts ∙ ap (λ ns. told_all c.numbers_of-numbers.result c.loop-turn.told ns) c.as_slice-in-loop-turn.ensures.value) in
     let room = length c.args.requests.now in
     let before_it = rounds_until_over c.loop-turn._turn start in
     let behind_it = rounds_until_over (c.loop-turn._turn + 1) start in
@@ -123,9 +123,9 @@ loop-turn-preserved g c =
     let more_ends = c.count.ensures.total in
     record {
       run = run;
-      counts = counts_next c.loop-turn._turn start (g.M.AnyMachine.state c.loop-turn.machine) c.loop-turn.schedule c.loop-turn.left.now here (g.M.AnyMachine.state c.round-left.new.machine) c.round-left.new.schedule c.round-left.result.now c.round-left.new.notes.items made going (counting c.loop-turn.counter) (counting c.count_all.new.self) c.loop-turn.invariant.counts (c.count_all.ensures.counts ∙ ap (counted_all (counting c.loop-turn.counter)) c.as_slice.ensures.value);
+      counts = counts_next c.loop-turn._turn start c.loop-turn.machine c.loop-turn.schedule c.loop-turn.left.now here c.round-left.new.machine c.round-left.new.schedule c.round-left.result.now c.round-left.new.notes.items made going (counting c.loop-turn.counter) (counting c.count_all.new.self) c.loop-turn.invariant.counts (c.count_all.ensures.counts ∙ ap (counted_all (counting c.loop-turn.counter)) c.as_slice.ensures.value);
       told = told;
-      ends = ends_next c.loop-turn._turn c.numbers-numbers.result start c.loop-turn.ends c.count.new.self c.count_all-in-loop-turn.new.self c.used_registers-in-loop-turn.result c.loop-turn.invariant.ends c.count.ensures.value (c.used_registers-in-loop-turn.ensures ∙ ap (λ r. used_registers r.state) run) told;
+      ends = ends_next c.loop-turn._turn c.numbers_of-numbers.result start c.loop-turn.ends c.count.new.self c.count_all-in-loop-turn.new.self c.used_registers-in-loop-turn.result c.loop-turn.invariant.ends c.count.ensures.value (c.used_registers-in-loop-turn.ensures ∙ ap (λ r. used_registers r.state) run) told;
       outcomes = outcomes;
       recorded = ap (λ x. x.ended) outcomes ∙ all_recorded room behind_it.told;
       sizes = c.round-left.ensures.sizes ∙ c.loop-turn.invariant.sizes;
@@ -140,9 +140,9 @@ loop-turn-preserved g c =
     }
 
 pub returns-then-is_over-clause-over : goal.returns-then-is_over-clause-over
-returns-then-is_over-clause-over g c =
-    requests_end c.args.timing (g.M.AnyMachine.state c.args.machine.now) c.args.requests.now c.keeps_whole.ensures
+returns-then-is_over-clause-over c =
+    requests_end c.args.timing c.args.machine.now c.args.requests.now c.keeps_whole.ensures
 
 pub returns-clause-over : goal.returns-clause-over
-returns-clause-over g c =
-    requests_end c.args.timing (g.M.AnyMachine.state c.args.machine.now) c.args.requests.now c.keeps_whole.ensures
+returns-clause-over c =
+    requests_end c.args.timing c.args.machine.now c.args.requests.now c.keeps_whole.ensures

@@ -10,17 +10,17 @@ use Rattle.round_driver.proofs.detailing.detail_with.Given as goal
 
 -- so many rounds were made, and what was told of them and how they ended is counted
 abbrev pub invariant-loop-turn : goal.invariant-loop-turn
-invariant-loop-turn g l =
-    let start = start_of l.fn.timing (g.M.AnyMachine.state l.initial.machine) l.requests in
+invariant-loop-turn l =
+    let start = start_of l.fn.timing l.initial.machine l.requests in
     let so_far = rounds_until_over l._turn start in
     record {
-      run : run_of (g.M.AnyMachine.state l.machine) l.schedule l.left so_far.told ≡ so_far;
+      run : run_of l.machine l.schedule l.left so_far.told ≡ so_far;
       counts : counting l.counter ≡ counted_all nothing so_far.told;
       told : l.told ≡ told_of l.numbers so_far;
       ends : l.ends ≡ ends_of l._turn l.numbers start;
       outcomes : l.outcomes ≡ with_notes (nothing_recorded (length l.requests)) so_far.told;
       recorded : l.outcomes.ended ≡ outcomes_in (length l.requests) so_far;
-      sizes : (g.M.AnyMachine.state l.machine).sizes ≡ (g.M.AnyMachine.state l.initial.machine).sizes;
+      sizes : l.machine.sizes ≡ l.initial.machine.sizes;
       time : l.schedule.round ≡ l._turn;
       next : l.schedule.next ≤ MAX_BANKS;
       total : total l.counter.table ≤ 2 * MOST_NOTES * l._turn;

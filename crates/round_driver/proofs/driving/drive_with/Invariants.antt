@@ -8,11 +8,11 @@ use Rattle.round_driver.proofs.driving.drive_with.Given as goal
 -- so many rounds were made, and what was told of them is written
 abbrev pub invariant-loop-turn : goal.invariant-loop-turn
 invariant-loop-turn g l =
-    let so_far = rounds_until_over l._turn (start_of l.fn.timing (g.M.AnyMachine.state l.initial.machine) l.requests) in
+    let so_far = rounds_until_over l._turn (start_of l.fn.timing l.initial.machine l.requests) in
     record {
-      run : run_of (g.M.AnyMachine.state l.machine) l.schedule l.left so_far.told ≡ so_far;
+      run : run_of l.machine l.schedule l.left so_far.told ≡ so_far;
       written : Moves g.W.Sink.took l.fn.writer (run_text so_far.told) l.writer;
-      sizes : (g.M.AnyMachine.state l.machine).sizes ≡ (g.M.AnyMachine.state l.initial.machine).sizes;
+      sizes : l.machine.sizes ≡ l.initial.machine.sizes;
       time : l.schedule.round ≡ l._turn;
       next : l.schedule.next ≤ MAX_BANKS;
     }

@@ -6,8 +6,8 @@ use Rattle.round_driver.proofs.Ends.{requests_end}
 use Rattle.round_driver.proofs.driving.summarize_with.Goals as goal
 
 pub loop-turn-init : goal.loop-turn-init
-loop-turn-init g c =
-    let s = g.M.AnyMachine.state c.args.machine.now in
+loop-turn-init c =
+    let s = c.args.machine.now in
     let fresh = c.in_ok-counter.ensures.nothing in
     let none : total c.in_ok-counter.counter.table ≡ 0 = ap (λ c. total c.table) fresh in
     let unwaited : c.in_ok-counter.counter.table.waited ≡ 0 = ap (λ c. c.table.waited) fresh in
@@ -25,46 +25,46 @@ loop-turn-init g c =
     }
 
 pub returns-then-is_over-clause-table : goal.returns-then-is_over-clause-table
-returns-then-is_over-clause-table g c =
-    let start = start_of c.args.timing (g.M.AnyMachine.state c.args.machine.now) c.args.requests.now in
+returns-then-is_over-clause-table c =
+    let start = start_of c.args.timing c.args.machine.now c.args.requests.now in
     let here = c.loop-turn.invariant.run in
     let over = sym c.is_over.ensures ∙ c.if-is_over.true in
     let le : c.loop-turn._turn ≤ c.most_rounds-turn-end.result = omega (arith, c.loop-turn-test.true) in
-    let whole = over_here c.loop-turn._turn start (g.M.AnyMachine.state c.loop-turn.machine) c.loop-turn.schedule c.loop-turn.left.now here c.most_rounds-turn-end.result le over ∙ ap (λ n. rounds_until_over n start) c.most_rounds-turn-end.ensures.value in
+    let whole = over_here c.loop-turn._turn start c.loop-turn.machine c.loop-turn.schedule c.loop-turn.left.now here c.most_rounds-turn-end.result le over ∙ ap (λ n. rounds_until_over n start) c.most_rounds-turn-end.ensures.value in
     c.table_after.ensures ∙ ap (λ x. with_rounds x (c.loop-turn.schedule.round + 1)) c.loop-turn.invariant.counts ∙ ap (λ r. with_rounds (counted_all nothing r.told) (r.schedule.round + 1)) whole
 
 pub returns-then-is_over-clause-machine : goal.returns-then-is_over-clause-machine
-returns-then-is_over-clause-machine g c =
-    let start = start_of c.args.timing (g.M.AnyMachine.state c.args.machine.now) c.args.requests.now in
+returns-then-is_over-clause-machine c =
+    let start = start_of c.args.timing c.args.machine.now c.args.requests.now in
     let here = c.loop-turn.invariant.run in
     let over = sym c.is_over.ensures ∙ c.if-is_over.true in
     let le : c.loop-turn._turn ≤ c.most_rounds-turn-end.result = omega (arith, c.loop-turn-test.true) in
-    let whole = over_here c.loop-turn._turn start (g.M.AnyMachine.state c.loop-turn.machine) c.loop-turn.schedule c.loop-turn.left.now here c.most_rounds-turn-end.result le over ∙ ap (λ n. rounds_until_over n start) c.most_rounds-turn-end.ensures.value in
+    let whole = over_here c.loop-turn._turn start c.loop-turn.machine c.loop-turn.schedule c.loop-turn.left.now here c.most_rounds-turn-end.result le over ∙ ap (λ n. rounds_until_over n start) c.most_rounds-turn-end.ensures.value in
     ap (λ r. r.state) whole
 
 pub returns-then-is_over-clause-early : goal.returns-then-is_over-clause-early
-returns-then-is_over-clause-early g c =
-    let start = start_of c.args.timing (g.M.AnyMachine.state c.args.machine.now) c.args.requests.now in
+returns-then-is_over-clause-early c =
+    let start = start_of c.args.timing c.args.machine.now c.args.requests.now in
     let here = c.loop-turn.invariant.run in
     let over = sym c.is_over.ensures ∙ c.if-is_over.true in
     let le : c.loop-turn._turn ≤ c.most_rounds-turn-end.result = omega (arith, c.loop-turn-test.true) in
-    let whole = over_here c.loop-turn._turn start (g.M.AnyMachine.state c.loop-turn.machine) c.loop-turn.schedule c.loop-turn.left.now here c.most_rounds-turn-end.result le over ∙ ap (λ n. rounds_until_over n start) c.most_rounds-turn-end.ensures.value in
+    let whole = over_here c.loop-turn._turn start c.loop-turn.machine c.loop-turn.schedule c.loop-turn.left.now here c.most_rounds-turn-end.result le over ∙ ap (λ n. rounds_until_over n start) c.most_rounds-turn-end.ensures.value in
     λ h. sym (ap is_over whole) ∙ over
 
 pub returns-clause-early : goal.returns-clause-early
-returns-clause-early g c =
-    let start = start_of c.args.timing (g.M.AnyMachine.state c.args.machine.now) c.args.requests.now in
+returns-clause-early c =
+    let start = start_of c.args.timing c.args.machine.now c.args.requests.now in
     let here = c.loop-turn.invariant.run in
     let turns = c.loop-turn._turn in
     let round : c.loop-turn.schedule.round ≡ turns = c.loop-turn.invariant.time in
     let all : turns ≡ c.most_rounds-turn-end.result = omega (arith, c.loop-turn-test.false, c.loop-turn.auto._turn-end) in
     let whole = here ∙ ap (λ n. rounds_until_over n start) (all ∙ c.most_rounds-turn-end.ensures.value) in
-    let last : c.loop-turn.schedule.round ≡ (whole_run c.args.timing (g.M.AnyMachine.state c.args.machine.now) c.args.requests.now).schedule.round = ap (λ r. r.schedule.round) whole in
+    let last : c.loop-turn.schedule.round ≡ (whole_run c.args.timing c.args.machine.now c.args.requests.now).schedule.round = ap (λ r. r.schedule.round) whole in
     λ h. absurd (no_more c.most_rounds-turn-end.result _ _ (sym last ∙ round ∙ all) c.most_rounds-turn-end.ensures.value h)
 
 pub loop-turn-preserved : goal.loop-turn-preserved
-loop-turn-preserved g c =
-    let start = start_of c.args.timing (g.M.AnyMachine.state c.args.machine.now) c.args.requests.now in
+loop-turn-preserved c =
+    let start = start_of c.args.timing c.args.machine.now c.args.requests.now in
     let here = c.loop-turn.invariant.run in
     let going = sym c.is_over.ensures ∙ c.if-is_over.false in
     let made = c.round-left.ensures.run in
@@ -75,8 +75,8 @@ loop-turn-preserved g c =
     let waited = c.loop-turn.invariant.waited in
     let longer = c.count_all.ensures.waited in
     record {
-      run = run_next c.loop-turn._turn start (g.M.AnyMachine.state c.loop-turn.machine) c.loop-turn.schedule c.loop-turn.left.now here (g.M.AnyMachine.state c.round-left.new.machine) c.round-left.new.schedule c.round-left.result.now c.round-left.new.notes.items made going;
-      counts = counts_next c.loop-turn._turn start (g.M.AnyMachine.state c.loop-turn.machine) c.loop-turn.schedule c.loop-turn.left.now here (g.M.AnyMachine.state c.round-left.new.machine) c.round-left.new.schedule c.round-left.result.now c.round-left.new.notes.items made going (counting c.loop-turn.counter) (counting c.count_all.new.self) c.loop-turn.invariant.counts (c.count_all.ensures.counts ∙ ap (counted_all (counting c.loop-turn.counter)) c.as_slice.ensures.value);
+      run = run_next c.loop-turn._turn start c.loop-turn.machine c.loop-turn.schedule c.loop-turn.left.now here c.round-left.new.machine c.round-left.new.schedule c.round-left.result.now c.round-left.new.notes.items made going;
+      counts = counts_next c.loop-turn._turn start c.loop-turn.machine c.loop-turn.schedule c.loop-turn.left.now here c.round-left.new.machine c.round-left.new.schedule c.round-left.result.now c.round-left.new.notes.items made going (counting c.loop-turn.counter) (counting c.count_all.new.self) c.loop-turn.invariant.counts (c.count_all.ensures.counts ∙ ap (counted_all (counting c.loop-turn.counter)) c.as_slice.ensures.value);
       sizes = c.round-left.ensures.sizes ∙ c.loop-turn.invariant.sizes;
       time = omega (arith, time, before);
       next = c.round-left.ensures.next;
@@ -86,9 +86,9 @@ loop-turn-preserved g c =
     }
 
 pub returns-then-is_over-clause-over : goal.returns-then-is_over-clause-over
-returns-then-is_over-clause-over g c =
-    requests_end c.args.timing (g.M.AnyMachine.state c.args.machine.now) c.args.requests.now c.keeps_whole.ensures
+returns-then-is_over-clause-over c =
+    requests_end c.args.timing c.args.machine.now c.args.requests.now c.keeps_whole.ensures
 
 pub returns-clause-over : goal.returns-clause-over
-returns-clause-over g c =
-    requests_end c.args.timing (g.M.AnyMachine.state c.args.machine.now) c.args.requests.now c.keeps_whole.ensures
+returns-clause-over c =
+    requests_end c.args.timing c.args.machine.now c.args.requests.now c.keeps_whole.ensures

@@ -8,12 +8,12 @@ use Rattle.round_driver.proofs.driving.summarize_with.Given as goal
 
 -- so many rounds were made, and what was told of them is counted
 abbrev pub invariant-loop-turn : goal.invariant-loop-turn
-invariant-loop-turn g l =
-    let so_far = rounds_until_over l._turn (start_of l.fn.timing (g.M.AnyMachine.state l.initial.machine) l.requests) in
+invariant-loop-turn l =
+    let so_far = rounds_until_over l._turn (start_of l.fn.timing l.initial.machine l.requests) in
     record {
-      run : run_of (g.M.AnyMachine.state l.machine) l.schedule l.left so_far.told ≡ so_far;
+      run : run_of l.machine l.schedule l.left so_far.told ≡ so_far;
       counts : counting l.counter ≡ counted_all nothing so_far.told;
-      sizes : (g.M.AnyMachine.state l.machine).sizes ≡ (g.M.AnyMachine.state l.initial.machine).sizes;
+      sizes : l.machine.sizes ≡ l.initial.machine.sizes;
       time : l.schedule.round ≡ l._turn;
       next : l.schedule.next ≤ MAX_BANKS;
       total : total l.counter.table ≤ 2 * MOST_NOTES * l._turn;

@@ -4,13 +4,13 @@ use Rattle.round_driver.proofs.Turns.{bank_more, no_bank_left}
 use Rattle.round_driver.proofs.round.bank_turns.Goals as goal
 
 pub loop-bank-preserved : goal.loop-bank-preserved
-loop-bank-preserved g c =
-    let here = course (g.M.AnyMachine.state c.loop-bank.machine) c.loop-bank.schedule c.loop-bank.notes.items in
-    let turn : c.loop-bank.bank < c.bank_count-bank-end.result = c.loop-bank-test.true in
+loop-bank-preserved c =
+    let here = course c.loop-bank.machine c.loop-bank.schedule c.loop-bank.notes.items in
+    let turn : c.loop-bank.bank < c.sizes.result.now.banks = c.loop-bank-test.true in
     let before = c.loop-bank.invariant.len in
     let told = c.serve_due.ensures.len in
     record {
-      same = c.loop-bank.invariant.same ∙ bank_more c.bank_count-bank-end.result c.loop-bank.bank here _ _ c.begin.ensures.course c.serve_due.ensures.course turn;
+      same = c.loop-bank.invariant.same ∙ bank_more c.sizes.result.now.banks c.loop-bank.bank here _ _ c.begin.ensures.course c.serve_due.ensures.course turn;
       sizes = c.serve_due.ensures.sizes ∙ c.loop-bank.invariant.sizes;
       len = omega (arith, before, told);
       time = c.serve_due.ensures.time ∙ c.begin.ensures.time ∙ c.loop-bank.invariant.time;
@@ -18,7 +18,7 @@ loop-bank-preserved g c =
     }
 
 pub returns-clause-course : goal.returns-clause-course
-returns-clause-course g c =
-    let here = course (g.M.AnyMachine.state c.loop-bank.machine) c.loop-bank.schedule c.loop-bank.notes.items in
-    let over : c.bank_count-bank-end.result ≤ c.loop-bank.bank = omega (arith, c.loop-bank-test.false) in
-    sym (no_bank_left c.bank_count-bank-end.result c.loop-bank.bank here over) ∙ sym c.loop-bank.invariant.same ∙ ap (λ n. bank_turns n 0 (course (g.M.AnyMachine.state c.args.machine.now) c.args.schedule.now c.args.notes.now.items)) c.bank_count-bank-end.ensures
+returns-clause-course c =
+    let here = course c.loop-bank.machine c.loop-bank.schedule c.loop-bank.notes.items in
+    let over : c.sizes.result.now.banks ≤ c.loop-bank.bank = omega (arith, c.loop-bank-test.false) in
+    sym (no_bank_left c.sizes.result.now.banks c.loop-bank.bank here over) ∙ sym c.loop-bank.invariant.same ∙ ap (λ z. bank_turns z.banks 0 (course c.args.machine.now c.args.schedule.now c.args.notes.now.items)) c.sizes.ensures

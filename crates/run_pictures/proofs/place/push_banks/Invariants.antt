@@ -4,4 +4,4 @@ use Rattle.run_pictures.proofs.place.push_banks.Given as goal
 
 -- the places so far stand behind the others
 abbrev pub invariant-loop-bank : goal.invariant-loop-bank
-invariant-loop-bank l = l.places.items ≡ l.initial.places.items ++ of_each (bank_places l.extent) l.bank
+invariant-loop-bank l = l.places.items ≡ l.initial.places.items ++ of_each (bank_places l.sizes) l.bank

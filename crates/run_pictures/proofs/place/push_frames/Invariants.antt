@@ -4,4 +4,4 @@ use Rattle.run_pictures.proofs.place.push_frames.Given as goal
 
 -- the places so far stand behind the others
 abbrev pub invariant-loop-frame : goal.invariant-loop-frame
-invariant-loop-frame l = l.places.items ≡ l.initial.places.items ++ of_each (frame_places l.extent) l.frame
+invariant-loop-frame l = l.places.items ≡ l.initial.places.items ++ of_each (frame_places l.sizes) l.frame

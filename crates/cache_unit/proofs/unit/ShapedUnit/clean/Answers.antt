@@ -1,5 +1,5 @@
 use Rattle.std.proofs.Common.{◌∙◌, ◌==◌, ap, sym, refl, true, false}
-use Rattle.cache_unit.specs.Shown.{as_cache}
+use Rattle.cache_unit.specs.View.{cache_of}
 use Rattle.cache_unit.specs.Views as views
 use Rattle.cache_unit.proofs.Stepping.{value_by}
 use Rattle.cache_unit.proofs.Views.{clean_by}
@@ -10,13 +10,13 @@ pub returns-then-are_clean : goal.returns-then-are_clean
 returns-then-are_clean c =
     let s = c.self.inside in
     let sizes = s.sizes in
-    let now = as_cache s.directory s.registers s.stack s.queue.entries s.ready.items in
+    let now = cache_of s in
     elim c.if-are_free.branch [
       | then-are_free w ↦ (
           let free = sym c.are_free.ensures ∙ w.if-are_free.true in
           let clean = sym w.are_clean.ensures ∙ sym w.value-is ∙ c.if-are_clean.true in
           let none = ap (λ n. n == 0) (sym c.len.ensures.value) in
-          let shown = clean_by s.directory s.registers s.stack s.queue.entries s.ready.items true true _ free clean none in
+          let shown = clean_by (cache_of s) true true _ free clean none in
           value_by sizes now _ (λ z k. views.is_clean k) _ c.self.view_is shown)
       | else-are_free w ↦ (
           let value = w.value-is in
@@ -29,15 +29,15 @@ pub returns-else-are_clean : goal.returns-else-are_clean
 returns-else-are_clean c =
     let s = c.self.inside in
     let sizes = s.sizes in
-    let now = as_cache s.directory s.registers s.stack s.queue.entries s.ready.items in
+    let now = cache_of s in
     elim c.if-are_free.branch [
       | then-are_free w ↦ (
           let free = sym c.are_free.ensures ∙ w.if-are_free.true in
           let clean = sym w.are_clean.ensures ∙ sym w.value-is ∙ c.if-are_clean.false in
-          let shown = clean_by s.directory s.registers s.stack s.queue.entries s.ready.items true false _ free clean refl in
+          let shown = clean_by (cache_of s) true false _ free clean refl in
           value_by sizes now _ (λ z k. views.is_clean k) _ c.self.view_is (c.if-are_clean.false ∙ shown))
       | else-are_free w ↦ (
           let free = sym c.are_free.ensures ∙ w.if-are_free.false in
-          let shown = clean_by s.directory s.registers s.stack s.queue.entries s.ready.items false _ _ free refl refl in
+          let shown = clean_by (cache_of s) false _ _ free refl refl in
           value_by sizes now _ (λ z k. views.is_clean k) _ c.self.view_is (c.if-are_clean.false ∙ shown))
     ]

@@ -4,9 +4,10 @@ use Rattle.memory_banks.specs.declared.Command.{Command}
 use Rattle.cache_directory.specs.Frames as dir
 use Rattle.miss_registers.specs.Registers as regs
 use Rattle.miss_registers.specs.Whole.{IsWhole}
+use Rattle.write_queue.specs.Queue.{Queue}
+use Rattle.cache_unit.specs.View.{cache_of}
 use Rattle.cache_unit.specs.State.{UnitState, is_present}
 use Rattle.cache_unit.specs.Steps.{fetched, fetches}
-use Rattle.cache_unit.specs.Shown.{as_cache}
 use Rattle.cache_unit.specs.Miss.{MayTake}
 use Rattle.cache_unit.proofs.Stepping.{cache_by, value_by}
 use Rattle.cache_unit.proofs.SentReads.{room_for_all}
@@ -19,12 +20,12 @@ use Rattle.cache_unit.proofs.unit.ShapedUnit.fetch.Goals as goal
 pub bring_in-requires : goal.bring_in-requires
 bring_in-requires g c =
     let s = c.self.inside in
-    let h = c.self.invariant in
+    let h = c.self.invariant.sound in
     let z = s.sizes in
     let room = g.L.Lines.room_of c.args.lines.now in
     let P : UnitState → Type 0 = λ v. MayTake v.sizes room v.cache c.args.block c.args.places in
-    let t = takes_from z s.directory s.registers s.stack s.queue s.ready.items h room c.args.block c.args.places (subst P (sym c.self.view_is) c.requires.may_take) in
-    let absent = absent_frame s.directory s.registers s.stack s.queue.entries s.ready.items c.args.block (ap (λ (v : UnitState). is_present v.cache c.args.block) c.self.view_is ∙ c.requires.absent) in
+    let t = takes_from z (cache_of s) h room c.args.block c.args.places (subst P (sym c.self.view_is) c.requires.may_take) in
+    let absent = absent_frame (cache_of s) c.args.block (ap (λ (v : UnitState). is_present v.cache c.args.block) c.self.view_is ∙ c.requires.absent) in
     let live = no_live s.directory.frames s.registers c.args.block h.tied absent in
     let in_memory : c.args.block * s.sizes.block_words + s.sizes.block_words ≤ s.sizes.words =
     subst (λ (v : UnitState). c.args.block * v.sizes.block_words + v.sizes.block_words ≤ v.sizes.words) (sym c.self.view_is) c.requires.in_memory in
@@ -43,7 +44,7 @@ bring_in-requires g c =
       no_live = live;
       fits = small;
       held_fits = held;
-      room = t.queue;
+      room = rw c.self.invariant.limit t.queue;
       some_banks = h.ranges.some_banks;
       bank_room = banks;
     }
@@ -51,37 +52,37 @@ bring_in-requires g c =
 pub invariant_of-self : goal.invariant_of-self
 invariant_of-self g c =
     let s = c.self.inside in
-    let h = c.self.invariant in
+    let h = c.self.invariant.sound in
     let z = s.sizes in
     let room = g.L.Lines.room_of c.args.lines.now in
     let f = c.args.places.frame in
     let slot = c.args.places.slot in
     let P : UnitState → Type 0 = λ v. MayTake v.sizes room v.cache c.args.block c.args.places in
-    let t = takes_from z s.directory s.registers s.stack s.queue s.ready.items h room c.args.block c.args.places (subst P (sym c.self.view_is) c.requires.may_take) in
-    let absent = absent_frame s.directory s.registers s.stack s.queue.entries s.ready.items c.args.block (ap (λ (v : UnitState). is_present v.cache c.args.block) c.self.view_is ∙ c.requires.absent) in
+    let t = takes_from z (cache_of s) h room c.args.block c.args.places (subst P (sym c.self.view_is) c.requires.may_take) in
+    let absent = absent_frame (cache_of s) c.args.block (ap (λ (v : UnitState). is_present v.cache c.args.block) c.self.view_is ∙ c.requires.absent) in
     let in_memory : c.args.block * s.sizes.block_words + s.sizes.block_words ≤ s.sizes.words =
     subst (λ (v : UnitState). c.args.block * v.sizes.block_words + v.sizes.block_words ≤ v.sizes.words) (sym c.self.view_is) c.requires.in_memory in
     let b = c.bring_in.ensures in
     let D : dir.Frames → Type 0 = dir.IsWhole s.sizes.ways s.sizes.block_words in
     let R : List regs.Register → Type 0 = IsWhole s.sizes.block_words s.sizes.regs in
-    let all = IsSound-missed z s.directory s.registers s.stack s.queue s.ready.items c.args.block f slot h t.there t.idle absent t.slot t.free in_memory t.queue (subst D b.directory b.whole) (subst R b.registers b.whole_file) in
-    rw (b.directory, b.registers, b.queue) all
+    let all = IsSound-missed z (cache_of s) c.args.block f slot h t.there t.idle absent t.slot t.free in_memory t.queue (subst D b.directory b.whole) (subst R b.registers b.whole_file) in
+    record { sound = rw (b.directory, b.registers, b.queue) all; limit = ap (λ (q : Queue). q.limit) b.queue ∙ c.self.invariant.limit }
 
 pub returns-clause-unit : goal.returns-clause-unit
 returns-clause-unit g c =
     let s = c.self.inside in
-    let h = c.self.invariant in
+    let h = c.self.invariant.sound in
     let z = s.sizes in
-    let now = as_cache s.directory s.registers s.stack s.queue.entries s.ready.items in
+    let now = cache_of s in
     let room = g.L.Lines.room_of c.args.lines.now in
     let f = c.args.places.frame in
     let slot = c.args.places.slot in
     let P : UnitState → Type 0 = λ v. MayTake v.sizes room v.cache c.args.block c.args.places in
     let may = subst P (sym c.self.view_is) c.requires.may_take in
-    let t = takes_from z s.directory s.registers s.stack s.queue s.ready.items h room c.args.block c.args.places may in
+    let t = takes_from z (cache_of s) h room c.args.block c.args.places may in
     let absent = ap (λ (v : UnitState). is_present v.cache c.args.block) c.self.view_is ∙ c.requires.absent in
     let of_set = t.of_set ∙ ap (λ n. c.args.block % n) h.sets in
-    let shown = fetched-shown z s.directory s.registers s.stack s.queue.entries s.ready.items c.args.block f slot h.directory of_set absent may.frame may.slot in
+    let shown = fetched-shown z (cache_of s) c.args.block f slot h.directory of_set absent may.frame may.slot in
     let b = c.bring_in.ensures in
     rw (b.directory, b.registers, b.queue) (cache_by z now _ _ (λ y k. fetched y k c.args.block) c.self.view_is shown)
 
@@ -89,7 +90,7 @@ pub returns-clause-lines : goal.returns-clause-lines
 returns-clause-lines g c =
     let s = c.self.inside in
     let z = s.sizes in
-    let now = as_cache s.directory s.registers s.stack s.queue.entries s.ready.items in
+    let now = cache_of s in
     let room = g.L.Lines.room_of c.args.lines.now in
     let P : UnitState → Type 0 = λ v. MayTake v.sizes room v.cache c.args.block c.args.places in
     let may = subst P (sym c.self.view_is) c.requires.may_take in

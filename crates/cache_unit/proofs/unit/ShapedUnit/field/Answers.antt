@@ -1,5 +1,5 @@
 use Rattle.std.proofs.Common.{◌∙◌}
-use Rattle.cache_unit.specs.Shown.{as_cache}
+use Rattle.cache_unit.specs.View.{cache_of}
 use Rattle.cache_unit.specs.Views as views
 use Rattle.cache_unit.proofs.Stepping.{value_by}
 use Rattle.cache_unit.proofs.Views.{field-shown}
@@ -9,6 +9,6 @@ pub returns : goal.returns
 returns c =
     let s = c.self.inside in
     let sizes = s.sizes in
-    let now = as_cache s.directory s.registers s.stack s.queue.entries s.ready.items in
-    let shown = field-shown sizes s.directory s.registers s.stack s.queue s.ready.items c.args.slot c.args.i c.self.invariant in
+    let now = cache_of s in
+    let shown = field-shown sizes (cache_of s) c.args.slot c.args.i c.self.invariant.sound in
     value_by sizes now _ (λ z k. views.field_view z k c.args.slot c.args.i) _ c.self.view_is (c.field.ensures.answer ∙ shown)

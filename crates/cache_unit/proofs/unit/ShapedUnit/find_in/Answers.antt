@@ -1,4 +1,4 @@
-use Rattle.std.proofs.Common.{◌≡◌, ℕ, if◌then◌else◌, ap, sym, ◌∙◌, is_some, refl, rules}
+use Rattle.std.proofs.Common.{◌≡◌, ℕ, if◌then◌else◌, ap, sym, ◌∙◌, is_some, refl}
 use Rattle.cache_unit.specs.declared.Lookup.{Lookup}
 use Rattle.cache_unit.specs.declared.Lookup.TheVariants.{Hit, Join, Miss}
 use Rattle.cache_unit.specs.declared.unit.present.Finding.{Finding}
@@ -7,7 +7,6 @@ use Rattle.cache_unit.specs.State.{UnitState, Cache, is_present, frame_of}
 use Rattle.cache_unit.specs.Causes.{Found, Here, Coming, found}
 use Rattle.cache_unit.specs.Lookups.{lookup_in}
 use Rattle.cache_unit.specs.Parts.{finding_of}
-use Rattle.cache_unit.proofs.Process.{frame_of-shown}
 use Rattle.cache_unit.proofs.unit.ShapedUnit.find_in.Goals as goal
 
 -- what is said of a word of a present block
@@ -24,14 +23,14 @@ pub returns-in_default : goal.returns-in_default
 returns-in_default c =
     let s = c.self.inside in
     let u = c.args.self.now in
-    let look = frame_of-shown s.directory s.registers s.stack s.queue.entries s.ready.items c.args.block ∙ sym c.look.ensures.found ∙ c.in_default.is in
+    let look = sym c.look.ensures.found ∙ c.in_default.is in
     let away = ap (λ (v : UnitState). is_present v.cache c.args.block) (sym c.self.view_is) ∙ ap is_some look in
     sym (ap (λ b. if b then lookup_in (found u.cache c.args.block c.args.i) else Miss) away)
 
 pub find_word-requires : goal.find_word-requires
 find_word-requires c =
     let s = c.self.inside in
-    let look = frame_of-shown s.directory s.registers s.stack s.queue.entries s.ready.items c.args.block ∙ sym c.in-Some.ensures.found in
+    let look = sym c.in-Some.ensures.found in
     let held = ap (λ (v : UnitState). frame_of v.cache c.args.block) (sym c.self.view_is) ∙ look in
     record { word = c.requires; held = held }
 
@@ -40,7 +39,7 @@ unfolding said
 returns-in-Here c =
     let s = c.self.inside in
     let u = c.args.self.now in
-    let look = frame_of-shown s.directory s.registers s.stack s.queue.entries s.ready.items c.args.block ∙ sym c.in-Some.ensures.found in
+    let look = sym c.in-Some.ensures.found in
     let here = ap (λ (v : UnitState). is_present v.cache c.args.block) (sym c.self.view_is) ∙ ap is_some look in
     let e = ap said (sym c.in-Here.is ∙ c.find_word.ensures) ∙ said_of u.cache c.args.block c.args.i (found u.cache c.args.block c.args.i) in
     e ∙ sym (ap (λ b. if b then lookup_in (found u.cache c.args.block c.args.i) else Miss) here)
@@ -50,7 +49,7 @@ unfolding said
 returns-in-Coming c =
     let s = c.self.inside in
     let u = c.args.self.now in
-    let look = frame_of-shown s.directory s.registers s.stack s.queue.entries s.ready.items c.args.block ∙ sym c.in-Some.ensures.found in
+    let look = sym c.in-Some.ensures.found in
     let here = ap (λ (v : UnitState). is_present v.cache c.args.block) (sym c.self.view_is) ∙ ap is_some look in
     let e = ap said (sym c.in-Coming.is ∙ c.find_word.ensures) ∙ said_of u.cache c.args.block c.args.i (found u.cache c.args.block c.args.i) in
     e ∙ sym (ap (λ b. if b then lookup_in (found u.cache c.args.block c.args.i) else Miss) here)

@@ -1,9 +1,9 @@
 use Rattle.std.proofs.Common.{◌≡◌, ◌||◌, ◌==◌, true, false, List, ap, sym, ◌∙◌}
 use Rattle.std.specs.List.{list_any}
 use Rattle.miss_registers.specs.Registers as regs
+use Rattle.cache_unit.specs.View.{cache_of}
 use Rattle.cache_unit.specs.declared.Reply.{Reply}
 use Rattle.cache_unit.specs.Causes.{is_in_use}
-use Rattle.cache_unit.specs.Shown.{as_cache}
 use Rattle.cache_unit.proofs.Stepping.{value_by}
 use Rattle.cache_unit.proofs.Tags.{in_use-shown}
 use Rattle.cache_unit.proofs.unit.ShapedUnit.is_in_use.Goals as goal
@@ -11,15 +11,15 @@ use Rattle.cache_unit.proofs.unit.ShapedUnit.is_in_use.Goals as goal
 pub returns-then-has_tag : goal.returns-then-has_tag
 returns-then-has_tag c =
     let s = c.self.inside in
-    let now = as_cache s.directory s.registers s.stack s.queue.entries s.ready.items in
-    let e = in_use-shown s.sizes.block_words s.sizes.regs s.directory s.registers s.stack s.queue.entries s.ready.items c.args.tag c.self.invariant.registers in
+    let now = cache_of s in
+    let e = in_use-shown (cache_of s) c.args.tag c.self.invariant.sound.registers in
     let h : list_any (λ (r : Reply). r.tag == c.args.tag) s.ready.items ≡ true = ap (λ (l : List Reply). list_any (λ (r : Reply). r.tag == c.args.tag) l) (sym c.as_slice.ensures.value) ∙ sym c.has_tag.ensures ∙ c.if-has_tag.true in
     c.if-has_tag.true ∙ value_by s.sizes now _ (λ z k. is_in_use k c.args.tag) _ c.self.view_is (sym (e ∙ ap (λ b. b || regs.tag_waits s.registers c.args.tag) h))
 
 pub returns-else-has_tag : goal.returns-else-has_tag
 returns-else-has_tag c =
     let s = c.self.inside in
-    let now = as_cache s.directory s.registers s.stack s.queue.entries s.ready.items in
-    let e = in_use-shown s.sizes.block_words s.sizes.regs s.directory s.registers s.stack s.queue.entries s.ready.items c.args.tag c.self.invariant.registers in
+    let now = cache_of s in
+    let e = in_use-shown (cache_of s) c.args.tag c.self.invariant.sound.registers in
     let h : list_any (λ (r : Reply). r.tag == c.args.tag) s.ready.items ≡ false = ap (λ (l : List Reply). list_any (λ (r : Reply). r.tag == c.args.tag) l) (sym c.as_slice.ensures.value) ∙ sym c.has_tag.ensures ∙ c.if-has_tag.false in
     value_by s.sizes now _ (λ z k. is_in_use k c.args.tag) _ c.self.view_is (c.tag_waits.ensures.answer ∙ sym (e ∙ ap (λ b. b || regs.tag_waits s.registers c.args.tag) h))
