@@ -15,4 +15,7 @@ pub mod Links
 pub mod Whole
 pub mod Verdict
 pub mod Returns
+pub mod Lanes
+pub mod Alone
+pub mod MayLaws
 pub mod Ranges

@@ -66,7 +66,7 @@ any_lane unit address bytes enables (k ∷ ks) h = elim (cases_Bool (is_some (at
 -- Operations that are open in a history. ----
 
 -- no two have one number
-abbrev AreDistinct : List Operation → Type 0
+abbrev pub AreDistinct : List Operation → Type 0
 AreDistinct [] = Unit {0}
 AreDistinct (o ∷ os) = (list_any (has_number o.number) os ≡ false) × AreDistinct os
 
@@ -216,10 +216,10 @@ only P number (x ∷ xs) o d e h = elim (cases_Bool (has_number number x)) [
 
 -- What is open at a unit. ----
 
-abbrev load_key : OpenLoad → ℕ × ℕ
+abbrev pub load_key : OpenLoad → ℕ × ℕ
 load_key m = (m.number, m.address)
 
-abbrev key : Operation → ℕ × ℕ
+abbrev pub key : Operation → ℕ × ℕ
 key o = (o.number, o.address)
 
 -- whether an operation has a byte at the unit

@@ -1,5 +1,7 @@
 -- What holds of each element of a list, or of one of them.
-use Rattle.std.proofs.Common.{◌⊎◌, List, [], ◌∷◌, ◌++◌, map, inl, inr}
+use Rattle.std.proofs.Common.{◌≡◌, ◌⊎◌, Bool, true, false, List, [], ◌∷◌, ◌++◌, map, filter, inl, inr, refl}
+use Rattle.std.specs.List.{list_all, list_any}
+use Rattle.std.proofs.lemmas.Bool.{cases_Bool, and_parts, and_from}
 use Rattle.atomic_histories.specs.Stands.{Each, One}
 
 pub one_weaker : {X : Type 0} (P Q : X → Type 0) → ((x : X) → P x → Q x) → (xs : List X) → One P xs → One Q xs
@@ -59,3 +61,64 @@ each_map f P (x ∷ xs) h = (h.0, each_map f P xs h.1)
 pub each_both : {X : Type 0} (P Q : X → Type 0) (xs : List X) → Each P xs → Each Q xs → Each (λ x. P x × Q x) xs
 each_both P Q [] a b = tt
 each_both P Q (x ∷ xs) a b = ((a.0, b.0), each_both P Q xs a.1 b.1)
+
+pub each_split : {X : Type 0} (P : X → Type 0) (xs ys : List X) → Each P (xs ++ ys) → Each P xs × Each P ys
+each_split P [] ys h = (tt, h)
+each_split P (x ∷ xs) ys h = let r = each_split P xs ys h.1 in ((h.0, r.0), r.1)
+
+pub each_at : {X : Type 0} (P : X → Type 0) (before : List X) (x : X) (after : List X) → Each P (before ++ x ∷ after) → P x
+each_at P [] x after h = h.0
+each_at P (y ∷ before) x after h = each_at P before x after h.1
+
+-- with one element in place of another
+pub each_replace : {X : Type 0} (P : X → Type 0) (before : List X) (x y : X) (after : List X) → (P x → P y) → Each P (before ++ x ∷ after)
+    → Each P (before ++ y ∷ after)
+each_replace P [] x y after f h = (f h.0, h.1)
+each_replace P (z ∷ before) x y after f h = (h.0, each_replace P before x y after f h.1)
+
+pub each_filter : {X : Type 0} (P : X → Type 0) (p : X → Bool) (xs : List X) → Each P xs → Each P (filter p xs)
+each_filter P p [] h = tt
+each_filter P p (x ∷ xs) h = elim (cases_Bool (p x)) [
+  | inl t ↦ rw t (h.0, each_filter P p xs h.1)
+  | inr f ↦ rw f (each_filter P p xs h.1)
+]
+
+pub each_unmap : {X Y : Type 0} (f : X → Y) (P : Y → Type 0) (xs : List X) → Each P (map f xs) → Each (λ x. P (f x)) xs
+each_unmap f P [] h = tt
+each_unmap f P (x ∷ xs) h = (h.0, each_unmap f P xs h.1)
+
+pub one_unmap : {X Y : Type 0} (f : X → Y) (P : Y → Type 0) (xs : List X) → One P (map f xs) → One (λ x. P (f x)) xs
+one_unmap f P [] h = absurd h
+one_unmap f P (x ∷ xs) (inl p) = inl p
+one_unmap f P (x ∷ xs) (inr h) = inr (one_unmap f P xs h)
+
+pub one_filter : {X : Type 0} (P : X → Type 0) (p : X → Bool) (xs : List X) → One (λ x. P x × (p x ≡ true)) xs → One P (filter p xs)
+one_filter P p [] h = absurd h
+one_filter P p (x ∷ xs) (inl h) = rw h.1 (inl h.0)
+one_filter P p (x ∷ xs) (inr h) = elim (cases_Bool (p x)) [
+  | inl t ↦ rw t (inr (one_filter P p xs h))
+  | inr f ↦ rw f (one_filter P p xs h)
+]
+
+pub one_elim : {X : Type 0} (P : X → Type 0) (Q : Type 0) (xs : List X) → One P xs → ((x : X) → P x → Q) → Q
+one_elim P Q [] h f = absurd h
+one_elim P Q (x ∷ xs) (inl p) f = f x p
+one_elim P Q (x ∷ xs) (inr h) f = one_elim P Q xs h f
+
+-- What a test says of each element. ----
+
+pub all_each : {X : Type 0} (p : X → Bool) (xs : List X) → list_all p xs ≡ true → Each (λ x. p x ≡ true) xs
+all_each p [] h = tt
+all_each p (x ∷ xs) h = let r = and_parts (p x) (list_all p xs) h in (r.0, all_each p xs r.1)
+
+pub each_all : {X : Type 0} (p : X → Bool) (xs : List X) → Each (λ x. p x ≡ true) xs → list_all p xs ≡ true
+each_all p [] h = refl
+each_all p (x ∷ xs) h = and_from (p x) (list_all p xs) h.0 (each_all p xs h.1)
+
+pub one_any : {X : Type 0} (p : X → Bool) (xs : List X) → One (λ x. p x ≡ true) xs → list_any p xs ≡ true
+one_any p [] h = absurd h
+one_any p (x ∷ xs) (inl t) = rw t refl
+one_any p (x ∷ xs) (inr h) = elim (cases_Bool (p x)) [
+  | inl t ↦ rw t refl
+  | inr f ↦ rw f (one_any p xs h)
+]

@@ -26,7 +26,7 @@ none_is : {X : Type 0} (o : Option X) → is_none o ≡ true → o ≡ None
 none_is None h = refl
 none_is (Some x) h = cc
 
-formed_last : (o : Opened) (history : List HistoryEvent) (event : HistoryEvent) → is_formed o (history ++ event ∷ []) ≡ true
+pub formed_last : (o : Opened) (history : List HistoryEvent) (event : HistoryEvent) → is_formed o (history ++ event ∷ []) ≡ true
     → form_fault (fold opened_after o history) event ≡ None
 formed_last o [] event h = none_is (form_fault o event) (and_parts (is_none (form_fault o event)) true h).0
 formed_last o (x ∷ xs) event h =

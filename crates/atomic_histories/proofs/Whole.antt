@@ -179,7 +179,7 @@ none_after unit (StoreResponse number) = refl
 
 -- Events. ----
 
-formed_more : (o : Opened) (history : List HistoryEvent) (event : HistoryEvent) → is_formed o history ≡ true
+pub formed_more : (o : Opened) (history : List HistoryEvent) (event : HistoryEvent) → is_formed o history ≡ true
     → form_fault (fold opened_after o history) event ≡ None
     → is_formed o (history ++ event ∷ []) ≡ true
 formed_more o [] event h f = rw f refl

@@ -8,6 +8,7 @@ pub mod Marks
 pub mod Held
 pub mod Lost
 pub mod May
+pub mod MayLaws
 pub mod Judge
 pub mod Faults
 pub mod Examples

@@ -7,6 +7,7 @@
 mod faults;
 mod followed;
 mod forms;
+pub mod laws;
 mod may;
 mod memory;
 mod search;

@@ -181,7 +181,9 @@ impl AtomicMemory {
 
     /// What the load that is open under this number may return if it ended now: for each of its bytes, in
     /// the order of its answer, the set of all. Each set is of its byte alone: that one byte may be
-    /// returned and another may be returned doesn't say that they may be returned together.
+    /// returned and another may be returned doesn't say that they may be returned together. A byte is in
+    /// a set exactly if an answer has it there that [`step`](AtomicMemory::step) would take now
+    /// ([`sets_are_of_answers`](crate::laws::sets_are_of_answers)).
     ///
     /// `Refused` has the cause `NotOpen`: no load is open under the number. `Undecided`: the ways of the
     /// unit that begins at its address lead to too many at a time, and nothing is known of the sets.

@@ -6,6 +6,7 @@ use Rattle.history_handles.specs.Session.{Session}
 use Rattle.history_handles.specs.Kept.{IsOf}
 
 pub record IsKept (m : OpenHistory) (s : Session) : Type 0 where
+  pub law : m.law ≡ s.law
   pub judge : IsOf m.judge s.history
   pub loads : m.loads.items ≡ s.loads
   pub stores : m.stores.items ≡ s.stores

@@ -12,10 +12,11 @@ use Rattle.history_handles.specs.declared.faults.JudgeFault.TheVariants.{Refused
 use Rattle.history_handles.specs.declared.rows.Operation.{Operation}
 use Rattle.history_handles.specs.History.{History, opening, history_after, history_forgetting}
 
--- the loads and the stores that are open stand in the order of their requests. `undecided` is where the unit begins for whose sake an
+-- the law is the one by which the history is judged. The loads and the stores that are open stand in the order of their requests. `undecided` is where the unit begins for whose sake an
 -- answer was undecided, if none was taken and no unit was forgotten since. `seen` has the bytes of all stores so far and of the open
 -- loads, whatever the law, with the events that requested and answered them
 pub record Session : Type 0 where
+  pub law : Law
   pub history : History
   pub loads : List Operation
   pub stores : List Operation
@@ -25,7 +26,7 @@ pub record Session : Type 0 where
 -- no event yet
 abbrev pub session_opening : Law → List ℕ → Rest → Session
 session_opening law image rest =
-    record { history = opening law image rest; loads = []; stores = []; undecided = None; seen = windows.opening image rest }
+    record { law = law; history = opening law image rest; loads = []; stores = []; undecided = None; seen = windows.opening image rest }
 
 -- those that have another number
 abbrev pub without : ℕ → List Operation → List Operation
@@ -47,6 +48,7 @@ stores_after stores event = stores
 -- it was taken
 abbrev pub session_after : Session → HistoryEvent → Session
 session_after s event = record {
+  law = s.law;
   history = history_after s.history event;
   loads = loads_after s.loads event;
   stores = stores_after s.stores event;
@@ -57,7 +59,7 @@ session_after s event = record {
 -- it wasn't, for this fault
 abbrev pub session_refusing : Session → JudgeFault → Session
 session_refusing s (Undecided address) =
-    record { history = s.history; loads = s.loads; stores = s.stores; undecided = Some address; seen = s.seen }
+    record { law = s.law; history = s.history; loads = s.loads; stores = s.stores; undecided = Some address; seen = s.seen }
 session_refusing s (Refused cause) = s
 session_refusing s TooLong = s
 session_refusing s OutOfMemory = s
@@ -65,4 +67,11 @@ session_refusing s OutOfMemory = s
 -- the unit in which the byte at an address lies is forgotten
 abbrev pub session_forgetting : ℕ → Session → Session
 session_forgetting address s =
-    record { history = history_forgetting address s.history; loads = s.loads; stores = s.stores; undecided = None; seen = s.seen }
+    record {
+      law = s.law;
+      history = history_forgetting address s.history;
+      loads = s.loads;
+      stores = s.stores;
+      undecided = None;
+      seen = s.seen;
+    }

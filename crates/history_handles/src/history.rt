@@ -1,22 +1,24 @@
 //! A history with the operations that are open.
-ghost use Rattle.std.specs.Prelude.{◌≡◌, ◌<◌, true, None, Some, IfOk, IfErr, OnOk, OnErr, slice_get, vec_len, vec_capacity};
+ghost use Rattle.std.specs.Prelude.{◌≡◌, ◌<◌, true, None, Some, IfOk, IfErr, OnOk, OnErr, vec_len, vec_capacity};
 ghost use Rattle.history_handles.specs.History.{Passes, has_units};
 ghost use Rattle.history_handles.specs.Session.{Session, session_opening, session_after, session_refusing, session_forgetting, loads_after, stores_after, without};
 ghost use Rattle.history_handles.specs.Kept.{JudgeFaultIs, IsFound, IsSetFound, ForgetFaultIs};
 ghost use Rattle.history_handles.specs.KeptSession.{IsKept};
-ghost use Rattle.history_handles.specs.Why.{reason_for, load_under, address_of, load_of};
+ghost use Rattle.history_handles.specs.Why.{reason_for, load_under, unit_bytes, is_atomic, is_together};
 ghost use Rattle.history_reasons.specs.Log.{HasRoom};
 
 use crate::faults::{ForgetFault, JudgeFault};
 use crate::judge::{Judge, Law};
 use crate::rows::Operation;
-use history_reasons::{Reason, StoreLog};
-use memory_histories::{ByteSet, HistoryEvent, LoadByte, Rest};
+use atomic_histories::UnitSize;
+use history_reasons::{FoundReason, StoreLog};
+use memory_histories::{ByteSet, HistoryEvent, Rest};
 use std::alloc::{AllocError, Global};
 
 /// A history that is judged as it goes, with the operations that are open in the order of their requests.
 #[derive(Drop)]
 pub struct OpenHistory {
+    pub(crate) law: Law,
     pub(crate) judge: Judge,
     pub(crate) loads: Vec<Operation>,
     pub(crate) stores: Vec<Operation>,
@@ -42,6 +44,7 @@ impl OpenHistory {
         let stores = Vec::new(alloc);
         let log = StoreLog::new(alloc, image, rest)?;
         Ok(OpenHistory {
+            law,
             judge,
             loads,
             stores,
@@ -105,27 +108,27 @@ impl OpenHistory {
         self.log.make_room()
     }
 
-    // Why a byte of the answer to the load that is open under this number is wrong.
-    pub(crate) fn reason(&self, number: u64, bytes: &[u8], place: usize) -> Option<Reason>
+    // Of the bytes of the answer to the load that is open under this number, from a place on and within one unit, the first
+    // for which there is a reason.
+    pub(crate) fn reason(&self, number: u64, bytes: &[u8], place: usize) -> Option<FoundReason>
         ensures { (s : Session)
             → IsKept self.now s
             → s.seen.moment < 18446744073709551616
-            → result ≡ reason_for s.seen (load_of s number place) (slice_get bytes.now place) }
+            → result ≡ reason_for s number bytes.now place }
     {
-        let byte = byte_at(bytes, place)?;
-        let load = self.load_at(number, place)?;
-        self.log.why(&load, byte)
+        let load = load_under(self.loads.as_slice(), number)?;
+        self.log
+            .unit_reason(unit_bytes(self.law), number, load.address, bytes, place)
     }
 
-    // The byte at a place of the load that is open under a number, with the event that requested it.
-    fn load_at(&self, number: u64, place: usize) -> Option<LoadByte>
+    // Whether bytes of a unit for none of which there is a reason are wrong together alone.
+    pub(crate) fn is_together(&self) -> bool
         ensures { (s : Session)
             → IsKept self.now s
             → s.seen.moment < 18446744073709551616
-            → result ≡ load_of s number place }
+            → result ≡ is_together s }
     {
-        let address = address_of(self.loads.as_slice(), number, place)?;
-        self.log.load_at(number, address)
+        is_atomic(self.law) && self.log.is_whole()
     }
 
     // Why an event isn't taken for which there is no room.
@@ -186,19 +189,24 @@ impl OpenHistory {
     }
 }
 
-// The byte at a place.
-fn byte_at(bytes: &[u8], place: usize) -> Option<u8>
-    ensures { result ≡ slice_get bytes.now place }
+// How many bytes a unit of a law has: each byte is one, but by the atomic law.
+fn unit_bytes(law: Law) -> u64
+    ensures bytes { result ≡ unit_bytes law }
+    ensures some { 0 < result }
 {
-    bytes.get(place).copied()
+    match law {
+        Law::Regular | Law::Flat => 1,
+        Law::Atomic(UnitSize::One) => 1,
+        Law::Atomic(UnitSize::Two) => 2,
+        Law::Atomic(UnitSize::Four) => 4,
+        Law::Atomic(UnitSize::Eight) => 8,
+    }
 }
 
-// The address of the byte at a place of the load that is open under a number.
-fn address_of(loads: &[Operation], number: u64, place: usize) -> Option<u64>
-    ensures { result ≡ address_of loads.now number place }
+fn is_atomic(law: Law) -> bool
+    ensures { result ≡ is_atomic law }
 {
-    let load = load_under(loads, number)?;
-    Some(load.address.saturating_add(place as u64))
+    matches!(law, Law::Atomic(_))
 }
 
 // The load that is open under a number.

@@ -17,7 +17,7 @@ pub struct Operation {
     pub length: u64,
 }
 
-/// Why a load may not return a byte. Of a store that isn't told number and event are 0.
+/// Why a load may not return a byte, or the bytes of a unit together. Of a store that isn't told number and event are 0.
 #[repr(C)]
 #[derive(Clone, Copy, PartialEq, Eq, Debug)]
 pub struct ReasonRow {
@@ -32,7 +32,8 @@ pub struct ReasonRow {
     /// The event that requested that one.
     pub overwritten_at: u64,
     /// 0: none is told. 1: the byte was never there. 2: memory had it before the first store, and it was
-    /// overwritten. 3: a store put it there, and it was overwritten.
+    /// overwritten. 3: a store put it there, and it was overwritten. 4: the load may return each byte of the unit for
+    /// itself, and they stood there together at no moment.
     pub reason: u32,
 }
 

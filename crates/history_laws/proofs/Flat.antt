@@ -203,16 +203,16 @@ paid_at make number named may n x (suc len) a (c ∷ bs) h (suc i) b e l =
 
 -- Open operations. ----
 
-abbrev owed_byte : ℕ → ℕ → (ℕ → Owed) → OwedByte
+abbrev pub owed_byte : ℕ → ℕ → (ℕ → Owed) → OwedByte
 owed_byte n a memory = record { number = n; address = a; owed = memory a }
 
-abbrev owed_number : OwedByte → ℕ
+abbrev pub owed_number : OwedByte → ℕ
 owed_number l = l.number
 
-owed_named : (n a : ℕ) (memory : ℕ → Owed) → owed_number (owed_byte n a memory) ≡ n
+pub owed_named : (n a : ℕ) (memory : ℕ → Owed) → owed_number (owed_byte n a memory) ≡ n
 owed_named n a memory = refl
 
-record Agrees (o : Opened) (f : Flat) (ks : List (Marked (ℕ → Owed))) : Type 0 where
+pub record Agrees (o : Opened) (f : Flat) (ks : List (Marked (ℕ → Owed))) : Type 0 where
   pub loads : Loads owed_byte owed_number owed_named ks f.loads o.loads
   pub stores : (n : ℕ) → list_any (is_open n) f.stores ≡ list_any (has_number n) o.stores
 
@@ -245,7 +245,7 @@ without_one number n m xs = elim (cases_Bool (n == m)) [
   | inr e ↦ rw e (list_any-kept (λ x. not (number x == n)) (λ x. number x == m) (λ x f. kept_other number n m x e f) xs)
 ]
 
-agrees_after : (o : Opened) (f : Flat) (ks : List (Marked (ℕ → Owed))) (event : HistoryEvent) → Agrees o f ks → form_fault o event ≡ None
+pub agrees_after : (o : Opened) (f : Flat) (ks : List (Marked (ℕ → Owed))) (event : HistoryEvent) → Agrees o f ks → form_fault o event ≡ None
     → Agrees (opened_after o event) (flat_after f event) (marked_after f.memory ks event)
 agrees_after o f ks (LoadRequest n a len) g h =
     let p = load_formed (is_inside a len) (list_any (has_number n) o.loads) h in
@@ -324,7 +324,7 @@ answer_of o f ks n bytes g h =
           owed_number owed_named k) bytes.now) right));
     }
 
-formed_after : (o : Opened) (f : Flat) (ks : List (Marked (ℕ → Owed))) (event : HistoryEvent) → Agrees o f ks → flat_fault f event ≡ None
+pub formed_after : (o : Opened) (f : Flat) (ks : List (Marked (ℕ → Owed))) (event : HistoryEvent) → Agrees o f ks → flat_fault f event ≡ None
     → form_fault o event ≡ None
 formed_after o f ks (LoadRequest n a len) g h = ap (load_request_fault (is_inside a len)) (sym (loads_any owed_byte owed_number owed_named
     ks f.loads o.loads g.loads n)) ∙ h
@@ -339,7 +339,7 @@ formed_after o f ks (StoreResponse n) g h = ap store_response_fault (sym (g.stor
 
 -- One unit. ----
 
-no_other : (ks : List (Marked (ℕ → Owed))) (n : ℕ) (Q : Marked (ℕ → Owed) → Type 0) → One (λ x. (x.operation.number ≡ n) × Q x) ks
+pub no_other : (ks : List (Marked (ℕ → Owed))) (n : ℕ) (Q : Marked (ℕ → Owed) → Type 0) → One (λ x. (x.operation.number ≡ n) × Q x) ks
     → list_any (is_number n) ks ≡ false → ⊥
 no_other ks n Q o h = false_true (list_any (is_number n) ks) h (any_one (is_number n) ks (one_weaker (λ x. (x.operation.number ≡ n)
     × Q x) (λ x. is_number n x ≡ true) (λ x q. eq-eqb x.operation.number n q.0) ks o))
@@ -385,14 +385,14 @@ run_parts : (f : Flat) (event : HistoryEvent) (events : List HistoryEvent) → I
 run_parts f event events t = run_cases (flat_fault f event) refl (flat_after f event) events t
 
 module _ (unit : UnitPlace) where
-  abbrev word_of : (ℕ → Owed) → List (Option ℕ)
+  abbrev pub word_of : (ℕ → Owed) → List (Option ℕ)
   word_of memory = at_unit unit (λ a. known (memory a))
 
   -- an open load got what stood here at its request
-  abbrev IsBound : OpenLoad → Marked (ℕ → Owed) → Type 0
+  abbrev pub IsBound : OpenLoad → Marked (ℕ → Owed) → Type 0
   IsBound l k = (k.operation.number ≡ l.number) × ((l.address ≡ k.operation.address) × (l.got ≡ Some (word_of k.mark)))
 
-  record Holds (f : Flat) (ks : List (Marked (ℕ → Owed))) (m : UnitMemory) : Type 0 where
+  pub record Holds (f : Flat) (ks : List (Marked (ℕ → Owed))) (m : UnitMemory) : Type 0 where
     pub word : m.word ≡ word_of f.memory
     pub done : Each (λ s. s.is_done ≡ true) m.stores
     pub bound : Each (λ l. One (IsBound l) ks) m.loads
@@ -420,7 +420,7 @@ module _ (unit : UnitPlace) where
       rw e (lane_stood (nat_lt j unit.size) (known (k.mark (unit.first + j))) b stood)
 
   -- what a load got is what it is answered
-  got_paid : (k : Marked (ℕ → Owed)) (bs : List ℕ) → length bs ≡ k.operation.length → ((i b : ℕ) → slice_get bs i ≡ Some b
+  pub got_paid : (k : Marked (ℕ → Owed)) (bs : List ℕ) → length bs ≡ k.operation.length → ((i b : ℕ) → slice_get bs i ≡ Some b
       → i < k.operation.length → is_paid_by (k.mark (k.operation.address + i)) b ≡ true)
       → is_word_of unit.first (word_of k.mark) k.operation.address bs ≡ true
   got_paid k bs long paid =
@@ -554,7 +554,7 @@ module _ (unit : UnitPlace) where
         ),
       )
 
-  next : (start : UnitMemory) (past : List HistoryEvent) (o : Opened) (f : Flat) (ks : List (Marked (ℕ
+  pub next : (start : UnitMemory) (past : List HistoryEvent) (o : Opened) (f : Flat) (ks : List (Marked (ℕ
       → Owed))) (m : UnitMemory) (event : HistoryEvent) → MayBe unit start past m → Holds f ks m → Agrees o f ks → flat_fault f event ≡ None
       → (k : UnitMemory) × (MayBe unit start (past ++ event ∷ []) k × Holds (flat_after f event) (marked_after f.memory ks event) k)
   next start past o f ks m (LoadRequest n a len) r h g e = requested start past f ks m n a len r h (is_at unit a len) refl
@@ -576,7 +576,7 @@ module _ (unit : UnitPlace) where
       (agrees_after o f ks event g (formed_after o f ks event g p.0)) p.1 in
       (v.0, subst (λ x. MayBe unit start x v.0) (append_assoc past (event ∷ []) events) v.1)
 
-formed_from : (o : Opened) (f : Flat) (ks : List (Marked (ℕ → Owed))) (history : List HistoryEvent) → Agrees o f ks
+pub formed_from : (o : Opened) (f : Flat) (ks : List (Marked (ℕ → Owed))) (history : List HistoryEvent) → Agrees o f ks
     → IsTrue (is_some (flat_run f history)) → is_formed o history ≡ true
 formed_from o f ks [] g t = refl
 formed_from o f ks (event ∷ events) g t =
@@ -585,10 +585,10 @@ formed_from o f ks (event ∷ events) g t =
     rw e (formed_from (opened_after o event) (flat_after f event) (marked_after f.memory ks event) events (agrees_after o f ks event g e)
     p.1)
 
-first_agrees : (image : List ℕ) (rest : Rest) → Agrees none_opened (flat.opening image rest) []
+pub first_agrees : (image : List ℕ) (rest : Rest) → Agrees none_opened (flat.opening image rest) []
 first_agrees image rest = record { loads = no_loads owed_byte owed_number owed_named; stores = λ n. refl }
 
-first_holds : (image : List ℕ) (rest : Rest) (unit : UnitPlace) → Holds unit (flat.opening image rest) [] (untouched image rest unit)
+pub first_holds : (image : List ℕ) (rest : Rest) (unit : UnitPlace) → Holds unit (flat.opening image rest) [] (untouched image rest unit)
 first_holds image rest unit = record {
   word = unit_same unit (initial_byte image rest) (λ a. known (initial (slice_get image a) rest)) (λ a.
       sym (known_initial (slice_get image a) rest));

@@ -7,3 +7,6 @@ pub mod Agrees
 pub mod Atomic
 pub mod Flat
 pub mod Told
+pub mod Delay
+pub mod Late
+pub mod Since

@@ -58,7 +58,7 @@ module _ {X L : Type 0} (make : ℕ → ℕ → X → L) (number : L → ℕ) (n
   pub no_loads : Loads [] [] []
   no_loads = record { bytes = refl; operations = refl; each_some = tt; different = tt }
 
-  any_operation : (ks : List (Marked X)) (os : List Operation) (n : ℕ) → os ≡ map operation_of ks
+  pub any_operation : (ks : List (Marked X)) (os : List Operation) (n : ℕ) → os ≡ map operation_of ks
       → list_any (has_number n) os ≡ list_any (is_number n) ks
   any_operation ks os n h = ap (list_any (has_number n)) h ∙ list_any-map operation_of (has_number n) ks
 

@@ -43,7 +43,7 @@ use Rattle.history_laws.proofs.Flat.{flat_is_atomic, flat_is_regular, known, not
 
 -- Lanes. ----
 
-abbrev place : Lane → ℕ
+abbrev pub place : Lane → ℕ
 place Lane0 = 0
 place Lane1 = 1
 place Lane2 = 2
@@ -116,7 +116,7 @@ abbrev due_bytes : Option Word → List (Option ℕ)
 due_bytes None = []
 due_bytes (Some w) = Some w.b0 ∷ Some w.b1 ∷ Some w.b2 ∷ Some w.b3 ∷ []
 
-record Tells (n : ℕ) (s : model.Flat) (f : Flat) : Type 0 where
+pub record Tells (n : ℕ) (s : model.Flat) (f : Flat) : Type 0 where
   pub size : length s.mem ≡ n
   pub words : (at : ℕ) (l : Lane) → at < n → known (f.memory (4 * at + place l)) ≡ Some (byte (word_at s.mem at) l)
   pub due : (tag : ℕ) → knowns (filter (is_of tag) f.loads) ≡ due_bytes (s.due tag)
@@ -145,7 +145,7 @@ due_cases : (c t : Bool) (due : Option Word) (w : Option Word)
 due_cases true t due w = refl
 due_cases false t due w = refl
 
-eqb_swap : (x y : ℕ) → (x == y) ≡ (y == x)
+pub eqb_swap : (x y : ℕ) → (x == y) ≡ (y == x)
 eqb_swap x y = elim (cases_eq x y) [
   | inl e ↦ eq-eqb x y e ∙ sym (eq-eqb y x (sym e))
   | inr ne ↦ ne_eqb x y ne ∙ sym (ne_eqb y x (λ e. ne (sym e)))
@@ -301,7 +301,7 @@ module _ (n : ℕ) (fits : n ≤ 4611686018427387904) where
 
   -- A load gets its value. ----
 
-  known_paid : (o : Owed) (b c : ℕ) → known o ≡ Some b → (b == c) ≡ true → is_paid_by o c ≡ true
+  pub known_paid : (o : Owed) (b c : ℕ) → known o ≡ Some b → (b == c) ≡ true → is_paid_by o c ≡ true
   known_paid owed.Unknown b c h e = cc
   known_paid (owed.Initial x) b c h e = let same : x ≡ b = cc in subst (λ y. (y == c) ≡ true) (sym same) e
   known_paid (owed.Stored x store) b c h e = let same : x ≡ b = cc in subst (λ y. (y == c) ≡ true) (sym same) e
@@ -370,7 +370,7 @@ module _ (n : ℕ) (fits : n ≤ 4611686018427387904) where
     ]
   ]
 
-  value_taken : (s : model.Flat) (f : Flat) → Tells n s f → (tag : ℕ) (word : Word) → is_owed (s.due tag) word ≡ true
+  pub value_taken : (s : model.Flat) (f : Flat) → Tells n s f → (tag : ℕ) (word : Word) → is_owed (s.due tag) word ≡ true
       → (g : Flat) × ((flat_run f (LoadResponse tag (seen_bytes (word_bytes word)) ∷ []) ≡ Some g)
       × Tells n (record { mem = s.mem; due = with_due s.due tag None }) g)
   value_taken s f h tag word may =
@@ -395,7 +395,7 @@ module _ (n : ℕ) (fits : n ≤ 4611686018427387904) where
   nothing_told : (s : model.Flat) (f : Flat) → Tells n s f → (g : Flat) × ((flat_run f [] ≡ Some g) × Tells n s g)
   nothing_told s f h = (f, (refl, h))
 
-  told_step : (s : model.Flat) (f : Flat) (event : Event) (answer : Answer) → Tells n s f → may_answer s event answer ≡ true → (g : Flat)
+  pub told_step : (s : model.Flat) (f : Flat) (event : Event) (answer : Answer) → Tells n s f → may_answer s event answer ≡ true → (g : Flat)
       × ((flat_run f (told_events event answer) ≡ Some g) × Tells n (model.flat_after s event answer) g)
   told_step s f (Load tag at) Accepted h may = load_accepted s f h tag at may
   told_step s f (Load tag at) Moved h may = nothing_told s f h
@@ -419,7 +419,7 @@ module _ (n : ℕ) (fits : n ≤ 4611686018427387904) where
   told_step s f (Take p) Nothing h may = nothing_told s f h
   told_step s f (Take p) (Refused c) h may = nothing_told s f h
 
-  run_append : (es more : List HistoryEvent) (f g : Flat) → flat_run f es ≡ Some g → flat_run f (es ++ more) ≡ flat_run g more
+  pub run_append : (es more : List HistoryEvent) (f g : Flat) → flat_run f es ≡ Some g → flat_run f (es ++ more) ≡ flat_run g more
   run_append [] more f g h = let same : f ≡ g = cc in ap (λ x. flat_run x more) same
   run_append (e ∷ es) more f g h = append_cases (flat_step f e) es more g h (λ x k. run_append es more x g k)
 
@@ -442,7 +442,7 @@ word_in (w ∷ ws) zero l h = first_of w (image_bytes ws) l
 word_in (w ∷ ws) (suc at) l h = subst (λ k.
     slice_get (image_bytes (w ∷ ws)) k ≡ Some (byte (word_at ws at) l)) (shifted at (place l)) (word_in ws at l (omega arith))
 
-first_tells : (rest : Rest) (image : List Word) → Tells (length image) (model.opening image) (flat.opening (image_bytes image) rest)
+pub first_tells : (rest : Rest) (image : List Word) → Tells (length image) (model.opening image) (flat.opening (image_bytes image) rest)
 first_tells rest image = record {
   size = refl;
   words = λ at l h. ap (λ o. known (initial o rest)) (word_in image at l h);

@@ -1,2 +1,4 @@
 pub mod Laws
 pub mod Told
+pub mod Late
+pub mod Since

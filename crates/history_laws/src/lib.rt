@@ -12,6 +12,9 @@ ghost use Rattle.flat_model.specs.declared.Answer.{Answer};
 ghost use Rattle.cache_unit.specs.declared.Sizes.{Sizes};
 ghost use Rattle.history_laws.specs.Laws.{AtomicIsRegular, FlatIsAtomic, FlatIsRegular};
 ghost use Rattle.history_laws.specs.Told.{RunIsLawful, MachineIsLawful};
+ghost use Rattle.history_laws.specs.Late.{LateIsAtomic};
+ghost use Rattle.history_laws.specs.Since.{ToldLateIsAtomic};
+ghost use Rattle.run_reasons.specs.declared.reason.Mismatch.{Mismatch};
 
 /// An atomic history, in units of any size, is a regular one: the regular law blames nothing that the
 /// atomic one lets through.
@@ -40,4 +43,18 @@ pub fn run_is_lawful()
 /// blames the machine.
 pub fn machine_is_lawful()
     ensures { (z : Sizes) (image : List Word) (size : ℕ) (events : List Event) → MachineIsLawful z image size events }
+{}
+
+/// A value that isn't the word that its load is owed makes an atomic history all the same, in units of any
+/// size, if that word stood at the load's address at some moment since the load was accepted.
+pub fn late_is_atomic()
+    ensures { (image : List Word) (size : ℕ) (events : List Event) (answers : List Answer) (tag : ℕ) (place : ℕ) (word : Word)
+        → LateIsAtomic image size events answers tag place word }
+{}
+
+/// So where the explanation of a recorded run says of a wrong word that it stood there at some moment since
+/// its load was accepted, the run up to that line is atomic as a history, in units of any size.
+pub fn told_late_is_atomic()
+    ensures { (words : List Word) (size : ℕ) (texts : List (List ℕ)) (steps : ℕ) (found : List ℕ) (m : Mismatch)
+        → ToldLateIsAtomic words size texts steps found m }
 {}

@@ -1,3 +1,5 @@
-pub mod Reasons
 pub mod Found
+pub mod Reasons
+pub mod GiverLemmas
+pub mod UnitLemmas
 pub mod Logs

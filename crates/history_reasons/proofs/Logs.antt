@@ -1,5 +1,5 @@
 -- A log is of the history whose events it notes, and says true reasons.
-use Rattle.std.proofs.Common.{◌≡◌, ℕ, ◌+◌, ◌-◌, ◌<◌, ◌≤◌, ◌==◌, ◌&&◌, ◌↔◌, if◌then◌else◌, Bool, true, false, List, [], drop, length, Option, Some, None, inl, inr, refl, sym, ◌∙◌, ap, subst, arith, length-drop, length-append}
+use Rattle.std.proofs.Common.{◌≡◌, ℕ, ◌+◌, ◌-◌, ◌<◌, ◌≤◌, ◌==◌, ◌&&◌, ◌↔◌, if◌then◌else◌, Bool, true, false, List, [], map, drop, length, Option, Some, None, Result, Ok, Err, IfOk, inl, inr, refl, sym, ◌∙◌, ap, subst, arith, length-drop, length-append}
 use Rattle.std.specs.Prelude.{nat_lt, IfSome}
 use Rattle.std.proofs.lemmas.Bool.{cases_Bool, ltb-false, ne_eqb}
 use Rattle.std.proofs.lemmas.Bool.Decides.{Decides-ltb}
@@ -18,10 +18,13 @@ use Rattle.history_reasons.specs.declared.places.StorePlace.{StorePlace}
 use Rattle.history_reasons.specs.declared.Reason.{Reason}
 use Rattle.history_reasons.specs.declared.Reason.TheVariants.{NeverThere, InitialOverwritten, StoreOverwritten}
 use Rattle.history_reasons.specs.Reasons.{HasReason, Stores, Overwrote, last_reason}
-use Rattle.history_reasons.specs.Log.{IsLogOf, noted_stores, noted_loads, told_stores, noted_places, IsNoted, IsCounted, IsShortened, forgotten, left_stores, has_all, of_store, part_reason, kept_reason, told_reason, IsTrueOf}
+use Rattle.history_reasons.specs.Log.{IsLogOf, noted_stores, noted_loads, told_stores, noted_places, IsNoted, IsCounted, IsShortened, forgotten, left_stores, has_all, of_store, part_reason, kept_reason, told_reason, IsTrueOf, idle, kept_sources, told_sources, kept_at_request, told_at_request}
+use Rattle.history_reasons.specs.declared.givers.Source.TheVariants.{Store}
+use Rattle.history_reasons.specs.Sources.{givers, sources, at_request}
 use Rattle.history_reasons.specs.Places.{AreFound}
 use Rattle.history_reasons.proofs.Found.{all_ended, none_found, request_found, answer_found, rest_found}
 use Rattle.history_reasons.proofs.Reasons.{last_behind, reason_law}
+use Rattle.history_reasons.proofs.GiverLemmas.{some_source}
 
 -- How many are forgotten. ----
 
@@ -175,6 +178,51 @@ noted g m f h w event few k n s c =
       found = subst (AreFound h.places.items) (sym c.stores) (subst (λ ps. AreFound ps f.stores.items) (sym c.places) left);
     }
 
+-- a moment is counted
+pub idled : (g h : StoreLog) (w : Windows) → w.moment < 18446744073709551615 → IsLogOf g w → IsCounted g h → IsLogOf h (idle w)
+idled g h w few k c =
+    let before = k.moment in
+    let counted = c.moment in
+    record {
+      image = c.image ∙ k.image;
+      rest = c.rest ∙ k.rest;
+      moment = omega arith;
+      loads = c.loads ∙ k.loads;
+      stores = c.stores ∙ k.stores;
+      is_whole = c.is_whole ∙ k.is_whole;
+      found = subst (AreFound h.places.items) (sym c.stores) (subst (λ ps. AreFound ps g.stores.items) (sym c.places) k.found);
+    }
+
+and_true : (b : Bool) → (b && true) ≡ b
+and_true true = refl
+and_true false = refl
+
+-- of a log none is forgotten twice
+kept_short : (g f : StoreLog) (w : Windows) → IsLogOf g w → IsShortened g f → IsLogOf f w
+kept_short g f w k s =
+    let m : ℕ = length w.stores in
+    let sum = further m m (omega arith) in
+    let again : forgotten (m - forgotten m) ≡ 0 = omega arith in
+    let long : length g.stores.items ≡ m - forgotten m =
+    ap (λ (xs : List StoreByte). length xs) k.stores ∙ length-drop (forgotten m) w.stores in
+    let none : forgotten (length g.stores.items) ≡ 0 = ap forgotten long ∙ again in
+    record {
+      image = s.image ∙ k.image;
+      rest = s.rest ∙ k.rest;
+      moment = s.moment ∙ k.moment;
+      loads = s.loads ∙ k.loads;
+      stores = s.stores ∙ ap (λ n. drop n g.stores.items) none ∙ k.stores;
+      is_whole = s.is_whole ∙ ap (λ n. g.is_whole && (n == 0)) none ∙ and_true g.is_whole ∙ k.is_whole;
+      found = subst (AreFound f.places.items) (sym s.stores) (subst (λ ps. AreFound ps (left_stores g.stores.items)) (sym s.places)
+          (rest_found g.places.items g.stores.items (forgotten (length g.stores.items)) k.found));
+    }
+
+-- an event that doesn't lie within memory is only counted
+pub not_noted : (g m f h : StoreLog) (w : Windows) → w.moment < 18446744073709551615 → IsLogOf g w → m ≡ g → IsShortened m f
+    → IsCounted f h → IsLogOf h (idle w)
+not_noted g m f h w few k same s c =
+    idled f h w few (kept_short g f w k (subst (λ x. IsShortened x f) same s)) c
+
 -- What is told. ----
 
 all_left : (stores : List StoreByte) → has_all stores ≡ true → left_stores stores ≡ stores
@@ -216,3 +264,39 @@ true_reason w l b = chosen_true w l b (has_all w.stores)
 pub no_reason : (w : Windows) (l : LoadByte) (b : ℕ) → has_all w.stores ≡ true
     → (told_reason w l b ≡ None) ↔ MayReturn w.image w.rest w.stores l b
 no_reason w l b t = rw t (reason_law w.image w.rest w.stores l b).0
+
+-- Where a byte may come from. ----
+
+chosen_sources : (g : StoreLog) (w : Windows) (l : LoadByte) (b : ℕ) → IsLogOf g w → (all : Bool) → has_all w.stores ≡ all
+    → (if all then sources g.image.items g.rest g.stores.items l b else map Store (givers g.stores.items l b))
+    ≡ (if all then sources w.image w.rest w.stores l b else map Store (givers (left_stores w.stores) l b))
+chosen_sources g w l b k true t = λ i. sources (k.image i) (k.rest i) ((k.stores ∙ all_left w.stores t) i) l b
+chosen_sources g w l b k false t = ap (λ xs. map Store (givers xs l b)) k.stores
+
+pub log_names : (g : StoreLog) (w : Windows) (l : LoadByte) (b : ℕ) → IsLogOf g w → kept_sources g l b ≡ told_sources w l b
+log_names g w l b k =
+    ap (λ (all : Bool). if all then sources g.image.items g.rest g.stores.items l b else map Store (givers g.stores.items l b)) k.is_whole
+    ∙ chosen_sources g w l b k (has_all w.stores) refl
+
+chosen_at_request : (g : StoreLog) (w : Windows) (l : LoadByte) (b : ℕ) → IsLogOf g w → (all : Bool) → has_all w.stores ≡ all
+    → (if all then sources g.image.items g.rest (at_request l g.stores.items) l b
+    else map Store (givers (at_request l g.stores.items) l b))
+    ≡ (if all then sources w.image w.rest (at_request l w.stores) l b else map Store (givers (at_request l (left_stores w.stores)) l b))
+chosen_at_request g w l b k true t = λ i. sources (k.image i) (k.rest i) (at_request l ((k.stores ∙ all_left w.stores t) i)) l b
+chosen_at_request g w l b k false t = ap (λ xs. map Store (givers (at_request l xs) l b)) k.stores
+
+pub log_names_at_request : (g : StoreLog) (w : Windows) (l : LoadByte) (b : ℕ) → IsLogOf g w
+    → kept_at_request g l b ≡ told_at_request w l b
+log_names_at_request g w l b k =
+    ap (λ (all : Bool). if all then sources g.image.items g.rest (at_request l g.stores.items) l b
+    else map Store (givers (at_request l g.stores.items) l b)) k.is_whole
+    ∙ chosen_at_request g w l b k (has_all w.stores) refl
+
+-- while none is forgotten there is a source exactly of the bytes that the law allows
+pub names_all : (w : Windows) (l : LoadByte) (b : ℕ) → has_all w.stores ≡ true
+    → (0 < length (told_sources w l b)) ↔ MayReturn w.image w.rest w.stores l b
+names_all w l b t = rw t (some_source w.image w.rest w.stores l b)
+
+pub if_ok : {X E : Type 0} (r : Result X E) (P Q : X → Type 0) → ((x : X) → P x → Q x) → IfOk r P → IfOk r Q
+if_ok (Ok x) P Q f p = f x p
+if_ok (Err e) P Q f p = tt

@@ -124,7 +124,7 @@ before : (o : Option ℕ) (t : ℕ) → Decides (is_before o t) (IsBefore o t)
 before None t = (λ h. absurd (false_true false refl h), λ h. absurd h)
 before (Some e) t = Decides-ltb e t
 
-initial : (o : Option ℕ) (r : Rest) (b : ℕ) → Decides (is_initial o r b) (IsInitial o r b)
+pub initial : (o : Option ℕ) (r : Rest) (b : ℕ) → Decides (is_initial o r b) (IsInitial o r b)
 initial None Zeros b = Decides-eqb b 0
 initial None Unknown b = Decides-ltb b 256
 initial (Some i) r b = Decides-eqb i b
@@ -132,11 +132,11 @@ initial (Some i) r b = Decides-eqb i b
 stores_law : (address b : ℕ) (s : StoreByte) → Decides (stores_byte address b s) (Stores address b s)
 stores_law address b s = Decides-and _ _ (Decides-eqb s.address address) (Decides-eqb s.byte b)
 
-overwrites_law : (s by : StoreByte) (moment : ℕ) → Decides (overwrites s moment by) (Overwrote by s moment)
+pub overwrites_law : (s by : StoreByte) (moment : ℕ) → Decides (overwrites s moment by) (Overwrote by s moment)
 overwrites_law s by moment = Decides-and _ _ (Decides-eqb by.address s.address) (Decides-and _ _ (before s.ended by.began) (before by.ended
     moment))
 
-covers_law : (l : LoadByte) (s : StoreByte) → Decides (covers l s) (Covered l s)
+pub covers_law : (l : LoadByte) (s : StoreByte) → Decides (covers l s) (Covered l s)
 covers_law l s = Decides-and _ _ (Decides-eqb s.address l.address) (before s.ended l.began)
 
 some_none : {x : Reason} → Some x ≡ None → ⊥

@@ -1,4 +1,6 @@
 pub mod Reasons
+pub mod Sources
 pub mod Places
 pub mod Log
+pub mod Units
 pub mod Examples

@@ -13,6 +13,9 @@ use Rattle.history_reasons.specs.declared.Reason.{Reason}
 use Rattle.history_reasons.specs.declared.Reason.TheVariants.{StoreOverwritten}
 use Rattle.history_reasons.specs.declared.places.StorePlace.{StorePlace}
 use Rattle.history_reasons.specs.Reasons.{HasReason, last_reason}
+use Rattle.history_reasons.specs.declared.givers.Source.{Source}
+use Rattle.history_reasons.specs.declared.givers.Source.TheVariants.{Store}
+use Rattle.history_reasons.specs.Sources.{givers, sources, at_request}
 use Rattle.history_reasons.specs.Places.{AreFound, is_place_of, ended_at, moved_down}
 
 -- so many bytes of stores are forgotten at a time, and so many are left at least
@@ -41,6 +44,10 @@ pub record IsLogOf (g : StoreLog) (w : Windows) : Type 0 where
   pub stores : g.stores.items ≡ left_stores w.stores
   pub is_whole : g.is_whole ≡ has_all w.stores
   pub found : AreFound g.places.items g.stores.items
+
+-- a moment passes without an event
+abbrev pub idle : Windows → Windows
+idle w = record { image = w.image; rest = w.rest; moment = w.moment + 1; stores = w.stores; loads = w.loads }
 
 -- whether an operation that an event requests lies within memory
 abbrev pub is_within : HistoryEvent → Bool
@@ -127,3 +134,24 @@ told_reason w l b =
 -- the reason is a true one, over the bytes of all stores so far
 abbrev pub IsTrueOf : Windows → LoadByte → ℕ → Reason → Type 0
 IsTrueOf w l b reason = HasReason w.image w.rest w.stores l b reason
+
+-- where a load may get a byte from, as it is told by the history alone: all sources, while no store is forgotten, and then of the stores
+-- that are left those that may give it
+abbrev pub kept_sources : StoreLog → LoadByte → ℕ → List Source
+kept_sources g l b =
+    if g.is_whole then sources g.image.items g.rest g.stores.items l b else map Store (givers g.stores.items l b)
+
+abbrev pub told_sources : Windows → LoadByte → ℕ → List Source
+told_sources w l b =
+    if has_all w.stores then sources w.image w.rest w.stores l b else map Store (givers (left_stores w.stores) l b)
+
+-- the same by the flat law
+abbrev pub told_at_request : Windows → LoadByte → ℕ → List Source
+told_at_request w l b =
+    if has_all w.stores then sources w.image w.rest (at_request l w.stores) l b
+    else map Store (givers (at_request l (left_stores w.stores)) l b)
+
+abbrev pub kept_at_request : StoreLog → LoadByte → ℕ → List Source
+kept_at_request g l b =
+    if g.is_whole then sources g.image.items g.rest (at_request l g.stores.items) l b
+    else map Store (givers (at_request l g.stores.items) l b)

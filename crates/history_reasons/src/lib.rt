@@ -1,15 +1,20 @@
-//! Why a load may not return a byte by the regular law: who stored it, and who overwrote it.
+//! Why a load may not return a byte by the regular law: who stored it, and who overwrote it. And where it may get a byte
+//! from that the law allows.
 #![tactic(auto)]
 
 ghost use Rattle.std.specs.Prelude.{◌≡◌, ◌↔◌, None, IfSome};
 ghost use Rattle.memory_histories.specs.Regular.{MayReturn, may_return_byte, overwrites};
 ghost use Rattle.history_reasons.specs.Reasons.{HasReason, stores_byte, covers, last_that, last_reason};
 
+mod givers;
 mod log;
 mod places;
+mod units;
 
+pub use givers::{Source, sources};
 pub use log::{KEPT_BYTES, StoreLog};
 use memory_histories::{LoadByte, Rest, StoreByte, is_before, is_initial, may_return};
+pub use units::FoundReason;
 
 /// Why a load may not return a byte. Which store is the last goes by the order of the requests.
 #[derive(Clone, Copy, PartialEq, Eq, Debug)]

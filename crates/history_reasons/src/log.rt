@@ -1,12 +1,13 @@
 //! The stores and the open loads of a history as it goes, to say why a byte is wrong.
 
-ghost use Rattle.std.specs.Prelude.{◌≡◌, ◌+◌, ◌≤◌, ◌<◌, ◌^◌, ◌↔◌, ◌++◌, true, None, not, vec_len, vec_capacity, IfOk, OnOk, IfSome, length};
+ghost use Rattle.std.specs.Prelude.{◌≡◌, ◌+◌, ◌≤◌, ◌<◌, ◌^◌, ◌↔◌, ◌++◌, true, false, None, not, vec_len, vec_capacity, IfOk, OnOk, IfSome, length};
 ghost use Rattle.std.specs.List.{filter, find};
 ghost use Rattle.memory_histories.specs.declared.events.HistoryEvent.TheVariants.{StoreRequest, StoreResponse};
 ghost use Rattle.memory_histories.specs.Windows.{Windows, opening, windows_after, load_bytes, is_of, is_at};
 ghost use Rattle.memory_histories.specs.Regular.{MayReturn, is_inside};
-ghost use Rattle.history_reasons.specs.Log.{IsLogOf, is_within, HasRoom, IsNoted, IsCounted, IsShortened, forgotten, has_all, of_store, part_reason, kept_reason, told_reason, IsTrueOf};
+ghost use Rattle.history_reasons.specs.Log.{IsLogOf, is_within, HasRoom, IsNoted, IsCounted, IsShortened, forgotten, has_all, of_store, part_reason, kept_reason, told_reason, IsTrueOf, idle, kept_sources, told_sources, kept_at_request, told_at_request};
 
+use crate::givers::{Source, add_givers, at_request, sources};
 use crate::places::{StorePlace, end_at, end_place, move_down};
 use crate::{Reason, last_reason};
 use memory_histories::{
@@ -64,17 +65,33 @@ impl StoreLog {
     }
 
     /// Notes an event of the history. The events have numbers of their own as long as fewer than 2^64 are
-    /// noted. (One whose operation doesn't lie within memory is none of any law, and only counted.)
+    /// noted. One whose operation doesn't lie within memory is none of any law, and only counted.
     pub fn note(&mut self, event: HistoryEvent)
         requires room { HasRoom self.old }
-        ensures { (w : Windows)
+        ensures within { (w : Windows)
             → w.moment < 18446744073709551615
             → is_within event.entry ≡ true
             → IsLogOf self.old w
             → IsLogOf self.new (windows_after w event.entry) }
+        ensures beyond { (w : Windows)
+            → w.moment < 18446744073709551615
+            → is_within event.entry ≡ false
+            → IsLogOf self.old w
+            → IsLogOf self.new (idle w) }
     {
         self.note_bytes(event);
         self.forget();
+        self.count();
+    }
+
+    /// A moment passes without an event: it is counted. So a log may number its moments by the lines of a text, of
+    /// which some are no events.
+    pub fn pass(&mut self)
+        ensures { (w : Windows)
+            → w.moment < 18446744073709551615
+            → IsLogOf self.old w
+            → IsLogOf self.new (idle w) }
+    {
         self.count();
     }
 
@@ -99,7 +116,8 @@ impl StoreLog {
 
     fn note_bytes(&mut self, event: HistoryEvent)
         requires room { HasRoom self.old }
-        ensures { is_within event.entry ≡ true → IsNoted self.old event.entry self.new }
+        ensures within { is_within event.entry ≡ true → IsNoted self.old event.entry self.new }
+        ensures beyond { is_within event.entry ≡ false → self.new ≡ self.old }
     {
         if is_within(event) {
             self.note_within(event);
@@ -194,6 +212,82 @@ impl StoreLog {
             → (result ≡ None) ↔ MayReturn w.image w.rest w.stores load.now byte }
     {
         self.kept_reason(load, byte)
+    }
+
+    /// Where a load may get this byte from by the regular law, if it is answered now. It depends on the history alone.
+    ///
+    /// If the log [is whole](StoreLog::is_whole), these are the sources that [`sources`](crate::sources) names over all
+    /// stores, so that there is one exactly if the load may return the byte. If it isn't, they are those of the stores
+    /// that are left that may give it, as if there had been no others: none if the byte comes from before them.
+    ///
+    /// `AllocError` says that there was too little memory.
+    pub fn sources(
+        &self,
+        alloc: Global,
+        load: &LoadByte,
+        byte: u8,
+    ) -> Result<Vec<Source>, AllocError>
+        ensures told { (w : Windows)
+            → IsLogOf self.now w
+            → IfOk result (λ v. v.items ≡ told_sources w load.now byte) }
+        ensures whole { (w : Windows)
+            → IsLogOf self.now w
+            → has_all w.stores ≡ true
+            → IfOk result (λ v. (0 < length v.items) ↔ MayReturn w.image w.rest w.stores load.now byte) }
+    {
+        self.kept_sources(alloc, load, byte)
+    }
+
+    /// The same by the flat law, by which a store takes effect at its request: the last store to the byte that was requested
+    /// before the load, if it put it there, or memory before the first store.
+    ///
+    /// `AllocError` says that there was too little memory.
+    pub fn sources_at_request(
+        &self,
+        alloc: Global,
+        load: &LoadByte,
+        byte: u8,
+    ) -> Result<Vec<Source>, AllocError>
+        ensures { (w : Windows)
+            → IsLogOf self.now w
+            → IfOk result (λ v. v.items ≡ told_at_request w load.now byte) }
+    {
+        self.kept_at_request(alloc, load, byte)
+    }
+
+    fn kept_at_request(
+        &self,
+        alloc: Global,
+        load: &LoadByte,
+        byte: u8,
+    ) -> Result<Vec<Source>, AllocError>
+        ensures { IfOk result (λ v. v.items ≡ kept_at_request self.now load.now byte) }
+    {
+        let stores = at_request(alloc, self.stores.as_slice(), load)?;
+        if self.is_whole {
+            let image = self.image.as_slice();
+            return sources(alloc, image, self.rest, stores.as_slice(), load, byte);
+        }
+        let mut found = Vec::new(alloc);
+        add_givers(&mut found, stores.as_slice(), load, byte)?;
+        Ok(found)
+    }
+
+    fn kept_sources(
+        &self,
+        alloc: Global,
+        load: &LoadByte,
+        byte: u8,
+    ) -> Result<Vec<Source>, AllocError>
+        ensures { IfOk result (λ v. v.items ≡ kept_sources self.now load.now byte) }
+    {
+        if self.is_whole {
+            let image = self.image.as_slice();
+            return sources(alloc, image, self.rest, self.stores.as_slice(), load, byte);
+        }
+        let mut found = Vec::new(alloc);
+        add_givers(&mut found, self.stores.as_slice(), load, byte)?;
+        Ok(found)
     }
 
     fn kept_reason(&self, load: &LoadByte, byte: u8) -> Option<Reason>

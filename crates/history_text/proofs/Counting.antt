@@ -1,14 +1,17 @@
 -- What one event more adds up to.
-use Rattle.std.proofs.Common.{◌≡◌, ℕ, ◌+◌, ◌≤◌, List, [], ◌∷◌, ◌++◌, length, refl, sym, ◌∙◌, ap, arith}
+use Rattle.std.proofs.Common.{◌≡◌, ℕ, ◌+◌, ◌≤◌, List, [], ◌∷◌, ◌++◌, length, refl, sym, ◌∙◌, ap, subst, arith}
 use Rattle.std.specs.List.{fold}
 use Rattle.memory_histories.specs.declared.events.HistoryEvent.{HistoryEvent}
+use Rattle.memory_histories.specs.Windows.{Windows}
 use Rattle.memory_histories.specs.declared.events.HistoryEvent.TheVariants.{LoadRequest, LoadResponse, StoreRequest, StoreResponse}
 use Rattle.history_text.specs.declared.judged.Counts.{Counts}
-use Rattle.history_text.specs.declared.judged.OpenLoad.{OpenLoad}
+use Rattle.history_text.specs.declared.judged.Judged.{Judged}
+use Rattle.history_text.specs.Notes.{AreNotesOf}
+use Rattle.history_text.specs.Told.{Begin}
 use Rattle.history_text.specs.Operations.{no_counts, counted, counts_of, loads_then}
 use Rattle.history_text.specs.Judged.{Stands}
 
-fold_more : {S A : Type 0} (f : S → A → S) (s : S) (xs : List A) (x : A) → fold f s (xs ++ x ∷ []) ≡ f (fold f s xs) x
+pub fold_more : {S A : Type 0} (f : S → A → S) (s : S) (xs : List A) (x : A) → fold f s (xs ++ x ∷ []) ≡ f (fold f s xs) x
 fold_more f s [] x = refl
 fold_more f s (y ∷ ys) x = fold_more f (f s y) ys x
 
@@ -32,13 +35,25 @@ pub few_counts : (events : List HistoryEvent) → Few (counts_of events) (length
 few_counts events = few_then no_counts 0 (length events) events (record { events = refl; requests = omega arith; responses = omega arith }) (omega arith)
 
 -- the judge took one event more, and it was noted
-pub stands_more : {J : Type 0} {took : J → List HistoryEvent → J → Type 0} {start judge after : J} {events : List HistoryEvent}
-    {c d : Counts} {loads opened : List OpenLoad} (event : HistoryEvent)
-    → Stands took start events judge c loads → took start (events ++ event ∷ []) after → d ≡ counted c event
-    → opened ≡ loads_then loads event
-    → Stands took start (events ++ event ∷ []) after d opened
-stands_more {events = events} event s taken counts noted = record {
+pub stands_more : {J : Type 0} {took : J → List HistoryEvent → J → Type 0} {start : Begin J} {events : List HistoryEvent} {w v : Windows}
+    {judged after : Judged J} (event : HistoryEvent)
+    → Stands took start events w judged → took start.judge (events ++ event ∷ []) after.judge → after.counts ≡ counted judged.counts event
+    → after.loads.items ≡ loads_then judged.loads.items event → AreNotesOf after.notes start.telling v
+    → Stands took start (events ++ event ∷ []) v after
+stands_more {events = events} event s taken counts opened notes = record {
   taken = taken;
   count = counts ∙ ap (λ (x : Counts). counted x event) s.count ∙ sym (fold_more counted no_counts events event);
-  loads_open = noted ∙ ap (λ l. loads_then l event) s.loads_open ∙ sym (fold_more loads_then [] events event);
+  loads_open = opened ∙ ap (λ l. loads_then l event) s.loads_open ∙ sym (fold_more loads_then [] events event);
+  notes = notes;
+}
+
+-- the notes are of other lines
+pub stands_noted : {J : Type 0} {took : J → List HistoryEvent → J → Type 0} {start : Begin J} {events : List HistoryEvent} {w v : Windows}
+    {judged after : Judged J} → Stands took start events w judged → after.judge ≡ judged.judge → after.counts ≡ judged.counts
+    → after.loads ≡ judged.loads → AreNotesOf after.notes start.telling v → Stands took start events v after
+stands_noted {took = took} {start = start} {events = events} s judge counts loads notes = record {
+  taken = subst (λ j. took start.judge events j) (sym judge) s.taken;
+  count = counts ∙ s.count;
+  loads_open = ap (λ l. l.items) loads ∙ s.loads_open;
+  notes = notes;
 }

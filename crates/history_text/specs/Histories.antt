@@ -2,6 +2,7 @@
 use Rattle.std.specs.Prelude.{◌≡◌, ℕ, ◌+◌, ◌-◌, ◌*◌, ◌<◌, ◌≤◌, ◌==◌, if◌then◌else◌, Option, None, Some, Result, Ok, Err, List, [], ◌∷◌, ◌++◌, length}
 use Rattle.std.specs.Option.{option_to_list}
 use Rattle.memory_histories.specs.declared.events.HistoryEvent.{HistoryEvent}
+use Rattle.memory_histories.specs.Windows.{Windows}
 use Rattle.trace_text.specs.Codes.{line_feed}
 use Rattle.trace_text.specs.Streams.{HasNoEnd, Came, Moves}
 use Rattle.trace_text.specs.Reading.{IsGood, Good, BeginsFaulty, fault_of}
@@ -12,13 +13,15 @@ use Rattle.trace_text.specs.declared.fault.TraceFault.{TraceFault}
 use Rattle.trace_text.specs.declared.fault.TraceFault.TheVariants as fault
 use Rattle.history_text.specs.Lines.{line_of}
 use Rattle.history_text.specs.Laws.{Law}
+use Rattle.history_text.specs.Notes.{windows_of}
+use Rattle.history_text.specs.Told.{ToldLaw, Begin, law_begun}
 use Rattle.history_text.specs.Operations.{counts_of, open_in}
 use Rattle.history_text.specs.Refusals.{IsRefusal}
 use Rattle.history_text.specs.Judged.{Stands, StepStops}
 use Rattle.history_text.specs.declared.answers.HistoryEnd.{HistoryEnd}
 use Rattle.history_text.specs.declared.answers.HistoryEnd.TheVariants as history
 use Rattle.history_text.specs.declared.judged.Counts.{Counts}
-use Rattle.history_text.specs.declared.judged.OpenLoad.{OpenLoad}
+use Rattle.history_text.specs.declared.judged.Judged.{Judged}
 use Rattle.history_text.specs.declared.judged.Stop.{Stop}
 use Rattle.history_text.specs.declared.judged.Stop.TheVariants as stop
 
@@ -42,11 +45,11 @@ events_of [] = []
 events_of (text ∷ texts) = events_in (line_of text) ++ events_of texts
 
 -- These bytes are the lines of a history of the law, and the start of another line.
-pub record IsHistory (law : Law) (bytes : List ℕ) (texts : List (List ℕ)) (pending : List ℕ) : Type 0 where
+pub record IsHistory (law : ToldLaw) (bytes : List ℕ) (texts : List (List ℕ)) (pending : List ℕ) : Type 0 where
   pub good : Good history_fault MAX_PAIR bytes texts pending
   pub short : length pending ≤ MAX_PAIR
   pub unfinished : HasNoEnd pending
-  pub passes : law.passes (events_of texts)
+  pub passes : law.judged.passes (events_of texts)
 
 -- These bytes are a good line with its LF, and the line is this event.
 pub record IsEventLine (found : List ℕ) (event : HistoryEvent) : Type 0 where
@@ -57,11 +60,11 @@ pub record IsEventLine (found : List ℕ) (event : HistoryEvent) : Type 0 where
 
 -- Behind these lines stand bytes at which a reading ends: a line that is none of the law or isn't decided, the first faulty
 -- one, or one too many.
-abbrev pub EndsAt : Law → List (List ℕ) → List ℕ → Stop → Type 0
+abbrev pub EndsAt : ToldLaw → List (List ℕ) → List ℕ → Stop → Type 0
 EndsAt law texts found (stop.Refused refusal) =
-    (event : HistoryEvent) × IsEventLine found event × IsRefusal law (events_of texts) (length texts + 1) event refusal
+    (event : HistoryEvent) × IsEventLine found event × IsRefusal law (events_of texts) (windows_of law.telling texts) (length texts + 1) event refusal
 EndsAt law texts found (stop.Undecided line address) =
-    (event : HistoryEvent) × IsEventLine found event × law.undecides (events_of texts) event address × (line ≡ length texts + 1)
+    (event : HistoryEvent) × IsEventLine found event × law.judged.undecides (events_of texts) event address × (line ≡ length texts + 1)
 EndsAt law texts found (stop.Fault (fault.Line n f)) = (n ≡ length texts + 1) × BeginsFaulty history_fault MAX_PAIR found f
 EndsAt law texts found (stop.Fault fault.TooManyLines) = (length texts ≡ most_lines) × (0 < length found)
 EndsAt law texts found (stop.Fault fault.OutOfMemory) = Unit {0}
@@ -69,24 +72,24 @@ EndsAt law texts found (stop.Fault fault.Read) = ⊥
 EndsAt law texts found (stop.Fault fault.Write) = ⊥
 
 -- These bytes are the lines of a history of the law, and then such bytes, whatever follows.
-pub record EndsIn (law : Law) (bytes : List ℕ) (why : Stop) : Type 0 where
+pub record EndsIn (law : ToldLaw) (bytes : List ℕ) (why : Stop) : Type 0 where
   pub texts : List (List ℕ)
   pub found : List ℕ
   pub more : List ℕ
   pub good : Good history_fault MAX_PAIR bytes texts (found ++ more)
-  pub passes : law.passes (events_of texts)
+  pub passes : law.judged.passes (events_of texts)
   pub ends : EndsAt law texts found why
 
 -- ---- what was read
 
 -- Up to here, before a read or at the end, the lines of a history of the law came, and the start of another line.
-pub record ReadSoFar {R : Type 0} (gave : R → List ℕ → R → Type 0) (law : Law) (r r' : R) (texts : List (List ℕ)) (pending : List ℕ) : Type 0 where
+pub record ReadSoFar {R : Type 0} (gave : R → List ℕ → R → Type 0) (law : ToldLaw) (r r' : R) (texts : List (List ℕ)) (pending : List ℕ) : Type 0 where
   pub bytes : List ℕ
   pub read : Moves (Came gave) r bytes r'
   pub text : IsHistory law bytes texts pending
 
 -- Up to here one piece more came, and in it the reading ends.
-pub record ReadInto {R : Type 0} (gave : R → List ℕ → R → Type 0) (law : Law) (r r' : R) (why : Stop) : Type 0 where
+pub record ReadInto {R : Type 0} (gave : R → List ℕ → R → Type 0) (law : ToldLaw) (r r' : R) (why : Stop) : Type 0 where
   pub before : List (List ℕ)
   pub pending : List ℕ
   pub last : R
@@ -96,7 +99,7 @@ pub record ReadInto {R : Type 0} (gave : R → List ℕ → R → Type 0) (law :
   pub ends : EndsIn law (so_far.bytes ++ piece) why
 
 -- How the judging of a history ends.
-abbrev pub Judges : {R : Type 0} (gave : R → List ℕ → R → Type 0) (failed : R → R → Type 0) (law : Law) (r r' : R) → Result HistoryEnd TraceFault → Type 0
+abbrev pub Judges : {R : Type 0} (gave : R → List ℕ → R → Type 0) (failed : R → R → Type 0) (law : ToldLaw) (r r' : R) → Result HistoryEnd TraceFault → Type 0
 -- all of it is one of the law
 Judges {R} gave failed law r r' (Ok (history.OfLaw events still_open)) =
     (texts : List (List ℕ)) × (last : R) × ReadSoFar gave law r last texts [] × gave last [] r'
@@ -122,11 +125,11 @@ ended_by (stop.Fault f) = Err f
 -- ---- in the middle of a reading
 
 -- These bytes were read: the lines of a history of the law, and the start of another line.
-pub record HasRead {J : Type 0} (took : J → List HistoryEvent → J → Type 0) (law : J → Law) (start : J) (bytes : List ℕ) (texts : List (List ℕ)) (judge : J) (counts : Counts) (loads : List OpenLoad) (pending : List ℕ) (count : ℕ) : Type 0 where
-  pub text : IsHistory (law start) bytes texts pending
+pub record HasRead {J : Type 0} (took : J → List HistoryEvent → J → Type 0) (law : J → Law) (start : Begin J) (bytes : List ℕ) (texts : List (List ℕ)) (judged : Judged J) (pending : List ℕ) (count : ℕ) : Type 0 where
+  pub text : IsHistory (law_begun law start) bytes texts pending
   pub number : count ≡ length texts
   pub room : 0 < length pending → count < most_lines
-  pub stands : Stands took start (events_of texts) judge counts loads
+  pub stands : Stands took start (events_of texts) (windows_of start.telling texts) judged
 
 -- the lines with one byte more, which may end the pending one
 abbrev pub texts_with : ℕ → List (List ℕ) → List ℕ → List (List ℕ)
@@ -137,9 +140,9 @@ abbrev pub IsTooLong : ℕ → List ℕ → Stop → Type 0
 IsTooLong number pending why = (why ≡ stop.Fault (fault.Line number TooLong)) × (length pending ≡ MAX_PAIR)
 
 -- why a line that says this isn't taken
-abbrev pub LineStops : Law → List HistoryEvent → ℕ → Option HistoryEvent → Stop → Type 0
-LineStops law events number None why = ⊥
-LineStops law events number (Some event) why = StepStops law events number event why
+abbrev pub LineStops : ToldLaw → List HistoryEvent → Windows → ℕ → Option HistoryEvent → Stop → Type 0
+LineStops law events w number None why = ⊥
+LineStops law events w number (Some event) why = StepStops law events w number event why
 
 -- how many bytes more can be read, at most
 abbrev pub bytes_left : ℕ → List ℕ → ℕ

@@ -5,8 +5,10 @@ pub mod Laws
 pub mod RegularLaw
 pub mod FlatLaw
 pub mod AtomicLaw
-pub mod Choice
 pub mod Operations
+pub mod Notes
+pub mod Told
+pub mod Choice
 pub mod Refusals
 pub mod Judged
 pub mod Histories

@@ -3,7 +3,7 @@ ghost use Rattle.std.specs.Prelude.{◌≡◌, ◌<◌, ◌++◌, Some, codes};
 ghost use Rattle.std.specs.Fmt.{WritesOnOk};
 ghost use Rattle.std.specs.List.{flat_map};
 ghost use Rattle.trace_text.specs.Fields.{byte_text, hex_digit as digit_of};
-ghost use Rattle.history_text.specs.Answers.{bytes_in_set as set_bytes, joined_bytes, address_text, law_text, kind_text, cause_text, refusal_text, open_text as text_of_open, end_text, verdict_text, verdict_status};
+ghost use Rattle.history_text.specs.Answers.{bytes_in_set as set_bytes, joined_bytes, source_text, allowed_text, alternatives_text, overwritten_text, overwritten_there_text, address_text, law_text, kind_text, cause_text, refusal_text, open_text as text_of_open, end_text, verdict_text, verdict_status};
 
 use arrayvec::ArrayVec;
 use memory_histories::ByteSet;
@@ -29,8 +29,44 @@ pub enum OperationKind {
     Store,
 }
 
-/// Why a line's event is none of the law.
+/// Where a byte that a load may return comes from.
 #[derive(Clone, Copy, PartialEq, Eq, Debug)]
+pub enum ByteSource {
+    /// Memory had it before the first store.
+    Initial,
+    /// A store put it there.
+    Store {
+        /// The store's number.
+        number: u64,
+        /// The line that requested it, counted from 1.
+        line: u64,
+    },
+    /// It isn't known: the store, or that memory had it before, lies too far back.
+    Unknown,
+}
+
+/// A byte that a load may return, and where it comes from.
+#[derive(Clone, Copy, PartialEq, Eq, Debug)]
+pub struct AllowedByte {
+    /// The byte.
+    pub byte: u8,
+    /// Where it comes from.
+    pub source: ByteSource,
+}
+
+/// A byte that a load returned, and the last store that overwrote it before the load's request.
+#[derive(Clone, Copy, PartialEq, Eq, Debug)]
+pub struct OverwrittenByte {
+    /// The byte.
+    pub byte: u8,
+    /// Its address.
+    pub address: u64,
+    /// The store's number.
+    pub number: u64,
+}
+
+/// Why a line's event is none of the law.
+#[derive(Drop, Debug)]
 pub enum RefusalCause {
     /// The operation has no byte or more than 64, or runs beyond the last address.
     OutOfRange {
@@ -48,22 +84,33 @@ pub enum RefusalCause {
         requested: u64,
         returned: u64,
     },
-    /// The byte at this address is the first that the load may not return, and these are those that it
-    /// may.
+    /// The byte at this address is the first that the load may not return.
     WrongByte {
+        /// The byte's address.
         address: u64,
+        /// The byte that the load returned.
         returned: u8,
+        /// Those that it may return.
         allowed: ByteSet,
+        /// The same in their order, each with all that it may come from: memory before the first store, and then stores
+        /// in the order of their lines.
+        sources: Vec<AllowedByte>,
+        /// Who overwrote the byte that it returned, if it stood there before.
+        overwritten: Option<OverwrittenByte>,
     },
     /// At no moment between the load's request and its response its bytes of the unit that has this
     /// address stood there.
     NoMoment {
+        /// The address of the first byte of the load that lies in the unit.
         address: u64,
+        /// Of its bytes in the unit the first that it may not return for itself, and who overwrote that, if it stood there
+        /// before.
+        overwritten: Option<OverwrittenByte>,
     },
 }
 
 /// The first line of a history that is none of the law.
-#[derive(Clone, Copy, PartialEq, Eq, Debug)]
+#[derive(Drop, Debug)]
 pub struct Refusal {
     /// The line's number, counted from 1.
     pub line: u64,
@@ -76,7 +123,7 @@ pub struct Refusal {
 }
 
 /// What became of a history that could be read.
-#[derive(Clone, Copy, PartialEq, Eq, Debug)]
+#[derive(Drop, Debug)]
 pub enum HistoryEnd {
     /// It is one of the law.
     OfLaw {
@@ -96,29 +143,29 @@ pub enum HistoryEnd {
     },
 }
 
-/// What became of a history under a law, as a program tells it.
-#[derive(Clone, Copy, PartialEq, Eq, Debug)]
-pub struct HistoryVerdict {
-    /// The law.
-    pub law: LawName,
-    /// What became of the history.
-    pub end: HistoryEnd,
-}
-
-impl HistoryVerdict {
+impl HistoryEnd {
     /// The status with which a program ends that tells it: 0 for a history of the law; 1 if it is none,
     /// or if all operations must be answered and some are open; 6 if it isn't known.
     pub fn status(&self, all_answered: bool) -> u8
-        ensures { result ≡ verdict_status all_answered self.now.end }
+        ensures { result ≡ verdict_status all_answered self.now }
     {
-        match self.end {
+        match self {
             HistoryEnd::OfLaw { events: _, open } => {
-                if all_answered && 0 < open { 1 } else { 0 }
+                if all_answered && 0 < *open { 1 } else { 0 }
             }
             HistoryEnd::Refused(_) => 1,
             HistoryEnd::Undecided { .. } => 6,
         }
     }
+}
+
+/// What became of a history under a law, as a program tells it.
+#[derive(Clone, Copy)]
+pub struct HistoryVerdict<'a> {
+    /// The law.
+    pub law: LawName,
+    /// What became of the history.
+    pub end: &'a HistoryEnd,
 }
 
 /// The bytes of a set, in their order.
@@ -161,16 +208,98 @@ impl fmt::Display for TwoDigits {
     }
 }
 
-// The bytes of a set, of which one is meant.
-#[derive(Clone, Copy)]
-struct OneOf(ByteSet);
-
-impl fmt::Display for OneOf {
-    ghost output = { λ one. Some (joined_bytes (codes " or ") (set_bytes one.0)) };
+/// Behind the byte: ` (store 3, line 12)` or ` (memory at first)`, or nothing if it isn't known.
+impl fmt::Display for ByteSource {
+    ghost output = { λ source. Some (source_text source) };
 
     fn fmt<W: fmt::Write>(&self, f: &mut fmt::Formatter<W>) -> fmt::Result {
-        let bytes = bytes_in_set(self.0);
-        write_joined(f, " or ", bytes.as_slice())
+        match *self {
+            ByteSource::Initial => f.write_str(" (memory at first)"),
+            ByteSource::Store { number, line } => { write!(f, " (store {number}, line {line})") }
+            ByteSource::Unknown => Ok(()),
+        }
+    }
+}
+
+/// `5a (store 3, line 12)`.
+impl fmt::Display for AllowedByte {
+    ghost output = { λ allowed. Some (allowed_text allowed) };
+
+    fn fmt<W: fmt::Write>(&self, f: &mut fmt::Formatter<W>) -> fmt::Result {
+        let byte = TwoDigits(self.byte);
+        let source = self.source;
+        write!(f, "{byte}{source}")
+    }
+}
+
+/// Bytes with their sources, of which one is meant: `5a (store 3, line 12) or ff (store 4, line 15)`.
+#[derive(Clone, Copy)]
+pub struct Alternatives<'a>(pub &'a [AllowedByte]);
+
+impl<'a> fmt::Display for Alternatives<'a> {
+    ghost output = { λ one. Some (alternatives_text one.0.now) };
+
+    fn fmt<W: fmt::Write>(&self, f: &mut fmt::Formatter<W>) -> fmt::Result {
+        match self.0 {
+            [] => Ok(()),
+            [first, rest @ ..] => {
+                write!(f, "{first}")?;
+                write_alternatives(f, rest)
+            }
+        }
+    }
+}
+
+// Those behind the first.
+fn write_alternatives<W: fmt::Write>(
+    f: &mut fmt::Formatter<W>,
+    alternatives: &[AllowedByte],
+) -> fmt::Result
+    ensures { WritesOnOk W.write_str_gives f.old result
+        (flat_map (λ a. codes " or " ++ allowed_text a) alternatives.now) f.new }
+{
+    for alternative in alternatives {
+        write!(f, " or {alternative}")?;
+    }
+    Ok(())
+}
+
+// Who overwrote the byte that came, if it stood there before.
+#[derive(Clone, Copy)]
+struct Overwritten(Option<OverwrittenByte>);
+
+impl fmt::Display for Overwritten {
+    ghost output = { λ it. Some (overwritten_text it.0) };
+
+    fn fmt<W: fmt::Write>(&self, f: &mut fmt::Formatter<W>) -> fmt::Result {
+        match self.0 {
+            None => Ok(()),
+            Some(it) => {
+                let byte = TwoDigits(it.byte);
+                let number = it.number;
+                write!(f, "; {byte} was overwritten by store {number}")
+            }
+        }
+    }
+}
+
+// The same with the byte's address.
+#[derive(Clone, Copy)]
+struct OverwrittenThere(Option<OverwrittenByte>);
+
+impl fmt::Display for OverwrittenThere {
+    ghost output = { λ it. Some (overwritten_there_text it.0) };
+
+    fn fmt<W: fmt::Write>(&self, f: &mut fmt::Formatter<W>) -> fmt::Result {
+        match self.0 {
+            None => Ok(()),
+            Some(it) => {
+                let byte = TwoDigits(it.byte);
+                let address = Address(it.address);
+                let number = it.number;
+                write!(f, "; {byte} at {address} was overwritten by store {number}")
+            }
+        }
     }
 }
 
@@ -243,9 +372,9 @@ impl fmt::Display for RefusalCause {
     ghost output = { λ cause. Some (cause_text cause) };
 
     fn fmt<W: fmt::Write>(&self, f: &mut fmt::Formatter<W>) -> fmt::Result {
-        match *self {
+        match self {
             RefusalCause::OutOfRange { address, length } => {
-                let address = Address(address);
+                let address = Address(*address);
                 write!(
                     f,
                     "has {length} bytes at {address}: it must have 1 to 64, all below 2^64"
@@ -261,21 +390,28 @@ impl fmt::Display for RefusalCause {
             RefusalCause::WrongByte {
                 address,
                 returned,
-                allowed,
+                allowed: _,
+                sources,
+                overwritten,
             } => {
-                let returned = TwoDigits(returned);
-                let address = Address(address);
-                let allowed = OneOf(allowed);
+                let returned = TwoDigits(*returned);
+                let address = Address(*address);
+                let one = Alternatives(sources.as_slice());
+                let overwritten = Overwritten(*overwritten);
                 write!(
                     f,
-                    "returned {returned} at {address}, which may be {allowed}"
+                    "returned {returned} at {address}, which may be {one}{overwritten}"
                 )
             }
-            RefusalCause::NoMoment { address } => {
-                let address = Address(address);
+            RefusalCause::NoMoment {
+                address,
+                overwritten,
+            } => {
+                let address = Address(*address);
+                let overwritten = OverwrittenThere(*overwritten);
                 write!(
                     f,
-                    "returned what stood at no moment in the unit with {address}"
+                    "returned what stood at no moment in the unit with {address}{overwritten}"
                 )
             }
         }
@@ -287,12 +423,10 @@ impl fmt::Display for Refusal {
     ghost output = { λ refusal. Some (refusal_text refusal) };
 
     fn fmt<W: fmt::Write>(&self, f: &mut fmt::Formatter<W>) -> fmt::Result {
-        let Refusal {
-            line,
-            kind,
-            number,
-            cause,
-        } = *self;
+        let line = self.line;
+        let kind = self.kind;
+        let number = self.number;
+        let cause = &self.cause;
         write!(f, "line {line}: {kind} {number} {cause}")
     }
 }
@@ -314,19 +448,19 @@ impl fmt::Display for StillOpen {
 }
 
 /// One line, without a line feed at its end.
-impl fmt::Display for HistoryVerdict {
+impl<'a> fmt::Display for HistoryVerdict<'a> {
     ghost output = { λ verdict. Some (verdict_text verdict) };
 
     fn fmt<W: fmt::Write>(&self, f: &mut fmt::Formatter<W>) -> fmt::Result {
         let law = self.law;
         match self.end {
             HistoryEnd::OfLaw { events, open } => {
-                let still_open = StillOpen(open);
+                let still_open = StillOpen(*open);
                 write!(f, "history of {events} events is {law}{still_open}")
             }
             HistoryEnd::Refused(refusal) => write!(f, "{refusal}"),
             HistoryEnd::Undecided { line, address } => {
-                let address = Address(address);
+                let address = Address(*address);
                 write!(
                     f,
                     "line {line}: undecided: there are too many orders in which the open operations may have taken effect in the unit with {address}"

@@ -2,10 +2,13 @@
 
 ghost use Rattle.std.specs.Prelude.{◌≡◌, ◌<◌, ℕ, List, [], length};
 ghost use Rattle.history_text.specs.Histories.{HasRead, Judges, ended_by};
+ghost use Rattle.history_text.specs.Notes.{Telling, AreNotesOf, opening_windows};
+ghost use Rattle.history_text.specs.Told.{Begin, law_begun, told_by};
 
 use crate::answers::HistoryEnd;
 use crate::judge::HistoryJudge;
 use crate::judged::Stop;
+use crate::notes::StoreNotes;
 use crate::reading::Lines;
 use std::alloc::Global;
 use trace_text::{BUFFER_LEN, Source, TraceFault};
@@ -25,7 +28,8 @@ impl Stop {
 
 /// Reads a history as it comes, up to the first line that is none of the judge's law, and says what
 /// became of it. Each line is read as by [`read_history_line`](crate::read_history_line), and has at
-/// most 768 bytes, LF not counted. The judge is a new one, which has taken no event.
+/// most 768 bytes, LF not counted. The judge is a new one, which has taken no event, and the notes, of no line yet,
+/// are of the memory that it judges. Of a wrong byte it is told which stores are concerned ([`RefusalCause`](crate::RefusalCause)).
 ///
 /// Nothing is read behind the piece in which that line ends: so on a pipe that is still being written
 /// the answer comes with the line. A faulty line ends the reading at once too.
@@ -35,18 +39,22 @@ impl Stop {
 /// begins. [`TraceFault::OutOfMemory`] may come in place of any answer, and [`TraceFault::Write`] never
 /// comes.
 ///
-/// Beside what the judge keeps, one buffer of 4,096 bytes is kept, and the number, address and length
-/// of each open load. So a history has no limit of lines but their number's.
+/// Beside what the judge keeps, one buffer of 4,096 bytes is kept, the number, address and length
+/// of each open load, and the notes, which have at most 8,191 bytes of stores. So a history has no limit of lines but
+/// their number's.
 pub fn judge_history<R: Source, J: HistoryJudge + Drop>(
     alloc: Global,
     reader: &mut R,
     judge: J,
+    notes: StoreNotes,
 ) -> Result<HistoryEnd, TraceFault>
     requires begun { J.took judge [] judge }
     requires passes { (J.law judge).passes [] }
-    ensures { Judges R.gave R.failed (J.law judge) reader.old reader.new result }
+    requires notes { (t : Telling) × AreNotesOf notes t (opening_windows t) }
+    ensures { (t : Telling) → AreNotesOf notes t (opening_windows t)
+        → Judges R.gave R.failed (told_by (J.law judge) t) reader.old reader.new result }
 {
-    let mut lines = Lines::new(alloc, judge);
+    let mut lines = Lines::new(alloc, judge, notes);
     let mut buffer = vec![in alloc; 0u8; BUFFER_LEN]?;
     read_through(reader, &mut lines, &mut buffer)
 }
@@ -58,13 +66,11 @@ fn read_through<R: Source, J: HistoryJudge>(
     buffer: &mut [u8],
 ) -> Result<HistoryEnd, TraceFault>
     requires room { 0 < length buffer.old }
-    requires begun { (start : J)
-        × HasRead J.took J.law start [] [] lines.old.judged.judge lines.old.judged.counts
-        lines.old.judged.loads.items lines.old.pending.items lines.old.count }
-    ensures { (start : J)
-        → HasRead J.took J.law start [] [] lines.old.judged.judge lines.old.judged.counts
-        lines.old.judged.loads.items lines.old.pending.items lines.old.count
-        → Judges R.gave R.failed (J.law start) reader.old reader.new result }
+    requires begun { (start : Begin J)
+        × HasRead J.took J.law start [] [] lines.old.judged lines.old.pending.items lines.old.count }
+    ensures { (start : Begin J)
+        → HasRead J.took J.law start [] [] lines.old.judged lines.old.pending.items lines.old.count
+        → Judges R.gave R.failed (law_begun J.law start) reader.old reader.new result }
 {
     'pieces: loop {
         let given = match reader.read_some(buffer) {

@@ -1,17 +1,22 @@
 //! A judge, and what the events that it took add up to.
 
-ghost use Rattle.std.specs.Prelude.{◌≡◌, ℕ, ◌+◌, ◌<◌, ◌^◌, ◌++◌, ◌∷◌, [], List, length, not, ◌==◌, OnOk, OnErr, IfErr};
+ghost use Rattle.std.specs.Prelude.{◌≡◌, ℕ, ◌+◌, ◌<◌, ◌^◌, ◌++◌, ◌∷◌, [], List, length, not, ◌==◌, Some, None, OnOk, IfOk, IfErr};
 ghost use Rattle.std.specs.List.{filter};
 ghost use Rattle.memory_histories.specs.declared.events.HistoryEvent.{HistoryEvent as Event};
 ghost use Rattle.history_text.specs.Lines.{seen};
 ghost use Rattle.history_text.specs.Operations.{with_request, with_response, open_in, counted as counted_event, loads_then, load_in as load_of, open_loads, byte_address as address_at};
-ghost use Rattle.history_text.specs.Refusals.{kind_of as kind_seen, number_of as number_seen, request_cause as cause_of_request, wrong_byte as cause_of_byte, IsAnswerCause, IsResponseCause, IsCause, IsRefusal};
+ghost use Rattle.history_text.specs.Refusals.{kind_of as kind_seen, number_of as number_seen, request_cause as cause_of_request, IsAnswerCause, IsResponseCause, IsCause, IsRefusal};
+ghost use Rattle.memory_histories.specs.Windows.{Windows};
+ghost use Rattle.history_reasons.specs.Log.{HasRoom};
+ghost use Rattle.history_text.specs.Notes.{line_then};
+ghost use Rattle.history_text.specs.Told.{Begin, law_begun};
 ghost use Rattle.history_text.specs.Judged.{Stands, StepStops};
 
 use crate::answers::{HistoryEnd, OperationKind, Refusal, RefusalCause};
 use crate::events::OwnedEvent;
 use crate::judge::{HistoryJudge, JudgeFault};
-use memory_histories::{ByteSet, HistoryFault};
+use crate::notes::StoreNotes;
+use memory_histories::HistoryFault;
 use std::alloc::AllocError;
 use trace_text::TraceFault;
 
@@ -38,7 +43,7 @@ pub struct OpenLoad {
 }
 
 // Why the lines so far are the last ones that are read.
-#[derive(Clone, Copy)]
+#[derive(Drop)]
 pub(crate) enum Stop {
     Refused(Refusal),
     Undecided { line: u64, address: u64 },
@@ -151,48 +156,66 @@ fn request_cause(address: u64, length: u64, fault: HistoryFault) -> RefusalCause
     }
 }
 
-fn wrong_byte(address: u64, returned: Option<u8>, allowed: Option<ByteSet>) -> RefusalCause
-    ensures { result ≡ cause_of_byte address returned allowed }
-{
-    match (returned, allowed) {
-        (Some(returned), Some(allowed)) => RefusalCause::WrongByte {
-            address,
-            returned,
-            allowed,
-        },
-        (None, Some(_)) => RefusalCause::NotOpen,
-        (_, None) => RefusalCause::NoMoment { address },
-    }
-}
-
-// A judge, how many events it took, and the loads that are open.
+// A judge, how many events it took, the loads that are open, and the stores as the lines have them.
 #[derive(Drop)]
 pub(crate) struct Judged<J> {
     pub(crate) judge: J,
     pub(crate) counts: Counts,
     pub(crate) loads: Vec<OpenLoad>,
+    pub(crate) notes: StoreNotes,
 }
 
 impl<J: HistoryJudge> Judged<J> {
+    // A line passes that is no event.
+    pub(crate) fn pass(&mut self)
+        ensures { (start : Begin J) (events : List Event) (w : Windows)
+            → Stands J.took start events w self.old → w.moment < 18446744073709551615
+            → Stands J.took start events (line_then w None) self.new }
+    {
+        self.notes.pass();
+    }
+
     // The event of the line of this number is taken.
     pub(crate) fn take(&mut self, line: u64, event: &OwnedEvent) -> Result<(), Stop>
-        requires { (start : J) × (events : List Event)
-            × Stands J.took start events self.old.judge self.old.counts self.old.loads.items
-            × (length events + 1 < 2 ^ 64) }
-        ensures ok { OnOk result ((start : J) (events : List Event)
-            → Stands J.took start events self.old.judge self.old.counts self.old.loads.items
-            → Stands J.took start (events ++ seen event.now ∷ []) self.new.judge self.new.counts
-            self.new.loads.items × (J.law start).passes (events ++ seen event.now ∷ [])) }
-        ensures stop { IfErr result (λ stop. (start : J) (events : List Event)
-            → Stands J.took start events self.old.judge self.old.counts self.old.loads.items
-            → StepStops (J.law start) events line (seen event.now) stop) }
+        requires { (start : Begin J) × (events : List Event) × (w : Windows)
+            × Stands J.took start events w self.old × (length events + 1 < 2 ^ 64) }
+        ensures ok { OnOk result ((start : Begin J) (events : List Event) (w : Windows)
+            → Stands J.took start events w self.old → w.moment < 18446744073709551615
+            → Stands J.took start (events ++ seen event.now ∷ [])
+            (line_then w (Some (seen event.now))) self.new
+            × (J.law start.judge).passes (events ++ seen event.now ∷ [])) }
+        ensures stop { IfErr result (λ stop. (start : Begin J) (events : List Event) (w : Windows)
+            → Stands J.took start events w self.old
+            → StepStops (law_begun J.law start) events w line (seen event.now) stop) }
+    {
+        self.notes.make_room()?;
+        self.take_noted(line, event)
+    }
+
+    // The same if there is room to note it.
+    fn take_noted(&mut self, line: u64, event: &OwnedEvent) -> Result<(), Stop>
+        requires begun { (start : Begin J) × (events : List Event) × (w : Windows)
+            × Stands J.took start events w self.old × (length events + 1 < 2 ^ 64) }
+        requires room { HasRoom self.old.notes.log }
+        ensures ok { OnOk result ((start : Begin J) (events : List Event) (w : Windows)
+            → Stands J.took start events w self.old → w.moment < 18446744073709551615
+            → Stands J.took start (events ++ seen event.now ∷ [])
+            (line_then w (Some (seen event.now))) self.new
+            × (J.law start.judge).passes (events ++ seen event.now ∷ [])) }
+        ensures stop { IfErr result (λ stop. (start : Begin J) (events : List Event) (w : Windows)
+            → Stands J.took start events w self.old
+            → StepStops (law_begun J.law start) events w line (seen event.now) stop) }
     {
         match self.judge.judge(event.event()) {
             Ok(()) => {
-                self.note(event)?;
+                self.count(event)?;
+                self.notes.note(event);
                 Ok(())
             }
-            Err(JudgeFault::Refused(fault)) => Err(Stop::Refused(self.refusal(line, event, fault))),
+            Err(JudgeFault::Refused(fault)) => {
+                let refusal = self.refusal(line, event, fault)?;
+                Err(Stop::Refused(refusal))
+            }
             Err(JudgeFault::Undecided { address }) => Err(Stop::Undecided { line, address }),
             Err(JudgeFault::TooLong) => Err(Stop::Fault(TraceFault::TooManyLines)),
             Err(JudgeFault::OutOfMemory) => Err(Stop::Fault(TraceFault::OutOfMemory)),
@@ -200,7 +223,7 @@ impl<J: HistoryJudge> Judged<J> {
     }
 
     // An event that the judge took is counted, and its load opened or closed.
-    fn note(&mut self, event: &OwnedEvent) -> Result<(), AllocError>
+    fn count(&mut self, event: &OwnedEvent) -> Result<(), AllocError>
         requires events { self.old.counts.events + 1 < 2 ^ 64 }
         requires requests { self.old.counts.requests + 1 < 2 ^ 64 }
         requires responses { self.old.counts.responses + 1 < 2 ^ 64 }
@@ -208,6 +231,7 @@ impl<J: HistoryJudge> Judged<J> {
         ensures loads { OnOk result
             (self.new.loads.items ≡ loads_then self.old.loads.items (seen event.now)) }
         ensures judge { OnOk result (self.new.judge ≡ self.old.judge) }
+        ensures notes { OnOk result (self.new.notes ≡ self.old.notes) }
     {
         match event {
             OwnedEvent::LoadRequest {
@@ -233,32 +257,38 @@ impl<J: HistoryJudge> Judged<J> {
     }
 
     // What is told of an event that the judge refuses.
-    fn refusal(&self, line: u64, event: &OwnedEvent, fault: HistoryFault) -> Refusal
-        ensures { (start : J) (events : List Event)
-            → Stands J.took start events self.now.judge self.now.counts self.now.loads.items
-            → (J.law start).refuses events (seen event.now) fault
-            → IsRefusal (J.law start) events line (seen event.now) result }
+    fn refusal(
+        &self,
+        line: u64,
+        event: &OwnedEvent,
+        fault: HistoryFault,
+    ) -> Result<Refusal, AllocError>
+        ensures { IfOk result (λ refusal. (start : Begin J) (events : List Event) (w : Windows)
+            → Stands J.took start events w self.now
+            → (J.law start.judge).refuses events (seen event.now) fault
+            → IsRefusal (law_begun J.law start) events w line (seen event.now) refusal) }
     {
-        Refusal {
+        let cause = self.cause(event, fault)?;
+        Ok(Refusal {
             line,
             kind: kind_of(event),
             number: number_of(event),
-            cause: self.cause(event, fault),
-        }
+            cause,
+        })
     }
 
     // Why it is refused.
-    fn cause(&self, event: &OwnedEvent, fault: HistoryFault) -> RefusalCause
-        ensures { (start : J) (events : List Event)
-            → Stands J.took start events self.now.judge self.now.counts self.now.loads.items
-            → IsCause (J.law start) events (seen event.now) fault result }
+    fn cause(&self, event: &OwnedEvent, fault: HistoryFault) -> Result<RefusalCause, AllocError>
+        ensures { IfOk result (λ cause. (start : Begin J) (events : List Event) (w : Windows)
+            → Stands J.took start events w self.now
+            → IsCause (law_begun J.law start) events w (seen event.now) fault cause) }
     {
         match event {
             OwnedEvent::LoadRequest {
                 number: _,
                 address,
                 length,
-            } => request_cause(*address, *length, fault),
+            } => Ok(request_cause(*address, *length, fault)),
             OwnedEvent::LoadResponse { number, bytes } => {
                 self.response_cause(*number, bytes.as_slice(), fault)
             }
@@ -267,41 +297,51 @@ impl<J: HistoryJudge> Judged<J> {
                 address,
                 bytes,
                 enables: _,
-            } => request_cause(*address, bytes.len() as u64, fault),
-            OwnedEvent::StoreResponse { .. } => RefusalCause::NotOpen,
+            } => Ok(request_cause(*address, bytes.len() as u64, fault)),
+            OwnedEvent::StoreResponse { .. } => Ok(RefusalCause::NotOpen),
         }
     }
 
     // Why a load's answer is refused.
-    fn response_cause(&self, number: u64, bytes: &[u8], fault: HistoryFault) -> RefusalCause
-        ensures { (start : J) (events : List Event)
-            → Stands J.took start events self.now.judge self.now.counts self.now.loads.items
-            → IsResponseCause (J.law start) events (load_of (open_loads events) number) bytes.now
-            fault result }
+    fn response_cause(
+        &self,
+        number: u64,
+        bytes: &[u8],
+        fault: HistoryFault,
+    ) -> Result<RefusalCause, AllocError>
+        ensures { IfOk result (λ cause. (start : Begin J) (events : List Event) (w : Windows)
+            → Stands J.took start events w self.now
+            → IsResponseCause (law_begun J.law start) events w (load_of (open_loads events) number)
+            bytes.now fault cause) }
     {
         match load_in(self.loads.as_slice(), number) {
-            None => RefusalCause::NotOpen,
+            None => Ok(RefusalCause::NotOpen),
             Some(load) => self.answer_cause(load, bytes, fault),
         }
     }
 
     // Why the answer to this open load is refused.
-    fn answer_cause(&self, load: OpenLoad, bytes: &[u8], fault: HistoryFault) -> RefusalCause
-        ensures { (start : J) (events : List Event)
-            → Stands J.took start events self.now.judge self.now.counts self.now.loads.items
-            → IsAnswerCause (J.law start) events load bytes.now fault result }
+    fn answer_cause(
+        &self,
+        load: OpenLoad,
+        bytes: &[u8],
+        fault: HistoryFault,
+    ) -> Result<RefusalCause, AllocError>
+        ensures { IfOk result (λ cause. (start : Begin J) (events : List Event) (w : Windows)
+            → Stands J.took start events w self.now
+            → IsAnswerCause (law_begun J.law start) events w load bytes.now fault cause) }
     {
         match fault {
-            HistoryFault::WrongLength => RefusalCause::WrongLength {
+            HistoryFault::WrongLength => Ok(RefusalCause::WrongLength {
                 requested: load.length,
                 returned: bytes.len() as u64,
-            },
+            }),
             HistoryFault::WrongByte { place } => {
                 let address = load.byte_address(place as u64);
                 let allowed = self.judge.allowed(load.number, address);
-                wrong_byte(address, bytes.get(place).copied(), allowed)
+                self.notes.wrong_byte(load, bytes, place, allowed)
             }
-            _ => RefusalCause::NotOpen,
+            _ => Ok(RefusalCause::NotOpen),
         }
     }
 }

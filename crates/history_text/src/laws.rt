@@ -3,14 +3,12 @@
 ghost use Rattle.std.specs.Prelude.{◌≡◌};
 ghost use Rattle.atomic_histories.specs.Judge.{bytes_of};
 ghost use Rattle.history_text.specs.Histories.{Judges};
-ghost use Rattle.history_text.specs.RegularLaw.{regular_law};
-ghost use Rattle.history_text.specs.FlatLaw.{flat_law};
-ghost use Rattle.history_text.specs.AtomicLaw.{atomic_law};
-ghost use Rattle.history_text.specs.Choice.{chosen_law, name_of};
+ghost use Rattle.history_text.specs.Choice.{regular_told, flat_told, atomic_told, chosen_law, name_of};
 ghost use Rattle.history_text.specs.Values.{Writes};
 
 use crate::answers::{HistoryEnd, LawName};
 use crate::histories::judge_history;
+use crate::notes::StoreNotes;
 use crate::values::write_values;
 use atomic_histories::{AtomicMemory, UnitSize};
 use memory_histories::{FlatHistory, RegularMemory, Rest};
@@ -27,10 +25,11 @@ pub fn judge_by_regular_law<R: Source>(
     image: &[u8],
     rest: Rest,
 ) -> Result<HistoryEnd, TraceFault>
-    ensures { Judges R.gave R.failed (regular_law image.now rest) reader.old reader.new result }
+    ensures { Judges R.gave R.failed (regular_told image.now rest) reader.old reader.new result }
 {
     let memory = RegularMemory::new(alloc, image, rest)?;
-    judge_history(alloc, reader, memory)
+    let notes = StoreNotes::new(alloc, image, rest, UnitSize::One, false)?;
+    judge_history(alloc, reader, memory, notes)
 }
 
 /// Judges a history by the flat law, as [`judge_history`] does: an operation takes effect at its request,
@@ -43,10 +42,11 @@ pub fn judge_by_flat_law<R: Source>(
     image: &[u8],
     rest: Rest,
 ) -> Result<HistoryEnd, TraceFault>
-    ensures { Judges R.gave R.failed (flat_law image.now rest) reader.old reader.new result }
+    ensures { Judges R.gave R.failed (flat_told image.now rest) reader.old reader.new result }
 {
     let memory = FlatHistory::new(alloc, image, rest)?;
-    judge_history(alloc, reader, memory)
+    let notes = StoreNotes::new(alloc, image, rest, UnitSize::One, true)?;
+    judge_history(alloc, reader, memory, notes)
 }
 
 /// Judges a history by the atomic law, as [`judge_history`] does: each operation takes effect at one moment
@@ -64,10 +64,11 @@ pub fn judge_by_atomic_law<R: Source>(
     image: &[u8],
     rest: Rest,
 ) -> Result<HistoryEnd, TraceFault>
-    ensures { Judges R.gave R.failed (atomic_law image.now rest (bytes_of unit) limit) reader.old reader.new result }
+    ensures { Judges R.gave R.failed (atomic_told image.now rest (bytes_of unit) limit) reader.old reader.new result }
 {
     let memory = AtomicMemory::new(alloc, unit, limit, image, rest)?;
-    judge_history(alloc, reader, memory)
+    let notes = StoreNotes::new(alloc, image, rest, unit, false)?;
+    judge_history(alloc, reader, memory, notes)
 }
 
 /// A law to choose, with what its judge has to be told.
@@ -126,11 +127,12 @@ fn write_by_regular_law<R: Source, W: Sink>(
     image: &[u8],
     rest: Rest,
 ) -> Result<HistoryEnd, TraceFault>
-    ensures { Writes R.gave R.failed W.took W.refused (regular_law image.now rest) reader.old reader.new
+    ensures { Writes R.gave R.failed W.took W.refused (regular_told image.now rest) reader.old reader.new
         writer.old writer.new result }
 {
     let memory = RegularMemory::new(alloc, image, rest)?;
-    write_values(alloc, reader, writer, memory)
+    let notes = StoreNotes::new(alloc, image, rest, UnitSize::One, false)?;
+    write_values(alloc, reader, writer, memory, notes)
 }
 
 // By the flat law.
@@ -141,11 +143,12 @@ fn write_by_flat_law<R: Source, W: Sink>(
     image: &[u8],
     rest: Rest,
 ) -> Result<HistoryEnd, TraceFault>
-    ensures { Writes R.gave R.failed W.took W.refused (flat_law image.now rest) reader.old reader.new
+    ensures { Writes R.gave R.failed W.took W.refused (flat_told image.now rest) reader.old reader.new
         writer.old writer.new result }
 {
     let memory = FlatHistory::new(alloc, image, rest)?;
-    write_values(alloc, reader, writer, memory)
+    let notes = StoreNotes::new(alloc, image, rest, UnitSize::One, true)?;
+    write_values(alloc, reader, writer, memory, notes)
 }
 
 // By the atomic law.
@@ -157,12 +160,13 @@ fn write_by_atomic_law<R: Source, W: Sink>(
     image: &[u8],
     rest: Rest,
 ) -> Result<HistoryEnd, TraceFault>
-    ensures { Writes R.gave R.failed W.took W.refused (atomic_law image.now rest (bytes_of size.0) size.1)
+    ensures { Writes R.gave R.failed W.took W.refused (atomic_told image.now rest (bytes_of size.0) size.1)
         reader.old reader.new writer.old writer.new result }
 {
     let (unit, limit) = size;
     let memory = AtomicMemory::new(alloc, unit, limit, image, rest)?;
-    write_values(alloc, reader, writer, memory)
+    let notes = StoreNotes::new(alloc, image, rest, unit, false)?;
+    write_values(alloc, reader, writer, memory, notes)
 }
 
 /// Judges a history by the law that is chosen, and writes its lines with what the loads may have returned,

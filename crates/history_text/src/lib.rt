@@ -13,11 +13,13 @@ mod judge;
 mod judged;
 mod laws;
 mod lines;
+mod notes;
 mod reading;
 mod values;
 
 pub use answers::{
-    HistoryEnd, HistoryVerdict, LawName, OperationKind, Refusal, RefusalCause, bytes_in_set,
+    AllowedByte, Alternatives, ByteSource, HistoryEnd, HistoryVerdict, LawName, OperationKind,
+    OverwrittenByte, Refusal, RefusalCause, bytes_in_set,
 };
 pub use events::{OperationBytes, OwnedEvent};
 pub use histories::judge_history;
@@ -28,4 +30,5 @@ pub use laws::{
     write_values_by_law,
 };
 pub use lines::read_history_line;
+pub use notes::StoreNotes;
 pub use values::write_values;

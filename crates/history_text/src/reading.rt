@@ -4,6 +4,8 @@ ghost use Rattle.std.specs.Prelude.{◌≡◌, ◌≤◌, ◌<◌, ◌+◌, Ok, 
 ghost use Rattle.trace_text.specs.declared.fault.TheConstants.{MAX_PAIR};
 ghost use Rattle.history_text.specs.Lines.{line_of, seen_by};
 ghost use Rattle.history_text.specs.Operations.{no_counts};
+ghost use Rattle.history_text.specs.Notes.{windows_of};
+ghost use Rattle.history_text.specs.Told.{Begin, law_begun};
 ghost use Rattle.history_text.specs.Histories.{events_of, EndsAt, EndsIn, HasRead, texts_with, IsTooLong, LineStops, bytes_left, EndsWith};
 
 use crate::answers::HistoryEnd;
@@ -11,6 +13,7 @@ use crate::events::OwnedEvent;
 use crate::judge::HistoryJudge;
 use crate::judged::{Counts, Judged, Stop};
 use crate::lines::read_history_line;
+use crate::notes::StoreNotes;
 use arrayvec::ArrayVec;
 use std::alloc::Global;
 use trace_text::{LineFault, MAX_PAIR, TraceFault};
@@ -25,10 +28,11 @@ pub(crate) struct Lines<J> {
 
 impl<J: HistoryJudge> Lines<J> {
     // No line yet, before a new judge.
-    pub(crate) fn new(alloc: Global, judge: J) -> Lines<J>
+    pub(crate) fn new(alloc: Global, judge: J, notes: StoreNotes) -> Lines<J>
         ensures judge { result.judged.judge ≡ judge }
         ensures counts { result.judged.counts ≡ no_counts }
         ensures loads { result.judged.loads.items ≡ [] }
+        ensures notes { result.judged.notes ≡ notes }
         ensures pending { result.pending.items ≡ [] }
         ensures count { result.count ≡ 0 }
     {
@@ -43,6 +47,7 @@ impl<J: HistoryJudge> Lines<J> {
                 judge,
                 counts,
                 loads,
+                notes,
             },
             pending: ArrayVec::new(),
             count: 0,
@@ -51,21 +56,18 @@ impl<J: HistoryJudge> Lines<J> {
 
     // Reads these bytes, up to the first line that ends the reading.
     pub(crate) fn read(&mut self, bytes: &[u8]) -> Result<(), Stop>
-        requires { (start : J) × (before : List ℕ) × (texts : List (List ℕ))
-            × HasRead J.took J.law start before texts self.old.judged.judge self.old.judged.counts
-            self.old.judged.loads.items self.old.pending.items self.old.count }
-        ensures ok { OnOk result ((start : J) (before : List ℕ) (texts : List (List ℕ))
-            → HasRead J.took J.law start before texts self.old.judged.judge self.old.judged.counts
-            self.old.judged.loads.items self.old.pending.items self.old.count
+        requires { (start : Begin J) × (before : List ℕ) × (texts : List (List ℕ))
+            × HasRead J.took J.law start before texts self.old.judged self.old.pending.items self.old.count }
+        ensures ok { OnOk result ((start : Begin J) (before : List ℕ) (texts : List (List ℕ))
+            → HasRead J.took J.law start before texts self.old.judged self.old.pending.items self.old.count
             → (whole : List (List ℕ)) × HasRead J.took J.law start (before ++ bytes.now) whole
-            self.new.judged.judge self.new.judged.counts self.new.judged.loads.items
+            self.new.judged
             self.new.pending.items self.new.count) }
         ensures progress { OnOk result (bytes_left self.new.count self.new.pending.items
             + length bytes.now ≤ bytes_left self.old.count self.old.pending.items) }
-        ensures stop { IfErr result (λ stop. (start : J) (before : List ℕ) (texts : List (List ℕ))
-            → HasRead J.took J.law start before texts self.old.judged.judge self.old.judged.counts
-            self.old.judged.loads.items self.old.pending.items self.old.count
-            → EndsIn (J.law start) (before ++ bytes.now) stop) }
+        ensures stop { IfErr result (λ stop. (start : Begin J) (before : List ℕ) (texts : List (List ℕ))
+            → HasRead J.took J.law start before texts self.old.judged self.old.pending.items self.old.count
+            → EndsIn (law_begun J.law start) (before ++ bytes.now) stop) }
     {
         for byte in bytes {
             self.read_byte(*byte)?;
@@ -75,9 +77,8 @@ impl<J: HistoryJudge> Lines<J> {
 
     // What is told where the input ends behind these lines.
     pub(crate) fn end(&self) -> Result<HistoryEnd, TraceFault>
-        requires { (start : J) × (before : List ℕ) × (texts : List (List ℕ))
-            × HasRead J.took J.law start before texts self.now.judged.judge self.now.judged.counts
-            self.now.judged.loads.items self.now.pending.items self.now.count }
+        requires { (start : Begin J) × (before : List ℕ) × (texts : List (List ℕ))
+            × HasRead J.took J.law start before texts self.now.judged self.now.pending.items self.now.count }
         ensures { EndsWith self.now.judged.counts self.now.pending.items self.now.count result }
     {
         if self.pending.is_empty() {
@@ -90,22 +91,18 @@ impl<J: HistoryJudge> Lines<J> {
 
     // Reads a byte, which may end a line.
     pub(crate) fn read_byte(&mut self, byte: u8) -> Result<(), Stop>
-        requires { (start : J) × (before : List ℕ) × (texts : List (List ℕ))
-            × HasRead J.took J.law start before texts self.old.judged.judge self.old.judged.counts
-            self.old.judged.loads.items self.old.pending.items self.old.count }
-        ensures ok { OnOk result ((start : J) (before : List ℕ) (texts : List (List ℕ))
-            → HasRead J.took J.law start before texts self.old.judged.judge self.old.judged.counts
-            self.old.judged.loads.items self.old.pending.items self.old.count
+        requires { (start : Begin J) × (before : List ℕ) × (texts : List (List ℕ))
+            × HasRead J.took J.law start before texts self.old.judged self.old.pending.items self.old.count }
+        ensures ok { OnOk result ((start : Begin J) (before : List ℕ) (texts : List (List ℕ))
+            → HasRead J.took J.law start before texts self.old.judged self.old.pending.items self.old.count
             → HasRead J.took J.law start (before ++ byte ∷ [])
-            (texts_with byte texts self.old.pending.items) self.new.judged.judge
-            self.new.judged.counts self.new.judged.loads.items self.new.pending.items
+            (texts_with byte texts self.old.pending.items) self.new.judged self.new.pending.items
             self.new.count) }
         ensures progress { OnOk result (bytes_left self.new.count self.new.pending.items + 1
             ≤ bytes_left self.old.count self.old.pending.items) }
-        ensures stop { IfErr result (λ stop. (start : J) (before : List ℕ) (texts : List (List ℕ))
-            → HasRead J.took J.law start before texts self.old.judged.judge self.old.judged.counts
-            self.old.judged.loads.items self.old.pending.items self.old.count
-            → EndsAt (J.law start) texts (self.old.pending.items ++ byte ∷ []) stop) }
+        ensures stop { IfErr result (λ stop. (start : Begin J) (before : List ℕ) (texts : List (List ℕ))
+            → HasRead J.took J.law start before texts self.old.judged self.old.pending.items self.old.count
+            → EndsAt (law_begun J.law start) texts (self.old.pending.items ++ byte ∷ []) stop) }
     {
         if self.count == u64::MAX {
             return Err(Stop::Fault(TraceFault::TooManyLines));
@@ -126,9 +123,7 @@ impl<J: HistoryJudge> Lines<J> {
         requires short { length self.old.pending.items ≤ MAX_PAIR }
         ensures ok { OnOk result (self.new.pending.items ≡ self.old.pending.items ++ byte ∷ []) }
         ensures short { OnOk result (length self.old.pending.items + 1 ≤ MAX_PAIR) }
-        ensures judge { self.new.judged.judge ≡ self.old.judged.judge }
-        ensures counts { self.new.judged.counts ≡ self.old.judged.counts }
-        ensures loads { self.new.judged.loads.items ≡ self.old.judged.loads.items }
+        ensures judged { self.new.judged ≡ self.old.judged }
         ensures count { self.new.count ≡ self.old.count }
         ensures stop { IfErr result (λ stop. IsTooLong number self.old.pending.items stop) }
     {
@@ -142,26 +137,24 @@ impl<J: HistoryJudge> Lines<J> {
 
     // The line of this number ends here, and this is what it says.
     pub(crate) fn end_line(&mut self, number: u64, event: &Option<OwnedEvent>) -> Result<(), Stop>
-        requires read { (start : J) × (before : List ℕ) × (texts : List (List ℕ))
-            × HasRead J.took J.law start before texts self.old.judged.judge self.old.judged.counts
-            self.old.judged.loads.items self.old.pending.items self.old.count }
+        requires read { (start : Begin J) × (before : List ℕ) × (texts : List (List ℕ))
+            × HasRead J.took J.law start before texts self.old.judged self.old.pending.items self.old.count }
         requires number { number ≡ self.old.count + 1 }
         requires said { line_of self.old.pending.items ≡ Ok (seen_by event.now) }
-        ensures ok { OnOk result ((start : J) (before : List ℕ) (texts : List (List ℕ))
-            → HasRead J.took J.law start before texts self.old.judged.judge self.old.judged.counts
-            self.old.judged.loads.items self.old.pending.items self.old.count
+        ensures ok { OnOk result ((start : Begin J) (before : List ℕ) (texts : List (List ℕ))
+            → HasRead J.took J.law start before texts self.old.judged self.old.pending.items self.old.count
             → HasRead J.took J.law start (before ++ 10 ∷ []) (texts ++ self.old.pending.items ∷ [])
-            self.new.judged.judge self.new.judged.counts self.new.judged.loads.items
+            self.new.judged
             self.new.pending.items self.new.count) }
         ensures progress { OnOk result (bytes_left self.new.count self.new.pending.items + 1
             ≤ bytes_left self.old.count self.old.pending.items) }
-        ensures stop { IfErr result (λ stop. (start : J) (before : List ℕ) (texts : List (List ℕ))
-            → HasRead J.took J.law start before texts self.old.judged.judge self.old.judged.counts
-            self.old.judged.loads.items self.old.pending.items self.old.count
-            → LineStops (J.law start) (events_of texts) number (seen_by event.now) stop) }
+        ensures stop { IfErr result (λ stop. (start : Begin J) (before : List ℕ) (texts : List (List ℕ))
+            → HasRead J.took J.law start before texts self.old.judged self.old.pending.items self.old.count
+            → LineStops (law_begun J.law start) (events_of texts) (windows_of start.telling texts) number (seen_by event.now) stop) }
     {
         match event {
             None => {
+                self.judged.pass();
                 self.close(number);
                 Ok(())
             }
@@ -177,9 +170,7 @@ impl<J: HistoryJudge> Lines<J> {
     fn close(&mut self, number: u64)
         ensures pending { self.new.pending.items ≡ [] }
         ensures count { self.new.count ≡ number }
-        ensures judge { self.new.judged.judge ≡ self.old.judged.judge }
-        ensures counts { self.new.judged.counts ≡ self.old.judged.counts }
-        ensures loads { self.new.judged.loads.items ≡ self.old.judged.loads.items }
+        ensures judged { self.new.judged ≡ self.old.judged }
     {
         self.pending.clear();
         self.count = number;

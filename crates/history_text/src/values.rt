@@ -6,7 +6,10 @@ ghost use Rattle.std.specs.Option.{option_map};
 ghost use Rattle.memory_histories.specs.declared.events.HistoryEvent.{HistoryEvent as Event};
 ghost use Rattle.trace_text.specs.Streams.{Moves};
 ghost use Rattle.history_text.specs.Lines.{line_of, seen_by};
+ghost use Rattle.memory_histories.specs.Windows.{Windows};
 ghost use Rattle.history_text.specs.Judged.{Stands};
+ghost use Rattle.history_text.specs.Notes.{Telling, AreNotesOf, opening_windows};
+ghost use Rattle.history_text.specs.Told.{Begin, law_begun, told_by};
 ghost use Rattle.history_text.specs.Histories.{HasRead, texts_with, bytes_left};
 ghost use Rattle.history_text.specs.Values.{any_text, set_text, sets_text, values_text, AreSetsFrom, AreValues, IsTold, Told, TellStops, ByteStops, ToldIn, Writes};
 
@@ -15,6 +18,7 @@ use crate::events::OwnedEvent;
 use crate::judge::HistoryJudge;
 use crate::judged::{Judged, OpenLoad, Stop, load_in};
 use crate::lines::read_history_line;
+use crate::notes::StoreNotes;
 use crate::reading::Lines;
 use memory_histories::ByteSet;
 use std::alloc::{AllocError, Global};
@@ -86,9 +90,9 @@ fn sets_of<J: HistoryJudge>(
     load: OpenLoad,
 ) -> Result<Vec<Option<ByteSet>>, AllocError>
     ensures length { IfOk result (λ sets. length sets.items ≡ load.length) }
-    ensures sets { IfOk result (λ sets. (start : J) (events : List Event)
-        → Stands J.took start events judged.now.judge judged.now.counts judged.now.loads.items
-        → AreSetsFrom (J.law start) events load 0 sets.items) }
+    ensures sets { IfOk result (λ sets. (start : Begin J) (events : List Event) (w : Windows)
+        → Stands J.took start events w judged.now
+        → AreSetsFrom (law_begun J.law start) events load 0 sets.items) }
 {
     let mut sets = Vec::new(alloc);
     for place in 0..load.length {
@@ -106,9 +110,9 @@ fn values_of<J: HistoryJudge>(
     judged: &Judged<J>,
     event: &Option<OwnedEvent>,
 ) -> Result<Values, AllocError>
-    ensures { IfOk result (λ values. (start : J) (events : List Event)
-        → Stands J.took start events judged.now.judge judged.now.counts judged.now.loads.items
-        → AreValues (J.law start) events (seen_by event.now) (option_map (λ sets. sets.items) values.0)) }
+    ensures { IfOk result (λ values. (start : Begin J) (events : List Event) (w : Windows)
+        → Stands J.took start events w judged.now
+        → AreValues (law_begun J.law start) events (seen_by event.now) (option_map (λ sets. sets.items) values.0)) }
 {
     let Some(OwnedEvent::LoadResponse { number, bytes: _ }) = event else {
         return Ok(Values(None));
@@ -138,13 +142,13 @@ fn write_line<W: Sink, J: HistoryJudge>(
     event: &Option<OwnedEvent>,
 ) -> Result<(), Stop>
     requires { line_of text.now ≡ Ok (seen_by event.now) }
-    ensures ok { OnOk result ((start : J) (events : List Event)
-        → Stands J.took start events judged.now.judge judged.now.counts judged.now.loads.items
-        → (out : List ℕ) × IsTold (J.law start) events text.now out
+    ensures ok { OnOk result ((start : Begin J) (events : List Event) (w : Windows)
+        → Stands J.took start events w judged.now
+        → (out : List ℕ) × IsTold (law_begun J.law start) events text.now out
         × Moves W.took writer.old out writer.new) }
-    ensures stop { IfErr result (λ stop. (start : J) (events : List Event)
-        → Stands J.took start events judged.now.judge judged.now.counts judged.now.loads.items
-        → TellStops W.took W.refused (J.law start) events text.now writer.old writer.new stop) }
+    ensures stop { IfErr result (λ stop. (start : Begin J) (events : List Event) (w : Windows)
+        → Stands J.took start events w judged.now
+        → TellStops W.took W.refused (law_begun J.law start) events text.now writer.old writer.new stop) }
 {
     let values = values_of(alloc, judged, event)?;
     let line = told_line(alloc, text, &values)?;
@@ -161,28 +165,23 @@ fn write_byte<W: Sink, J: HistoryJudge>(
     lines: &mut Lines<J>,
     byte: u8,
 ) -> Result<(), Stop>
-    requires { (start : J) × (before : List ℕ) × (texts : List (List ℕ))
-        × HasRead J.took J.law start before texts lines.old.judged.judge lines.old.judged.counts
-        lines.old.judged.loads.items lines.old.pending.items lines.old.count }
-    ensures ok { OnOk result ((start : J) (before : List ℕ) (texts : List (List ℕ))
-        → HasRead J.took J.law start before texts lines.old.judged.judge lines.old.judged.counts
-        lines.old.judged.loads.items lines.old.pending.items lines.old.count
+    requires { (start : Begin J) × (before : List ℕ) × (texts : List (List ℕ))
+        × HasRead J.took J.law start before texts lines.old.judged lines.old.pending.items lines.old.count }
+    ensures ok { OnOk result ((start : Begin J) (before : List ℕ) (texts : List (List ℕ))
+        → HasRead J.took J.law start before texts lines.old.judged lines.old.pending.items lines.old.count
         → HasRead J.took J.law start (before ++ byte ∷ [])
-        (texts_with byte texts lines.old.pending.items) lines.new.judged.judge
-        lines.new.judged.counts lines.new.judged.loads.items lines.new.pending.items
+        (texts_with byte texts lines.old.pending.items) lines.new.judged lines.new.pending.items
         lines.new.count) }
-    ensures told { OnOk result ((start : J) (before : List ℕ) (texts : List (List ℕ)) (first : W)
-        → HasRead J.took J.law start before texts lines.old.judged.judge lines.old.judged.counts
-        lines.old.judged.loads.items lines.old.pending.items lines.old.count
-        → Told W.took (J.law start) first texts writer.old
-        → Told W.took (J.law start) first (texts_with byte texts lines.old.pending.items) writer.new) }
+    ensures told { OnOk result ((start : Begin J) (before : List ℕ) (texts : List (List ℕ)) (first : W)
+        → HasRead J.took J.law start before texts lines.old.judged lines.old.pending.items lines.old.count
+        → Told W.took (law_begun J.law start) first texts writer.old
+        → Told W.took (law_begun J.law start) first (texts_with byte texts lines.old.pending.items) writer.new) }
     ensures progress { OnOk result (bytes_left lines.new.count lines.new.pending.items + 1
         ≤ bytes_left lines.old.count lines.old.pending.items) }
-    ensures stop { IfErr result (λ stop. (start : J) (before : List ℕ) (texts : List (List ℕ)) (first : W)
-        → HasRead J.took J.law start before texts lines.old.judged.judge lines.old.judged.counts
-        lines.old.judged.loads.items lines.old.pending.items lines.old.count
-        → Told W.took (J.law start) first texts writer.old
-        → ByteStops W.took W.refused (J.law start) first texts (lines.old.pending.items ++ byte ∷ [])
+    ensures stop { IfErr result (λ stop. (start : Begin J) (before : List ℕ) (texts : List (List ℕ)) (first : W)
+        → HasRead J.took J.law start before texts lines.old.judged lines.old.pending.items lines.old.count
+        → Told W.took (law_begun J.law start) first texts writer.old
+        → ByteStops W.took W.refused (law_begun J.law start) first texts (lines.old.pending.items ++ byte ∷ [])
         writer.new stop) }
 {
     if lines.count == u64::MAX {
@@ -213,24 +212,21 @@ fn write_lines<W: Sink, J: HistoryJudge>(
     lines: &mut Lines<J>,
     bytes: &[u8],
 ) -> Result<(), Stop>
-    requires { (start : J) × (before : List ℕ) × (texts : List (List ℕ))
-        × HasRead J.took J.law start before texts lines.old.judged.judge lines.old.judged.counts
-        lines.old.judged.loads.items lines.old.pending.items lines.old.count }
-    ensures ok { OnOk result ((start : J) (before : List ℕ) (texts : List (List ℕ))
-        → HasRead J.took J.law start before texts lines.old.judged.judge lines.old.judged.counts
-        lines.old.judged.loads.items lines.old.pending.items lines.old.count
+    requires { (start : Begin J) × (before : List ℕ) × (texts : List (List ℕ))
+        × HasRead J.took J.law start before texts lines.old.judged lines.old.pending.items lines.old.count }
+    ensures ok { OnOk result ((start : Begin J) (before : List ℕ) (texts : List (List ℕ))
+        → HasRead J.took J.law start before texts lines.old.judged lines.old.pending.items lines.old.count
         → (whole : List (List ℕ)) × HasRead J.took J.law start (before ++ bytes.now) whole
-        lines.new.judged.judge lines.new.judged.counts lines.new.judged.loads.items
+        lines.new.judged
         lines.new.pending.items lines.new.count
-        × ((first : W) → Told W.took (J.law start) first texts writer.old
-        → Told W.took (J.law start) first whole writer.new)) }
+        × ((first : W) → Told W.took (law_begun J.law start) first texts writer.old
+        → Told W.took (law_begun J.law start) first whole writer.new)) }
     ensures progress { OnOk result (bytes_left lines.new.count lines.new.pending.items
         + length bytes.now ≤ bytes_left lines.old.count lines.old.pending.items) }
-    ensures stop { IfErr result (λ stop. (start : J) (before : List ℕ) (texts : List (List ℕ)) (first : W)
-        → HasRead J.took J.law start before texts lines.old.judged.judge lines.old.judged.counts
-        lines.old.judged.loads.items lines.old.pending.items lines.old.count
-        → Told W.took (J.law start) first texts writer.old
-        → ToldIn W.took W.refused (J.law start) first (before ++ bytes.now) writer.new stop) }
+    ensures stop { IfErr result (λ stop. (start : Begin J) (before : List ℕ) (texts : List (List ℕ)) (first : W)
+        → HasRead J.took J.law start before texts lines.old.judged lines.old.pending.items lines.old.count
+        → Told W.took (law_begun J.law start) first texts writer.old
+        → ToldIn W.took W.refused (law_begun J.law start) first (before ++ bytes.now) writer.new stop) }
 {
     for byte in bytes {
         write_byte(alloc, writer, lines, *byte)?;
@@ -247,13 +243,11 @@ fn write_through<R: Source, W: Sink, J: HistoryJudge>(
     buffer: &mut [u8],
 ) -> Result<HistoryEnd, TraceFault>
     requires room { 0 < length buffer.old }
-    requires begun { (start : J)
-        × HasRead J.took J.law start [] [] lines.old.judged.judge lines.old.judged.counts
-        lines.old.judged.loads.items lines.old.pending.items lines.old.count }
-    ensures { (start : J)
-        → HasRead J.took J.law start [] [] lines.old.judged.judge lines.old.judged.counts
-        lines.old.judged.loads.items lines.old.pending.items lines.old.count
-        → Writes R.gave R.failed W.took W.refused (J.law start) reader.old reader.new writer.old
+    requires begun { (start : Begin J)
+        × HasRead J.took J.law start [] [] lines.old.judged lines.old.pending.items lines.old.count }
+    ensures { (start : Begin J)
+        → HasRead J.took J.law start [] [] lines.old.judged lines.old.pending.items lines.old.count
+        → Writes R.gave R.failed W.took W.refused (law_begun J.law start) reader.old reader.new writer.old
         writer.new result }
 {
     'pieces: loop {
@@ -280,19 +274,22 @@ fn write_through<R: Source, W: Sink, J: HistoryJudge>(
 /// a front of a line may be written. A fault is else as there, and all lines before it are written. The
 /// writer isn't flushed.
 ///
-/// The judge is a new one, which has taken no event.
+/// The judge is a new one, which has taken no event, and the notes are of no line.
 pub fn write_values<R: Source, W: Sink, J: HistoryJudge + Drop>(
     alloc: Global,
     reader: &mut R,
     writer: &mut W,
     judge: J,
+    notes: StoreNotes,
 ) -> Result<HistoryEnd, TraceFault>
     requires begun { J.took judge [] judge }
     requires passes { (J.law judge).passes [] }
-    ensures { Writes R.gave R.failed W.took W.refused (J.law judge) reader.old reader.new writer.old
+    requires notes { (t : Telling) × AreNotesOf notes t (opening_windows t) }
+    ensures { (t : Telling) → AreNotesOf notes t (opening_windows t)
+        → Writes R.gave R.failed W.took W.refused (told_by (J.law judge) t) reader.old reader.new writer.old
         writer.new result }
 {
-    let mut lines = Lines::new(alloc, judge);
+    let mut lines = Lines::new(alloc, judge, notes);
     let mut buffer = vec![in alloc; 0u8; BUFFER_LEN]?;
     write_through(alloc, reader, writer, &mut lines, &mut buffer)
 }

@@ -1,6 +1,5 @@
 -- What a load is owed as a set of bytes, and memory with the bytes of a store, as the loops over them go.
-use Rattle.std.proofs.Common.{◌≡◌, ℕ, ◌+◌, ◌-◌, ◌/◌, ◌%◌, ◌<◌, Bool, true, false, if◌then◌else◌, ◌==◌, List, [], ◌∷◌, map, length, drop, get_or, Option, None, Some, nat_eq, slice_get, refl, sym, ap, ◌∙◌, inl, inr, subst, arith, add-one}
-use Rattle.std.specs.List.{range_with_len}
+use Rattle.std.proofs.Common.{◌≡◌, ℕ, ◌+◌, ◌-◌, ◌/◌, ◌%◌, ◌<◌, Bool, true, false, if◌then◌else◌, ◌==◌, List, [], ◌∷◌, length, drop, get_or, Option, Some, refl, ap, ◌∙◌, inl, inr, subst, arith, add-one}
 use Rattle.std.proofs.lemmas.Bool.{cases_Bool}
 use Rattle.std.proofs.lemmas.List.{at_drop_more}
 use Rattle.memory_histories.specs.declared.events.Rest.{Rest}
@@ -8,10 +7,9 @@ use Rattle.memory_histories.specs.declared.flat.OwedByte.{OwedByte}
 use Rattle.memory_histories.specs.declared.reasons.Owed.{Owed}
 use Rattle.memory_histories.specs.declared.reasons.Owed.TheVariants as owed
 use Rattle.memory_histories.specs.declared.reasons.StoreName.{StoreName}
-use Rattle.memory_histories.specs.declared.sets.ByteSet.{ByteSet}
 use Rattle.memory_histories.specs.Sets.{has}
 use Rattle.memory_histories.specs.Flat.{is_paid_by, owed_bytes, with_value, with_bytes, stored}
-use Rattle.memory_histories.specs.FlatShown.{standing, standing_or, owed_set, IsOwedSet}
+use Rattle.memory_histories.specs.FlatShown.{standing, owed_set, IsOwedSet}
 use Rattle.memory_histories.proofs.ByteSets.{has-all_bytes}
 use Rattle.memory_histories.proofs.Requests.{has-only}
 use Rattle.std.proofs.Math.Path.{fun_ext}

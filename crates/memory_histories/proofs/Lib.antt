@@ -3,12 +3,17 @@ pub mod Law
 pub mod Sound
 -- sets and lists, what is live, and that what is kept judges as the law does
 pub mod Lists
+pub mod Halves
 pub mod ByteSets
 pub mod Live
 pub mod Requests
 pub mod Stands
 -- what is kept of units once a store is answered
+pub mod Lanes
+pub mod Cleared
+pub mod Pieces
+pub mod Opened
+pub mod OnePart
 pub mod Units
-pub mod Near
 -- what a flat memory owes
 pub mod FlatBytes

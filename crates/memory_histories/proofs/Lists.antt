@@ -3,7 +3,7 @@ use Rattle.std.proofs.Common.{◌≡◌, ℕ, Bool, true, false, ◌&&◌, ◌||
 use Rattle.std.specs.List.{All, filter, find, list_any, zip, prefix_len, position}
 use Rattle.std.specs.Option.{option_map}
 use Rattle.std.proofs.lemmas.Bool.{cases_Bool}
-use Rattle.std.proofs.lemmas.List.Elements.{All-head, All-tail}
+use Rattle.std.proofs.lemmas.List.Elements.{All-nil, All-cons, All-head, All-tail}
 
 -- Bool. ----
 
@@ -77,6 +77,14 @@ filter-always p (x ∷ xs) a = rw (All-head (λ y. p y ≡ true) x xs a, filter-
 pub filter-never : {X : Type 0} (p : X → Bool) (xs : List X) → All (λ x. p x ≡ false) xs → filter p xs ≡ []
 filter-never p [] a = refl
 filter-never p (x ∷ xs) a = rw (All-head (λ y. p y ≡ false) x xs a, filter-never p xs (All-tail (λ y. p y ≡ false) x xs a)) refl
+
+-- what nothing of passes, no element does
+pub none_pass : {X : Type 0} (p : X → Bool) (xs : List X) → filter p xs ≡ [] → All (λ x. p x ≡ false) xs
+none_pass p [] e = All-nil (λ x. p x ≡ false)
+none_pass p (x ∷ xs) e = elim (cases_Bool (p x)) [
+  | inl t ↦ let some : x ∷ filter p xs ≡ [] = (rw t at e) in cc
+  | inr t ↦ All-cons (λ y. p y ≡ false) x xs t (none_pass p xs (rw t at e))
+]
 
 pub map-map : {X Y Z : Type 0} (f : X → Y) (g : Y → Z) (xs : List X) → map g (map f xs) ≡ map (λ x. g (f x)) xs
 map-map f g [] = refl

@@ -1,20 +1,23 @@
 -- Units that change when a store is answered.
-use Rattle.std.proofs.Common.{◌≡◌, ℕ, Bool, ◌||◌, true, false, if◌then◌else◌, ◌==◌, not, List, [], ◌∷◌, ◌++◌, get_or, refl, sym, ap, ◌∙◌, inl, inr, append-nil}
-use Rattle.std.specs.List.{All, list_any}
+use Rattle.std.proofs.Common.{◌≡◌, ℕ, Bool, ◌||◌, true, false, if◌then◌else◌, ◌==◌, not, List, [], ◌∷◌, ◌++◌, get_or, refl, sym, subst, ap, ◌∙◌, inl, inr, append-nil}
+use Rattle.std.specs.List.{All, filter, list_any}
 use Rattle.std.proofs.lemmas.Bool.{false≢true, cases_Bool, eqb-true, eq-eqb}
 use Rattle.std.proofs.lemmas.List.Elements.{All-head, All-tail, All-weaker}
 use Rattle.std.proofs.lemmas.List.Folds.{list_any-append}
 use Rattle.memory_histories.specs.declared.windows.StoreByte.{StoreByte}
 use Rattle.memory_histories.specs.declared.answered.UnitChange.{UnitChange}
-use Rattle.memory_histories.specs.Kept.{unit_of, is_in, is_dropped, answered_after}
+use Rattle.memory_histories.specs.declared.parts.StorePart.{StorePart}
+use Rattle.memory_histories.specs.Kept.{is_in, is_dropped, answered_after}
+use Rattle.memory_histories.specs.Parts.{part_bytes, parts_bytes, is_part_in}
 use Rattle.memory_histories.specs.Shown.{is_of_unit, put_units, IsAfter, HasUnit}
-use Rattle.memory_histories.proofs.Lists.{and_false, or_false, filter-always, filter-never}
+use Rattle.memory_histories.proofs.Lists.{and_false, or_false, filter-always, filter-never, none_pass}
+use Rattle.memory_histories.proofs.Pieces.{filter_in}
 
 -- the last of the changes goes first into the map
 pub put_last : (f g : ℕ → List StoreByte) (cs : List UnitChange) (c : UnitChange) (unit : ℕ) → ((u : ℕ) → g u ≡ put_units f (c ∷ []) u)
     → put_units g cs unit ≡ put_units f (cs ++ c ∷ []) unit
 put_last f g [] c unit e = e unit
-put_last f g (x ∷ xs) c unit e = ap (λ r. if is_of_unit unit x then x.after.stores.items else r) (put_last f g xs c unit e)
+put_last f g (x ∷ xs) c unit e = ap (λ r. if is_of_unit unit x then parts_bytes x.after.parts.items else r) (put_last f g xs c unit e)
 
 -- a unit in which none of the bytes lies stays as it is
 not_in : (ending : List StoreByte) (unit : ℕ) → All (λ s. is_in unit s ≡ false) ending → (s : StoreByte) → is_dropped unit ending s ≡ false
@@ -31,15 +34,20 @@ untouched t ending answered unit a =
     let none = filter-never (is_in unit) ending a in
     rw (stays, none) (append-nil answered)
 
-none_in : (cs : List UnitChange) (unit : ℕ) (ending : List StoreByte) → list_any (is_of_unit unit) cs ≡ false → All (HasUnit cs) ending
-    → All (λ s. is_in unit s ≡ false) ending
-none_in cs unit ending none whole k d l =
-    let s = get_or ending k d in
-    elim (cases_Bool (is_in unit s)) [
+none_in : (cs : List UnitChange) (unit : ℕ) (ending : List StorePart) → list_any (is_of_unit unit) cs ≡ false → All (HasUnit cs) ending
+    → filter (is_part_in unit) ending ≡ []
+none_in cs unit ending none whole =
+    filter-never (is_part_in unit) ending (λ k d l.
+    let p = get_or ending k d in
+    elim (cases_Bool (is_part_in unit p)) [
       | inl h ↦ absurd
-          (false≢true (sym none ∙ (ap (λ u. list_any (is_of_unit u) cs) (sym (eqb-true (unit_of s.address) unit h)) ∙ whole k d l)))
+          (false≢true (sym none ∙ (ap (λ u. list_any (is_of_unit u) cs) (sym (eqb-true p.unit unit h)) ∙ whole k d l)))
       | inr h ↦ h
-    ]
+    ])
+
+-- no byte of these parts lies in the unit
+none_there : (unit : ℕ) (ending : List StorePart) → filter (is_part_in unit) ending ≡ [] → All (λ s. is_in unit s ≡ false) (parts_bytes ending)
+none_there unit ending e = none_pass (is_in unit) (parts_bytes ending) (filter_in unit ending ∙ ap parts_bytes e)
 
 put_from : (t : ℕ) (ending : List StoreByte) (f : ℕ → List StoreByte) (unit : ℕ) (cs : List UnitChange) → All (IsAfter t ending f) cs
     → (list_any (is_of_unit unit) cs ≡ false → answered_after t ending unit (f unit) ≡ f unit)
@@ -50,15 +58,26 @@ put_from t ending f unit (c ∷ cs) a h = elim (cases_Bool (is_of_unit unit c)) 
   | inr e ↦ rw e (put_from t ending f unit cs (All-tail (IsAfter t ending f) c cs a) (λ n. h (rw (e, n) refl)))
 ]
 
-pub put_all : (t : ℕ) (ending : List StoreByte) (f : ℕ → List StoreByte) (cs : List UnitChange) → All (IsAfter t ending f) cs
+pub put_all : (t : ℕ) (ending : List StorePart) (f : ℕ → List StoreByte) (cs : List UnitChange) → All (IsAfter t (parts_bytes ending) f) cs
     → All (HasUnit cs) ending → (unit : ℕ)
-    → put_units f cs unit ≡ answered_after t ending unit (f unit)
-put_all t ending f cs a whole unit = put_from t ending f unit cs a
-    (λ none. untouched t ending (f unit) unit (none_in cs unit ending none whole))
+    → put_units f cs unit ≡ answered_after t (parts_bytes ending) unit (f unit)
+put_all t ending f cs a whole unit = put_from t (parts_bytes ending) f unit cs a
+    (λ none. untouched t (parts_bytes ending) (f unit) unit (none_there unit ending (none_in cs unit ending none whole)))
+
+-- a store of one part changes its unit alone
+pub one_part : (t : ℕ) (p : StorePart) (f g : ℕ → List StoreByte) → g p.unit ≡ answered_after t (part_bytes p) p.unit (f p.unit)
+    → ((u : ℕ) → (p.unit == u) ≡ false → g u ≡ f u) → (unit : ℕ) → g unit ≡ answered_after t (part_bytes p) unit (f unit)
+one_part t p f g here others unit = elim (cases_Bool (p.unit == unit)) [
+  | inl e ↦ subst (λ u. g u ≡ answered_after t (part_bytes p) u (f u)) (eqb-true p.unit unit e) here
+  | inr e ↦
+      let none : filter (is_part_in unit) (p ∷ []) ≡ [] = rw e refl in
+      let all : parts_bytes (p ∷ []) ≡ part_bytes p = append-nil (part_bytes p) in
+      others unit e ∙ sym (untouched t (part_bytes p) (f unit) unit (subst (All (λ s. is_in unit s ≡ false)) all (none_there unit (p ∷ []) none)))
+]
 
 -- Whether the units of the bytes so far are among the changes. ----
 
-pub has_at : (cs : List UnitChange) (s : StoreByte) (unit : ℕ) → unit ≡ unit_of s.address → true ≡ list_any (is_of_unit unit) cs
+pub has_at : (cs : List UnitChange) (s : StorePart) (unit : ℕ) → unit ≡ s.unit → true ≡ list_any (is_of_unit unit) cs
     → HasUnit cs s
 has_at cs s unit e h = ap (λ u. list_any (is_of_unit u) cs) (sym e) ∙ sym h
 
@@ -71,13 +90,12 @@ any_more : (cs : List UnitChange) (c : UnitChange) (unit : ℕ) → list_any (is
 any_more cs c unit = list_any-append (is_of_unit unit) cs (c ∷ []) ∙ ap (λ x. list_any (is_of_unit unit) cs || x)
     (or_false (is_of_unit unit c))
 
-pub still_whole : (cs : List UnitChange) (c : UnitChange) (bytes : List StoreByte) → All (HasUnit cs) bytes
+pub still_whole : (cs : List UnitChange) (c : UnitChange) (bytes : List StorePart) → All (HasUnit cs) bytes
     → All (HasUnit (cs ++ c ∷ [])) bytes
 still_whole cs c bytes a =
-    All-weaker (HasUnit cs) (HasUnit (cs ++ c ∷ [])) (λ s h. any_more cs c (unit_of s.address)
-    ∙ ap (λ x. x || is_of_unit (unit_of s.address) c) h) bytes a
+    All-weaker (HasUnit cs) (HasUnit (cs ++ c ∷ [])) (λ s h. any_more cs c s.unit
+    ∙ ap (λ x. x || is_of_unit s.unit c) h) bytes a
 
-pub has_last : (cs : List UnitChange) (c : UnitChange) (s : StoreByte) → c.unit ≡ unit_of s.address → HasUnit (cs ++ c ∷ []) s
+pub has_last : (cs : List UnitChange) (c : UnitChange) (s : StorePart) → c.unit ≡ s.unit → HasUnit (cs ++ c ∷ []) s
 has_last cs c s e =
-    any_more cs c (unit_of s.address) ∙ (ap (λ x. list_any (is_of_unit (unit_of s.address)) cs || x) (eq-eqb c.unit (unit_of s.address) e)
-    ∙ or_true (list_any (is_of_unit (unit_of s.address)) cs))
+    any_more cs c s.unit ∙ (ap (λ x. list_any (is_of_unit s.unit) cs || x) (eq-eqb c.unit s.unit e) ∙ or_true (list_any (is_of_unit s.unit) cs))

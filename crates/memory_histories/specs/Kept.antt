@@ -1,6 +1,6 @@
 -- What the judge keeps of a history: the bytes of the open stores, those of answered stores that a load may still see, and of
 -- each byte of an open load what it may return if it is answered now.
-use Rattle.std.specs.Prelude.{ℕ, ◌≡◌, ◌+◌, ◌-◌, ◌/◌, ◌<◌, Bool, true, nat_le, nat_lt, ◌&&◌, not, if◌then◌else◌, ◌==◌, List, [], ◌++◌, map, Option, Some, None, is_none, is_some, slice_get, length}
+use Rattle.std.specs.Prelude.{ℕ, ◌≡◌, ◌+◌, ◌/◌, ◌<◌, Bool, ◌&&◌, not, if◌then◌else◌, ◌==◌, List, [], ◌++◌, map, Option, Some, None, is_none, is_some, slice_get, length}
 use Rattle.std.specs.List.{All, filter, list_any, fold}
 use Rattle.memory_histories.specs.declared.events.HistoryEvent.{HistoryEvent}
 use Rattle.memory_histories.specs.declared.events.HistoryEvent.TheVariants.{LoadRequest, LoadResponse, StoreRequest, StoreResponse}
@@ -70,13 +70,6 @@ opened image rest stores answered l = record {
 
 abbrev pub opened_at : List ℕ → Rest → List StoreByte → (ℕ → List StoreByte) → LoadByte → OpenByte
 opened_at image rest stores answered l = opened image rest stores (answered (unit_of l.address)) l
-
--- whether an address is one of so many from another on
-abbrev pub is_within : ℕ → ℕ → ℕ → Bool
-is_within from length address = nat_le from address && nat_lt (address - from) length
-
-abbrev pub AreWithin : ℕ → ℕ → List StoreByte → Type 0
-AreWithin from length stores = All (λ s. is_within from length s.address ≡ true) stores
 
 -- a byte of an open load once these stores are requested
 abbrev pub after_stores : List StoreByte → OpenByte → OpenByte

@@ -4,6 +4,8 @@ pub mod Hidden
 pub mod Faults
 pub mod Sets
 pub mod Kept
+pub mod Parts
+pub mod Loads
 pub mod Shown
 pub mod Flat
 pub mod FlatShown

@@ -8,21 +8,27 @@ use Rattle.memory_histories.specs.declared.events.StepFault.TheVariants.{Refused
 use Rattle.memory_histories.specs.declared.windows.LoadByte.{LoadByte}
 use Rattle.memory_histories.specs.declared.windows.StoreByte.{StoreByte}
 use Rattle.memory_histories.specs.declared.sets.ByteSet.{ByteSet}
+use Rattle.memory_histories.specs.declared.parts.StorePart.{StorePart}
 use Rattle.memory_histories.specs.declared.answered.KeptUnit.{KeptUnit}
 use Rattle.memory_histories.specs.declared.answered.UnitChange.{UnitChange}
 use Rattle.memory_histories.specs.declared.regular.RegularMemory.{RegularMemory}
 use Rattle.memory_histories.specs.Sets.{has}
 use Rattle.memory_histories.specs.Windows.{Windows, is_at}
 use Rattle.memory_histories.specs.Regular.{fault, may_return}
-use Rattle.memory_histories.specs.Kept.{Kept, kept_fault, unit_of, answered_after}
+use Rattle.memory_histories.specs.Kept.{Kept, kept_fault, answered_after}
+use Rattle.memory_histories.specs.Parts.{parts_bytes}
+use Rattle.memory_histories.specs.Loads.{loads_open}
 
--- the bytes of answered stores that are kept of a unit: none of one that isn't there
-abbrev pub stores_or : Option KeptUnit → List StoreByte
-stores_or (Some unit) = unit.stores.items
-stores_or None = []
+-- what is kept of a unit of answered stores: nothing of one that isn't there
+abbrev pub parts_or : Option KeptUnit → List StorePart
+parts_or (Some unit) = unit.parts.items
+parts_or None = []
+
+abbrev pub parts_in : (ℕ → Option KeptUnit) → ℕ → List StorePart
+parts_in units unit = parts_or (units unit)
 
 abbrev pub answered_in : (ℕ → Option KeptUnit) → ℕ → List StoreByte
-answered_in units unit = stores_or (units unit)
+answered_in units unit = parts_bytes (parts_in units unit)
 
 -- whether a change is of this unit
 abbrev pub is_of_unit : ℕ → UnitChange → Bool
@@ -31,15 +37,15 @@ is_of_unit unit change = change.unit == unit
 -- what is kept of the units with these changes: of two of one unit the first counts
 abbrev pub put_units : (ℕ → List StoreByte) → List UnitChange → ℕ → List StoreByte
 put_units answered [] unit = answered unit
-put_units answered (change ∷ changes) unit = if is_of_unit unit change then change.after.stores.items else put_units answered changes unit
+put_units answered (change ∷ changes) unit = if is_of_unit unit change then parts_bytes change.after.parts.items else put_units answered changes unit
 
 -- a change is what the answer to the store with these bytes makes of its unit
 abbrev pub IsAfter : ℕ → List StoreByte → (ℕ → List StoreByte) → UnitChange → Type 0
-IsAfter moment ending answered change = change.after.stores.items ≡ answered_after moment ending change.unit (answered change.unit)
+IsAfter moment ending answered change = parts_bytes change.after.parts.items ≡ answered_after moment ending change.unit (answered change.unit)
 
--- the unit of a byte is among those that change
-abbrev pub HasUnit : List UnitChange → StoreByte → Type 0
-HasUnit changes s = list_any (is_of_unit (unit_of s.address)) changes ≡ true
+-- the unit of a part is among those that change
+abbrev pub HasUnit : List UnitChange → StorePart → Type 0
+HasUnit changes p = list_any (is_of_unit p.unit) changes ≡ true
 
 -- what it keeps
 unfoldable pub kept : RegularMemory → Kept
@@ -47,9 +53,9 @@ kept m = record {
   image = m.image.items;
   rest = m.rest;
   moment = m.moment;
-  stores = m.stores.items;
+  stores = parts_bytes m.stores.items;
   answered = answered_in (get nat_eq m.units);
-  open_bytes = m.loads.items;
+  open_bytes = loads_open m.loads.items;
 }
 
 -- what each fault of a step says of the event, over what is kept and over the windows

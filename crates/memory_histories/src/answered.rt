@@ -1,19 +1,20 @@
 //! The bytes of answered stores that a load may still see, by unit of eight aligned addresses.
 
-ghost use Rattle.std.specs.Prelude.{◌≡◌, ◌+◌, ◌≤◌, ◌<◌, ◌++◌, ◌∷◌, [], ℕ, true, not, IfOk, OnOk, nat_eq, length};
+ghost use Rattle.std.specs.Prelude.{◌≡◌, ◌+◌, ◌≤◌, ◌<◌, ◌++◌, ◌∷◌, [], ℕ, true, IfOk, OnOk, OnErr, None, map, nat_eq, length, vec_len, vec_capacity};
 ghost use Rattle.std.specs.HashMap.{get, spare};
 ghost use Rattle.std.specs.List.{All, filter, list_any};
-ghost use Rattle.memory_histories.specs.Kept.{unit_of, is_in, is_dropped, answered_at, joined, answered_after};
-ghost use Rattle.memory_histories.specs.Shown.{answered_in, is_of_unit, put_units, IsAfter, HasUnit};
+ghost use Rattle.memory_histories.specs.Kept.{joined, answered_after};
+ghost use Rattle.memory_histories.specs.Parts.{part_bytes, parts_bytes, has_lane, without_parts, answered_part, joined_parts};
+ghost use Rattle.memory_histories.specs.Shown.{parts_in, answered_in, is_of_unit, put_units, IsAfter, HasUnit};
 
-use crate::windows::{StoreByte, is_before};
+use crate::parts::{StorePart, has_lane, without_parts};
 use std::alloc::{AllocError, Global};
 use std::collections::HashMap;
 
 /// What is kept of a unit.
 #[derive(Drop)]
 pub struct KeptUnit {
-    pub(crate) stores: Vec<StoreByte>,
+    pub(crate) parts: Vec<StorePart>,
 }
 
 /// A unit, and what is kept of it from now on.
@@ -23,87 +24,138 @@ pub struct UnitChange {
     pub(crate) after: KeptUnit,
 }
 
-// The unit of an address.
-pub(crate) fn unit_of(address: u64) -> u64
-    ensures { result ≡ unit_of address }
-{
-    address / 8
-}
-
-fn is_in(store: &StoreByte, unit: u64) -> bool
-    ensures { result ≡ is_in unit store.now }
-{
-    unit_of(store.address) == unit
-}
-
 // What is kept of a unit.
-pub(crate) fn answered_in(units: &HashMap<u64, KeptUnit>, unit: u64) -> &[StoreByte]
-    ensures { result.now ≡ answered_in (get nat_eq units.entry.now) unit }
+pub(crate) fn parts_in(units: &HashMap<u64, KeptUnit>, unit: u64) -> &[StorePart]
+    ensures { result.now ≡ parts_in (get nat_eq units.entry.now) unit }
 {
     match units.get(&unit) {
-        Some(kept) => kept.stores.as_slice(),
+        Some(kept) => kept.parts.as_slice(),
         None => &[],
     }
 }
 
-// Whether a byte was overwritten by one of a unit whose store is answered now.
-fn is_dropped(unit: u64, ending: &[StoreByte], store: &StoreByte) -> bool
-    ensures { result ≡ is_dropped unit ending.now store.now }
+// What these parts of a store have overwritten in a unit is dropped.
+fn drop_overwritten(parts: &mut Vec<StorePart>, unit: u64, ending: &[StorePart])
+    ensures few { vec_len parts.new ≤ vec_len parts.old }
+    ensures room { vec_capacity parts.new ≡ vec_capacity parts.old }
+    ensures items { parts.new.items ≡ filter has_lane (map (without_parts unit ending.now) parts.old.items) }
 {
-    ending.iter().any(|end| {
-        end.address == store.address && (is_in(end, unit) && is_before(store.ended, end.began))
-    })
+    clear_overwritten(parts.as_mut_slice(), unit, ending);
+    drop_empty(parts);
 }
 
-// What these bytes have overwritten in a unit is dropped.
-fn drop_overwritten(answered: &mut Vec<StoreByte>, unit: u64, ending: &[StoreByte])
-    ensures { answered.new.items ≡ filter (λ s. not (is_dropped unit ending.now s)) answered.old.items }
+fn drop_empty(parts: &mut Vec<StorePart>)
+    ensures few { vec_len parts.new ≤ vec_len parts.old }
+    ensures room { vec_capacity parts.new ≡ vec_capacity parts.old }
+    ensures items { parts.new.items ≡ filter has_lane parts.old.items }
 {
-    answered.retain(|store| !is_dropped(unit, ending, store));
+    parts.retain(|part| has_lane(part));
 }
 
-// A byte whose store is answered at this moment.
-fn answered_at(store: StoreByte, moment: u64) -> StoreByte
-    ensures { result ≡ answered_at moment store }
+fn clear_overwritten(parts: &mut [StorePart], unit: u64, ending: &[StorePart])
+    ensures { parts.new ≡ map (without_parts unit ending.now) parts.old }
 {
-    StoreByte {
-        ended: Some(moment),
-        ..store
+    for part in parts.iter_mut() {
+        *part = without_parts(unit, ending, *part);
     }
 }
 
-// Adds those of these bytes that lie in the unit.
+// A part whose store is answered at this moment.
+fn answered_part(part: StorePart, moment: u64) -> StorePart
+    ensures { result ≡ answered_part moment part }
+{
+    StorePart {
+        ended: Some(moment),
+        ..part
+    }
+}
+
+// Adds those of these parts that lie in the unit.
 fn add_joined(
-    answered: &mut Vec<StoreByte>,
+    parts: &mut Vec<StorePart>,
     unit: u64,
-    ending: &[StoreByte],
+    ending: &[StorePart],
     moment: u64,
 ) -> Result<(), AllocError>
-    ensures { OnOk result (answered.new.items ≡ answered.old.items ++ joined moment ending.now unit) }
+    ensures { OnOk result (parts.new.items ≡ parts.old.items ++ joined_parts moment ending.now unit) }
 {
-    for store in ending {
-        if is_in(store, unit) {
-            answered.push(answered_at(*store, moment))?;
+    for part in ending {
+        if part.unit == unit {
+            parts.push(answered_part(*part, moment))?;
         }
     }
     Ok(())
 }
 
-// What is kept of a unit once the store with these bytes is answered.
+// What is kept of a unit once the store with these parts is answered.
+#[tactic(auto, using(crate::proofs::Pieces::after_parts))]
 fn after_answer(
     alloc: Global,
-    answered: &[StoreByte],
+    answered: &[StorePart],
     unit: u64,
-    ending: &[StoreByte],
+    ending: &[StorePart],
     moment: u64,
 ) -> Result<KeptUnit, AllocError>
-    ensures { IfOk result (λ u. u.stores.items ≡ answered_after moment ending.now unit answered.now) }
+    ensures { IfOk result (λ u. parts_bytes u.parts.items ≡ answered_after moment (parts_bytes ending.now) unit (parts_bytes answered.now)) }
 {
-    let mut stores = Vec::with_capacity(alloc, answered.len().saturating_add(ending.len()))?;
-    stores.extend_from_slice(answered)?;
-    drop_overwritten(&mut stores, unit, ending);
-    add_joined(&mut stores, unit, ending, moment)?;
-    Ok(KeptUnit { stores })
+    let mut parts = Vec::with_capacity(alloc, answered.len().saturating_add(ending.len()))?;
+    parts.extend_from_slice(answered)?;
+    drop_overwritten(&mut parts, unit, ending);
+    add_joined(&mut parts, unit, ending, moment)?;
+    Ok(KeptUnit { parts })
+}
+
+// What is kept of a unit once this part of a store is answered, which lies in it and is its only one.
+#[tactic(auto, using(crate::proofs::Pieces::after_part))]
+fn join_part(parts: &mut Vec<StorePart>, part: &StorePart, moment: u64) -> Result<(), AllocError>
+    ensures ok { OnOk result (parts_bytes parts.new.items ≡ answered_after moment (part_bytes part.now) part.now.unit (parts_bytes parts.old.items)) }
+    ensures err { OnErr result (parts.new.items ≡ parts.old.items) }
+{
+    parts.reserve(1)?;
+    drop_overwritten(parts, part.unit, &[*part]);
+    parts.push_reserved(answered_part(*part, moment));
+    Ok(())
+}
+
+// The same of a unit of which nothing is kept.
+fn add_unit(
+    alloc: Global,
+    units: &mut HashMap<u64, KeptUnit>,
+    part: &StorePart,
+    moment: u64,
+) -> Result<(), AllocError>
+    requires { get nat_eq units.old part.now.unit ≡ None }
+    ensures ok { OnOk result ((unit : ℕ) → answered_in (get nat_eq units.new) unit ≡ answered_after moment (part_bytes part.now) unit (answered_in (get nat_eq units.old) unit)) }
+    ensures err { OnErr result ((unit : ℕ) → answered_in (get nat_eq units.new) unit ≡ answered_in (get nat_eq units.old) unit) }
+{
+    units.reserve(1)?;
+    let mut parts = Vec::with_capacity(alloc, 2)?;
+    parts.push_reserved(answered_part(*part, moment));
+    let after = KeptUnit { parts };
+    put_unit(
+        units,
+        UnitChange {
+            unit: part.unit,
+            after,
+        },
+    );
+    Ok(())
+}
+
+// What is kept of the units once this part of a store is answered, which is its only one.
+pub(crate) fn answer_part(
+    alloc: Global,
+    units: &mut HashMap<u64, KeptUnit>,
+    part: &StorePart,
+    moment: u64,
+) -> Result<(), AllocError>
+    ensures ok { OnOk result ((unit : ℕ) → answered_in (get nat_eq units.new) unit ≡ answered_after moment (part_bytes part.now) unit (answered_in (get nat_eq units.old) unit)) }
+    ensures err { OnErr result ((unit : ℕ) → answered_in (get nat_eq units.new) unit ≡ answered_in (get nat_eq units.old) unit) }
+{
+    match units.get_mut(&part.unit) {
+        Some(kept) => join_part(&mut kept.parts, part, moment),
+        None => add_unit(alloc, units, part, moment),
+    }
 }
 
 // Whether this unit changes.
@@ -117,17 +169,17 @@ fn has_unit(changes: &[UnitChange], unit: u64) -> bool
 pub(crate) fn changes(
     alloc: Global,
     units: &HashMap<u64, KeptUnit>,
-    ending: &[StoreByte],
+    ending: &[StorePart],
     moment: u64,
 ) -> Result<Vec<UnitChange>, AllocError>
-    ensures after { IfOk result (λ cs. All (IsAfter moment ending.now (answered_in (get nat_eq units.now))) cs.items) }
+    ensures after { IfOk result (λ cs. All (IsAfter moment (parts_bytes ending.now) (answered_in (get nat_eq units.now))) cs.items) }
     ensures whole { IfOk result (λ cs. All (HasUnit cs.items) ending.now) }
 {
     let mut changes = Vec::new(alloc);
-    for store in ending {
-        let unit = unit_of(store.address);
+    for part in ending {
+        let unit = part.unit;
         if !has_unit(changes.as_slice(), unit) {
-            let answered = answered_in(units, unit);
+            let answered = parts_in(units, unit);
             let after = after_answer(alloc, answered, unit, ending, moment)?;
             changes.push(UnitChange { unit, after })?;
         }

@@ -1,17 +1,20 @@
-//! The bytes of open loads with what they may return, and those of open stores.
+//! What a request and an answer change of the loads and the stores that are open.
 
-ghost use Rattle.std.specs.Prelude.{◌≡◌, ◌+◌, ◌≤◌, ◌<◌, ◌++◌, ◌^◌, IfOk, OnOk, OnErr, length, map, not, vec_len, vec_capacity, slice_get, nat_eq};
+ghost use Rattle.std.specs.Prelude.{◌≡◌, ◌+◌, ◌≤◌, ◌<◌, ◌++◌, ◌^◌, IfOk, IfSome, length, map, not, vec_len, vec_capacity, slice_get, nat_eq};
 ghost use Rattle.std.specs.HashMap.{get};
-ghost use Rattle.std.specs.List.{filter, find, list_any};
-ghost use Rattle.memory_histories.specs.Windows.{load_bytes, is_open, is_of, is_at};
-ghost use Rattle.memory_histories.specs.Regular.{wrong_place};
-ghost use Rattle.memory_histories.specs.Kept.{initial_set, with_stores, is_covered_by, first_set, opened, opened_at, is_within, after_stores, is_open_of, is_open_at, may_have, AreWithin};
-ghost use Rattle.memory_histories.specs.Shown.{answered_in};
+ghost use Rattle.std.specs.List.{filter, list_any, position};
+ghost use Rattle.memory_histories.specs.Windows.{store_bytes, load_bytes, is_open};
+ghost use Rattle.memory_histories.specs.Kept.{initial_set, first_set, opened, opened_at, after_stores};
+ghost use Rattle.memory_histories.specs.Parts.{parts_bytes, is_open_part, IsOnly};
+ghost use Rattle.memory_histories.specs.Loads.{load_open, loads_open};
+ghost use Rattle.memory_histories.specs.Shown.{parts_in, answered_in};
 
-use crate::answered::{KeptUnit, answered_in, unit_of};
+use crate::answered::{KeptUnit, parts_in};
 use crate::events::Rest;
+use crate::loads::{OpenLoad, show_part};
+use crate::parts::{StorePart, is_covered_by, is_open_part, part_of, unit_of, with_parts};
 use crate::sets::ByteSet;
-use crate::windows::{LoadByte, StoreByte, is_at, is_of, is_open};
+use crate::windows::LoadByte;
 use std::alloc::{AllocError, Global};
 use std::collections::HashMap;
 
@@ -22,48 +25,6 @@ pub struct OpenByte {
     pub load: LoadByte,
     /// What it may return.
     pub may: ByteSet,
-}
-
-// Whether a byte is of the load that is open under this number.
-pub(crate) fn is_open_of(load: &OpenByte, number: u64) -> bool
-    ensures { result ≡ is_open_of number load.now }
-{
-    is_of(&load.load, number)
-}
-
-// Whether it is the one at this address.
-fn is_open_at(load: &OpenByte, number: u64, address: u64) -> bool
-    ensures { result ≡ is_open_at number address load.now }
-{
-    is_at(&load.load, number, address)
-}
-
-// The byte at an address of the load that is open under this number.
-pub(crate) fn open_byte(loads: &[OpenByte], number: u64, address: u64) -> Option<OpenByte>
-    ensures { result ≡ find (is_open_at number address) loads.now }
-{
-    loads
-        .iter()
-        .copied()
-        .find(|load| is_open_at(load, number, address))
-}
-
-// How many bytes the load that is open under this number has: 0 if there is none.
-pub(crate) fn length_of(loads: &[OpenByte], number: u64) -> usize
-    ensures { result ≡ length (filter (is_open_of number) loads.now) }
-{
-    loads.iter().filter(|load| is_open_of(load, number)).count()
-}
-
-// The first of these bytes that the load that is open under this number may not return.
-pub(crate) fn wrong_place(loads: &[OpenByte], number: u64, bytes: &[u8]) -> Option<usize>
-    ensures { result ≡ wrong_place may_have (filter (is_open_of number) loads.now) bytes.now }
-{
-    loads
-        .iter()
-        .filter(|load| is_open_of(load, number))
-        .zip(bytes.iter())
-        .position(|(load, byte)| !load.may.contains(*byte))
 }
 
 // What memory may have had before the first store, where this is the image's byte, if it has one there.
@@ -79,23 +40,6 @@ fn initial_set(first: Option<u8>, rest: Rest) -> ByteSet
     }
 }
 
-// The set with what these stores left at an address.
-fn with_stores(stores: &[StoreByte], address: u64, set: ByteSet) -> ByteSet
-    ensures { result ≡ with_stores stores.now address set }
-{
-    stores
-        .iter()
-        .filter(|store| store.address == address)
-        .fold(set, |set, store| set.with(store.byte))
-}
-
-// Whether one of these bytes lies at an address.
-fn is_covered_by(answered: &[StoreByte], address: u64) -> bool
-    ensures { result ≡ is_covered_by answered.now address }
-{
-    answered.iter().any(|store| store.address == address)
-}
-
 fn first_set(covered: bool, initial: ByteSet) -> ByteSet
     ensures { result ≡ first_set covered initial }
 {
@@ -106,54 +50,54 @@ fn first_set(covered: bool, initial: ByteSet) -> ByteSet
 fn opened(
     image: &[u8],
     rest: Rest,
-    stores: &[StoreByte],
-    answered: &[StoreByte],
+    stores: &[StorePart],
+    answered: &[StorePart],
     load: LoadByte,
 ) -> OpenByte
-    ensures { result ≡ opened image.now rest stores.now answered.now load }
+    ensures { result ≡ opened image.now rest (parts_bytes stores.now) (parts_bytes answered.now) load }
 {
     let address = load.address;
     let initial = initial_set(image.get(address as usize).copied(), rest);
     let first = first_set(is_covered_by(answered, address), initial);
     OpenByte {
         load,
-        may: with_stores(stores, address, with_stores(answered, address, first)),
+        may: with_parts(stores, address, with_parts(answered, address, first)),
     }
 }
 
 // What is kept of a unit, if this is what is kept of another one, which may be the same.
 fn answered_next<'a>(
     units: &'a HashMap<u64, KeptUnit>,
-    answered: &'a [StoreByte],
+    answered: &'a [StorePart],
     unit: u64,
     next: u64,
-) -> &'a [StoreByte]
-    requires { answered.now ≡ answered_in (get nat_eq units.now) unit }
-    ensures { result.now ≡ answered_in (get nat_eq units.entry.now) next }
+) -> &'a [StorePart]
+    requires { answered.now ≡ parts_in (get nat_eq units.now) unit }
+    ensures { result.now ≡ parts_in (get nat_eq units.entry.now) next }
 {
     if unit == next {
         answered
     } else {
-        answered_in(units, next)
+        parts_in(units, next)
     }
 }
 
-// Adds the bytes of a load that is requested now.
-pub(crate) fn add_load(
-    loads: &mut Vec<OpenByte>,
-    memory: (&[u8], Rest, &[StoreByte], &HashMap<u64, KeptUnit>),
+// Adds the sets of a load that is requested now.
+fn add_sets(
+    sets: &mut Vec<ByteSet>,
+    memory: (&[u8], Rest, &[StorePart], &HashMap<u64, KeptUnit>),
     number: u64,
     address: u64,
     length: usize,
     moment: u64,
 )
-    requires room { vec_len loads.old + length ≤ vec_capacity loads.old }
+    requires room { vec_len sets.old + length ≤ vec_capacity sets.old }
     requires inside { address + length ≤ 2 ^ 64 }
-    ensures { loads.new.items ≡ loads.old.items ++ map (opened_at memory.entry.0.now memory.entry.1 memory.entry.2.now (answered_in (get nat_eq memory.entry.3.now))) (load_bytes number address length moment) }
+    ensures { sets.new.items ≡ sets.old.items ++ map (λ l. (opened_at memory.entry.0.now memory.entry.1 (parts_bytes memory.entry.2.now) (answered_in (get nat_eq memory.entry.3.now)) l).may) (load_bytes number address length moment) }
 {
     let (image, rest, stores, units) = memory;
     let mut unit = unit_of(address);
-    let mut answered = answered_in(units, unit);
+    let mut answered = parts_in(units, unit);
     for k in 0..length {
         let load = LoadByte {
             number,
@@ -164,91 +108,121 @@ pub(crate) fn add_load(
         let there = answered_next(units, answered, unit, next);
         unit = next;
         answered = there;
-        loads.push_reserved(opened(image, rest, stores, there, load));
+        sets.push_reserved(opened(image, rest, stores, there, load).may);
     }
 }
 
-// Whether an address is one of so many from another on.
-fn is_within(from: u64, length: usize, address: u64) -> bool
-    ensures { result ≡ is_within from length address }
-{
-    from <= address && address - from < length as u64
-}
-
-// Those of these bytes that lie at so many addresses.
-pub(crate) fn stores_within(
+// A load that is requested now.
+pub(crate) fn open_load(
     alloc: Global,
-    stores: &[StoreByte],
-    from: u64,
+    memory: (&[u8], Rest, &[StorePart], &HashMap<u64, KeptUnit>),
+    number: u64,
+    address: u64,
     length: usize,
-) -> Result<Vec<StoreByte>, AllocError>
-    ensures { IfOk result (λ v. v.items ≡ filter (λ s. is_within from length s.address) stores.now) }
+    moment: u64,
+) -> Result<OpenLoad, AllocError>
+    requires inside { address + length ≤ 2 ^ 64 }
+    ensures { IfOk result (λ o. load_open o ≡ map (opened_at memory.entry.0.now memory.entry.1 (parts_bytes memory.entry.2.now) (answered_in (get nat_eq memory.entry.3.now))) (load_bytes number address length moment)) }
 {
-    stores
-        .iter()
-        .filter(|store| is_within(from, length, store.address))
-        .copied()
-        .collect(alloc)
+    let mut sets = Vec::with_capacity(alloc, length)?;
+    add_sets(&mut sets, memory, number, address, length, moment);
+    Ok(OpenLoad {
+        number,
+        address,
+        began: moment,
+        sets,
+    })
 }
 
-// A byte of an open load once these stores are requested.
-fn after_stores(load: OpenByte, added: &[StoreByte]) -> OpenByte
-    ensures { result ≡ after_stores added.now load }
+// A store is requested at this moment: its parts are kept, and open loads may see them from now on.
+pub(crate) fn add_store(
+    stores: &mut Vec<StorePart>,
+    loads: &mut [OpenLoad],
+    number: u64,
+    address: u64,
+    bytes: &[u8],
+    enables: u64,
+    moment: u64,
+)
+    requires room { vec_len stores.old + 9 ≤ vec_capacity stores.old }
+    requires some { 1 ≤ length bytes.now }
+    requires few { length bytes.now ≤ 64 }
+    requires inside { address + length bytes.now ≤ 2 ^ 64 }
+    ensures stores { parts_bytes stores.new.items ≡ parts_bytes stores.old.items ++ store_bytes number address bytes.now enables moment }
+    ensures loads { loads_open loads.new ≡ map (after_stores (store_bytes number address bytes.now enables moment)) (loads_open loads.old) }
 {
-    OpenByte {
-        load: load.load,
-        may: with_stores(added, load.load.address, load.may),
+    let first = unit_of(address);
+    let last = unit_of(address + (bytes.len() as u64 - 1));
+    for unit in first..last + 1 {
+        let part = part_of(number, unit, address, bytes, enables, moment);
+        show_part(loads, &part);
+        stores.push_reserved(part);
     }
 }
 
-// A byte of an open load once these stores are requested, which lie at so many addresses.
-#[tactic(auto, using(crate::proofs::Near::not_shown))]
-fn shown(load: OpenByte, added: &[StoreByte], from: u64, length: usize) -> OpenByte
-    requires { AreWithin from length added.now }
-    ensures { result ≡ after_stores added.now load }
+// Whether one of these parts is of the store that is open under this number.
+fn has_open_part(stores: &[StorePart], number: u64) -> bool
+    ensures { result ≡ list_any (is_open_part number) stores.now }
 {
-    if is_within(from, length, load.load.address) {
-        after_stores(load, added)
+    stores.iter().any(|part| is_open_part(part, number))
+}
+
+// The place of the first of these parts that is.
+fn first_open_part(stores: &[StorePart], number: u64) -> Option<usize>
+    ensures place { result ≡ position (is_open_part number) stores.now }
+    ensures bound { IfSome result (λ place. place < length stores.now) }
+{
+    stores.iter().position(|part| is_open_part(part, number))
+}
+
+// Where the part of the store stands that is open under this number, if it has one alone.
+pub(crate) fn only_part(stores: &[StorePart], number: u64) -> Option<usize>
+    ensures { IfSome result (IsOnly number stores.now) }
+{
+    let place = first_open_part(stores, number)?;
+    if has_open_part(&stores[place + 1..], number) {
+        None
     } else {
-        load
+        Some(place)
     }
 }
 
-// Open loads may see these stores from now on, which lie at so many addresses.
-pub(crate) fn show_stores(loads: &mut [OpenByte], added: &[StoreByte], from: u64, length: usize)
-    requires { AreWithin from length added.now }
-    ensures { loads.new ≡ map (after_stores added.now) loads.old }
-{
-    for byte in loads.iter_mut() {
-        *byte = shown(*byte, added, from, length);
-    }
-}
-
-// No load is open under this number from now on.
-pub(crate) fn end_load(loads: &mut Vec<OpenByte>, number: u64)
-    ensures { loads.new.items ≡ filter (λ o. not (is_open_of number o)) loads.old.items }
-{
-    loads.retain(|load| !is_open_of(load, number));
-}
-
-// The bytes of the store that is open under this number.
+// The parts of the store that is open under this number.
+#[tactic(auto, using(crate::proofs::Pieces::filter_open))]
 pub(crate) fn open_store(
     alloc: Global,
-    stores: &[StoreByte],
+    stores: &[StorePart],
     number: u64,
-) -> Result<Vec<StoreByte>, AllocError>
-    ensures { IfOk result (λ v. v.items ≡ filter (is_open number) stores.now) }
+) -> Result<Vec<StorePart>, AllocError>
+    ensures { IfOk result (λ v. parts_bytes v.items ≡ filter (is_open number) (parts_bytes stores.now)) }
+{
+    open_parts(alloc, stores, number)
+}
+
+fn open_parts(
+    alloc: Global,
+    stores: &[StorePart],
+    number: u64,
+) -> Result<Vec<StorePart>, AllocError>
+    ensures { IfOk result (λ v. v.items ≡ filter (is_open_part number) stores.now) }
 {
     stores
         .iter()
-        .filter(|store| is_open(store, number))
+        .filter(|part| is_open_part(part, number))
         .copied()
         .collect(alloc)
 }
 
 // No store is open under this number from now on.
-pub(crate) fn end_store(stores: &mut Vec<StoreByte>, number: u64)
-    ensures { stores.new.items ≡ filter (λ s. not (is_open number s)) stores.old.items }
+#[tactic(auto, using(crate::proofs::Pieces::filter_others))]
+pub(crate) fn end_store(stores: &mut Vec<StorePart>, number: u64)
+    ensures { parts_bytes stores.new.items ≡ filter (λ s. not (is_open number s)) (parts_bytes stores.old.items) }
 {
-    stores.retain(|store| !is_open(store, number));
+    end_parts(stores, number);
+}
+
+fn end_parts(stores: &mut Vec<StorePart>, number: u64)
+    ensures { stores.new.items ≡ filter (λ p. not (is_open_part number p)) stores.old.items }
+{
+    stores.retain(|part| !is_open_part(part, number));
 }

@@ -7,15 +7,15 @@ ghost use Rattle.memory_histories.specs.Windows.{Windows, opening, is_open, stor
 ghost use Rattle.memory_histories.specs.Regular.{fault, is_inside, wrong_byte, load_request_fault, load_response_fault, store_request_fault, store_response_fault};
 ghost use Rattle.memory_histories.specs.Kept.{opened_at, after_stores, answered_after, kept_after, kept_fault, kept_step, may_have, is_open_of, is_open_at, StandsFor};
 ghost use Rattle.memory_histories.specs.Shown.{kept, KeptFaultIs, StepFaultIs, IsSetOf};
+ghost use Rattle.memory_histories.specs.Parts.{IsOnly};
 
-use crate::answered::{KeptUnit, changes, put_changes};
+use crate::answered::{KeptUnit, answer_part, changes, put_changes};
 use crate::events::{HistoryEvent, HistoryFault, MAX_LENGTH, Rest, StepFault};
-use crate::kept::{
-    OpenByte, add_load, end_load, end_store, is_open_of, length_of, open_byte, open_store,
-    show_stores, stores_within, wrong_place,
-};
+use crate::kept::{add_store, end_store, only_part, open_load, open_store};
+use crate::loads::{OpenLoad, end_load, has_open_load, load_response_fault, open_set};
+use crate::parts::{MAX_PARTS, StorePart, has_open};
 use crate::sets::ByteSet;
-use crate::windows::{StoreByte, add_store, has_enabled, is_inside, is_open};
+use crate::windows::{has_enabled, is_inside};
 use std::alloc::{AllocError, Global};
 use std::collections::HashMap;
 
@@ -30,9 +30,9 @@ pub struct RegularMemory {
     image: Vec<u8>,
     rest: Rest,
     moment: u64,
-    stores: Vec<StoreByte>,
+    stores: Vec<StorePart>,
     units: HashMap<u64, KeptUnit>,
-    loads: Vec<OpenByte>,
+    loads: Vec<OpenLoad>,
 }
 
 #[tactic(auto, unfolding(crate::specs::Shown::kept))]
@@ -111,38 +111,27 @@ impl RegularMemory {
     fn has_open_load(&self, number: u64) -> bool
         ensures { result ≡ list_any (is_open_of number) (kept self.now).open_bytes }
     {
-        self.loads.iter().any(|load| is_open_of(load, number))
+        has_open_load(self.loads.as_slice(), number)
     }
 
     // Whether a store is open under this number.
     fn has_open_store(&self, number: u64) -> bool
         ensures { result ≡ list_any (is_open number) (kept self.now).stores }
     {
-        self.stores.iter().any(|store| is_open(store, number))
+        has_open(self.stores.as_slice(), number)
     }
 
     // Why the load that is open under this number may not be answered with these bytes.
     fn load_response_fault(&self, number: u64, bytes: &[u8]) -> Option<HistoryFault>
         ensures { result ≡ load_response_fault may_have (filter (is_open_of number) (kept self.now).open_bytes) bytes.now }
     {
-        let loads = self.loads.as_slice();
-        let length = length_of(loads, number);
-        if length == 0 {
-            Some(HistoryFault::NotOpen)
-        } else if length == bytes.len() {
-            wrong_byte(wrong_place(loads, number, bytes))
-        } else {
-            Some(HistoryFault::WrongLength)
-        }
+        load_response_fault(self.loads.as_slice(), number, bytes)
     }
 
     fn kept_set(&self, number: u64, address: u64) -> Option<ByteSet>
         ensures { result ≡ option_map (λ o. o.may) (find (is_open_at number address) (kept self.now).open_bytes) }
     {
-        match open_byte(self.loads.as_slice(), number, address) {
-            None => None,
-            Some(load) => Some(load.may),
-        }
+        open_set(self.loads.as_slice(), number, address)
     }
 
     fn kept_step(&mut self, event: HistoryEvent) -> Result<(), StepFault>
@@ -193,22 +182,14 @@ impl RegularMemory {
         ensures err { OnErr result (kept self.new ≡ kept self.old) }
     {
         let alloc = *self.stores.allocator();
-        let stores = stores_within(alloc, self.stores.as_slice(), address, length)?;
-        self.loads.reserve(length)?;
         let memory = (
             self.image.as_slice(),
             self.rest,
-            stores.as_slice(),
+            self.stores.as_slice(),
             &self.units,
         );
-        add_load(
-            &mut self.loads,
-            memory,
-            number,
-            address,
-            length,
-            self.moment,
-        );
+        let load = open_load(alloc, memory, number, address, length, self.moment)?;
+        self.loads.push(load)?;
         Ok(())
     }
 
@@ -224,27 +205,45 @@ impl RegularMemory {
         ensures ok { OnOk result (let added = store_bytes number address bytes.now enables (kept self.old).moment in kept self.new ≡ record (kept self.old) { stores = (kept self.old).stores ++ added; open_bytes = map (after_stores added) (kept self.old).open_bytes }) }
         ensures err { OnErr result (kept self.new ≡ kept self.old) }
     {
-        self.stores.reserve(bytes.len())?;
-        let first = self.stores.len();
+        self.stores.reserve(MAX_PARTS)?;
         add_store(
             &mut self.stores,
+            self.loads.as_mut_slice(),
             number,
             address,
             bytes,
             enables,
             self.moment,
         );
-        show_stores(
-            self.loads.as_mut_slice(),
-            &self.stores[first..],
-            address,
-            bytes.len(),
-        );
         Ok(())
     }
 
     // The store that is open under this number is answered.
     fn answer_store(&mut self, number: u64) -> Result<(), AllocError>
+        ensures ok { OnOk result (let ending = filter (is_open number) (kept self.old).stores in kept self.new ≡ record (kept self.old) { stores = filter (λ s. not (is_open number s)) (kept self.old).stores; answered = λ unit. answered_after (kept self.old).moment ending unit ((kept self.old).answered unit) }) }
+        ensures err { OnErr result (kept self.new ≡ kept self.old) }
+    {
+        match only_part(self.stores.as_slice(), number) {
+            Some(place) => self.answer_part(number, place),
+            None => self.answer_parts(number),
+        }
+    }
+
+    // The same, if its only part stands at this place.
+    fn answer_part(&mut self, number: u64, place: usize) -> Result<(), AllocError>
+        requires { IsOnly number self.old.stores.items place }
+        ensures ok { OnOk result (let ending = filter (is_open number) (kept self.old).stores in kept self.new ≡ record (kept self.old) { stores = filter (λ s. not (is_open number s)) (kept self.old).stores; answered = λ unit. answered_after (kept self.old).moment ending unit ((kept self.old).answered unit) }) }
+        ensures err { OnErr result (kept self.new ≡ kept self.old) }
+    {
+        let alloc = *self.stores.allocator();
+        let part = self.stores[place];
+        answer_part(alloc, &mut self.units, &part, self.moment)?;
+        self.stores.remove(place);
+        Ok(())
+    }
+
+    // The same, however many parts it has.
+    fn answer_parts(&mut self, number: u64) -> Result<(), AllocError>
         ensures ok { OnOk result (let ending = filter (is_open number) (kept self.old).stores in kept self.new ≡ record (kept self.old) { stores = filter (λ s. not (is_open number s)) (kept self.old).stores; answered = λ unit. answered_after (kept self.old).moment ending unit ((kept self.old).answered unit) }) }
         ensures err { OnErr result (kept self.new ≡ kept self.old) }
     {

@@ -1,6 +1,6 @@
 //! Sets of bytes.
 
-ghost use Rattle.std.specs.Prelude.{◌≡◌};
+ghost use Rattle.std.specs.Prelude.{◌≡◌, nat_lt, if◌then◌else◌};
 ghost use Rattle.memory_histories.specs.Sets.{has, with_byte, no_bytes, all_bytes};
 
 /// A set of bytes, as what a load may return.
@@ -30,29 +30,34 @@ impl ByteSet {
     }
 
     /// Whether this byte is in the set.
+    #[tactic(auto, using(crate::proofs::Halves::in_half))]
     pub fn contains(self, byte: u8) -> bool
         ensures { result ≡ has self byte }
     {
-        if byte < 128 {
-            (self.low >> byte) % 2 == 1
-        } else {
-            (self.high >> (byte - 128)) % 2 == 1
-        }
+        (self.half(byte) >> (byte % 128)) % 2 == 1
+    }
+
+    // The half that a byte lies in.
+    fn half(self, byte: u8) -> u128
+        ensures { result ≡ (if nat_lt byte 128 then self.low else self.high) }
+    {
+        if byte < 128 { self.low } else { self.high }
     }
 
     /// The set with this byte.
     pub fn with(self, byte: u8) -> ByteSet
         ensures { result ≡ with_byte self byte }
     {
+        let bit: u128 = 1 << (byte % 128);
         if byte < 128 {
             ByteSet {
-                low: self.low | 1 << byte,
+                low: self.low | bit,
                 high: self.high,
             }
         } else {
             ByteSet {
                 low: self.low,
-                high: self.high | 1 << (byte - 128),
+                high: self.high | bit,
             }
         }
     }

@@ -58,13 +58,6 @@ pub(crate) fn has_enabled(bytes: &[u8], enables: u64) -> bool
     false
 }
 
-// Whether a byte's store is open, under this number.
-pub(crate) fn is_open(store: &StoreByte, number: u64) -> bool
-    ensures { result ≡ is_open number store.now }
-{
-    store.ended.is_none() && store.number == number
-}
-
 /// Whether memory may have had the byte at this address before the first store: it is the image's, or the one
 /// beyond the image.
 pub fn is_initial(image: &[u8], rest: Rest, address: u64, byte: u8) -> bool

@@ -5,7 +5,7 @@ use Rattle.flat_model.specs.Flat.{number}
 use Rattle.flat_model.specs.declared.Answer.{Answer}
 use Rattle.flat_model.specs.declared.Answer.TheVariants.{Refused}
 use Rattle.named_fields.specs.Formats.{Named, named, absent, counted, counted_if, worded, alone_in}
-use Rattle.named_fields.specs.declared.figures.Figure.TheVariants.{OfWord, OfEvent, OfAnswer}
+use Rattle.named_fields.specs.declared.figures.Figure.TheVariants.{Truth, OfWord, OfEvent, OfAnswer}
 use Rattle.named_fields.specs.declared.format.Format.{Format}
 use Rattle.run_reasons.specs.Texts.{explanation_text}
 use Rattle.run_reasons.specs.declared.explain.Explanation.{Explanation}
@@ -114,6 +114,12 @@ abbrev pub words_named : Option WrongWord → List Named
 words_named None = absent (codes "owed") ∷ absent (codes "got") ∷ []
 words_named (Some wrong) = named (codes "owed") (OfWord wrong.load.word) ∷ named (codes "got") (OfWord wrong.got) ∷ []
 
+-- whether the word that came stood there at some moment since the load was accepted: then the run with this line is an atomic
+-- history
+abbrev pub atomic_named : Option WrongWord → Named
+atomic_named None = absent (codes "atomic")
+atomic_named (Some wrong) = named (codes "atomic") (Truth wrong.stood_since)
+
 -- where a byte comes from that isn't the one that is owed
 abbrev pub origins_named : BytePlace → ByteOrigins → List Named
 origins_named First o =
@@ -145,7 +151,8 @@ front_named mismatch why = pair_named mismatch ++ (about_named why ++ words_name
 -- what became of a recorded run
 unfoldable pub explanation_named : Explanation → List Named
 explanation_named e =
-    ending_named e ++ (front_named (mismatch_in e) (reason_in e) ++ bytes_named (wrong_in (reason_in e)))
+    ending_named e
+    ++ (front_named (mismatch_in e) (reason_in e) ++ (bytes_named (wrong_in (reason_in e)) ++ atomic_named (wrong_in (reason_in e)) ∷ []))
 
 unfoldable pub explanation_in : Format → Explanation → List ℕ
 explanation_in format e = alone_in format (explanation_text e) (explanation_named e)

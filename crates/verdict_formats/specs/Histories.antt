@@ -1,12 +1,13 @@
 -- What became of a history, by names.
-use Rattle.std.specs.Prelude.{ℕ, Option, Some, None, List, [], ◌∷◌, ◌++◌, codes}
+use Rattle.std.specs.Prelude.{ℕ, Bool, true, false, Option, Some, None, List, [], ◌∷◌, ◌++◌, codes}
 use Rattle.atomic_histories.specs.Judge.{bytes_of}
-use Rattle.named_fields.specs.Formats.{Named, named, absent, counted, counted_if, worded, bytes, alone_in}
+use Rattle.named_fields.specs.Formats.{Named, named, absent, counted, counted_if, worded, written, bytes, alone_in}
 use Rattle.named_fields.specs.declared.figures.Figure.TheVariants.{OfByte}
 use Rattle.named_fields.specs.declared.format.Format.{Format}
-use Rattle.history_text.specs.Answers.{bytes_in_set, law_text, kind_text, end_text}
+use Rattle.history_text.specs.Answers.{bytes_in_set, alternatives_text, law_text, kind_text, end_text}
 use Rattle.history_text.specs.Choice.{name_of}
 use Rattle.history_text.specs.declared.answers.Refusal.{Refusal}
+use Rattle.history_text.specs.declared.answers.OverwrittenByte.{OverwrittenByte}
 use Rattle.history_text.specs.declared.answers.RefusalCause.{RefusalCause}
 use Rattle.history_text.specs.declared.answers.RefusalCause.TheVariants.{OutOfRange, NoByteEnabled, NumberInUse, NotOpen, WrongLength, WrongByte, NoMoment}
 use Rattle.history_text.specs.declared.answers.HistoryEnd.{HistoryEnd}
@@ -68,8 +69,8 @@ cause_name NoByteEnabled = codes "no_byte_enabled"
 cause_name NumberInUse = codes "number_in_use"
 cause_name NotOpen = codes "not_open"
 cause_name (WrongLength requested returned) = codes "wrong_length"
-cause_name (WrongByte address returned allowed) = codes "wrong_byte"
-cause_name (NoMoment address) = codes "no_moment"
+cause_name (WrongByte address returned allowed sources overwritten) = codes "wrong_byte"
+cause_name (NoMoment address overwritten) = codes "no_moment"
 
 abbrev pub cause_named : Option RefusalCause → Named
 cause_named None = absent (codes "cause")
@@ -77,8 +78,8 @@ cause_named (Some cause) = worded (codes "cause") (cause_name cause)
 
 abbrev pub cause_address : RefusalCause → Option ℕ
 cause_address (OutOfRange address length) = Some address
-cause_address (WrongByte address returned allowed) = Some address
-cause_address (NoMoment address) = Some address
+cause_address (WrongByte address returned allowed sources overwritten) = Some address
+cause_address (NoMoment address overwritten) = Some address
 cause_address cause = None
 
 -- where the operation that is refused begins, or the byte or the unit lies of which that is told, or that it can't be told
@@ -102,15 +103,15 @@ returned_length_in cause = None
 
 -- the first byte that a load may not return, and those that it may
 abbrev pub returned_named : Option RefusalCause → Named
-returned_named (Some (WrongByte address returned allowed)) = named (codes "returned") (OfByte returned)
+returned_named (Some (WrongByte address returned allowed sources overwritten)) = named (codes "returned") (OfByte returned)
 returned_named cause = absent (codes "returned")
 
 abbrev pub allowed_in : Option RefusalCause → List ℕ
-allowed_in (Some (WrongByte address returned allowed)) = bytes_in_set allowed
+allowed_in (Some (WrongByte address returned allowed sources overwritten)) = bytes_in_set allowed
 allowed_in cause = []
 
 abbrev pub may_named : Option RefusalCause → Named
-may_named (Some (WrongByte address returned allowed)) = bytes (codes "may") (bytes_in_set allowed)
+may_named (Some (WrongByte address returned allowed sources overwritten)) = bytes (codes "may") (bytes_in_set allowed)
 may_named cause = absent (codes "may")
 
 abbrev pub why_named : Option ℕ → Option RefusalCause → List Named
@@ -119,11 +120,51 @@ why_named address cause =
     ∷ counted_if (codes "requested") (requested_in cause) ∷ counted_if (codes "returned_length") (returned_length_in cause)
     ∷ returned_named cause ∷ may_named cause ∷ []
 
+-- whether that is told
+abbrev pub is_wrong_byte : Option RefusalCause → Bool
+is_wrong_byte (Some (WrongByte address returned allowed sources overwritten)) = true
+is_wrong_byte cause = false
+
+abbrev pub may_told : Bool → List ℕ → Named
+may_told true allowed = bytes (codes "may") allowed
+may_told false allowed = absent (codes "may")
+
+abbrev pub sources_told : Bool → List ℕ → Named
+sources_told true sources = written (codes "may_from") sources
+sources_told false sources = absent (codes "may_from")
+
+-- where those bytes come from, in the words of the text
+abbrev pub sources_in : Option RefusalCause → List ℕ
+sources_in (Some (WrongByte address returned allowed sources overwritten)) = alternatives_text sources.items
+sources_in cause = []
+
+abbrev pub sources_named : Option RefusalCause → Named
+sources_named (Some (WrongByte address returned allowed sources overwritten)) =
+    written (codes "may_from") (alternatives_text sources.items)
+sources_named cause = absent (codes "may_from")
+
+-- who overwrote a byte that came: its address, and the store's number
+abbrev pub overwritten_in : Option RefusalCause → Option OverwrittenByte
+overwritten_in (Some (WrongByte address returned allowed sources overwritten)) = overwritten
+overwritten_in (Some (NoMoment address overwritten)) = overwritten
+overwritten_in cause = None
+
+abbrev pub overwritten_named : Option OverwrittenByte → List Named
+overwritten_named None =
+    absent (codes "overwritten") ∷ absent (codes "overwritten_address") ∷ absent (codes "overwritten_by") ∷ []
+overwritten_named (Some o) =
+    named (codes "overwritten") (OfByte o.byte) ∷ counted (codes "overwritten_address") o.address
+    ∷ counted (codes "overwritten_by") o.number ∷ []
+
+abbrev pub stores_named : Option RefusalCause → List Named
+stores_named cause = sources_named cause ∷ overwritten_named (overwritten_in cause)
+
 -- ---- the whole
 
 unfoldable pub history_named : HistoryLaw → HistoryEnd → List Named
 history_named law end =
-    end_named law end ++ (operation_named (refusal_in end) ++ why_named (address_in end) (cause_in (refusal_in end)))
+    end_named law end ++ (operation_named (refusal_in end)
+    ++ (why_named (address_in end) (cause_in (refusal_in end)) ++ stores_named (cause_in (refusal_in end))))
 
 unfoldable pub history_in : Format → HistoryLaw → HistoryEnd → List ℕ
 history_in format law end = alone_in format (end_text (name_of law) end) (history_named law end)

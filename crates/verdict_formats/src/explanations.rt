@@ -199,6 +199,19 @@ fn words_fields(wrong: Option<WrongWord>) -> [Field<'static>; 2]
     }
 }
 
+// Whether the word that came stood there since the load was accepted.
+fn atomic_field(wrong: Option<WrongWord>) -> Field<'static>
+    ensures { said result ≡ explanations.atomic_named wrong }
+{
+    match wrong {
+        None => Field::missing("atomic"),
+        Some(wrong) => Field {
+            name: "atomic",
+            figure: Figure::Truth(wrong.stood_since),
+        },
+    }
+}
+
 // Where a byte comes from.
 fn origins_fields(place: BytePlace, origins: ByteOrigins) -> [Field<'static>; 4]
     ensures { map said result ≡ explanations.origins_named place origins }
@@ -291,15 +304,16 @@ fn front_fields(
 }
 
 // How many fields an explanation has.
-const EXPLANATION_FIELDS: usize = 31;
+const EXPLANATION_FIELDS: usize = 32;
 
 // The fields of an explanation: the verdict with its steps or its line, the event with its answer, the reason, and the
-// words with the lines that their bytes come from.
+// words with the lines that their bytes come from, and whether the run is an atomic history.
 #[tactic(auto, unfolding(crate::specs::Explanations::explanation_named))]
 fn explanation_fields(explanation: &Explanation) -> [Field<'static>; EXPLANATION_FIELDS]
     ensures { map said result ≡ explanations.explanation_named explanation.now }
 {
     let reason = reason_in(explanation);
+    let wrong = wrong_in(reason);
     let [verdict, steps, line] = ending_fields(explanation);
     let [f0, f1, f2, f3, f4, f5, f6, f7, f8, f9, f10, f11] = front_fields(
         mismatch_in(explanation),
@@ -322,10 +336,11 @@ fn explanation_fields(explanation: &Explanation) -> [Field<'static>; EXPLANATION
         b13,
         b14,
         b15,
-    ] = bytes_fields(wrong_in(reason));
+    ] = bytes_fields(wrong);
+    let atomic = atomic_field(wrong);
     [
         verdict, steps, line, f0, f1, f2, f3, f4, f5, f6, f7, f8, f9, f10, f11, b0, b1, b2, b3, b4,
-        b5, b6, b7, b8, b9, b10, b11, b12, b13, b14, b15,
+        b5, b6, b7, b8, b9, b10, b11, b12, b13, b14, b15, atomic,
     ]
 }
 

@@ -1,16 +1,18 @@
 //! What became of a history, in a format.
 
-ghost use Rattle.std.specs.Prelude.{◌≡◌, Some, map};
+ghost use Rattle.std.specs.Prelude.{◌≡◌, map, IfOk, string_bytes};
+ghost use Rattle.std.specs.Option.{option_copied};
 ghost use Rattle.named_fields.specs.Formats.{said};
 ghost use Rattle.history_text.specs.Answers.{bytes_in_set as set_bytes, law_text, kind_text};
 ghost use Rattle.verdict_formats.specs.Histories as histories;
 
 use arrayvec::ArrayVec;
 use history_text::{
-    HistoryEnd, HistoryLaw, HistoryVerdict, LawName, OperationKind, Refusal, RefusalCause,
-    bytes_in_set,
+    Alternatives, HistoryEnd, HistoryLaw, HistoryVerdict, LawName, OperationKind, OverwrittenByte,
+    Refusal, RefusalCause, bytes_in_set,
 };
 use named_fields::{Field, Figure, Format, Object, OneRow};
+use std::alloc::{AllocError, Global};
 use std::fmt;
 
 // ---- the law
@@ -37,8 +39,8 @@ fn unit_of(law: HistoryLaw) -> Option<u64>
 
 // ---- the end
 
-fn verdict_name(end: HistoryEnd) -> &'static str
-    ensures { result.now ≡ histories.verdict_name end }
+fn verdict_name(end: &HistoryEnd) -> &'static str
+    ensures { result.now ≡ histories.verdict_name end.now }
 {
     match end {
         HistoryEnd::OfLaw { .. } => "of_law",
@@ -48,39 +50,39 @@ fn verdict_name(end: HistoryEnd) -> &'static str
 }
 
 // How many events it has.
-fn events_in(end: HistoryEnd) -> Option<u64>
-    ensures { result ≡ histories.events_in end }
+fn events_in(end: &HistoryEnd) -> Option<u64>
+    ensures { result ≡ histories.events_in end.now }
 {
     match end {
-        HistoryEnd::OfLaw { events, .. } => Some(events),
+        HistoryEnd::OfLaw { events, .. } => Some(*events),
         _ => None,
     }
 }
 
 // How many operations are open.
-fn open_in(end: HistoryEnd) -> Option<u64>
-    ensures { result ≡ histories.open_in end }
+fn open_in(end: &HistoryEnd) -> Option<u64>
+    ensures { result ≡ histories.open_in end.now }
 {
     match end {
-        HistoryEnd::OfLaw { open, .. } => Some(open),
+        HistoryEnd::OfLaw { open, .. } => Some(*open),
         _ => None,
     }
 }
 
 // The line at which it ends.
-fn line_in(end: HistoryEnd) -> Option<u64>
-    ensures { result ≡ histories.line_in end }
+fn line_in(end: &HistoryEnd) -> Option<u64>
+    ensures { result ≡ histories.line_in end.now }
 {
     match end {
         HistoryEnd::OfLaw { .. } => None,
         HistoryEnd::Refused(refusal) => Some(refusal.line),
-        HistoryEnd::Undecided { line, .. } => Some(line),
+        HistoryEnd::Undecided { line, .. } => Some(*line),
     }
 }
 
 // The verdict under a law.
-fn end_fields(law: HistoryLaw, end: HistoryEnd) -> [Field<'static>; 6]
-    ensures { map said result ≡ histories.end_named law end }
+fn end_fields(law: HistoryLaw, end: &HistoryEnd) -> [Field<'static>; 6]
+    ensures { map said result ≡ histories.end_named law end.now }
 {
     [
         Field::called("verdict", verdict_name(end)),
@@ -94,8 +96,8 @@ fn end_fields(law: HistoryLaw, end: HistoryEnd) -> [Field<'static>; 6]
 
 // ---- a refusal
 
-fn refusal_in(end: HistoryEnd) -> Option<Refusal>
-    ensures { result ≡ histories.refusal_in end }
+fn refusal_in(end: &HistoryEnd) -> Option<&Refusal>
+    ensures { option_copied result ≡ histories.refusal_in end.now }
 {
     match end {
         HistoryEnd::Refused(refusal) => Some(refusal),
@@ -113,8 +115,8 @@ fn kind_name(kind: OperationKind) -> &'static str
 }
 
 // The operation that is refused.
-fn operation_fields(refusal: Option<Refusal>) -> [Field<'static>; 2]
-    ensures { map said result ≡ histories.operation_named refusal }
+fn operation_fields(refusal: Option<&Refusal>) -> [Field<'static>; 2]
+    ensures { map said result ≡ histories.operation_named (option_copied refusal.entry) }
 {
     match refusal {
         None => [Field::missing("operation"), Field::missing("number")],
@@ -125,17 +127,17 @@ fn operation_fields(refusal: Option<Refusal>) -> [Field<'static>; 2]
     }
 }
 
-fn cause_in(refusal: Option<Refusal>) -> Option<RefusalCause>
-    ensures { result ≡ histories.cause_in refusal }
+fn cause_in(refusal: Option<&Refusal>) -> Option<&RefusalCause>
+    ensures { option_copied result ≡ histories.cause_in (option_copied refusal.entry) }
 {
     match refusal {
         None => None,
-        Some(refusal) => Some(refusal.cause),
+        Some(refusal) => Some(&refusal.cause),
     }
 }
 
-fn cause_name(cause: RefusalCause) -> &'static str
-    ensures { result.now ≡ histories.cause_name cause }
+fn cause_name(cause: &RefusalCause) -> &'static str
+    ensures { result.now ≡ histories.cause_name cause.now }
 {
     match cause {
         RefusalCause::OutOfRange { .. } => "out_of_range",
@@ -148,8 +150,8 @@ fn cause_name(cause: RefusalCause) -> &'static str
     }
 }
 
-fn cause_field(cause: Option<RefusalCause>) -> Field<'static>
-    ensures { said result ≡ histories.cause_named cause }
+fn cause_field(cause: Option<&RefusalCause>) -> Field<'static>
+    ensures { said result ≡ histories.cause_named (option_copied cause.entry) }
 {
     match cause {
         None => Field::missing("cause"),
@@ -157,96 +159,156 @@ fn cause_field(cause: Option<RefusalCause>) -> Field<'static>
     }
 }
 
-fn cause_address(cause: RefusalCause) -> Option<u64>
-    ensures { result ≡ histories.cause_address cause }
+fn cause_address(cause: &RefusalCause) -> Option<u64>
+    ensures { result ≡ histories.cause_address cause.now }
 {
     match cause {
-        RefusalCause::OutOfRange { address, .. } => Some(address),
-        RefusalCause::WrongByte { address, .. } => Some(address),
-        RefusalCause::NoMoment { address } => Some(address),
+        RefusalCause::OutOfRange { address, .. } => Some(*address),
+        RefusalCause::WrongByte { address, .. } => Some(*address),
+        RefusalCause::NoMoment { address, .. } => Some(*address),
         _ => None,
     }
 }
 
 // The address that the verdict is about.
-fn address_in(end: HistoryEnd) -> Option<u64>
-    ensures { result ≡ histories.address_in end }
+fn address_in(end: &HistoryEnd) -> Option<u64>
+    ensures { result ≡ histories.address_in end.now }
 {
     match end {
         HistoryEnd::OfLaw { .. } => None,
-        HistoryEnd::Refused(refusal) => cause_address(refusal.cause),
-        HistoryEnd::Undecided { address, .. } => Some(address),
+        HistoryEnd::Refused(refusal) => cause_address(&refusal.cause),
+        HistoryEnd::Undecided { address, .. } => Some(*address),
     }
 }
 
 // How many bytes an operation out of range has.
-fn length_in(cause: Option<RefusalCause>) -> Option<u64>
-    ensures { result ≡ histories.length_in cause }
+fn length_in(cause: Option<&RefusalCause>) -> Option<u64>
+    ensures { result ≡ histories.length_in (option_copied cause.entry) }
 {
     match cause {
-        Some(RefusalCause::OutOfRange { length, .. }) => Some(length),
+        Some(RefusalCause::OutOfRange { length, .. }) => Some(*length),
         _ => None,
     }
 }
 
 // How many bytes a load asked for.
-fn requested_in(cause: Option<RefusalCause>) -> Option<u64>
-    ensures { result ≡ histories.requested_in cause }
+fn requested_in(cause: Option<&RefusalCause>) -> Option<u64>
+    ensures { result ≡ histories.requested_in (option_copied cause.entry) }
 {
     match cause {
-        Some(RefusalCause::WrongLength { requested, .. }) => Some(requested),
+        Some(RefusalCause::WrongLength { requested, .. }) => Some(*requested),
         _ => None,
     }
 }
 
 // How many it returned.
-fn returned_length_in(cause: Option<RefusalCause>) -> Option<u64>
-    ensures { result ≡ histories.returned_length_in cause }
+fn returned_length_in(cause: Option<&RefusalCause>) -> Option<u64>
+    ensures { result ≡ histories.returned_length_in (option_copied cause.entry) }
 {
     match cause {
-        Some(RefusalCause::WrongLength { returned, .. }) => Some(returned),
+        Some(RefusalCause::WrongLength { returned, .. }) => Some(*returned),
         _ => None,
     }
 }
 
 // The byte that it may not return.
-fn returned_field(cause: Option<RefusalCause>) -> Field<'static>
-    ensures { said result ≡ histories.returned_named cause }
+fn returned_field(cause: Option<&RefusalCause>) -> Field<'static>
+    ensures { said result ≡ histories.returned_named (option_copied cause.entry) }
 {
     match cause {
         Some(RefusalCause::WrongByte { returned, .. }) => Field {
             name: "returned",
-            figure: Figure::OfByte(returned),
+            figure: Figure::OfByte(*returned),
         },
         _ => Field::missing("returned"),
     }
 }
 
 // The bytes that it may return; none where that isn't told.
-fn allowed_in(cause: Option<RefusalCause>) -> ArrayVec<u8, 256>
-    ensures { result.items ≡ histories.allowed_in cause }
+fn allowed_in(cause: Option<&RefusalCause>) -> ArrayVec<u8, 256>
+    ensures { result.items ≡ histories.allowed_in (option_copied cause.entry) }
 {
     match cause {
-        Some(RefusalCause::WrongByte { allowed, .. }) => bytes_in_set(allowed),
+        Some(RefusalCause::WrongByte { allowed, .. }) => bytes_in_set(*allowed),
         _ => ArrayVec::new(),
     }
 }
 
-// The same as a field.
-fn may_field(cause: Option<RefusalCause>, allowed: &[u8]) -> Field<'_>
-    requires { allowed.now ≡ histories.allowed_in cause }
-    ensures { said result ≡ histories.may_named cause }
+// Whether it is told which bytes the load may return.
+fn is_wrong_byte(cause: Option<&RefusalCause>) -> bool
+    ensures { result ≡ histories.is_wrong_byte (option_copied cause.entry) }
 {
     match cause {
-        Some(RefusalCause::WrongByte { .. }) => Field::bytes("may", allowed),
-        _ => Field::missing("may"),
+        Some(RefusalCause::WrongByte { .. }) => true,
+        _ => false,
+    }
+}
+
+// The bytes that it may return as a field, if they are told.
+fn may_field(is_told: bool, allowed: &[u8]) -> Field<'_>
+    ensures { said result ≡ histories.may_told is_told allowed.now }
+{
+    if is_told {
+        Field::bytes("may", allowed)
+    } else {
+        Field::missing("may")
+    }
+}
+
+// Where those bytes come from, in the words of the text.
+fn sources_field(is_told: bool, sources: &[u8]) -> Field<'_>
+    ensures { said result ≡ histories.sources_told is_told sources.now }
+{
+    if is_told {
+        Field::quoted("may_from", sources)
+    } else {
+        Field::missing("may_from")
+    }
+}
+
+// Who overwrote a byte that came.
+fn overwritten_in(cause: Option<&RefusalCause>) -> Option<OverwrittenByte>
+    ensures { result ≡ histories.overwritten_in (option_copied cause.entry) }
+{
+    match cause {
+        Some(RefusalCause::WrongByte { overwritten, .. }) => *overwritten,
+        Some(RefusalCause::NoMoment { overwritten, .. }) => *overwritten,
+        _ => None,
+    }
+}
+
+// The same as fields.
+fn overwritten_fields(overwritten: Option<OverwrittenByte>) -> [Field<'static>; 3]
+    ensures { map said result ≡ histories.overwritten_named overwritten }
+{
+    match overwritten {
+        None => [
+            Field::missing("overwritten"),
+            Field::missing("overwritten_address"),
+            Field::missing("overwritten_by"),
+        ],
+        Some(it) => {
+            let byte = Field {
+                name: "overwritten",
+                figure: Figure::OfByte(it.byte),
+            };
+            [
+                byte,
+                Field::count("overwritten_address", it.address),
+                Field::count("overwritten_by", it.number),
+            ]
+        }
     }
 }
 
 // Why it is refused, and the address that the verdict is about.
-fn why_fields(address: Option<u64>, cause: Option<RefusalCause>, allowed: &[u8]) -> [Field<'_>; 7]
-    requires { allowed.now ≡ histories.allowed_in cause }
-    ensures { map said result ≡ histories.why_named address cause }
+fn why_fields<'a>(
+    address: Option<u64>,
+    cause: Option<&RefusalCause>,
+    allowed: &'a [u8],
+) -> [Field<'a>; 7]
+    requires { allowed.now ≡ histories.allowed_in (option_copied cause) }
+    ensures { map said result ≡ histories.why_named address (option_copied cause.entry) }
 {
     [
         cause_field(cause),
@@ -255,57 +317,117 @@ fn why_fields(address: Option<u64>, cause: Option<RefusalCause>, allowed: &[u8])
         Field::count_if("requested", requested_in(cause)),
         Field::count_if("returned_length", returned_length_in(cause)),
         returned_field(cause),
-        may_field(cause, allowed),
+        may_field(is_wrong_byte(cause), allowed),
+    ]
+}
+
+// Which stores are concerned.
+fn store_fields<'a>(cause: Option<&RefusalCause>, sources: &'a [u8]) -> [Field<'a>; 4]
+    requires { sources.now ≡ histories.sources_in (option_copied cause) }
+    ensures { map said result ≡ histories.stores_named (option_copied cause.entry) }
+{
+    let [byte, address, by] = overwritten_fields(overwritten_in(cause));
+    [
+        sources_field(is_wrong_byte(cause), sources),
+        byte,
+        address,
+        by,
     ]
 }
 
 // ---- the whole
 
 // How many fields the verdict of a history has.
-const HISTORY_FIELDS: usize = 15;
+const HISTORY_FIELDS: usize = 19;
 
 // The fields of a verdict.
 #[tactic(auto, unfolding(crate::specs::Histories::history_named))]
-fn history_fields(law: HistoryLaw, end: HistoryEnd, allowed: &[u8]) -> [Field<'_>; HISTORY_FIELDS]
-    requires { allowed.now ≡ histories.allowed_in (histories.cause_in (histories.refusal_in end)) }
-    ensures { map said result ≡ histories.history_named law end }
+fn history_fields<'a>(
+    law: HistoryLaw,
+    end: &HistoryEnd,
+    allowed: &'a [u8],
+    sources: &'a [u8],
+) -> [Field<'a>; HISTORY_FIELDS]
+    requires allowed { allowed.now ≡ histories.allowed_in (histories.cause_in (histories.refusal_in end.now)) }
+    requires sources { sources.now ≡ histories.sources_in (histories.cause_in (histories.refusal_in end.now)) }
+    ensures { map said result ≡ histories.history_named law end.now }
 {
     let refusal = refusal_in(end);
+    let cause = cause_in(refusal);
     let [verdict, name, unit, events, open, line] = end_fields(law, end);
     let [operation, number] = operation_fields(refusal);
-    let [c0, c1, c2, c3, c4, c5, c6] = why_fields(address_in(end), cause_in(refusal), allowed);
+    let [c0, c1, c2, c3, c4, c5, c6] = why_fields(address_in(end), cause, allowed);
+    let [s0, s1, s2, s3] = store_fields(cause, sources);
     [
-        verdict, name, unit, events, open, line, operation, number, c0, c1, c2, c3, c4, c5, c6,
+        verdict, name, unit, events, open, line, operation, number, c0, c1, c2, c3, c4, c5, c6, s0,
+        s1, s2, s3,
     ]
 }
 
-/// What became of a history under a law, in a format.
-#[derive(Clone, Copy)]
-pub struct HistoryIn {
-    /// How it is written.
-    pub format: Format,
-    /// The law that it was judged by.
-    pub law: HistoryLaw,
-    /// What became of it.
-    pub end: HistoryEnd,
+// Where the bytes come from that a load may return, in the words of the text; nothing where that isn't told.
+fn sources_in(alloc: Global, cause: Option<&RefusalCause>) -> Result<String, AllocError>
+    ensures { IfOk result (λ text. string_bytes text ≡ histories.sources_in (option_copied cause.entry)) }
+{
+    match cause {
+        Some(RefusalCause::WrongByte { sources, .. }) => {
+            let alternatives = Alternatives(sources.as_slice());
+            format!(in alloc; "{alternatives}")
+        }
+        _ => Ok(String::new(alloc)),
+    }
 }
 
-impl fmt::Display for HistoryIn {
-    ghost output = { λ it. Some (histories.history_in it.format it.law it.end) };
-
-    #[tactic(auto, unfolding(crate::specs::Histories::history_in, named_fields::specs::Formats::alone_in))]
-    fn fmt<W: fmt::Write>(&self, f: &mut fmt::Formatter<W>) -> fmt::Result {
-        let HistoryIn { format, law, end } = *self;
-        let verdict = HistoryVerdict {
-            law: law.name(),
-            end,
-        };
-        let allowed = allowed_in(cause_in(refusal_in(end)));
-        let fields = history_fields(law, end, allowed.as_slice());
-        match format {
-            Format::Text => write!(f, "{verdict}"),
-            Format::Csv => write!(f, "{}", OneRow(&fields)),
-            Format::Json => write!(f, "{}", Object(&fields)),
+// What became of a history, with the bytes that a load may return and where they come from.
+#[tactic(auto, unfolding(crate::specs::Histories::history_in, named_fields::specs::Formats::alone_in))]
+fn written_in<'a>(
+    alloc: Global,
+    format: Format,
+    law: HistoryLaw,
+    end: &HistoryEnd,
+    allowed: &'a [u8],
+    sources: &'a [u8],
+) -> Result<String, AllocError>
+    requires allowed { allowed.now ≡ histories.allowed_in (histories.cause_in (histories.refusal_in end.now)) }
+    requires sources { sources.now ≡ histories.sources_in (histories.cause_in (histories.refusal_in end.now)) }
+    ensures { IfOk result (λ text. string_bytes text ≡ histories.history_in format law end.now) }
+{
+    let fields = history_fields(law, end, allowed, sources);
+    match format {
+        Format::Text => {
+            let law = law.name();
+            let verdict = HistoryVerdict { law, end };
+            format!(in alloc; "{verdict}")
+        }
+        Format::Csv => {
+            let row = OneRow(&fields);
+            format!(in alloc; "{row}")
+        }
+        Format::Json => {
+            let object = Object(&fields);
+            format!(in alloc; "{object}")
         }
     }
+}
+
+/// What became of a history under a law, in a format, with no line feed at its end. `AllocError` says that there was too
+/// little memory.
+pub fn history_in(
+    alloc: Global,
+    format: Format,
+    law: HistoryLaw,
+    end: &HistoryEnd,
+) -> Result<String, AllocError>
+    ensures { IfOk result (λ text. string_bytes text ≡ histories.history_in format law end.now) }
+{
+    let cause = cause_in(refusal_in(end));
+    let allowed = allowed_in(cause);
+    let sources = sources_in(alloc, cause)?;
+    written_in(
+        alloc,
+        format,
+        law,
+        end,
+        allowed.as_slice(),
+        sources.as_bytes(),
+    )
 }

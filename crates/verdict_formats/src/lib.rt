@@ -1,7 +1,7 @@
 //! What became of a recorded run and of a history, for other programs to read: as a table of one row (CSV) and as an
 //! object (JSON).
 //!
-//! [`ExplanationIn`] writes why a recorded run is none of flat memory, and [`HistoryIn`] what became of a history, each in a
+//! [`ExplanationIn`] writes why a recorded run is none of flat memory, and [`history_in`] what became of a history, each in a
 //! [`Format`](named_fields::Format) and without its line's end. The text is the one that people read, and the fields say what
 //! it says.
 #![tactic(auto)]
@@ -11,4 +11,4 @@ mod histories;
 mod origins;
 
 pub use explanations::ExplanationIn;
-pub use histories::HistoryIn;
+pub use histories::history_in;

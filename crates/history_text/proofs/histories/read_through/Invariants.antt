@@ -1,13 +1,14 @@
 use Rattle.std.proofs.Common.{ℕ, List, []}
 use Rattle.trace_text.specs.Streams.{Came, Moves}
 use Rattle.history_text.specs.Histories.{HasRead, bytes_left}
+use Rattle.history_text.specs.Told.{Begin}
 use Rattle.history_text.proofs.histories.read_through.Given as goal
 
 abbrev pub invariant-pieces : goal.invariant-pieces
-invariant-pieces g l = (start : g.row.J.Denot)
-    → HasRead g.J.HistoryJudge.took g.J.HistoryJudge.law start [] [] l.fn.lines.judged.judge l.fn.lines.judged.counts l.fn.lines.judged.loads.items l.fn.lines.pending.items l.fn.lines.count
+invariant-pieces g l = (start : Begin g.row.J.Denot)
+    → HasRead g.J.HistoryJudge.took g.J.HistoryJudge.law start [] [] l.fn.lines.judged l.fn.lines.pending.items l.fn.lines.count
     → (bytes : List ℕ) × (texts : List (List ℕ)) × Moves (Came g.R.Source.gave) l.fn.reader bytes l.reader
-    × HasRead g.J.HistoryJudge.took g.J.HistoryJudge.law start bytes texts l.lines.judged.judge l.lines.judged.counts l.lines.judged.loads.items l.lines.pending.items l.lines.count
+    × HasRead g.J.HistoryJudge.took g.J.HistoryJudge.law start bytes texts l.lines.judged l.lines.pending.items l.lines.count
 
 abbrev pub decreases-pieces : goal.decreases-pieces
 decreases-pieces g l = bytes_left l.lines.count l.lines.pending.items

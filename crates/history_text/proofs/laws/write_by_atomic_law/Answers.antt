@@ -1,5 +1,8 @@
+use Rattle.std.proofs.Common.{true, false}
 use Rattle.atomic_histories.specs.Judge.{bytes_of}
 use Rattle.history_text.specs.Values.{Writes}
+use Rattle.history_text.specs.Notes.{Telling, telling_of}
+use Rattle.history_text.specs.Told.{told_by}
 use Rattle.history_text.proofs.AtomicRuns.{new_judge, by_image}
 use Rattle.history_text.proofs.laws.write_by_atomic_law.Goals as goal
 
@@ -9,10 +12,14 @@ write_values-requires-clause-begun g c = (new_judge c.in_ok-memory.memory c.in_o
 pub write_values-requires-clause-passes : goal.write_values-requires-clause-passes
 write_values-requires-clause-passes g c = (new_judge c.in_ok-memory.memory c.in_ok-memory.ensures.stands).1
 
+pub write_values-requires-clause-notes : goal.write_values-requires-clause-notes
+write_values-requires-clause-notes g c = (telling_of c.args.image.now c.args.rest (bytes_of c.args.size.0) false, c.in_ok-notes.ensures)
+
 pub returns : goal.returns
 returns g c =
     let e = c.in_ok-memory.ensures in
+    let t : Telling = telling_of c.args.image.now c.args.rest (bytes_of c.args.size.0) false in
     by_image
-    (λ law. Writes g.R.Source.gave g.R.Source.failed g.W.Sink.took g.W.Sink.refused law c.args.reader.now c.write_values.new.reader
-    c.args.writer.now c.write_values.new.writer c.write_values.result)
-    c.in_ok-memory.memory c.args.image.now c.args.rest (bytes_of c.args.size.0) c.args.size.1 e.held e.limit c.write_values.ensures
+    (λ law. Writes g.R.Source.gave g.R.Source.failed g.W.Sink.took g.W.Sink.refused (told_by law t) c.args.reader.now
+    c.write_values.new.reader c.args.writer.now c.write_values.new.writer c.write_values.result)
+    c.in_ok-memory.memory c.args.image.now c.args.rest (bytes_of c.args.size.0) c.args.size.1 e.held e.limit (c.write_values.ensures t c.in_ok-notes.ensures)

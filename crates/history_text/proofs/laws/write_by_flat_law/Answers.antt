@@ -1,4 +1,7 @@
+use Rattle.std.proofs.Common.{true, false}
 use Rattle.history_text.specs.Values.{Writes}
+use Rattle.history_text.specs.Notes.{Telling, telling_of}
+use Rattle.history_text.specs.Told.{told_by}
 use Rattle.history_text.proofs.FlatRuns.{began, by_image}
 use Rattle.history_text.proofs.laws.write_by_flat_law.Goals as goal
 
@@ -8,9 +11,14 @@ write_values-requires-clause-begun g c = (began c.in_ok-memory.memory c.args.ima
 pub write_values-requires-clause-passes : goal.write_values-requires-clause-passes
 write_values-requires-clause-passes g c = (began c.in_ok-memory.memory c.args.image.now c.args.rest c.in_ok-memory.ensures).1
 
+pub write_values-requires-clause-notes : goal.write_values-requires-clause-notes
+write_values-requires-clause-notes g c = (telling_of c.args.image.now c.args.rest 1 true, c.in_ok-notes.ensures)
+
 pub returns : goal.returns
 returns g c =
+    let e = c.in_ok-memory.ensures in
+    let t : Telling = telling_of c.args.image.now c.args.rest 1 true in
     by_image
-    (λ law. Writes g.R.Source.gave g.R.Source.failed g.W.Sink.took g.W.Sink.refused law c.args.reader.now c.write_values.new.reader
-    c.args.writer.now c.write_values.new.writer c.write_values.result)
-    c.in_ok-memory.memory c.args.image.now c.args.rest c.in_ok-memory.ensures c.write_values.ensures
+    (λ law. Writes g.R.Source.gave g.R.Source.failed g.W.Sink.took g.W.Sink.refused (told_by law t) c.args.reader.now
+    c.write_values.new.reader c.args.writer.now c.write_values.new.writer c.write_values.result)
+    c.in_ok-memory.memory c.args.image.now c.args.rest e (c.write_values.ensures t c.in_ok-notes.ensures)

@@ -1,5 +1,6 @@
 use Rattle.std.proofs.Common.{◌≡◌, ◌+◌, ◌∷◌, [], length, length-append, sym, subst, ap, arith}
 use Rattle.history_text.specs.Values.{AreSetsFrom}
+use Rattle.history_text.specs.Told.{law_begun}
 use Rattle.history_text.proofs.Written.{sets_more}
 use Rattle.history_text.proofs.values.sets_of.Goals as goal
 
@@ -15,7 +16,7 @@ loop-place-preserved g c =
     let same : place ≡ 0 + length sets = omega (arith, count) in
     record {
       count = omega (arith, ap length pushed, length-append sets (set ∷ []), count);
-      sets = λ start events s. subst (AreSetsFrom (j.law start) events load 0) (sym pushed)
-          (sets_more (j.law start) events load 0 place sets set (c.loop-place.invariant.sets start events s) same
-          (subst (λ a. (j.law start).returns events load.number a set) c.byte_address.ensures (c.in_ok-set.ensures start events s.taken)));
+      sets = λ start events w s. subst (AreSetsFrom (law_begun j.law start) events load 0) (sym pushed)
+          (sets_more (law_begun j.law start) events load 0 place sets set (c.loop-place.invariant.sets start events w s) same
+          (subst (λ a. (j.law start.judge).returns events load.number a set) c.byte_address.ensures (c.in_ok-set.ensures start.judge events s.taken)));
     }

@@ -1,6 +1,7 @@
 use Rattle.std.proofs.Common.{◌+◌, ◌<◌, ◌≤◌, ◌++◌, ℕ, List, length, take, drop, subst, refl, arith}
 use Rattle.history_text.specs.Histories.{HasRead}
 use Rattle.history_text.specs.Values.{Told, ToldIn}
+use Rattle.history_text.specs.Told.{Begin, law_begun}
 use Rattle.history_text.proofs.LineTexts.{rest_behind}
 use Rattle.history_text.proofs.LinesRead.{read_on, read_all, passed_on}
 use Rattle.history_text.proofs.Written.{told_here, told_more}
@@ -22,13 +23,13 @@ returns-in_err-write_byte-clause-stop g c =
     let lt : i < length bytes = omega arith in
     let why = c.in_err-write_byte.field-0.0 in
     passed_on c.from_residual.result why
-    (λ stop. (start : g.row.J.Denot) (before : List ℕ) (texts : List (List ℕ)) (first : g.row.W.Denot)
-    → HasRead j.took j.law start before texts lines.judged.judge lines.judged.counts lines.judged.loads.items lines.pending.items lines.count
-    → Told s.took (j.law start) first texts c.args.writer.now
-    → ToldIn s.took s.refused (j.law start) first (before ++ bytes) c.write_byte.new.writer stop)
+    (λ stop. (start : Begin g.row.J.Denot) (before : List ℕ) (texts : List (List ℕ)) (first : g.row.W.Denot)
+    → HasRead j.took j.law start before texts lines.judged lines.pending.items lines.count
+    → Told s.took (law_begun j.law start) first texts c.args.writer.now
+    → ToldIn s.took s.refused (law_begun j.law start) first (before ++ bytes) c.write_byte.new.writer stop)
     c.from_residual.ensures.1
     (λ start before texts first h told. (let so_far = c.loop-byte.invariant.read start before texts h in
-    let law = j.law start in
+    let law = law_begun j.law start in
     let here = c.in_err-write_byte.ensures.stop start (before ++ take i bytes) so_far.0 first so_far.1 (so_far.2 first told) in
     subst (λ l. ToldIn s.took s.refused law first l c.write_byte.new.writer why) (rest_behind before bytes i _ lt refl)
     (told_more s.took s.refused law first c.write_byte.new.writer _ why (drop (i + 1) bytes)

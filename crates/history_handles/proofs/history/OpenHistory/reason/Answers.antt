@@ -1,23 +1,24 @@
-use Rattle.std.proofs.Common.{ap, sym, ◌∙◌, ◌≡◌, None, Some}
-use Rattle.std.specs.Prelude.{slice_get}
-use Rattle.history_handles.specs.Why.{load_of, reason_for}
-use Rattle.history_handles.proofs.Whys.{no_byte}
+use Rattle.std.proofs.Common.{◌≡◌, ◌∙◌, ap, sym, Option, Some, None}
+use Rattle.std.specs.Option.{option_and_then}
+use Rattle.history_reasons.specs.Units.{unit_reason}
+use Rattle.history_handles.specs.declared.rows.Operation.{Operation}
+use Rattle.history_handles.specs.Why.{unit_bytes, load_under}
 use Rattle.history_handles.proofs.history.OpenHistory.reason.Goals as goal
-
-pub returns-in_err-byte : goal.returns-in_err-byte
-returns-in_err-byte c s k few =
-    let load = load_of s c.args.number c.args.place in
-    let none : slice_get c.args.bytes.now c.args.place ≡ None = sym c.byte_at.ensures ∙ c.in_err-byte.was in
-    c.from_residual.ensures ∙ sym (ap (reason_for s.seen load) none ∙ no_byte s.seen load)
 
 pub returns-in_err-load : goal.returns-in_err-load
 returns-in_err-load c s k few =
-    let byte = slice_get c.args.bytes.now c.args.place in
-    let none : load_of s c.args.number c.args.place ≡ None = sym (c.load_at.ensures s k few) ∙ c.in_err-load.was in
-    c.from_residual-in_err-load.ensures ∙ sym (ap (λ load. reason_for s.seen load byte) none)
+    let none : load_under s.loads c.args.number ≡ None =
+    sym (c.load_under.ensures ∙ ap (λ loads. load_under loads c.args.number) (c.as_slice.ensures.value ∙ k.loads)) ∙ c.in_err-load.was in
+    c.from_residual.ensures
+    ∙ sym (ap (λ (o : Option Operation). option_and_then (λ x. unit_reason s.seen (unit_bytes s.law) c.args.number x.address c.args.bytes.now
+    c.args.place) o) none)
 
 pub returns : goal.returns
 returns c s k few =
-    let load : load_of s c.args.number c.args.place ≡ Some c.in_ok-load.load = sym (c.load_at.ensures s k few) ∙ c.in_ok-load.was in
-    let byte : slice_get c.args.bytes.now c.args.place ≡ Some c.in_ok-byte.byte = sym c.byte_at.ensures ∙ c.in_ok-byte.was in
-    c.why.ensures.told s.seen (k.log few) ∙ sym (λ i. reason_for s.seen (load i) (byte i))
+    let some : load_under s.loads c.args.number ≡ Some c.in_ok-load.load =
+    sym (c.load_under.ensures ∙ ap (λ loads. load_under loads c.args.number) (c.as_slice.ensures.value ∙ k.loads)) ∙ c.in_ok-load.was in
+    let size = c.unit_bytes.ensures.bytes ∙ ap unit_bytes k.law in
+    c.unit_reason.ensures s.seen (k.log few)
+    ∙ ap (λ n. unit_reason s.seen n c.args.number c.in_ok-load.load.address c.args.bytes.now c.args.place) size
+    ∙ sym (ap (λ (o : Option Operation). option_and_then (λ x. unit_reason s.seen (unit_bytes s.law) c.args.number x.address c.args.bytes.now
+    c.args.place) o) some)

@@ -11,10 +11,11 @@ returns-clause-ok c s k =
     let inside = within s.history event judged.0 in (
       judged.0,
       record {
+        law = room.law;
         judge = judged.1;
         loads = c.note_load.ensures ∙ ap (λ xs. loads_after xs event) room.loads;
         stores = c.note_store.ensures ∙ ap (λ xs. stores_after xs event) room.stores;
         undecided = refl;
-        log = noted c.make_room.new.self.log c.note.new.self s.seen event room.log (λ few. c.note.ensures s.seen few inside);
+        log = noted c.make_room.new.self.log c.note.new.self s.seen event room.log (λ few. c.note.ensures.within s.seen few inside);
       },
     )

@@ -1,6 +1,9 @@
-use Rattle.std.proofs.Common.{ℕ, List, ap, sym, subst}
+use Rattle.std.proofs.Common.{ℕ, List, ◌++◌, ◌∙◌, ap, sym, subst}
+use Rattle.std.specs.Prelude.{codes}
 use Rattle.std.specs.Fmt.{HasWritten}
-use Rattle.history_text.specs.Answers.{cause_text}
+use Rattle.trace_text.specs.Fields.{byte_text}
+use Rattle.history_text.specs.declared.answers.AllowedByte.{AllowedByte}
+use Rattle.history_text.specs.Answers.{address_text, alternatives_text, overwritten_text, cause_text}
 use Rattle.history_text.proofs.answers.RefusalCauseDisplay.fmt.Goals as goal
 
 pub returns-in-OutOfRange-clause-writes : goal.returns-in-OutOfRange-clause-writes
@@ -16,4 +19,7 @@ returns-in-WrongLength-clause-writes g c =
 pub returns-in-WrongByte-clause-writes : goal.returns-in-WrongByte-clause-writes
 returns-in-WrongByte-clause-writes g c =
     let P : List ℕ → Type 0 = λ bs. HasWritten {W = g.row.W.Denot} g.W.Write.write_str_gives c.args.f.now bs c.write-in-WrongByte.new.self in
-    λ plain ok. subst P (ap cause_text (sym c.in-WrongByte.is)) (c.write-in-WrongByte.ensures.writes plain ok)
+    let w = c.in-WrongByte in
+    let Text : List AllowedByte → List ℕ = λ xs. codes "returned " ++ (byte_text w.returned ++ (codes " at " ++ (address_text w.address
+    ++ (codes ", which may be " ++ (alternatives_text xs ++ overwritten_text w.overwritten))))) in
+    λ plain ok. subst P (ap Text c.as_slice.ensures.value ∙ ap cause_text (sym w.is)) (c.write-in-WrongByte.ensures.writes plain ok)

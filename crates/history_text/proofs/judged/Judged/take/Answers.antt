@@ -1,25 +1,21 @@
-use Rattle.std.proofs.Common.{ap, arith}
-use Rattle.history_text.specs.declared.judged.Counts.{Counts}
-use Rattle.history_text.proofs.Counting.{few_counts}
+use Rattle.std.proofs.Common.{refl}
+use Rattle.history_text.proofs.Counting.{stands_noted}
+use Rattle.history_text.proofs.LinesRead.{on_ok, if_err}
 use Rattle.history_text.proofs.judged.Judged.take.Goals as goal
 
-pub note-requires-clause-events : goal.note-requires-clause-events
-note-requires-clause-events g c =
+pub take_noted-requires-clause-begun : goal.take_noted-requires-clause-begun
+take_noted-requires-clause-begun g c =
     let r = c.requires in
-    let few = few_counts r.1 in
-    let same = ap (λ (x : Counts). x.events) r.2.count in
-    omega (arith, same, few.events, r.3)
+    (r.0, r.1, r.2, stands_noted r.3 refl refl refl (c.make_room.ensures.same r.0.telling r.2 r.3.notes), r.4)
 
-pub note-requires-clause-requests : goal.note-requires-clause-requests
-note-requires-clause-requests g c =
-    let r = c.requires in
-    let few = few_counts r.1 in
-    let same = ap (λ (x : Counts). x.requests) r.2.count in
-    omega (arith, same, few.requests, r.3)
+pub returns-clause-ok : goal.returns-clause-ok
+returns-clause-ok g c =
+    on_ok c.take_noted.result _ _
+    (λ ok start events w s few. ok start events w (stands_noted s refl refl refl (c.make_room.ensures.same start.telling w s.notes)) few)
+    c.take_noted.ensures.ok
 
-pub note-requires-clause-responses : goal.note-requires-clause-responses
-note-requires-clause-responses g c =
-    let r = c.requires in
-    let few = few_counts r.1 in
-    let same = ap (λ (x : Counts). x.responses) r.2.count in
-    omega (arith, same, few.responses, r.3)
+pub returns-clause-stop : goal.returns-clause-stop
+returns-clause-stop g c =
+    if_err c.take_noted.result _ _
+    (λ why stops start events w s. stops start events w (stands_noted s refl refl refl (c.make_room.ensures.same start.telling w s.notes)))
+    c.take_noted.ensures.stop

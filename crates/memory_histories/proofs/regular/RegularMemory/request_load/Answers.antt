@@ -1,18 +1,22 @@
-use Rattle.std.proofs.Common.{◌≡◌, nat_eq, ap, ◌∙◌, refl}
+use Rattle.std.proofs.Common.{◌≡◌, ◌++◌, ◌∷◌, [], ◌∙◌, map, nat_eq, ap, refl, append-nil}
 use Rattle.std.specs.HashMap.{get}
-use Rattle.std.specs.List.{filter}
-use Rattle.memory_histories.specs.Kept.{is_within}
+use Rattle.memory_histories.specs.Windows.{load_bytes}
+use Rattle.memory_histories.specs.Kept.{opened_at}
+use Rattle.memory_histories.specs.Parts.{parts_bytes}
+use Rattle.memory_histories.specs.Loads.{load_open, loads_open}
 use Rattle.memory_histories.specs.Shown.{kept, answered_in}
-use Rattle.memory_histories.proofs.Near.{near_load}
+use Rattle.memory_histories.proofs.Opened.{loads-append}
 use Rattle.memory_histories.proofs.regular.RegularMemory.request_load.Goals as goal
 
 pub returns-clause-ok : goal.returns-clause-ok
 unfolding kept
 returns-clause-ok c =
     let m = c.args.self.now in
-    let near = filter (λ s. is_within c.args.address c.args.length s.address) in
-    let bytes : c.as_slice-3.result.now ≡ near m.stores.items = c.as_slice-3.ensures.value
-    ∙ (c.in_ok-stores.ensures ∙ ap near c.as_slice.ensures.value) in
-    let seen = near_load m.image.items m.rest m.stores.items (answered_in (get nat_eq m.units))
-    c.args.number c.args.address c.args.length m.moment in
-    rw (c.add_load.ensures, c.in_ok-reserve.ensures.items, c.as_slice-2.ensures.value, bytes, seen) refl
+    let load = c.in_ok-load.load in
+    let all : loads_open c.push.new.self.items ≡ loads_open m.loads.items
+    ++ map (opened_at c.as_slice.result.now m.rest (parts_bytes c.as_slice-2.result.now) (answered_in (get nat_eq m.units)))
+    (load_bytes c.args.number c.args.address c.args.length m.moment) =
+    ap loads_open c.in_ok-push.ensures.items
+    ∙ (loads-append m.loads.items (load ∷ [])
+    ∙ ap (λ xs. loads_open m.loads.items ++ xs) (append-nil (load_open load) ∙ c.in_ok-load.ensures)) in
+    rw (all, c.as_slice.ensures.value, c.as_slice-2.ensures.value) refl

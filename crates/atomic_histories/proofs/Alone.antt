@@ -1,0 +1,179 @@
+-- The load that is open under a number, at a unit: there is one if it has a byte there, and no other has its number.
+use Rattle.std.proofs.Common.{◌≡◌, ℕ, ◌⊎◌, Bool, true, false, ◌||◌, ◌==◌, List, [], ◌∷◌, ◌++◌, map, filter, Option, Some, None, inl, inr, refl, sym, ap, ◌∙◌, subst, eqb-true}
+use Rattle.std.specs.List.{list_any, find}
+use Rattle.std.proofs.lemmas.Bool.{cases_Bool, and_parts}
+use Rattle.atomic_histories.specs.declared.unit.Operation.{Operation}
+use Rattle.atomic_histories.specs.declared.unit.UnitPlace.{UnitPlace}
+use Rattle.atomic_histories.specs.Operations.{Opened, has_number}
+use Rattle.atomic_histories.specs.Law.{OpenLoad, UnitMemory, is_load}
+use Rattle.atomic_histories.specs.Stands.{Each, One}
+use Rattle.atomic_histories.specs.May.{may_show, lane_of, has_got, got_byte}
+use Rattle.atomic_histories.proofs.Lists.{each_map, each_unmap, each_filter, each_append, each_weaker, one_weaker, one_map, one_unmap, one_filter}
+use Rattle.atomic_histories.proofs.Links.{AreDistinct, load_key, key, is_of, IsLinked}
+
+abbrev Word : Type 0
+Word = List (Option ℕ)
+
+or_parts : (a b : Bool) → (a || b) ≡ false → (a ≡ false) × (b ≡ false)
+or_parts true b h = cc
+or_parts false b h = (refl, h)
+
+-- what holds of the elements that pass a test none passes
+pub each_none : {X : Type 0} (P : X → Type 0) (p : X → Bool) (xs : List X) → list_any p xs ≡ false → Each (λ x. p x ≡ true → P x) xs
+each_none P p [] h = tt
+each_none P p (x ∷ xs) h =
+    let r = or_parts (p x) (list_any p xs) h in (λ t. let y : true ≡ false = sym t ∙ r.0 in cc, each_none P p xs r.1)
+
+none_filtered : {X : Type 0} (p q : X → Bool) (xs : List X) → list_any p xs ≡ false → list_any p (filter q xs) ≡ false
+none_filtered p q [] h = refl
+none_filtered p q (x ∷ xs) h =
+    let r = or_parts (p x) (list_any p xs) h in
+    elim (cases_Bool (q x)) [
+      | inl t ↦ rw t (rw r.0 (none_filtered p q xs r.1))
+      | inr f ↦ rw f (none_filtered p q xs r.1)
+    ]
+
+-- Elements under a number. ----
+
+-- at most one of them passes a test
+abbrev pub IsAlone : {X : Type 0} → (X → Bool) → List X → Type 0
+IsAlone p [] = Unit {0}
+IsAlone p (x ∷ xs) = (p x ≡ true → list_any p xs ≡ false) × IsAlone p xs
+
+alone_operation : (number : ℕ) (os : List Operation) → AreDistinct os → IsAlone (has_number number) os
+alone_operation number [] d = tt
+alone_operation number (x ∷ xs) d =
+    (λ t. subst (λ n. list_any (has_number n) xs ≡ false) (eqb-true x.number number t) d.0, alone_operation number xs d.1)
+
+alone_filtered : {X : Type 0} (p q : X → Bool) (xs : List X) → IsAlone p xs → IsAlone p (filter q xs)
+alone_filtered p q [] a = tt
+alone_filtered p q (x ∷ xs) a = elim (cases_Bool (q x)) [
+  | inl t ↦ rw t (λ u. none_filtered p q xs (a.0 u), alone_filtered p q xs a.1)
+  | inr f ↦ rw f (alone_filtered p q xs a.1)
+]
+
+any_mapped : {X Y : Type 0} (f : X → Y) (p : Y → Bool) (xs : List X) → list_any p (map f xs) ≡ list_any (λ x. p (f x)) xs
+any_mapped f p [] = refl
+any_mapped f p (x ∷ xs) = ap (λ b. p (f x) || b) (any_mapped f p xs)
+
+alone_mapped : {X Y : Type 0} (f : X → Y) (p : Y → Bool) (xs : List X) → IsAlone (λ x. p (f x)) xs → IsAlone p (map f xs)
+alone_mapped f p [] a = tt
+alone_mapped f p (x ∷ xs) a = (λ t. any_mapped f p xs ∙ a.0 t, alone_mapped f p xs a.1)
+
+alone_unmapped : {X Y : Type 0} (f : X → Y) (p : Y → Bool) (xs : List X) → IsAlone p (map f xs) → IsAlone (λ x. p (f x)) xs
+alone_unmapped f p [] a = tt
+alone_unmapped f p (x ∷ xs) a = (λ t. sym (any_mapped f p xs) ∙ a.0 t, alone_unmapped f p xs a.1)
+
+some_same : {X : Type 0} (x y : X) → Some x ≡ Some y → x ≡ y
+some_same x y h = cc
+
+-- of the operations under a number, each is the one that is found
+found_each : (number : ℕ) (os : List Operation) (o : Operation) → IsAlone (has_number number) os → find (has_number number) os ≡ Some o
+    → Each (λ x. has_number number x ≡ true → x ≡ o) os
+found_each number [] o a e = tt
+found_each number (x ∷ xs) o a e = elim (cases_Bool (has_number number x)) [
+  | inl t ↦ (λ u. some_same x o (rw t at e), each_none (λ y. y ≡ o) (has_number number) xs (a.0 t))
+  | inr f ↦ (λ u. let y : true ≡ false = sym u ∙ f in cc, found_each number xs o a.1 (rw f at e))
+]
+
+found_one : (number : ℕ) (os : List Operation) (o : Operation) → find (has_number number) os ≡ Some o
+    → One (λ x. (x ≡ o) × (has_number number x ≡ true)) os
+found_one number [] o e = cc
+found_one number (x ∷ xs) o e = elim (cases_Bool (has_number number x)) [
+  | inl t ↦ inl (some_same x o (rw t at e), t)
+  | inr f ↦ inr (found_one number xs o (rw f at e))
+]
+
+-- Loads under a number. ----
+
+module _ (unit : UnitPlace) (number : ℕ) (m : UnitMemory) (opened : Opened) (link : IsLinked unit m opened)
+    (distinct : AreDistinct opened.loads) (o : Operation) (found : find (has_number number) opened.loads ≡ Some o) where
+  is_numbered : ℕ × ℕ → Bool
+  is_numbered p = p.0 == number
+
+  pub alone : IsAlone (is_load number) m.loads
+  unfolding is_numbered
+  alone =
+      alone_unmapped load_key is_numbered m.loads
+      (subst (IsAlone is_numbered) (sym link.loads)
+      (alone_mapped key is_numbered (filter (is_of unit) opened.loads)
+      (alone_filtered (has_number number) (is_of unit) opened.loads (alone_operation number opened.loads distinct))))
+
+  -- each has the address of the operation
+  pub has_address : Each (λ l. is_load number l ≡ true → l.address ≡ o.address) m.loads
+  unfolding is_numbered
+  has_address =
+      each_unmap load_key (λ p. is_numbered p ≡ true → p.1 ≡ o.address) m.loads
+      (subst (Each (λ p. is_numbered p ≡ true → p.1 ≡ o.address)) (sym link.loads)
+      (each_map key (λ p. is_numbered p ≡ true → p.1 ≡ o.address) (filter (is_of unit) opened.loads)
+      (each_filter (λ x. has_number number x ≡ true → x.address ≡ o.address) (is_of unit) opened.loads
+      (each_weaker (λ x. has_number number x ≡ true → x ≡ o) (λ x. has_number number x ≡ true → x.address ≡ o.address)
+      (λ x f t. ap (λ (y : Operation). y.address) (f t)) opened.loads
+      (found_each number opened.loads o (alone_operation number opened.loads distinct) found)))))
+
+  -- there is one if the operation has a byte at the unit
+  pub is_there : is_of unit o ≡ true → One (λ l. is_load number l ≡ true) m.loads
+  unfolding is_numbered
+  is_there t =
+      one_unmap load_key (λ p. is_numbered p ≡ true) m.loads
+      (subst (One (λ p. is_numbered p ≡ true)) (sym link.loads)
+      (one_map key (λ p. is_numbered p ≡ true) (filter (is_of unit) opened.loads)
+      (one_filter (λ x. has_number number x ≡ true) (is_of unit) opened.loads
+      (one_weaker (λ x. (x ≡ o) × (has_number number x ≡ true)) (λ x. (has_number number x ≡ true) × (is_of unit x ≡ true))
+      (λ x p. (p.1, ap (is_of unit) p.0 ∙ t)) opened.loads (found_one number opened.loads o found)))))
+
+-- What they got. ----
+
+-- each load under a number got this word
+abbrev pub HaveGot : ℕ → Word → List OpenLoad → Type 0
+HaveGot number w ls = Each (λ l. is_load number l ≡ true → l.got ≡ Some w) ls
+
+none_got : (number k b : ℕ) (ls : List OpenLoad) → list_any (is_load number) ls ≡ false → list_any (got_byte number k b) ls ≡ false
+none_got number k b [] h = refl
+none_got number k b (l ∷ ls) h = let r = or_parts (is_load number l) (list_any (is_load number) ls) h in rw r.0 (none_got number k b ls r.1)
+
+or_left : (a b : Bool) → (a || b) ≡ true → b ≡ false → a ≡ true
+or_left true b h f = refl
+or_left false b h f = let y : true ≡ false = sym h ∙ f in cc
+
+word_got : (k b : ℕ) (g : Option Word) → has_got k b g ≡ true → (w : Word) × (g ≡ Some w) × (may_show (lane_of k w) b ≡ true)
+word_got k b None h = cc
+word_got k b (Some w) h = (w, refl, h)
+
+-- the word that shows a byte
+pub shown_word : (number k b : ℕ) (ls : List OpenLoad) → IsAlone (is_load number) ls → list_any (got_byte number k b) ls ≡ true
+    → (w : Word) × (may_show (lane_of k w) b ≡ true) × One (λ l. l.got ≡ Some w) ls × HaveGot number w ls
+shown_word number k b [] a h = cc
+shown_word number k b (l ∷ ls) a h = elim (cases_Bool (is_load number l)) [
+  | inl t ↦
+      let none : list_any (is_load number) ls ≡ false = a.0 t in
+      let got : got_byte number k b l ≡ true = or_left (got_byte number k b l) (list_any (got_byte number k b) ls) h (none_got number k b ls
+      none) in
+      let r = word_got k b l.got (and_parts (is_load number l) (has_got k b l.got) got).1 in
+      (r.0, r.2, inl r.1, (λ u. r.1, each_none (λ x. x.got ≡ Some r.0) (is_load number) ls none))
+  | inr f ↦
+      let r = shown_word number k b ls a.1 (rw f at h) in
+      (r.0, r.1, inr r.2, (λ u. let y : true ≡ false = sym u ∙ f in cc, r.3))
+]
+
+-- the load under a number, and those before and behind it, or there is none
+pub the_load : (number : ℕ) (ls : List OpenLoad) → IsAlone (is_load number) ls
+    → (list_any (is_load number) ls ≡ false)
+    ⊎ ((before : List OpenLoad) × (l : OpenLoad) × (after : List OpenLoad) × (ls ≡ before ++ l ∷ after)
+    × (list_any (is_load number) before ≡ false) × (list_any (is_load number) after ≡ false))
+the_load number [] a = inl refl
+the_load number (l ∷ ls) a = elim (cases_Bool (is_load number l)) [
+  | inl t ↦ inr ([], l, ls, refl, refl, a.0 t)
+  | inr f ↦ elim (the_load number ls a.1) [
+    | inl none ↦ inl (rw f none)
+    | inr r ↦ inr (l ∷ r.0, r.1, r.2, ap (λ x. l ∷ x) r.3, rw f r.4, r.5)
+  ]
+]
+
+pub got_between : (number : ℕ) (w : Word) (before : List OpenLoad) (l : OpenLoad) (after : List OpenLoad)
+    → list_any (is_load number) before ≡ false → list_any (is_load number) after ≡ false → l.got ≡ Some w
+    → HaveGot number w (before ++ l ∷ after)
+got_between number w before l after b a e =
+    each_append (λ x. is_load number x ≡ true → x.got ≡ Some w) before (l ∷ after)
+    (each_none (λ x. x.got ≡ Some w) (is_load number) before b)
+    (λ t. e, each_none (λ x. x.got ≡ Some w) (is_load number) after a)

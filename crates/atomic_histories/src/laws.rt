@@ -1,0 +1,29 @@
+//! Laws over the definitions alone.
+//!
+//! Each function here does nothing; its contract is a law.
+
+ghost use Rattle.std.specs.Prelude.{ℕ, List};
+ghost use Rattle.memory_histories.specs.declared.events.HistoryEvent.{HistoryEvent};
+ghost use Rattle.memory_histories.specs.declared.events.Rest.{Rest};
+ghost use Rattle.atomic_histories.specs.MayLaws.{SetIsOfAnswers, SetsAreOfAnswers, UnitsChooseAlone};
+
+/// What [`may_return`](crate::AtomicMemory::may_return) tells is what the load may return if it ended now:
+/// a byte is in the set at a place exactly if there is an answer, of bytes, that has it there and that
+/// [`step`](crate::AtomicMemory::step) would take now, since the history with this answer is one of the
+/// law. In a unit that was forgotten each byte is.
+pub fn sets_are_of_answers()
+    ensures { (lost : List ℕ) (image : List ℕ) (rest : Rest) (size : ℕ) (history : List HistoryEvent) (number : ℕ) → SetsAreOfAnswers lost image rest size history number }
+{}
+
+/// The same of [`byte_may_return`](crate::AtomicMemory::byte_may_return): a byte is in the set exactly if
+/// such an answer has it for the address. If there is no set, no answer has a byte for the address.
+pub fn set_is_of_answers()
+    ensures { (lost : List ℕ) (image : List ℕ) (rest : Rest) (size : ℕ) (history : List HistoryEvent) (number : ℕ) → SetIsOfAnswers lost image rest size history number }
+{}
+
+/// What a load gets in one unit says nothing of what it gets in another: an answer of the load's length
+/// would be taken exactly if of each unit there is one that would be taken and has the same bytes in this
+/// unit. Within a unit the bytes are of one word.
+pub fn units_choose_alone()
+    ensures { (lost : List ℕ) (image : List ℕ) (rest : Rest) (size : ℕ) (history : List HistoryEvent) (number : ℕ) → UnitsChooseAlone lost image rest size history number }
+{}

@@ -1,0 +1,301 @@
+//! The stores of a history as its lines go, to name those that are to blame for a wrong byte.
+
+ghost use Rattle.std.specs.Prelude.{◌≡◌, ◌<◌, ◌++◌, Some, None, OnOk, IfOk, map, slice_get};
+ghost use Rattle.memory_histories.specs.Windows.{Windows};
+ghost use Rattle.atomic_histories.specs.Judge.{bytes_of};
+ghost use Rattle.history_reasons.specs.Log.{HasRoom};
+ghost use Rattle.history_text.specs.Lines.{seen};
+ghost use Rattle.history_text.specs.Answers.{bytes_in_set as set_bytes};
+ghost use Rattle.history_text.specs.Refusals.{IsWrong};
+ghost use Rattle.history_text.specs.Notes.{Telling, telling_of, AreNotesOf, opening_windows, line_then, line_number, source_named, named_with, alternatives_for, sources_of, sources_under, alternatives_of, overwriter_of, overwritten_by, overwritten_of, overwritten_in};
+
+use crate::answers::{AllowedByte, ByteSource, OverwrittenByte, RefusalCause, bytes_in_set};
+use crate::events::OwnedEvent;
+use crate::judged::OpenLoad;
+use atomic_histories::UnitSize;
+use history_reasons::{FoundReason, Reason, Source, StoreLog};
+use memory_histories::{ByteSet, LoadByte, Rest, StoreByte};
+use std::alloc::{AllocError, Global};
+
+/// The stores and the open loads of a history, whose moments are its lines, to say of a wrong byte which stores are
+/// concerned. As many bytes of stores are kept as a [`StoreLog`] does.
+#[derive(Drop)]
+pub struct StoreNotes {
+    alloc: Global,
+    log: StoreLog,
+    unit: UnitSize,
+    at_request: bool,
+}
+
+impl StoreNotes {
+    /// Before the first line: of a memory that begins with this image, and beyond it as `rest` says. In each aligned unit of
+    /// this size an operation takes effect at once, and `at_request` says that it does so at its request, as by the flat law.
+    /// `AllocError` says that there was too little memory: nothing is made.
+    pub fn new(
+        alloc: Global,
+        image: &[u8],
+        rest: Rest,
+        unit: UnitSize,
+        at_request: bool,
+    ) -> Result<StoreNotes, AllocError>
+        ensures { IfOk result (λ n. let t = telling_of image.now rest (bytes_of unit) at_request in
+            AreNotesOf n t (opening_windows t)) }
+    {
+        let log = StoreLog::new(alloc, image, rest)?;
+        Ok(StoreNotes {
+            alloc,
+            log,
+            unit,
+            at_request,
+        })
+    }
+
+    // Makes room for what one line adds. The notes are of the same history after both.
+    pub(crate) fn make_room(&mut self) -> Result<(), AllocError>
+        ensures same { (t : Telling) (w : Windows) → AreNotesOf self.old t w → AreNotesOf self.new t w }
+        ensures room { OnOk result (HasRoom self.new.log) }
+    {
+        self.log.make_room()
+    }
+
+    // A line passes that is no event.
+    pub(crate) fn pass(&mut self)
+        ensures { (t : Telling) (w : Windows) → AreNotesOf self.old t w → w.moment < 18446744073709551615
+            → AreNotesOf self.new t (line_then w None) }
+    {
+        self.log.pass();
+    }
+
+    // Notes an event that was taken.
+    pub(crate) fn note(&mut self, event: &OwnedEvent)
+        requires room { HasRoom self.old.log }
+        ensures { (t : Telling) (w : Windows) → AreNotesOf self.old t w → w.moment < 18446744073709551615
+            → AreNotesOf self.new t (line_then w (Some (seen event.now))) }
+    {
+        self.log.note(event.event());
+    }
+
+    // Why an answer is wrong at a place, if these bytes are allowed there.
+    pub(crate) fn wrong_byte(
+        &self,
+        load: OpenLoad,
+        bytes: &[u8],
+        place: usize,
+        allowed: Option<ByteSet>,
+    ) -> Result<RefusalCause, AllocError>
+        ensures { IfOk result (λ cause. (t : Telling) (w : Windows) → AreNotesOf self.now t w
+            → IsWrong t w load bytes.now place (slice_get bytes.now place) allowed cause) }
+    {
+        let address = load.byte_address(place as u64);
+        let overwritten = self.overwritten(load, bytes, place);
+        let Some(allowed) = allowed else {
+            return Ok(RefusalCause::NoMoment {
+                address,
+                overwritten,
+            });
+        };
+        let Some(returned) = byte_at(bytes, place) else {
+            return Ok(RefusalCause::NotOpen);
+        };
+        let sources = self.alternatives(load.number, address, allowed)?;
+        Ok(RefusalCause::WrongByte {
+            address,
+            returned,
+            allowed,
+            sources,
+            overwritten,
+        })
+    }
+
+    // Of the bytes in a set, which an open load may return at an address, each with what it comes from.
+    pub(crate) fn alternatives(
+        &self,
+        number: u64,
+        address: u64,
+        set: ByteSet,
+    ) -> Result<Vec<AllowedByte>, AllocError>
+        ensures { IfOk result (λ all. (t : Telling) (w : Windows) → AreNotesOf self.now t w
+            → all.items ≡ alternatives_of t w number address (set_bytes set)) }
+    {
+        let bytes = bytes_in_set(set);
+        self.alternatives_among(number, address, bytes.as_slice())
+    }
+
+    // Of these bytes.
+    fn alternatives_among(
+        &self,
+        number: u64,
+        address: u64,
+        bytes: &[u8],
+    ) -> Result<Vec<AllowedByte>, AllocError>
+        ensures { IfOk result (λ all. (t : Telling) (w : Windows) → AreNotesOf self.now t w
+            → all.items ≡ alternatives_of t w number address bytes.now) }
+    {
+        let mut all = Vec::new(self.alloc);
+        for byte in bytes {
+            let sources = self.sources_under(number, address, *byte)?;
+            add_alternatives(&mut all, *byte, sources.as_slice())?;
+        }
+        Ok(all)
+    }
+
+    // Where an open load may get a byte from at an address.
+    fn sources_under(&self, number: u64, address: u64, byte: u8) -> Result<Vec<Source>, AllocError>
+        ensures { IfOk result (λ sources. (t : Telling) (w : Windows) → AreNotesOf self.now t w
+            → sources.items ≡ sources_under t w number address byte) }
+    {
+        match self.log.load_at(number, address) {
+            None => Ok(Vec::new(self.alloc)),
+            Some(load) => self.sources_of(&load, byte),
+        }
+    }
+
+    // Where a load may get a byte from.
+    fn sources_of(&self, load: &LoadByte, byte: u8) -> Result<Vec<Source>, AllocError>
+        ensures { IfOk result (λ sources. (t : Telling) (w : Windows) → AreNotesOf self.now t w
+            → sources.items ≡ sources_of t.at_request w load.now byte) }
+    {
+        match self.at_request {
+            true => self.log.sources_at_request(self.alloc, load, byte),
+            false => self.log.sources(self.alloc, load, byte),
+        }
+    }
+
+    // Of the bytes of an answer from a place on that lie in one unit, the first that the regular law doesn't allow, and
+    // who overwrote it, if it stood there before.
+    pub(crate) fn overwritten(
+        &self,
+        load: OpenLoad,
+        bytes: &[u8],
+        place: usize,
+    ) -> Option<OverwrittenByte>
+        ensures { (t : Telling) (w : Windows) → AreNotesOf self.now t w
+            → result ≡ overwritten_in t w load bytes.now place }
+    {
+        let found = self.log.unit_reason(
+            unit_bytes(self.unit),
+            load.number,
+            load.address,
+            bytes,
+            place,
+        );
+        overwritten_of(load, bytes, found)
+    }
+}
+
+// How many bytes a unit has.
+fn unit_bytes(unit: UnitSize) -> u64
+    ensures bytes { result ≡ bytes_of unit }
+    ensures some { 0 < result }
+{
+    match unit {
+        UnitSize::One => 1,
+        UnitSize::Two => 2,
+        UnitSize::Four => 4,
+        UnitSize::Eight => 8,
+    }
+}
+
+// The line at which a store was requested.
+fn line_number(store: &StoreByte) -> u64
+    ensures { result ≡ line_number store.now }
+{
+    store.began.saturating_add(1)
+}
+
+// A source by its number and line.
+fn source_named(source: &Source) -> ByteSource
+    ensures { result ≡ source_named source.now }
+{
+    match source {
+        Source::Initial => ByteSource::Initial,
+        Source::Store(store) => ByteSource::Store {
+            number: store.number,
+            line: line_number(store),
+        },
+    }
+}
+
+// Adds a byte with each of its sources, or without one if none is known.
+fn add_alternatives(
+    all: &mut Vec<AllowedByte>,
+    byte: u8,
+    sources: &[Source],
+) -> Result<(), AllocError>
+    ensures { OnOk result (all.new.items ≡ all.old.items ++ alternatives_for byte sources.now) }
+{
+    if sources.is_empty() {
+        let source = ByteSource::Unknown;
+        all.push(AllowedByte { byte, source })?;
+        return Ok(());
+    }
+    add_sources(all, byte, sources)
+}
+
+// Adds a byte with each of its sources.
+fn add_sources(all: &mut Vec<AllowedByte>, byte: u8, sources: &[Source]) -> Result<(), AllocError>
+    ensures { OnOk result (all.new.items ≡ all.old.items
+        ++ map (named_with byte) sources.now) }
+{
+    for source in sources {
+        let source = source_named(source);
+        all.push(AllowedByte { byte, source })?;
+    }
+    Ok(())
+}
+
+// The store that overwrote a byte, by the reason why it may not be returned.
+fn overwriter_of(reason: Reason) -> Option<StoreByte>
+    ensures { result ≡ overwriter_of reason }
+{
+    match reason {
+        Reason::NeverThere => None,
+        Reason::InitialOverwritten { by } => Some(by),
+        Reason::StoreOverwritten { stored: _, by } => Some(by),
+    }
+}
+
+// The byte at a place.
+fn byte_at(bytes: &[u8], place: usize) -> Option<u8>
+    ensures { result ≡ slice_get bytes.now place }
+{
+    bytes.get(place).copied()
+}
+
+// The byte of an answer for which a reason was found, and who overwrote it.
+fn overwritten_of(
+    load: OpenLoad,
+    bytes: &[u8],
+    found: Option<FoundReason>,
+) -> Option<OverwrittenByte>
+    ensures { result ≡ overwritten_of load bytes.now found }
+{
+    match found {
+        None => None,
+        Some(found) => {
+            let by = overwriter_of(found.reason);
+            let byte = byte_at(bytes, found.place);
+            overwritten_by(load, found.place, by, byte)
+        }
+    }
+}
+
+// This byte, if there is one and this store overwrote it.
+fn overwritten_by(
+    load: OpenLoad,
+    place: usize,
+    by: Option<StoreByte>,
+    byte: Option<u8>,
+) -> Option<OverwrittenByte>
+    ensures { result ≡ overwritten_by load place by byte }
+{
+    match (by, byte) {
+        (Some(by), Some(byte)) => Some(OverwrittenByte {
+            byte,
+            address: load.byte_address(place as u64),
+            number: by.number,
+        }),
+        (Some(_), None) => None,
+        (None, _) => None,
+    }
+}

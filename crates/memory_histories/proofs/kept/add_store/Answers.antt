@@ -1,0 +1,48 @@
+use Rattle.std.proofs.Common.{◌+◌, ◌++◌, ◌∙◌, map, nat_le, sym, ap, arith, append-nil, refl}
+use Rattle.std.specs.List.{filter}
+use Rattle.memory_histories.specs.Windows.{store_bytes}
+use Rattle.memory_histories.specs.Kept.{unit_of, after_stores}
+use Rattle.memory_histories.specs.Parts.{part_bytes, parts_bytes}
+use Rattle.memory_histories.specs.Loads.{loads_open}
+use Rattle.memory_histories.proofs.Lanes.{store_from, store_whole, store_over}
+use Rattle.memory_histories.proofs.Pieces.{push_part, all_shown_more, none_shown}
+use Rattle.memory_histories.proofs.kept.add_store.Goals as goal
+
+pub loop-unit-init : goal.loop-unit-init
+loop-unit-init c =
+    let whole = store_whole c.args.number c.unit_of-first.result c.args.address c.args.bytes.now c.args.enables c.args.moment
+    c.unit_of-first.ensures in
+    record {
+      stores = rw whole refl;
+      loads = rw whole refl;
+      room = omega arith;
+    }
+
+pub loop-unit-preserved : goal.loop-unit-preserved
+loop-unit-preserved c =
+    let u = c.loop-unit.unit in
+    let all = store_bytes c.args.number c.args.address c.args.bytes.now c.args.enables c.args.moment in
+    let rest = filter (λ s. nat_le (u + 1) (unit_of s.address)) all in
+    let more = store_from c.args.number u c.args.address c.args.bytes.now c.args.enables c.args.moment in
+    let part = c.part_of-part.ensures in
+    record {
+      stores = rw c.push_reserved.ensures.items (push_part c.loop-unit.stores.items c.part_of-part.result rest
+          ∙ (ap (λ xs. parts_bytes c.loop-unit.stores.items ++ (xs ++ rest)) part
+          ∙ (ap (λ xs. parts_bytes c.loop-unit.stores.items ++ xs) (sym more) ∙ c.loop-unit.invariant.stores)));
+      loads = rw c.show_part.ensures (sym (all_shown_more (part_bytes c.part_of-part.result) rest (loads_open c.loop-unit.loads))
+          ∙ (ap (λ xs. map (after_stores (xs ++ rest)) (loads_open c.loop-unit.loads)) part
+          ∙ (ap (λ xs. map (after_stores xs) (loads_open c.loop-unit.loads)) (sym more) ∙ c.loop-unit.invariant.loads)));
+      room = omega arith;
+    }
+
+pub returns-clause-stores : goal.returns-clause-stores
+returns-clause-stores c =
+    let none = store_over c.args.number c.loop-unit.unit c.args.address c.args.bytes.now c.args.enables c.args.moment c.requires.some
+    (omega arith) in
+    sym (append-nil (parts_bytes c.loop-unit.stores.items)) ∙ (rw none at c.loop-unit.invariant.stores)
+
+pub returns-clause-loads : goal.returns-clause-loads
+returns-clause-loads c =
+    let none = store_over c.args.number c.loop-unit.unit c.args.address c.args.bytes.now c.args.enables c.args.moment c.requires.some
+    (omega arith) in
+    sym (none_shown (loads_open c.loop-unit.loads)) ∙ (rw none at c.loop-unit.invariant.loads)

@@ -1,0 +1,223 @@
+//! The open loads with what they may return.
+
+ghost use Rattle.std.specs.Prelude.{◌≡◌, ◌+◌, ◌*◌, ◌<◌, ◌&&◌, IfSome, not, length, map, nat_lt};
+ghost use Rattle.std.specs.List.{filter, find, fold, list_any};
+ghost use Rattle.std.specs.Option.{option_map};
+ghost use Rattle.memory_histories.specs.Sets.{has};
+ghost use Rattle.memory_histories.specs.Regular.{wrong_place, load_response_fault};
+ghost use Rattle.memory_histories.specs.Kept.{after_stores, is_open_of, is_open_at, may_have};
+ghost use Rattle.memory_histories.specs.Parts.{part_bytes};
+ghost use Rattle.memory_histories.specs.Loads.{load_open, loads_open, is_load_of, counted, shown_sets, is_near, response_fault, wrong_in, behind, set_at, first_set_at};
+
+use crate::events::HistoryFault;
+use crate::parts::{StorePart, part_at, with_known};
+use crate::regular::wrong_byte;
+use crate::sets::ByteSet;
+
+/// A load that is open, and of each of its bytes what it may return if it is answered now.
+#[derive(Drop)]
+pub struct OpenLoad {
+    pub(crate) number: u64,
+    pub(crate) address: u64,
+    pub(crate) began: u64,
+    pub(crate) sets: Vec<ByteSet>,
+}
+
+fn is_load_of(load: &OpenLoad, number: u64) -> bool
+    ensures { result ≡ is_load_of number load.now }
+{
+    load.number == number
+}
+
+// Whether a load is open under this number.
+pub(crate) fn has_open_load(loads: &[OpenLoad], number: u64) -> bool
+    ensures { result ≡ list_any (is_open_of number) (loads_open loads.now) }
+{
+    any_load(loads, number)
+}
+
+fn any_load(loads: &[OpenLoad], number: u64) -> bool
+    ensures { result ≡ list_any (λ o. is_load_of number o && nat_lt 0 (length o.sets.items)) loads.now }
+{
+    loads
+        .iter()
+        .any(|load| is_load_of(load, number) && 0 < load.sets.len())
+}
+
+// How many bytes the load that is open under this number has: 0 if there is none.
+fn length_of(loads: &[OpenLoad], number: u64) -> u128
+    ensures { result ≡ fold counted 0 (filter (is_load_of number) loads.now) }
+{
+    loads.iter().filter(|load| is_load_of(load, number)).fold(
+        0,
+        |total: u128, load| total.saturating_add(load.sets.len() as u128),
+    )
+}
+
+// Why the load that has so many bytes may not be answered with so many, of which this is the first wrong one.
+fn response_fault(count: u128, given: u128, place: Option<usize>) -> Option<HistoryFault>
+    ensures { result ≡ response_fault count given place }
+{
+    if count == 0 {
+        Some(HistoryFault::NotOpen)
+    } else if count == given {
+        wrong_byte(place)
+    } else {
+        Some(HistoryFault::WrongLength)
+    }
+}
+
+// Why the load that is open under this number may not be answered with these bytes.
+pub(crate) fn load_response_fault(
+    loads: &[OpenLoad],
+    number: u64,
+    bytes: &[u8],
+) -> Option<HistoryFault>
+    ensures { result ≡ load_response_fault may_have (filter (is_open_of number) (loads_open loads.now)) bytes.now }
+{
+    response_fault(
+        length_of(loads, number),
+        bytes.len() as u128,
+        wrong_place(loads, number, bytes),
+    )
+}
+
+// The first of these bytes that isn't in its set.
+fn first_wrong(sets: &[ByteSet], bytes: &[u8]) -> Option<usize>
+    ensures { result ≡ wrong_place has sets.now bytes.now }
+{
+    sets.iter()
+        .zip(bytes.iter())
+        .position(|(set, byte)| !set.contains(*byte))
+}
+
+// The first of these bytes that a load may not return, if it is open under this number.
+fn wrong_in(load: &OpenLoad, number: u64, bytes: &[u8]) -> Option<usize>
+    ensures place { result ≡ wrong_in number load.now bytes.now }
+    ensures bound { IfSome result (λ place. place < length bytes.now) }
+{
+    if is_load_of(load, number) {
+        first_wrong(load.sets.as_slice(), bytes)
+    } else {
+        None
+    }
+}
+
+// The bytes behind those of a load, if it is open under this number.
+fn behind<'a>(load: &OpenLoad, number: u64, bytes: &'a [u8]) -> &'a [u8]
+    ensures { result.now ≡ behind number load.now bytes.entry.now }
+{
+    if is_load_of(load, number) {
+        &bytes[load.sets.len().min(bytes.len())..]
+    } else {
+        bytes
+    }
+}
+
+// The first of these bytes that the load that is open under this number may not return.
+fn wrong_place(loads: &[OpenLoad], number: u64, bytes: &[u8]) -> Option<usize>
+    ensures { result ≡ wrong_place may_have (filter (is_open_of number) (loads_open loads.now)) bytes.now }
+{
+    let mut rest = bytes;
+    for load in loads {
+        match wrong_in(load, number, rest) {
+            Some(place) => return Some(bytes.len() - rest.len() + place),
+            None => rest = behind(load, number, rest),
+        }
+    }
+    None
+}
+
+// The sets from an address on once a part of a store is requested.
+fn show_sets(sets: &mut [ByteSet], address: u64, part: &StorePart)
+    ensures { sets.new ≡ shown_sets part.now address sets.old }
+{
+    let first = u128::from(address);
+    for (k, set) in sets.iter_mut().enumerate() {
+        *set = with_known(*set, part_at(part, first + k as u128));
+    }
+}
+
+// Whether one of so many bytes from an address on lies in the unit of a part.
+fn is_near(address: u64, length: usize, part: &StorePart) -> bool
+    ensures { result ≡ is_near address length part.now }
+{
+    let first = u128::from(address);
+    let unit = 8 * u128::from(part.unit);
+    unit < first + length as u128 && first < unit + 8
+}
+
+// The same, which looks at the lanes alone if the part is near.
+#[tactic(auto, using(crate::proofs::Opened::far))]
+fn show_near(sets: &mut [ByteSet], address: u64, part: &StorePart)
+    ensures { sets.new ≡ shown_sets part.now address sets.old }
+{
+    if is_near(address, sets.len(), part) {
+        show_sets(sets, address, part);
+    }
+}
+
+fn show_all(sets: &mut Vec<ByteSet>, address: u64, part: &StorePart)
+    ensures { sets.new.items ≡ shown_sets part.now address sets.old.items }
+{
+    show_near(sets.as_mut_slice(), address, part);
+}
+
+// A load may see a part of a store from now on.
+fn show_load(load: &mut OpenLoad, part: &StorePart)
+    ensures { load_open load.new ≡ map (after_stores (part_bytes part.now)) (load_open load.old) }
+{
+    show_all(&mut load.sets, load.address, part);
+}
+
+// Open loads may see a part of a store from now on.
+#[tactic(auto, using(crate::proofs::Opened::one_shown))]
+pub(crate) fn show_part(loads: &mut [OpenLoad], part: &StorePart)
+    ensures { loads_open loads.new ≡ map (after_stores (part_bytes part.now)) (loads_open loads.old) }
+{
+    for load in loads.iter_mut() {
+        show_load(load, part);
+    }
+}
+
+// The set of a load's byte at an address, if it is open under this number.
+fn set_at(load: &OpenLoad, number: u64, address: u64) -> Option<ByteSet>
+    ensures { result ≡ set_at number address load.now }
+{
+    if is_load_of(load, number) && load.address <= address {
+        load.sets.get((address - load.address) as usize).copied()
+    } else {
+        None
+    }
+}
+
+// The set of the byte at an address of the load that is open under this number.
+pub(crate) fn open_set(loads: &[OpenLoad], number: u64, address: u64) -> Option<ByteSet>
+    ensures { result ≡ option_map (λ o. o.may) (find (is_open_at number address) (loads_open loads.now)) }
+{
+    first_set_at(loads, number, address)
+}
+
+fn first_set_at(loads: &[OpenLoad], number: u64, address: u64) -> Option<ByteSet>
+    ensures { result ≡ first_set_at number address loads.now }
+{
+    for load in loads {
+        if let Some(set) = set_at(load, number, address) {
+            return Some(set);
+        }
+    }
+    None
+}
+
+// No load is open under this number from now on.
+pub(crate) fn end_load(loads: &mut Vec<OpenLoad>, number: u64)
+    ensures { loads_open loads.new.items ≡ filter (λ o. not (is_open_of number o)) (loads_open loads.old.items) }
+{
+    end_loads(loads, number);
+}
+
+fn end_loads(loads: &mut Vec<OpenLoad>, number: u64)
+    ensures { loads.new.items ≡ filter (λ o. not (is_load_of number o)) loads.old.items }
+{
+    loads.retain(|load| !is_load_of(load, number));
+}

@@ -1,0 +1,242 @@
+//! Stores by unit of eight aligned addresses: a byte of a unit is its lane.
+
+ghost use Rattle.std.specs.Prelude.{◌≡◌, ◌+◌, ◌*◌, ◌/◌, ◌-◌, ◌≤◌, ◌<◌, ◌^◌, ◌==◌, if◌then◌else◌, None, Some, is_some, length, take, slice_get};
+ghost use Rattle.std.specs.Int.{bit_at};
+ghost use Rattle.std.specs.List.{filter, fold, list_any};
+ghost use Rattle.memory_histories.specs.Windows.{store_bytes, is_open};
+ghost use Rattle.memory_histories.specs.Kept.{unit_of, is_in, with_stores, is_covered_by};
+ghost use Rattle.memory_histories.specs.Parts.{lane_at, lanes_of, unit_lanes, part_bytes, parts_bytes, part_at, has_lane, is_open_part, is_open_with, with_known, cleared, cleared_lanes, clears, without_part, without_parts};
+
+use crate::sets::ByteSet;
+use crate::windows::is_before;
+
+/// The most units in which one operation lies.
+pub(crate) const MAX_PARTS: usize = 9;
+
+/// Those enabled bytes of a store that lie in one unit, with the window of the store.
+#[derive(Clone, Copy, PartialEq, Eq, Debug)]
+pub struct StorePart {
+    /// The number of the store.
+    pub number: u64,
+    /// The unit: its bytes lie from `8 * unit` on.
+    pub unit: u64,
+    /// What the store writes in each lane, or `None` where it writes nothing.
+    pub lanes: [Option<u8>; 8],
+    /// The event that requested it, counted from 0.
+    pub began: u64,
+    /// The event that answered it, or `None` while it is open.
+    pub ended: Option<u64>,
+}
+
+// The unit of an address.
+pub(crate) fn unit_of(address: u64) -> u64
+    ensures { result ≡ unit_of address }
+{
+    address / 8
+}
+
+// The byte that a store writes at an address.
+fn stored_lane(from: u64, bytes: &[u8], enables: u64, address: u64) -> Option<u8>
+    requires { length bytes.now ≤ 64 }
+    ensures { result ≡ lane_at from (lanes_of bytes.now enables) address }
+{
+    if from <= address && address - from < bytes.len() as u64 {
+        enabled_byte(bytes, enables, address - from)
+    } else {
+        None
+    }
+}
+
+// Byte `place` of a store, if it is enabled.
+fn enabled_byte(bytes: &[u8], enables: u64, place: u64) -> Option<u8>
+    requires { place < 64 }
+    ensures { result ≡ (if bit_at enables place == 1 then slice_get bytes.now place else None) }
+{
+    if (enables >> place) % 2 == 1 {
+        bytes.get(place as usize).copied()
+    } else {
+        None
+    }
+}
+
+// What a store writes in the lanes of a unit.
+fn stored_lanes(unit: u64, from: u64, bytes: &[u8], enables: u64) -> [Option<u8>; 8]
+    requires unit { unit < 2305843009213693952 }
+    requires few { length bytes.now ≤ 64 }
+    ensures { result ≡ unit_lanes unit (lane_at from (lanes_of bytes.now enables)) }
+{
+    let first = 8 * unit;
+    [
+        stored_lane(from, bytes, enables, first),
+        stored_lane(from, bytes, enables, first + 1),
+        stored_lane(from, bytes, enables, first + 2),
+        stored_lane(from, bytes, enables, first + 3),
+        stored_lane(from, bytes, enables, first + 4),
+        stored_lane(from, bytes, enables, first + 5),
+        stored_lane(from, bytes, enables, first + 6),
+        stored_lane(from, bytes, enables, first + 7),
+    ]
+}
+
+// The part of a store that lies in a unit.
+pub(crate) fn part_of(
+    number: u64,
+    unit: u64,
+    address: u64,
+    bytes: &[u8],
+    enables: u64,
+    moment: u64,
+) -> StorePart
+    requires unit { unit < 2305843009213693952 }
+    requires few { length bytes.now ≤ 64 }
+    ensures { part_bytes result ≡ filter (is_in unit) (store_bytes number address bytes.now enables moment) }
+{
+    StorePart {
+        number,
+        unit,
+        lanes: stored_lanes(unit, address, bytes, enables),
+        began: moment,
+        ended: None,
+    }
+}
+
+// Whether a part is of a store that is open under this number.
+pub(crate) fn is_open_part(part: &StorePart, number: u64) -> bool
+    ensures { result ≡ is_open_part number part.now }
+{
+    part.ended.is_none() && part.number == number
+}
+
+// Whether it has a byte.
+pub(crate) fn has_lane(part: &StorePart) -> bool
+    ensures { result ≡ has_lane part.now }
+{
+    has_some(&part.lanes)
+}
+
+fn has_some(lanes: &[Option<u8>]) -> bool
+    requires { length lanes.now ≤ 8 }
+    ensures { result ≡ list_any is_some (take 8 lanes.now) }
+{
+    any_some(lanes)
+}
+
+fn any_some(lanes: &[Option<u8>]) -> bool
+    ensures { result ≡ list_any is_some lanes.now }
+{
+    lanes.iter().any(|lane| lane.is_some())
+}
+
+// Whether a store is open under this number.
+pub(crate) fn has_open(parts: &[StorePart], number: u64) -> bool
+    ensures { result ≡ list_any (is_open number) (parts_bytes parts.now) }
+{
+    any_open(parts, number)
+}
+
+fn any_open(parts: &[StorePart], number: u64) -> bool
+    ensures { result ≡ list_any (is_open_with number) parts.now }
+{
+    parts
+        .iter()
+        .any(|part| is_open_part(part, number) && has_lane(part))
+}
+
+// Lane `lane` of eight.
+fn lane_of(lanes: [Option<u8>; 8], lane: u64) -> Option<u8>
+    requires { lane < 8 }
+    ensures { slice_get (take 8 lanes) lane ≡ Some result }
+{
+    lanes[lane as usize]
+}
+
+// The byte of a part at an address.
+pub(crate) fn part_at(part: &StorePart, address: u128) -> Option<u8>
+    ensures { result ≡ part_at part.now address }
+{
+    if u128::from(part.unit) == address / 8 {
+        lane_of(part.lanes, (address % 8) as u64)
+    } else {
+        None
+    }
+}
+
+// The set with this byte, if it is one.
+pub(crate) fn with_known(set: ByteSet, lane: Option<u8>) -> ByteSet
+    ensures { result ≡ with_known set lane }
+{
+    match lane {
+        Some(byte) => set.with(byte),
+        None => set,
+    }
+}
+
+// The set with what these parts left at an address.
+pub(crate) fn with_parts(parts: &[StorePart], address: u64, set: ByteSet) -> ByteSet
+    ensures { result ≡ with_stores (parts_bytes parts.now) address set }
+{
+    fold_lanes(parts, address, set)
+}
+
+fn fold_lanes(parts: &[StorePart], address: u64, set: ByteSet) -> ByteSet
+    ensures { result ≡ fold (λ s p. with_known s (part_at p address)) set parts.now }
+{
+    parts.iter().fold(
+        set,
+        |set, part| with_known(set, part_at(part, u128::from(address))),
+    )
+}
+
+// Whether one of these parts has a byte at an address.
+pub(crate) fn is_covered_by(parts: &[StorePart], address: u64) -> bool
+    ensures { result ≡ is_covered_by (parts_bytes parts.now) address }
+{
+    any_there(parts, address)
+}
+
+fn any_there(parts: &[StorePart], address: u64) -> bool
+    ensures { result ≡ list_any (λ p. is_some (part_at p address)) parts.now }
+{
+    parts
+        .iter()
+        .any(|part| part_at(part, u128::from(address)).is_some())
+}
+
+// A lane that is written over.
+fn cleared(over: Option<u8>, lane: Option<u8>) -> Option<u8>
+    ensures { result ≡ cleared over lane }
+{
+    if over.is_some() { None } else { lane }
+}
+
+// Of these lanes those are written over that a store has.
+#[tactic(auto, using(crate::proofs::Cleared::clear_more, crate::proofs::Cleared::clear_past, crate::proofs::Cleared::clear_all))]
+fn clear_lanes(lanes: &mut [Option<u8>], over: &[Option<u8>])
+    ensures { lanes.new ≡ cleared_lanes over.now lanes.old }
+{
+    for k in 0..lanes.len() {
+        if k < over.len() {
+            lanes[k] = cleared(over[k], lanes[k]);
+        }
+    }
+}
+
+// What is left of a part of a unit once this part of a store is answered.
+fn without_part(unit: u64, end: &StorePart, part: StorePart) -> StorePart
+    ensures { result ≡ without_part unit end.now part }
+{
+    let mut left = part;
+    if end.unit == unit && (part.unit == end.unit && is_before(part.ended, end.began)) {
+        clear_lanes(&mut left.lanes, &end.lanes);
+    }
+    left
+}
+
+// What is left of a part of a unit once these parts of a store are answered.
+pub(crate) fn without_parts(unit: u64, ending: &[StorePart], part: StorePart) -> StorePart
+    ensures { result ≡ without_parts unit ending.now part }
+{
+    ending
+        .iter()
+        .fold(part, |left, end| without_part(unit, end, left))
+}
