@@ -32,7 +32,7 @@ use Rattle.access_logs.specs.declared.pages.TheConstants.{PAGE_WORDS}
 use Rattle.history_text.specs.Answers.{verdict_status as history_status}
 use Rattle.history_text.specs.Choice.{chosen_law}
 use Rattle.history_text.specs.Histories.{Judges}
-use Rattle.history_text.specs.Laws.{Law}
+use Rattle.history_text.specs.Told.{ToldLaw}
 use Rattle.history_text.specs.Values.{Writes}
 use Rattle.history_text.specs.declared.answers.HistoryEnd.{HistoryEnd}
 use Rattle.named_fields.specs.declared.format.Format.{Format}
@@ -103,7 +103,7 @@ access_in Lackey = lackey_access
 access_in Din = din_access
 
 -- the law by which a history is judged
-abbrev pub law_for : HistoryTask → List ℕ → Law
+abbrev pub law_for : HistoryTask → List ℕ → ToldLaw
 law_for how image = chosen_law how.law image how.rest
 
 -- ---- the rows of latencies

@@ -141,7 +141,7 @@ pub(crate) const EXPLAIN_NOTES: &str =
 first line that flat memory doesn't explain, and says why: which load the value belongs to,
 what it is owed, and which lines stored its bytes. A faulty line ends it too. On a pipe that is
 still being written the answer comes with the line; a run may have any number of lines.
-Writes 'flat run, N steps', or 'mismatch at line N: LINE' and its reason, in at most six lines.
+Writes 'flat run, N steps', or 'mismatch at line N: LINE' and its reason, in at most seven lines.
 With --format csv a line of names goes before a row, with --format json it is an object: the line, its
 event and answer, the reason by a name, its numbers, and the lines that each byte comes from.
 Memory begins with zeros, or as the run's did with its --image ('kroft run --help' describes images);
@@ -338,4 +338,4 @@ open), 2 the command line is wrong, 4 a line is faulty, the image can't be read 
 
 Example:
   $ printf 'load-request 7 0x1000 1\\nload-response 7 5a\\n' | kroft history
-  line 2: load 7 returned 5a at 0x1000, which may be 00";
+  line 2: load 7 returned 5a at 0x1000, which may be 00 (memory at first)";

@@ -22,7 +22,7 @@ use crate::command_line::{CountForm, HistoryTask, LogName, Registers, Timings};
 use crate::fault::ToolFault;
 use access_logs::{Din, Lackey, LogFormat, write_requests};
 use cache_unit::Sizes;
-use history_text::{HistoryEnd, HistoryVerdict, judge_by_law, write_values_by_law};
+use history_text::{HistoryEnd, judge_by_law, write_values_by_law};
 use kroft_jobs::{
     AnsweredIn, CheckIn, LatencyRows, RequestText, Verdict, detail_requests, drive_requests,
     put_text, serve, summarize_requests, sweep_in_rounds, sweep_latencies, sweep_registers,
@@ -39,7 +39,7 @@ use run_pictures::Form;
 use std::alloc::{AllocError, Global};
 use std::thread::Threads;
 use trace_text::{Sink, Source, TraceFault};
-use verdict_formats::{ExplanationIn, HistoryIn};
+use verdict_formats::{ExplanationIn, history_in};
 
 /// Puts what a job found, and gives its status.
 pub(crate) fn answer<O: Sink>(output: &mut O, text: &str, status: u8) -> Result<u8, ToolFault>
@@ -391,25 +391,17 @@ fn put_verdict<O: Sink>(
     ensures ends { PutsVerdict O.took O.refused O.unflushed how judged output.old output.new result }
 {
     let end = judged?;
-    let told = HistoryIn {
-        format: how.format,
-        law: how.law,
-        end,
-    };
+    let told = history_in(alloc, how.format, how.law, &end)?;
     let text = format!(in alloc; "{told}\n")?;
-    answer(output, text.as_str(), status_of(how, end))
+    answer(output, text.as_str(), status_of(how, &end))
 }
 
 // The status of its end.
-fn status_of(how: HistoryTask, end: HistoryEnd) -> u8
-    ensures status { result ≡ history_status how.all_answered end }
+fn status_of(how: HistoryTask, end: &HistoryEnd) -> u8
+    ensures status { result ≡ history_status how.all_answered end.now }
     ensures few { result ≤ 6 }
 {
-    let verdict = HistoryVerdict {
-        law: how.law.name(),
-        end,
-    };
-    verdict.status(how.all_answered)
+    end.status(how.all_answered)
 }
 
 // Judges a history.

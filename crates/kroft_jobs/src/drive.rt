@@ -21,7 +21,7 @@ use cache_unit::Sizes;
 use flat_model::Event;
 use memory_images::Image;
 use register_sweeps::new_machine;
-use round_driver::{RoundMachine, Timing, drive_with};
+use round_driver::{Timing, drive_with, keeps_whole};
 use std::alloc::Global;
 use trace_text::{Sink, Source, TraceFault, write_whole};
 
@@ -152,6 +152,6 @@ fn drive_all<O: Sink>(
     let Ok(mut machine) = new_machine(alloc, sizes, image) else {
         return Err(TraceFault::OutOfMemory);
     };
-    machine.keeps_whole();
+    keeps_whole(&machine);
     drive_with(alloc, &mut machine, timing, requests, output)
 }

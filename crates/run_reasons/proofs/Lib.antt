@@ -1,3 +1,4 @@
+mod TagSlots
 mod TagUses
 mod PairTexts
 mod LinesRead

@@ -49,6 +49,25 @@ step_of_pair text pair s read is = ap step_of read ∙ is
 recorded_step : (pair : Pair) (event : Event) (answer : Answer) → pair ≡ recorded event answer → step_with pair.line pair.answer ≡ Some (record { event = event; answer = answer })
 recorded_step pair event answer e = ap (λ (p : Pair). step_with p.line p.answer) e
 
+-- ---- nothing
+
+pub read_nothing : (words : List Word) (r : Lines) → r.pending.items ≡ [] → r.count ≡ 0 → r.steps ≡ 0
+    → shown r.explainer ≡ beginning words → HasRead words [] r
+read_nothing words r pending count steps explainer =
+    let none : IsFlatText words [] [] [] 0 = record {
+      good = record { each = tt; split = refl };
+      short = omega arith;
+      unfinished = none_yet;
+      flat = (refl, refl);
+    } in
+    record {
+      texts = [];
+      text = subst (λ l. IsFlatText words [] [] l r.steps) (sym pending) (subst (IsFlatText words [] [] []) (sym steps) none);
+      number = count;
+      room = λ some. let nothing : length r.pending.items ≡ 0 = ap length pending in absurd (omega (arith, some, nothing));
+      origins = explainer;
+    }
+
 -- ---- a byte that ends no line
 
 pub read_char : {words : List Word} {bytes : List ℕ} (r r' : Lines) (b : ℕ) → HasRead words bytes r → b ≢ 10 → length r.pending.items + 1 ≤ MAX_PAIR → r.count < most_lines

@@ -1,10 +1,6 @@
--- What a step leaves of flat memory, stores and tags.
-use Rattle.std.proofs.Common.{◌≡◌, ◌≢◌, ℕ, ◌<◌, Bool, true, false, cond, Some, None, List, length, get_or, set, refl, ◌∙◌, ap, arith}
-use Rattle.std.specs.Prelude.{◌==◌, slice_set}
-use Rattle.std.proofs.Math.Path.{fun_ext}
-use Rattle.std.proofs.lemmas.Bool.{eqb-true}
-use Rattle.std.proofs.lemmas.Bool.Decides.{nat_tests}
-use Rattle.std.proofs.lemmas.List.{get_or-set_same, get_or-set_other, length-set}
+-- What a step leaves of flat memory, stores, tags and the words that their loads may have got.
+use Rattle.std.proofs.Common.{◌≡◌, ℕ, Bool, true, false, cond, Some, None, List, length, refl, ◌∙◌, ap}
+use Rattle.std.proofs.lemmas.List.{length-set}
 use Rattle.flat_model.specs.declared.Word.{Word}
 use Rattle.flat_model.specs.declared.Event.{Event}
 use Rattle.flat_model.specs.declared.Event.TheVariants.{Load, Store, Take}
@@ -14,25 +10,8 @@ use Rattle.flat_model.specs.Words.{merged}
 use Rattle.flat_model.specs.Flat.{Flat, word_at, may_answer, flat_after, flat_step}
 use Rattle.run_reasons.specs.declared.origins.Stores.{Stores}
 use Rattle.run_reasons.specs.declared.origins.TagUse.{TagUse}
-use Rattle.run_reasons.specs.declared.origins.TagUse.TheVariants.{Never}
-use Rattle.run_reasons.specs.Origins.{Origins, with_use, stores_after, tags_after, word_under, past_over, past_after, origins_after}
+use Rattle.run_reasons.specs.Origins.{Origins, stores_after, tags_after, word_under, since_over, since_after, past_over, past_after, origins_after}
 use Rattle.run_reasons.specs.Pasts.{PastOf}
-use Rattle.run_reasons.specs.Shown.{uses_in}
-
--- ---- tags
-
-use_at : (uses : List TagUse) (tag t : ℕ) (state : TagUse) (b : Bool) → tag < length uses → (t == tag) ≡ b
-    → get_or (set uses tag state) t Never ≡ cond b state (get_or uses t Never)
-use_at uses tag t state true lt e =
-    let same : t ≡ tag = eqb-true t tag e in
-    ap (λ k. get_or (set uses tag state) k Never) same ∙ get_or-set_same uses tag state Never lt
-use_at uses tag t state false lt e =
-    let other : t ≢ tag = grind (arith, nat_tests) in
-    get_or-set_other uses tag t state Never other
-
--- one tag has become this
-pub uses_in-set : (uses : List TagUse) (tag : ℕ) (state : TagUse) → tag < length uses → uses_in (slice_set uses tag state) ≡ with_use (uses_in uses) tag state
-uses_in-set uses tag state lt = fun_ext (λ t. use_at uses tag t state (t == tag) lt refl)
 
 -- ---- steps
 
@@ -70,7 +49,7 @@ step_length s t event answer e = ap (λ (x : Flat). length x.mem) (step_after s 
 
 -- a load leaves memory as it is, so its word may be read before or after
 tags_same : (o : Origins) (n : ℕ) (event : Event) (answer : Answer)
-    → tags_after (record { flat = flat_after o.flat event answer; stores = o.stores; tags = o.tags; past = o.past }) n event answer ≡ tags_after o n event answer
+    → tags_after (record { flat = flat_after o.flat event answer; stores = o.stores; tags = o.tags; since = o.since; past = o.past }) n event answer ≡ tags_after o n event answer
 tags_same o n (Load tag at) Accepted = refl
 tags_same o n (Load tag at) Moved = refl
 tags_same o n (Load tag at) (Value t w) = refl
@@ -85,23 +64,31 @@ tags_same o n event answer = refl
 
 -- flat memory made its step first, and then stores, tags and what was overwritten were noted
 pub noted : (o m p : Origins) (old : Word) (n : ℕ) (event : Event) (answer : Answer)
-    → flat_step o.flat event answer ≡ Some m.flat → m.stores ≡ o.stores → m.tags ≡ o.tags → m.past ≡ o.past → old ≡ word_under o.flat event
+    → flat_step o.flat event answer ≡ Some m.flat → m.stores ≡ o.stores → m.tags ≡ o.tags → m.since ≡ o.since → m.past ≡ o.past → old ≡ word_under o.flat event
     → p.flat ≡ m.flat → p.stores ≡ stores_after m.stores n event answer → p.tags ≡ tags_after m n event answer
+    → p.since ≡ since_over old m.tags m.since event answer
     → p.past ≡ past_over old m.stores m.past n event answer
     → p ≡ origins_after o n event answer
-noted o m p old n event answer step stores tags past is flat' stores' tags' past' =
+noted o m p old n event answer step stores tags since past is flat' stores' tags' since' past' =
     let after = flat_after o.flat event answer in
-    let mk : Flat → List Stores → (ℕ → TagUse) → PastOf → Origins = λ f s t q. record { flat = f; stores = s; tags = t; past = q } in
+    let mk : Flat → List Stores → (ℕ → TagUse) → (ℕ → List Word) → PastOf → Origins =
+    λ f s t w q. record { flat = f; stores = s; tags = t; since = w; past = q } in
     let flat : m.flat ≡ after = step_after o.flat m.flat event answer step in
-    let middle : m ≡ mk after o.stores o.tags o.past =
-    ap (λ f. mk f m.stores m.tags m.past) flat ∙ ap (λ s. mk after s m.tags m.past) stores ∙ ap (λ t. mk after o.stores t m.past) tags
-    ∙ ap (mk after o.stores o.tags) past in
+    let middle : m ≡ mk after o.stores o.tags o.since o.past =
+    ap (λ f. mk f m.stores m.tags m.since m.past) flat ∙ ap (λ s. mk after s m.tags m.since m.past) stores
+    ∙ ap (λ t. mk after o.stores t m.since m.past) tags ∙ ap (λ w. mk after o.stores o.tags w m.past) since
+    ∙ ap (mk after o.stores o.tags o.since) past in
+    let left : p.since ≡ since_after o event answer =
+    since' ∙ ap (λ w. since_over w m.tags m.since event answer) is
+    ∙ ap (λ t. since_over (word_under o.flat event) t m.since event answer) tags
+    ∙ ap (λ w. since_over (word_under o.flat event) o.tags w event answer) since in
     let kept : p.past ≡ past_after o n event answer =
     past' ∙ ap (λ w. past_over w m.stores m.past n event answer) is
     ∙ ap (λ s. past_over (word_under o.flat event) s m.past n event answer) stores
     ∙ ap (λ q. past_over (word_under o.flat event) o.stores q n event answer) past in
-    ap (λ f. mk f p.stores p.tags p.past) (flat' ∙ flat)
-    ∙ ap (λ s. mk after s p.tags p.past) (stores' ∙ ap (λ s. stores_after s n event answer) stores)
-    ∙ ap (λ t. mk after (stores_after o.stores n event answer) t p.past)
+    ap (λ f. mk f p.stores p.tags p.since p.past) (flat' ∙ flat)
+    ∙ ap (λ s. mk after s p.tags p.since p.past) (stores' ∙ ap (λ s. stores_after s n event answer) stores)
+    ∙ ap (λ t. mk after (stores_after o.stores n event answer) t p.since p.past)
     (tags' ∙ ap (λ (x : Origins). tags_after x n event answer) middle ∙ tags_same o n event answer)
-    ∙ ap (mk after (stores_after o.stores n event answer) (tags_after o n event answer)) kept
+    ∙ ap (λ w. mk after (stores_after o.stores n event answer) (tags_after o n event answer) w p.past) left
+    ∙ ap (mk after (stores_after o.stores n event answer) (tags_after o n event answer) (since_after o event answer)) kept

@@ -1,5 +1,5 @@
 -- Worked examples, each checked by computing.
-use Rattle.std.specs.Prelude.{◌≡◌, ℕ, ◌+◌, Some, None, List, [], ◌∷◌}
+use Rattle.std.specs.Prelude.{◌≡◌, ℕ, ◌+◌, true, false, Some, None, List, [], ◌∷◌}
 use Rattle.std.proofs.Common.{refl}
 use Rattle.flat_model.specs.declared.Word.{Word}
 use Rattle.flat_model.specs.declared.Cause.TheVariants.{OutOfRange, TagInUse, NoRegister, StackFull}
@@ -36,6 +36,7 @@ wrong_word : reason_of stored_again (Take 0) (Value 7 (word 12 1 0 13)) ≡ Wron
   got = word 12 1 0 13;
   later = record { b0 = 4; b1 = 0; b2 = 0; b3 = 0 };
   past = record { b0 = None; b1 = None; b2 = None; b3 = None };
+  stood_since = false;
 })
 unfolding has merged stored_in overwritten_at overwritten_in pasts_of
 wrong_word = refl
@@ -48,6 +49,7 @@ stale_word : reason_of stored_again (Take 0) (Value 7 (word 10 0 0 0)) ≡ Wrong
   got = word 10 0 0 0;
   later = record { b0 = 0; b1 = 0; b2 = 0; b3 = 0 };
   past = record { b0 = Some (record { put = 1; by = 2 }); b1 = Some (record { put = 0; by = 4 }); b2 = None; b3 = Some (record { put = 0; by = 1 }) };
+  stood_since = false;
 })
 unfolding has merged stored_in overwritten_at overwritten_in pasts_of
 stale_word = refl
@@ -63,9 +65,30 @@ of_the_image : reason_of addressed (Take 0) (Value 7 (word 9 0 0 0)) ≡ WrongWo
   got = word 9 0 0 0;
   later = record { b0 = 2; b1 = 0; b2 = 0; b3 = 0 };
   past = record { b0 = None; b1 = None; b2 = None; b3 = None };
+  stood_since = true;
 })
 unfolding has merged stored_in overwritten_at overwritten_in pasts_of
 of_the_image = refl
+
+-- Which words stood in word 1 for each tag: two loads before and between three stores, and one that is taken.
+abbrev waited : Origins
+waited = after 1 (beginning (zero_word ∷ zero_word ∷ [])) (
+    (Load 7 1, Accepted) ∷ (Load 5 1, Accepted) ∷ (Store 1 (word 1 2 3 4) (record { 0 = 3 }), Accepted) ∷ (Load 8 1, Accepted)
+    ∷ (Store 0 (word 9 9 9 9) (record { 0 = 15 }), Accepted) ∷ (Store 1 (word 5 6 7 8) (record { 0 = 12 }), Accepted)
+    ∷ (Take 0, Value 5 zero_word) ∷ (Store 1 (word 0 0 0 1) (record { 0 = 8 }), Accepted) ∷ []
+    )
+
+since_the_first : waited.since 7 ≡ word 1 2 0 0 ∷ word 1 2 7 8 ∷ word 1 2 7 1 ∷ []
+unfolding has merged
+since_the_first = refl
+
+since_the_second : waited.since 8 ≡ word 1 2 7 8 ∷ word 1 2 7 1 ∷ []
+unfolding has merged
+since_the_second = refl
+
+-- nothing is owed under tag 5 any longer
+since_the_value : waited.since 5 ≡ []
+since_the_value = refl
 
 in_use : reason_of stored_again (Load 7 0) (Refused NoRegister) ≡ InUse 7 3
 unfolding has merged stored_in overwritten_at overwritten_in

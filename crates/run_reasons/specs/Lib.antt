@@ -1,5 +1,6 @@
 pub mod Pasts
 pub mod Origins
+pub mod TagSlots
 pub mod Reasons
 pub mod Shown
 pub mod Runs

@@ -1,13 +1,13 @@
 -- Where the words of flat memory come from: the fold that keeps, beside flat memory, where each byte was last stored,
--- where each tag was loaded or taken, and when each value of a byte was overwritten.
-use Rattle.std.specs.Prelude.{ℕ, ◌+◌, ◌==◌, ◌&&◌, if◌then◌else◌, nat_lt, Option, Some, None, List, [], ◌∷◌, length, replicate, slice_set, slice_index_or}
+-- where each tag was loaded or taken, which words its load may have got since, and when each value of a byte was overwritten.
+use Rattle.std.specs.Prelude.{ℕ, ◌+◌, Bool, false, ◌==◌, ◌&&◌, if◌then◌else◌, nat_lt, Option, Some, None, List, [], ◌∷◌, ◌++◌, length, replicate, slice_set, slice_index_or}
 use Rattle.flat_model.specs.declared.Word.{Word}
 use Rattle.flat_model.specs.declared.Lanes.{Lanes}
 use Rattle.flat_model.specs.declared.Event.{Event}
 use Rattle.flat_model.specs.declared.Event.TheVariants.{Load, Store, Take}
 use Rattle.flat_model.specs.declared.Answer.{Answer}
 use Rattle.flat_model.specs.declared.Answer.TheVariants.{Accepted, Value}
-use Rattle.flat_model.specs.Words.{zero_word, has, Lane0, Lane1, Lane2, Lane3}
+use Rattle.flat_model.specs.Words.{zero_word, has, merged, Lane0, Lane1, Lane2, Lane3}
 use Rattle.flat_model.specs.Flat.{Flat, opening, word_at, flat_after}
 use Rattle.trace_text.specs.Pairs.{pair_of}
 use Rattle.trace_text.specs.Checks.{step_of}
@@ -18,11 +18,14 @@ use Rattle.run_reasons.specs.declared.origins.TagUse.{TagUse}
 use Rattle.run_reasons.specs.Pasts.{PastOf, overwritten_in}
 use Rattle.run_reasons.specs.declared.origins.TagUse.TheVariants.{Never, Loaded, Taken}
 
--- flat memory, the lines that last stored each word's bytes, what became of each tag, and which values were overwritten
+-- flat memory, the lines that last stored each word's bytes, what became of each tag, and which values were overwritten. Of a
+-- tag that is loaded there are also the words that stood at its load's address since the load was accepted, but for the first:
+-- each is what a store left there, and the oldest comes first
 pub record Origins : Type 0 where
   pub flat : Flat
   pub stores : List Stores
   pub tags : ℕ → TagUse
+  pub since : ℕ → List Word
   pub past : PastOf
 
 -- no line has stored a byte
@@ -47,7 +50,13 @@ with_use tags tag state t = if t == tag then state else tags t
 
 -- memory of these words, before any line
 abbrev pub beginning : List Word → Origins
-beginning words = record { flat = opening words; stores = replicate (length words) no_stores; tags = λ tag. Never; past = λ key. None }
+beginning words = record {
+  flat = opening words;
+  stores = replicate (length words) no_stores;
+  tags = λ tag. Never;
+  since = λ tag. [];
+  past = λ key. None;
+}
 
 -- a load of this address, accepted in line n
 abbrev pub accepted_load : Origins → ℕ → ℕ → AcceptedLoad
@@ -64,6 +73,20 @@ tags_after o n (Load tag at) Accepted = with_use o.tags tag (Loaded (accepted_lo
 tags_after o n (Take place) (Value tag word) = with_use o.tags tag (Taken n)
 tags_after o n event answer = o.tags
 
+-- whether a tag is loaded with the word at an address
+abbrev pub is_open_at : ℕ → TagUse → Bool
+is_open_at at Never = false
+is_open_at at (Loaded load) = load.at == at
+is_open_at at (Taken n) = false
+
+-- for one tag none of them is left
+abbrev pub without_since : (ℕ → List Word) → ℕ → ℕ → List Word
+without_since since tag t = if t == tag then [] else since t
+
+-- a store leaves this word at an address: from now on it stands there for each load that is open
+abbrev pub with_left : (ℕ → TagUse) → (ℕ → List Word) → ℕ → Word → ℕ → List Word
+with_left tags since at word t = if is_open_at at (tags t) then since t ++ word ∷ [] else since t
+
 -- the word that an event may overwrite: a store's
 abbrev pub word_under : Flat → Event → Word
 word_under s (Store at word lanes) = word_at s.mem at
@@ -77,12 +100,23 @@ past_over old stores past n event answer = past
 abbrev pub past_after : Origins → ℕ → Event → Answer → PastOf
 past_after o n event answer = past_over (word_under o.flat event) o.stores o.past n event answer
 
+-- which words stood at the address of each open load since it was accepted, where this word stood under the event
+abbrev pub since_over : Word → (ℕ → TagUse) → (ℕ → List Word) → Event → Answer → ℕ → List Word
+since_over old tags since (Load tag at) Accepted = without_since since tag
+since_over old tags since (Store at word lanes) Accepted = with_left tags since at (merged old word lanes)
+since_over old tags since (Take place) (Value tag word) = without_since since tag
+since_over old tags since event answer = since
+
+abbrev pub since_after : Origins → Event → Answer → ℕ → List Word
+since_after o event answer = since_over (word_under o.flat event) o.tags o.since event answer
+
 -- what an event and its answer in line n leave
 abbrev pub origins_after : Origins → ℕ → Event → Answer → Origins
 origins_after o n event answer = record {
   flat = flat_after o.flat event answer;
   stores = stores_after o.stores n event answer;
   tags = tags_after o n event answer;
+  since = since_after o event answer;
   past = past_after o n event answer;
 }
 

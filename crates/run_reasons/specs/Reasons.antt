@@ -1,5 +1,6 @@
 -- Why flat memory can't answer an event so.
 use Rattle.std.specs.Prelude.{ℕ, Bool, true, false, ◌||◌, if◌then◌else◌, nat_lt, length}
+use Rattle.std.specs.List.{list_any}
 use Rattle.flat_model.specs.declared.Word.{Word}
 use Rattle.flat_model.specs.declared.Cause.TheVariants.{OutOfRange}
 use Rattle.flat_model.specs.declared.Event.{Event}
@@ -8,7 +9,7 @@ use Rattle.flat_model.specs.declared.Answer.{Answer}
 use Rattle.flat_model.specs.declared.Answer.TheVariants.{Accepted, Moved, Value, Nothing, Refused}
 use Rattle.flat_model.specs.Causes.{may_refuse}
 use Rattle.flat_model.specs.Words.{has_any}
-use Rattle.flat_model.specs.Flat.{word_at}
+use Rattle.flat_model.specs.Flat.{word_at, same_word}
 use Rattle.run_reasons.specs.Origins.{Origins, stores_at, later_stores}
 use Rattle.run_reasons.specs.Pasts.{pasts_of}
 use Rattle.run_reasons.specs.declared.origins.TagUse.{TagUse}
@@ -73,6 +74,7 @@ value_reason o tag got (state.Loaded load) = WrongWord (record {
   got = got;
   later = later_stores load.line (word_at o.flat.mem load.at) got (stores_at o.stores load.at);
   past = pasts_of o.past load.at got;
+  stood_since = list_any (λ word. same_word word got) (o.since tag);
 })
 value_reason o tag got (state.Taken n) = Taken tag n
 

@@ -1,5 +1,5 @@
 -- The texts of what an explanation tells.
-use Rattle.std.specs.Prelude.{ℕ, ◌==◌, if◌then◌else◌, Option, Some, None, List, [], ◌++◌, codes, decimal}
+use Rattle.std.specs.Prelude.{ℕ, Bool, ◌==◌, if◌then◌else◌, Option, Some, None, List, [], ◌++◌, codes, decimal}
 use Rattle.flat_model.specs.Texts.{byte_text, word_text, event_text, answer_text}
 use Rattle.flat_model.specs.declared.Event.{Event}
 use Rattle.flat_model.specs.declared.Event.TheVariants.{Load, Store, Prefetch, Evict, Drain, Serve, Arrive, Process, Take}
@@ -70,14 +70,20 @@ byte_line place owed store got later past =
     else codes "\nbyte " ++ decimal place ++ codes ": owed " ++ byte_text owed ++ codes ", " ++ owed_from_text owed store ++ codes "; got "
     ++ byte_text got ++ codes ", " ++ got_from_text later past
 
--- the load with what it is owed, and a line for each byte that differs
+-- of a word that stood there at a moment since the load was accepted: what the run is with it
+unfoldable pub since_line : Bool → List ℕ
+since_line stood =
+    if stood then codes "\nthe whole word stood there after the load: no run of flat memory from acceptance on; as a history it is atomic"
+    else []
+
+-- the load with what it is owed, a line for each byte that differs, and one if the word that came stood there since
 unfoldable pub wrong_word_text : WrongWord → List ℕ
 wrong_word_text w =
     codes "the load of line " ++ decimal w.load.line ++ codes " (tag " ++ decimal w.tag ++ codes ", word " ++ decimal w.load.at
     ++ codes ") is owed " ++ word_text w.load.word ++ byte_line 0 w.load.word.b0 w.load.stores.b0 w.got.b0 w.later.b0 w.past.b0
     ++ byte_line 1 w.load.word.b1 w.load.stores.b1 w.got.b1 w.later.b1 w.past.b1
     ++ byte_line 2 w.load.word.b2 w.load.stores.b2 w.got.b2 w.later.b2 w.past.b2
-    ++ byte_line 3 w.load.word.b3 w.load.stores.b3 w.got.b3 w.later.b3 w.past.b3
+    ++ byte_line 3 w.load.word.b3 w.load.stores.b3 w.got.b3 w.later.b3 w.past.b3 ++ since_line w.stood_since
 
 -- ---- a mismatch
 

@@ -76,8 +76,10 @@ impl Stop {
 ///
 /// Before the first read memory is taken for the words and for the last store of each of their bytes,
 /// for what became of the 65,536 tags, and one buffer of 4,096 bytes. What is taken later grows with
-/// the tags that are owed a word at a time, and with the different values that stores overwrote in each
-/// byte. So a run has no limit of lines but their number's.
+/// the tags that are owed a word at a time, with the different values that stores overwrote in each
+/// byte, and with the stores to words of open loads: those are forgotten whenever no load is open at all. So a
+/// run has no limit of lines but their number's, and one in which some load is always open needs some 8 bytes more
+/// for each store to a word of one.
 pub fn explain_text<R: Source>(
     alloc: Global,
     reader: &mut R,

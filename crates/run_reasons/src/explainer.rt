@@ -1,22 +1,19 @@
 //! A recorded run, explained line by line.
 
-ghost use Rattle.std.specs.Prelude.{◌≡◌, ◌<◌, ◌≤◌, ◌+◌, ℕ, true, length, vec_len, replicate, slice_set, Some, IfOk, IfErr, OnOk, OnErr};
+ghost use Rattle.std.specs.Prelude.{◌≡◌, ◌<◌, ◌≤◌, ◌+◌, ℕ, true, length, vec_len, vec_capacity, replicate, slice_set, Some, IfOk, IfErr, OnOk, OnErr};
 ghost use Rattle.std.specs.HashMap.{spare};
 ghost use Rattle.flat_model.specs.Flat.{Flat, word_at, may_answer, flat_step};
 ghost use Rattle.flat_model.specs.Memory as memory;
 ghost use Rattle.memory_images.specs.Images.{memory_from};
 ghost use Rattle.run_reasons.specs.Origins.{no_stores};
-ghost use Rattle.run_reasons.specs.declared.explainer.TheConstants.{TAGS};
 
 use crate::origins::{AcceptedLoad, Stores, TagUse};
 use crate::pasts::Past;
 use crate::reason::{Mismatch, Reason, WrongWord, is_ever, is_out_of_range, never, tag_reason};
-use flat_model::{Answer, Event, FlatMemory, Lanes, StepFault, Word};
+use crate::tags::Tags;
+use flat_model::{Answer, Event, FlatMemory, Lanes, StepFault, Word, merge};
 use memory_images::Image;
 use std::alloc::{AllocError, Global};
-
-// How many tags there are: they are numbers of 16 bits.
-const TAGS: usize = u16::MAX as usize + 1;
 
 /// Why a line wasn't read. After each of these the explainer is as it was.
 #[derive(Clone, Copy, PartialEq, Eq, Debug)]
@@ -24,7 +21,7 @@ pub enum ReadFault {
     /// Flat memory can't answer so.
     Mismatch(Mismatch),
     /// There was too little memory for the word that a load is owed, or for those that a store
-    /// overwrites.
+    /// overwrites or leaves.
     OutOfMemory,
 }
 
@@ -40,17 +37,17 @@ impl From<AllocError> for ReadFault {
 }
 
 /// Flat memory behind the lines so far, with the line that last stored each byte, what became of each
-/// tag, and which values were overwritten.
+/// tag, which words its open load may have got since it was accepted, and which values were overwritten.
 #[derive(Drop)]
 pub struct Explainer {
     flat: FlatMemory,
     words: u32,
     stores: Vec<Stores>,
-    tags: Vec<TagUse>,
+    tags: Tags,
     past: Past,
     ghost all_words: { length (memory.shown flat).mem ≡ words },
     ghost all_stores: { vec_len stores ≡ words },
-    ghost all_tags: { vec_len tags ≡ TAGS },
+    ghost all_counts: { vec_len tags.counts ≡ words },
 }
 
 // So many words that no line has stored.
@@ -61,20 +58,12 @@ fn no_stores(alloc: Global, words: u32) -> Result<Vec<Stores>, AllocError>
     vec![in alloc; Stores::default(); words as usize]
 }
 
-// So many tags, of which no load has had one.
-fn no_uses(alloc: Global, count: usize) -> Result<Vec<TagUse>, AllocError>
-    ensures items { IfOk result (λ v. v.items ≡ replicate count TagUse.Never) }
-    ensures len { IfOk result (λ v. vec_len v ≡ count) }
-{
-    vec![in alloc; TagUse::Never; count]
-}
-
 #[tactic(auto, unfolding(crate::specs::Shown::shown))]
 impl Explainer {
-    ghost use Rattle.run_reasons.specs.Origins.{stores_at, stored_in, with_use, accepted_load, stores_after, tags_after, word_under, past_over, origins_after, beginning};
+    ghost use Rattle.run_reasons.specs.Origins.{stores_at, stored_in, accepted_load, stores_after, tags_after, since_over, word_under, past_over, origins_after, beginning};
     ghost use Rattle.run_reasons.specs.Pasts.{overwritten_in};
     ghost use Rattle.run_reasons.specs.Reasons.{reason_of, reason_here, place_reason, value_reason};
-    ghost use Rattle.run_reasons.specs.Shown.{shown, more_overwritten, ReadFaultIs};
+    ghost use Rattle.run_reasons.specs.Shown.{shown, more_overwritten, more_left, ReadFaultIs};
 
     /// Memory of so many words of an image, before any line. `AllocError` says that there was too
     /// little memory: nothing is made.
@@ -83,7 +72,7 @@ impl Explainer {
     {
         let flat = image.flat_memory(alloc, words)?;
         let stores = no_stores(alloc, words)?;
-        let tags = no_uses(alloc, TAGS)?;
+        let tags = Tags::new(alloc, words)?;
         let past = Past::new(alloc);
         Ok(Explainer {
             flat,
@@ -125,14 +114,18 @@ impl Explainer {
         }
     }
 
-    // Makes room for the values that a line overwrites, if it does.
+    // Makes room for the values that a line overwrites, and for the word that it leaves, if it does.
     fn make_room(&mut self, event: Event, answer: Answer) -> Result<(), AllocError>
         ensures same { shown self.new ≡ shown self.old }
         ensures room { OnOk result (more_overwritten event answer ≤ spare self.new.past.values) }
+        ensures left { OnOk result (vec_len self.new.tags.left + more_left event answer ≤ vec_capacity self.new.tags.left) }
         ensures needed { OnErr result (more_overwritten event answer ≡ 4) }
     {
         match (event, answer) {
-            (Event::Store { .. }, Answer::Accepted) => self.past.make_room(),
+            (Event::Store { .. }, Answer::Accepted) => {
+                self.past.make_room()?;
+                self.tags.make_room()
+            }
             _ => Ok(()),
         }
     }
@@ -150,26 +143,30 @@ impl Explainer {
     // Notes what flat memory's step, which is made, says of stores, tags and of what stood under it.
     fn note(&mut self, line: u64, event: Event, answer: Answer, old: Word)
         requires room { more_overwritten event answer ≤ spare self.old.past.values }
+        requires left { vec_len self.old.tags.left + more_left event answer ≤ vec_capacity self.old.tags.left }
         requires may { (s : Flat) × (length s.mem ≡ length (shown self.old).flat.mem)
             × (may_answer s event answer ≡ true) }
         ensures flat { (shown self.new).flat ≡ (shown self.old).flat }
         ensures stores { (shown self.new).stores
             ≡ stores_after (shown self.old).stores line event answer }
         ensures tags { (shown self.new).tags ≡ tags_after (shown self.old) line event answer }
+        ensures since { (shown self.new).since
+            ≡ since_over old (shown self.old).tags (shown self.old).since event answer }
         ensures past { (shown self.new).past
             ≡ past_over old (shown self.old).stores (shown self.old).past line event answer }
     {
         match (event, answer) {
             (Event::Load { tag, at }, Answer::Accepted) => {
                 let load = self.accepted_load(line, at);
-                self.set_use(tag, TagUse::Loaded(load));
+                self.tags.accept(tag, load);
             }
-            (Event::Store { at, word: _, lanes }, Answer::Accepted) => {
+            (Event::Store { at, word, lanes }, Answer::Accepted) => {
                 self.overwrite(line, at, lanes, old);
                 self.store(line, at, lanes);
+                self.tags.leave(at, merge(old, word, lanes));
             }
             (Event::Take { place: _ }, Answer::Value { tag, word: _ }) => {
-                self.set_use(tag, TagUse::Taken { line });
+                self.tags.take(tag, line);
             }
             _ => {}
         }
@@ -205,7 +202,7 @@ impl Explainer {
     fn use_of(&self, tag: u16) -> TagUse
         ensures { result ≡ (shown self.now).tags tag }
     {
-        self.tags[tag as usize]
+        self.tags.use_of(tag)
     }
 
     // The bytes in these lanes are stored in this line.
@@ -215,6 +212,8 @@ impl Explainer {
         ensures stores { (shown self.new).stores ≡ slice_set (shown self.old).stores at
             (stored_in line lanes (stores_at (shown self.old).stores at)) }
         ensures tags { (shown self.new).tags ≡ (shown self.old).tags }
+        ensures since { (shown self.new).since ≡ (shown self.old).since }
+        ensures left { self.new.tags.left ≡ self.old.tags.left }
         ensures past { (shown self.new).past ≡ (shown self.old).past }
     {
         let old = self.stores[at as usize];
@@ -227,21 +226,13 @@ impl Explainer {
         ensures flat { (shown self.new).flat ≡ (shown self.old).flat }
         ensures stores { (shown self.new).stores ≡ (shown self.old).stores }
         ensures tags { (shown self.new).tags ≡ (shown self.old).tags }
+        ensures since { (shown self.new).since ≡ (shown self.old).since }
+        ensures left { self.new.tags.left ≡ self.old.tags.left }
         ensures past { (shown self.new).past
             ≡ overwritten_in line lanes at old (stores_at (shown self.old).stores at) (shown self.old).past }
     {
         let put = self.stores_at(at);
         self.past.overwrite(line, lanes, at, old, put);
-    }
-
-    // The tag becomes this.
-    fn set_use(&mut self, tag: u16, state: TagUse)
-        ensures flat { (shown self.new).flat ≡ (shown self.old).flat }
-        ensures stores { (shown self.new).stores ≡ (shown self.old).stores }
-        ensures tags { (shown self.new).tags ≡ with_use (shown self.old).tags tag state }
-        ensures past { (shown self.new).past ≡ (shown self.old).past }
-    {
-        self.tags[tag as usize] = state;
     }
 
     // Why flat memory can't answer so, where it can't.
@@ -304,12 +295,14 @@ impl Explainer {
                 let now = self.word_at(load.at);
                 let later = self.stores_at(load.at).later_stores(load.line, now, got);
                 let past = self.past.of_word(load.at, got);
+                let stood_since = self.tags.has_stood(tag, got);
                 Reason::WrongWord(WrongWord {
                     tag,
                     load,
                     got,
                     later,
                     past,
+                    stood_since,
                 })
             }
             TagUse::Taken { line } => Reason::Taken { tag, line },

@@ -9,11 +9,15 @@
 //! tags the line in which it was loaded or taken; and for each value that a byte has had, which store
 //! last overwrote it. A byte has at most 256 values, so a run may be as long as it likes.
 //!
+//! Of the words to which loads are open it is kept too which words stores left there since. So a value that is late, since the
+//! load got the word of a later moment than its acceptance, is told from one that stood there at no moment:
+//! [`WrongWord::stood_since`].
+//!
 //! A program that explains a run calls `explain_text(alloc, &mut input, &Image::Zeros, words)?`, writes what it gives
 //! with a line feed behind it, and ends with its `status()`:
 //!
 //! - a flat run: `flat run, N steps`, and status 0;
-//! - a mismatch: the text of a [`Mismatch`], two to six lines, and status 1;
+//! - a mismatch: the text of a [`Mismatch`], two to seven lines, and status 1;
 //! - a [`TraceFault`](trace_text::TraceFault): its own text and status, as where a run is checked.
 #![tactic(auto)]
 
@@ -24,6 +28,7 @@ mod origins;
 mod pasts;
 mod reason;
 mod show;
+mod tags;
 
 pub use explain::{Explanation, explain_text};
 pub use explainer::{Explainer, ReadFault};

@@ -82,6 +82,9 @@ pub struct WrongWord {
     pub later: Stores,
     /// Of each byte that came: when it stood there before it was overwritten, if it ever did.
     pub past: Pasts,
+    /// Whether the whole word that came stood there at some moment since the load was accepted. Then the
+    /// run up to this line, told as a history, is an atomic one.
+    pub stood_since: bool,
 }
 
 // Whether flat memory can ever answer the event so, whatever it holds.

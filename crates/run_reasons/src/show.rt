@@ -3,7 +3,7 @@
 ghost use Rattle.std.specs.Prelude.{◌≡◌, ◌<◌, Some};
 ghost use Rattle.std.specs.Fmt.{WritesOnOk};
 ghost use Rattle.flat_model.specs.Texts.{byte_text, hex_digit};
-ghost use Rattle.run_reasons.specs.Texts.{kind_text, answers_text, initial_text, owed_from_text, overwritten_text, past_text, got_from_text, byte_line, wrong_word_text, reason_text, mismatch_text};
+ghost use Rattle.run_reasons.specs.Texts.{kind_text, answers_text, initial_text, owed_from_text, overwritten_text, past_text, got_from_text, byte_line, since_line, wrong_word_text, reason_text, mismatch_text};
 
 use crate::origins::AcceptedLoad;
 use crate::pasts::{Overwritten, Pasts};
@@ -11,7 +11,7 @@ use crate::reason::{Mismatch, Reason, WrongWord};
 use flat_model::{Answer, Event};
 use std::fmt;
 
-/// At most six lines, without a line feed at the end.
+/// At most seven lines, without a line feed at the end.
 impl fmt::Display for Mismatch {
     ghost output = { λ mismatch. Some (mismatch_text mismatch) };
 
@@ -115,7 +115,7 @@ fn answers_of(event: Event) -> &'static str
     }
 }
 
-/// The load with what it is owed, and a line for each byte that differs.
+/// The load with what it is owed, a line for each byte that differs, and one if the word that came stood there since.
 impl fmt::Display for WrongWord {
     ghost output = { λ wrong. Some (wrong_word_text wrong) };
 
@@ -138,7 +138,22 @@ impl fmt::Display for WrongWord {
         write_byte(f, 0, owed.b0, stores.b0, got.b0, later.b0, b0)?;
         write_byte(f, 1, owed.b1, stores.b1, got.b1, later.b1, b1)?;
         write_byte(f, 2, owed.b2, stores.b2, got.b2, later.b2, b2)?;
-        write_byte(f, 3, owed.b3, stores.b3, got.b3, later.b3, b3)
+        write_byte(f, 3, owed.b3, stores.b3, got.b3, later.b3, b3)?;
+        write_since(f, self.stood_since)
+    }
+}
+
+// What a run is whose last value is a word that stood there since its load was accepted.
+#[tactic(auto, unfolding(crate::specs::Texts::since_line))]
+fn write_since<W: fmt::Write>(f: &mut fmt::Formatter<W>, stood_since: bool) -> fmt::Result
+    ensures { WritesOnOk W.write_str_gives f.old result (since_line stood_since) f.new }
+{
+    if stood_since {
+        f.write_str(
+            "\nthe whole word stood there after the load: no run of flat memory from acceptance on; as a history it is atomic",
+        )
+    } else {
+        Ok(())
     }
 }
 

@@ -1,0 +1,369 @@
+-- What is counted and shown of tags after each change of one of them.
+use Rattle.std.proofs.Common.{◌&&◌, ◌||◌, append-nil, ◌≡◌, ◌≢◌, ℕ, ◌+◌, ◌*◌, ◌-◌, ◌<◌, ◌≤◌, Bool, true, false, ◌==◌, cond, if◌then◌else◌, List, [], ◌∷◌, ◌++◌, take, drop, length, replicate, get_or, set, length-append, inl, inr, refl, sym, ◌∙◌, ap, subst, eq-eqb, arith}
+use Rattle.std.specs.Prelude.{slice_set}
+use Rattle.std.specs.List.{sum_by, list_any}
+use Rattle.std.proofs.Math.Path.{fun_ext}
+use Rattle.std.proofs.Math.Seq.{drop-length, take-length}
+use Rattle.std.proofs.lemmas.Bool.{cases_Bool, cases_eq, cases_lt, eqb-true, ne_eqb}
+use Rattle.std.proofs.lemmas.List.{length-drop, get_or-set_same, get_or-set_other, get_or-replicate, get_or_past, drop-append-le, length-replicate}
+use Rattle.std.proofs.lemmas.List.Sums.{sum_by-set, sum_by-le, get_or-le-sum_by}
+use Rattle.std.proofs.lemmas.List.Folds.{sum_by-replicate}
+use Rattle.flat_model.specs.declared.Word.{Word}
+use Rattle.std.proofs.lemmas.Bool.Decides.{nat_tests}
+use Rattle.flat_model.specs.Flat.{same_word}
+use Rattle.run_reasons.specs.declared.origins.AcceptedLoad.{AcceptedLoad}
+use Rattle.run_reasons.specs.declared.origins.TagUse.{TagUse}
+use Rattle.run_reasons.specs.declared.origins.TagUse.TheVariants.{Never, Loaded, Taken}
+use Rattle.run_reasons.specs.declared.tags.LeftWord.{LeftWord}
+use Rattle.run_reasons.specs.declared.tags.TagSlot.{TagSlot}
+use Rattle.run_reasons.specs.Origins.{is_open_at, with_use, without_since, with_left}
+use Rattle.run_reasons.specs.TagSlots.{no_slot, slot_at, uses_in, words_at, is_left, words_behind, since_in, is_open, loads_in, loads_at, IsCounted}
+
+abbrev one_if : Bool → ℕ
+one_if b = if b then 1 else 0
+
+not_true : false ≡ true → ⊥
+not_true e = cc
+
+times_zero : (n : ℕ) → n * 0 ≡ 0
+times_zero n = omega arith
+
+-- ---- a tag that has become another
+
+slot_set : (slots : List TagSlot) (tag t : ℕ) (s : TagSlot) (b : Bool) → tag < length slots → (t == tag) ≡ b
+    → slot_at (set slots tag s) t ≡ cond b s (slot_at slots t)
+slot_set slots tag t s true lt e =
+    let same : t ≡ tag = eqb-true t tag e in
+    ap (λ k. get_or (set slots tag s) k no_slot) same ∙ get_or-set_same slots tag s no_slot lt
+slot_set slots tag t s false lt e =
+    let other : t ≢ tag = grind (arith, nat_tests) in
+    get_or-set_other slots tag t s no_slot other
+
+state_is : (b : Bool) (s u : TagSlot) → (cond b s u).state ≡ (if b then s.state else u.state)
+state_is true s u = refl
+state_is false s u = refl
+
+pub uses_set : (slots : List TagSlot) (tag : ℕ) (s : TagSlot) → tag < length slots
+    → uses_in (slice_set slots tag s) ≡ with_use (uses_in slots) tag s.state
+uses_set slots tag s lt =
+    fun_ext (λ t. ap (λ (u : TagSlot). u.state) (slot_set slots tag t s (t == tag) lt refl) ∙ state_is (t == tag) s (slot_at slots t))
+
+words_is : (left : List LeftWord) (b : Bool) (s u : TagSlot) → words_behind left s.before s.state ≡ []
+    → words_behind left (cond b s u).before (cond b s u).state ≡ (if b then [] else words_behind left u.before u.state)
+words_is left true s u none = none
+words_is left false s u none = refl
+
+pub since_set : (left : List LeftWord) (slots : List TagSlot) (tag : ℕ) (s : TagSlot) → tag < length slots
+    → words_behind left s.before s.state ≡ [] → since_in left (slice_set slots tag s) ≡ without_since (since_in left slots) tag
+since_set left slots tag s lt none =
+    fun_ext (λ t. ap (λ (u : TagSlot). words_behind left u.before u.state) (slot_set slots tag t s (t == tag) lt refl)
+    ∙ words_is left (t == tag) s (slot_at slots t) none)
+
+-- of two changes of one tag the second counts
+twice : {X : Type 0} (b : Bool) (x y z : X) → (if b then x else (if b then y else z)) ≡ (if b then x else z)
+twice true x y z = refl
+twice false x y z = refl
+
+pub uses_twice : (uses : ℕ → TagUse) (tag : ℕ) (one other : TagUse) → with_use (with_use uses tag one) tag other ≡ with_use uses tag other
+uses_twice uses tag one other = fun_ext (λ t. twice (t == tag) other one (uses t))
+
+pub since_twice : (since : ℕ → List Word) (tag : ℕ) → without_since (without_since since tag) tag ≡ without_since since tag
+since_twice since tag = fun_ext (λ t. twice (t == tag) [] [] (since t))
+
+pub use_there : (uses : ℕ → TagUse) (tag : ℕ) (state : TagUse) → with_use uses tag state tag ≡ state
+use_there uses tag state = ap (λ b. if b then state else uses tag) (eq-eqb tag tag refl)
+
+-- no word is left of a tag that has no load, nor of one whose load has just been accepted
+pub none_closed : (left : List LeftWord) (before : ℕ) (state : TagUse) → is_open state ≡ false → words_behind left before state ≡ []
+none_closed left before Never h = refl
+none_closed left before (Loaded load) h = cc
+none_closed left before (Taken n) h = refl
+
+pub none_begun : (left : List LeftWord) (load : AcceptedLoad) → words_behind left (length left) (Loaded load) ≡ []
+none_begun left load = ap (words_at load.at) (drop-length left)
+
+-- ---- counts
+
+pub closed_at : (at : ℕ) (state : TagUse) → is_open state ≡ false → is_open_at at state ≡ false
+closed_at at Never h = refl
+closed_at at (Loaded load) h = cc
+closed_at at (Taken n) h = refl
+
+-- one that has a load is counted
+pub one_counted : (p : TagUse → Bool) (slots : List TagSlot) (t : ℕ) → p Never ≡ false → p (uses_in slots t) ≡ true
+    → 1 ≤ sum_by (λ s. one_if (p s.state)) slots
+one_counted p slots t none h = elim (cases_lt t (length slots)) [
+  | inl lt ↦
+      let counted : one_if (p (uses_in slots t)) ≤ sum_by (λ s. one_if (p s.state)) slots = get_or-le-sum_by (λ s.
+      one_if (p s.state)) slots t no_slot lt in
+      subst (λ b. one_if b ≤ sum_by (λ s. one_if (p s.state)) slots) h counted
+  | inr past ↦
+      let slot : slot_at slots t ≡ no_slot = get_or_past slots t no_slot past in
+      let f : false ≡ true = sym none ∙ (ap (λ (s : TagSlot). p s.state) (sym slot) ∙ h) in
+      absurd (not_true f)
+]
+
+-- so where none is counted none has one
+pub none_counted : (p : TagUse → Bool) (slots : List TagSlot) (t : ℕ) → p Never ≡ false → sum_by (λ s. one_if (p s.state)) slots ≡ 0
+    → p (uses_in slots t) ≡ false
+none_counted p slots t none zero = elim (cases_Bool (p (uses_in slots t))) [
+  | inl e ↦ absurd (omega (arith, one_counted p slots t none e, zero))
+  | inr e ↦ e
+]
+
+at_most_one : (b : Bool) → one_if b ≤ 1
+at_most_one true = omega arith
+at_most_one false = omega arith
+
+pub few_counted : (p : TagUse → Bool) (slots : List TagSlot) → sum_by (λ s. one_if (p s.state)) slots ≤ length slots
+few_counted p slots =
+    let most : sum_by (λ s. one_if (p s.state)) slots ≤ length slots * 1 = sum_by-le (λ s.
+    one_if (p s.state)) 1 slots (λ k d l. at_most_one (p (get_or slots k d).state)) in
+    omega (arith, most)
+
+counted_set : (p : TagUse → Bool) (slots : List TagSlot) (tag : ℕ) (s : TagSlot) → tag < length slots
+    → sum_by (λ s. one_if (p s.state)) (slice_set slots tag s) + one_if (p (uses_in slots tag))
+    ≡ sum_by (λ s. one_if (p s.state)) slots + one_if (p s.state)
+counted_set p slots tag s lt = sum_by-set (λ s. one_if (p s.state)) slots tag s no_slot lt
+
+behind_set : (slots : List TagSlot) (tag : ℕ) (s : TagSlot) (most : ℕ) → tag < length slots
+    → ((t : ℕ) → is_open (uses_in slots t) ≡ true → (slot_at slots t).before ≤ most) → (is_open s.state ≡ true → s.before ≤ most)
+    → (t : ℕ) → is_open (uses_in (slice_set slots tag s) t) ≡ true → (slot_at (slice_set slots tag s) t).before ≤ most
+behind_set slots tag s most lt others this t h = elim (cases_Bool (t == tag)) [
+  | inl e ↦
+      let is : slot_at (set slots tag s) t ≡ s = slot_set slots tag t s true lt e in
+      subst (λ (u : TagSlot). u.before ≤ most) (sym is) (this (ap (λ (u : TagSlot). is_open u.state) (sym is) ∙ h))
+  | inr e ↦
+      let is : slot_at (set slots tag s) t ≡ slot_at slots t = slot_set slots tag t s false lt e in
+      subst (λ (u : TagSlot). u.before ≤ most) (sym is) (others t (ap (λ (u : TagSlot). is_open u.state) (sym is) ∙ h))
+]
+
+no_longer : (state : TagUse) (P : Type 0) → is_open state ≡ false → is_open state ≡ true → P
+no_longer state P e h = absurd (not_true (sym e ∙ h))
+
+-- a tag without a load becomes another one without
+pub counted_closed : (slots : List TagSlot) (counts : List ℕ) (loads : ℕ) (left : List LeftWord) (tag : ℕ) (s : TagSlot)
+    → IsCounted slots counts loads left → tag < length slots → is_open (uses_in slots tag) ≡ false → is_open s.state ≡ false
+    → IsCounted (slice_set slots tag s) counts loads left
+counted_closed slots counts loads left tag s c lt free closed = record {
+  each_word = λ at.
+      let old : one_if (is_open_at at (uses_in slots tag)) ≡ 0 = ap one_if (closed_at at (uses_in slots tag) free) in
+      let new : one_if (is_open_at at s.state) ≡ 0 = ap one_if (closed_at at s.state closed) in
+      omega (arith, c.each_word at, counted_set (is_open_at at) slots tag s lt, old, new);
+  all =
+      let old : one_if (is_open (uses_in slots tag)) ≡ 0 = ap one_if free in
+      let new : one_if (is_open s.state) ≡ 0 = ap one_if closed in
+      omega (arith, c.all, counted_set is_open slots tag s lt, old, new);
+  behind = behind_set slots tag s (length left) lt c.behind (no_longer s.state (s.before ≤ length left) closed);
+}
+
+-- what a count is behind a change of one of them
+count_at : (counts : List ℕ) (at a n : ℕ) → at < length counts → get_or (set counts at n) a 0 ≡ (if a == at then n else get_or counts a 0)
+count_at counts at a n lt = elim (cases_eq a at) [
+  | inl e ↦ rw (eq-eqb a at e) (ap (λ k. get_or (set counts at n) k 0) e ∙ get_or-set_same counts at n 0 lt)
+  | inr ne ↦ rw (ne_eqb a at ne) (get_or-set_other counts at a n 0 ne)
+]
+
+-- a load is accepted
+pub counted_begun : (slots : List TagSlot) (counts : List ℕ) (loads : ℕ) (left : List LeftWord) (tag n m : ℕ) (load : AcceptedLoad)
+    → IsCounted slots counts loads left → tag < length slots → is_open (uses_in slots tag) ≡ false → load.at < length counts
+    → n ≡ get_or counts load.at 0 + 1 → m ≡ loads + 1
+    → IsCounted (slice_set slots tag (record { state = Loaded load; before = length left })) (slice_set counts load.at n) m left
+counted_begun slots counts loads left tag n m load c lt free inside counts' loads' =
+    let s : TagSlot = record { state = Loaded load; before = length left } in
+    record {
+      each_word = λ a.
+          let old : one_if (is_open_at a (uses_in slots tag)) ≡ 0 = ap one_if (closed_at a (uses_in slots tag) free) in
+          let sum : loads_at a (slice_set slots tag s) ≡ loads_at a slots + one_if (load.at == a) = omega (
+            arith,
+            counted_set (is_open_at a) slots tag s lt,
+            old,
+          ) in
+          elim (cases_eq a load.at) [
+            | inl e ↦
+                let one : one_if (load.at == a) ≡ 1 = ap one_if (eq-eqb load.at a (sym e)) in
+                let new : get_or (set counts load.at n) a 0 ≡ n = count_at counts load.at a n inside ∙ ap (λ b.
+                if b then n else get_or counts a 0) (eq-eqb a load.at e) in
+                let was : get_or counts load.at 0 ≡ loads_at a slots = ap (λ k. get_or counts k 0) (sym e) ∙ c.each_word a in
+                omega (arith, new, sum, one, counts', was)
+            | inr ne ↦
+                let none : one_if (load.at == a) ≡ 0 = ap one_if (ne_eqb load.at a (λ q. ne (sym q))) in
+                let new : get_or (set counts load.at n) a 0 ≡ get_or counts a 0 = count_at counts load.at a n inside ∙ ap (λ b.
+                if b then n else get_or counts a 0) (ne_eqb a load.at ne) in
+                omega (arith, new, sum, none, c.each_word a)
+          ];
+      all =
+          let old : one_if (is_open (uses_in slots tag)) ≡ 0 = ap one_if free in
+          omega (arith, c.all, counted_set is_open slots tag s lt, old, loads');
+      behind = behind_set slots tag s (length left) lt c.behind (λ h. omega arith);
+    }
+
+-- a load that is open is counted at its word, which lies within memory
+pub load_counted : (slots : List TagSlot) (counts : List ℕ) (loads : ℕ) (left : List LeftWord) (tag : ℕ) (load : AcceptedLoad)
+    → IsCounted slots counts loads left → uses_in slots tag ≡ Loaded load → (1 ≤ get_or counts load.at 0) × (1 ≤ loads)
+load_counted slots counts loads left tag load c is =
+    let at : is_open_at load.at (uses_in slots tag) ≡ true = ap (is_open_at load.at) is ∙ eq-eqb load.at load.at refl in
+    let one : 1 ≤ loads_at load.at slots = one_counted (is_open_at load.at) slots tag refl at in
+    let all : 1 ≤ loads_in slots = one_counted is_open slots tag refl (ap is_open is) in
+    (omega (arith, one, c.each_word load.at), omega (arith, all, c.all))
+
+pub within : (counts : List ℕ) (at : ℕ) → 1 ≤ get_or counts at 0 → at < length counts
+within counts at some = elim (cases_lt at (length counts)) [
+  | inl lt ↦ lt
+  | inr past ↦ absurd (omega (arith, some, get_or_past counts at 0 past))
+]
+
+-- the value of a load is taken
+pub counted_ended : (slots : List TagSlot) (counts : List ℕ) (loads : ℕ) (left : List LeftWord) (tag n m : ℕ) (load : AcceptedLoad)
+    (s : TagSlot) → IsCounted slots counts loads left → tag < length slots → uses_in slots tag ≡ Loaded load → is_open s.state ≡ false
+    → n + 1 ≡ get_or counts load.at 0 → m + 1 ≡ loads
+    → IsCounted (slice_set slots tag s) (slice_set counts load.at n) m left
+counted_ended slots counts loads left tag n m load s c lt is closed counts' loads' =
+    let inside : load.at < length counts = within counts load.at (load_counted slots counts loads left tag load c is).0 in
+    record {
+      each_word = λ a.
+          let old : one_if (is_open_at a (uses_in slots tag)) ≡ one_if (load.at == a) = ap (λ u. one_if (is_open_at a u)) is in
+          let new : one_if (is_open_at a s.state) ≡ 0 = ap one_if (closed_at a s.state closed) in
+          let sum : loads_at a (slice_set slots tag s) + one_if (load.at == a) ≡ loads_at a slots = omega (
+            arith,
+            counted_set (is_open_at a) slots tag s lt,
+            old,
+            new,
+          ) in
+          elim (cases_eq a load.at) [
+            | inl e ↦
+                let one : one_if (load.at == a) ≡ 1 = ap one_if (eq-eqb load.at a (sym e)) in
+                let now : get_or (set counts load.at n) a 0 ≡ n = count_at counts load.at a n inside ∙ ap (λ b.
+                if b then n else get_or counts a 0) (eq-eqb a load.at e) in
+                let was : get_or counts load.at 0 ≡ loads_at a slots = ap (λ k. get_or counts k 0) (sym e) ∙ c.each_word a in
+                omega (arith, now, sum, one, counts', was)
+            | inr ne ↦
+                let none : one_if (load.at == a) ≡ 0 = ap one_if (ne_eqb load.at a (λ q. ne (sym q))) in
+                let now : get_or (set counts load.at n) a 0 ≡ get_or counts a 0 = count_at counts load.at a n inside ∙ ap (λ b.
+                if b then n else get_or counts a 0) (ne_eqb a load.at ne) in
+                omega (arith, now, sum, none, c.each_word a)
+          ];
+      all =
+          let old : one_if (is_open (uses_in slots tag)) ≡ 1 = ap (λ u. one_if (is_open u)) is in
+          let new : one_if (is_open s.state) ≡ 0 = ap one_if closed in
+          omega (arith, c.all, counted_set is_open slots tag s lt, old, new, loads');
+      behind = behind_set slots tag s (length left) lt c.behind (no_longer s.state (s.before ≤ length left) closed);
+    }
+
+-- no load is open, so the words that were left are forgotten
+pub counted_forgotten : (slots : List TagSlot) (counts : List ℕ) (loads : ℕ) (left : List LeftWord) → IsCounted slots counts loads left
+    → loads ≡ 0 → IsCounted slots counts loads []
+counted_forgotten slots counts loads left c none = record {
+  each_word = c.each_word;
+  all = c.all;
+  behind = λ t h. no_longer (uses_in slots t) ((slot_at slots t).before ≤ 0) (none_counted is_open slots t refl (sym c.all ∙ none)) h;
+}
+
+pub since_forgotten : (slots : List TagSlot) (counts : List ℕ) (loads : ℕ) (left : List LeftWord) → IsCounted slots counts loads left
+    → loads ≡ 0 → since_in [] slots ≡ since_in left slots
+since_forgotten slots counts loads left c none = fun_ext (λ t.
+    let closed : is_open (uses_in slots t) ≡ false = none_counted is_open slots t refl (sym c.all ∙ none) in
+    let before : ℕ = (slot_at slots t).before in
+    none_closed [] before (uses_in slots t) closed ∙ sym (none_closed left before (uses_in slots t) closed))
+
+-- ---- words that are left
+
+words_more : (at : ℕ) (xs ys : List LeftWord) → words_at at (xs ++ ys) ≡ words_at at xs ++ words_at at ys
+words_more at [] ys = refl
+words_more at (x ∷ xs) ys = elim (cases_Bool (at == x.at)) [
+  | inl e ↦ rw e (ap (λ ws. x.word ∷ ws) (words_more at xs ys))
+  | inr e ↦ rw e (words_more at xs ys)
+]
+
+one_left : (b : Bool) (word : Word) (words : List Word) → words ++ (if b then word ∷ [] else []) ≡ (if b then words ++ word ∷ [] else words)
+one_left true word words = refl
+one_left false word words = append-nil words
+
+left_for : (left : List LeftWord) (l : LeftWord) (before : ℕ) (state : TagUse) → (is_open state ≡ true → before ≤ length left)
+    → words_behind (left ++ l ∷ []) before state ≡ (if is_open_at l.at state then words_behind left before state
+    ++ l.word ∷ [] else words_behind left before state)
+left_for left l before Never h = refl
+left_for left l before (Taken n) h = refl
+left_for left l before (Loaded load) h =
+    ap (words_at load.at) (drop-append-le before left (l ∷ []) (h refl)) ∙ words_more load.at (drop before left) (l ∷ [])
+    ∙ one_left (load.at == l.at) l.word (words_at load.at (drop before left))
+
+pub since_left : (slots : List TagSlot) (counts : List ℕ) (loads : ℕ) (left : List LeftWord) (l : LeftWord)
+    → IsCounted slots counts loads left → since_in (left ++ l ∷ []) slots ≡ with_left (uses_in slots) (since_in left slots) l.at l.word
+since_left slots counts loads left l c = fun_ext (λ t. left_for left l (slot_at slots t).before (uses_in slots t) (c.behind t))
+
+pub counted_left : (slots : List TagSlot) (counts : List ℕ) (loads : ℕ) (left : List LeftWord) (l : LeftWord)
+    → IsCounted slots counts loads left → IsCounted slots counts loads (left ++ l ∷ [])
+counted_left slots counts loads left l c = record {
+  each_word = c.each_word;
+  all = c.all;
+  behind = λ t h. omega (arith, c.behind t h, length-append left (l ∷ []));
+}
+
+not_at : (b : Bool) (words more : List Word) → b ≡ false → words ≡ (if b then more else words)
+not_at true words more h = cc
+not_at false words more h = refl
+
+-- nobody waits for a word of which no load is open
+pub since_passed : (slots : List TagSlot) (counts : List ℕ) (loads : ℕ) (left : List LeftWord) (at : ℕ) (word : Word)
+    → IsCounted slots counts loads left → get_or counts at 0 ≡ 0
+    → since_in left slots ≡ with_left (uses_in slots) (since_in left slots) at word
+since_passed slots counts loads left at word c zero = fun_ext (λ t.
+    not_at (is_open_at at (uses_in slots t)) (since_in left slots t) (since_in left slots t ++ word ∷ [])
+    (none_counted (is_open_at at) slots t refl (sym (c.each_word at) ∙ zero)))
+
+-- ---- before any line
+
+first_slot : (n t : ℕ) → slot_at (replicate n no_slot) t ≡ no_slot
+first_slot n t = elim (cases_lt t n) [
+  | inl lt ↦ get_or-replicate n t no_slot no_slot lt
+  | inr past ↦ get_or_past (replicate n no_slot) t no_slot (omega (arith, past, length-replicate n no_slot))
+]
+
+pub first_uses : (n : ℕ) → uses_in (replicate n no_slot) ≡ (λ tag. Never)
+first_uses n = fun_ext (λ t. ap (λ (s : TagSlot). s.state) (first_slot n t))
+
+pub first_since : (n : ℕ) → since_in [] (replicate n no_slot) ≡ (λ tag. [])
+first_since n = fun_ext (λ t. ap (λ (s : TagSlot). words_behind [] s.before s.state) (first_slot n t))
+
+same_everywhere : (n at x : ℕ) → get_or (replicate n x) at x ≡ x
+same_everywhere n at x = elim (cases_lt at n) [
+  | inl lt ↦ get_or-replicate n at x x lt
+  | inr past ↦ get_or_past (replicate n x) at x (omega (arith, past, length-replicate n x))
+]
+
+first_sum : (p : TagUse → Bool) (n : ℕ) → p Never ≡ false → sum_by (λ s. one_if (p s.state)) (replicate n no_slot) ≡ 0
+first_sum p n none = sum_by-replicate (λ s. one_if (p s.state)) n no_slot ∙ ap (λ b. n * one_if b) none ∙ times_zero n
+
+pub first_counted : (n words : ℕ) → IsCounted (replicate n no_slot) (replicate words 0) 0 []
+first_counted n words = record {
+  each_word = λ at. same_everywhere words at 0 ∙ sym (first_sum (is_open_at at) n refl);
+  all = sym (first_sum is_open n refl);
+  behind = λ t h. no_longer (uses_in (replicate n no_slot) t) ((slot_at (replicate n no_slot) t).before ≤ 0) (ap (λ (s : TagSlot).
+      is_open s.state) (first_slot n t)) h;
+}
+
+-- ---- a word that stood there
+
+pub any_at : (at : ℕ) (word : Word) (left : List LeftWord)
+    → list_any (is_left at word) left ≡ list_any (λ w. same_word w word) (words_at at left)
+any_at at word [] = refl
+any_at at word (l ∷ ls) = elim (cases_Bool (at == l.at)) [
+  | inl e ↦ rw e (ap (λ b. same_word l.word word || b) (any_at at word ls))
+  | inr e ↦ rw e (any_at at word ls)
+]
+
+-- what a slice from a place on has
+pub rest_of : {X : Type 0} (k : ℕ) (xs : List X) → take (length xs - k) (drop k xs) ≡ drop k xs
+rest_of k xs = ap (λ n. take n (drop k xs)) (sym (length-drop k xs)) ∙ take-length (drop k xs)
+
+-- the words of an open load begin within the list
+pub within_left : (slots : List TagSlot) (counts : List ℕ) (loads : ℕ) (left : List LeftWord) (tag : ℕ) (load : AcceptedLoad)
+    → IsCounted slots counts loads left → uses_in slots tag ≡ Loaded load → (slot_at slots tag).before ≤ length left
+within_left slots counts loads left tag load c is = c.behind tag (ap is_open is)
+
+pub has_stood : (slots : List TagSlot) (left : List LeftWord) (tag : ℕ) (load : AcceptedLoad) (word : Word)
+    → uses_in slots tag ≡ Loaded load → list_any (is_left load.at word) (drop (slot_at slots tag).before left) ≡ list_any (λ w. same_word w word) (since_in left slots tag)
+has_stood slots left tag load word is =
+    any_at load.at word (drop (slot_at slots tag).before left)
+    ∙ ap (λ u. list_any (λ w. same_word w word) (words_behind left (slot_at slots tag).before u)) (sym is)
