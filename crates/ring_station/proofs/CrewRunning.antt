@@ -1,16 +1,45 @@
--- From runs with more room in their lists on.
-use Rattle.std.proofs.Common.{◌≡◌, ◌<◌, ℕ, List, [], slice_index_or, sym, ◌∙◌, subst}
+-- From the runs of threads to those of the crew, and from runs with more room in their lists on.
+use Rattle.std.proofs.Common.{◌≡◌, ◌<◌, ◌≤◌, ◌+◌, ℕ, List, [], length, slice_index_or, sym, ap, ◌∙◌, subst, arith}
 use Rattle.std.specs.Global.{Vec}
 use Rattle.std.specs.List.{All}
+use Rattle.std.specs.Fork.{IsChunk}
+use Rattle.std.proofs.lemmas.List.{get_or_default}
 use Rattle.station_journal.specs.declared.asks.Ask.{Ask}
 use Rattle.ring_station.specs.declared.crew.PortRun.{PortRun}
+use Rattle.ring_station.specs.declared.crew.BankRun.{BankRun}
 use Rattle.ring_station.specs.PortRuns.{PortRan}
-use Rattle.ring_station.specs.Crew.{RanScript, EachRanScript, EachIsSame}
+use Rattle.ring_station.specs.PartRuns.{BankRan}
+use Rattle.ring_station.specs.Crew.{HasNotBegun, RanScript, EachRanScript, EachIsSame, IsReady, EachIsReady, GoesOn}
+use Rattle.ring_station.specs.Scripts.{HasTalked}
+use Rattle.ring_station.specs.declared.talk.Phase.TheVariants.{Offering}
 
--- the same of runs that are equal to those
-pub ran_alike : (script : List Ask) (turns : ℕ) (old old' new new' : PortRun) → old ≡ old' → new ≡ new' → RanScript script turns old new
-    → RanScript script turns old' new'
-ran_alike script turns old old' new new' o n h = rw (← o, ← n) h
+-- the same of runs that are equal to those, at the place that is so far behind the first of its thread
+pub chunk_ran : (scripts : List (Vec Ask)) (turns start offset p : ℕ) (s : Vec Ask) (old old' new new' : PortRun) → start + offset ≡ p
+    → old ≡ old' → new ≡ new' → RanScript (slice_index_or scripts (start + offset) s).items turns old new
+    → RanScript (slice_index_or scripts p s).items turns old' new'
+chunk_ran scripts turns start offset p s old old' new new' e o n h = rw (← e, ← o, ← n) h
+
+-- and of a bank
+pub chunk_served : (turns : ℕ) (old old' new new' : BankRun) → old ≡ old' → new ≡ new' → BankRan turns old.bank new.bank new.end
+    → BankRan turns old'.bank new'.bank new'.end
+chunk_served turns old old' new new' o n h = rw (← o, ← n) h
+
+-- the ports of a thread, at one of its places: its script, and its run as it stood at first
+pub ready_now : (scripts : List (Vec Ask)) (start turn k : ℕ) (old now : List PortRun) (e : Vec Ask) (f : PortRun) (script : List Ask)
+    → script ≡ (slice_index_or scripts (start + k) e).items → EachIsReady scripts start turn old → k < length old
+    → ((d : PortRun) → slice_index_or now k d ≡ slice_index_or old k d) → IsReady script turn (slice_index_or now k f)
+ready_now scripts start turn k old now e f script is ready less same = rw (is, same f) (ready.each k e f less)
+
+pub goes_on_at : (scripts : List (Vec Ask)) (p turn : ℕ) (e : Vec Ask) (script : List Ask) (old new : PortRun)
+    → script ≡ (slice_index_or scripts p e).items → p < length scripts → GoesOn script turn old new → (s : Vec Ask)
+    → GoesOn (slice_index_or scripts p s).items turn old new
+goes_on_at scripts p turn e script old new is less h s =
+    subst (λ l. GoesOn l turn old new) (is ∙ ap (λ (v : Vec Ask). v.items) (get_or_default scripts p e s less)) h
+
+-- what holds of each element holds of those of a chunk
+pub all_in_chunk : {X : Type 0} (P : X → Type 0) (xs ys : List X) (size start : ℕ) → IsChunk xs size start ys → All P xs → All P ys
+all_in_chunk P xs ys size start chunk all =
+    λ k d less. let u = chunk.in_bounds in subst P (sym (chunk.elements k d less)) (all (start + k) d (omega arith))
 
 pub begun_after : (scripts : List (Vec Ask)) (turns : ℕ) (old reserved new : List PortRun) → EachIsSame old reserved
     → EachRanScript scripts turns reserved new → EachRanScript scripts turns old new
@@ -24,7 +53,17 @@ begun_after scripts turns old reserved new same ran = record {
       subst (λ x. PortRan script turns x run.port run.list.items run.end) e.port h;
 }
 
-pub reserved_empty : (old reserved : List PortRun) → EachIsSame old reserved → All (λ r. r.list.items ≡ []) old
-    → All (λ r. r.list.items ≡ []) reserved
-reserved_empty old reserved same empty =
-    λ p d less. let there = subst (λ n. p < n) same.number less in (same.each p d there).list ∙ empty p d there
+pub still_not_begun : (old reserved : List PortRun) → EachIsSame old reserved → All HasNotBegun old → All HasNotBegun reserved
+still_not_begun old reserved same begun =
+    λ p d less.
+    let there = subst (λ n. p < n) same.number less in
+    let run = same.each p d there in
+    let before = begun p d there in
+    let talk = sym run.talk in
+    record {
+      list = run.list ∙ before.list;
+      end = run.end ∙ before.end;
+      phase = subst (λ t. t.phase ≡ Offering) talk before.phase;
+      owed = subst (λ t. t.owed ≡ 0) talk before.owed;
+      talked = λ script. subst (λ t. HasTalked script t.phase t.next t.owed [] []) talk (before.talked script);
+    }

@@ -2,6 +2,7 @@ pub mod Talking
 pub mod PortRunning
 pub mod Turning
 pub mod Enlisting
+pub mod Sharing
 pub mod CrewRunning
 pub mod StationRunning
 pub mod Ending

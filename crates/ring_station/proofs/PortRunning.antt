@@ -1,6 +1,6 @@
 -- The run of a port, from its first turn to its last.
 use Rattle.std.proofs.Common.{◌≡◌, ◌<◌, ◌≤◌, ◌+◌, ℕ, List, [], ◌++◌, refl, sym, ap, ◌∙◌, subst, append-nil, arith}
-use Rattle.std.specs.Prelude.{Result, Ok, Err, IfOk, OnErr, Option}
+use Rattle.std.specs.Prelude.{false, Result, Ok, Err, IfOk, OnErr, Option, Some, None}
 use Rattle.std.specs.declared.alloc.AllocError.{AllocError}
 use Rattle.station_journal.specs.declared.asks.Ask.{Ask}
 use Rattle.station_journal.specs.declared.asks.Told.{Told}
@@ -13,9 +13,13 @@ use Rattle.ring_station.specs.declared.idle.Turn.{Turn}
 use Rattle.ring_station.specs.declared.idle.Turn.TheVariants.{Moved, Held, Idle}
 use Rattle.ring_station.specs.declared.thread_end.ThreadEnd.{ThreadEnd}
 use Rattle.ring_station.specs.declared.thread_end.ThreadFault.{ThreadFault}
+use Rattle.ring_station.specs.declared.thread_end.ThreadFault.TheVariants.{TurnLimit, OutOfMemory, JournalFull}
+use Rattle.ring_station.specs.declared.crew.PortRun.{PortRun}
+use Rattle.ring_station.specs.declared.talk.Phase.TheVariants.{Offering, Awaiting}
 use Rattle.station_parts.specs.Ids.{port_id}
-use Rattle.ring_station.specs.Ends.{Stands}
+use Rattle.ring_station.specs.Ends.{Stands, goes_on}
 use Rattle.ring_station.specs.PortRuns.{IsOnItsWay, HasRun, PortRan, moves_of, moves_in}
+use Rattle.ring_station.specs.Crew.{HasNotBegun, HasCome}
 
 -- before the first turn
 pub on_its_way_at_first : (script : List Ask) (talk : Talk) (port : Port) (list : List Told) → list ≡ []
@@ -60,4 +64,40 @@ has_run script talk first port list on over =
       offered_is = on.offered_is;
       taken_is = on.taken_is;
       converses = over script on.said list on.talked;
+    }
+
+-- ---- turn by turn
+
+pub come_at_first : (script : List Ask) (run : PortRun) → HasNotBegun run → HasCome script 0 run.port run
+come_at_first script run h =
+    let on = on_its_way_at_first script run.talk run.port run.list.items h.list (h.talked script) in
+    let none : run.talk.owed ≡ 0 = h.owed in
+    record {
+      ran = port_ran script 0 0 run.port run.port run.list.items run.end (Some TurnLimit) h.end (omega arith) refl on.same on.before
+          on.taken_is (omega arith);
+      ready = record { owed = omega arith; placed = λ w. let e : Offering ≡ Awaiting = sym h.phase ∙ w in cc };
+      on = λ goes. on;
+    }
+
+-- a run that is over stands as it did if there are more turns
+pub over_longer : (over memory full : Type 0) (turn turns begun : ℕ) (fault : Option ThreadFault) → goes_on fault ≡ false
+    → Stands over memory full turn begun fault → Stands over memory full turns begun fault
+over_longer over memory full turn turns begun None e h = h
+over_longer over memory full turn turns begun (Some TurnLimit) e h = absurd (cc)
+over_longer over memory full turn turns begun (Some OutOfMemory) e h = h
+over_longer over memory full turn turns begun (Some JournalFull) e h = h
+
+pub ran_longer : (script : List Ask) (turn turns : ℕ) (old new : Port) (list : List Told) (end : ThreadEnd) → turn ≤ turns
+    → goes_on end.fault ≡ false → PortRan script turn old new list end → PortRan script turns old new list end
+ran_longer script turn turns old new list end more over h =
+    let within = h.ended.within in
+    record {
+      same = h.same;
+      before = h.before;
+      took = h.took;
+      moved = h.moved;
+      ended = record {
+        within = omega arith;
+        stands = over_longer (HasRun script old new list) (0 < end.turns) ⊥ turn turns end.turns end.fault over h.ended.stands;
+      };
     }

@@ -60,8 +60,8 @@ ports_back scripts turns runs new ports back lists ends went ran came took ended
       listed = long_as list new lists took ∙ count;
       ended = long_as end new ends ended ∙ count;
       each = λ p s d l e less.
-          let run : PortRun = record { port = d; list = l; end = e } in
           let there : p < length runs = subst (λ n. p < n) (long_as port runs ports went) less in
+          let run : PortRun = record { port = d; talk = (default_of runs p there).talk; list = l; end = e } in
           let script = (slice_index_or scripts p s).items in
           let h = ran.each p s run there in
           let x = slice_index_or runs p run in

@@ -22,7 +22,11 @@ use Rattle.station_parts.specs.Words.{earlier_of, held_of, journal_limit, cache_
 use Rattle.ring_station.specs.Turns.{IsTurn, SideSteps, BankSteps, IsStuck}
 use Rattle.ring_station.specs.declared.thread_end.ThreadEnd.{ThreadEnd}
 use Rattle.ring_station.specs.declared.thread_end.ThreadFault.{ThreadFault}
-use Rattle.ring_station.specs.Ends.{Stands}
+use Rattle.ring_station.specs.Ends.{Stands, goes_on, not_begun}
+use Rattle.ring_station.specs.Crew.{ServesOn}
+use Rattle.ring_station.specs.declared.crew.BankRun.{BankRun}
+use Rattle.ring_station.specs.declared.thread_end.ThreadFault.TheVariants.{TurnLimit}
+use Rattle.ring_station.proofs.PortRunning.{over_longer}
 use Rattle.ring_station.specs.PartRuns.{ends_at, ended_in, HasFinished, BankRan, CacheRan, IsServed}
 
 -- ---- a step of the cache side notes at most one entry
@@ -104,6 +108,10 @@ noted_more old new first turn h before =
     let f = h.few in
     omega arith
 
+-- a cache side that only looked has noted nothing
+pub noted_still : (old new : List Entry) (first turn : ℕ) → new ≡ old → length old ≤ first + turn → length new ≤ first + turn
+noted_still old new first turn same before = let l = ap length same in omega arith
+
 -- how many ports an entry that is new ends
 counted_one : (es : List Entry) → length es ≤ 1 → ended_in es ≡ cond (ends_at es 0) 1 0
 counted_one [] few = refl
@@ -136,6 +144,9 @@ ended_more old new place ended still still' first h at is o before =
     let more : ended_in (held_of new) ≡ ended_in js + cond ended 1 0 =
     ap ended_in h.held ∙ counted js h.entries h.few ∙ ap (λ b. ended_in js + cond b 1 0) (sym there) in
     open_after ended still still' first (ended_in js) (ended_in (held_of new)) o more before
+
+pub ended_still : (old new : List Entry) (first still : ℕ) → new ≡ old → first ≤ ended_in old + still → first ≤ ended_in new + still
+ended_still old new first still same before = let e = ap ended_in same in omega arith
 
 -- ---- a step of a bank serves at most one command
 
@@ -186,6 +197,36 @@ pub bank_ran : (turns begun : ℕ) (old new : BankSide) (end : ThreadEnd) (fault
     → bank_id new ≡ bank_id old → length (received_by new) ≤ length (received_by old) + begun → BankRan turns old new end
 bank_ran turns begun old new end fault e w s i m =
     subst (λ x. BankRan turns old new x) (sym e) (record { same = i; served = m; ended = record { within = w; stands = s } })
+
+-- before its first turn
+pub bank_at_first : (run : BankRun) → run.end ≡ not_begun → BankRan 0 run.bank run.bank run.end
+bank_at_first run begun = bank_ran 0 0 run.bank run.bank run.end (Some TurnLimit) begun (omega arith) refl refl (omega arith)
+
+-- one that is over stands as it did if there are more turns
+pub bank_stays_over : (turn turns : ℕ) (old new : BankSide) (end : ThreadEnd) → turn ≤ turns → goes_on end.fault ≡ false
+    → BankRan turn old new end → BankRan turns old new end
+bank_stays_over turn turns old new end more over h =
+    let within = h.ended.within in
+    record {
+      same = h.same;
+      served = h.served;
+      ended = record {
+        within = omega arith;
+        stands = over_longer (HasFinished new) ⊥ ⊥ turn turns end.turns end.fault over h.ended.stands;
+      };
+    }
+
+-- a turn of one that goes on, by what stands behind it
+pub bank_took_turn : (turn : ℕ) (old new : BankRun) (may : Bool) (result : Option Stepped) (fault : Option ThreadFault)
+    → new.end ≡ record { turns = turn + 1; fault = fault } → bank_id new.bank ≡ bank_id old.bank
+    → IsTurn BankSteps may old.bank new.bank result → Stands (HasFinished new.bank) ⊥ ⊥ (turn + 1) (turn + 1) fault
+    → ServesOn turn old new
+bank_took_turn turn old new may result fault e same made stands = λ first h.
+    let within = h.ended.within in
+    let served = h.served in
+    let before : length (received_by old.bank) ≤ length (received_by first) + turn = omega arith in
+    bank_ran (turn + 1) (turn + 1) first new.bank new.end fault e (omega arith) stands (same ∙ h.same)
+    (served_more may old.bank new.bank result (length (received_by first)) turn made before)
 
 pub cache_ran : {W B R D : ℕ} (ports turns begun : ℕ) (old new : CacheSide W B R D) (end : ThreadEnd) (fault : Option ThreadFault)
     → end ≡ record { turns = begun; fault = fault } → begun ≤ turns

@@ -17,6 +17,15 @@ pub record HasEnded (over memory full : Type 0) (turns : ℕ) (end : ThreadEnd) 
   pub within : end.turns ≤ turns
   pub stands : Stands over memory full turns end.turns end.fault
 
+-- before its first turn a thread stands as one that was given none
+abbrev pub not_begun : ThreadEnd
+not_begun = record { turns = 0; fault = Some TurnLimit }
+
+-- it stands so for want of turns alone
+abbrev pub goes_on : Option ThreadFault → Bool
+goes_on (Some TurnLimit) = true
+goes_on fault = false
+
 -- it came to its end
 abbrev pub is_over : ThreadEnd → Bool
 is_over end = is_none end.fault

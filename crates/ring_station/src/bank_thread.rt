@@ -1,40 +1,91 @@
-//! A bank's thread.
-ghost use Rattle.std.specs.Prelude.{◌≡◌};
+//! The thread of a bank, or of several.
+ghost use Rattle.std.specs.Prelude.{◌≡◌, ◌+◌, ◌<◌, ◌≤◌, false, length, None};
+ghost use Rattle.std.specs.List.{All};
+ghost use Rattle.flat_model.specs.declared.limits.TheConstants.{MAX_BANKS};
 ghost use Rattle.station_parts.specs.Ids.{bank_id};
 ghost use Rattle.ring_station.specs.Turns.{IsTurn, BankSteps};
-ghost use Rattle.ring_station.specs.PartRuns.{BankRan};
+ghost use Rattle.ring_station.specs.Ends.{goes_on, not_begun};
+ghost use Rattle.ring_station.specs.Crew.{EachServed, ServesOn, EachServesOn};
 
+use crate::crew::BankRun;
 use crate::gate::{Actor, Gate};
-use crate::idle::{Idling, turn_of};
+use crate::idle::{Idling, Turn, turn_of, turn_of_both};
 use crate::thread_end::{ThreadEnd, ThreadFault};
 use station_parts::{BankSide, Stepped};
 use std::rt::Clock;
 use std::sync::atomic::{AtomicBool, Ordering};
 
-/// Serves commands, one in a turn, until the cache side has set the flag and a step after that finds
-/// nothing to serve.
-pub(crate) fn run_bank<R: Clock, G: Gate>(
+/// Runs the banks of a thread, the first of which has this number: in each turn each of them whose run goes
+/// on serves a command, one bank after another. A bank's run is over once the cache side has set the flag
+/// and a step of the bank after that finds nothing to serve.
+pub(crate) fn run_bank_thread<R: Clock, G: Gate>(
     rt: &R,
     gate: &G,
-    number: u32,
+    start: usize,
     turns: u64,
     done: &AtomicBool,
-    bank: &mut BankSide,
-) -> ThreadEnd
-    ensures { BankRan turns bank.old bank.new result }
+    runs: &mut [BankRun],
+)
+    requires few { start + length runs.old ≤ MAX_BANKS }
+    requires begun { All (λ r. r.end ≡ not_begun) runs.old }
+    ensures { EachServed turns runs.old runs.new }
 {
     let mut idling = Idling::of_side();
     for turn in 0..turns {
-        // The flag is read before the step, since a command that is sent before it is set is seen
+        // The flag is read before the steps, since a command that is sent before it is set is seen
         // by a step after that.
         let is_done = done.load(Ordering::SeqCst);
-        let stepped = take_turn(gate.may(Actor::Bank(number)), bank);
-        if is_done && stepped == Some(Stepped::Idle) {
-            return ThreadEnd::over(turn + 1);
-        }
-        idling.end_turn(rt, turn_of(stepped));
+        let Some(made) = turn_of_banks(gate, start, is_done, turn, runs) else {
+            return;
+        };
+        idling.end_turn(rt, made);
     }
-    ThreadEnd::stopped(turns, ThreadFault::TurnLimit)
+}
+
+// A turn of each bank of a thread. `None` if the runs of all of them are over behind it.
+fn turn_of_banks<G: Gate>(
+    gate: &G,
+    start: usize,
+    is_done: bool,
+    turn: u64,
+    runs: &mut [BankRun],
+) -> Option<Turn>
+    requires few { start + length runs.old ≤ MAX_BANKS }
+    requires turn { turn < u64.MAX }
+    ensures on { EachServesOn turn runs.old runs.new }
+    ensures over { result ≡ None → All (λ r. goes_on r.end.fault ≡ false) runs.new }
+{
+    let mut all = None;
+    for k in 0..runs.len() {
+        let number = (start + k) as u32;
+        let made = turn_of_bank(gate, number, is_done, turn, &mut runs[k]);
+        all = turn_of_both(all, made);
+    }
+    all
+}
+
+// A turn of a bank, if its run goes on. `None` if it is over behind it.
+fn turn_of_bank<G: Gate>(
+    gate: &G,
+    number: u32,
+    is_done: bool,
+    turn: u64,
+    run: &mut BankRun,
+) -> Option<Turn>
+    requires { turn < u64.MAX }
+    ensures on { ServesOn turn run.old run.new }
+    ensures over { result ≡ None → goes_on run.new.end.fault ≡ false }
+{
+    if !run.end.goes_on() {
+        return None;
+    }
+    let stepped = take_turn(gate.may(Actor::Bank(number)), &mut run.bank);
+    if is_done && stepped == Some(Stepped::Idle) {
+        run.end = ThreadEnd::over(turn + 1);
+        return None;
+    }
+    run.end = ThreadEnd::stopped(turn + 1, ThreadFault::TurnLimit);
+    Some(turn_of(stepped))
 }
 
 // Makes a step, if the gate allows it: what it answered, and `None` if it doesn't.
@@ -45,5 +96,5 @@ fn take_turn(may: bool, bank: &mut BankSide) -> Option<Stepped>
     if !may {
         return None;
     }
-    Some(bank.step())
+    Some(bank.quick_step())
 }

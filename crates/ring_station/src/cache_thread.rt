@@ -13,7 +13,7 @@ use station_parts::{CacheSide, Entry, Source, Stepped};
 use std::rt::Clock;
 use std::sync::atomic::{AtomicBool, Ordering};
 
-/// Goes round the sources, a step a turn, until every port is done and the unit is at rest; then it
+/// Goes round the sources that have an item, a step a turn, until every port is done and the unit is at rest; then it
 /// sets the flag. It must not set it in another case: banks end by it. A journal that has no room
 /// has none in a later turn either, so a step that finds it full is the last.
 pub(crate) fn run_cache<
@@ -38,8 +38,10 @@ pub(crate) fn run_cache<
     let mut open_ports = ports;
     let mut idling = Idling::of_cache();
     for turn in 0..turns {
+        let may = gate.may(Actor::Cache);
+        round.seek(may, cache);
         let entries = cache.entries();
-        let stepped = take_turn(gate.may(Actor::Cache), round.source(), cache);
+        let stepped = take_turn(may, round.source(), cache);
         open_ports = still_open(open_ports, has_ended_port(cache, entries));
         if open_ports == 0 && cache.is_at_rest() {
             done.store(true, Ordering::SeqCst);
@@ -66,7 +68,7 @@ fn take_turn<const WAYS: usize, const WORDS: usize, const REGS: usize, const DEP
     if !may {
         return None;
     }
-    Some(cache.step(source))
+    Some(cache.quick_step(source))
 }
 
 // Whether the entry at this place of the journal is there, and ends a port.

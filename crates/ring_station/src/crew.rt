@@ -1,26 +1,50 @@
-//! What each thread of a run has in hand.
+//! How many threads a run has, and what they have in hand.
 ghost use Rattle.std.specs.Prelude.{◌≡◌, ◌<◌, ◌≤◌, ◌+◌, ◌++◌, ◌∷◌, [], map, vec_len, vec_capacity};
 ghost use Rattle.std.specs.List.{All};
+ghost use Rattle.ring_station.specs.Crew.{HasNotBegun};
+ghost use Rattle.ring_station.specs.Ends.{not_begun};
 
-use crate::thread_end::{ThreadEnd, ThreadFault};
+use crate::talk::Talk;
+use crate::thread_end::ThreadEnd;
 use station_parts::{BankSide, Port, Told};
 use std::alloc::Global;
 
-// A run that hasn't begun stands as one that had no turn.
-const NOT_BEGUN: ThreadEnd = ThreadEnd {
-    turns: 0,
-    fault: Some(ThreadFault::TurnLimit),
-};
+/// How many threads a run has for its ports, and how many for its banks. The cache side has one of its
+/// own. The parts of a thread are next to each other, and as many as in the others, but for the last.
+///
+/// More threads than ports or banks are one for each; none counts as one.
+#[derive(Clone, Copy, PartialEq, Eq, Debug)]
+pub struct Crew {
+    /// Threads that share the ports.
+    pub port_threads: usize,
+    /// Threads that share the banks.
+    pub bank_threads: usize,
+}
 
-/// A port, what it took in its run, and how the run ended.
+impl Crew {
+    /// A thread for each port and one for each bank, however many there are.
+    pub fn one_each() -> Crew
+        ensures ports { result.port_threads ≡ usize.MAX }
+        ensures banks { result.bank_threads ≡ usize.MAX }
+    {
+        Crew {
+            port_threads: usize::MAX,
+            bank_threads: usize::MAX,
+        }
+    }
+}
+
+/// A port, how far it has come with its script, what it took in its run, and how the run stands behind
+/// its last turn.
 #[derive(Drop)]
 pub(crate) struct PortRun {
     pub(crate) port: Port,
+    pub(crate) talk: Talk,
     pub(crate) list: Vec<Told>,
     pub(crate) end: ThreadEnd,
 }
 
-/// A bank, and how its run ended.
+/// A bank, and how its run stands behind its last turn.
 #[derive(Drop)]
 pub(crate) struct BankRun {
     pub(crate) bank: BankSide,
@@ -32,13 +56,14 @@ pub(crate) fn enlist_ports(alloc: Global, ports: Vec<Port>, runs: &mut Vec<PortR
     requires empty { runs.old.items ≡ [] }
     requires room { vec_len ports ≤ vec_capacity runs.old }
     ensures ports { map (λ r. r.port) runs.new.items ≡ ports.items }
-    ensures lists { All (λ r. r.list.items ≡ []) runs.new.items }
+    ensures begun { All HasNotBegun runs.new.items }
 {
     for port in ports {
         runs.push_reserved(PortRun {
             port,
+            talk: Talk::new(),
             list: Vec::new(alloc),
-            end: NOT_BEGUN,
+            end: ThreadEnd::not_begun(),
         });
     }
 }
@@ -68,12 +93,13 @@ pub(crate) fn dismiss_ports(
 pub(crate) fn enlist_banks(banks: Vec<BankSide>, runs: &mut Vec<BankRun>)
     requires empty { runs.old.items ≡ [] }
     requires room { vec_len banks ≤ vec_capacity runs.old }
-    ensures { map (λ r. r.bank) runs.new.items ≡ banks.items }
+    ensures banks { map (λ r. r.bank) runs.new.items ≡ banks.items }
+    ensures begun { All (λ r. r.end ≡ not_begun) runs.new.items }
 {
     for bank in banks {
         runs.push_reserved(BankRun {
             bank,
-            end: NOT_BEGUN,
+            end: ThreadEnd::not_begun(),
         });
     }
 }

@@ -1,29 +1,22 @@
 //! How a thread spends a turn in which it made no step.
-ghost use Rattle.std.specs.Prelude.{◌<◌};
+ghost use Rattle.std.specs.Prelude.{◌≡◌, None};
 
 use station_parts::Stepped;
 use std::rt::Clock;
+use std::thread;
 use std::time::Duration;
-use std::{hint, thread};
 
-// There may be fewer processors than threads, and mostly each thread waits for another one. So one in
-// so many turns in which a port or a bank found nothing leaves the processor to another thread. The
-// others are short, since a far end may be about to push or pop.
-const TURNS_A_YIELD: u64 = 2;
-
-// The cache side, for which all others wait, leaves its processor at one in so many such turns.
-const CACHE_TURNS_A_YIELD: u64 = 8;
-
-// So many such turns in a row the cache side makes without a pause: in most of a round there is
-// nothing to do at a source, and something at a later one.
-const CACHE_TURNS_AT_ONCE: u64 = 8;
+// There may be fewer processors than threads, and mostly each thread waits for another one. So a thread
+// that finds nothing leaves its processor to another one in each such turn; but the cache side, for which
+// all others wait, not in the first one.
+const CACHE_TURNS_AT_ONCE: u64 = 1;
 
 // In one of so many such turns a thread sleeps: so it leaves the processors to those that have
-// something to do, and many turns are over soon all the same. It is one that would be a yield.
+// something to do, and many turns are over soon all the same.
 const TURNS_A_NAP: u64 = 256;
 
 // The cache side makes so many turns before the first that may be a sleep.
-const CACHE_TURNS_AWAKE: u64 = 1_024;
+const CACHE_TURNS_AWAKE: u64 = 256;
 
 // A thread that the gate holds waits for no other one, so its turns go by fast. It leaves its
 // processor at one in so many of them, and sleeps at one in so many.
@@ -57,6 +50,19 @@ pub(crate) fn turn_of(stepped: Option<Stepped>) -> Turn {
     }
 }
 
+/// What a turn of two parts that share a thread came to: a step of one is a step of both, and both are
+/// held only if each is. `None` is for a part whose run is over, so that there is nothing to wait for.
+pub(crate) fn turn_of_both(one: Option<Turn>, other: Option<Turn>) -> Option<Turn>
+    ensures { result ≡ None → (one ≡ None) × (other ≡ None) }
+{
+    match (one, other) {
+        (None, turn) | (turn, None) => turn,
+        (Some(Turn::Moved), _) | (_, Some(Turn::Moved)) => Some(Turn::Moved),
+        (Some(Turn::Idle), _) | (_, Some(Turn::Idle)) => Some(Turn::Idle),
+        (Some(Turn::Held), Some(Turn::Held)) => Some(Turn::Held),
+    }
+}
+
 /// How many turns in a row went by without a step.
 #[derive(Drop)]
 pub(crate) struct Idling {
@@ -66,10 +72,8 @@ pub(crate) struct Idling {
     idle: u64,
     // So many of these at first are without a pause.
     at_once: u64,
-    turns_a_yield: u64,
     // Turns before the first that may be a sleep.
     awake: u64,
-    ghost yields: { 0 < turns_a_yield },
 }
 
 impl Idling {
@@ -79,7 +83,6 @@ impl Idling {
             held: 0,
             idle: 0,
             at_once: CACHE_TURNS_AT_ONCE,
-            turns_a_yield: CACHE_TURNS_A_YIELD,
             awake: CACHE_TURNS_AWAKE,
         }
     }
@@ -90,7 +93,6 @@ impl Idling {
             held: 0,
             idle: 0,
             at_once: 0,
-            turns_a_yield: TURNS_A_YIELD,
             awake: 0,
         }
     }
@@ -121,9 +123,7 @@ impl Idling {
         if self.idle <= self.at_once {
             return;
         }
-        if self.idle % self.turns_a_yield != 0 {
-            hint::spin_loop();
-        } else if self.idle > self.awake && self.idle % TURNS_A_NAP == 0 {
+        if self.idle > self.awake && self.idle % TURNS_A_NAP == 0 {
             thread::sleep(rt, nap((self.idle - self.awake) / TURNS_A_NAP));
         } else {
             thread::yield_now();

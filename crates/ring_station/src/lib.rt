@@ -19,6 +19,7 @@ mod thread_end;
 mod threads;
 
 pub use cache_unit::CacheUnit;
+pub use crew::Crew;
 pub use fault::{RunFault, SegmentFault};
 pub use flat_model::{Answer, Cause, Event, Lanes, MakeFault, Shape, ShapeField, Word};
 pub use gate::{Actor, Gate};

@@ -1,46 +1,107 @@
-//! A port's thread.
-ghost use Rattle.std.specs.Prelude.{◌≡◌, ◌<◌, ◌≤◌, ◌+◌, [], List, length, true, false, Ok, IfOk, OnErr};
+//! The thread of a port, or of several.
+ghost use Rattle.std.specs.Prelude.{◌≡◌, ◌<◌, ◌≤◌, ◌+◌, [], List, length, true, false, Ok, IfOk, OnErr, None};
+ghost use Rattle.std.specs.List.{All};
 ghost use Rattle.station_journal.specs.declared.asks.Told.{Told};
+ghost use Rattle.station_parts.specs.declared.make.TheConstants.{MAX_PORTS};
 ghost use Rattle.station_parts.specs.declared.port.Port.{Port};
 ghost use Rattle.station_parts.specs.Words.{known_places, known_tellings, has_ended};
 ghost use Rattle.ring_station.specs.declared.talk.Phase.{Phase};
-ghost use Rattle.ring_station.specs.PortRuns.{IsOnItsWay, PortRan, FindsNothing, moves_of, moves_in};
+ghost use Rattle.ring_station.specs.PortRuns.{IsOnItsWay, FindsNothing, moves_of, moves_in};
+ghost use Rattle.ring_station.specs.Ends.{goes_on};
+ghost use Rattle.ring_station.specs.Crew.{HasNotBegun, EachRanFrom, IsReady, EachIsReady, GoesOn, EachGoesOn};
 
+use crate::crew::PortRun;
 use crate::gate::{Actor, Gate};
-use crate::idle::{Idling, Turn};
+use crate::idle::{Idling, Turn, turn_of_both};
 use crate::talk::{Phase, Talk};
 use crate::thread_end::{ThreadEnd, ThreadFault};
 use station_parts::{Ask, Port, Told};
 use std::alloc::AllocError;
 use std::rt::Clock;
 
-/// Runs a script in a port: in each turn the port offers an ask, or takes a telling,
-/// which goes into the list.
-pub(crate) fn run_port<R: Clock, G: Gate>(
+/// Runs the ports of a thread, the first of which has this number: in each turn each of them whose run goes
+/// on offers an ask of its script, or takes a telling, which goes into its list; one port after another.
+pub(crate) fn run_port_thread<R: Clock, G: Gate>(
     rt: &R,
+    gate: &G,
+    start: usize,
+    scripts: &[Vec<Ask>],
+    turns: u64,
+    runs: &mut [PortRun],
+)
+    requires scripts { start + length runs.old ≤ length scripts.now }
+    requires few { length scripts.now ≤ MAX_PORTS }
+    requires begun { All HasNotBegun runs.old }
+    ensures { EachRanFrom scripts.now start turns runs.old runs.new }
+{
+    let mut idling = Idling::of_side();
+    for turn in 0..turns {
+        let Some(made) = turn_of_ports(gate, start, scripts, turn, runs) else {
+            return;
+        };
+        idling.end_turn(rt, made);
+    }
+}
+
+// A turn of each port of a thread. `None` if the runs of all of them are over behind it.
+fn turn_of_ports<G: Gate>(
+    gate: &G,
+    start: usize,
+    scripts: &[Vec<Ask>],
+    turn: u64,
+    runs: &mut [PortRun],
+) -> Option<Turn>
+    requires scripts { start + length runs.old ≤ length scripts.now }
+    requires few { length scripts.now ≤ MAX_PORTS }
+    requires turn { turn < u64.MAX }
+    requires ready { EachIsReady scripts.now start turn runs.old }
+    ensures on { EachGoesOn scripts.now start turn runs.old runs.new }
+    ensures over { result ≡ None → All (λ r. goes_on r.end.fault ≡ false) runs.new }
+{
+    let mut all = None;
+    for k in 0..runs.len() {
+        let p = start + k;
+        let made = turn_of_port(gate, p as u32, scripts[p].as_slice(), turn, &mut runs[k]);
+        all = turn_of_both(all, made);
+    }
+    all
+}
+
+// A turn of a port, if its run goes on. `None` if it is over behind it.
+fn turn_of_port<G: Gate>(
     gate: &G,
     number: u32,
     script: &[Ask],
-    turns: u64,
-    port: &mut Port,
-    list: &mut Vec<Told>,
-) -> ThreadEnd
-    requires { list.old.items ≡ [] }
-    ensures { PortRan script.now turns port.old port.new list.new.items result }
+    turn: u64,
+    run: &mut PortRun,
+) -> Option<Turn>
+    requires turn { turn < u64.MAX }
+    requires ready { IsReady script.now turn run.old }
+    ensures on { GoesOn script.now turn run.old run.new }
+    ensures over { result ≡ None → goes_on run.new.end.fault ≡ false }
 {
-    let mut talk = Talk::new();
-    let mut idling = Idling::of_side();
-    for turn in 0..turns {
-        let may = gate.may(Actor::Port(number));
-        let Ok(made) = take_turn(may, gate, number, script, &mut talk, port, list) else {
-            return ThreadEnd::stopped(turn + 1, ThreadFault::OutOfMemory);
-        };
-        if talk.is_over() {
-            return ThreadEnd::over(turn + 1);
-        }
-        idling.end_turn(rt, made);
+    if !run.end.goes_on() {
+        return None;
     }
-    ThreadEnd::stopped(turns, ThreadFault::TurnLimit)
+    let may = gate.may(Actor::Port(number));
+    let Ok(made) = take_turn(
+        may,
+        gate,
+        number,
+        script,
+        &mut run.talk,
+        &mut run.port,
+        &mut run.list,
+    ) else {
+        run.end = ThreadEnd::stopped(turn + 1, ThreadFault::OutOfMemory);
+        return None;
+    };
+    if run.talk.is_over() {
+        run.end = ThreadEnd::over(turn + 1);
+        return None;
+    }
+    run.end = ThreadEnd::stopped(turn + 1, ThreadFault::TurnLimit);
+    Some(made)
 }
 
 // Offers or takes once, if the gate allows it and there is something to offer or take.
@@ -87,7 +148,7 @@ fn offer_next(script: &[Ask], talk: &mut Talk, port: &mut Port) -> Turn
     ensures one { moves_of port.new ≡ moves_of port.old + moves_in result }
     ensures idle { FindsNothing result Phase.Offering port.new }
 {
-    if port.offer(talk.ask(script)).is_err() {
+    if port.quick_offer(talk.ask(script)).is_err() {
         return Turn::Idle;
     }
     talk.note_offer(script);

@@ -22,17 +22,17 @@ pub enum Stop {
     NotClean,
 }
 
-/// What a run of a station came to: how each thread ended, what each port took, and what an audit found
+/// What a run of a station came to: how each part's run ended, what each port took, and what an audit found
 /// behind them all.
 #[derive(Drop)]
 pub struct Run {
-    /// For each port what it took in the run, in order, however its thread ended.
+    /// For each port what it took in the run, in order, however its run ended.
     pub lists: Vec<Vec<Told>>,
-    /// How the thread of each port ended.
+    /// How the run of each port ended.
     pub ports: Vec<ThreadEnd>,
-    /// How the thread of the cache side ended.
+    /// How the run of the cache side ended.
     pub cache: ThreadEnd,
-    /// How the thread of each bank ended.
+    /// How the run of each bank ended.
     pub banks: Vec<ThreadEnd>,
     /// What the audit found.
     pub audit: Audit,

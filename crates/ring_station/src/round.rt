@@ -1,26 +1,45 @@
 //! The round of the cache side: its sources, one after the other.
-ghost use Rattle.std.specs.Prelude.{◌<◌, ◌+◌};
-ghost use Rattle.ring_station.specs.declared.round.TheConstants.{OTHER_SOURCES};
+ghost use Rattle.std.specs.Prelude.{◌≡◌, false};
+ghost use Rattle.station_parts.specs.Ids.{cache_id};
+ghost use Rattle.station_parts.specs.Words.{earlier_of, held_of};
 
-use station_parts::{Source, Stepped};
+use station_parts::{CacheSide, Source, Stepped};
 
 // The stack, the write queue and the replies.
 const OTHER_SOURCES: u64 = 3;
 
-/// Where the next step takes its work from: each port, each bank, the stack, the write queue and the
-/// replies, and then again from the first port on.
+// Where the round stands.
+#[derive(Clone, Copy, PartialEq, Eq, Debug)]
+enum Place {
+    // At the port that is asked next.
+    Ports,
+    Bank(u32),
+    Stack,
+    WriteQueue,
+    Replies,
+}
+
+/// Where the next step takes its work from: the ports in turn, and behind each ask of one, and behind the
+/// last port, each bank, the stack, the write queue and the replies.
 ///
 /// A port has one ask at a time. Any other source may have more to do, and there the round stays until
 /// a step finds nothing. Behind each word of a bank a word of the stack is processed, which has few
 /// places.
+///
+/// The banks come behind each ask, and not behind those of all ports, since an ask is refused if too much
+/// is under way, and asked again then. A source of which no item is known is passed by. What is known of the
+/// ports is what a look at all of their rings has found, at the first one, and so of the banks: what far
+/// ends have written comes from other processors, and one read doesn't wait for another if no push or
+/// pop stands between them.
 #[derive(Drop)]
 pub(crate) struct Round {
     ports: u32,
     banks: u32,
-    place: u64,
+    // The port that is asked next.
+    port: u32,
+    place: Place,
     // Whether the bank at this place has just given a word.
     has_word: bool,
-    ghost within: { place < ports + banks + OTHER_SOURCES },
 }
 
 impl Round {
@@ -29,29 +48,69 @@ impl Round {
         Round {
             ports,
             banks,
-            place: 0,
+            port: 0,
+            place: Place::Ports,
             has_word: false,
         }
     }
 
     /// The source of the next step.
     pub(crate) fn source(&self) -> Source {
-        let place = self.place;
-        let ports = u64::from(self.ports);
-        let banks = u64::from(self.banks);
         if self.has_word {
             return Source::Stack(0);
         }
-        if place < ports {
-            return Source::Ask(place as u32);
+        match self.place {
+            Place::Ports => Source::Ask(self.port),
+            Place::Bank(bank) => Source::Word(bank),
+            Place::Stack => Source::Stack(0),
+            Place::WriteQueue => Source::Drain,
+            Place::Replies => Source::Reply(0),
         }
-        if place - ports < banks {
-            return Source::Word((place - ports) as u32);
+    }
+
+    /// Goes on to the next source of which an item is known, at most once round all. If the cache side may
+    /// make no step, all stays as it is.
+    pub(crate) fn seek<
+        const WAYS: usize,
+        const WORDS: usize,
+        const REGS: usize,
+        const DEPTH: usize,
+    >(&mut self, may: bool, cache: &mut CacheSide<WAYS, WORDS, REGS, DEPTH>)
+        ensures same { cache_id cache.new ≡ cache_id cache.old }
+        ensures earlier { earlier_of cache.new ≡ earlier_of cache.old }
+        ensures held { held_of cache.new ≡ held_of cache.old }
+        ensures unmoved { may ≡ false → (cache.new ≡ cache.old) × (self.new ≡ self.old) }
+    {
+        if !may {
+            return;
         }
-        match place - ports - banks {
-            0 => Source::Stack(0),
-            1 => Source::Drain,
-            _ => Source::Reply(0),
+        for _place in 0..self.most_places() {
+            self.look(cache);
+            if cache.has_item(self.source()) {
+                return;
+            }
+            self.go_on_behind(false);
+        }
+    }
+
+    // How many places there are at most from one at which the round stands to its next time there.
+    fn most_places(&self) -> u64 {
+        u64::from(self.ports) + 2 * (u64::from(self.banks) + OTHER_SOURCES)
+    }
+
+    // Looks at the rings of all ports, or of all banks, if the round stands at the first one.
+    fn look<const WAYS: usize, const WORDS: usize, const REGS: usize, const DEPTH: usize>(
+        &self,
+        cache: &mut CacheSide<WAYS, WORDS, REGS, DEPTH>,
+    )
+        ensures same { cache_id cache.new ≡ cache_id cache.old }
+        ensures earlier { earlier_of cache.new ≡ earlier_of cache.old }
+        ensures held { held_of cache.new ≡ held_of cache.old }
+    {
+        match self.place {
+            Place::Ports if self.port == 0 => cache.look_for_asks(),
+            Place::Bank(0) => cache.look_for_words(),
+            _ => {}
         }
     }
 
@@ -62,21 +121,39 @@ impl Round {
         }
     }
 
-    // Goes on behind a step that did something or found nothing.
+    // Goes on behind a step that did something, or behind none or one that found nothing.
     fn go_on_behind(&mut self, did: bool) {
-        let ports = u64::from(self.ports);
-        let banks = u64::from(self.banks);
         if self.has_word {
             self.has_word = false;
-        } else if did && self.place >= ports {
-            self.has_word = self.place - ports < banks;
-        } else {
-            let next = self.place + 1;
-            self.place = if next < ports + banks + OTHER_SOURCES {
-                next
-            } else {
-                0
-            };
+            return;
+        }
+        match self.place {
+            Place::Ports => self.leave_port(did),
+            Place::Bank(_) if did => self.has_word = true,
+            place => {
+                if !did {
+                    self.place = self.place_behind(place);
+                }
+            }
+        }
+    }
+
+    // Goes on from a port that was asked, or had nothing to ask.
+    fn leave_port(&mut self, did: bool) {
+        let next = self.port.saturating_add(1);
+        self.port = if next < self.ports { next } else { 0 };
+        if did || self.port == 0 {
+            self.place = Place::Bank(0);
+        }
+    }
+
+    fn place_behind(&self, place: Place) -> Place {
+        match place {
+            Place::Bank(bank) if bank < self.banks.saturating_sub(1) => Place::Bank(bank + 1),
+            Place::Bank(_) => Place::Stack,
+            Place::Stack => Place::WriteQueue,
+            Place::WriteQueue => Place::Replies,
+            Place::Replies | Place::Ports => Place::Ports,
         }
     }
 }

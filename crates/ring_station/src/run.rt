@@ -1,5 +1,5 @@
 //! Runs of a station on threads.
-ghost use Rattle.std.specs.Prelude.{◌≡◌, ◌≢◌, ◌<◌, ◌≤◌, [], true, length, map, vec_len, IsTrue, IfOk, OnErr, OnOk, IsErr};
+ghost use Rattle.std.specs.Prelude.{◌≡◌, ◌≢◌, ◌<◌, ◌≤◌, true, length, map, vec_len, IsTrue, IfOk, OnErr, OnOk, IsErr};
 ghost use Rattle.std.specs.List.{All};
 ghost use Rattle.station_parts.specs.declared.make.TheConstants.{MAX_PORTS};
 ghost use Rattle.flat_model.specs.declared.limits.TheConstants.{MAX_BANKS};
@@ -16,10 +16,13 @@ ghost use Rattle.station_parts.specs.Station.{AreOneStation};
 ghost use Rattle.station_parts.specs.Words.{cache_in, journal_of, sizes_in};
 ghost use Rattle.ring_station.specs.PartRuns.{BanksRan, CacheRan};
 ghost use Rattle.ring_station.specs.PortRuns.{HaveRun, PortsRan};
-ghost use Rattle.ring_station.specs.Crew.{EachRanScript, EachIsSame, EachServed};
+ghost use Rattle.ring_station.specs.Crew.{HasNotBegun, EachRanScript, EachIsSame, EachServed};
+ghost use Rattle.ring_station.specs.Ends.{not_begun};
 ghost use Rattle.ring_station.specs.Run.{HaveFinished};
 
-use crate::crew::{BankRun, PortRun, dismiss_banks, dismiss_ports, enlist_banks, enlist_ports};
+use crate::crew::{
+    BankRun, Crew, PortRun, dismiss_banks, dismiss_ports, enlist_banks, enlist_ports,
+};
 use crate::fault::RunFault;
 use crate::gate::Gate;
 use crate::report::Run;
@@ -47,7 +50,8 @@ use std::thread::Threads;
 /// its turns, which stops no other one, or that the cache side found its journal full; without a turn
 /// no thread comes to its end. After either the station stands where the steps left it: it may be
 /// audited, and not run again; behind a run that is `Ok` it may be renewed, and then run again.
-/// [`run_and_audit`] tells which thread it was, and what each port had taken. If a thread can't be
+/// [`run_and_audit`] tells which thread it was, and what each port had taken; and it runs on fewer
+/// threads, if ports or banks are to share one. If a thread can't be
 /// made, the parts run one after another, and that mostly ends with `TurnLimit`.
 ///
 /// There is one script for each port. A script with `Done` in it comes to no end.
@@ -102,16 +106,22 @@ pub fn run_threads<
     ensures settled { OnOk result (IsTrue (is_clean (cache_in station.new.cache))
         → HoldFlat (sizes_in station.new.cache) (journal_of station.new.cache) station.new.banks.items) }
 {
-    let run = run_and_audit(rt, alloc, station, scripts, turns, gate)?;
+    let run = run_and_audit(rt, alloc, station, scripts, turns, Crew::one_each(), gate)?;
     if let Some(fault) = run.fault() {
         return Err(fault);
     }
     Ok(run.lists)
 }
 
-/// The run of [`run_threads`], told whole: how each thread ended, what each port took however its
-/// thread ended, and what an audit found behind them. It says nothing else of a run that came to no
-/// end, which [`Run::fault`] tells.
+/// The run of [`run_threads`], told whole: how each port, the cache side and each bank ended, what each
+/// port took however it ended, and what an audit found behind them. It says nothing else of a run that
+/// came to no end, which [`Run::fault`] tells.
+///
+/// The crew says how many threads the ports and the banks have: as in `run_threads` with
+/// [`Crew::one_each`]. Parts that share a thread take their turns in rounds, one part after another; each
+/// has its own count of turns, and one whose run is over leaves the others to go on. Fewer threads are
+/// faster if there are fewer processors than threads, since each change of a processor from one thread to
+/// another takes as long as many turns.
 ///
 /// Want of memory before the threads begin leaves every part as it was.
 pub fn run_and_audit<
@@ -127,6 +137,7 @@ pub fn run_and_audit<
     station: &mut Station<WAYS, WORDS, REGS, DEPTH>,
     scripts: &[Vec<Ask>],
     turns: u64,
+    crew: Crew,
     gate: &G,
 ) -> Result<Run, AllocError>
     requires one { AreOneStation station.old.cache station.old.ports.items station.old.banks.items }
@@ -172,7 +183,7 @@ pub fn run_and_audit<
         ports,
         banks,
     } = station;
-    let ends = run_parts(rt, alloc, cache, ports, banks, scripts, turns, gate)?;
+    let ends = run_parts(rt, alloc, cache, ports, banks, scripts, turns, crew, gate)?;
     let found = audit(cache, ports, banks);
     Ok(Run {
         lists: ends.lists,
@@ -208,6 +219,7 @@ fn run_parts<
     banks: &mut Vec<BankSide>,
     scripts: &[Vec<Ask>],
     turns: u64,
+    crew: Crew,
     gate: &G,
 ) -> Result<Ends, AllocError>
     requires one { AreOneStation cache.old ports.old.items banks.old.items }
@@ -241,6 +253,7 @@ fn run_parts<
         gate,
         scripts,
         turns,
+        crew,
         cache,
         &mut port_runs,
         &mut bank_runs,
@@ -258,7 +271,7 @@ fn run_parts<
 
 // Makes room in the ports' lists and runs all parts. The result is how the thread of the cache side
 // ended.
-#[tactic(auto, using(crate::proofs::CrewRunning::reserved_empty))]
+#[tactic(auto, using(crate::proofs::CrewRunning::still_not_begun))]
 fn run_crew<
     R: Clock + Threads + Sync,
     G: Gate,
@@ -271,6 +284,7 @@ fn run_crew<
     gate: &G,
     scripts: &[Vec<Ask>],
     turns: u64,
+    crew: Crew,
     cache: &mut CacheSide<WAYS, WORDS, REGS, DEPTH>,
     ports: &mut Vec<PortRun>,
     banks: &mut Vec<BankRun>,
@@ -278,7 +292,8 @@ fn run_crew<
     requires scripts { length scripts.now ≡ vec_len ports.old }
     requires few_ports { vec_len ports.old ≤ MAX_PORTS }
     requires few_banks { vec_len banks.old ≤ MAX_BANKS }
-    requires lists { All (λ r. r.list.items ≡ []) ports.old.items }
+    requires ports { All HasNotBegun ports.old.items }
+    requires banks { All (λ r. r.end ≡ not_begun) banks.old.items }
     ensures unmoved_cache { OnErr result (cache.new ≡ cache.old) }
     ensures port_count { length ports.new.items ≡ length ports.old.items }
     ensures bank_count { length banks.new.items ≡ length banks.old.items }
@@ -289,7 +304,7 @@ fn run_crew<
     ensures banks { OnOk result (EachServed turns banks.old.items banks.new.items) }
 {
     reserve_lists(scripts, ports)?;
-    Ok(run_all(rt, gate, scripts, turns, cache, ports, banks))
+    Ok(run_all(rt, gate, scripts, turns, crew, cache, ports, banks))
 }
 
 // Makes room for a verdict on each ask of a script, and as many values. So a port mostly needs no

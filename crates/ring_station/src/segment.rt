@@ -11,6 +11,7 @@ ghost use Rattle.station_parts.specs.Station.{AreOneStation};
 ghost use Rattle.station_parts.specs.Words.{cache_in, journal_of, sizes_in};
 ghost use Rattle.ring_station.specs.Segments.{HaveRunOn, HandsOut};
 
+use crate::crew::Crew;
 use crate::fault::SegmentFault;
 use crate::gate::Gate;
 use crate::run::run_and_audit;
@@ -28,7 +29,7 @@ pub struct Segment {
     pub journal: Vec<Entry>,
 }
 
-/// The run of [`run_threads`](crate::run_threads), and behind it a renewal: the journal is handed out, a
+/// The run of [`run_and_audit`](crate::run_and_audit), and behind it a renewal: the journal is handed out, a
 /// new one is begun, and the station may be run again. So it lasts: whoever cuts the ports' scripts into
 /// parts and runs them one behind the other needs the memory of one part. The journals that were handed
 /// out are, one behind the other, one journal of one station, and a run of flat memory.
@@ -52,6 +53,7 @@ pub fn run_and_renew<
     station: &mut Station<WAYS, WORDS, REGS, DEPTH>,
     scripts: &[Vec<Ask>],
     turns: u64,
+    crew: Crew,
     gate: &G,
 ) -> Result<Segment, SegmentFault>
     requires one { AreOneStation station.old.cache station.old.ports.items station.old.banks.items }
@@ -85,7 +87,7 @@ pub fn run_and_renew<
     ensures settled { OnOk result (IsTrue (is_clean (cache_in station.new.cache))
         → HoldFlat (sizes_in station.new.cache) (journal_of station.new.cache) station.new.banks.items) }
 {
-    let run = run_and_audit(rt, alloc, station, scripts, turns, gate)?;
+    let run = run_and_audit(rt, alloc, station, scripts, turns, crew, gate)?;
     if let Some(fault) = run.fault() {
         return Err(SegmentFault::Run(fault));
     }

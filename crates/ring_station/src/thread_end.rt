@@ -11,10 +11,10 @@ pub enum ThreadFault {
     JournalFull,
 }
 
-/// How a thread of a run ended.
+/// How a thread of a run ended; of parts that share a thread, how each of them ended.
 #[derive(Clone, Copy, PartialEq, Eq, Debug)]
 pub struct ThreadEnd {
-    /// How many turns it began, which are at most as many as each thread was given.
+    /// How many turns it began, which are at most as many as each was given.
     pub turns: u64,
     /// Why it stopped before its part was done; `None` if it came to its end.
     pub fault: Option<ThreadFault>,
@@ -22,6 +22,14 @@ pub struct ThreadEnd {
 
 impl ThreadEnd {
     ghost use Rattle.std.specs.Prelude.{◌≡◌, Some, None};
+    ghost use Rattle.ring_station.specs.Ends.{goes_on, not_begun};
+
+    /// Before its first turn it stands as one that was given none.
+    pub(crate) fn not_begun() -> ThreadEnd
+        ensures { result ≡ not_begun }
+    {
+        ThreadEnd::stopped(0, ThreadFault::TurnLimit)
+    }
 
     /// It came to its end in this turn.
     pub(crate) fn over(turns: u64) -> ThreadEnd
@@ -38,5 +46,12 @@ impl ThreadEnd {
             turns,
             fault: Some(fault),
         }
+    }
+
+    /// Whether it stands so for want of turns alone, so that it goes on if it has one more.
+    pub(crate) fn goes_on(&self) -> bool
+        ensures { result ≡ goes_on self.now.fault }
+    {
+        matches!(self.fault, Some(ThreadFault::TurnLimit))
     }
 }

@@ -1,27 +1,26 @@
-//! The threads of a run: one for the cache side, one for each port, and one for each bank.
-ghost use Rattle.std.specs.Prelude.{◌≡◌, ◌<◌, ◌≤◌, ℕ, [], length, slice_index_or, vec_len};
+//! The threads of a run: one for the cache side, and as many for the ports and the banks as their crew says.
+ghost use Rattle.std.specs.Prelude.{◌≡◌, ◌<◌, ◌≤◌, ◌+◌, length, vec_len};
 ghost use Rattle.std.specs.List.{All};
-ghost use Rattle.std.specs.Global.{Vec};
 ghost use Rattle.std.specs.Thread.{IsSync};
 ghost use Rattle.station_parts.specs.declared.make.TheConstants.{MAX_PORTS};
 ghost use Rattle.flat_model.specs.declared.limits.TheConstants.{MAX_BANKS};
-ghost use Rattle.station_journal.specs.declared.asks.Ask.{Ask};
-ghost use Rattle.ring_station.specs.PartRuns.{BankRan, CacheRan};
-ghost use Rattle.ring_station.specs.Crew.{RanScript, EachRanScript, EachServed};
+ghost use Rattle.ring_station.specs.Ends.{not_begun};
+ghost use Rattle.ring_station.specs.PartRuns.{CacheRan};
+ghost use Rattle.ring_station.specs.Crew.{HasNotBegun, EachRanFrom, EachRanScript, EachServed};
 
-use crate::bank_thread::run_bank;
+use crate::bank_thread::run_bank_thread;
 use crate::cache_thread::run_cache;
-use crate::crew::{BankRun, PortRun};
+use crate::crew::{BankRun, Crew, PortRun};
 use crate::gate::Gate;
-use crate::port_thread::run_port;
+use crate::port_thread::run_port_thread;
 use crate::thread_end::ThreadEnd;
 use station_parts::{Ask, CacheSide};
 use std::rt::Clock;
 use std::sync::atomic::AtomicBool;
-use std::thread::{Threads, for_each_mut, join_mut};
+use std::thread::{Threads, for_each_chunk_mut, join_mut};
 
-/// Runs the cache side, each port and each bank in a thread of its own, and joins them all. The
-/// result is how the run of the cache side ended; the ports and the banks note their own.
+/// Runs the cache side in a thread of its own, and the ports and the banks in those of the crew, and joins
+/// them all. The result is how the run of the cache side ended; the ports and the banks note their own.
 pub(crate) fn run_all<
     R: Clock + Threads + Sync,
     G: Gate,
@@ -34,6 +33,7 @@ pub(crate) fn run_all<
     gate: &G,
     scripts: &[Vec<Ask>],
     turns: u64,
+    crew: Crew,
     cache: &mut CacheSide<WAYS, WORDS, REGS, DEPTH>,
     ports: &mut Vec<PortRun>,
     banks: &mut Vec<BankRun>,
@@ -41,7 +41,8 @@ pub(crate) fn run_all<
     requires scripts { length scripts.now ≡ vec_len ports.old }
     requires few_ports { vec_len ports.old ≤ MAX_PORTS }
     requires few_banks { vec_len banks.old ≤ MAX_BANKS }
-    requires lists { All (λ r. r.list.items ≡ []) ports.old.items }
+    requires ports { All HasNotBegun ports.old.items }
+    requires banks { All (λ r. r.end ≡ not_begun) banks.old.items }
     ensures cache { CacheRan (vec_len ports.old) turns cache.old cache.new result }
     ensures ports { EachRanScript scripts.now turns ports.old.items ports.new.items }
     ensures banks { EachServed turns banks.old.items banks.new.items }
@@ -57,10 +58,10 @@ pub(crate) fn run_all<
         &mut ||
             requires { IsSync R.row × (length scripts.now ≡ vec_len ports.now)
                 × (vec_len ports.now ≤ MAX_PORTS) × (vec_len banks.now ≤ MAX_BANKS)
-                × All (λ r. r.list.items ≡ []) ports.now.items }
+                × All HasNotBegun ports.now.items × All (λ r. r.end ≡ not_begun) banks.now.items }
             ensures ports { EachRanScript scripts.entry.now turns ports.entry.now.items ports.exit.now.items }
             ensures banks { EachServed turns banks.entry.now.items banks.exit.now.items }
-        { run_sides(rt, gate, scripts, turns, &done, ports, banks) },
+        { run_sides(rt, gate, scripts, turns, crew, &done, ports, banks) },
     );
     cache_end
 }
@@ -71,6 +72,7 @@ fn run_sides<R: Clock + Threads + Sync, G: Gate>(
     gate: &G,
     scripts: &[Vec<Ask>],
     turns: u64,
+    crew: Crew,
     done: &AtomicBool,
     ports: &mut Vec<PortRun>,
     banks: &mut Vec<BankRun>,
@@ -78,21 +80,23 @@ fn run_sides<R: Clock + Threads + Sync, G: Gate>(
     requires scripts { length scripts.now ≡ vec_len ports.old }
     requires few_ports { vec_len ports.old ≤ MAX_PORTS }
     requires few_banks { vec_len banks.old ≤ MAX_BANKS }
-    requires lists { All (λ r. r.list.items ≡ []) ports.old.items }
+    requires ports { All HasNotBegun ports.old.items }
+    requires banks { All (λ r. r.end ≡ not_begun) banks.old.items }
     ensures ports { EachRanScript scripts.now turns ports.old.items ports.new.items }
     ensures banks { EachServed turns banks.old.items banks.new.items }
 {
     join_mut(
         rt,
         &mut ||
-            requires { IsSync R.row × (vec_len banks.now ≤ MAX_BANKS) }
+            requires { IsSync R.row × (vec_len banks.now ≤ MAX_BANKS)
+                × All (λ r. r.end ≡ not_begun) banks.now.items }
             ensures { EachServed turns banks.entry.now.items banks.exit.now.items }
-        { run_banks(rt, gate, turns, done, banks) },
+        { run_banks(rt, gate, turns, crew.bank_threads, done, banks) },
         &mut ||
             requires { IsSync R.row × (length scripts.now ≡ vec_len ports.now)
-                × (vec_len ports.now ≤ MAX_PORTS) × All (λ r. r.list.items ≡ []) ports.now.items }
+                × (vec_len ports.now ≤ MAX_PORTS) × All HasNotBegun ports.now.items }
             ensures { EachRanScript scripts.entry.now turns ports.entry.now.items ports.exit.now.items }
-        { run_ports(rt, gate, scripts, turns, ports) },
+        { run_ports(rt, gate, scripts, turns, crew.port_threads, ports) },
     );
 }
 
@@ -101,46 +105,24 @@ fn run_ports<R: Clock + Threads + Sync, G: Gate>(
     gate: &G,
     scripts: &[Vec<Ask>],
     turns: u64,
+    threads: usize,
     ports: &mut [PortRun],
 )
     requires scripts { length scripts.now ≡ length ports.old }
     requires few { length ports.old ≤ MAX_PORTS }
-    requires lists { All (λ r. r.list.items ≡ []) ports.old }
+    requires begun { All HasNotBegun ports.old }
     ensures { EachRanScript scripts.now turns ports.old ports.new }
 {
-    let threads = ports.len().max(1);
-    for_each_mut(
+    let size = parts_a_thread(ports.len(), threads);
+    for_each_chunk_mut(
         rt,
         ports,
-        threads,
-        &|p: usize, run: &mut PortRun|
-            requires { (p < length scripts.now) × (length scripts.now ≤ MAX_PORTS)
-                × (run.old.list.items ≡ []) }
-            ensures { (s : Vec Ask)
-                → RanScript (slice_index_or scripts.entry.now p s).items turns run.old run.new }
-        { run_one(rt, gate, p as u32, scripts[p].as_slice(), turns, run) },
-    );
-}
-
-fn run_one<R: Clock, G: Gate>(
-    rt: &R,
-    gate: &G,
-    number: u32,
-    script: &[Ask],
-    turns: u64,
-    run: &mut PortRun,
-)
-    requires { run.old.list.items ≡ [] }
-    ensures { RanScript script.now turns run.old run.new }
-{
-    run.end = run_port(
-        rt,
-        gate,
-        number,
-        script,
-        turns,
-        &mut run.port,
-        &mut run.list,
+        size,
+        &|start: usize, runs: &mut [PortRun]|
+            requires { (start + length runs.old ≤ length scripts.now)
+                × (length scripts.now ≤ MAX_PORTS) × All HasNotBegun runs.old }
+            ensures { EachRanFrom scripts.entry.now start turns runs.old runs.new }
+        { run_port_thread(rt, gate, start, scripts, turns, runs) },
     );
 }
 
@@ -148,20 +130,29 @@ fn run_banks<R: Clock + Threads + Sync, G: Gate>(
     rt: &R,
     gate: &G,
     turns: u64,
+    threads: usize,
     done: &AtomicBool,
     banks: &mut [BankRun],
 )
-    requires { length banks.old ≤ MAX_BANKS }
+    requires few { length banks.old ≤ MAX_BANKS }
+    requires begun { All (λ r. r.end ≡ not_begun) banks.old }
     ensures { EachServed turns banks.old banks.new }
 {
-    let threads = banks.len().max(1);
-    for_each_mut(
+    let size = parts_a_thread(banks.len(), threads);
+    for_each_chunk_mut(
         rt,
         banks,
-        threads,
-        &|b: usize, run: &mut BankRun|
-            requires { b < MAX_BANKS }
-            ensures { BankRan turns run.old.bank run.new.bank run.new.end }
-        { run.end = run_bank(rt, gate, b as u32, turns, done, &mut run.bank) },
+        size,
+        &|start: usize, runs: &mut [BankRun]|
+            requires { (start + length runs.old ≤ MAX_BANKS) × All (λ r. r.end ≡ not_begun) runs.old }
+            ensures { EachServed turns runs.old runs.new }
+        { run_bank_thread(rt, gate, start, turns, done, runs) },
     );
+}
+
+// How many of these parts a thread has, if they share so many.
+fn parts_a_thread(parts: usize, threads: usize) -> usize
+    ensures { 0 < result }
+{
+    parts.div_ceil(threads.max(1)).max(1)
 }

@@ -16,7 +16,7 @@ use Rattle.memory_banks.specs.Memory.{is_read}
 use Rattle.miss_registers.proofs.Tags.{count_by-append}
 use Rattle.write_queue.specs.declared.Queued.{Queued}
 use Rattle.cache_unit.specs.declared.Sizes.{Sizes}
-use Rattle.cache_unit.specs.State.{Cache, is_present, free_slot, address}
+use Rattle.cache_unit.specs.State.{Cache, is_present, free_slot, first_of}
 use Rattle.cache_unit.specs.Steps.{Stepped, unless, reads, fetches, moved, arrived, load_step, store_step, prefetch_step, drain_step, drain_first, arrive_step}
 use Rattle.cache_unit.specs.Causes.{arrive_cause}
 use Rattle.machine_core.proofs.Stepping.{evict_silent, process_silent, take_silent}
@@ -42,7 +42,7 @@ module _ (z : Sizes) (some : 0 < z.block_words) where
       slots None = omega arith
       slots (Some slot) =
           let n : length (reads z block (Some slot)) ≡ z.block_words =
-          length-map-range_with_len (λ at. (at % z.banks, Read slot (at % z.block_words) (at / z.banks))) (address z block 0)
+          length-map-range_with_len (λ at. (at % z.banks, Read slot (at % z.block_words) (at / z.banks))) (first_of z block)
           z.block_words in
           omega arith
 

@@ -1,5 +1,5 @@
 -- What the unit does with the rooms that are known may stand in the journal.
-use Rattle.std.proofs.Common.{◌≡◌, ℕ, ◌+◌, ◌%◌, ◌/◌, ◌<◌, Bool, true, false, cond, not, ◌&&◌, ◌==◌, nat_lt, nat_le, List, [], ◌∷◌, ◌++◌, length, slice_get, Option, Some, None, is_none, refl, sym, ap, ap₂, ◌∙◌, subst, IsTrue, arith, append-nil, ◌⊎◌, inl, inr, eq-eqb, lt-ltb}
+use Rattle.std.proofs.Common.{◌≡◌, ℕ, ◌+◌, ◌%◌, ◌/◌, ◌<◌, Bool, true, false, cond, not, ◌&&◌, ◌==◌, nat_lt, nat_le, List, [], ◌∷◌, ◌++◌, length, slice_get, Option, Some, None, is_none, refl, sym, ap, ap₂, ◌∙◌, subst, IsTrue, append-nil, ◌⊎◌, inl, inr, lt-ltb}
 use Rattle.std.specs.List.{filter, list_all}
 use Rattle.flat_model.specs.declared.Lanes.{Lanes}
 use Rattle.flat_model.specs.declared.Cause.{Cause}
@@ -214,7 +214,7 @@ module _ (z : Sizes) (brings : Brings) (s : Stand) where
   unfolding evict_step evict_cause
   evict_recorded block =
       step_recorded (Evict block) refl (λ arrived answer b. refl)
-      (go (not (nat_lt (Rattle.cache_unit.specs.State.address z block 0) z.words)) (not (is_present s.cache block))
+      (go (not (nat_lt (Rattle.cache_unit.specs.State.first_of z block) z.words)) (not (is_present s.cache block))
       (lacks_places z s.cache (frame_of s.cache block)))
     where
       go : (a b q : Bool)

@@ -10,7 +10,7 @@ use Rattle.memory_banks.specs.declared.Command.TheVariants.{Write}
 use Rattle.memory_banks.specs.Banks.{Bank, bank_at, room_in}
 use Rattle.write_queue.specs.declared.Queued.{Queued}
 use Rattle.cache_unit.specs.declared.Sizes.{Sizes}
-use Rattle.cache_unit.specs.State.{Cache, is_present, is_pending, block_of, place_in, address, tags, cell_of}
+use Rattle.cache_unit.specs.State.{Cache, is_present, is_pending, block_of, place_in, first_of, tags, cell_of}
 use Rattle.cache_unit.specs.Causes.{first_cause, is_in_use, found, targets_full, ways_of, choose, lacks_places, addresses, lacks_room, load_cause, store_cause, prefetch_cause}
 use Rattle.cache_unit.specs.Steps.{load_step, store_step, prefetch_step, drain_step, drain_first, unless, loaded, written, fetched, fetches}
 use Rattle.machine_core.proofs.Resting.{spread_evenly, any_false}
@@ -40,7 +40,7 @@ ample-suffices z block = any_false _ 0 z.banks each
     each : (b : ℕ) → 0 ≤ b → b < 0 + z.banks → nat_lt z.block_words (length (filter (λ at. at % z.banks == b) (addresses z block))) ≡ false
     each b lo hi =
         let few = filter_few (λ at. at % z.banks == b) (addresses z block) in
-        let all = range_length (address z block 0) z.block_words in
+        let all = range_length (first_of z block) z.block_words in
         le-ltb z.block_words (length (filter (λ at. at % z.banks == b) (addresses z block))) (omega arith)
 
 -- the rooms of banks in which nothing waits
@@ -55,7 +55,7 @@ idle-suffices z banks takes n idle block = any_false _ 0 z.banks each
         let none = ap length (idle b (omega arith)) in
         let room : room_in z.bank_queue banks b ≡ z.bank_queue - length (bank_at banks b).queue =
         ap (λ t. cond t (z.bank_queue - length (bank_at banks b).queue) 0) (lt-ltb b (length banks) there) in
-        let few = spread_evenly z.banks b (address z block 0) z.block_words z.bank_queue (omega arith) takes in
+        let few = spread_evenly z.banks b (first_of z block) z.block_words z.bank_queue (omega arith) takes in
         le-ltb (room_in z.bank_queue banks b) (length (filter (λ at. at % z.banks == b) (addresses z block))) (omega arith)
 
 -- ---- causes and steps in such rooms are the same

@@ -7,6 +7,7 @@ pub mod Porting
 pub mod Turning
 pub mod UsedEnds
 pub mod SideMakes
+pub mod Seeing
 pub mod WordFaults
 pub mod AskSteps
 pub mod ReplySteps

@@ -1,5 +1,7 @@
 -- What a step of the cache side has made is what its definition says.
-use Rattle.std.proofs.Common.{◌≡◌, ◌≢◌, ℕ, ◌+◌, ◌%◌, ◌/◌, ◌<◌, ◌≤◌, cond, ◌&&◌, not, Bool, true, false, nat_le, nat_lt, List, [], ◌∷◌, ◌++◌, length, slice_get, Option, Some, None, option_map, refl, sym, ap, ap₂, ◌∙◌, subst, arith, add-zero, append-nil}
+use Rattle.std.proofs.Common.{◌≡◌, ◌≢◌, ℕ, ◌+◌, ◌*◌, ◌%◌, ◌/◌, ◌<◌, ◌≤◌, cond, ◌&&◌, not, Bool, true, false, nat_le, nat_lt, List, [], ◌∷◌}
+use Rattle.std.proofs.Common.{◌++◌, length, slice_get, Option, Some, None, option_map, refl, sym, ap, ap₂, ◌∙◌, subst, arith, add-zero}
+use Rattle.std.proofs.Common.{append-nil}
 use Rattle.std.proofs.lemmas.Bool.{leb-true, leb-false, ltb-true, lt-ltb}
 use mathlib.Core.List.{IsPrefix}
 use Rattle.std.specs.declared.alloc.Global.{Global}
@@ -18,6 +20,10 @@ use Rattle.cache_unit.specs.declared.Sizes.{Sizes}
 use Rattle.cache_unit.specs.State.{Cache}
 use Rattle.cache_unit.specs.Views.{is_empty, reply_view}
 use Rattle.cache_unit.specs.Steps as unit
+use Rattle.cache_unit.specs.SoundCache.{IsSoundCache}
+use Rattle.cache_unit.specs.declared.Request.TheVariants as requests
+use Rattle.cache_unit.proofs.UnitForms.{each_step}
+use Rattle.station_journal.specs.declared.asks.TheConstants.{PORT_TAGS}
 use Rattle.station_journal.specs.declared.asks.Ask.{Ask}
 use Rattle.station_journal.specs.declared.asks.Ask.TheVariants.{Load, Store, Prefetch, Evict, Done}
 use Rattle.station_journal.specs.declared.journal.Source.{Source}
@@ -32,7 +38,8 @@ use Rattle.station_parts.specs.Rings.{pops_from}
 use Rattle.station_parts.specs.Rows.{received_at, known_at, only, PopsAt}
 use Rattle.station_parts.specs.Asking.{event_for, asked_step}
 use Rattle.station_parts.specs.SideState.{Known, KnowsMore, SideState}
-use Rattle.station_parts.specs.SideSteps.{Effect, no_words, nothing, noted, asked, arrives, can_drain, can_tell, has_work, work_of, effect_of, answer_of, Makes, EntriesForms, StepMakes}
+use Rattle.station_parts.specs.SideSteps.{Effect, no_words, nothing, noted, asked, arrives, can_drain, can_tell, has_work, work_of}
+use Rattle.station_parts.specs.SideSteps.{effect_of, answer_of, Makes, EventForms, EntriesForms, StepMakes}
 use Rattle.station_parts.proofs.Rows.{same_length, beyond, only-here, only-there, only-none}
 
 pub knows_same : (k : Known) → KnowsMore k k
@@ -242,6 +249,15 @@ asked_first s k port (Store at word lanes) rest n = refl
 asked_first s k port (Prefetch at) rest n = refl
 asked_first s k port (Evict block) rest n = refl
 asked_first s k port Done rest n = absurd (n refl)
+
+-- and makes of the forms what its event does
+pub asked_forms : (z : Sizes) (c : Cache) → IsSoundCache z c → (room : ℕ → ℕ) (port : ℕ) (ask : Ask) → ask ≢ Done
+    → EventForms z c (event_for port ask) [] (asked_step z room port c ask).answer (asked_step z room port c ask).cache
+asked_forms z c h room port (Load tag at) n = (each_step z c h).request room (requests.Load (port * PORT_TAGS + tag) at)
+asked_forms z c h room port (Store at word lanes) n = (each_step z c h).request room (requests.Store at word lanes)
+asked_forms z c h room port (Prefetch at) n = (each_step z c h).request room (requests.Prefetch at)
+asked_forms z c h room port (Evict block) n = (each_step z c h).evict block
+asked_forms z c h room port Done n = absurd (n refl)
 
 -- ---- work that is known stays
 

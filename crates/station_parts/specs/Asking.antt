@@ -8,6 +8,7 @@ use Rattle.memory_banks.specs.Banks.{commands_for}
 use Rattle.cache_unit.specs.declared.Sizes.{Sizes}
 use Rattle.cache_unit.specs.State.{Cache, UnitState}
 use Rattle.cache_unit.specs.Steps.{Stepped, load_step, store_step, prefetch_step, evict_step}
+use Rattle.cache_unit.specs.Makes.{Makes}
 use Rattle.station_journal.specs.declared.asks.Ask.{Ask}
 use Rattle.station_journal.specs.declared.asks.Ask.TheVariants.{Load, Store, Prefetch, Evict, Done}
 use Rattle.station_journal.specs.declared.asks.TheConstants.{PORT_TAGS}
@@ -32,8 +33,7 @@ asked_step z room port c Done = record { answer = Nothing; cache = c; sent = [] 
 
 -- the unit has made this step, and its commands have gone over the lines
 pub record MakesStep (d : Stepped) (old new : UnitState) (xs ys : List Line) (answer : Answer) : Type 0 where
-  pub answer_is : answer ≡ d.answer
-  pub unit : new ≡ record old { cache = d.cache }
+  pub made : Makes d old answer new
   pub kept : OnlySent xs ys
   pub sent : (b : ℕ) → sent_at ys b ≡ sent_at xs b ++ commands_for b d.sent
   pub rooms : (b : ℕ) → free_at ys b + length (commands_for b d.sent) ≡ free_at xs b

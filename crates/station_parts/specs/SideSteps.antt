@@ -47,6 +47,14 @@ abbrev pub can_tell : (ℕ → ℕ) → Option Reply → Bool
 can_tell places None = false
 can_tell places (Some reply) = nat_lt 0 (places (reply.tag / PORT_TAGS))
 
+-- an item of the source is known
+abbrev pub has_item : Source → SideState → Bool
+has_item (sources.Ask port) s = nat_lt 0 (length (s.known.asks port))
+has_item (sources.Word bank) s = nat_lt 0 (length (s.known.words bank))
+has_item (sources.Stack place) s = nat_lt place (length s.cache.stack)
+has_item sources.Drain s = nat_lt 0 (length s.cache.queue)
+has_item (sources.Reply place) s = nat_lt place (length s.cache.ready)
+
 -- the source has an item, and there is room for what it makes, as far as this is known
 abbrev pub has_work : Source → SideState → Known → Bool
 has_work (sources.Ask port) s k = nat_lt 0 (k.telling_places port) && not (is_empty (k.asks port))

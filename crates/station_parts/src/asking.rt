@@ -6,7 +6,6 @@ ghost use Rattle.station_journal.specs.Parts.{verdict, is_event_of, IsVerdict};
 ghost use Rattle.station_journal.specs.declared.asks.TheConstants.{PORT_TAGS};
 ghost use Rattle.station_journal.specs.declared.asks.Told.TheVariants.{Value};
 ghost use Rattle.station_parts.specs.Asking.{event_for, asked_step, MakesStep};
-ghost use Rattle.station_parts.specs.SideSteps.{EventForms};
 
 use crate::lines::Row;
 use cache_unit::{CacheUnit, Request};
@@ -49,11 +48,9 @@ pub(crate) fn answer_ask<
 >(unit: &mut CacheUnit<WAYS, WORDS, REGS, DEPTH>, row: &mut Row, port: u32, ask: Ask) -> Answer
     requires few_ports { port < MAX_PORTS }
     requires not_done { ask ≢ Ask.Done }
-    ensures steps { MakesStep
+    ensures { MakesStep
         (asked_step unit.old.sizes (free_at row.old.lines.items) port unit.old.cache ask)
         unit.old unit.new row.old.lines.items row.new.lines.items result }
-    ensures forms { EventForms unit.old.sizes unit.old.cache (event_for port ask) [] result
-        unit.new.cache }
 {
     match ask {
         Ask::Load { tag, at } => unit.request(

@@ -1,14 +1,58 @@
 //! Rows of rings' ends: one for each port or bank. Of a place that isn't there nothing is known.
-ghost use Rattle.std.specs.Prelude.{◌≡◌, ◌<◌, ◌∷◌, [], IfNone, length, slice_get};
-ghost use Rattle.rtrb.specs.Ring.{known_items};
+ghost use Rattle.std.specs.Prelude.{◌≡◌, ◌<◌, ◌∷◌, [], IfNone, length, nat_lt, slice_get};
+ghost use Rattle.rtrb.specs.Ring.{known_free, known_items, ConsumerLooked, ProducerLooked};
 ghost use Rattle.station_parts.specs.Rings.{HasPopped};
 ghost use Rattle.station_parts.specs.Rows.{known_at, room_at, list_of, PopsAt, LooksAt, PushesAt};
 
 use rtrb::{Consumer, Producer};
 
-/// Looks at the far end at a place, and pops the first item that is then known. `None` says that
-/// none is.
-pub(crate) fn pop_at<T: Drop>(ends: &mut Vec<Consumer<T>>, place: u32) -> Option<T>
+/// When an end looks at its far end before it is used. A look costs the more the more often the far
+/// end moves, since what it reads was written by another processor.
+#[derive(Clone, Copy, PartialEq, Eq, Debug)]
+pub(crate) enum Look {
+    /// Before each use.
+    First,
+    /// If what is known isn't enough.
+    IfNeeded,
+}
+
+impl Look {
+    /// Whether to look if so much is known and so much is needed.
+    pub(crate) fn is_due(self, known: usize, needed: usize) -> bool {
+        self == Look::First || known < needed
+    }
+}
+
+/// Looks at the far end, if that is due for one item: how many items are then known.
+pub(crate) fn count_items<T>(end: &mut Consumer<T>, look: Look) -> usize
+    ensures looked { ConsumerLooked end.old end.new }
+    ensures value { result ≡ length (known_items end.new) }
+{
+    let known = end.cached_slots();
+    if look.is_due(known, 1) {
+        end.slots()
+    } else {
+        known
+    }
+}
+
+/// Looks at the far end, if that is due for one place: how many more items are then known to have
+/// room.
+pub(crate) fn count_places<T>(end: &mut Producer<T>, look: Look) -> usize
+    ensures looked { ProducerLooked end.old end.new }
+    ensures value { result ≡ known_free end.new }
+{
+    let room = end.cached_slots();
+    if look.is_due(room, 1) {
+        end.slots()
+    } else {
+        room
+    }
+}
+
+/// Looks at the far end at a place, if that is due, and pops the first item that is then known. `None`
+/// says that none is.
+pub(crate) fn pop_at<T: Drop>(ends: &mut Vec<Consumer<T>>, place: u32, look: Look) -> Option<T>
     ensures pops { PopsAt ends.old.items ends.new.items place (list_of result) }
     ensures none { IfNone result (known_at ends.new.items place ≡ []) }
 {
@@ -16,15 +60,15 @@ pub(crate) fn pop_at<T: Drop>(ends: &mut Vec<Consumer<T>>, place: u32) -> Option
         return None;
     }
     let end = &mut ends[place as usize];
-    pop_one(end)
+    pop_one(end, look)
 }
 
-// Looks at the far end, and pops the first item that is then known.
-fn pop_one<T: Drop>(end: &mut Consumer<T>) -> Option<T>
+// Looks at the far end, if that is due, and pops the first item that is then known.
+fn pop_one<T: Drop>(end: &mut Consumer<T>, look: Look) -> Option<T>
     ensures pops { HasPopped end.old end.new (list_of result) }
     ensures none { IfNone result (known_items end.new ≡ []) }
 {
-    if end.slots() == 0 {
+    if count_items(end, look) == 0 {
         return None;
     }
     Some(end.pop_known())
@@ -40,6 +84,25 @@ pub(crate) fn count_at<T>(ends: &mut Vec<Consumer<T>>, place: u32) -> usize
     }
     let end = &mut ends[place as usize];
     end.slots()
+}
+
+/// Whether an item is known at a place, without a look.
+pub(crate) fn knows_item<T>(ends: &[Consumer<T>], place: u32) -> bool
+    ensures { result ≡ nat_lt 0 (length (known_at ends.now place)) }
+{
+    match ends.get(place as usize) {
+        Some(end) => end.cached_slots() > 0,
+        None => false,
+    }
+}
+
+/// Looks at the far ends of so many places, one right after the other.
+pub(crate) fn look_each<T>(ends: &mut Vec<Consumer<T>>, count: u32)
+    ensures { PopsAt ends.old.items ends.new.items 0 [] }
+{
+    for place in 0..count {
+        count_at(ends, place);
+    }
 }
 
 /// Looks at the far end at a place: the first item that is then known there, which stays in the ring.
@@ -65,8 +128,9 @@ pub(crate) fn peek_end<T: Copy>(end: &mut Consumer<T>) -> Option<T>
     Some(*end.peek_known())
 }
 
-/// Looks at the far end at a place: how many more items are then known to have room there.
-pub(crate) fn look_at<T>(ends: &mut Vec<Producer<T>>, place: u32) -> usize
+/// Looks at the far end at a place, if that is due: how many more items are then known to have room
+/// there.
+pub(crate) fn look_at<T>(ends: &mut Vec<Producer<T>>, place: u32, look: Look) -> usize
     ensures looks { LooksAt ends.old.items ends.new.items }
     ensures room { result ≡ room_at ends.new.items place }
 {
@@ -74,7 +138,7 @@ pub(crate) fn look_at<T>(ends: &mut Vec<Producer<T>>, place: u32) -> usize
         return 0;
     }
     let end = &mut ends[place as usize];
-    end.slots()
+    count_places(end, look)
 }
 
 /// Pushes an item at a place that is known to have room for it.

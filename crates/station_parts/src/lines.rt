@@ -2,6 +2,7 @@
 ghost use Rattle.std.specs.Prelude.{length};
 ghost use Rattle.station_parts.specs.Rows.{sent_at, free_at};
 
+use crate::ends::Look;
 use crate::row::Line;
 use memory_banks::{Command, Lines};
 
@@ -15,9 +16,9 @@ impl Row {
     ghost use Rattle.std.specs.Prelude.{◌≡◌};
     ghost use Rattle.station_parts.specs.Rows.{LinesLook};
 
-    /// Looks at the far end of a bank's line, and tells how many commands it is then known to take:
-    /// 0 if there is no such bank.
-    pub(crate) fn look(&mut self, bank: u32) -> u32
+    /// Looks at the far end of a bank's line, if that is due for so many commands, and tells how many it
+    /// is then known to take: 0 if there is no such bank.
+    pub(crate) fn look(&mut self, bank: u32, look: Look, needed: usize) -> u32
         ensures looks { LinesLook self.old.lines.items self.new.lines.items }
         ensures room { result ≡ free_at self.new.lines.items bank }
     {
@@ -25,15 +26,15 @@ impl Row {
             return 0;
         }
         let line = &mut self.lines[bank as usize];
-        line.look()
+        line.look_for(look, needed)
     }
 
-    /// Looks at the far ends of all lines.
-    pub(crate) fn look_all(&mut self, banks: u32)
+    /// Looks at the far ends of all lines for which that is due for so many commands.
+    pub(crate) fn look_all(&mut self, banks: u32, look: Look, needed: usize)
         ensures { LinesLook self.old.lines.items self.new.lines.items }
     {
         for bank in 0..banks {
-            self.look(bank);
+            self.look(bank, look, needed);
         }
     }
 }

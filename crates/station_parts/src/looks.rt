@@ -3,13 +3,14 @@ ghost use Rattle.std.specs.Prelude.{◌≡◌, length, slice_get};
 ghost use Rattle.cache_unit.specs.State.{UnitState};
 ghost use Rattle.station_parts.specs.Ids.{cache_id};
 ghost use Rattle.station_parts.specs.SideState.{state_of, OnlyLooks};
+ghost use Rattle.station_parts.specs.SideSteps.{has_item};
 ghost use Rattle.station_parts.specs.Words.{known_asks, telling_places, known_words, command_places, cache_in, sizes_in};
 
-use crate::ends::{count_at, look_at, peek_at};
+use crate::ends::{Look, count_at, knows_item, look_at, look_each, peek_at};
 use crate::parts::CacheSide;
 use cache_unit::CacheUnit;
 use memory_banks::BankAnswer;
-use station_journal::Ask;
+use station_journal::{Ask, Source};
 
 impl<const WAYS: usize, const WORDS: usize, const REGS: usize, const DEPTH: usize> CacheSide<
     WAYS,
@@ -44,7 +45,7 @@ impl<const WAYS: usize, const WORDS: usize, const REGS: usize, const DEPTH: usiz
         ensures same { cache_id self.new ≡ cache_id self.old }
         ensures places { result ≡ telling_places self.new port }
     {
-        look_at(&mut self.tellings, port)
+        look_at(&mut self.tellings, port, Look::First)
     }
 
     /// How many words of a bank are known, after a look, and not taken.
@@ -72,7 +73,7 @@ impl<const WAYS: usize, const WORDS: usize, const REGS: usize, const DEPTH: usiz
         ensures same { cache_id self.new ≡ cache_id self.old }
         ensures places { result ≡ command_places self.new bank }
     {
-        self.row.look(bank)
+        self.row.look(bank, Look::First, 1)
     }
 
     /// The cache unit, to be seen: its registers, its stack, its write queue and its ready values.
@@ -80,5 +81,37 @@ impl<const WAYS: usize, const WORDS: usize, const REGS: usize, const DEPTH: usiz
         ensures { result.now ≡ record { sizes = sizes_in self.now; cache = cache_in self.now } }
     {
         &self.unit
+    }
+
+    /// Looks at the far ends of all ports' rings of asks, one right after the other: what they have
+    /// written comes together, and not at each step anew.
+    pub fn look_for_asks(&mut self)
+        ensures looks { OnlyLooks (state_of self.old) (state_of self.new) }
+        ensures same { cache_id self.new ≡ cache_id self.old }
+    {
+        let ports = self.asks.len() as u32;
+        look_each(&mut self.asks, ports);
+    }
+
+    /// Looks so at the far ends of all banks' rings of words.
+    pub fn look_for_words(&mut self)
+        ensures looks { OnlyLooks (state_of self.old) (state_of self.new) }
+        ensures same { cache_id self.new ≡ cache_id self.old }
+    {
+        look_each(&mut self.answers, self.shape.banks);
+    }
+
+    /// Whether an item of the source is known, without a look. There may be no room yet for what a step
+    /// with it makes.
+    pub fn has_item(&self, source: Source) -> bool
+        ensures { result ≡ has_item source (state_of self.now) }
+    {
+        match source {
+            Source::Ask(port) => knows_item(&self.asks, port),
+            Source::Word(bank) => knows_item(&self.answers, bank),
+            Source::Stack(place) => place < self.unit.stack_len(),
+            Source::Drain => self.unit.queue_len() > 0,
+            Source::Reply(place) => place < self.unit.replies_len(),
+        }
     }
 }

@@ -4,7 +4,7 @@ ghost use Rattle.std.specs.List.{list_any};
 ghost use Rattle.rtrb.specs.Ring.{sent};
 ghost use Rattle.station_parts.specs.Ports.{is_done};
 
-use crate::ends::peek_end;
+use crate::ends::{Look, count_places, peek_end};
 use rtrb::{Consumer, Producer};
 use station_journal::{Ask, Told};
 use std::snapshot::Snapshot;
@@ -54,7 +54,49 @@ impl Port {
         ensures taken { taken self.new ≡ taken self.old }
         ensures tellings { known_tellings self.new ≡ known_tellings self.old }
     {
-        if self.ended || self.asks.slots() == 0 {
+        self.offer_with(ask, Look::First)
+    }
+
+    /// The offer of [`Port::offer`], which looks at the far end only if no free place is known.
+    pub fn quick_offer(&mut self, ask: Ask) -> Result<(), Ask>
+        ensures same { port_id self.new ≡ port_id self.old }
+        ensures before { offered_before self.new ≡ offered_before self.old }
+        ensures offered { OnOk result (offered self.new ≡ offered self.old ++ ask ∷ []) }
+        ensures back { IfErr result (λ given. given ≡ ask) }
+        ensures kept { OnErr result (offered self.new ≡ offered self.old) }
+
+        // The ask comes back for these two reasons, and for no other.
+        ensures full { OnErr result (has_ended self.old ≡ false → known_places self.new ≡ 0) }
+        ensures ended { has_ended self.old ≡ true → IsErr result }
+        ensures goes { has_ended self.old ≡ false → 0 < known_places self.old → IsOk result }
+
+        ensures places { OnOk result (known_places self.old ≤ known_places self.new + 1) }
+        ensures kept_places { OnErr result (known_places self.old ≤ known_places self.new) }
+        ensures taken { taken self.new ≡ taken self.old }
+        ensures tellings { known_tellings self.new ≡ known_tellings self.old }
+    {
+        self.offer_with(ask, Look::IfNeeded)
+    }
+
+    // The offer, by an end that looks so.
+    fn offer_with(&mut self, ask: Ask, look: Look) -> Result<(), Ask>
+        ensures same { port_id self.new ≡ port_id self.old }
+        ensures before { offered_before self.new ≡ offered_before self.old }
+        ensures offered { OnOk result (offered self.new ≡ offered self.old ++ ask ∷ []) }
+        ensures back { IfErr result (λ given. given ≡ ask) }
+        ensures kept { OnErr result (offered self.new ≡ offered self.old) }
+
+        // The ask comes back for these two reasons, and for no other.
+        ensures full { OnErr result (has_ended self.old ≡ false → known_places self.new ≡ 0) }
+        ensures ended { has_ended self.old ≡ true → IsErr result }
+        ensures goes { has_ended self.old ≡ false → 0 < known_places self.old → IsOk result }
+
+        ensures places { OnOk result (known_places self.old ≤ known_places self.new + 1) }
+        ensures kept_places { OnErr result (known_places self.old ≤ known_places self.new) }
+        ensures taken { taken self.new ≡ taken self.old }
+        ensures tellings { known_tellings self.new ≡ known_tellings self.old }
+    {
+        if self.ended || count_places(&mut self.asks, look) == 0 {
             return Err(ask);
         }
         self.asks.push_reserved(ask);

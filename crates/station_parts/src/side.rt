@@ -5,7 +5,7 @@ ghost use Rattle.station_parts.specs.SideState.{state_of};
 ghost use Rattle.station_parts.specs.SideSteps.{has_work, refusal_of, StepMakes};
 
 use crate::asking::{answer_ask, event_for, value_told, verdict_of};
-use crate::ends::{look_at, pop_at, push_at};
+use crate::ends::{Look, look_at, pop_at, push_at};
 use crate::parts::{CacheSide, Stepped};
 use flat_model::{Answer, Event};
 use station_journal::{Ask, Entry, PORT_TAGS, SideFault, Source};
@@ -41,6 +41,35 @@ impl<const WAYS: usize, const WORDS: usize, const REGS: usize, const DEPTH: usiz
             → result ≢ Stepped.Idle }
         ensures same { cache_id self.new ≡ cache_id self.old }
     {
+        self.step_with(source, Look::First)
+    }
+
+    /// The step of [`CacheSide::step`], with a look at a far end only if what is known of it isn't
+    /// enough: if no item of the source is known, no place for what it tells, or fewer places at a bank
+    /// than a block has words. So it takes fewer cache lines from the processors that write at the far
+    /// ends. Its contract is that of `step`.
+    pub fn quick_step(&mut self, source: Source) -> Stepped
+        ensures refused { IfSome (refusal_of (state_of self.old))
+            (λ refusal. (result ≡ refusal) × (self.new ≡ self.old)) }
+        ensures makes { IfNone (refusal_of (state_of self.old))
+            (StepMakes source (state_of self.old) (state_of self.new) result) }
+        ensures busy { IsTrue (has_work source (state_of self.old) (state_of self.old).known)
+            → result ≢ Stepped.Idle }
+        ensures same { cache_id self.new ≡ cache_id self.old }
+    {
+        self.step_with(source, Look::IfNeeded)
+    }
+
+    // The step, by ends that look so.
+    fn step_with(&mut self, source: Source, look: Look) -> Stepped
+        ensures refused { IfSome (refusal_of (state_of self.old))
+            (λ refusal. (result ≡ refusal) × (self.new ≡ self.old)) }
+        ensures makes { IfNone (refusal_of (state_of self.old))
+            (StepMakes source (state_of self.old) (state_of self.new) result) }
+        ensures busy { IsTrue (has_work source (state_of self.old) (state_of self.old).known)
+            → result ≢ Stepped.Idle }
+        ensures same { cache_id self.new ≡ cache_id self.old }
+    {
         if self.fault.is_some() {
             return Stepped::Faulted;
         }
@@ -48,11 +77,11 @@ impl<const WAYS: usize, const WORDS: usize, const REGS: usize, const DEPTH: usiz
             return Stepped::JournalFull;
         }
         match source {
-            Source::Ask(port) => self.ask(port),
-            Source::Word(bank) => self.bring(bank),
+            Source::Ask(port) => self.ask(port, look),
+            Source::Word(bank) => self.bring(bank, look),
             Source::Stack(place) => self.process(place),
-            Source::Drain => self.drain(),
-            Source::Reply(place) => self.reply(place),
+            Source::Drain => self.drain(look),
+            Source::Reply(place) => self.reply(place, look),
         }
     }
 
@@ -76,7 +105,7 @@ impl<const WAYS: usize, const WORDS: usize, const REGS: usize, const DEPTH: usiz
     }
 
     // Sends the front of the write queue to its bank.
-    fn drain(&mut self) -> Stepped
+    fn drain(&mut self, look: Look) -> Stepped
         requires sound { self.old.fault ≡ None }
         requires room { length self.old.journal.items < self.old.limit }
         ensures makes { StepMakes Source.Drain (state_of self.old) (state_of self.new) result }
@@ -85,7 +114,7 @@ impl<const WAYS: usize, const WORDS: usize, const REGS: usize, const DEPTH: usiz
         let Some(front) = self.unit.queue_entry(0) else {
             return Stepped::Idle;
         };
-        if self.row.look(front.at % self.shape.banks) == 0 {
+        if self.row.look(front.at % self.shape.banks, look, 1) == 0 {
             return Stepped::Idle;
         }
         let answer = self.unit.drain(&mut self.row);
@@ -98,23 +127,23 @@ impl<const WAYS: usize, const WORDS: usize, const REGS: usize, const DEPTH: usiz
     }
 
     // Takes the first ask that is known of a port, and tells the port what the unit answers.
-    fn ask(&mut self, port: u32) -> Stepped
+    fn ask(&mut self, port: u32, look: Look) -> Stepped
         requires sound { self.old.fault ≡ None }
         requires room { length self.old.journal.items < self.old.limit }
         ensures makes { StepMakes (Source.Ask port) (state_of self.old) (state_of self.new) result }
         ensures same { cache_id self.new ≡ cache_id self.old }
     {
-        if look_at(&mut self.tellings, port) == 0 {
+        if look_at(&mut self.tellings, port, look) == 0 {
             return Stepped::Idle;
         }
-        let Some(ask) = pop_at(&mut self.asks, port) else {
+        let Some(ask) = pop_at(&mut self.asks, port, look) else {
             return Stepped::Idle;
         };
         if let Ask::Done = ask {
             self.journal.push_reserved(Entry::Ended { port });
             return Stepped::Did;
         }
-        self.row.look_all(self.shape.banks);
+        self.row.look_all(self.shape.banks, look, WORDS);
         let answer = answer_ask(&mut self.unit, &mut self.row, port, ask);
         push_at(&mut self.tellings, port, verdict_of(answer));
         self.journal.push_reserved(Entry::Step {
@@ -126,7 +155,7 @@ impl<const WAYS: usize, const WORDS: usize, const REGS: usize, const DEPTH: usiz
     }
 
     // Takes the ready value at a place, and tells it to the port whose load it answers.
-    fn reply(&mut self, place: u32) -> Stepped
+    fn reply(&mut self, place: u32, look: Look) -> Stepped
         requires sound { self.old.fault ≡ None }
         requires room { length self.old.journal.items < self.old.limit }
         ensures makes { StepMakes (Source.Reply place) (state_of self.old) (state_of self.new) result }
@@ -136,7 +165,7 @@ impl<const WAYS: usize, const WORDS: usize, const REGS: usize, const DEPTH: usiz
             return Stepped::Idle;
         };
         let port = u32::from(tag / PORT_TAGS);
-        if look_at(&mut self.tellings, port) == 0 {
+        if look_at(&mut self.tellings, port, look) == 0 {
             return Stepped::Idle;
         }
         let answer = self.unit.take(place);
@@ -150,7 +179,7 @@ impl<const WAYS: usize, const WORDS: usize, const REGS: usize, const DEPTH: usiz
     }
 
     // Takes the first word that is known of a bank.
-    fn bring(&mut self, bank: u32) -> Stepped
+    fn bring(&mut self, bank: u32, look: Look) -> Stepped
         requires sound { self.old.fault ≡ None }
         requires room { length self.old.journal.items < self.old.limit }
         ensures makes { StepMakes (Source.Word bank) (state_of self.old) (state_of self.new) result }
@@ -159,7 +188,7 @@ impl<const WAYS: usize, const WORDS: usize, const REGS: usize, const DEPTH: usiz
         if self.unit.stack_len() as usize >= DEPTH {
             return Stepped::Idle;
         }
-        let Some(word) = pop_at(&mut self.answers, bank) else {
+        let Some(word) = pop_at(&mut self.answers, bank, look) else {
             return Stepped::Idle;
         };
         if !self.row.is_called(bank) {

@@ -14,9 +14,9 @@ use crate::rates::by_mutex::ask_behind_mutex;
 use crate::rates::on_threads::ask_on_threads;
 use rand_core::utils::NextWord;
 use rand_pcg::Pcg32;
-use ring_station::Ask;
+use ring_station::{Ask, Crew};
 use station_checks::{BLOCK_WORDS, Plan, WORDS, ask_by, bytes_of, per_second};
-use station_parts::{MAX_PORTS, PORT_TAGS};
+use station_parts::{MAX_ENTRIES, MAX_PORTS, PORT_TAGS};
 use std::alloc::{AllocError, Global};
 use std::fmt::{Display, Formatter};
 use std::io::Write;
@@ -31,7 +31,7 @@ const RUNS: u32 = 9;
 
 // Each is run once before any of them is run again, so that a machine that is slow for a while is slow
 // for all.
-const SERVERS: [Server; 10] = [
+const SERVERS: [Server; 11] = [
     Server::Core,
     Server::Mutex { threads: 2 },
     Server::Mutex { threads: 4 },
@@ -42,7 +42,16 @@ const SERVERS: [Server; 10] = [
     Server::Threads { ports: 4 },
     Server::Threads { ports: 8 },
     Server::Threads { ports: 16 },
+    Server::Shared {
+        ports: 8,
+        threads: 2,
+    },
 ];
+
+// The journal of a station on threads takes so many entries for each request. One makes five or six, with
+// those of the offers that are refused. And so small a journal is memory that the C library has had from the
+// station before, where that of the largest one is cleared by the system, page by page, at each run.
+const ENTRIES_A_REQUEST: usize = 8;
 
 /// Who serves the requests.
 #[derive(Clone, Copy, PartialEq, Eq, Debug)]
@@ -53,8 +62,11 @@ pub(crate) enum Server {
     Mutex { threads: u32 },
     /// A station with one port, stepped by hand on one thread.
     Hand,
-    /// A station on threads, with so many ports that share the requests.
+    /// A station on threads, with so many ports that share the requests, and a thread for each port and
+    /// each bank.
     Threads { ports: u32 },
+    /// The same, with so many threads that share the ports, and one for all banks.
+    Shared { ports: u32, threads: u32 },
 }
 
 impl Display for Server {
@@ -70,6 +82,12 @@ impl Display for Server {
             Server::Hand => f.write_str("station by hand"),
             Server::Threads { ports: 1 } => f.write_str("station on threads, 1 port"),
             Server::Threads { ports } => write!(f, "station on threads, {ports} ports"),
+            Server::Shared { ports, threads } => {
+                write!(
+                    f,
+                    "station on threads, {ports} ports on {threads}, all banks on 1"
+                )
+            }
         }
     }
 }
@@ -181,12 +199,33 @@ fn serve<R: AllocGlobal + Clock + Threads + Wait + Sync>(
             ask_behind_mutex(rt, &scripts)
         }
         Server::Hand => ask_by_hand(alloc, requests),
-        Server::Threads { ports } => {
-            let plan = Plan::new(ports, 0, 0);
-            let scripts = share(alloc, requests, &plan)?;
-            ask_on_threads(rt, &plan, &scripts)
+        Server::Threads { ports } => ask_crew(rt, ports, Crew::one_each(), requests),
+        Server::Shared { ports, threads } => {
+            let crew = Crew {
+                port_threads: threads as usize,
+                bank_threads: 1,
+            };
+            ask_crew(rt, ports, crew, requests)
         }
     }
+}
+
+// Serves the requests once by a station with so many ports on the threads of a crew.
+fn ask_crew<R: AllocGlobal + Clock + Threads + Sync>(
+    rt: &R,
+    ports: u32,
+    crew: Crew,
+    requests: &[Ask],
+) -> Result<bool, StationFault> {
+    let plan = Plan::new(ports, 0, 0);
+    let scripts = share(rt.alloc(), requests, &plan)?;
+    ask_on_threads(rt, &plan, &scripts, entries_for(requests), crew)
+}
+
+// How many entries a journal takes that is to serve the requests.
+fn entries_for(requests: &[Ask]) -> u32 {
+    let entries = requests.len().saturating_mul(ENTRIES_A_REQUEST);
+    entries.clamp(1, MAX_ENTRIES as usize) as u32
 }
 
 // As many requests as sixteen ports have asks. They are of any words, so that each share of them

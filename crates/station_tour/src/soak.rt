@@ -34,13 +34,13 @@ pub(crate) fn soak<R: AllocGlobal + Clock + Threads + Sync, W: Write, E: Write>(
     let mut failed: u32 = 0;
     let mut turn_limits: u32 = 0;
     for number in 0..stations {
-        let findings = run_any(rt, seed, number)?;
-        match findings.outcome() {
+        let looked = run_any(rt, seed, number)?;
+        match looked.outcome() {
             Outcome::Good => {}
             Outcome::TurnLimit => turn_limits = turn_limits.saturating_add(1),
             Outcome::Failed => {
                 failed = failed.saturating_add(1);
-                writeln!(errors, "station {number}: {findings:?}")?;
+                writeln!(errors, "station {number}: {looked:?}")?;
             }
         }
         if number % STEP == STEP - 1 {
@@ -54,13 +54,30 @@ pub(crate) fn soak<R: AllocGlobal + Clock + Threads + Sync, W: Write, E: Write>(
     Ok(failed == 0)
 }
 
+// What was found behind a station's run, and whether that had enough turns and entries for its end.
+#[derive(Clone, Copy, PartialEq, Eq, Debug)]
+struct Looked {
+    findings: Findings,
+    has_to_end: bool,
+}
+
+impl Looked {
+    // What it comes to. A run with enough of all that comes to a limit has failed.
+    fn outcome(&self) -> Outcome {
+        match self.findings.outcome() {
+            Outcome::TurnLimit if self.has_to_end => Outcome::Failed,
+            outcome => outcome,
+        }
+    }
+}
+
 // Runs the station of this number, with the least, the most or other ways, words of a block,
 // registers and places of the stack.
 fn run_any<R: AllocGlobal + Clock + Threads + Sync>(
     rt: &R,
     seed: u64,
     number: u32,
-) -> Result<Findings, StationFault> {
+) -> Result<Looked, StationFault> {
     let draws = Draws::new(seed, number);
     match number % 4 {
         0 => run_least(rt, draws),
@@ -82,14 +99,18 @@ macro_rules! run_station {
             trial.journal,
         )?;
         let ran = run_one($rt, &mut $draws, &trial, &mut station)?;
-        look_at(
+        let findings = look_at(
             $rt.alloc(),
             &mut station.cache,
             &mut station.ports,
             &mut station.banks,
             trial.shape.words,
             ran,
-        )
+        )?;
+        Ok(Looked {
+            findings,
+            has_to_end: trial.has_to_end(),
+        })
     }};
 }
 
@@ -97,7 +118,7 @@ macro_rules! run_station {
 fn run_least<R: AllocGlobal + Clock + Threads + Sync>(
     rt: &R,
     mut draws: Draws,
-) -> Result<Findings, StationFault> {
+) -> Result<Looked, StationFault> {
     run_station!(rt, draws, 1, 1, 1, 1)
 }
 
@@ -105,7 +126,7 @@ fn run_least<R: AllocGlobal + Clock + Threads + Sync>(
 fn run_most<R: AllocGlobal + Clock + Threads + Sync>(
     rt: &R,
     mut draws: Draws,
-) -> Result<Findings, StationFault> {
+) -> Result<Looked, StationFault> {
     run_station!(rt, draws, 8, 16, 16, 16)
 }
 
@@ -113,7 +134,7 @@ fn run_most<R: AllocGlobal + Clock + Threads + Sync>(
 fn run_common<R: AllocGlobal + Clock + Threads + Sync>(
     rt: &R,
     mut draws: Draws,
-) -> Result<Findings, StationFault> {
+) -> Result<Looked, StationFault> {
     run_station!(rt, draws, 2, 4, 4, 4)
 }
 
@@ -121,7 +142,7 @@ fn run_common<R: AllocGlobal + Clock + Threads + Sync>(
 fn run_uneven<R: AllocGlobal + Clock + Threads + Sync>(
     rt: &R,
     mut draws: Draws,
-) -> Result<Findings, StationFault> {
+) -> Result<Looked, StationFault> {
     run_station!(rt, draws, 3, 2, 5, 1)
 }
 

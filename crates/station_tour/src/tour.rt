@@ -7,7 +7,7 @@ ghost use Rattle.station_parts.specs.Station.{AreOneStation};
 use crate::fault::StationFault;
 use crate::patience::PatientGate;
 use flat_model::FlatMemory;
-use ring_station::{Ask, Audit, Segment, Station, run_and_renew, station};
+use ring_station::{Ask, Audit, Crew, Segment, Station, run_and_renew, station};
 use station_checks::{
     BLOCK_WORDS, DEPTH, ENTRIES, Findings, Outcome, Plan, REGS, ScriptParts, Tally, WAYS, WORDS,
     shape, tell_findings, tell_journal, tell_ports, tell_progress, tell_run,
@@ -111,7 +111,8 @@ fn run_segment<R: AllocGlobal + Clock + Threads + Sync>(
     ensures ports { vec_len station.new.ports ≡ vec_len station.old.ports }
 {
     let begun = Instant::now(rt)?;
-    let segment = run_and_renew(rt, rt.alloc(), station, scripts, TURNS, gate)?;
+    let crew = Crew::one_each();
+    let segment = run_and_renew(rt, rt.alloc(), station, scripts, TURNS, crew, gate)?;
     course.took = course.took.saturating_add(begun.elapsed(rt)?);
     Ok(segment)
 }

@@ -1,10 +1,10 @@
-//! How the threads of a run end, and what is told of a run that comes to no end. A row has the gate's
-//! rule, and each thread's end.
+//! How the parts of a run end, and what is told of a run that comes to no end. A row has the gate's
+//! rule, the threads, and each part's end.
 use super::gates::{Rule, RuledGate};
 use super::{LOAD_5, SHAPE, SmallStation, TURNS, VALUE, scripts_of};
 use flat_model::MakeFault;
 use ring_station::{
-    Actor, Ask, Audit, Ring, Run, ThreadEnd, ThreadFault, Told, run_and_audit, station,
+    Actor, Ask, Audit, Crew, Ring, Run, ThreadEnd, ThreadFault, Told, run_and_audit, station,
 };
 use std::alloc::Global;
 use std::process::Abort;
@@ -12,14 +12,15 @@ use std::rt::Clock;
 use std::test::Fail;
 use std::thread::Threads;
 
-/// A run of a new station with two ports, and how its threads end.
+/// A run of a new station with two ports and two banks, and how they end.
 #[derive(Clone, Copy)]
 struct Ending {
     name: &'static str,
     rule: Rule,
+    crew: Crew,
     /// Entries that the journal takes.
     journal: u32,
-    /// Turns of each thread.
+    /// Turns of each part.
     turns: u64,
     scripts: [&'static [Ask]; 2],
     /// What each port took.
@@ -38,10 +39,21 @@ const LIMIT: Option<ThreadFault> = Some(ThreadFault::TurnLimit);
 // So many turns are enough for a thread that isn't held to do what it has to.
 const SOME_TURNS: u64 = 100_000;
 
-// Each row begins with these: no thread comes to its end.
+const EACH: Crew = Crew {
+    port_threads: 2,
+    bank_threads: 2,
+};
+
+const SHARED: Crew = Crew {
+    port_threads: 1,
+    bank_threads: 1,
+};
+
+// Each row begins with these: no part comes to its end.
 const ENDING: Ending = Ending {
     name: "",
     rule: Rule::Open,
+    crew: EACH,
     journal: 1_000,
     turns: SOME_TURNS,
     scripts: [&[], &[]],
@@ -59,9 +71,9 @@ const LEFT_ASKS: Option<Audit> = Some(Audit::Left {
     ring: Ring::Asks(0),
 });
 
-static ENDINGS: [Ending; 8] = [
+static ENDINGS: [Ending; 11] = [
     Ending {
-        name: "all threads come to their ends",
+        name: "all come to their ends",
         turns: TURNS,
         scripts: [&[LOAD_5], &[LOAD_5]],
         lists: [&[Told::Accepted, VALUE], &[Told::Accepted, VALUE]],
@@ -96,7 +108,8 @@ static ENDINGS: [Ending; 8] = [
         ..ENDING
     },
     Ending {
-        name: "the other held port",
+        name: "the other held port, whose thread another one shares",
+        crew: SHARED,
         rule: Rule::Holds(Actor::Port(1)),
         scripts: [&[PREFETCH], &[PREFETCH]],
         lists: [&[Told::Accepted], &[]],
@@ -136,6 +149,41 @@ static ENDINGS: [Ending; 8] = [
         banks: [None, None],
         audit: Some(Audit::Clean),
         bank_turns: 2,
+        ..ENDING
+    },
+    Ending {
+        name: "ports that share a thread, and banks that do",
+        crew: SHARED,
+        turns: TURNS,
+        scripts: [&[LOAD_5], &[LOAD_5]],
+        lists: [&[Told::Accepted, VALUE], &[Told::Accepted, VALUE]],
+        cache: None,
+        ports: [None, None],
+        banks: [None, None],
+        audit: Some(Audit::Clean),
+        ..ENDING
+    },
+    // None counts as one.
+    Ending {
+        name: "ports that share a thread, without turns",
+        crew: Crew {
+            port_threads: 0,
+            bank_threads: 0,
+        },
+        turns: 0,
+        audit: Some(Audit::Clean),
+        ..ENDING
+    },
+    Ending {
+        name: "a held bank beside one that goes on",
+        crew: SHARED,
+        rule: Rule::Holds(Actor::Bank(0)),
+        scripts: [&[LOAD_5], &[]],
+        lists: [&[Told::Accepted, VALUE], &[]],
+        ports: [None, None],
+        audit: Some(Audit::Left {
+            ring: Ring::Commands(0),
+        }),
         ..ENDING
     },
 ];
@@ -196,7 +244,7 @@ fn make_run<R: Abort + Clock + Threads + Sync>(
     let mut all: SmallStation = station(alloc, SHAPE, 2, row.journal)?;
     assert_eq!(rt; scripts.len(), all.ports.len());
     let gate = RuledGate::new(row.rule);
-    let run = run_and_audit(rt, alloc, &mut all, &scripts, row.turns, &gate)?;
+    let run = run_and_audit(rt, alloc, &mut all, &scripts, row.turns, row.crew, &gate)?;
     Ok(is_as_said(&run, &gate, row))
 }
 

@@ -69,6 +69,11 @@ pub(crate) struct Run {
 }
 
 impl Run {
+    // The same run with so many turns of each thread.
+    pub(crate) fn with_turns(&self, turns: u64) -> Run {
+        Run { turns, ..*self }
+    }
+
     // A port for each script. A station has none of so many ports that they aren't counted.
     fn ports(&self) -> u32 {
         u32::try_from(self.scripts.len()).unwrap_or(u32::MAX)

@@ -1,6 +1,6 @@
 //! Want of memory, at whichever allocation. With enough memory all comes to its end; with one
-//! allocation refused, a call answers want of memory or comes to its end, and of two calls one does.
-use super::SHAPE;
+//! allocation refused, a call answers want of memory or comes to its end, and of several calls one does.
+use super::{SHAPE, TURNS};
 use super::on_threads::{HELD_BANK, OFTEN_REFUSED, Run, make_run};
 use flat_model::{MakeFault, ShapeField};
 use ring_station::{RunFault, station};
@@ -61,12 +61,18 @@ fn attempt<R: Abort + Clock + Threads + Sync>(
     Ok(())
 }
 
+// Turns of each attempt. If a thread can't be made, the parts run one after another, and each uses up its
+// turns: so they are few at first, and more where few weren't enough on a busy machine.
+const TURNS_OF_ATTEMPTS: [u64; 4] = [20_000, 200_000, TURNS, TURNS];
+
 // A thread that can't be made may end in either fault.
 #[test]
 fn refused_memory(rt: HostRuntime) {
     let mut ended = false;
-    for _attempt in 0..2 {
-        ended |= attempt(&rt, rt.alloc(), &HELD_BANK).is_ok();
+    for turns in TURNS_OF_ATTEMPTS {
+        if !ended {
+            ended = attempt(&rt, rt.alloc(), &HELD_BANK.with_turns(turns)).is_ok();
+        }
     }
     assert!(rt; ended);
 }

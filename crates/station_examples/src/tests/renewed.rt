@@ -7,7 +7,7 @@ use super::ends::are_lists;
 use super::gates::{Rule, RuledGate};
 use super::{LOAD_5, SHAPE, SmallStation, TURNS, scripts_of};
 use flat_model::{Lanes, Word};
-use ring_station::{Ask, Entry, Segment, Told, run_and_renew, station};
+use ring_station::{Ask, Crew, Entry, Segment, Told, run_and_renew, station};
 use station_checks::is_flat;
 use std::alloc::{AllocError, Global};
 use std::process::Abort;
@@ -76,7 +76,7 @@ fn run_turn<R: Abort + Clock + Threads + Sync>(
     let scripts = scripts_of(alloc, &turn.scripts)?;
     assert_eq!(rt; scripts.len(), all.ports.len());
     let gate = RuledGate::new(Rule::Open);
-    Ok(run_and_renew(rt, alloc, all, &scripts, TURNS, &gate)?)
+    Ok(run_and_renew(rt, alloc, all, &scripts, TURNS, Crew::one_each(), &gate)?)
 }
 
 // Whether a run did what it had to.

@@ -114,6 +114,11 @@ impl Trial {
         }
     }
 
+    /// Whether it has enough turns and entries, so that its run has to come to its end.
+    pub(crate) fn has_to_end(&self) -> bool {
+        self.journal == MAX_ENTRIES && self.turns == MANY_TURNS
+    }
+
     /// A script for each port.
     pub(crate) fn scripts(
         &self,

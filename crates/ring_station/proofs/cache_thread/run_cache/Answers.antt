@@ -1,16 +1,16 @@
 use Rattle.std.proofs.Common.{rules, ◌∙◌, lit<}
-use Rattle.ring_station.proofs.Turning.{turn_notes, noted_more, ended_more, cache_ran, is_served, full_turn}
+use Rattle.ring_station.proofs.Turning.{turn_notes, noted_more, noted_still, ended_more, ended_still, cache_ran, is_served, full_turn}
 use Rattle.ring_station.proofs.cache_thread.run_cache.Goals as goal
 
 pub loop-turn-preserved : goal.loop-turn-preserved
 loop-turn-preserved g c =
     let notes = turn_notes _ _ _ _ _ c.take_turn-stepped.ensures.turn in
     record {
-      same = c.take_turn-stepped.ensures.same ∙ c.loop-turn.invariant.same;
-      earlier = notes.earlier ∙ c.loop-turn.invariant.earlier;
-      noted = noted_more _ _ _ _ notes c.loop-turn.invariant.noted;
+      same = c.take_turn-stepped.ensures.same ∙ c.seek.ensures.same ∙ c.loop-turn.invariant.same;
+      earlier = notes.earlier ∙ c.seek.ensures.earlier ∙ c.loop-turn.invariant.earlier;
+      noted = noted_more _ _ _ _ notes (noted_still _ _ _ _ c.seek.ensures.held c.loop-turn.invariant.noted);
       ended = ended_more _ _ _ _ _ _ _ notes c.entries-entries.ensures c.has_ended_port.ensures c.still_open-open_ports.ensures
-          c.loop-turn.invariant.ended;
+          (ended_still _ _ _ _ c.seek.ensures.held c.loop-turn.invariant.ended);
     }
 
 pub returns-then-is_at_rest : goal.returns-then-is_at_rest
@@ -20,18 +20,18 @@ returns-then-is_at_rest g c =
       search rules,
       is_served _ _ _ c.still_open-open_ports.result _ (search rules) c.is_at_rest.ensures c.if-is_at_rest.true
           (ended_more _ _ _ _ _ _ _ notes c.entries-entries.ensures c.has_ended_port.ensures c.still_open-open_ports.ensures
-          c.loop-turn.invariant.ended),
+          (ended_still _ _ _ _ c.seek.ensures.held c.loop-turn.invariant.ended)),
     )
-    (c.take_turn-stepped.ensures.same ∙ c.loop-turn.invariant.same)
-    (notes.earlier ∙ c.loop-turn.invariant.earlier) (noted_more _ _ _ _ notes c.loop-turn.invariant.noted)
+    (c.take_turn-stepped.ensures.same ∙ c.seek.ensures.same ∙ c.loop-turn.invariant.same)
+    (notes.earlier ∙ c.seek.ensures.earlier ∙ c.loop-turn.invariant.earlier) (noted_more _ _ _ _ notes (noted_still _ _ _ _ c.seek.ensures.held c.loop-turn.invariant.noted))
 
 pub returns-then-eq : goal.returns-then-eq
 returns-then-eq g c =
     let notes = turn_notes _ _ _ _ _ c.take_turn-stepped.ensures.turn in
     cache_ran _ _ _ _ _ _ _ c.stopped.ensures (search rules)
     (full_turn _ _ _ _ _ c.take_turn-stepped.ensures.turn (search rules))
-    (c.take_turn-stepped.ensures.same ∙ c.loop-turn.invariant.same)
-    (notes.earlier ∙ c.loop-turn.invariant.earlier) (noted_more _ _ _ _ notes c.loop-turn.invariant.noted)
+    (c.take_turn-stepped.ensures.same ∙ c.seek.ensures.same ∙ c.loop-turn.invariant.same)
+    (notes.earlier ∙ c.seek.ensures.earlier ∙ c.loop-turn.invariant.earlier) (noted_more _ _ _ _ notes (noted_still _ _ _ _ c.seek.ensures.held c.loop-turn.invariant.noted))
 
 pub entries-entries-requires : goal.entries-entries-requires
 entries-entries-requires g c = lit< tt

@@ -1,6 +1,7 @@
 use Rattle.std.proofs.Common.{rules, arith}
 use Rattle.std.proofs.lemmas.Grind.{common_steps}
-use Rattle.ring_station.proofs.Enlisting.{still_empty}
+use Rattle.ring_station.specs.Crew.{HasNotBegun}
+use Rattle.ring_station.proofs.Enlisting.{all_and_one}
 use Rattle.ring_station.proofs.crew.enlist_ports.Goals as goal
 
 pub loop-port-preserved : goal.loop-port-preserved
@@ -9,5 +10,13 @@ loop-port-preserved c = record {
   is_finite = search rules;
   room = search rules;
   ports = grind (arith, common_steps);
-  lists = rw c.push_reserved.ensures.items (still_empty _ _ c.loop-port.invariant.lists c.new.ensures.items);
+  begun = rw c.push_reserved.ensures.items
+      (all_and_one HasNotBegun _ _ c.loop-port.invariant.begun
+      (record {
+        list = c.new-in-loop-port.ensures.items;
+        end = c.not_begun.ensures;
+        phase = c.new.ensures.phase;
+        owed = c.new.ensures.owed;
+        talked = c.new.ensures.talked;
+      }));
 }

@@ -15,7 +15,7 @@ run_crew-end-requires-after_bounds g c κs within =
     let ports : map (λ (r : PortRun). r.port) c.enlist_ports.new.runs.items ≡ all_ports.items =
     c.enlist_ports.ensures.ports ∙ ap (λ (v : Vec Port). v.items) c.replace.ensures.value in
     let banks : map (λ (r : BankRun). r.bank) c.enlist_banks.new.runs.items ≡ all_banks.items =
-    c.enlist_banks.ensures ∙ ap (λ (v : Vec BankSide). v.items) c.replace-2.ensures.value in
+    c.enlist_banks.ensures.banks ∙ ap (λ (v : Vec BankSide). v.items) c.replace-2.ensures.value in
     let port_count : vec_len c.enlist_ports.new.runs ≡ vec_len all_ports =
     enlisted_count (λ (r : PortRun). r.port) c.enlist_ports.new.runs all_ports ports in
     let bank_count : vec_len c.enlist_banks.new.runs ≡ vec_len all_banks =
@@ -29,7 +29,7 @@ run_crew-end-requires-after_bounds g c κs within =
         omega (arith, c.requires.scripts, port_count),
         (
           omega (arith, port_count, few_ports, p),
-          (omega (arith, bank_count, few_banks, b), c.enlist_ports.ensures.lists),
+          (omega (arith, bank_count, few_banks, b), (c.enlist_ports.ensures.begun, c.enlist_banks.ensures.begun)),
         ),
       ),
     )
@@ -44,7 +44,7 @@ returns-clause-ports g c =
 pub returns-clause-banks : goal.returns-clause-banks
 returns-clause-banks g c =
     banks_back c.args.turns c.enlist_banks.new.runs.items c.run_crew-end.new.banks.items _ _ _
-    (sym (c.enlist_banks.ensures ∙ ap (λ (v : Vec BankSide). v.items) c.replace-2.ensures.value))
+    (sym (c.enlist_banks.ensures.banks ∙ ap (λ (v : Vec BankSide). v.items) c.replace-2.ensures.value))
     c.in_ok-cache.ensures.banks c.dismiss_banks.ensures.banks c.dismiss_banks.ensures.ends
 
 pub returns-clause-cache : goal.returns-clause-cache
@@ -94,7 +94,7 @@ pub returns-in_err-cache-clause-unmoved_banks : goal.returns-in_err-cache-clause
 returns-in_err-cache-clause-unmoved_banks g c =
     let same : c.dismiss_banks.new.banks.items ≡ c.args.banks.now.items =
     banks_unmoved c.enlist_banks.new.runs c.run_crew-end.new.banks c.args.banks.now.items c.dismiss_banks.new.banks.items
-    (sym (c.enlist_banks.ensures ∙ ap (λ (v : Vec BankSide). v.items) c.replace-2.ensures.value)) c.in_err-cache.ensures.unmoved_banks
+    (sym (c.enlist_banks.ensures.banks ∙ ap (λ (v : Vec BankSide). v.items) c.replace-2.ensures.value)) c.in_err-cache.ensures.unmoved_banks
     c.dismiss_banks.ensures.banks in
     on_err c.from_residual-in_err-cache.result same
 
@@ -102,7 +102,7 @@ pub returns-in_err-cache-clause-same_banks : goal.returns-in_err-cache-clause-sa
 returns-in_err-cache-clause-same_banks g c =
     let same : c.dismiss_banks.new.banks.items ≡ c.args.banks.now.items =
     banks_unmoved c.enlist_banks.new.runs c.run_crew-end.new.banks c.args.banks.now.items c.dismiss_banks.new.banks.items
-    (sym (c.enlist_banks.ensures ∙ ap (λ (v : Vec BankSide). v.items) c.replace-2.ensures.value)) c.in_err-cache.ensures.unmoved_banks
+    (sym (c.enlist_banks.ensures.banks ∙ ap (λ (v : Vec BankSide). v.items) c.replace-2.ensures.value)) c.in_err-cache.ensures.unmoved_banks
     c.dismiss_banks.ensures.banks in
     same_shown bank_id c.dismiss_banks.new.banks.items c.args.banks.now.items same
 

@@ -11,17 +11,17 @@ returns-clause-looks g c =
     let xs = c.args.ends.now.items in
     let end = c.index_mut-end.result.now in
     let there : c.args.place < length xs = omega arith in
-    let looked = c.slots.ensures.looked in
-    let used : HasLooked end c.slots.new.self = record {
-      ring = pushes_kept end c.slots.new.self looked.0;
+    let looked = c.count_places.ensures.looked in
+    let used : HasLooked end c.count_places.new.end = record {
+      ring = pushes_kept end c.count_places.new.end looked.0;
       pushed = looked.1;
       places =
           looked.2;
     } in
-    looks_at xs c.args.place end c.slots.new.self there c.index_mut-end.ensures.value used
+    looks_at xs c.args.place end c.count_places.new.end there c.index_mut-end.ensures.value used
 
 pub returns-clause-room : goal.returns-clause-room
 returns-clause-room g c =
     let xs = c.args.ends.now.items in
     let there : c.args.place < length xs = omega arith in
-    c.slots.ensures.value ∙ sym (here_after known_free xs c.args.place c.slots.new.self 0 there)
+    c.count_places.ensures.value ∙ sym (here_after known_free xs c.args.place c.count_places.new.end 0 there)

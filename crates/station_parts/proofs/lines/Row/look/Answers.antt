@@ -9,11 +9,11 @@ pub returns-clause-looks : goal.returns-clause-looks
 returns-clause-looks c =
     let xs = c.args.self.now.lines.items in
     let there : c.args.bank < length xs = omega arith in
-    line_looks xs c.args.bank c.index_mut-line.result.now c.look.new.self there c.index_mut-line.ensures.value c.look.ensures.ring
-    c.look.ensures.taken
+    line_looks xs c.args.bank c.index_mut-line.result.now c.look_for.new.self there c.index_mut-line.ensures.value c.look_for.ensures.ring
+    c.look_for.ensures.taken
 
 pub returns-clause-room : goal.returns-clause-room
 returns-clause-room c =
     let xs = c.args.self.now.lines.items in
     let there : c.args.bank < length xs = omega arith in
-    c.look.ensures.value ∙ sym (here_after (λ (l : Line). known_free l.ring) xs c.args.bank c.look.new.self 0 there)
+    c.look_for.ensures.value ∙ sym (here_after (λ (l : Line). known_free l.ring) xs c.args.bank c.look_for.new.self 0 there)

@@ -1,4 +1,5 @@
-use Rattle.std.proofs.Common.{rules, ℕ, ◌+◌, ◌≤◌, ◌&&◌, not, true, nat_lt, ◌++◌, ◌∷◌, [], length, map, ◌∙◌, refl, sym, ap, ap₂, subst, subst₂, arith, add-zero, append-nil}
+use Rattle.std.proofs.Common.{rules, ℕ, ◌+◌, ◌≤◌, ◌&&◌, not, true, nat_lt, ◌++◌, ◌∷◌, [], length, map, ◌∙◌, refl, sym, ap, ap₂, subst}
+use Rattle.std.proofs.Common.{arith, add-zero, append-nil}
 use Rattle.std.proofs.Math.Bool.{and-false}
 use Rattle.std.proofs.Math.Logic.{∥∥₁_map}
 use Rattle.std.proofs.lemmas.Bool.{lt-ltb, le-ltb}
@@ -17,9 +18,10 @@ use Rattle.station_parts.specs.Rings.{pops_from, pushes_to}
 use Rattle.station_parts.specs.Rows.{sent_at, popped_at, free_at, received_at, known_at, pushed_at, room_at, only}
 use Rattle.station_parts.specs.Asking.{event_for, asked_step}
 use Rattle.station_parts.specs.SideState.{state_of}
-use Rattle.station_parts.specs.SideSteps.{no_words, nothing, noted, asked, answer_of, Makes, EventForms}
+use Rattle.station_parts.specs.SideSteps.{no_words, nothing, noted, asked, answer_of, Makes}
 use Rattle.station_parts.proofs.Rows.{same_length}
-use Rattle.station_parts.proofs.SideMakes.{idles, acts, makes_nothing, knows_tellings, knows_asks, popped_none, known_more, first_is, there_popped, noted_so, asked_first}
+use Rattle.station_parts.proofs.SideMakes.{idles, acts, makes_nothing, knows_tellings, knows_asks, popped_none, known_more, first_is}
+use Rattle.station_parts.proofs.SideMakes.{there_popped, noted_so, asked_first, asked_forms}
 use Rattle.station_parts.proofs.Porting.{ports_step, ports_looked, behind}
 use Rattle.station_parts.proofs.AskSteps.{asked_verdict, side_asked, side_ended, only_asked, only_told, only_ended}
 use Rattle.station_parts.specs.Words.{earlier_of, journal_of}
@@ -101,13 +103,13 @@ invariant_of-self-in-Done g c =
 pub verdict_of-requires : goal.verdict_of-requires
 verdict_of-requires g c =
     let s = c.args.self.now in
-    subst IsVerdict (sym c.answer_ask-answer.ensures.steps.answer_is) (asked_verdict s.unit.sizes (free_at c.look_all.new.self.lines.items)
+    subst IsVerdict (sym c.answer_ask-answer.ensures.made.answer) (asked_verdict s.unit.sizes (free_at c.look_all.new.self.lines.items)
     c.args.port s.unit.cache c.in-Some.ask c.in_default-ask.not-Done)
 
 pub invariant_of-self-2 : goal.invariant_of-self-2
 invariant_of-self-2 g c =
     let s = c.args.self.now in
-    let unit = c.answer_ask-answer.ensures.steps.unit in
+    let unit = c.answer_ask-answer.ensures.made.unit in
     let sizes = ap (λ (u : UnitState). u.sizes) unit in
     let banks = ap (λ (z : Sizes). z.banks) (sym sizes) in
     let longer = c.push_reserved-2.ensures.len in
@@ -122,7 +124,7 @@ invariant_of-self-2 g c =
     record {
       shaped = sizes ∙ s.shaped;
       in_range = subst InRange (sym sizes) s.in_range;
-      lines = same_length (λ (l : Line). pushes_to l.ring) _ _ (c.answer_ask-answer.ensures.steps.kept.rings ∙ c.look_all.ensures.kept.rings)
+      lines = same_length (λ (l : Line). pushes_to l.ring) _ _ (c.answer_ask-answer.ensures.kept.rings ∙ c.look_all.ensures.kept.rings)
           ∙ s.lines ∙ banks;
       ends = s.ends ∙ banks;
       small = s.small;
@@ -135,9 +137,9 @@ invariant_of-self-2 g c =
           (journal_of s) (earlier_of s ++ c.push_reserved-2.new.self.items) (free_at c.look_all.new.self.lines.items) c.args.port
           c.in-Some.ask
           c.event_for.result c.answer_ask-answer.result c.in_default-ask.not-Done c.requires.sound c.event_for.ensures.event h unit
-          c.answer_ask-answer.ensures.steps.answer_is c.look_all.ensures.sent c.answer_ask-answer.ensures.steps.sent
+          c.answer_ask-answer.ensures.made.answer c.look_all.ensures.sent c.answer_ask-answer.ensures.sent
           (behind (earlier_of s) _ _ _ c.push_reserved-2.ensures.items));
-      counted = λ sound b. c.answer_ask-answer.ensures.steps.kept.taken b ∙ c.look_all.ensures.kept.taken b ∙ s.counted sound b;
+      counted = λ sound b. c.answer_ask-answer.ensures.kept.taken b ∙ c.look_all.ensures.kept.taken b ∙ s.counted sound b;
       few_ports = subst (λ n. n ≤ MAX_PORTS) (sym (same_length pops_from s.asks.items c.pop_at.new.ends.items c.in-Some.ensures.pops.rings))
           s.few_ports;
       ports = ports_step s.asks.items c.pop_at.new.ends.items s.tellings.items c.push_at.new.ends.items (journal_of s)
@@ -240,14 +242,14 @@ returns-clause-makes g c =
     let work = ap (asked s looked port) first ∙ asked_first s looked port ask (known_at news port) not_done in
     let event = event_for port ask in
     let d = asked_step s.sizes free port s.cache ask in
-    let unit = c.answer_ask-answer.ensures.steps in
-    let cache = ap (λ (u : UnitState). u.cache) unit.unit in
+    let unit = c.answer_ask-answer.ensures in
+    let cache = ap (λ (u : UnitState). u.cache) unit.made.unit in
     let mine = only_asked port ask event d.answer not_done refl in
-    let told = only_told port event d.answer c.verdict_of.result (ap verdict (sym unit.answer_is) ∙ c.verdict_of.ensures) in
+    let told = only_told port event d.answer c.verdict_of.result (ap verdict (sym unit.made.answer) ∙ c.verdict_of.ensures) in
     let makes : Makes _ s looked _ = record {
       earlier = refl;
       held = noted_so s.held c.push_reserved-2.new.self.items (sources.Ask port) c.event_for.result event c.answer_ask-answer.result
-          d.answer c.push_reserved-2.ensures.items c.event_for.ensures.event unit.answer_is;
+          d.answer c.push_reserved-2.ensures.items c.event_for.ensures.event unit.made.answer;
       cache = cache;
       fault = refl;
       asked = λ p. pops.popped p ∙ ap (λ l. s.asked p ++ l) (mine p);
@@ -259,15 +261,15 @@ returns-clause-makes g c =
       telling_places = λ p. c.push_at.ensures.places p ∙ ap (λ l. room_at c.push_at.new.ends.items p + length l) (told p);
       command_places = λ b. sym (unit.rooms b);
     } in
-    let forms = subst₂ (λ a k. EventForms s.sizes s.cache event [] a k) unit.answer_is cache c.answer_ask-answer.ensures.forms in
+    let forms = asked_forms s.sizes s.cache unit.made.sound free port ask not_done in
     acts (sources.Ask port) s _ looked (knows_asks s.known asks places free pops.known looks.places c.look_all.ensures.free)
     (noted s (sources.Ask port) event d no_words) Did some work (ap (answer_of true) (sym c.requires.sound)) makes (forms, tt)
 
 pub returns-clause-same : goal.returns-clause-same
 returns-clause-same g c =
     let told = c.push_at.ensures.rings ∙ c.look_at.ensures.looks.rings in
-    let lines = c.answer_ask-answer.ensures.steps.kept.rings ∙ c.look_all.ensures.kept.rings in
-    let sizes = ap (λ (u : UnitState). u.sizes) c.answer_ask-answer.ensures.steps.unit in
+    let lines = c.answer_ask-answer.ensures.kept.rings ∙ c.look_all.ensures.kept.rings in
+    let sizes = ap (λ (u : UnitState). u.sizes) c.answer_ask-answer.ensures.made.unit in
     λ i. record {
       asks = c.in-Some.ensures.pops.rings i;
       told = told i;

@@ -1,4 +1,5 @@
-use Rattle.std.proofs.Common.{◌≡◌, ℕ, ◌+◌, ◌<◌, ◌&&◌, not, true, nat_lt, ◌++◌, ◌∷◌, [], length, Some, refl, sym, ap, ap₂, ◌∙◌, subst, subst₂, arith, add-zero, append-nil}
+use Rattle.std.proofs.Common.{◌≡◌, ℕ, ◌+◌, ◌<◌, ◌&&◌, not, true, nat_lt, ◌++◌, ◌∷◌, [], length, Some, refl, sym, ap, ap₂, ◌∙◌, subst, arith}
+use Rattle.std.proofs.Common.{add-zero, append-nil}
 use Rattle.std.proofs.Math.Bool.{and-false}
 use Rattle.std.proofs.Math.Logic.{∥∥₁_map, ∥∥₁_elim}
 use Rattle.std.proofs.Props.{props}
@@ -9,9 +10,9 @@ use Rattle.memory_banks.specs.Banks.{commands_for}
 use Rattle.cache_unit.specs.declared.Sizes.{Sizes}
 use Rattle.cache_unit.specs.State.{UnitState}
 use Rattle.cache_unit.specs.Steps.{arrive_step}
-use Rattle.cache_unit.specs.FormLaws.{ArriveForms}
 use Rattle.cache_unit.specs.Sound.{InRange}
 use Rattle.cache_unit.specs.Views.{is_empty}
+use Rattle.cache_unit.proofs.UnitForms.{each_step}
 use Rattle.station_journal.specs.declared.journal.Source.TheVariants as sources
 use Rattle.station_journal.specs.declared.journal.SideFault.TheVariants.{Uncalled, Stray}
 use Rattle.station_journal.proofs.Bringing.{none_popped, uncalled, called, stray, refused, side_stray, side_word, counts}
@@ -302,7 +303,7 @@ returns-clause-makes g c =
           ∙ add-zero (free_at c.note_word.new.self.lines.items b));
     } in
     let forms = subst (λ l. EventForms s.sizes s.cache (Arrive bank 0) l d.answer d.cache) (sym (only-here bank (a ∷ [])))
-    (subst₂ (λ x k. ArriveForms s.sizes s.cache a.slot a.i a.word x k) unit.answer cache unit.forms) in
+    ((each_step s.sizes s.cache unit.sound).arrive a.slot a.i a.word) in
     acts source s _ looked (knows_words s.known words pops.known) (noted s source (Arrive bank 0) d (only bank (a ∷ []))) Did some work
     (ap (answer_of true) (sym c.requires.sound)) makes (forms, tt)
 

@@ -1,4 +1,4 @@
-use Rattle.std.proofs.Common.{◌≡◌, ℕ, ◌%◌, ◌++◌, true, nat_lt, ◌∙◌, refl, sym, ap, arith, subst, subst₂}
+use Rattle.std.proofs.Common.{◌≡◌, ℕ, ◌%◌, ◌++◌, true, nat_lt, ◌∙◌, refl, sym, ap, arith, subst}
 use Rattle.std.proofs.Math.Logic.{∥∥₁_map}
 use Rattle.std.proofs.lemmas.Bool.{lt-ltb, le-ltb}
 use Rattle.flat_model.specs.declared.Event.TheVariants as events
@@ -6,8 +6,8 @@ use Rattle.memory_banks.specs.Banks.{commands_for}
 use Rattle.cache_unit.specs.declared.Sizes.{Sizes}
 use Rattle.cache_unit.specs.State.{UnitState}
 use Rattle.cache_unit.specs.Steps.{drain_step}
-use Rattle.cache_unit.specs.FormLaws.{DrainForms}
 use Rattle.cache_unit.specs.Sound.{InRange}
+use Rattle.cache_unit.proofs.UnitForms.{each_step}
 use Rattle.station_journal.specs.declared.journal.Source.TheVariants as sources
 use Rattle.station_journal.proofs.Sides.{side_drain, side_looked}
 use Rattle.station_parts.specs.declared.parts.Stepped.TheVariants.{Did}
@@ -50,7 +50,7 @@ invariant_of-self g c =
 pub invariant_of-self-2 : goal.invariant_of-self-2
 invariant_of-self-2 g c =
     let s = c.args.self.now in
-    let unit = c.drain-answer.ensures.unit in
+    let unit = c.drain-answer.ensures.made.unit in
     let sizes = ap (λ (u : UnitState). u.sizes) unit in
     let banks = ap (λ (z : Sizes). z.banks) (sym sizes) in
     let longer = c.push_reserved.ensures.len in
@@ -69,7 +69,7 @@ invariant_of-self-2 g c =
       lasts = s.lasts;
       tells = ∥∥₁_map s.tells (λ h. side_drain s.unit c.drain-answer.new.self _ _ _ _ s.fault (journal_of s)
           (earlier_of s ++ c.push_reserved.new.self.items)
-          _ c.drain-answer.result (omega (arith, s.in_range.some_words)) c.requires.sound h unit c.drain-answer.ensures.answer
+          _ c.drain-answer.result (omega (arith, s.in_range.some_words)) c.requires.sound h unit c.drain-answer.ensures.made.answer
           c.look.ensures.looks.sent c.drain-answer.ensures.lines.queued (behind (earlier_of s) _ _ _ c.push_reserved.ensures.items));
       counted = λ sound b. c.drain-answer.ensures.lines.kept.taken b ∙ c.look.ensures.looks.kept.taken b ∙ s.counted sound b;
       ports = ports_silent _ _ (journal_of s) _ _ _ _ s.ports refl (λ p. refl) (λ p. refl)
@@ -113,11 +113,11 @@ returns-clause-makes g c =
     ∙ room in
     let d = drain_step s.sizes free s.cache in
     let unit = c.drain-answer.ensures in
-    let cache = ap (λ (u : UnitState). u.cache) unit.unit in
+    let cache = ap (λ (u : UnitState). u.cache) unit.made.unit in
     let commands = λ (b : ℕ). unit.lines.queued b ∙ ap (λ l. l ++ commands_for b d.sent) (looks.sent b) in
     let makes = makes_unit s _ sources.Drain events.Drain d c.drain-answer.result free (λ p. refl) (λ p. refl) refl
     c.push_reserved.ensures.items
-    unit.answer cache refl refl refl refl commands (λ b. sym (unit.lines.rooms b)) in
-    let forms = subst₂ (λ a k. DrainForms s.sizes s.cache a k) unit.answer cache unit.forms in
+    unit.made.answer cache refl refl refl refl commands (λ b. sym (unit.lines.rooms b)) in
+    let forms = (each_step s.sizes s.cache unit.made.sound).drain free in
     acts sources.Drain s _ looked (knows_lines s.known free looks.free) (noted s sources.Drain events.Drain d no_words) Did some refl
     (ap (answer_of true) (sym c.requires.sound)) makes (forms, tt)

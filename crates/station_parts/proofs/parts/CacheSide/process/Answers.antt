@@ -1,11 +1,11 @@
-use Rattle.std.proofs.Common.{ℕ, true, ◌≤◌, ◌<◌, length, refl, sym, ap, ◌∙◌, arith, append-nil, add-zero, eq-eqb, subst₂, ◌++◌, ◌+◌}
+use Rattle.std.proofs.Common.{ℕ, true, ◌≤◌, ◌<◌, length, refl, sym, ap, ◌∙◌, arith, append-nil, add-zero, eq-eqb, ◌++◌, ◌+◌}
 use Rattle.std.proofs.lemmas.Bool.{lt-ltb, le-ltb}
 use Rattle.std.proofs.Math.Logic.{∥∥₁_map}
 use Rattle.flat_model.specs.declared.Event.TheVariants.{Process}
 use Rattle.memory_banks.specs.Banks.{commands_for}
 use Rattle.cache_unit.specs.State.{UnitState}
 use Rattle.cache_unit.specs.Steps.{process_step}
-use Rattle.cache_unit.specs.FormLaws.{ProcessForms}
+use Rattle.cache_unit.proofs.UnitForms.{each_step}
 use Rattle.machine_core.proofs.Stepping.{process_silent}
 use Rattle.station_journal.specs.declared.journal.Source.TheVariants.{Stack}
 use Rattle.station_journal.proofs.Sides.{side_process}
@@ -52,4 +52,4 @@ returns-clause-makes g c =
     (lt-ltb c.args.place (length s.cache.stack) there) refl (ap (answer_of true) (sym c.requires.sound))
     (makes_unit s _ source (Process c.args.place) d c.process-answer.result s.known.command_places (λ p. refl) (λ p. refl)
     refl c.push_reserved.ensures.items unit.answer cache refl refl refl refl commands free)
-    (subst₂ (λ a k. ProcessForms s.sizes s.cache a k) unit.answer cache unit.forms, tt)
+    ((each_step s.sizes s.cache unit.sound).process c.args.place, tt)

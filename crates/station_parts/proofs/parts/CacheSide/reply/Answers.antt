@@ -1,4 +1,5 @@
-use Rattle.std.proofs.Common.{ℕ, ◌+◌, ◌&&◌, true, nat_lt, ◌++◌, ◌∷◌, [], length, ◌∙◌, Some, refl, sym, ap, ap₂, subst, subst₂, arith, add-zero, append-nil, eq-eqb}
+use Rattle.std.proofs.Common.{ℕ, ◌+◌, ◌&&◌, true, nat_lt, ◌++◌, ◌∷◌, [], length, ◌∙◌, Some, refl, sym, ap, ap₂, subst, arith, add-zero}
+use Rattle.std.proofs.Common.{append-nil, eq-eqb}
 use Rattle.std.proofs.Math.Logic.{∥∥₁_map}
 use Rattle.std.proofs.lemmas.Bool.{lt-ltb, le-ltb}
 use Rattle.flat_model.specs.declared.Event.TheVariants.{Take}
@@ -6,8 +7,8 @@ use Rattle.memory_banks.specs.Banks.{commands_for}
 use Rattle.cache_unit.specs.declared.Sizes.{Sizes}
 use Rattle.cache_unit.specs.State.{UnitState}
 use Rattle.cache_unit.specs.Steps.{take_step}
-use Rattle.cache_unit.specs.FormLaws.{TakenForms}
 use Rattle.cache_unit.specs.Sound.{InRange}
+use Rattle.cache_unit.proofs.UnitForms.{each_step}
 use Rattle.machine_core.proofs.Stepping.{take_silent}
 use Rattle.station_journal.specs.declared.journal.Source.TheVariants as sources
 use Rattle.station_journal.specs.declared.journal.Entry.TheVariants.{Step}
@@ -133,7 +134,7 @@ returns-clause-makes g c =
       command_places = λ b. sym (ap (λ l. s.known.command_places b + length (commands_for b l)) silent
           ∙ add-zero (s.known.command_places b));
     } in
-    let forms = subst₂ (λ a k. TakenForms s.sizes s.cache a k) unit.answer cache unit.forms in
+    let forms = (each_step s.sizes s.cache unit.sound).take c.args.place in
     acts source s _ looked (knows_tellings s.known places looks.places) (noted s source (Take c.args.place) d no_words) Did some refl
     (ap (answer_of true) (sym c.requires.sound)) makes (forms, tt)
 

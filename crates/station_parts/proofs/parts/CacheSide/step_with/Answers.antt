@@ -3,7 +3,7 @@ use Rattle.station_journal.specs.declared.journal.Source.TheVariants as sources
 use Rattle.station_parts.specs.SideState.{state_of}
 use Rattle.station_parts.specs.SideSteps.{has_work}
 use Rattle.station_parts.proofs.SideMakes.{not_idle_at_work}
-use Rattle.station_parts.proofs.parts.CacheSide.step.Goals as goal
+use Rattle.station_parts.proofs.parts.CacheSide.step_with.Goals as goal
 
 pub returns-in-Ask-clause-busy : goal.returns-in-Ask-clause-busy
 returns-in-Ask-clause-busy g c work =

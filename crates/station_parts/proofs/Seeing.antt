@@ -1,0 +1,33 @@
+-- Looks, and none, at the far ends of rings.
+use Rattle.std.proofs.Common.{◌≡◌, ℕ, List, [], ◌++◌, refl, sym, ap, ◌∙◌, subst, append-nil, append_assoc, arith}
+use mathlib.Core.List.{IsPrefix}
+use Rattle.std.specs.declared.alloc.Global.{Global}
+use Rattle.rtrb.specs.Ring.{received, known_items, ConsumerLooked, ProducerLooked}
+use Rattle.rtrb.specs.declared.consumer.Consumer.{Consumer}
+use Rattle.rtrb.specs.declared.producer.Producer.{Producer}
+use Rattle.rtrb.specs.declared.AnyItems.{AnyItems}
+use Rattle.station_parts.specs.Rows.{received_at, known_at, only, PopsAt}
+use Rattle.station_parts.proofs.Rows.{only-none}
+use Rattle.station_parts.proofs.SideMakes.{popped_none, known_more}
+
+-- an end that doesn't look knows what it knew
+pub items_unseen : {T : Type 0} (c : Consumer T Global AnyItems) → ConsumerLooked c c
+items_unseen c = (((refl, refl, refl, refl), refl), refl, ([], append-nil (known_items c)))
+
+pub places_unseen : {T : Type 0} (p : Producer T Global AnyItems) → ProducerLooked p p
+places_unseen p = (((refl, refl, refl, refl), refl), refl, omega arith)
+
+pub prefix_steps : {T : Type 0} (xs ys zs : List T) → IsPrefix xs ys → IsPrefix ys zs → IsPrefix xs zs
+prefix_steps xs ys zs (more, p) (rest, q) = (more ++ rest, sym (append_assoc xs more rest) ∙ ap (λ l. l ++ rest) p ∙ q)
+
+-- one look more
+pub looks_steps : {T : Type 0} (xs ys zs : List (Consumer T Global AnyItems)) (place : ℕ) → PopsAt xs ys 0 [] → PopsAt ys zs place []
+    → PopsAt xs zs 0 []
+looks_steps xs ys zs place first then =
+    record {
+      rings = then.rings ∙ first.rings;
+      popped = λ p. popped_none ys zs place then p ∙ popped_none xs ys 0 first p
+          ∙ sym (ap (λ l. received_at xs p ++ l) (only-none 0 p) ∙ append-nil (received_at xs p));
+      known = λ p. subst (λ l. IsPrefix (known_at xs p) (l ++ known_at zs p)) (sym (only-none 0 p))
+          (prefix_steps (known_at xs p) (known_at ys p) (known_at zs p) (known_more xs ys 0 first p) (known_more ys zs place then p));
+    }
