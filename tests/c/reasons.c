@@ -27,7 +27,8 @@ static kroft_reason nothing_yet(void) {
     return why;
 }
 
-/* Two stores, one behind the other, and a load of two bytes behind both: what each wrong byte is told for. */
+/* Two stores, one behind the other, and a load of two bytes behind both: what each wrong byte is told for. In a unit of two
+   bytes or more the first byte, which is right, is none to be told. */
 static void reasons(uint32_t law, uint32_t unit) {
     uint8_t bytes[2] = {0, 0};
     kroft_history h = opened(law, unit);
@@ -38,14 +39,11 @@ static void reasons(uint32_t law, uint32_t unit) {
     CHECK(kroft_load_request(&h, 7, 0, 2) == KROFT_LAWFUL);
     bytes[0] = 0x80;
     bytes[1] = 0x5a;
-    CHECK(kroft_why(&h, 7, bytes, 2, &why) == KROFT_WRONG_BYTE);
-    if (unit == 1) CHECK(is_reason(&why, 1, 21, 1, 22, 3, KROFT_STORE_OVERWRITTEN));
+    CHECK(kroft_why(&h, 7, bytes, 2, &why) == KROFT_WRONG_BYTE && is_reason(&why, 1, 21, 1, 22, 3, KROFT_STORE_OVERWRITTEN));
     bytes[1] = 0;
-    CHECK(kroft_why(&h, 7, bytes, 2, &why) == KROFT_WRONG_BYTE);
-    if (unit == 1) CHECK(is_reason(&why, 1, 0, 0, 22, 3, KROFT_FIRST_OVERWRITTEN));
+    CHECK(kroft_why(&h, 7, bytes, 2, &why) == KROFT_WRONG_BYTE && is_reason(&why, 1, 0, 0, 22, 3, KROFT_FIRST_OVERWRITTEN));
     bytes[1] = 0x33;
-    CHECK(kroft_why(&h, 7, bytes, 2, &why) == KROFT_WRONG_BYTE);
-    if (unit == 1) CHECK(is_reason(&why, 1, 0, 0, 0, 0, KROFT_NEVER_THERE));
+    CHECK(kroft_why(&h, 7, bytes, 2, &why) == KROFT_WRONG_BYTE && is_reason(&why, 1, 0, 0, 0, 0, KROFT_NEVER_THERE));
     bytes[0] = 0;
     CHECK(kroft_why(&h, 7, bytes, 2, &why) == KROFT_WRONG_BYTE && is_reason(&why, 0, 0, 0, 0, 0, KROFT_NEVER_THERE));
     why = nothing_yet();
@@ -57,15 +55,43 @@ static void reasons(uint32_t law, uint32_t unit) {
     CHECK(kroft_why(&h, 7, bytes, 2, &why) == KROFT_CLOSED && is_reason(&why, 1, 2, 3, 4, 5, 6));
 }
 
-/* New then old: the regular law allows the byte, so that none is to blame for it alone. */
-static void no_reason(void) {
+/* New then old: the regular law allows the byte, so that no store is to blame for it alone. By the atomic law it stood there at
+   no moment, and by the flat law nothing is told. */
+static void new_then_old(uint32_t law, uint32_t unit, uint32_t reason) {
     static const uint8_t old[1] = {0}, later[1] = {0x5a};
-    kroft_history h = opened(KROFT_ATOMIC_LAW, 8);
+    kroft_history h = opened(law, unit);
     kroft_reason why = nothing_yet();
     CHECK(kroft_store_request(&h, 1, 3, later, 1, 1) == KROFT_LAWFUL);
     CHECK(kroft_load_request(&h, 1, 3, 1) == KROFT_LAWFUL && kroft_load_response(&h, 1, later, 1) == KROFT_LAWFUL);
     CHECK(kroft_load_request(&h, 2, 3, 1) == KROFT_LAWFUL);
-    CHECK(kroft_why(&h, 2, old, 1, &why) == KROFT_WRONG_BYTE && is_reason(&why, 0, 0, 0, 0, 0, KROFT_NO_REASON));
+    CHECK(kroft_why(&h, 2, old, 1, &why) == KROFT_WRONG_BYTE && is_reason(&why, 0, 0, 0, 0, 0, reason));
+    CHECK(kroft_history_free(&h) == KROFT_DONE);
+}
+
+/* A word that is torn between two stores, in the second of two units: each byte for itself may be returned. With a byte that was
+   overwritten beside them, that byte is told, though it stands behind. */
+static void torn_word(uint32_t unit) {
+    uint8_t bytes[16], word[8];
+    kroft_history h = opened(KROFT_ATOMIC_LAW, unit);
+    kroft_reason why = nothing_yet();
+    memset(word, 0x11, sizeof word);
+    CHECK(kroft_store_request(&h, 1, unit, word, unit, 255) == KROFT_LAWFUL);
+    memset(word, 0x22, sizeof word);
+    CHECK(kroft_store_request(&h, 2, unit, word, unit, 255) == KROFT_LAWFUL);
+    CHECK(kroft_store_response(&h, 1) == KROFT_LAWFUL && kroft_store_response(&h, 2) == KROFT_LAWFUL);
+    CHECK(kroft_load_request(&h, 1, 0, 2 * unit) == KROFT_LAWFUL);
+    memset(bytes, 0, sizeof bytes);
+    bytes[0] = image[0];
+    memset(bytes + unit, 0x11, unit);
+    CHECK(kroft_why(&h, 1, bytes, 2 * unit, &why) == KROFT_LAWFUL);
+    bytes[2 * unit - 1] = 0x22;
+    CHECK(kroft_why(&h, 1, bytes, 2 * unit, &why) == KROFT_WRONG_BYTE && is_reason(&why, unit, 0, 0, 0, 0, KROFT_NOT_TOGETHER));
+    bytes[2 * unit - 1] = 0;
+    CHECK(kroft_why(&h, 1, bytes, 2 * unit, &why) == KROFT_WRONG_BYTE);
+    CHECK(is_reason(&why, 2 * unit - 1, 0, 0, 2, 1, KROFT_FIRST_OVERWRITTEN));
+    bytes[2 * unit - 1] = 0x11;
+    bytes[0] = 0x5a;
+    CHECK(kroft_why(&h, 1, bytes, 2 * unit, &why) == KROFT_WRONG_BYTE && is_reason(&why, 0, 0, 0, 0, 0, KROFT_NEVER_THERE));
     CHECK(kroft_history_free(&h) == KROFT_DONE);
 }
 
@@ -97,7 +123,15 @@ int main(void) {
     reasons(KROFT_REGULAR_LAW, 1);
     reasons(KROFT_FLAT_LAW, 1);
     reasons(KROFT_ATOMIC_LAW, 1);
-    no_reason();
+    reasons(KROFT_ATOMIC_LAW, 2);
+    reasons(KROFT_ATOMIC_LAW, 4);
+    reasons(KROFT_ATOMIC_LAW, 8);
+    new_then_old(KROFT_FLAT_LAW, 1, KROFT_NO_REASON);
+    new_then_old(KROFT_ATOMIC_LAW, 1, KROFT_NOT_TOGETHER);
+    new_then_old(KROFT_ATOMIC_LAW, 8, KROFT_NOT_TOGETHER);
+    torn_word(2);
+    torn_word(4);
+    torn_word(8);
     remembered();
     return checks_end("reasons");
 }
