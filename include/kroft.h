@@ -676,8 +676,8 @@ uint32_t kroft_may_return(kroft_history *handle, uint64_t number, uint64_t addre
 uint32_t kroft_wrong_place(kroft_history *handle, uint64_t number, const uint8_t *bytes, size_t nbytes, uint64_t *place);
 
 /*
- * Why a load may not return a byte. Of a store that isn't told number and event are 0; an event's number is how many
- * events of the history were taken before it.
+ * Why a load may not return a byte, or the bytes of a unit together. Of a store that isn't told number and event are 0;
+ * an event's number is how many events of the history were taken before it.
  */
 typedef struct {
     uint64_t place;          /* of the byte in the answer, counted from 0                            */
@@ -697,18 +697,23 @@ enum {
     KROFT_NO_REASON = 0,          /* none is told                                                          */
     KROFT_NEVER_THERE = 1,        /* no store put the byte there, and memory hadn't it there before        */
     KROFT_FIRST_OVERWRITTEN = 2,  /* memory had it before the first store, and that was overwritten        */
-    KROFT_STORE_OVERWRITTEN = 3   /* a store put it there, and was overwritten: both are told              */
+    KROFT_STORE_OVERWRITTEN = 3,  /* a store put it there, and was overwritten: both are told              */
+    KROFT_NOT_TOGETHER = 4        /* each byte of the unit may be returned for itself, and they stood there
+                                     together at no moment: as in a torn word, and in new then old        */
 };
 
 /*
- * What kroft_wrong_place says of these bytes, and why the load may not return the byte at that place; it isn't told.
- * Returns KROFT_WRONG_BYTE, and `why` says it; or what kroft_wrong_place returns else, and then `why` is as it was.
- * The reason is the regular law's, of that byte alone, and depends on the history alone. While fewer than 8,192 bytes
- * were stored, there is none exactly if that law allows the byte. The flat and the atomic law may refuse it all the same:
- * as in new then old, or in a unit of more than one byte, where `place` is the first byte of the unit that was asked for,
- * and another one may be to blame. Then the first stores are forgotten, 4,096 bytes at a time, and the last 4,096 to
- * 8,191 are left: the reason is KROFT_STORE_OVERWRITTEN if one of them had the byte and the load may see none of those
- * that had it, and otherwise there is none. The stores that are told are the last of the whole history even so.
+ * What kroft_wrong_place says of these bytes, and why the load may not return them; it isn't told. Returns
+ * KROFT_WRONG_BYTE, and `why` says it; or what kroft_wrong_place returns else, and then `why` is as it was.
+ *
+ * `why` tells the first byte for which there is a reason, of those from the place of kroft_wrong_place on that lie in one
+ * unit: by the regular and the flat law each byte is a unit, and by the atomic law those of kroft_history_open. The reason
+ * is the regular law's, of that byte alone, and depends on the history alone. While fewer than 8,192 bytes were stored,
+ * there is none exactly if the regular law allows each of those bytes for itself: then by the atomic law the reason is
+ * KROFT_NOT_TOGETHER, and by the flat law there is none; `place` is that of kroft_wrong_place. Then the first stores are
+ * forgotten, 4,096 bytes at a time, and the last 4,096 to 8,191 are left: a byte's reason is KROFT_STORE_OVERWRITTEN if
+ * one of them had the byte and the load may see none of those that had it, and otherwise there is none. The stores that
+ * are told are the last of the whole history even so.
  */
 uint32_t kroft_why(kroft_history *handle, uint64_t number, const uint8_t *bytes, size_t nbytes, kroft_reason *why);
 

@@ -213,7 +213,7 @@ private:
         if (why->reason == KROFT_NEVER_THERE) text += "; no store put it there";
         if (why->reason == KROFT_FIRST_OVERWRITTEN) text += "; memory had it first";
         if (why->reason == KROFT_STORE_OVERWRITTEN) text += "; " + name_of_store(why->stored) + " put it there";
-        if (why->reason >= KROFT_FIRST_OVERWRITTEN) text += ", and " + name_of_store(why->overwritten_by) + " overwrote it";
+        if (why->reason == KROFT_FIRST_OVERWRITTEN || why->reason == KROFT_STORE_OVERWRITTEN) text += ", and " + name_of_store(why->overwritten_by) + " overwrote it";
         return text;
     }
 

@@ -240,7 +240,7 @@ static void say_why(history_state *h, const operation *o, const uint8_t *bytes) 
     if (h->why.reason == KROFT_NEVER_THERE) add(h->text, "; no store put it there");
     if (h->why.reason == KROFT_FIRST_OVERWRITTEN) add(h->text, "; memory had it first");
     if (h->why.reason == KROFT_STORE_OVERWRITTEN) say_store(h, "; ", h->why.stored, h->why.stored_at, "put it there");
-    if (h->why.reason >= KROFT_FIRST_OVERWRITTEN) say_store(h, ", and ", h->why.overwritten_by, h->why.overwritten_at, "overwrote it");
+    if (h->why.reason == KROFT_FIRST_OVERWRITTEN || h->why.reason == KROFT_STORE_OVERWRITTEN) say_store(h, ", and ", h->why.overwritten_by, h->why.overwritten_at, "overwrote it");
 }
 
 /* Says what an answer is. */
@@ -319,7 +319,7 @@ int kroft_sv_why(void *history, int *place, unsigned long long *stored, unsigned
                  unsigned long long *overwritten_at) {
     history_state *h = (history_state *)history;
     int has_stored = h->is_wrong && h->why.reason == KROFT_STORE_OVERWRITTEN;
-    int has_overwritten = h->is_wrong && h->why.reason >= KROFT_FIRST_OVERWRITTEN;
+    int has_overwritten = has_stored || (h->is_wrong && h->why.reason == KROFT_FIRST_OVERWRITTEN);
     *place = h->is_wrong ? (int)h->why.place : -1;
     *stored = has_stored ? h->why.stored : 0;
     *stored_at = has_stored ? moment_of(h, h->why.stored_at) : 0;

@@ -54,7 +54,7 @@ class NotLawful(KroftError):
         super().__init__(text)
         self.cause = cause
         self.name = cause.name
-        self.place = place  #: WRONG_BYTE: the place of the first wrong byte in the response; by the atomic law, of a wrong unit's first
+        self.place = place  #: WRONG_BYTE: the place of the first wrong byte in the response; by the atomic law, in the wrong unit, as `kroft_why` has it
         self.stored: Optional[SeenStore] = None  #: WRONG_BYTE: the last store that put the byte there, if one is known
         self.overwritten_by: Optional[SeenStore] = None  #: and the last one that overwrote it before the load's request
         self.may = may  #: WRONG_BYTE: what the load may return there; None if the atomic law can't tell
