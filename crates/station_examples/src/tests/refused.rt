@@ -1,7 +1,7 @@
 //! Want of memory, at whichever allocation. With enough memory all comes to its end; with one
 //! allocation refused, a call answers want of memory or comes to its end, and of several calls one does.
-use super::{SHAPE, TURNS};
 use super::on_threads::{HELD_BANK, OFTEN_REFUSED, Run, make_run};
+use super::{SHAPE, TURNS};
 use flat_model::{MakeFault, ShapeField};
 use ring_station::{RunFault, station};
 use std::alloc::Global;
