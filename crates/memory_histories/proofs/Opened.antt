@@ -14,15 +14,17 @@ use Rattle.memory_histories.specs.declared.kept.OpenByte.{OpenByte}
 use Rattle.memory_histories.specs.declared.parts.StorePart.{StorePart}
 use Rattle.memory_histories.specs.declared.sets.ByteSet.{ByteSet}
 use Rattle.memory_histories.specs.declared.windows.LoadByte.{LoadByte}
+use Rattle.memory_histories.specs.declared.windows.StoreByte.{StoreByte}
+use Rattle.memory_histories.specs.declared.events.Rest.{Rest}
 use Rattle.memory_histories.specs.Sets.{has, no_bytes}
 use Rattle.memory_histories.specs.Windows.{load_bytes}
 use Rattle.memory_histories.specs.Regular.{wrong_place, load_response_fault}
-use Rattle.memory_histories.specs.Kept.{after_stores, is_open_of, is_open_at, may_have}
-use Rattle.memory_histories.specs.Parts.{part_bytes, eight}
+use Rattle.memory_histories.specs.Kept.{opened_at, after_stores, is_open_of, is_open_at, may_have}
+use Rattle.memory_histories.specs.Parts.{part_bytes, parts_bytes, eight}
 use Rattle.memory_histories.specs.Loads.{set_bytes, load_open, loads_open, is_load_of, counted, shown_sets, is_near, or_next, first_set_at, wrong_in, behind, response_fault}
 use Rattle.memory_histories.proofs.Lists.{and_false}
 use Rattle.memory_histories.proofs.Lanes.{lane_before, lane_past}
-use Rattle.memory_histories.proofs.Pieces.{take_most, with_part}
+use Rattle.memory_histories.proofs.Pieces.{take_most, with_part, all_shown_more}
 
 -- Tests. ----
 
@@ -242,6 +244,13 @@ pub loads-append : (xs ys : List OpenLoad) → loads_open (xs ++ ys) ≡ loads_o
 loads-append [] ys = refl
 loads-append (o ∷ os) ys = ap (λ zs. load_open o ++ zs) (loads-append os ys) ∙ sym (append_assoc (load_open o) (loads_open os) (loads_open ys))
 
+-- one part more is shown
+pub part_shown : (ps : List StorePart) (i : ℕ) (d : StorePart) (v w : OpenLoad) → i < length ps
+    → load_open w ≡ map (after_stores (part_bytes (get_or ps i d))) (load_open v)
+    → map (after_stores (parts_bytes (drop (i + 1) ps))) (load_open w) ≡ map (after_stores (parts_bytes (drop i ps))) (load_open v)
+part_shown ps i d v w within e =
+    rw (add-one, drop-cons ps i d within, e) (sym (all_shown_more (part_bytes (get_or ps i d)) (parts_bytes (drop (suc i) ps)) (load_open v)))
+
 -- one load more is shown
 pub one_shown : (f : OpenByte → OpenByte) (os : List OpenLoad) (i : ℕ) (v d : OpenLoad) → i < length os
     → load_open v ≡ map f (load_open (get_or os i d))
@@ -301,3 +310,10 @@ opened_sets f h n a zero t = refl
 opened_sets f h n a (suc len) t =
     let l : LoadByte = record { number = n; address = a; began = t } in
     ap₂ (λ x xs. (record { load = x; may = (f l).may }) ∷ xs) (sym (h l)) (opened_sets f h n (a + 1) len t)
+
+-- which see the open stores, too
+pub opened_shown : (image : List ℕ) (rest : Rest) (stores : List StoreByte) (answered : ℕ → List StoreByte) (ls : List LoadByte)
+    → map (after_stores stores) (map (opened_at image rest [] answered) ls) ≡ map (opened_at image rest stores answered) ls
+opened_shown image rest stores answered [] = refl
+opened_shown image rest stores answered (l ∷ ls) =
+    ap (λ os. opened_at image rest stores answered l ∷ os) (opened_shown image rest stores answered ls)

@@ -10,13 +10,14 @@ use Rattle.memory_histories.specs.declared.windows.StoreByte.{StoreByte}
 use Rattle.memory_histories.specs.declared.parts.StorePart.{StorePart}
 use Rattle.memory_histories.specs.declared.sets.ByteSet.{ByteSet}
 use Rattle.memory_histories.specs.declared.kept.OpenByte.{OpenByte}
-use Rattle.memory_histories.specs.Sets.{with_byte}
+use Rattle.memory_histories.specs.Sets.{with_byte, is_empty, no_bytes}
 use Rattle.memory_histories.specs.Windows.{is_open}
 use Rattle.memory_histories.specs.Regular.{is_before}
-use Rattle.memory_histories.specs.Kept.{with_stores, is_covered_by, is_in, is_dropped, answered_at, answered_after, after_stores}
+use Rattle.memory_histories.specs.Kept.{with_stores, is_covered_by, first_set, is_in, is_dropped, answered_at, answered_after, after_stores}
 use Rattle.memory_histories.specs.Parts.{lane_bytes, lane_at, eight, part_bytes, parts_bytes, is_open_part, has_lane, is_open_with, part_at, with_known, cleared, cleared_lanes, without_part, without_parts, answered_part, is_part_in, joined_parts}
+use Rattle.memory_histories.proofs.ByteSets.{some_byte}
 use Rattle.memory_histories.proofs.Lists.{and_false, filter-agree, filter-filter}
-use Rattle.memory_histories.proofs.Lanes.{byte_at, lane_before, lane_past, set_lanes, covered_lanes, answered_lanes, any_lane, all_pass, none_passes, same_pass, any_at, clear_lanes, no_lane}
+use Rattle.memory_histories.proofs.Lanes.{byte_at, lane_before, lane_past, set_lanes, answered_lanes, any_lane, all_pass, none_passes, same_pass, any_at, clear_lanes, no_lane}
 
 pub take_most : (n : ℕ) (ls : List (Option ℕ)) → length (take n ls) ≤ n
 take_most zero ls = omega arith
@@ -84,11 +85,41 @@ fold_lanes (p ∷ ps) x set =
     with_more (part_bytes p) (parts_bytes ps) x set
     ∙ (ap (with_stores (parts_bytes ps) x) (with_part p x set) ∙ fold_lanes ps x (with_known set (part_at p x)))
 
-pub any_there : (ps : List StorePart) (x : ℕ) → is_covered_by (parts_bytes ps) x ≡ list_any (λ p. is_some (part_at p x)) ps
-any_there [] x = refl
-any_there (p ∷ ps) x =
-    list_any-append (λ s. s.address == x) (part_bytes p) (parts_bytes ps)
-    ∙ ap₂ (λ a b. a || b) (covered_lanes p.number p.began p.ended (8 * p.unit) (eight p) x) (any_there ps x)
+some_left : (xs : List StoreByte) (x : ℕ) (set : ByteSet) → is_empty set ≡ false → is_empty (with_stores xs x set) ≡ false
+some_left [] x set h = h
+some_left (s ∷ ss) x set h = elim (cases_Bool (s.address == x)) [
+  | inl e ↦ rw e (some_left ss x (with_byte set s.byte) (some_byte set s.byte))
+  | inr e ↦ rw e (some_left ss x set h)
+]
+
+covered_some : (xs : List StoreByte) (x : ℕ) (set : ByteSet) → is_covered_by xs x ≡ true → is_empty (with_stores xs x set) ≡ false
+covered_some [] x set h = let no : false ≡ true = h in cc
+covered_some (s ∷ ss) x set h = elim (cases_Bool (s.address == x)) [
+  | inl e ↦ rw e (some_left ss x (with_byte set s.byte) (some_byte set s.byte))
+  | inr e ↦ rw e (covered_some ss x set (rw e at h))
+]
+
+uncovered_same : (xs : List StoreByte) (x : ℕ) (set : ByteSet) → is_covered_by xs x ≡ false → with_stores xs x set ≡ set
+uncovered_same [] x set h = refl
+uncovered_same (s ∷ ss) x set h = elim (cases_Bool (s.address == x)) [
+  | inl e ↦ let no : true ≡ false = (rw e at h) in cc
+  | inr e ↦ rw e (uncovered_same ss x set (rw e at h))
+]
+
+-- stores that leave nothing cover nothing, and then there is what memory had before; else that isn't seen
+pub nothing_left : (xs : List StoreByte) (x : ℕ) (first : ByteSet) → is_empty (with_stores xs x no_bytes) ≡ true
+    → first ≡ with_stores xs x (first_set (is_covered_by xs x) first)
+nothing_left xs x first h = elim (cases_Bool (is_covered_by xs x)) [
+  | inl e ↦ let no : false ≡ true = sym (covered_some xs x no_bytes e) ∙ h in cc
+  | inr e ↦ rw e (sym (uncovered_same xs x first e))
+]
+
+pub something_left : (xs : List StoreByte) (x : ℕ) (first : ByteSet) → is_empty (with_stores xs x no_bytes) ≡ false
+    → with_stores xs x no_bytes ≡ with_stores xs x (first_set (is_covered_by xs x) first)
+something_left xs x first h = elim (cases_Bool (is_covered_by xs x)) [
+  | inl e ↦ rw e refl
+  | inr e ↦ let no : true ≡ false = (rw (uncovered_same xs x no_bytes e) at h) in cc
+]
 
 -- a byte of an open load once one part more of a store is requested
 pub shown_more : (xs ys : List StoreByte) (o : OpenByte) → after_stores (xs ++ ys) o ≡ after_stores ys (after_stores xs o)

@@ -60,6 +60,11 @@ is_covered_by answered address = list_any (λ s. s.address == address) answered
 abbrev pub first_set : Bool → ByteSet → ByteSet
 first_set covered initial = if covered then no_bytes else initial
 
+-- what a load may return at an address if no store is open there, where these are the bytes of answered stores
+abbrev pub settled_set : List ℕ → Rest → List StoreByte → ℕ → ByteSet
+settled_set image rest answered address = with_stores answered address
+    (first_set (is_covered_by answered address) (initial_set (slice_get image address) rest))
+
 -- a byte of a load that is requested now, where these are the open stores and those that were answered
 abbrev pub opened : List ℕ → Rest → List StoreByte → List StoreByte → LoadByte → OpenByte
 opened image rest stores answered l = record {

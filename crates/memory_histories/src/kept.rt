@@ -1,18 +1,18 @@
 //! What a request and an answer change of the loads and the stores that are open.
 
-ghost use Rattle.std.specs.Prelude.{◌≡◌, ◌+◌, ◌≤◌, ◌<◌, ◌++◌, ◌^◌, IfOk, IfSome, length, map, not, vec_len, vec_capacity, slice_get, nat_eq};
+ghost use Rattle.std.specs.Prelude.{◌≡◌, ◌+◌, ◌≤◌, ◌<◌, [], ◌++◌, ◌^◌, IfOk, IfSome, length, map, not, vec_len, vec_capacity, slice_get, nat_eq};
 ghost use Rattle.std.specs.HashMap.{get};
 ghost use Rattle.std.specs.List.{filter, list_any, position};
 ghost use Rattle.memory_histories.specs.Windows.{store_bytes, load_bytes, is_open};
-ghost use Rattle.memory_histories.specs.Kept.{initial_set, first_set, opened, opened_at, after_stores};
+ghost use Rattle.memory_histories.specs.Kept.{initial_set, settled_set, opened_at, after_stores};
 ghost use Rattle.memory_histories.specs.Parts.{parts_bytes, is_open_part, IsOnly};
 ghost use Rattle.memory_histories.specs.Loads.{load_open, loads_open};
 ghost use Rattle.memory_histories.specs.Shown.{parts_in, answered_in};
 
 use crate::answered::{KeptUnit, parts_in};
 use crate::events::Rest;
-use crate::loads::{OpenLoad, show_part};
-use crate::parts::{StorePart, is_covered_by, is_open_part, part_of, unit_of, with_parts};
+use crate::loads::{OpenLoad, show_part, show_parts};
+use crate::parts::{StorePart, is_open_part, part_of, unit_of, with_parts};
 use crate::sets::ByteSet;
 use crate::windows::LoadByte;
 use std::alloc::{AllocError, Global};
@@ -40,28 +40,23 @@ fn initial_set(first: Option<u8>, rest: Rest) -> ByteSet
     }
 }
 
-fn first_set(covered: bool, initial: ByteSet) -> ByteSet
-    ensures { result ≡ first_set covered initial }
+// The same at an address.
+fn initial_at(image: &[u8], rest: Rest, address: u64) -> ByteSet
+    ensures { result ≡ initial_set (slice_get image.now address) rest }
 {
-    if covered { ByteSet::none() } else { initial }
+    initial_set(image.get(address as usize).copied(), rest)
 }
 
-// A byte of a load that is requested now.
-fn opened(
-    image: &[u8],
-    rest: Rest,
-    stores: &[StorePart],
-    answered: &[StorePart],
-    load: LoadByte,
-) -> OpenByte
-    ensures { result ≡ opened image.now rest (parts_bytes stores.now) (parts_bytes answered.now) load }
+// What a load may return at an address if no store is open there: what answered stores left, or if none did what memory
+// had before the first store.
+fn settled_set(image: &[u8], rest: Rest, answered: &[StorePart], address: u64) -> ByteSet
+    ensures { result ≡ settled_set image.now rest (parts_bytes answered.now) address }
 {
-    let address = load.address;
-    let initial = initial_set(image.get(address as usize).copied(), rest);
-    let first = first_set(is_covered_by(answered, address), initial);
-    OpenByte {
-        load,
-        may: with_parts(stores, address, with_parts(answered, address, first)),
+    let left = with_parts(answered, address, ByteSet::none());
+    if left.is_empty() {
+        initial_at(image, rest, address)
+    } else {
+        left
     }
 }
 
@@ -82,10 +77,10 @@ fn answered_next<'a>(
     }
 }
 
-// Adds the sets of a load that is requested now.
+// Adds the sets of a load that is requested now, as they are if no store is open.
 fn add_sets(
     sets: &mut Vec<ByteSet>,
-    memory: (&[u8], Rest, &[StorePart], &HashMap<u64, KeptUnit>),
+    memory: (&[u8], Rest, &HashMap<u64, KeptUnit>),
     number: u64,
     address: u64,
     length: usize,
@@ -93,23 +88,41 @@ fn add_sets(
 )
     requires room { vec_len sets.old + length ≤ vec_capacity sets.old }
     requires inside { address + length ≤ 2 ^ 64 }
-    ensures { sets.new.items ≡ sets.old.items ++ map (λ l. (opened_at memory.entry.0.now memory.entry.1 (parts_bytes memory.entry.2.now) (answered_in (get nat_eq memory.entry.3.now)) l).may) (load_bytes number address length moment) }
+    ensures { sets.new.items ≡ sets.old.items ++ map (λ l. (opened_at memory.entry.0.now memory.entry.1 [] (answered_in (get nat_eq memory.entry.2.now)) l).may) (load_bytes number address length moment) }
 {
-    let (image, rest, stores, units) = memory;
+    let (image, rest, units) = memory;
     let mut unit = unit_of(address);
     let mut answered = parts_in(units, unit);
     for k in 0..length {
-        let load = LoadByte {
-            number,
-            address: address + k as u64,
-            began: moment,
-        };
-        let next = unit_of(load.address);
+        let byte = address + k as u64;
+        let next = unit_of(byte);
         let there = answered_next(units, answered, unit, next);
         unit = next;
         answered = there;
-        sets.push_reserved(opened(image, rest, stores, there, load).may);
+        sets.push_reserved(settled_set(image, rest, there, byte));
     }
+}
+
+// A load that is requested now, as it is if no store is open.
+fn settled_load(
+    alloc: Global,
+    memory: (&[u8], Rest, &HashMap<u64, KeptUnit>),
+    number: u64,
+    address: u64,
+    length: usize,
+    moment: u64,
+) -> Result<OpenLoad, AllocError>
+    requires inside { address + length ≤ 2 ^ 64 }
+    ensures { IfOk result (λ o. load_open o ≡ map (opened_at memory.entry.0.now memory.entry.1 [] (answered_in (get nat_eq memory.entry.2.now))) (load_bytes number address length moment)) }
+{
+    let mut sets = Vec::with_capacity(alloc, length)?;
+    add_sets(&mut sets, memory, number, address, length, moment);
+    Ok(OpenLoad {
+        number,
+        address,
+        began: moment,
+        sets,
+    })
 }
 
 // A load that is requested now.
@@ -124,14 +137,10 @@ pub(crate) fn open_load(
     requires inside { address + length ≤ 2 ^ 64 }
     ensures { IfOk result (λ o. load_open o ≡ map (opened_at memory.entry.0.now memory.entry.1 (parts_bytes memory.entry.2.now) (answered_in (get nat_eq memory.entry.3.now))) (load_bytes number address length moment)) }
 {
-    let mut sets = Vec::with_capacity(alloc, length)?;
-    add_sets(&mut sets, memory, number, address, length, moment);
-    Ok(OpenLoad {
-        number,
-        address,
-        began: moment,
-        sets,
-    })
+    let (image, rest, stores, units) = memory;
+    let mut load = settled_load(alloc, (image, rest, units), number, address, length, moment)?;
+    show_parts(&mut load, stores);
+    Ok(load)
 }
 
 // A store is requested at this moment: its parts are kept, and open loads may see them from now on.

@@ -6,7 +6,7 @@ ghost use Rattle.std.specs.Option.{option_map};
 ghost use Rattle.memory_histories.specs.Sets.{has};
 ghost use Rattle.memory_histories.specs.Regular.{wrong_place, load_response_fault};
 ghost use Rattle.memory_histories.specs.Kept.{after_stores, is_open_of, is_open_at, may_have};
-ghost use Rattle.memory_histories.specs.Parts.{part_bytes};
+ghost use Rattle.memory_histories.specs.Parts.{part_bytes, parts_bytes};
 ghost use Rattle.memory_histories.specs.Loads.{load_open, loads_open, is_load_of, counted, shown_sets, is_near, response_fault, wrong_in, behind, set_at, first_set_at};
 
 use crate::events::HistoryFault;
@@ -168,6 +168,15 @@ fn show_load(load: &mut OpenLoad, part: &StorePart)
     ensures { load_open load.new ≡ map (after_stores (part_bytes part.now)) (load_open load.old) }
 {
     show_all(&mut load.sets, load.address, part);
+}
+
+// A load may see these parts of stores from now on.
+pub(crate) fn show_parts(load: &mut OpenLoad, parts: &[StorePart])
+    ensures { load_open load.new ≡ map (after_stores (parts_bytes parts.now)) (load_open load.old) }
+{
+    for part in parts {
+        show_load(load, part);
+    }
 }
 
 // Open loads may see a part of a store from now on.

@@ -4,7 +4,7 @@ ghost use Rattle.std.specs.Prelude.{◌≡◌, ◌+◌, ◌*◌, ◌/◌, ◌-�
 ghost use Rattle.std.specs.Int.{bit_at};
 ghost use Rattle.std.specs.List.{filter, fold, list_any};
 ghost use Rattle.memory_histories.specs.Windows.{store_bytes, is_open};
-ghost use Rattle.memory_histories.specs.Kept.{unit_of, is_in, with_stores, is_covered_by};
+ghost use Rattle.memory_histories.specs.Kept.{unit_of, is_in, with_stores};
 ghost use Rattle.memory_histories.specs.Parts.{lane_at, lanes_of, unit_lanes, part_bytes, parts_bytes, part_at, has_lane, is_open_part, is_open_with, with_known, cleared, cleared_lanes, clears, without_part, without_parts};
 
 use crate::sets::ByteSet;
@@ -143,9 +143,9 @@ fn any_open(parts: &[StorePart], number: u64) -> bool
 }
 
 // Lane `lane` of eight.
-fn lane_of(lanes: [Option<u8>; 8], lane: u64) -> Option<u8>
+fn lane_of(lanes: &[Option<u8>; 8], lane: u64) -> Option<u8>
     requires { lane < 8 }
-    ensures { slice_get (take 8 lanes) lane ≡ Some result }
+    ensures { slice_get (take 8 lanes.now) lane ≡ Some result }
 {
     lanes[lane as usize]
 }
@@ -155,7 +155,7 @@ pub(crate) fn part_at(part: &StorePart, address: u128) -> Option<u8>
     ensures { result ≡ part_at part.now address }
 {
     if u128::from(part.unit) == address / 8 {
-        lane_of(part.lanes, (address % 8) as u64)
+        lane_of(&part.lanes, (address % 8) as u64)
     } else {
         None
     }
@@ -185,21 +185,6 @@ fn fold_lanes(parts: &[StorePart], address: u64, set: ByteSet) -> ByteSet
         set,
         |set, part| with_known(set, part_at(part, u128::from(address))),
     )
-}
-
-// Whether one of these parts has a byte at an address.
-pub(crate) fn is_covered_by(parts: &[StorePart], address: u64) -> bool
-    ensures { result ≡ is_covered_by (parts_bytes parts.now) address }
-{
-    any_there(parts, address)
-}
-
-fn any_there(parts: &[StorePart], address: u64) -> bool
-    ensures { result ≡ list_any (λ p. is_some (part_at p address)) parts.now }
-{
-    parts
-        .iter()
-        .any(|part| part_at(part, u128::from(address)).is_some())
 }
 
 // A lane that is written over.
