@@ -1,45 +1,57 @@
--- A store of one part alone.
-use Rattle.std.proofs.Common.{◌≡◌, ℕ, zero, suc, ◌+◌, ◌<◌, Bool, true, false, not, List, [], ◌∷◌, ◌++◌, take, drop, length, get_or, Some, None, refl, sym, ap, ◌∙◌, inl, inr, arith, append-nil, add-one, drop-cons}
+-- A store of one part alone, and a load that alone has its number.
+use Rattle.std.proofs.Common.{◌≡◌, ℕ, zero, suc, ◌+◌, ◌<◌, Bool, true, false, ◌&&◌, ◌||◌, not, List, [], ◌∷◌, ◌++◌, take, drop, length, get_or, Some, None, refl, sym, ap, ◌∙◌, inl, inr, arith, append-nil, add-one, drop-cons}
 use Rattle.std.specs.List.{All, filter, list_any, position}
 use Rattle.std.proofs.lemmas.Bool.{cases_Bool}
 use Rattle.std.proofs.lemmas.List.Elements.{All-nil, All-cons}
 use Rattle.std.proofs.lemmas.List.Quantifiers.{position-Some}
 use Rattle.memory_histories.specs.declared.parts.StorePart.{StorePart}
+use Rattle.memory_histories.specs.declared.loads.OpenLoad.{OpenLoad}
 use Rattle.memory_histories.specs.Windows.{is_open}
-use Rattle.memory_histories.specs.Parts.{part_bytes, parts_bytes, is_open_part, IsOnly}
-use Rattle.memory_histories.proofs.Lists.{filter-always, filter-never}
-use Rattle.memory_histories.proofs.Pieces.{filter_open, filter_others}
+use Rattle.memory_histories.specs.Parts.{part_bytes, parts_bytes, is_open_part, has_lane, IsOnly}
+use Rattle.memory_histories.specs.Kept.{is_open_of}
+use Rattle.memory_histories.specs.Loads.{load_open, loads_open, is_load_of, IsOnlyLoad}
+use Rattle.memory_histories.proofs.Lists.{filter-always, filter-never, or_false}
+use Rattle.memory_histories.proofs.Pieces.{filter_open, filter_others, any_open}
+use Rattle.memory_histories.proofs.Opened.{filter_loads, filter_ended}
 
-none_left : (q : StorePart → Bool) (ps : List StorePart) → list_any q ps ≡ false → All (λ p. q p ≡ false) ps
-none_left q [] e = All-nil (λ p. q p ≡ false)
-none_left q (p ∷ ps) e = elim (cases_Bool (q p)) [
-  | inl t ↦ let x : true ≡ false = (rw t at e) in cc
-  | inr t ↦ All-cons (λ p. q p ≡ false) p ps t (none_left q ps (rw t at e))
+none_left : {X : Type 0} (q : X → Bool) (xs : List X) → list_any q xs ≡ false → All (λ x. q x ≡ false) xs
+none_left q [] e = All-nil (λ x. q x ≡ false)
+none_left q (x ∷ xs) e = elim (cases_Bool (q x)) [
+  | inl t ↦ let y : true ≡ false = (rw t at e) in cc
+  | inr t ↦ All-cons (λ y. q y ≡ false) x xs t (none_left q xs (rw t at e))
 ]
 
-only_at : (q : StorePart → Bool) (ps : List StorePart) (k : ℕ) (d : StorePart) → k < length ps → q (get_or ps k d) ≡ true
-    → ((j : ℕ) → j < k → q (get_or ps j d) ≡ false) → list_any q (drop (suc k) ps) ≡ false
-    → (filter q ps ≡ take 1 (drop k ps)) × (filter (λ p. not (q p)) ps ≡ take k ps ++ drop (suc k) ps)
+only_at : {X : Type 0} (q : X → Bool) (xs : List X) (k : ℕ) (d : X) → k < length xs → q (get_or xs k d) ≡ true
+    → ((j : ℕ) → j < k → q (get_or xs j d) ≡ false) → list_any q (drop (suc k) xs) ≡ false
+    → (filter q xs ≡ take 1 (drop k xs)) × (filter (λ x. not (q x)) xs ≡ take k xs ++ drop (suc k) xs)
 only_at q [] k d l here before after = absurd (omega arith)
-only_at q (p ∷ ps) zero d l here before after =
-    let h : q p ≡ true = here in
-    let none = none_left q ps after in
-    (rw (h, filter-never q ps none) refl, rw (h, filter-always (λ p. not (q p)) ps (λ k d l. ap not (none k d l))) refl)
-only_at q (p ∷ ps) (suc k) d l here before after =
-    let h : q p ≡ false = before 0 (omega arith) in
-    let r = only_at q ps k d (omega arith) here (λ j m. before (suc j) (omega arith)) after in
-    (rw (h, r.0) refl, rw h (ap (λ xs. p ∷ xs) r.1))
+only_at q (x ∷ xs) zero d l here before after =
+    let h : q x ≡ true = here in
+    let none = none_left q xs after in
+    (rw (h, filter-never q xs none) refl, rw (h, filter-always (λ y. not (q y)) xs (λ k d l. ap not (none k d l))) refl)
+only_at q (x ∷ xs) (suc k) d l here before after =
+    let h : q x ≡ false = before 0 (omega arith) in
+    let r = only_at q xs k d (omega arith) here (λ j m. before (suc j) (omega arith)) after in
+    (rw (h, r.0) refl, rw h (ap (λ ys. x ∷ ys) r.1))
+
+-- the first that passes a test has no other behind it
+only_place : {X : Type 0} (q : X → Bool) (xs : List X) (k : ℕ) (d : X) → position q xs ≡ Some k → list_any q (drop (k + 1) xs) ≡ false
+    → (k < length xs) × ((filter q xs ≡ take 1 (drop k xs)) × (filter (λ x. not (q x)) xs ≡ take k xs ++ drop (k + 1) xs))
+only_place q xs k d e f =
+    let s = position-Some q xs k d e in
+    let after : list_any q (drop (suc k) xs) ≡ false = (rw add-one at f) in
+    let r = only_at q xs k d s.0 s.1 s.2 after in
+    (s.0, (r.0, rw add-one r.1))
 
 nothing : StorePart
 nothing = record { number = 0; unit = 0; lanes = []; began = 0; ended = None }
 
--- the first part of a store has no other behind it
 pub only : (n : ℕ) (ps : List StorePart) (k : ℕ) → position (is_open_part n) ps ≡ Some k → list_any (is_open_part n) (drop (k + 1) ps) ≡ false → IsOnly n ps k
-only n ps k e f =
-    let s = position-Some (is_open_part n) ps k nothing e in
-    let after : list_any (is_open_part n) (drop (suc k) ps) ≡ false = (rw add-one at f) in
-    let r = only_at (is_open_part n) ps k nothing s.0 s.1 s.2 after in
-    (s.0, (r.0, rw add-one r.1))
+only n ps k e f = only_place (is_open_part n) ps k nothing e f
+
+pub only_load : (n : ℕ) (os : List OpenLoad) (k : ℕ) → position (is_load_of n) os ≡ Some k → list_any (is_load_of n) (drop (k + 1) os) ≡ false → IsOnlyLoad n os k
+only_load n [] k e f = cc
+only_load n (o ∷ os) k e f = only_place (is_load_of n) (o ∷ os) k o e f
 
 -- its bytes, and those of the other open stores
 pub only_bytes : (n : ℕ) (ps : List StorePart) (k : ℕ) (d : StorePart) → IsOnly n ps k → filter (is_open n) (parts_bytes ps) ≡ part_bytes (get_or ps k d)
@@ -50,3 +62,26 @@ only_bytes n ps k d h =
 pub other_bytes : (n : ℕ) (ps : List StorePart) (k : ℕ) → IsOnly n ps k
     → filter (λ s. not (is_open n s)) (parts_bytes ps) ≡ parts_bytes (take k ps ++ drop (k + 1) ps)
 other_bytes n ps k h = filter_others n ps ∙ ap parts_bytes h.1.1
+
+any_both : {X : Type 0} (q r : X → Bool) (xs : List X) → list_any (λ x. q x && r x) xs ≡ list_any r (filter q xs)
+any_both q r [] = refl
+any_both q r (x ∷ xs) = elim (cases_Bool (q x)) [
+  | inl e ↦ rw e (ap (λ b. r x || b) (any_both q r xs))
+  | inr e ↦ rw e (any_both q r xs)
+]
+
+pub only_open : (n : ℕ) (ps : List StorePart) (k : ℕ) (d : StorePart) → IsOnly n ps k → list_any (is_open n) (parts_bytes ps) ≡ has_lane (get_or ps k d)
+only_open n ps k d h =
+    let one : take 1 (drop k ps) ≡ get_or ps k d ∷ [] = ap (take 1) (drop-cons ps k d h.0) in
+    any_open n ps
+    ∙ (any_both (is_open_part n) has_lane ps ∙ (ap (list_any has_lane) (h.1.0 ∙ one) ∙ or_false (has_lane (get_or ps k d))))
+
+-- the bytes of the load, and those of the others
+pub only_load_bytes : (n : ℕ) (os : List OpenLoad) (k : ℕ) (d : OpenLoad) → IsOnlyLoad n os k → filter (is_open_of n) (loads_open os) ≡ load_open (get_or os k d)
+only_load_bytes n os k d h =
+    let one : take 1 (drop k os) ≡ get_or os k d ∷ [] = ap (take 1) (drop-cons os k d h.0) in
+    filter_loads n os ∙ (ap loads_open (h.1.0 ∙ one) ∙ append-nil (load_open (get_or os k d)))
+
+pub other_load_bytes : (n : ℕ) (os : List OpenLoad) (k : ℕ) → IsOnlyLoad n os k
+    → filter (λ o. not (is_open_of n o)) (loads_open os) ≡ loads_open (take k os ++ drop (k + 1) os)
+other_load_bytes n os k h = filter_ended n os ∙ ap loads_open h.1.1

@@ -22,7 +22,7 @@ use Rattle.memory_histories.specs.Regular.{wrong_place, load_response_fault}
 use Rattle.memory_histories.specs.Kept.{opened_at, after_stores, is_open_of, is_open_at, may_have}
 use Rattle.memory_histories.specs.Parts.{part_bytes, parts_bytes, eight}
 use Rattle.memory_histories.specs.Loads.{set_bytes, load_open, loads_open, is_load_of, counted, shown_sets, is_near, or_next, first_set_at, wrong_in, behind, response_fault}
-use Rattle.memory_histories.proofs.Lists.{and_false}
+use Rattle.memory_histories.proofs.Lists.{and_false, position-zip}
 use Rattle.memory_histories.proofs.Lanes.{lane_before, lane_past}
 use Rattle.memory_histories.proofs.Pieces.{take_most, with_part, all_shown_more}
 
@@ -55,6 +55,15 @@ all_sets q false n a t (s ∷ ss) h = rw (h a s) (all_sets q false n (a + 1) t s
 
 pub of_load : (k : ℕ) (o : OpenLoad) → filter (is_open_of k) (load_open o) ≡ (if is_load_of k o then load_open o else [])
 of_load k o = all_sets (is_open_of k) (is_load_of k o) o.number o.address o.began o.sets.items (λ x s. refl)
+
+pub filter_loads : (k : ℕ) (os : List OpenLoad) → filter (is_open_of k) (loads_open os) ≡ loads_open (filter (is_load_of k) os)
+filter_loads k [] = refl
+filter_loads k (o ∷ os) = filter-append (is_open_of k) (load_open o) (loads_open os) ∙ elim (cases_Bool (is_load_of k o)) [
+  | inl e ↦ let its : filter (is_open_of k) (load_open o) ≡ load_open o = (rw e at (of_load k o)) in
+      rw e (ap₂ (λ x y. x ++ y) its (filter_loads k os))
+  | inr e ↦ let its : filter (is_open_of k) (load_open o) ≡ [] = (rw e at (of_load k o)) in
+      rw e (ap₂ (λ x y. x ++ y) its (filter_loads k os))
+]
 
 pub filter_ended : (k : ℕ) (os : List OpenLoad) → filter (λ o. not (is_open_of k o)) (loads_open os) ≡ loads_open (filter (λ o. not (is_load_of k o)) os)
 filter_ended k [] = refl
@@ -102,6 +111,25 @@ same_response xs bytes count place e h p = elim (cases_lt (length xs) 3402823669
       let d : (length xs == length bytes) ≡ false = ne_eqb (length xs) (length bytes) (λ q. omega arith) in
       rw (a, b, c, d) refl
 ]
+
+-- of one load
+set_bytes_may : (n a t : ℕ) (ss : List ByteSet) → map (λ o. o.may) (set_bytes n a t ss) ≡ ss
+set_bytes_may n a t [] = refl
+set_bytes_may n a t (s ∷ ss) = ap (λ xs. s ∷ xs) (set_bytes_may n (a + 1) t ss)
+
+wrong_load : (o : OpenLoad) (bs : List ℕ) → wrong_place has o.sets.items bs ≡ wrong_place may_have (load_open o) bs
+wrong_load o bs =
+    let may : OpenByte → ByteSet = λ (b : OpenByte). b.may in
+    ap (λ ss. wrong_place has ss bs) (sym (set_bytes_may o.number o.address o.began o.sets.items))
+    ∙ sym (position-zip may may_have has (load_open o) bs (λ k d l b. refl))
+
+pub one_response : (o : OpenLoad) (ss : List ByteSet) (bs : List ℕ) (place : Option ℕ) → ss ≡ o.sets.items
+    → length ss < 18446744073709551616 → length bs < 18446744073709551616 → place ≡ wrong_place has ss bs
+    → response_fault (length ss) (length bs) place ≡ load_response_fault may_have (load_open o) bs
+one_response o ss bs place e l h p =
+    let same : length ss ≡ length o.sets.items = ap length e in
+    let long : length (load_open o) ≡ length o.sets.items = length-set_bytes o.number o.address o.began o.sets.items in
+    same_response (load_open o) bs (length ss) place (omega arith) h (p ∙ (ap (λ xs. wrong_place has xs bs) e ∙ wrong_load o bs))
 
 -- The first wrong byte. ----
 

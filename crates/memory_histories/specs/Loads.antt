@@ -1,5 +1,6 @@
 -- The open loads, as the judge of the regular law keeps them: of each load one set for each of its bytes.
-use Rattle.std.specs.Prelude.{ℕ, ◌+◌, ◌-◌, ◌*◌, Bool, ◌&&◌, ◌==◌, nat_le, nat_lt, min, drop, List, [], ◌∷◌, ◌++◌, length, Option, Some, None, slice_get, if◌then◌else◌}
+use Rattle.std.specs.Prelude.{ℕ, ◌≡◌, ◌<◌, not, take, ◌+◌, ◌-◌, ◌*◌, Bool, ◌&&◌, ◌==◌, nat_le, nat_lt, min, drop, List, [], ◌∷◌, ◌++◌, length, Option, Some, None, slice_get, if◌then◌else◌}
+use Rattle.std.specs.List.{filter}
 use Rattle.memory_histories.specs.declared.loads.OpenLoad.{OpenLoad}
 use Rattle.memory_histories.specs.declared.kept.OpenByte.{OpenByte}
 use Rattle.memory_histories.specs.declared.parts.StorePart.{StorePart}
@@ -25,6 +26,11 @@ loads_open (o ∷ os) = load_open o ++ loads_open os
 
 abbrev pub is_load_of : ℕ → OpenLoad → Bool
 is_load_of number o = o.number == number
+
+-- one of these loads alone is open under a number, and it stands at this place
+abbrev pub IsOnlyLoad : ℕ → List OpenLoad → ℕ → Type 0
+IsOnlyLoad number os place = (place < length os) × ((filter (is_load_of number) os ≡ take 1 (drop place os))
+    × (filter (λ o. not (is_load_of number o)) os ≡ take place os ++ drop (place + 1) os))
 
 -- how many bytes these loads have together, as far as can be counted
 abbrev pub counted : ℕ → OpenLoad → ℕ

@@ -12,7 +12,7 @@ ghost use Rattle.memory_histories.specs.Shown.{parts_in, answered_in};
 use crate::answered::{KeptUnit, parts_in};
 use crate::events::Rest;
 use crate::loads::{OpenLoad, show_part, show_parts};
-use crate::parts::{StorePart, is_open_part, part_of, unit_of, with_parts};
+use crate::parts::{StorePart, has_lane, has_open, is_open_part, part_of, unit_of, with_parts};
 use crate::sets::ByteSet;
 use crate::windows::LoadByte;
 use std::alloc::{AllocError, Global};
@@ -193,6 +193,17 @@ pub(crate) fn only_part(stores: &[StorePart], number: u64) -> Option<usize>
         None
     } else {
         Some(place)
+    }
+}
+
+// Whether a store is open under this number. Its only part stands at this place, if it has one alone.
+pub(crate) fn has_open_at(stores: &[StorePart], number: u64, place: Option<usize>) -> bool
+    requires { IfSome place (IsOnly number stores.now) }
+    ensures { result ≡ list_any (is_open number) (parts_bytes stores.now) }
+{
+    match place {
+        Some(place) => has_lane(&stores[place]),
+        None => has_open(stores, number),
     }
 }
 

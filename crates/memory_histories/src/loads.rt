@@ -1,16 +1,16 @@
 //! The open loads with what they may return.
 
 ghost use Rattle.std.specs.Prelude.{◌≡◌, ◌+◌, ◌*◌, ◌<◌, ◌&&◌, IfSome, not, length, map, nat_lt};
-ghost use Rattle.std.specs.List.{filter, find, fold, list_any};
+ghost use Rattle.std.specs.List.{filter, find, fold, list_any, position};
 ghost use Rattle.std.specs.Option.{option_map};
 ghost use Rattle.memory_histories.specs.Sets.{has};
 ghost use Rattle.memory_histories.specs.Regular.{wrong_place, load_response_fault};
 ghost use Rattle.memory_histories.specs.Kept.{after_stores, is_open_of, is_open_at, may_have};
 ghost use Rattle.memory_histories.specs.Parts.{part_bytes, parts_bytes};
-ghost use Rattle.memory_histories.specs.Loads.{load_open, loads_open, is_load_of, counted, shown_sets, is_near, response_fault, wrong_in, behind, set_at, first_set_at};
+ghost use Rattle.memory_histories.specs.Loads.{load_open, loads_open, is_load_of, IsOnlyLoad, counted, shown_sets, is_near, response_fault, wrong_in, behind, set_at, first_set_at};
 
 use crate::events::HistoryFault;
-use crate::parts::{StorePart, part_at, with_known};
+use crate::parts::{StorePart, part_at, unit_of, with_known};
 use crate::regular::wrong_byte;
 use crate::sets::ByteSet;
 
@@ -67,12 +67,64 @@ fn response_fault(count: u128, given: u128, place: Option<usize>) -> Option<Hist
     }
 }
 
-// Why the load that is open under this number may not be answered with these bytes.
+// The place of the first of these loads that is open under this number.
+fn first_load(loads: &[OpenLoad], number: u64) -> Option<usize>
+    ensures place { result ≡ position (is_load_of number) loads.now }
+    ensures bound { IfSome result (λ place. place < length loads.now) }
+{
+    loads.iter().position(|load| is_load_of(load, number))
+}
+
+// Whether one of these loads is.
+fn has_load(loads: &[OpenLoad], number: u64) -> bool
+    ensures { result ≡ list_any (is_load_of number) loads.now }
+{
+    loads.iter().any(|load| is_load_of(load, number))
+}
+
+// Where the load stands that is open under this number, if it is one alone.
+pub(crate) fn only_load(loads: &[OpenLoad], number: u64) -> Option<usize>
+    ensures { IfSome result (IsOnlyLoad number loads.now) }
+{
+    let place = first_load(loads, number)?;
+    if has_load(&loads[place + 1..], number) {
+        None
+    } else {
+        Some(place)
+    }
+}
+
+// Why this load may not be answered with these bytes.
+fn one_response_fault(load: &OpenLoad, bytes: &[u8]) -> Option<HistoryFault>
+    ensures { result ≡ load_response_fault may_have (load_open load.now) bytes.now }
+{
+    let sets = load.sets.as_slice();
+    response_fault(
+        sets.len() as u128,
+        bytes.len() as u128,
+        first_wrong(sets, bytes),
+    )
+}
+
+// Why the load that is open under this number may not be answered with these bytes. It stands at this place, if it is one
+// alone.
 pub(crate) fn load_response_fault(
     loads: &[OpenLoad],
     number: u64,
+    place: Option<usize>,
     bytes: &[u8],
 ) -> Option<HistoryFault>
+    requires { IfSome place (IsOnlyLoad number loads.now) }
+    ensures { result ≡ load_response_fault may_have (filter (is_open_of number) (loads_open loads.now)) bytes.now }
+{
+    match place {
+        Some(place) => one_response_fault(&loads[place], bytes),
+        None => any_response_fault(loads, number, bytes),
+    }
+}
+
+// The same, however many they are.
+fn any_response_fault(loads: &[OpenLoad], number: u64, bytes: &[u8]) -> Option<HistoryFault>
     ensures { result ≡ load_response_fault may_have (filter (is_open_of number) (loads_open loads.now)) bytes.now }
 {
     response_fault(
@@ -140,11 +192,11 @@ fn show_sets(sets: &mut [ByteSet], address: u64, part: &StorePart)
 
 // Whether one of so many bytes from an address on lies in the unit of a part.
 fn is_near(address: u64, length: usize, part: &StorePart) -> bool
+    requires { length < 9223372036854775808 }
     ensures { result ≡ is_near address length part.now }
 {
-    let first = u128::from(address);
-    let unit = 8 * u128::from(part.unit);
-    unit < first + length as u128 && first < unit + 8
+    let first = unit_of(address);
+    first <= part.unit && part.unit - first < (address % 8 + length as u64 + 7) / 8
 }
 
 // The same, which looks at the lanes alone if the part is near.
@@ -218,11 +270,17 @@ fn first_set_at(loads: &[OpenLoad], number: u64, address: u64) -> Option<ByteSet
     None
 }
 
-// No load is open under this number from now on.
-pub(crate) fn end_load(loads: &mut Vec<OpenLoad>, number: u64)
+// No load is open under this number from now on. It stands at this place, if it is one alone.
+pub(crate) fn end_load(loads: &mut Vec<OpenLoad>, number: u64, place: Option<usize>)
+    requires { IfSome place (IsOnlyLoad number loads.old.items) }
     ensures { loads_open loads.new.items ≡ filter (λ o. not (is_open_of number o)) (loads_open loads.old.items) }
 {
-    end_loads(loads, number);
+    match place {
+        Some(place) => {
+            let _ended = loads.remove(place);
+        }
+        None => end_loads(loads, number),
+    }
 }
 
 fn end_loads(loads: &mut Vec<OpenLoad>, number: u64)

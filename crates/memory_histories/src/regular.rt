@@ -1,18 +1,19 @@
 //! The judge of the regular law.
 
-ghost use Rattle.std.specs.Prelude.{◌≡◌, ◌+◌, ◌<◌, ◌++◌, true, length, None, Some, map, not, IfOk, IfErr, OnOk, OnErr};
+ghost use Rattle.std.specs.Prelude.{◌≡◌, ◌+◌, ◌<◌, ◌++◌, true, length, None, Some, map, not, IfSome, IfOk, IfErr, OnOk, OnErr};
 ghost use Rattle.std.specs.List.{filter, find, list_any};
 ghost use Rattle.std.specs.Option.{option_map};
 ghost use Rattle.memory_histories.specs.Windows.{Windows, opening, is_open, store_bytes, load_bytes, windows_after};
 ghost use Rattle.memory_histories.specs.Regular.{fault, is_inside, wrong_byte, load_request_fault, load_response_fault, store_request_fault, store_response_fault};
 ghost use Rattle.memory_histories.specs.Kept.{opened_at, after_stores, answered_after, kept_after, kept_fault, kept_step, may_have, is_open_of, is_open_at, StandsFor};
-ghost use Rattle.memory_histories.specs.Shown.{kept, KeptFaultIs, StepFaultIs, IsSetOf};
+ghost use Rattle.memory_histories.specs.Shown.{kept, KeptFaultIs, StepFaultIs, IsSetOf, IsPlaceOf};
 ghost use Rattle.memory_histories.specs.Parts.{IsOnly};
+ghost use Rattle.memory_histories.specs.Loads.{IsOnlyLoad};
 
 use crate::answered::{KeptUnit, answer_part, changes, put_changes};
 use crate::events::{HistoryEvent, HistoryFault, MAX_LENGTH, Rest, StepFault};
-use crate::kept::{add_store, end_store, only_part, open_load, open_store};
-use crate::loads::{OpenLoad, end_load, has_open_load, load_response_fault, open_set};
+use crate::kept::{add_store, end_store, has_open_at, only_part, open_load, open_store};
+use crate::loads::{OpenLoad, end_load, has_open_load, load_response_fault, only_load, open_set};
 use crate::parts::{MAX_PARTS, StorePart, has_open};
 use crate::sets::ByteSet;
 use crate::windows::{has_enabled, is_inside};
@@ -84,13 +85,36 @@ impl RegularMemory {
     fn kept_fault(&self, event: HistoryEvent) -> Option<HistoryFault>
         ensures { result ≡ kept_fault (kept self.now) event.entry }
     {
+        self.fault_at(event, self.place_of(event))
+    }
+
+    // Where that stands which the event answers, if it stands at one place alone.
+    fn place_of(&self, event: HistoryEvent) -> Option<usize>
+        ensures { IfSome result (IsPlaceOf event.entry self.now) }
+    {
+        match event {
+            HistoryEvent::LoadResponse { number, bytes: _ } => {
+                only_load(self.loads.as_slice(), number)
+            }
+            HistoryEvent::StoreResponse { number } => only_part(self.stores.as_slice(), number),
+            _ => None,
+        }
+    }
+
+    // Why the event is none of the law, if this is the place of what it answers.
+    fn fault_at(&self, event: HistoryEvent, place: Option<usize>) -> Option<HistoryFault>
+        requires { IfSome place (IsPlaceOf event self.now) }
+        ensures { result ≡ kept_fault (kept self.now) event.entry }
+    {
         match event {
             HistoryEvent::LoadRequest {
                 number,
                 address,
                 length,
             } => load_request_fault(is_inside(address, length), self.has_open_load(number)),
-            HistoryEvent::LoadResponse { number, bytes } => self.load_response_fault(number, bytes),
+            HistoryEvent::LoadResponse { number, bytes } => {
+                self.load_response_fault(number, place, bytes)
+            }
             HistoryEvent::StoreRequest {
                 number,
                 address,
@@ -102,7 +126,7 @@ impl RegularMemory {
                 self.has_open_store(number),
             ),
             HistoryEvent::StoreResponse { number } => {
-                store_response_fault(self.has_open_store(number))
+                store_response_fault(self.has_answered_store(number, place))
             }
         }
     }
@@ -121,11 +145,25 @@ impl RegularMemory {
         has_open(self.stores.as_slice(), number)
     }
 
-    // Why the load that is open under this number may not be answered with these bytes.
-    fn load_response_fault(&self, number: u64, bytes: &[u8]) -> Option<HistoryFault>
+    // The same, if this is the place of its only part.
+    fn has_answered_store(&self, number: u64, place: Option<usize>) -> bool
+        requires { IfSome place (IsOnly number self.now.stores.items) }
+        ensures { result ≡ list_any (is_open number) (kept self.now).stores }
+    {
+        has_open_at(self.stores.as_slice(), number, place)
+    }
+
+    // Why the load that is open under this number may not be answered with these bytes, if this is its place.
+    fn load_response_fault(
+        &self,
+        number: u64,
+        place: Option<usize>,
+        bytes: &[u8],
+    ) -> Option<HistoryFault>
+        requires { IfSome place (IsOnlyLoad number self.now.loads.items) }
         ensures { result ≡ load_response_fault may_have (filter (is_open_of number) (kept self.now).open_bytes) bytes.now }
     {
-        load_response_fault(self.loads.as_slice(), number, bytes)
+        load_response_fault(self.loads.as_slice(), number, place, bytes)
     }
 
     fn kept_set(&self, number: u64, address: u64) -> Option<ByteSet>
@@ -139,20 +177,22 @@ impl RegularMemory {
         ensures fault { IfErr result (KeptFaultIs (kept self.old) event.entry) }
         ensures unchanged { OnErr result (kept self.new ≡ kept self.old) }
     {
-        if let Some(fault) = self.kept_fault(event) {
+        let place = self.place_of(event);
+        if let Some(fault) = self.fault_at(event, place) {
             return Err(StepFault::Refused(fault));
         }
         if self.moment == u64::MAX {
             return Err(StepFault::TooLong);
         }
-        self.change(event)?;
+        self.change(event, place)?;
         Ok(())
     }
 
-    // The change that an event of the law makes.
-    fn change(&mut self, event: HistoryEvent) -> Result<(), AllocError>
+    // The change that an event of the law makes, if this is the place of what it answers.
+    fn change(&mut self, event: HistoryEvent, place: Option<usize>) -> Result<(), AllocError>
         requires moment { (kept self.old).moment < 18446744073709551615 }
         requires law { kept_fault (kept self.old) event ≡ None }
+        requires place { IfSome place (IsPlaceOf event self.old) }
         ensures ok { OnOk result (kept self.new ≡ kept_after (kept self.old) event.entry) }
         ensures err { OnErr result (kept self.new ≡ kept self.old) }
     {
@@ -162,14 +202,16 @@ impl RegularMemory {
                 address,
                 length,
             } => self.request_load(number, address, length)?,
-            HistoryEvent::LoadResponse { number, bytes: _ } => end_load(&mut self.loads, number),
+            HistoryEvent::LoadResponse { number, bytes: _ } => {
+                end_load(&mut self.loads, number, place);
+            }
             HistoryEvent::StoreRequest {
                 number,
                 address,
                 bytes,
                 enables,
             } => self.request_store(number, address, bytes, enables)?,
-            HistoryEvent::StoreResponse { number } => self.answer_store(number)?,
+            HistoryEvent::StoreResponse { number } => self.answer_store(number, place)?,
         }
         self.moment += 1;
         Ok(())
@@ -218,12 +260,13 @@ impl RegularMemory {
         Ok(())
     }
 
-    // The store that is open under this number is answered.
-    fn answer_store(&mut self, number: u64) -> Result<(), AllocError>
+    // The store that is open under this number is answered. Its only part stands at this place, if it has one alone.
+    fn answer_store(&mut self, number: u64, place: Option<usize>) -> Result<(), AllocError>
+        requires { IfSome place (IsOnly number self.old.stores.items) }
         ensures ok { OnOk result (let ending = filter (is_open number) (kept self.old).stores in kept self.new ≡ record (kept self.old) { stores = filter (λ s. not (is_open number s)) (kept self.old).stores; answered = λ unit. answered_after (kept self.old).moment ending unit ((kept self.old).answered unit) }) }
         ensures err { OnErr result (kept self.new ≡ kept self.old) }
     {
-        match only_part(self.stores.as_slice(), number) {
+        match place {
             Some(place) => self.answer_part(number, place),
             None => self.answer_parts(number),
         }

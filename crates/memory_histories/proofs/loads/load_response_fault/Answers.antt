@@ -1,13 +1,15 @@
-use Rattle.std.proofs.Common.{◌∙◌, arith}
-use Rattle.std.specs.List.{filter}
-use Rattle.memory_histories.specs.Kept.{is_open_of}
-use Rattle.memory_histories.specs.Loads.{loads_open}
-use Rattle.memory_histories.proofs.Opened.{count_bytes, same_response}
+use Rattle.std.proofs.Common.{◌∙◌, ap, sym}
+use Rattle.memory_histories.specs.Regular.{load_response_fault}
+use Rattle.memory_histories.specs.Kept.{may_have}
+use Rattle.memory_histories.specs.Loads.{load_open, IsOnlyLoad}
+use Rattle.memory_histories.proofs.OnePart.{only_load_bytes}
 use Rattle.memory_histories.proofs.loads.load_response_fault.Goals as goal
 
-pub returns : goal.returns
-returns c =
-    let xs = filter (is_open_of c.args.number) (loads_open c.args.loads.now) in
-    c.response_fault.ensures
-    ∙ same_response xs c.args.bytes.now c.length_of.result c.wrong_place.result
-    (c.length_of.ensures ∙ count_bytes c.args.number c.args.loads.now 0 (omega arith)) (omega arith) c.wrong_place.ensures
+pub returns-in-Some : goal.returns-in-Some
+returns-in-Some c =
+    let os = c.args.loads.now in
+    let k = c.in-Some.place in
+    let alone : IsOnlyLoad c.args.number os k = (rw c.in-Some.is at c.requires) in
+    c.one_response_fault.ensures
+    ∙ ap (λ xs. load_response_fault may_have xs c.args.bytes.now)
+    (ap load_open c.index-loads-place.is ∙ sym (only_load_bytes c.args.number os k c.index-loads-place.result alone))
