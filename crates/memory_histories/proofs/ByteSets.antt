@@ -1,13 +1,12 @@
 -- Sets of bytes as their tests.
-use Rattle.std.proofs.Common.{◌≡◌, ◌≢◌, ℕ, ◌-◌, ◌&&◌, ◌^◌, ◌<◌, ◌≤◌, ◌||◌, ◌==◌, Bool, false, nat_lt, max, inl, inr, refl, sym, ap, ◌∙◌, arith}
+use Rattle.std.proofs.Common.{◌≡◌, ◌≢◌, ℕ, ◌-◌, ◌^◌, ◌<◌, ◌≤◌, ◌||◌, ◌==◌, Bool, false, nat_lt, max, inl, inr, refl, sym, ap, ◌∙◌, arith}
 use Rattle.std.specs.Prelude.{bit_or}
 use Rattle.std.specs.Int.{bit_at}
 use Rattle.std.proofs.lemmas.Bool.{cases_eq, cases_lt, eq-eqb, ne_eqb, lt-ltb, le-ltb, or_right}
-use Rattle.std.proofs.lemmas.Nat.{le_or_r, pow_pos}
 use Rattle.std.proofs.lemmas.Nat.Bits.{bit_at_or, bit_at-pow_same, bit_at-pow_other, bit_at-lt, bit_at-zero, bit_at_ones, bit_at_ones_above}
 use Rattle.memory_histories.specs.declared.sets.ByteSet.{ByteSet}
-use Rattle.memory_histories.specs.Sets.{has, with_byte, is_empty, no_bytes, all_bytes}
-use Rattle.memory_histories.proofs.Lists.{or_false, and_false}
+use Rattle.memory_histories.specs.Sets.{has, with_byte, no_bytes, all_bytes}
+use Rattle.memory_histories.proofs.Lists.{or_false}
 
 max_one : (x : ℕ) → x < 2 → max x 1 ≡ 1
 max_one x h = omega arith
@@ -65,17 +64,4 @@ has-all_bytes b = elim (cases_lt b 128) [
     | inl m ↦ let n : b - 128 < 128 = omega arith in rw (le-ltb b 128 l, lt-ltb b 256 m, bit_at_ones 128 (b - 128) n) refl
     | inr m ↦ let n : 128 ≤ b - 128 = omega arith in rw (le-ltb b 128 l, le-ltb b 256 m, bit_at_ones_above 128 (b - 128) n) refl
   ]
-]
-
-some_bit : (n k : ℕ) → (bit_or n (2 ^ k) == 0) ≡ false
-some_bit n k =
-    let more : 2 ^ k ≤ bit_or n (2 ^ k) = le_or_r n (2 ^ k) in
-    let one : 0 < 2 ^ k = pow_pos k in
-    ne_eqb (bit_or n (2 ^ k)) 0 (λ e. omega arith)
-
-pub some_byte : (s : ByteSet) (b : ℕ) → is_empty (with_byte s b) ≡ false
-unfolding with_byte
-some_byte s b = elim (cases_lt b 128) [
-  | inl l ↦ rw (lt-ltb b 128 l, some_bit s.low b) refl
-  | inr l ↦ rw (le-ltb b 128 l, some_bit s.high (b - 128)) (and_false (s.low == 0))
 ]

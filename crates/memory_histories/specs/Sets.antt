@@ -1,5 +1,5 @@
 -- Sets of bytes, as two numbers of 128 bits.
-use Rattle.std.specs.Prelude.{ℕ, ◌-◌, ◌^◌, Bool, ◌&&◌, if◌then◌else◌, ◌==◌, nat_lt, bit_or}
+use Rattle.std.specs.Prelude.{ℕ, ◌-◌, ◌^◌, Bool, if◌then◌else◌, ◌==◌, nat_lt, bit_or}
 use Rattle.std.specs.Int.{bit_at}
 use Rattle.memory_histories.specs.declared.sets.ByteSet.{ByteSet}
 
@@ -16,7 +16,3 @@ has set b = if nat_lt b 128 then bit_at set.low b == 1 else bit_at set.high (b -
 -- the set with this byte
 unfoldable pub with_byte : ByteSet → ℕ → ByteSet
 with_byte set b = if nat_lt b 128 then record { low = bit_or set.low (2 ^ b); high = set.high } else record { low = set.low; high = bit_or set.high (2 ^ (b - 128)) }
-
--- whether a set has no byte
-abbrev pub is_empty : ByteSet → Bool
-is_empty set = (set.low == 0) && (set.high == 0)

@@ -12,7 +12,9 @@ ghost use Rattle.memory_histories.specs.Shown.{parts_in, answered_in};
 use crate::answered::{KeptUnit, parts_in};
 use crate::events::Rest;
 use crate::loads::{OpenLoad, show_part, show_parts};
-use crate::parts::{StorePart, has_lane, has_open, is_open_part, part_of, unit_of, with_parts};
+use crate::parts::{
+    StorePart, has_lane, has_open, is_open_part, part_at, part_of, unit_of, with_parts,
+};
 use crate::sets::ByteSet;
 use crate::windows::LoadByte;
 use std::alloc::{AllocError, Global};
@@ -52,12 +54,12 @@ fn initial_at(image: &[u8], rest: Rest, address: u64) -> ByteSet
 fn settled_set(image: &[u8], rest: Rest, answered: &[StorePart], address: u64) -> ByteSet
     ensures { result ≡ settled_set image.now rest (parts_bytes answered.now) address }
 {
-    let left = with_parts(answered, address, ByteSet::none());
-    if left.is_empty() {
-        initial_at(image, rest, address)
-    } else {
-        left
+    for (k, part) in answered.iter().enumerate() {
+        if let Some(byte) = part_at(part, u128::from(address)) {
+            return with_parts(&answered[k + 1..], address, ByteSet::none().with(byte));
+        }
     }
+    initial_at(image, rest, address)
 }
 
 // What is kept of a unit, if this is what is kept of another one, which may be the same.

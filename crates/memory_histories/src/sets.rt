@@ -1,7 +1,7 @@
 //! Sets of bytes.
 
 ghost use Rattle.std.specs.Prelude.{◌≡◌, nat_lt, if◌then◌else◌};
-ghost use Rattle.memory_histories.specs.Sets.{has, with_byte, is_empty, no_bytes, all_bytes};
+ghost use Rattle.memory_histories.specs.Sets.{has, with_byte, no_bytes, all_bytes};
 
 /// A set of bytes, as what a load may return.
 #[derive(Clone, Copy, PartialEq, Eq, Debug)]
@@ -17,13 +17,6 @@ impl ByteSet {
         ensures { result ≡ no_bytes }
     {
         ByteSet { low: 0, high: 0 }
-    }
-
-    // Whether it has no byte.
-    pub(crate) fn is_empty(self) -> bool
-        ensures { result ≡ is_empty self }
-    {
-        self.low == 0 && self.high == 0
     }
 
     /// All 256 bytes.
