@@ -244,7 +244,7 @@ after_parts m u es ps =
 
 -- the same of one part, in its own unit
 pub after_part : (m : ℕ) (e : StorePart) (ps : List StorePart)
-    → parts_bytes (filter has_lane (map (without_parts e.unit (e ∷ [])) ps) ++ answered_part m e ∷ []) ≡ answered_after m (part_bytes e) e.unit (parts_bytes ps)
+    → parts_bytes (filter has_lane (map (without_part e.unit e) ps) ++ answered_part m e ∷ []) ≡ answered_after m (part_bytes e) e.unit (parts_bytes ps)
 after_part m e ps =
     let its : joined_parts m (e ∷ []) e.unit ≡ answered_part m e ∷ [] = rw (eq-eqb e.unit e.unit refl) refl in
     let all = after_parts m e.unit (e ∷ []) ps in

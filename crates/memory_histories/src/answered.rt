@@ -4,10 +4,10 @@ ghost use Rattle.std.specs.Prelude.{◌≡◌, ◌+◌, ◌≤◌, ◌<◌, ◌+
 ghost use Rattle.std.specs.HashMap.{get, spare};
 ghost use Rattle.std.specs.List.{All, filter, list_any};
 ghost use Rattle.memory_histories.specs.Kept.{joined, answered_after};
-ghost use Rattle.memory_histories.specs.Parts.{part_bytes, parts_bytes, has_lane, without_parts, answered_part, joined_parts};
+ghost use Rattle.memory_histories.specs.Parts.{part_bytes, parts_bytes, has_lane, without_part, without_parts, answered_part, joined_parts};
 ghost use Rattle.memory_histories.specs.Shown.{parts_in, answered_in, is_of_unit, put_units, IsAfter, HasUnit};
 
-use crate::parts::{StorePart, has_lane, without_parts};
+use crate::parts::{StorePart, has_lane, without_part, without_parts};
 use std::alloc::{AllocError, Global};
 use std::collections::HashMap;
 
@@ -57,6 +57,24 @@ fn clear_overwritten(parts: &mut [StorePart], unit: u64, ending: &[StorePart])
 {
     for part in parts.iter_mut() {
         *part = without_parts(unit, ending, *part);
+    }
+}
+
+// What this part of a store has overwritten in its unit is dropped.
+fn drop_under(parts: &mut Vec<StorePart>, part: &StorePart)
+    ensures few { vec_len parts.new ≤ vec_len parts.old }
+    ensures room { vec_capacity parts.new ≡ vec_capacity parts.old }
+    ensures items { parts.new.items ≡ filter has_lane (map (without_part part.now.unit part.now) parts.old.items) }
+{
+    clear_under(parts.as_mut_slice(), part);
+    drop_empty(parts);
+}
+
+fn clear_under(parts: &mut [StorePart], end: &StorePart)
+    ensures { parts.new ≡ map (without_part end.now.unit end.now) parts.old }
+{
+    for part in parts.iter_mut() {
+        *part = without_part(end.unit, end, *part);
     }
 }
 
@@ -112,7 +130,7 @@ fn join_part(parts: &mut Vec<StorePart>, part: &StorePart, moment: u64) -> Resul
     ensures err { OnErr result (parts.new.items ≡ parts.old.items) }
 {
     parts.reserve(1)?;
-    drop_overwritten(parts, part.unit, &[*part]);
+    drop_under(parts, part);
     parts.push_reserved(answered_part(*part, moment));
     Ok(())
 }

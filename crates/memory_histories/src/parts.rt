@@ -1,8 +1,8 @@
 //! Stores by unit of eight aligned addresses: a byte of a unit is its lane.
 
-ghost use Rattle.std.specs.Prelude.{◌≡◌, ◌+◌, ◌*◌, ◌/◌, ◌-◌, ◌≤◌, ◌<◌, ◌^◌, ◌==◌, if◌then◌else◌, None, Some, is_some, length, take, slice_get};
+ghost use Rattle.std.specs.Prelude.{◌≡◌, ◌+◌, ◌*◌, ◌/◌, ◌-◌, ◌≤◌, ◌<◌, ◌^◌, ◌==◌, if◌then◌else◌, true, None, Some, is_some, length, map, take, slice_get};
 ghost use Rattle.std.specs.Int.{bit_at};
-ghost use Rattle.std.specs.List.{filter, fold, list_any};
+ghost use Rattle.std.specs.List.{filter, fold, list_any, range_with_len};
 ghost use Rattle.memory_histories.specs.Windows.{store_bytes, is_open};
 ghost use Rattle.memory_histories.specs.Kept.{unit_of, is_in, with_stores};
 ghost use Rattle.memory_histories.specs.Parts.{lane_at, lanes_of, unit_lanes, part_bytes, parts_bytes, part_at, has_lane, is_open_part, is_open_with, with_known, cleared, cleared_lanes, clears, without_part, without_parts};
@@ -78,6 +78,43 @@ fn stored_lanes(unit: u64, from: u64, bytes: &[u8], enables: u64) -> [Option<u8>
     ]
 }
 
+// The same of a store of eight bytes that begins with its unit, where each byte has the number of its lane.
+fn whole_lanes(bytes: &[u8], enables: u64) -> [Option<u8>; 8]
+    ensures { result ≡ map (λ k. if bit_at enables k == 1 then slice_get bytes.now k else None) (range_with_len 0 8) }
+{
+    [
+        enabled_byte(bytes, enables, 0),
+        enabled_byte(bytes, enables, 1),
+        enabled_byte(bytes, enables, 2),
+        enabled_byte(bytes, enables, 3),
+        enabled_byte(bytes, enables, 4),
+        enabled_byte(bytes, enables, 5),
+        enabled_byte(bytes, enables, 6),
+        enabled_byte(bytes, enables, 7),
+    ]
+}
+
+// Whether a store of so many bytes from an address on is one of this whole unit.
+fn is_whole(unit: u64, from: u64, length: usize) -> bool
+    requires { unit < 2305843009213693952 }
+    ensures { result ≡ true → from ≡ 8 * unit }
+{
+    from == 8 * unit && length == 8
+}
+
+// What a store writes in the lanes of a unit. Most are of a whole one.
+fn lanes_in(unit: u64, from: u64, bytes: &[u8], enables: u64) -> [Option<u8>; 8]
+    requires unit { unit < 2305843009213693952 }
+    requires few { length bytes.now ≤ 64 }
+    ensures { result ≡ unit_lanes unit (lane_at from (lanes_of bytes.now enables)) }
+{
+    if is_whole(unit, from, bytes.len()) {
+        whole_lanes(bytes, enables)
+    } else {
+        stored_lanes(unit, from, bytes, enables)
+    }
+}
+
 // The part of a store that lies in a unit.
 pub(crate) fn part_of(
     number: u64,
@@ -94,7 +131,7 @@ pub(crate) fn part_of(
     StorePart {
         number,
         unit,
-        lanes: stored_lanes(unit, address, bytes, enables),
+        lanes: lanes_in(unit, address, bytes, enables),
         began: moment,
         ended: None,
     }
@@ -207,7 +244,7 @@ fn clear_lanes(lanes: &mut [Option<u8>], over: &[Option<u8>])
 }
 
 // What is left of a part of a unit once this part of a store is answered.
-fn without_part(unit: u64, end: &StorePart, part: StorePart) -> StorePart
+pub(crate) fn without_part(unit: u64, end: &StorePart, part: StorePart) -> StorePart
     ensures { result ≡ without_part unit end.now part }
 {
     let mut left = part;

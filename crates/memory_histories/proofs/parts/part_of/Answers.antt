@@ -5,5 +5,5 @@ use Rattle.memory_histories.proofs.parts.part_of.Goals as goal
 
 pub returns : goal.returns
 returns c =
-    ap (λ ls. lane_bytes c.args.number (8 * c.args.unit) (take 8 ls) c.args.moment None) c.stored_lanes.ensures
+    ap (λ ls. lane_bytes c.args.number (8 * c.args.unit) (take 8 ls) c.args.moment None) c.lanes_in.ensures
     ∙ part_of_store c.args.number c.args.unit c.args.address c.args.bytes.now c.args.enables c.args.moment
