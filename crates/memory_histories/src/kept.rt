@@ -1,11 +1,11 @@
 //! What a request and an answer change of the loads and the stores that are open.
 
-ghost use Rattle.std.specs.Prelude.{◌≡◌, ◌+◌, ◌≤◌, ◌<◌, [], ◌++◌, ◌^◌, IfOk, IfSome, length, map, not, vec_len, vec_capacity, slice_get, nat_eq};
+ghost use Rattle.std.specs.Prelude.{◌≡◌, ◌+◌, ◌≤◌, ◌<◌, [], ◌∷◌, ◌++◌, ◌^◌, IfOk, IfSome, length, map, not, vec_len, vec_capacity, slice_get, nat_eq};
 ghost use Rattle.std.specs.HashMap.{get};
 ghost use Rattle.std.specs.List.{filter, list_any, position};
 ghost use Rattle.memory_histories.specs.Windows.{store_bytes, load_bytes, is_open};
 ghost use Rattle.memory_histories.specs.Kept.{initial_set, settled_set, opened_at, after_stores};
-ghost use Rattle.memory_histories.specs.Parts.{parts_bytes, is_open_part, IsOnly};
+ghost use Rattle.memory_histories.specs.Parts.{part_bytes, parts_bytes, is_open_part, IsOnly};
 ghost use Rattle.memory_histories.specs.Loads.{load_open, loads_open};
 ghost use Rattle.memory_histories.specs.Shown.{parts_in, answered_in};
 
@@ -145,6 +145,19 @@ pub(crate) fn open_load(
     Ok(load)
 }
 
+// A part of a store is kept, and open loads may see it from now on. They read it where it stands, so that it is built once.
+fn add_part(stores: &mut Vec<StorePart>, loads: &mut [OpenLoad], part: StorePart)
+    requires { vec_len stores.old + 1 ≤ vec_capacity stores.old }
+    ensures stores { stores.new.items ≡ stores.old.items ++ part ∷ [] }
+    ensures len { vec_len stores.new ≡ vec_len stores.old + 1 }
+    ensures capacity { vec_capacity stores.new ≡ vec_capacity stores.old }
+    ensures loads { loads_open loads.new ≡ map (after_stores (part_bytes part)) (loads_open loads.old) }
+{
+    let place = stores.len();
+    stores.push_reserved(part);
+    show_part(loads, &stores[place]);
+}
+
 // A store is requested at this moment: its parts are kept, and open loads may see them from now on.
 pub(crate) fn add_store(
     stores: &mut Vec<StorePart>,
@@ -166,8 +179,7 @@ pub(crate) fn add_store(
     let last = unit_of(address + (bytes.len() as u64 - 1));
     for unit in first..last + 1 {
         let part = part_of(number, unit, address, bytes, enables, moment);
-        show_part(loads, &part);
-        stores.push_reserved(part);
+        add_part(stores, loads, part);
     }
 }
 

@@ -26,10 +26,10 @@ loop-unit-preserved c =
     let more = store_from c.args.number u c.args.address c.args.bytes.now c.args.enables c.args.moment in
     let part = c.part_of-part.ensures in
     record {
-      stores = rw c.push_reserved.ensures.items (push_part c.loop-unit.stores.items c.part_of-part.result rest
+      stores = rw c.add_part.ensures.stores (push_part c.loop-unit.stores.items c.part_of-part.result rest
           ∙ (ap (λ xs. parts_bytes c.loop-unit.stores.items ++ (xs ++ rest)) part
           ∙ (ap (λ xs. parts_bytes c.loop-unit.stores.items ++ xs) (sym more) ∙ c.loop-unit.invariant.stores)));
-      loads = rw c.show_part.ensures (sym (all_shown_more (part_bytes c.part_of-part.result) rest (loads_open c.loop-unit.loads))
+      loads = rw c.add_part.ensures.loads (sym (all_shown_more (part_bytes c.part_of-part.result) rest (loads_open c.loop-unit.loads))
           ∙ (ap (λ xs. map (after_stores (xs ++ rest)) (loads_open c.loop-unit.loads)) part
           ∙ (ap (λ xs. map (after_stores xs) (loads_open c.loop-unit.loads)) (sym more) ∙ c.loop-unit.invariant.loads)));
       room = omega arith;
