@@ -1,11 +1,12 @@
 -- An answer ends the bytes of its store, which are found from the places of the open stores.
 use Rattle.std.proofs.Common.{◌≡◌, ℕ, zero, suc, ◌+◌, ◌-◌, ◌<◌, ◌≤◌, ◌/◌, ◌%◌, ◌==◌, ◌&&◌, ◌||◌, not, if◌then◌else◌, Bool, true, false, List, [], ◌∷◌, ◌++◌, map, take, drop, length, get_or, None, inl, inr, refl, sym, ◌∙◌, ap, ap₂, arith, length-drop, length-append}
 use Rattle.std.specs.Prelude.{nat_le, nat_lt, min, is_none}
-use Rattle.std.specs.List.{filter, list_any}
+use Rattle.std.specs.List.{filter, list_any, copy_within}
 use Rattle.std.proofs.lemmas.Bool.{cases_Bool, leb-true, eqb-true, eq-eqb, and_from, false≢true, le-leb, lt-ltb, ltb-false}
 use Rattle.std.proofs.lemmas.Bool.Decides.{Decides-ltb}
-use Rattle.std.proofs.lemmas.List.{get_or_append_left, get_or-append_right, get_or-take, get_or-drop, get_or-map, length-map, length-take, same_lists, at_drop_more}
+use Rattle.std.proofs.lemmas.List.{get_or_append_left, get_or-append_right, get_or-take, get_or-drop, get_or-map, length-map, length-take, same_lists, at_drop_more, take_all}
 use Rattle.std.proofs.lemmas.List.Folds.{list_any-append}
+use Rattle.std.proofs.lemmas.List.Edits.{take-paste}
 use Rattle.memory_histories.specs.declared.windows.StoreByte.{StoreByte}
 use Rattle.memory_histories.specs.Windows.{store_bytes, is_open, after_response}
 use Rattle.memory_histories.proofs.Lists.{list_any-kept}
@@ -308,3 +309,11 @@ not_moved c [] e = refl
 not_moved c (p ∷ ps) e =
     let same : p.first ≡ p.first - c = omega arith in
     ap₂ (λ (n : ℕ) (qs : List StorePlace). (record { number = p.number; first = n; most = p.most }) ∷ qs) same (not_moved c ps e)
+
+-- the first are forgotten where those behind them are copied over them
+pub copied_down : (xs : List StoreByte) (c n : ℕ) → c ≤ length xs → n ≡ length xs → take (n - c) (copy_within xs c n 0) ≡ drop c xs
+copied_down xs c n few all =
+    let long = length-drop c xs in
+    let from_none : n - c ≡ 0 + (n - c) = omega arith in
+    ap (λ k. take k (copy_within xs c n 0)) from_none ∙ take-paste xs 0 (drop c xs) (n - c) (omega arith) (omega arith)
+    ∙ take_all (n - c) (drop c xs) (omega arith)

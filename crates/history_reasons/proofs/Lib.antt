@@ -2,4 +2,5 @@ pub mod Found
 pub mod Reasons
 pub mod GiverLemmas
 pub mod UnitLemmas
+pub mod LoadLemmas
 pub mod Logs

@@ -18,11 +18,13 @@ use Rattle.history_reasons.specs.declared.places.StorePlace.{StorePlace}
 use Rattle.history_reasons.specs.declared.Reason.{Reason}
 use Rattle.history_reasons.specs.declared.Reason.TheVariants.{NeverThere, InitialOverwritten, StoreOverwritten}
 use Rattle.history_reasons.specs.Reasons.{HasReason, Stores, Overwrote, last_reason}
-use Rattle.history_reasons.specs.Log.{IsLogOf, noted_stores, noted_loads, told_stores, noted_places, IsNoted, IsCounted, IsShortened, forgotten, left_stores, has_all, of_store, part_reason, kept_reason, told_reason, IsTrueOf, idle, kept_sources, told_sources, kept_at_request, told_at_request}
+use Rattle.history_reasons.specs.Log.{IsLogOf, noted_stores, noted_loads, told_stores, noted_places, told_loads, IsNoted, IsCounted, IsShortened, forgotten, left_stores, has_all, of_store, part_reason, kept_reason, told_reason, IsTrueOf, idle, kept_sources, told_sources, kept_at_request, told_at_request}
 use Rattle.history_reasons.specs.declared.givers.Source.TheVariants.{Store}
 use Rattle.history_reasons.specs.Sources.{givers, sources, at_request}
 use Rattle.history_reasons.specs.Places.{AreFound}
+use Rattle.history_reasons.specs.Loads.{all_bytes_of}
 use Rattle.history_reasons.proofs.Found.{all_ended, none_found, request_found, answer_found, rest_found}
+use Rattle.history_reasons.proofs.LoadLemmas.{bytes_noted}
 use Rattle.history_reasons.proofs.Reasons.{last_behind, reason_law}
 use Rattle.history_reasons.proofs.GiverLemmas.{some_source}
 
@@ -51,7 +53,7 @@ opened g image rest a b c d e f = record {
   image = a;
   rest = b;
   moment = c;
-  loads = e;
+  loads = ap all_bytes_of e;
   stores = d;
   is_whole = f;
   found = subst (AreFound g.places.items) (sym d) (none_found g.places.items);
@@ -65,7 +67,7 @@ same_log g h w k image rest moment stores places loads is_whole = record {
   image = image ∙ k.image;
   rest = rest ∙ k.rest;
   moment = moment ∙ k.moment;
-  loads = loads ∙ k.loads;
+  loads = ap all_bytes_of loads ∙ k.loads;
   stores = stores ∙ k.stores;
   is_whole = is_whole ∙ k.is_whole;
   found = subst (AreFound h.places.items) (sym stores) (subst (λ ps. AreFound ps g.stores.items) (sym places) k.found);
@@ -170,7 +172,8 @@ noted g m f h w event few k n s c =
       image = c.image ∙ s.image ∙ n.image ∙ k.image;
       rest = c.rest ∙ s.rest ∙ n.rest ∙ k.rest;
       moment = omega arith;
-      loads = c.loads ∙ s.loads ∙ n.loads ∙ (λ i. noted_loads (k.loads i) (k.moment i) event) ∙ sym (loads_noted w event);
+      loads = ap all_bytes_of (c.loads ∙ s.loads ∙ n.loads) ∙ bytes_noted g.loads.items g.moment event
+          ∙ (λ i. noted_loads (k.loads i) (k.moment i) event) ∙ sym (loads_noted w event);
       stores = c.stores ∙ s.stores ∙ ap left_stores all ∙ still_left w.stores (noted_stores w.stores w.moment event) more
           ∙ ap left_stores (sym same);
       is_whole = c.is_whole ∙ s.is_whole ∙ (λ i. (n.is_whole ∙ k.is_whole) i && (forgotten (long i) == 0))
@@ -187,7 +190,7 @@ idled g h w few k c =
       image = c.image ∙ k.image;
       rest = c.rest ∙ k.rest;
       moment = omega arith;
-      loads = c.loads ∙ k.loads;
+      loads = ap all_bytes_of c.loads ∙ k.loads;
       stores = c.stores ∙ k.stores;
       is_whole = c.is_whole ∙ k.is_whole;
       found = subst (AreFound h.places.items) (sym c.stores) (subst (λ ps. AreFound ps g.stores.items) (sym c.places) k.found);
@@ -210,7 +213,7 @@ kept_short g f w k s =
       image = s.image ∙ k.image;
       rest = s.rest ∙ k.rest;
       moment = s.moment ∙ k.moment;
-      loads = s.loads ∙ k.loads;
+      loads = ap all_bytes_of s.loads ∙ k.loads;
       stores = s.stores ∙ ap (λ n. drop n g.stores.items) none ∙ k.stores;
       is_whole = s.is_whole ∙ ap (λ n. g.is_whole && (n == 0)) none ∙ and_true g.is_whole ∙ k.is_whole;
       found = subst (AreFound f.places.items) (sym s.stores) (subst (λ ps. AreFound ps (left_stores g.stores.items)) (sym s.places)

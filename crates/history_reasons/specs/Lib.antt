@@ -1,6 +1,7 @@
 pub mod Reasons
 pub mod Sources
 pub mod Places
+pub mod Loads
 pub mod Log
 pub mod Units
 pub mod Examples

@@ -17,6 +17,8 @@ use Rattle.history_reasons.specs.declared.givers.Source.{Source}
 use Rattle.history_reasons.specs.declared.givers.Source.TheVariants.{Store}
 use Rattle.history_reasons.specs.Sources.{givers, sources, at_request}
 use Rattle.history_reasons.specs.Places.{AreFound, is_place_of, ended_at, moved_down}
+use Rattle.history_reasons.specs.declared.loads.OpenLoad.{OpenLoad}
+use Rattle.history_reasons.specs.Loads.{all_bytes_of, without_load}
 
 -- so many bytes of stores are forgotten at a time, and so many are left at least
 abbrev pub kept_bytes : ℕ
@@ -40,7 +42,7 @@ pub record IsLogOf (g : StoreLog) (w : Windows) : Type 0 where
   pub image : g.image.items ≡ w.image
   pub rest : g.rest ≡ w.rest
   pub moment : g.moment ≡ w.moment
-  pub loads : g.loads.items ≡ w.loads
+  pub loads : all_bytes_of g.loads.items ≡ w.loads
   pub stores : g.stores.items ≡ left_stores w.stores
   pub is_whole : g.is_whole ≡ has_all w.stores
   pub found : AreFound g.places.items g.stores.items
@@ -59,7 +61,7 @@ is_within (StoreResponse number) = true
 -- there is room for what one event adds
 abbrev pub HasRoom : StoreLog → Type 0
 HasRoom g = (vec_len g.stores + 64 ≤ vec_capacity g.stores)
-    × ((vec_len g.places + 1 ≤ vec_capacity g.places) × (vec_len g.loads + 64 ≤ vec_capacity g.loads))
+    × ((vec_len g.places + 1 ≤ vec_capacity g.places) × (vec_len g.loads + 1 ≤ vec_capacity g.loads))
 
 -- the bytes of stores and of open loads, once an event of this moment is noted
 abbrev pub noted_stores : List StoreByte → ℕ → HistoryEvent → List StoreByte
@@ -83,6 +85,12 @@ noted_places places stores (StoreRequest number address bytes enables) =
 noted_places places stores (StoreResponse number) = filter (λ p. not (is_place_of number p)) places
 noted_places places stores event = places
 
+abbrev pub told_loads : List OpenLoad → ℕ → HistoryEvent → List OpenLoad
+told_loads loads moment (LoadRequest number address n) =
+    loads ++ (record { number = number; address = address; length = n; began = moment }) ∷ []
+told_loads loads moment (LoadResponse number bytes) = without_load number loads
+told_loads loads moment event = loads
+
 -- an event was noted, but for the count of events
 pub record IsNoted (g : StoreLog) (event : HistoryEvent) (h : StoreLog) : Type 0 where
   pub image : h.image.items ≡ g.image.items
@@ -91,7 +99,7 @@ pub record IsNoted (g : StoreLog) (event : HistoryEvent) (h : StoreLog) : Type 0
   pub is_whole : h.is_whole ≡ g.is_whole
   pub stores : h.stores.items ≡ told_stores g.places.items g.stores.items g.moment event
   pub places : h.places.items ≡ noted_places g.places.items g.stores.items event
-  pub loads : h.loads.items ≡ noted_loads g.loads.items g.moment event
+  pub loads : h.loads.items ≡ told_loads g.loads.items g.moment event
 
 -- one event more is counted, unless there are as many as can be counted
 pub record IsCounted (g : StoreLog) (h : StoreLog) : Type 0 where

@@ -7,6 +7,7 @@ ghost use Rattle.memory_histories.specs.Regular.{MayReturn, may_return_byte, ove
 ghost use Rattle.history_reasons.specs.Reasons.{HasReason, stores_byte, covers, last_that, last_reason};
 
 mod givers;
+mod loads;
 mod log;
 mod places;
 mod units;

@@ -1,25 +1,26 @@
 //! The stores and the open loads of a history as it goes, to say why a byte is wrong.
 
-ghost use Rattle.std.specs.Prelude.{◌≡◌, ◌+◌, ◌≤◌, ◌<◌, ◌^◌, ◌↔◌, ◌++◌, true, false, None, not, vec_len, vec_capacity, IfOk, OnOk, IfSome, length};
-ghost use Rattle.std.specs.List.{filter, find};
+ghost use Rattle.std.specs.Prelude.{◌≡◌, ◌≤◌, ◌<◌, ◌↔◌, true, false, None, vec_len, drop, IfOk, OnOk, IfSome, length};
+ghost use Rattle.std.specs.List.{find};
+ghost use Rattle.std.specs.Option.{option_map};
 ghost use Rattle.memory_histories.specs.declared.events.HistoryEvent.TheVariants.{StoreRequest, StoreResponse};
-ghost use Rattle.memory_histories.specs.Windows.{Windows, opening, windows_after, load_bytes, is_of, is_at};
+ghost use Rattle.memory_histories.specs.Windows.{Windows, opening, windows_after, is_at};
 ghost use Rattle.memory_histories.specs.Regular.{MayReturn, is_inside};
 ghost use Rattle.history_reasons.specs.Log.{IsLogOf, is_within, HasRoom, IsNoted, IsCounted, IsShortened, forgotten, has_all, of_store, part_reason, kept_reason, told_reason, IsTrueOf, idle, kept_sources, told_sources, kept_at_request, told_at_request};
+ghost use Rattle.history_reasons.specs.Loads.{asks_for, byte_at};
 
 use crate::givers::{Source, add_givers, at_request, sources};
+use crate::loads::{OpenLoad, end_load, load_at};
 use crate::places::{StorePlace, end_at, end_place, move_down};
 use crate::{Reason, last_reason};
-use memory_histories::{
-    HistoryEvent, LoadByte, MAX_LENGTH, Rest, StoreByte, add_store, is_at, is_inside, is_of,
-};
+use memory_histories::{HistoryEvent, LoadByte, MAX_LENGTH, Rest, StoreByte, add_store, is_inside};
 use std::alloc::{AllocError, Global};
 
 /// How many bytes of stores a log forgets at a time, the first ones, once it has twice as many: so while fewer
 /// than 8,192 were stored it has all, and then the last 4,096 to 8,191.
 pub const KEPT_BYTES: usize = 4096;
 
-/// The bytes of the stores of a history and of its open loads, with the events that requested and answered
+/// The bytes of the stores of a history, and its open loads, with the events that requested and answered
 /// them, counted from 0. The first stores are forgotten, so that a log has always fewer than twice
 /// [`KEPT_BYTES`] of them.
 #[derive(Drop)]
@@ -29,7 +30,7 @@ pub struct StoreLog {
     moment: u64,
     stores: Vec<StoreByte>,
     places: Vec<StorePlace>,
-    loads: Vec<LoadByte>,
+    loads: Vec<OpenLoad>,
     is_whole: bool,
 }
 
@@ -61,7 +62,7 @@ impl StoreLog {
     {
         self.stores.reserve(MAX_LENGTH)?;
         self.places.reserve(1)?;
-        self.loads.reserve(MAX_LENGTH)
+        self.loads.reserve(1)
     }
 
     /// Notes an event of the history. The events have numbers of their own as long as fewer than 2^64 are
@@ -102,7 +103,7 @@ impl StoreLog {
     {
         let count = forgotten(self.stores.len());
         if count > 0 {
-            self.stores.drain(..count);
+            drop_first(&mut self.stores, count);
             move_down(self.places.as_mut_slice(), count);
             self.is_whole = false;
         }
@@ -134,7 +135,12 @@ impl StoreLog {
                 number,
                 address,
                 length,
-            } => add_load(&mut self.loads, number, address, length, self.moment),
+            } => self.loads.push_reserved(OpenLoad {
+                number,
+                address,
+                length,
+                began: self.moment,
+            }),
             HistoryEvent::LoadResponse { number, bytes: _ } => end_load(&mut self.loads, number),
             HistoryEvent::StoreRequest {
                 number,
@@ -189,7 +195,7 @@ impl StoreLog {
     }
 
     fn kept_load(&self, number: u64, address: u64) -> Option<LoadByte>
-        ensures { result ≡ find (is_at number address) self.now.loads.items }
+        ensures { result ≡ option_map (byte_at address) (find (asks_for number address) self.now.loads.items) }
     {
         load_at(self.loads.as_slice(), number, address)
     }
@@ -328,6 +334,17 @@ fn forgotten(length: usize) -> usize
     KEPT_BYTES * (length / KEPT_BYTES).saturating_sub(1)
 }
 
+// The first of them go. They are moved at once, where `drain` would turn the list round three times.
+#[tactic(auto, using(crate::proofs::Found::copied_down))]
+fn drop_first(stores: &mut Vec<StoreByte>, count: usize)
+    requires { count ≤ vec_len stores.old }
+    ensures { stores.new.items ≡ drop count stores.old.items }
+{
+    let left = stores.len() - count;
+    stores.copy_within(count.., 0);
+    stores.truncate(left);
+}
+
 // Whether an operation that an event requests lies within memory.
 fn is_within(event: HistoryEvent) -> bool
     ensures { result ≡ is_within event.entry }
@@ -350,36 +367,4 @@ fn is_within(event: HistoryEvent) -> bool
         } => true,
         HistoryEvent::StoreResponse { number: _ } => true,
     }
-}
-
-// The byte at this address of the load that is open under this number.
-fn load_at(loads: &[LoadByte], number: u64, address: u64) -> Option<LoadByte>
-    ensures { result ≡ find (is_at number address) loads.now }
-{
-    loads
-        .iter()
-        .copied()
-        .find(|load| is_at(load, number, address))
-}
-
-// Adds the bytes of a load that is requested at this moment.
-fn add_load(loads: &mut Vec<LoadByte>, number: u64, address: u64, length: usize, moment: u64)
-    requires room { vec_len loads.old + length ≤ vec_capacity loads.old }
-    requires inside { address + length ≤ 2 ^ 64 }
-    ensures { loads.new.items ≡ loads.old.items ++ load_bytes number address length moment }
-{
-    for k in 0..length {
-        loads.push_reserved(LoadByte {
-            number,
-            address: address + k as u64,
-            began: moment,
-        });
-    }
-}
-
-// No load is open under this number from now on.
-fn end_load(loads: &mut Vec<LoadByte>, number: u64)
-    ensures { loads.new.items ≡ filter (λ l. not (is_of number l)) loads.old.items }
-{
-    loads.retain(|load| !is_of(load, number));
 }

@@ -48,21 +48,16 @@ fn end_store(stores: &mut [StoreByte], number: u64, moment: u64)
     ensures { stores.new ≡ map (after_response number moment) stores.old }
 {
     for store in stores.iter_mut() {
-        *store = after_response(*store, number, moment);
+        end_byte(store, number, moment);
     }
 }
 
-// A byte after the response of the store that is open under this number.
-fn after_response(store: StoreByte, number: u64, moment: u64) -> StoreByte
-    ensures { result ≡ after_response number moment store }
+// A byte of the store that is open under this number is answered at this moment; any other stays.
+fn end_byte(store: &mut StoreByte, number: u64, moment: u64)
+    ensures { store.new ≡ after_response number moment store.old }
 {
     if store.ended.is_none() && store.number == number {
-        StoreByte {
-            ended: Some(moment),
-            ..store
-        }
-    } else {
-        store
+        store.ended = Some(moment);
     }
 }
 
