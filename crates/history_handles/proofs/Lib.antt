@@ -8,3 +8,5 @@ pub mod Within
 -- how C is told
 pub mod Telling
 pub mod Whys
+-- the operations that are open
+pub mod OpenRows

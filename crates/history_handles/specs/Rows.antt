@@ -1,5 +1,11 @@
--- Sets of bytes as rows.
+-- Operations, and sets of bytes, as rows.
 use Rattle.std.specs.Prelude.{ℕ, ◌≡◌, ◌+◌, ◌*◌, ◌<◌, Bool, if◌then◌else◌, List, length, slice_index}
+use Rattle.history_reasons.specs.declared.open.OpenOperation.{OpenOperation}
+use Rattle.history_handles.specs.declared.rows.Operation.{Operation}
+
+-- an open operation
+abbrev pub row_of : OpenOperation → Operation
+row_of o = record { number = o.number; address = o.address; length = o.length }
 
 -- this weight for a byte that is in a set, else 0
 abbrev pub weight_in : (ℕ → Bool) → ℕ → ℕ → ℕ

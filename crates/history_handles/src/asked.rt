@@ -131,8 +131,8 @@ pub fn unanswered(
     let Some(history) = handle.take(alloc) else {
         return CLOSED;
     };
-    *loads = history.as_ref().loads.len() as u64;
-    *stores = history.as_ref().stores.len() as u64;
+    *loads = history.as_ref().open_load_count() as u64;
+    *stores = history.as_ref().open_store_count() as u64;
     handle.keep(history);
     DONE
 }
@@ -153,7 +153,7 @@ pub fn unanswered_load(
     let Some(history) = handle.take(alloc) else {
         return CLOSED;
     };
-    let found = history.as_ref().loads.get(n as usize).copied();
+    let found = history.as_ref().open_load(n as usize);
     handle.keep(history);
     told(found, operation)
 }
@@ -174,7 +174,7 @@ pub fn unanswered_store(
     let Some(history) = handle.take(alloc) else {
         return CLOSED;
     };
-    let found = history.as_ref().stores.get(n as usize).copied();
+    let found = history.as_ref().open_store(n as usize);
     handle.keep(history);
     told(found, operation)
 }

@@ -1,7 +1,7 @@
 //! A history with the operations that are open.
-ghost use Rattle.std.specs.Prelude.{◌≡◌, ◌<◌, true, None, Some, IfOk, IfErr, OnOk, OnErr, vec_len, vec_capacity};
+ghost use Rattle.std.specs.Prelude.{◌≡◌, ◌<◌, true, None, IfOk, IfErr, OnOk, OnErr, length, slice_get};
 ghost use Rattle.history_handles.specs.History.{Passes, has_units};
-ghost use Rattle.history_handles.specs.Session.{Session, session_opening, session_after, session_refusing, session_forgetting, loads_after, stores_after, without};
+ghost use Rattle.history_handles.specs.Session.{Session, session_opening, session_after, session_refusing, session_forgetting};
 ghost use Rattle.history_handles.specs.Kept.{JudgeFaultIs, IsFound, IsSetFound, ForgetFaultIs};
 ghost use Rattle.history_handles.specs.KeptSession.{IsKept};
 ghost use Rattle.history_handles.specs.Why.{reason_for, load_under, unit_bytes, is_atomic, is_together};
@@ -9,23 +9,21 @@ ghost use Rattle.history_reasons.specs.Log.{HasRoom};
 
 use crate::faults::{ForgetFault, JudgeFault};
 use crate::judge::{Judge, Law};
-use crate::rows::Operation;
+use crate::rows::{Operation, row_of};
 use atomic_histories::UnitSize;
 use history_reasons::{FoundReason, StoreLog};
 use memory_histories::{ByteSet, HistoryEvent, Rest};
 use std::alloc::{AllocError, Global};
 
-/// A history that is judged as it goes, with the operations that are open in the order of their requests.
+/// A history that is judged as it goes.
 #[derive(Drop)]
 pub struct OpenHistory {
     pub(crate) law: Law,
     pub(crate) judge: Judge,
-    pub(crate) loads: Vec<Operation>,
-    pub(crate) stores: Vec<Operation>,
     /// Where the unit begins for whose sake an answer was undecided, if none was taken and no unit was
     /// forgotten since.
     pub(crate) undecided: Option<u64>,
-    /// The stores and the open loads as they were seen.
+    /// The stores as they were seen, and the operations that are open.
     pub(crate) log: StoreLog,
 }
 
@@ -40,14 +38,10 @@ impl OpenHistory {
         ensures { IfOk result (λ m. IsKept m (session_opening law image.now rest)) }
     {
         let judge = Judge::new(alloc, law, image, rest)?;
-        let loads = Vec::new(alloc);
-        let stores = Vec::new(alloc);
         let log = StoreLog::new(alloc, image, rest)?;
         Ok(OpenHistory {
             law,
             judge,
-            loads,
-            stores,
             undecided: None,
             log,
         })
@@ -89,8 +83,6 @@ impl OpenHistory {
             return Err(self.fault_without_room(event));
         }
         self.judge.step(event)?;
-        note_load(&mut self.loads, event);
-        note_store(&mut self.stores, event);
         self.log.note(event);
         self.undecided = None;
         Ok(())
@@ -99,13 +91,44 @@ impl OpenHistory {
     // Makes room for what one event adds beside the judge.
     fn make_room(&mut self) -> Result<(), AllocError>
         ensures same { (s : Session) → IsKept self.old s → IsKept self.new s }
-        ensures loads { OnOk result (vec_len self.new.loads < vec_capacity self.new.loads) }
-        ensures stores { OnOk result (vec_len self.new.stores < vec_capacity self.new.stores) }
         ensures log { OnOk result (HasRoom self.new.log) }
     {
-        make_room(&mut self.loads)?;
-        make_room(&mut self.stores)?;
         self.log.make_room()
+    }
+
+    // How many loads are open.
+    pub(crate) fn open_load_count(&self) -> usize
+        ensures { (s : Session) → IsKept self.now s → result ≡ length s.loads }
+    {
+        self.log.open_load_count()
+    }
+
+    // How many stores are open.
+    pub(crate) fn open_store_count(&self) -> usize
+        ensures { (s : Session) → IsKept self.now s → result ≡ length s.stores }
+    {
+        self.log.open_store_count()
+    }
+
+    // The load at this place among those that are open, in the order of their requests.
+    pub(crate) fn open_load(&self, place: usize) -> Option<Operation>
+        ensures { (s : Session) → IsKept self.now s → result ≡ slice_get s.loads place }
+    {
+        row_of(self.log.open_load(place))
+    }
+
+    // The store at this place among those that are open, in the order of their requests.
+    pub(crate) fn open_store(&self, place: usize) -> Option<Operation>
+        ensures { (s : Session) → IsKept self.now s → result ≡ slice_get s.stores place }
+    {
+        row_of(self.log.open_store(place))
+    }
+
+    // The load that is open under a number.
+    fn load_under(&self, number: u64) -> Option<Operation>
+        ensures { (s : Session) → IsKept self.now s → result ≡ load_under s.loads number }
+    {
+        row_of(self.log.load_under(number))
     }
 
     // Of the bytes of the answer to the load that is open under this number, from a place on and within one unit, the first
@@ -116,7 +139,7 @@ impl OpenHistory {
             → s.seen.moment < 18446744073709551616
             → result ≡ reason_for s number bytes.now place }
     {
-        let load = load_under(self.loads.as_slice(), number)?;
+        let load = self.load_under(number)?;
         self.log
             .unit_reason(unit_bytes(self.law), number, load.address, bytes, place)
     }
@@ -207,67 +230,4 @@ fn is_atomic(law: Law) -> bool
     ensures { result ≡ is_atomic law }
 {
     matches!(law, Law::Atomic(_))
-}
-
-// The load that is open under a number.
-fn load_under(loads: &[Operation], number: u64) -> Option<Operation>
-    ensures { result ≡ load_under loads.now number }
-{
-    loads.iter().copied().find(|load| load.number == number)
-}
-
-// Makes room for one operation more.
-fn make_room(operations: &mut Vec<Operation>) -> Result<(), AllocError>
-    ensures same { operations.new.items ≡ operations.old.items }
-    ensures room { OnOk result (vec_len operations.new < vec_capacity operations.new) }
-{
-    operations.reserve(1)
-}
-
-// The loads that are open after an event.
-fn note_load(loads: &mut Vec<Operation>, event: HistoryEvent)
-    requires { vec_len loads.old < vec_capacity loads.old }
-    ensures { loads.new.items ≡ loads_after loads.old.items event.entry }
-{
-    match event {
-        HistoryEvent::LoadRequest {
-            number,
-            address,
-            length,
-        } => loads.push_reserved(Operation {
-            number,
-            address,
-            length: length as u64,
-        }),
-        HistoryEvent::LoadResponse { number, bytes: _ } => end_operation(loads, number),
-        _ => {}
-    }
-}
-
-// The stores that are open after an event.
-fn note_store(stores: &mut Vec<Operation>, event: HistoryEvent)
-    requires { vec_len stores.old < vec_capacity stores.old }
-    ensures { stores.new.items ≡ stores_after stores.old.items event.entry }
-{
-    match event {
-        HistoryEvent::StoreRequest {
-            number,
-            address,
-            bytes,
-            enables: _,
-        } => stores.push_reserved(Operation {
-            number,
-            address,
-            length: bytes.len() as u64,
-        }),
-        HistoryEvent::StoreResponse { number } => end_operation(stores, number),
-        _ => {}
-    }
-}
-
-// The operation of this number is open no longer.
-fn end_operation(operations: &mut Vec<Operation>, number: u64)
-    ensures { operations.new.items ≡ without number operations.old.items }
-{
-    operations.retain(|operation| operation.number != number);
 }

@@ -1,8 +1,10 @@
 //! What goes over as rows of plain numbers: operations, and sets of bytes.
 ghost use Rattle.std.specs.Prelude.{◌≡◌, ◌+◌, ◌*◌, ◌≤◌, length};
 ghost use Rattle.memory_histories.specs.Sets.{has};
-ghost use Rattle.history_handles.specs.Rows.{weight_in, octet, IsOctets};
+ghost use Rattle.std.specs.Option.{option_map};
+ghost use Rattle.history_handles.specs.Rows.{row_of, weight_in, octet, IsOctets};
 
+use history_reasons::OpenOperation;
 use memory_histories::ByteSet;
 
 /// An operation that is open: requested, and not yet answered.
@@ -15,6 +17,20 @@ pub struct Operation {
     pub address: u64,
     /// How many bytes it has.
     pub length: u64,
+}
+
+// An open operation as a row.
+pub(crate) fn row_of(operation: Option<OpenOperation>) -> Option<Operation>
+    ensures { result ≡ option_map row_of operation }
+{
+    match operation {
+        Some(open) => Some(Operation {
+            number: open.number,
+            address: open.address,
+            length: open.length as u64,
+        }),
+        None => None,
+    }
 }
 
 /// Why a load may not return a byte, or the bytes of a unit together. Of a store that isn't told number and event are 0.

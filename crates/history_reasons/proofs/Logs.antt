@@ -25,6 +25,7 @@ use Rattle.history_reasons.specs.Places.{AreFound}
 use Rattle.history_reasons.specs.Loads.{all_bytes_of}
 use Rattle.history_reasons.proofs.Found.{all_ended, none_found, request_found, answer_found, rest_found}
 use Rattle.history_reasons.proofs.LoadLemmas.{bytes_noted}
+use Rattle.history_reasons.proofs.OpenLemmas.{none_open, same_open, none_before, short_open}
 use Rattle.history_reasons.proofs.Reasons.{last_behind, reason_law}
 use Rattle.history_reasons.proofs.GiverLemmas.{some_source}
 
@@ -48,8 +49,8 @@ pub many : (n : ℕ) → 8192 ≤ n → 1 ≤ forgotten n
 many n h = let a = div-add-mod' n 4096 in omega arith
 
 pub opened : (g : StoreLog) (image : List ℕ) (rest : Rest) → g.image.items ≡ image → g.rest ≡ rest → g.moment ≡ 0 → g.stores.items ≡ []
-    → g.loads.items ≡ [] → g.is_whole ≡ true → IsLogOf g (opening image rest)
-opened g image rest a b c d e f = record {
+    → g.places.items ≡ [] → g.loads.items ≡ [] → g.is_whole ≡ true → IsLogOf g (opening image rest)
+opened g image rest a b c d p e f = record {
   image = a;
   rest = b;
   moment = c;
@@ -57,6 +58,7 @@ opened g image rest a b c d e f = record {
   stores = d;
   is_whole = f;
   found = subst (AreFound g.places.items) (sym d) (none_found g.places.items);
+  none_open = λ z. none_open g e p;
 }
 
 -- a log with the same lists is of the same history
@@ -71,6 +73,7 @@ same_log g h w k image rest moment stores places loads is_whole = record {
   stores = stores ∙ k.stores;
   is_whole = is_whole ∙ k.is_whole;
   found = subst (AreFound h.places.items) (sym stores) (subst (λ ps. AreFound ps g.stores.items) (sym places) k.found);
+  none_open = λ z. none_before g h (same_open g h loads places) (k.none_open z);
 }
 
 noted_behind : (xs : List StoreByte) (n moment : ℕ) (event : HistoryEvent) → n ≤ length xs
@@ -179,6 +182,7 @@ noted g m f h w event few k n s c =
       is_whole = c.is_whole ∙ s.is_whole ∙ (λ i. (n.is_whole ∙ k.is_whole) i && (forgotten (long i) == 0))
           ∙ still_all (length w.stores) (length (noted_stores w.stores w.moment event)) more ∙ ap has_all (sym same);
       found = subst (AreFound h.places.items) (sym c.stores) (subst (λ ps. AreFound ps f.stores.items) (sym c.places) left);
+      none_open = λ z. absurd (omega arith);
     }
 
 -- a moment is counted
@@ -194,6 +198,7 @@ idled g h w few k c =
       stores = c.stores ∙ k.stores;
       is_whole = c.is_whole ∙ k.is_whole;
       found = subst (AreFound h.places.items) (sym c.stores) (subst (λ ps. AreFound ps g.stores.items) (sym c.places) k.found);
+      none_open = λ z. absurd (omega arith);
     }
 
 and_true : (b : Bool) → (b && true) ≡ b
@@ -218,6 +223,7 @@ kept_short g f w k s =
       is_whole = s.is_whole ∙ ap (λ n. g.is_whole && (n == 0)) none ∙ and_true g.is_whole ∙ k.is_whole;
       found = subst (AreFound f.places.items) (sym s.stores) (subst (λ ps. AreFound ps (left_stores g.stores.items)) (sym s.places)
           (rest_found g.places.items g.stores.items (forgotten (length g.stores.items)) k.found));
+      none_open = λ z. none_before g f (short_open g f s) (k.none_open z);
     }
 
 -- an event that doesn't lie within memory is only counted

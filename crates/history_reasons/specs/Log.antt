@@ -19,6 +19,7 @@ use Rattle.history_reasons.specs.Sources.{givers, sources, at_request}
 use Rattle.history_reasons.specs.Places.{AreFound, is_place_of, ended_at, moved_down}
 use Rattle.history_reasons.specs.declared.loads.OpenLoad.{OpenLoad}
 use Rattle.history_reasons.specs.Loads.{all_bytes_of, without_load}
+use Rattle.history_reasons.specs.Open.{HasNoneOpen}
 
 -- so many bytes of stores are forgotten at a time, and so many are left at least
 abbrev pub kept_bytes : ℕ
@@ -46,6 +47,8 @@ pub record IsLogOf (g : StoreLog) (w : Windows) : Type 0 where
   pub stores : g.stores.items ≡ left_stores w.stores
   pub is_whole : g.is_whole ≡ has_all w.stores
   pub found : AreFound g.places.items g.stores.items
+  -- (which loads and stores are open is told event by event)
+  pub none_open : w.moment ≡ 0 → HasNoneOpen g
 
 -- a moment passes without an event
 abbrev pub idle : Windows → Windows
@@ -81,7 +84,7 @@ told_stores places stores moment event = noted_stores stores moment event
 
 abbrev pub noted_places : List StorePlace → List StoreByte → HistoryEvent → List StorePlace
 noted_places places stores (StoreRequest number address bytes enables) =
-    places ++ (record { number = number; first = length stores; most = length bytes.now }) ∷ []
+    places ++ (record { number = number; address = address; first = length stores; most = length bytes.now }) ∷ []
 noted_places places stores (StoreResponse number) = filter (λ p. not (is_place_of number p)) places
 noted_places places stores event = places
 

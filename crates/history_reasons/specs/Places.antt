@@ -33,4 +33,4 @@ ended_at (p ∷ ps) number moment stores =
 
 -- a place once so many bytes in front of it are forgotten
 abbrev pub moved_down : ℕ → StorePlace → StorePlace
-moved_down count p = record { number = p.number; first = p.first - count; most = p.most }
+moved_down count p = record { number = p.number; address = p.address; first = p.first - count; most = p.most }

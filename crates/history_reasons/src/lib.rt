@@ -9,12 +9,14 @@ ghost use Rattle.history_reasons.specs.Reasons.{HasReason, stores_byte, covers, 
 mod givers;
 mod loads;
 mod log;
+mod open;
 mod places;
 mod units;
 
 pub use givers::{Source, sources};
 pub use log::{KEPT_BYTES, StoreLog};
 use memory_histories::{LoadByte, Rest, StoreByte, is_before, is_initial, may_return};
+pub use open::OpenOperation;
 pub use units::FoundReason;
 
 /// Why a load may not return a byte. Which store is the last goes by the order of the requests.

@@ -8,6 +8,7 @@ ghost use Rattle.memory_histories.specs.Windows.{Windows, opening, windows_after
 ghost use Rattle.memory_histories.specs.Regular.{MayReturn, is_inside};
 ghost use Rattle.history_reasons.specs.Log.{IsLogOf, is_within, HasRoom, IsNoted, IsCounted, IsShortened, forgotten, has_all, of_store, part_reason, kept_reason, told_reason, IsTrueOf, idle, kept_sources, told_sources, kept_at_request, told_at_request};
 ghost use Rattle.history_reasons.specs.Loads.{asks_for, byte_at};
+ghost use Rattle.history_reasons.specs.Open.{HasSameOpen, HasOpenAfter};
 
 use crate::givers::{Source, add_givers, at_request, sources};
 use crate::loads::{OpenLoad, end_load, load_at};
@@ -29,8 +30,8 @@ pub struct StoreLog {
     rest: Rest,
     moment: u64,
     stores: Vec<StoreByte>,
-    places: Vec<StorePlace>,
-    loads: Vec<OpenLoad>,
+    pub(crate) places: Vec<StorePlace>,
+    pub(crate) loads: Vec<OpenLoad>,
     is_whole: bool,
 }
 
@@ -55,9 +56,10 @@ impl StoreLog {
 
     /// Makes room for what one event adds. `AllocError` says that there was too little memory. The log is of the
     /// same history after both.
-    #[tactic(auto, using(crate::proofs::Logs::same_log))]
+    #[tactic(auto, using(crate::proofs::Logs::same_log, crate::proofs::OpenLemmas::same_open))]
     pub fn make_room(&mut self) -> Result<(), AllocError>
         ensures same { (w : Windows) → IsLogOf self.old w → IsLogOf self.new w }
+        ensures open { HasSameOpen self.old self.new }
         ensures room { OnOk result (HasRoom self.new) }
     {
         self.stores.reserve(MAX_LENGTH)?;
@@ -79,6 +81,8 @@ impl StoreLog {
             → is_within event.entry ≡ false
             → IsLogOf self.old w
             → IsLogOf self.new (idle w) }
+        ensures open { is_within event.entry ≡ true → HasOpenAfter self.old event.entry self.new }
+        ensures still_open { is_within event.entry ≡ false → HasSameOpen self.old self.new }
     {
         self.note_bytes(event);
         self.forget();
@@ -162,6 +166,7 @@ impl StoreLog {
         let most = bytes.len();
         self.places.push_reserved(StorePlace {
             number,
+            address,
             first,
             most,
         });

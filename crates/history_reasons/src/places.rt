@@ -7,10 +7,11 @@ ghost use Rattle.history_reasons.specs.Places.{is_place_of, ended_from, ended_at
 
 use memory_histories::StoreByte;
 
-/// An open store: its bytes are among so many from this place on.
+/// An open store of so many bytes at most: those that are enabled stand from this place on.
 #[derive(Clone, Copy, PartialEq, Eq, Debug)]
 pub struct StorePlace {
     pub(crate) number: u64,
+    pub(crate) address: u64,
     pub(crate) first: usize,
     pub(crate) most: usize,
 }
@@ -81,8 +82,7 @@ fn moved_down(place: StorePlace, count: usize) -> StorePlace
     ensures { result ≡ moved_down count place }
 {
     StorePlace {
-        number: place.number,
         first: place.first.saturating_sub(count),
-        most: place.most,
+        ..place
     }
 }

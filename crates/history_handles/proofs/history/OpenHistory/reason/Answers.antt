@@ -7,16 +7,14 @@ use Rattle.history_handles.proofs.history.OpenHistory.reason.Goals as goal
 
 pub returns-in_err-load : goal.returns-in_err-load
 returns-in_err-load c s k few =
-    let none : load_under s.loads c.args.number ≡ None =
-    sym (c.load_under.ensures ∙ ap (λ loads. load_under loads c.args.number) (c.as_slice.ensures.value ∙ k.loads)) ∙ c.in_err-load.was in
+    let none : load_under s.loads c.args.number ≡ None = sym (c.load_under.ensures s k) ∙ c.in_err-load.was in
     c.from_residual.ensures
     ∙ sym (ap (λ (o : Option Operation). option_and_then (λ x. unit_reason s.seen (unit_bytes s.law) c.args.number x.address c.args.bytes.now
     c.args.place) o) none)
 
 pub returns : goal.returns
 returns c s k few =
-    let some : load_under s.loads c.args.number ≡ Some c.in_ok-load.load =
-    sym (c.load_under.ensures ∙ ap (λ loads. load_under loads c.args.number) (c.as_slice.ensures.value ∙ k.loads)) ∙ c.in_ok-load.was in
+    let some : load_under s.loads c.args.number ≡ Some c.in_ok-load.load = sym (c.load_under.ensures s k) ∙ c.in_ok-load.was in
     let size = c.unit_bytes.ensures.bytes ∙ ap unit_bytes k.law in
     c.unit_reason.ensures s.seen (k.log few)
     ∙ ap (λ n. unit_reason s.seen n c.args.number c.in_ok-load.load.address c.args.bytes.now c.args.place) size
