@@ -203,7 +203,8 @@ or_right true b h = refl
 or_right false b h = h
 
 pub request_found : (ps : List StorePlace) (xs : List StoreByte) (number a : ℕ) (bs : List ℕ) (e t : ℕ) → AreFound ps xs
-    → AreFound (ps ++ (record { number = number; address = a; first = length xs; most = length bs }) ∷ []) (xs ++ store_bytes number a bs e t)
+    → AreFound (ps ++ (record { number = number; address = a; first = length xs; most = length bs }) ∷ [])
+    (xs ++ store_bytes number a bs e t)
 request_found ps xs number a bs e t h k d l none =
     let added = store_bytes number a bs e t in
     let new : StorePlace = record { number = number; address = a; first = length xs; most = length bs } in
@@ -308,7 +309,8 @@ pub not_moved : (c : ℕ) (ps : List StorePlace) → c ≡ 0 → ps ≡ map (mov
 not_moved c [] e = refl
 not_moved c (p ∷ ps) e =
     let same : p.first ≡ p.first - c = omega arith in
-    ap₂ (λ (n : ℕ) (qs : List StorePlace). (record { number = p.number; address = p.address; first = n; most = p.most }) ∷ qs) same (not_moved c ps e)
+    ap₂ (λ (n : ℕ) (qs : List StorePlace). (record { number = p.number; address = p.address; first = n; most = p.most }) ∷ qs) same
+    (not_moved c ps e)
 
 -- the first are forgotten where those behind them are copied over them
 pub copied_down : (xs : List StoreByte) (c n : ℕ) → c ≤ length xs → n ≡ length xs → take (n - c) (copy_within xs c n 0) ≡ drop c xs

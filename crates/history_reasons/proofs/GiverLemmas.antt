@@ -1,5 +1,5 @@
 -- Where a load may get a byte from.
-use Rattle.std.proofs.Common.{◌≡◌, ℕ, zero, suc, ◌+◌, ◌<◌, ◌↔◌, ◌⊎◌, ◌&&◌, not, Bool, true, false, List, [], ◌∷◌, ◌++◌, map, length, slice_get, inl, inr, refl, sym, ap, subst, arith}
+use Rattle.std.proofs.Common.{◌≡◌, ℕ, zero, suc, ◌<◌, ◌↔◌, ◌⊎◌, ◌&&◌, not, Bool, true, false, List, [], ◌∷◌, map, length, slice_get, inl, inr, refl, sym, ap, subst, arith}
 use Rattle.std.specs.Bool.{Decides}
 use Rattle.std.specs.List.{Any, Contains, filter, list_any}
 use Rattle.std.proofs.lemmas.Bool.{cases_Bool}

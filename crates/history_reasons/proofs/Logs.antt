@@ -18,12 +18,12 @@ use Rattle.history_reasons.specs.declared.places.StorePlace.{StorePlace}
 use Rattle.history_reasons.specs.declared.Reason.{Reason}
 use Rattle.history_reasons.specs.declared.Reason.TheVariants.{NeverThere, InitialOverwritten, StoreOverwritten}
 use Rattle.history_reasons.specs.Reasons.{HasReason, Stores, Overwrote, last_reason}
-use Rattle.history_reasons.specs.Log.{IsLogOf, noted_stores, noted_loads, told_stores, noted_places, told_loads, IsNoted, IsCounted, IsShortened, forgotten, left_stores, has_all, of_store, part_reason, kept_reason, told_reason, IsTrueOf, idle, kept_sources, told_sources, kept_at_request, told_at_request}
+use Rattle.history_reasons.specs.Log.{IsLogOf, noted_stores, noted_loads, told_stores, noted_places, IsNoted, IsCounted, IsShortened, forgotten, left_stores, has_all, of_store, part_reason, kept_reason, told_reason, IsTrueOf, idle, kept_sources, told_sources, kept_at_request, told_at_request}
 use Rattle.history_reasons.specs.declared.givers.Source.TheVariants.{Store}
 use Rattle.history_reasons.specs.Sources.{givers, sources, at_request}
 use Rattle.history_reasons.specs.Places.{AreFound}
 use Rattle.history_reasons.specs.Loads.{all_bytes_of}
-use Rattle.history_reasons.proofs.Found.{all_ended, none_found, request_found, answer_found, rest_found}
+use Rattle.history_reasons.proofs.Found.{all_ended, none_found, request_found, answer_found, rest_found, not_moved}
 use Rattle.history_reasons.proofs.LoadLemmas.{bytes_noted}
 use Rattle.history_reasons.proofs.OpenLemmas.{none_open, same_open, none_before, short_open}
 use Rattle.history_reasons.proofs.Reasons.{last_behind, reason_law}
@@ -47,6 +47,24 @@ few n h = let a = div-add-mod' n 4096 in omega arith
 
 pub many : (n : ℕ) → 8192 ≤ n → 1 ≤ forgotten n
 many n h = let a = div-add-mod' n 4096 in omega arith
+
+and_true : (b : Bool) → (b && true) ≡ b
+and_true true = refl
+and_true false = refl
+
+-- few stores are all left
+pub not_shortened : (g : StoreLog) → length g.stores.items < 8192 → IsShortened g g
+not_shortened g h =
+    let none : forgotten (length g.stores.items) ≡ 0 = few (length g.stores.items) h in
+    record {
+      image = refl;
+      rest = refl;
+      moment = refl;
+      loads = refl;
+      stores = sym (ap (λ n. drop n g.stores.items) none);
+      places = not_moved (forgotten (length g.stores.items)) g.places.items none;
+      is_whole = sym (ap (λ n. g.is_whole && (n == 0)) none ∙ and_true g.is_whole);
+    }
 
 pub opened : (g : StoreLog) (image : List ℕ) (rest : Rest) → g.image.items ≡ image → g.rest ≡ rest → g.moment ≡ 0 → g.stores.items ≡ []
     → g.places.items ≡ [] → g.loads.items ≡ [] → g.is_whole ≡ true → IsLogOf g (opening image rest)
@@ -200,10 +218,6 @@ idled g h w few k c =
       found = subst (AreFound h.places.items) (sym c.stores) (subst (λ ps. AreFound ps g.stores.items) (sym c.places) k.found);
       none_open = λ z. absurd (omega arith);
     }
-
-and_true : (b : Bool) → (b && true) ≡ b
-and_true true = refl
-and_true false = refl
 
 -- of a log none is forgotten twice
 kept_short : (g f : StoreLog) (w : Windows) → IsLogOf g w → IsShortened g f → IsLogOf f w

@@ -1,5 +1,5 @@
 -- Which operations are open.
-use Rattle.std.proofs.Common.{◌≡◌, ℕ, ◌==◌, not, Bool, true, false, List, [], ◌∷◌, ◌++◌, map, length, Option, Some, None, inl, inr, refl, sym, ◌∙◌, ap, subst}
+use Rattle.std.proofs.Common.{◌≡◌, ℕ, ◌==◌, not, List, [], ◌∷◌, map, length, inl, inr, refl, sym, ◌∙◌, ap, subst}
 use Rattle.std.specs.Prelude.{slice_get}
 use Rattle.std.specs.List.{filter, find}
 use Rattle.std.specs.Option.{option_map}
@@ -16,7 +16,7 @@ use Rattle.history_reasons.specs.declared.places.StorePlace.{StorePlace}
 use Rattle.history_reasons.specs.Loads.{without_load}
 use Rattle.history_reasons.specs.Places.{is_place_of, moved_down}
 use Rattle.history_reasons.specs.Log.{told_loads, noted_places, IsNoted, IsShortened, IsCounted, forgotten}
-use Rattle.history_reasons.specs.Open.{load_operation, store_operation, open_loads, open_stores, operation_under, loads_then, stores_then, without_operation, HasNoneOpen, HasSameOpen, HasOpenAfter}
+use Rattle.history_reasons.specs.Open.{load_operation, store_operation, operation_under, loads_then, stores_then, without_operation, HasNoneOpen, HasSameOpen, HasOpenAfter}
 
 -- What is asked of them. ----
 

@@ -1,9 +1,8 @@
 -- Worked reasons, each checked by computing.
-use Rattle.std.specs.Prelude.{ℕ, ◌≡◌, List, [], ◌∷◌, Option, Some, None}
+use Rattle.std.specs.Prelude.{ℕ, ◌≡◌, [], ◌∷◌, Option, Some, None}
 use Rattle.std.proofs.Common.{refl}
 use Rattle.memory_histories.specs.declared.events.Rest.TheVariants.{Zeros}
 use Rattle.memory_histories.specs.declared.windows.StoreByte.{StoreByte}
-use Rattle.memory_histories.specs.declared.windows.LoadByte.{LoadByte}
 use Rattle.history_reasons.specs.declared.Reason.{Reason}
 use Rattle.history_reasons.specs.declared.Reason.TheVariants.{NeverThere, InitialOverwritten, StoreOverwritten}
 use Rattle.history_reasons.specs.Reasons.{last_reason}

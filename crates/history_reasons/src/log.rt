@@ -1,6 +1,6 @@
 //! The stores and the open loads of a history as it goes, to say why a byte is wrong.
 
-ghost use Rattle.std.specs.Prelude.{◌≡◌, ◌≤◌, ◌<◌, ◌↔◌, true, false, None, vec_len, drop, IfOk, OnOk, IfSome, length};
+ghost use Rattle.std.specs.Prelude.{◌≡◌, ◌*◌, ◌≤◌, ◌<◌, ◌↔◌, true, false, None, vec_len, drop, IfOk, OnOk, IfSome, length};
 ghost use Rattle.std.specs.List.{find};
 ghost use Rattle.std.specs.Option.{option_map};
 ghost use Rattle.memory_histories.specs.declared.events.HistoryEvent.TheVariants.{StoreRequest, StoreResponse};
@@ -101,16 +101,24 @@ impl StoreLog {
     }
 
     // Forgets the first stores, if there are too many.
-    #[tactic(auto, using(crate::proofs::Found::not_moved))]
     fn forget(&mut self)
         ensures { IsShortened self.old self.new }
     {
-        let count = forgotten(self.stores.len());
-        if count > 0 {
-            drop_first(&mut self.stores, count);
-            move_down(self.places.as_mut_slice(), count);
-            self.is_whole = false;
+        if self.stores.len() >= 2 * KEPT_BYTES {
+            self.forget_first();
         }
+    }
+
+    // Forgets the first stores.
+    #[tactic(auto, using(crate::proofs::Logs::many))]
+    fn forget_first(&mut self)
+        requires { 2 * KEPT_BYTES ≤ vec_len self.old.stores }
+        ensures { IsShortened self.old self.new }
+    {
+        let count = forgotten(self.stores.len());
+        drop_first(&mut self.stores, count);
+        move_down(self.places.as_mut_slice(), count);
+        self.is_whole = false;
     }
 
     fn count(&mut self)

@@ -1,4 +1,4 @@
-use Rattle.std.proofs.Common.{◌≡◌, ◌<◌, ◌↔◌, ◌++◌, ◌∙◌, map, length, ap, sym, subst}
+use Rattle.std.proofs.Common.{◌<◌, ◌↔◌, ◌++◌, ◌∙◌, map, length, ap, sym, subst}
 use Rattle.std.specs.List.{Contains}
 use Rattle.memory_histories.specs.Regular.{MayReturn}
 use Rattle.history_reasons.specs.declared.givers.Source.TheVariants.{Store}

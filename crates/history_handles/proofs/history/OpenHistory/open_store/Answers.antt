@@ -4,4 +4,5 @@ use Rattle.history_handles.proofs.history.OpenHistory.open_store.Goals as goal
 
 pub returns : goal.returns
 returns c s k =
-    nth c.open_store.result c.row_of.result (open_stores c.args.self.now.log) s.stores c.args.place c.open_store.ensures c.row_of.ensures k.stores
+    let rows = open_stores c.args.self.now.log in
+    nth c.open_store.result c.row_of.result rows s.stores c.args.place c.open_store.ensures c.row_of.ensures k.stores

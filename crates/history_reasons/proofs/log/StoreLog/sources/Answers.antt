@@ -1,6 +1,5 @@
-use Rattle.std.proofs.Common.{◌≡◌, ◌<◌, ◌↔◌, ◌∙◌, length, sym, subst}
+use Rattle.std.proofs.Common.{◌<◌, ◌↔◌, ◌∙◌, length, sym, subst}
 use Rattle.memory_histories.specs.Regular.{MayReturn}
-use Rattle.history_reasons.specs.Log.{told_sources}
 use Rattle.history_reasons.proofs.Logs.{log_names, names_all, if_ok}
 use Rattle.history_reasons.proofs.log.StoreLog.sources.Goals as goal
 
