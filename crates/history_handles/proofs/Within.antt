@@ -1,11 +1,10 @@
 -- An event of a law lies within memory.
-use Rattle.std.proofs.Common.{◌≡◌, ℕ, arith, Bool, true, false, Option, None, refl}
+use Rattle.std.proofs.Common.{◌≡◌, arith, Bool, true, false, None, refl}
 use Rattle.std.specs.Prelude.{length, ◌+◌, ◌<◌}
-use Rattle.std.specs.List.{list_any}
 use Rattle.memory_histories.specs.declared.events.HistoryEvent.{HistoryEvent}
 use Rattle.memory_histories.specs.declared.events.HistoryEvent.TheVariants.{LoadRequest, LoadResponse, StoreRequest, StoreResponse}
 use Rattle.memory_histories.specs.Windows.{Windows, windows_after}
-use Rattle.memory_histories.specs.Regular.{fault, is_inside, has_enabled, load_request_fault, store_request_fault}
+use Rattle.memory_histories.specs.Regular.{fault, is_inside, load_request_fault, store_request_fault}
 use Rattle.memory_histories.specs.Flat.{Flat, flat_fault}
 use Rattle.atomic_histories.specs.Operations.{Opened, form_fault}
 use Rattle.history_reasons.specs.declared.log.StoreLog.{StoreLog}

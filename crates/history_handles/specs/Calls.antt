@@ -1,13 +1,13 @@
 -- What the calls of a handle answer and leave, by the session behind it: `None` is a closed handle.
-use Rattle.std.specs.Prelude.{ℕ, ◌≡◌, ◌≢◌, ◌⊎◌, ◌==◌, Bool, true, false, if◌then◌else◌, List, length, Option, Some, None, Result, Ok, Err, slice_get}
+use Rattle.std.specs.Prelude.{ℕ, ◌≡◌, ◌⊎◌, ◌==◌, Bool, true, false, if◌then◌else◌, List, length, Option, Some, None, Result, Ok, Err, slice_get}
 use Rattle.std.specs.Option.{option_map}
 use Rattle.memory_histories.specs.declared.events.HistoryEvent.{HistoryEvent}
 use Rattle.memory_histories.specs.declared.events.HistoryFault.{HistoryFault}
-use Rattle.memory_histories.specs.declared.events.HistoryFault.TheVariants.{OutOfRange, NoByteEnabled, NumberInUse, NotOpen, WrongLength, WrongByte}
+use Rattle.memory_histories.specs.declared.events.HistoryFault.TheVariants.{WrongByte}
 use Rattle.memory_histories.specs.declared.sets.ByteSet.{ByteSet}
 use Rattle.memory_histories.specs.Sets.{has}
 use Rattle.history_handles.specs.declared.faults.JudgeFault.{JudgeFault}
-use Rattle.history_handles.specs.declared.faults.JudgeFault.TheVariants.{Refused, Undecided, TooLong, OutOfMemory}
+use Rattle.history_handles.specs.declared.faults.JudgeFault.TheVariants.{Refused}
 use Rattle.history_handles.specs.declared.handle.HistoryHandle.{HistoryHandle}
 use Rattle.history_handles.specs.declared.rows.Operation.{Operation}
 use Rattle.history_handles.specs.Behind.{IsBehind}
