@@ -1,5 +1,5 @@
 -- A store of one part alone, and a load that alone has its number.
-use Rattle.std.proofs.Common.{◌≡◌, ℕ, zero, suc, ◌+◌, ◌<◌, Bool, true, false, ◌&&◌, ◌||◌, not, List, [], ◌∷◌, ◌++◌, take, drop, length, get_or, Some, None, refl, sym, ap, ◌∙◌, inl, inr, arith, append-nil, add-one, drop-cons}
+use Rattle.std.proofs.Common.{◌≡◌, ℕ, zero, suc, ◌+◌, ◌<◌, Bool, true, false, ◌&&◌, ◌||◌, not, List, [], ◌∷◌, ◌++◌, take, drop, length, get_or, Some, None, refl, ap, ◌∙◌, inl, inr, arith, append-nil, add-one, drop-cons}
 use Rattle.std.specs.List.{All, filter, list_any, position}
 use Rattle.std.proofs.lemmas.Bool.{cases_Bool}
 use Rattle.std.proofs.lemmas.List.Elements.{All-nil, All-cons}
@@ -49,7 +49,8 @@ nothing = record { number = 0; unit = 0; lanes = []; began = 0; ended = None }
 pub only : (n : ℕ) (ps : List StorePart) (k : ℕ) → position (is_open_part n) ps ≡ Some k → list_any (is_open_part n) (drop (k + 1) ps) ≡ false → IsOnly n ps k
 only n ps k e f = only_place (is_open_part n) ps k nothing e f
 
-pub only_load : (n : ℕ) (os : List OpenLoad) (k : ℕ) → position (is_load_of n) os ≡ Some k → list_any (is_load_of n) (drop (k + 1) os) ≡ false → IsOnlyLoad n os k
+pub only_load : (n : ℕ) (os : List OpenLoad) (k : ℕ) → position (is_load_of n) os ≡ Some k
+    → list_any (is_load_of n) (drop (k + 1) os) ≡ false → IsOnlyLoad n os k
 only_load n [] k e f = cc
 only_load n (o ∷ os) k e f = only_place (is_load_of n) (o ∷ os) k o e f
 
@@ -70,14 +71,16 @@ any_both q r (x ∷ xs) = elim (cases_Bool (q x)) [
   | inr e ↦ rw e (any_both q r xs)
 ]
 
-pub only_open : (n : ℕ) (ps : List StorePart) (k : ℕ) (d : StorePart) → IsOnly n ps k → list_any (is_open n) (parts_bytes ps) ≡ has_lane (get_or ps k d)
+pub only_open : (n : ℕ) (ps : List StorePart) (k : ℕ) (d : StorePart) → IsOnly n ps k
+    → list_any (is_open n) (parts_bytes ps) ≡ has_lane (get_or ps k d)
 only_open n ps k d h =
     let one : take 1 (drop k ps) ≡ get_or ps k d ∷ [] = ap (take 1) (drop-cons ps k d h.0) in
     any_open n ps
     ∙ (any_both (is_open_part n) has_lane ps ∙ (ap (list_any has_lane) (h.1.0 ∙ one) ∙ or_false (has_lane (get_or ps k d))))
 
 -- the bytes of the load, and those of the others
-pub only_load_bytes : (n : ℕ) (os : List OpenLoad) (k : ℕ) (d : OpenLoad) → IsOnlyLoad n os k → filter (is_open_of n) (loads_open os) ≡ load_open (get_or os k d)
+pub only_load_bytes : (n : ℕ) (os : List OpenLoad) (k : ℕ) (d : OpenLoad) → IsOnlyLoad n os k
+    → filter (is_open_of n) (loads_open os) ≡ load_open (get_or os k d)
 only_load_bytes n os k d h =
     let one : take 1 (drop k os) ≡ get_or os k d ∷ [] = ap (take 1) (drop-cons os k d h.0) in
     filter_loads n os ∙ (ap loads_open (h.1.0 ∙ one) ∙ append-nil (load_open (get_or os k d)))

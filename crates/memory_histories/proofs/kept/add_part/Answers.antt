@@ -1,4 +1,4 @@
-use Rattle.std.proofs.Common.{◌≡◌, ◌++◌, ◌∷◌, [], ◌∙◌, map, length, get_or, ap, sym, rules}
+use Rattle.std.proofs.Common.{◌≡◌, ◌++◌, ◌∷◌, [], ◌∙◌, map, length, get_or, ap, rules}
 use Rattle.std.proofs.Math.Seq.{get_or-append_seam}
 use Rattle.memory_histories.specs.Kept.{after_stores}
 use Rattle.memory_histories.specs.Parts.{part_bytes}

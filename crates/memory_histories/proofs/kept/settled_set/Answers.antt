@@ -1,4 +1,4 @@
-use Rattle.std.proofs.Common.{◌≡◌, ℕ, suc, ◌+◌, ◌-◌, ◌<◌, ◌∙◌, List, [], Option, None, Some, slice_get, take, drop, length, length-drop, drop-cons, add-one, get_or, sym, arith}
+use Rattle.std.proofs.Common.{◌≡◌, ℕ, suc, ◌+◌, ◌-◌, ◌<◌, ◌∙◌, List, [], None, Some, slice_get, take, drop, length, length-drop, drop-cons, add-one, get_or, sym, arith}
 use Rattle.std.proofs.lemmas.List.{take_all, drop_all}
 use Rattle.memory_histories.specs.declared.parts.StorePart.{StorePart}
 use Rattle.memory_histories.specs.declared.sets.ByteSet.{ByteSet}
@@ -41,7 +41,8 @@ returns-in-Some c =
     let all : take (length ps - (k + 1)) behind ≡ behind = take_all (length ps - (k + 1)) behind (omega arith) in
     let there : part_at (get_or ps k nothing) x ≡ Some b = (rw c.from.ensures at (sym c.part_at.ensures ∙ c.in-Some.is)) in
     let told : c.with_parts.result ≡ with_stores (parts_bytes (take (length ps - (k + 1)) behind)) x c.with.result = c.with_parts.ensures in
-    let left : c.with_parts.result ≡ with_stores (parts_bytes behind) x (with_byte no_bytes b) = (rw (all, c.with.ensures, c.none.ensures) at told) in
+    let left : c.with_parts.result ≡ with_stores (parts_bytes behind) x (with_byte no_bytes b) =
+    (rw (all, c.with.ensures, c.none.ensures) at told) in
     left ∙ (here ps k nothing x b first c.loop-k-test.true there ∙ c.loop-k.invariant)
 
 pub returns : goal.returns

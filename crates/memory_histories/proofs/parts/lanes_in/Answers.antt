@@ -1,13 +1,14 @@
 use Rattle.std.proofs.Common.{◌≡◌, ℕ, zero, suc, ◌+◌, ◌*◌, ◌∷◌, ◌==◌, if◌then◌else◌, ◌∙◌, List, Option, None, map, slice_get, true, refl, sym, ap, ap₂, arith, rules}
 use Rattle.std.specs.Int.{bit_at}
 use Rattle.std.specs.List.{range_with_len}
-use Rattle.memory_histories.specs.Parts.{lane_at, lanes_of, unit_lanes}
+use Rattle.memory_histories.specs.Parts.{lane_at, lanes_of}
 use Rattle.memory_histories.proofs.Lanes.{lane_stored}
 use Rattle.memory_histories.proofs.parts.lanes_in.Goals as goal
 
 -- the lanes from the first byte of a store on
 lanes_from : (a : ℕ) (bs : List ℕ) (e n k : ℕ)
-    → map (λ i. if bit_at e i == 1 then slice_get bs i else None) (range_with_len k n) ≡ map (lane_at a (lanes_of bs e)) (range_with_len (a + k) n)
+    → map (λ i. if bit_at e i == 1 then slice_get bs i else None) (range_with_len k n)
+    ≡ map (lane_at a (lanes_of bs e)) (range_with_len (a + k) n)
 lanes_from a bs e zero k = refl
 lanes_from a bs e (suc n) k =
     let next : a + (k + 1) ≡ a + k + 1 = omega arith in
