@@ -8,3 +8,5 @@ pub mod StationRunning
 pub mod Ending
 pub mod Crossing
 pub mod Segmenting
+pub mod Piecing
+pub mod RunningOn

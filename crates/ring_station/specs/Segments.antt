@@ -1,13 +1,23 @@
--- What a run and the renewal behind it make of a station.
-use Rattle.std.specs.Prelude.{◌≡◌, ℕ, ◌<◌, ◌++◌, false, List, [], length, slice_index_or}
+-- What a run and the renewal behind it make of a station, and what many of them make of it.
+use Rattle.std.specs.Prelude.{◌≡◌, ℕ, zero, suc, ◌+◌, ◌*◌, ◌<◌, max, ◌⊎◌, ◌++◌, false, List, [], ◌∷◌, map, take, drop, length, slice_index_or}
 use Rattle.std.specs.Global.{Vec}
+use Rattle.std.specs.Int.{div_ceil}
+use Rattle.std.specs.List.{All, fold, flat_map}
 use Rattle.station_journal.specs.declared.asks.Ask.{Ask}
 use Rattle.station_journal.specs.declared.asks.Told.{Told}
 use Rattle.station_journal.specs.declared.journal.Entry.{Entry}
 use Rattle.station_journal.specs.Conversation.{Converses}
 use Rattle.station_parts.specs.declared.port.Port.{Port}
 use Rattle.station_parts.specs.declared.parts.CacheSide.{CacheSide}
+use Rattle.station_parts.specs.declared.parts.Station.{Station}
+use Rattle.station_parts.specs.Ids.{port_id}
 use Rattle.station_parts.specs.Words.{offered, offered_before, taken, has_ended, earlier_of, held_of}
+use Rattle.ring_station.specs.declared.fault.RunFault.TheVariants.{OutOfMemory}
+use Rattle.ring_station.specs.declared.fault.SegmentFault.{SegmentFault}
+use Rattle.ring_station.specs.declared.fault.SegmentFault.TheVariants.{Run}
+use Rattle.ring_station.specs.declared.segment.Segment.{Segment}
+
+-- ---- one run
 
 -- between these two the port offered its whole script, then Done, and took these tellings; and it may offer again
 pub record HasRunOn (script : List Ask) (first port : Port) (list : List Told) : Type 0 where
@@ -28,3 +38,114 @@ pub record HaveRunOn (scripts : List (Vec Ask)) (old new : List Port) (lists : L
 pub record HandsOut {W B R D : ℕ} (old new : CacheSide W B R D) (segment : List Entry) : Type 0 where
   pub earlier : earlier_of new ≡ earlier_of old ++ segment
   pub held : held_of new ≡ []
+
+-- ---- one of many runs: of each script the next so many asks, behind those that were run before
+
+abbrev pub piece_behind : ℕ → ℕ → List Ask → List Ask
+piece_behind begin asks script = take asks (drop begin script)
+
+-- each port ran the next piece of its script, and its list in the segment is what it took
+pub record HaveRunNext (begin asks : ℕ) (scripts : List (Vec Ask)) (old new : List Port) (segment : Segment) : Type 0 where
+  pub number : length segment.lists.items ≡ length old
+  pub each : (p : ℕ) (s : Vec Ask) (d : Port) (l : Vec Told) → p < length old
+      → HasRunOn (piece_behind begin asks (slice_index_or scripts p s).items) (slice_index_or old p d) (slice_index_or new p d)
+      (slice_index_or segment.lists.items p l).items
+
+-- and the segment was handed out
+pub record HandsOutNext {W B R D : ℕ} (begin asks : ℕ) (scripts : List (Vec Ask)) (old new : Station W B R D) (segment : Segment) : Type 0
+  where
+    pub ran : HaveRunNext begin asks scripts old.ports.items new.ports.items segment
+    pub journal : HandsOut old.cache new.cache segment.journal.items
+
+-- and kept
+pub record RunsNext {W B R D : ℕ} (begin asks : ℕ) (scripts : List (Vec Ask)) (old new : Station W B R D) (kept kept' : List Segment) : Type 0
+  where
+    pub segment : Segment
+    pub kept_is : kept' ≡ kept ++ segment ∷ []
+    pub handed_out : HandsOutNext begin asks scripts old new segment
+
+-- nothing was kept: nothing was handed out, or what was handed out found no memory
+pub record StopsNext {W B R D : ℕ} (begin asks : ℕ) (scripts : List (Vec Ask)) (old new : Station W B R D) (kept kept' : List Segment)
+    (fault : SegmentFault) : Type 0
+  where
+    pub kept_is : kept' ≡ kept
+    pub handed_out : (earlier_of new.cache ≡ earlier_of old.cache)
+        ⊎ ((segment : Segment) × (HandsOutNext begin asks scripts old new segment × (fault ≡ Run OutOfMemory)))
+
+-- ---- many runs, with a renewal behind each
+
+-- the first pieces of a script, so many: each has so many asks, as long as there are as many left
+abbrev pub pieces_of : ℕ → List Ask → ℕ → List (List Ask)
+pieces_of asks script zero = []
+pieces_of asks script (suc number) = take asks script ∷ pieces_of asks (drop asks script) number
+
+-- one behind the other
+abbrev pub joined : {A : Type 0} → List (List A) → List A
+joined lists = flat_map (λ list. list) lists
+
+-- each piece with what was offered and taken of it
+abbrev pub EachConverses : List (List Ask) → List (List Ask) → List (List Told) → Type 0
+EachConverses [] [] [] = Unit {0}
+EachConverses (piece ∷ pieces) (said ∷ more) (list ∷ lists) = Converses piece said list × EachConverses pieces more lists
+EachConverses pieces said lists = ⊥
+
+-- between these two the port offered these pieces, each to its end and Done behind it, and took of each one of these lists
+pub record HasRunPieces (pieces : List (List Ask)) (first port : Port) (lists : List (List Told)) : Type 0 where
+  pub said : List (List Ask)
+  pub converses : EachConverses pieces said lists
+  pub offered_is : offered port ≡ offered first ++ joined said
+  pub taken_is : taken port ≡ taken first ++ joined lists
+
+-- what the port of a number took in each of these segments, and all their journals
+abbrev pub lists_at : ℕ → Vec Told → List Segment → List (List Told)
+lists_at p l segments = map (λ segment. (slice_index_or segment.lists.items p l).items) segments
+
+abbrev pub journals_of : List Segment → List Entry
+journals_of segments = flat_map (λ segment. segment.journal.items) segments
+
+-- in these segments each port ran as many pieces of its script
+pub record HaveRunPieces (asks : ℕ) (scripts : List (Vec Ask)) (old new : List Port) (segments : List Segment) : Type 0 where
+  pub listed : All (λ segment. length segment.lists.items ≡ length old) segments
+  pub each : (p : ℕ) (s : Vec Ask) (d : Port) (l : Vec Told) → p < length old
+      → HasRunPieces (pieces_of asks (slice_index_or scripts p s).items (length segments)) (slice_index_or old p d) (slice_index_or new p d)
+      (lists_at p l segments)
+
+-- into how many pieces the longest script is cut, and one if no script has an ask
+abbrev pub longest_of : List (Vec Ask) → ℕ
+longest_of scripts = fold (λ longest script. max longest (length script.items)) 0 scripts
+
+abbrev pub piece_count : ℕ → List (Vec Ask) → ℕ
+piece_count asks scripts = max (div_ceil (longest_of scripts) asks) 1
+
+-- the scripts were run in segments, all of which were kept, and behind the last one nothing of them is left
+pub record RunsInSegments {W B R D : ℕ} (asks : ℕ) (scripts : List (Vec Ask)) (old new : Station W B R D) (kept kept' : List Segment) : Type 0
+  where
+    pub segments : List Segment
+    pub kept_is : kept' ≡ kept ++ segments
+    pub number : length segments ≡ piece_count asks scripts
+    pub ran : HaveRunPieces asks scripts old.ports.items new.ports.items segments
+    pub whole : All (λ script. joined (pieces_of asks script.items (length segments)) ≡ script.items) scripts
+    pub journals : HandsOut old.cache new.cache (journals_of segments)
+    -- and each port may offer again
+    pub again : All (λ port. (offered_before port ≡ offered port) × (has_ended port ≡ false)) new.ports.items
+
+-- what was handed out and not kept: the last segment at most, and only for want of memory
+abbrev pub MayBeLost : SegmentFault → List Segment → Type 0
+MayBeLost fault [] = Unit {0}
+MayBeLost fault (segment ∷ []) = fault ≡ Run OutOfMemory
+MayBeLost fault (segment ∷ more) = ⊥
+
+-- the runs stopped behind these segments, which were kept but for one that may be lost; what the ports did behind the last
+-- renewal isn't said
+pub record StopsBehind {W B R D : ℕ} (asks : ℕ) (scripts : List (Vec Ask)) (old new : Station W B R D) (kept kept' : List Segment)
+    (fault : SegmentFault) : Type 0
+  where
+    pub segments : List Segment
+    pub lost : List Segment
+    pub kept_is : kept' ≡ kept ++ segments
+    pub lost_is : MayBeLost fault lost
+    pub handed_out : earlier_of new.cache ≡ earlier_of old.cache ++ journals_of (segments ++ lost)
+    -- the ports as that renewal left them
+    pub ports : List Port
+    pub same : map port_id ports ≡ map port_id old.ports.items
+    pub ran : HaveRunPieces asks scripts old.ports.items ports (segments ++ lost)

@@ -9,11 +9,13 @@ mod crew;
 mod fault;
 mod gate;
 mod idle;
+mod keeper;
 mod port_thread;
 mod report;
 mod round;
 mod run;
 mod segment;
+mod segments;
 mod talk;
 mod thread_end;
 mod threads;
@@ -23,10 +25,12 @@ pub use crew::Crew;
 pub use fault::{RunFault, SegmentFault};
 pub use flat_model::{Answer, Cause, Event, Lanes, MakeFault, Shape, ShapeField, Word};
 pub use gate::{Actor, Gate};
+pub use keeper::Keeper;
 pub use memory_banks::{BankAnswer, Command};
 pub use report::{Run, Stop};
 pub use run::{run_and_audit, run_threads};
 pub use segment::{Segment, run_and_renew};
+pub use segments::run_in_segments;
 pub use station_journal::laws;
 pub use station_parts::{
     ASK_PLACES, Ask, Audit, BankSide, CacheSide, Entry, MAX_ENTRIES, MAX_NOTED, MAX_PORTS,

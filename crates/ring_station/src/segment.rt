@@ -1,5 +1,5 @@
 //! A run of a station that hands its journal out behind it.
-ghost use Rattle.std.specs.Prelude.{◌≡◌, ◌<◌, true, length, map, vec_len, IsTrue, IfOk, OnOk, IsErr};
+ghost use Rattle.std.specs.Prelude.{◌≡◌, ◌<◌, true, length, map, vec_len, IsTrue, IfOk, OnErr, OnOk, IsErr};
 ghost use Rattle.cache_unit.specs.Views.{is_clean};
 ghost use Rattle.station_parts.specs.declared.parts.Audit.TheVariants.{Clean};
 ghost use Rattle.station_parts.specs.Audited.{IsSeen, audit_of};
@@ -8,7 +8,7 @@ ghost use Rattle.station_parts.specs.Promises.{IsFlatRun, AreWhole, PaysLoads, H
 ghost use Rattle.station_parts.specs.Renewed.{RenewsCache, ResumesPorts};
 ghost use Rattle.station_parts.specs.Rest.{is_at_rest};
 ghost use Rattle.station_parts.specs.Station.{AreOneStation};
-ghost use Rattle.station_parts.specs.Words.{cache_in, journal_of, sizes_in};
+ghost use Rattle.station_parts.specs.Words.{cache_in, earlier_of, journal_of, sizes_in};
 ghost use Rattle.ring_station.specs.Segments.{HaveRunOn, HandsOut};
 
 use crate::crew::Crew;
@@ -37,7 +37,7 @@ pub struct Segment {
 /// [`SegmentFault::Run`] says that the run came to no end, by the fault that `run_threads` has for it; and
 /// [`SegmentFault::Renewal`] that it did, and the station wasn't renewed. After either the station may be
 /// audited; after the latter it may also be renewed, if there is memory then, and it must not be run
-/// before, since its ports have ended.
+/// before, since its ports have ended. After neither was a journal handed out.
 ///
 /// There is one script for each port. A script with `Done` in it comes to no end.
 pub fn run_and_renew<
@@ -70,6 +70,7 @@ pub fn run_and_renew<
         station.old.ports.items station.new.ports.items run.lists.items) }
     ensures journal { IfOk result
         (λ run. HandsOut station.old.cache station.new.cache run.journal.items) }
+    ensures unhanded { OnErr result (earlier_of station.new.cache ≡ earlier_of station.old.cache) }
     ensures rests { OnOk result (is_at_rest (cache_in station.new.cache) ≡ true) }
     ensures no_turn { turns ≡ 0 → IsErr result }
 
@@ -110,6 +111,7 @@ fn renew_station<const WAYS: usize, const WORDS: usize, const REGS: usize, const
     ensures cache { IfOk result
         (λ segment. RenewsCache station.old.cache station.new.cache segment.items) }
     ensures ports { OnOk result (ResumesPorts station.old.ports.items station.new.ports.items) }
+    ensures unhanded { OnErr result (earlier_of station.new.cache ≡ earlier_of station.old.cache) }
     ensures seen { OnOk result (IsSeen station.new.cache station.new.ports.items station.new.banks.items) }
     ensures clean { OnOk result
         (audit_of station.new.cache station.new.ports.items station.new.banks.items ≡ Clean) }

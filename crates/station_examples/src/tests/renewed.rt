@@ -1,13 +1,17 @@
 //! A station that is renewed behind each of its runs on threads. What a run stored, later ones load; so the journals,
-//! one behind the other, are a run of flat memory, and a later one alone is none.
+//! one behind the other, are a run of flat memory, and a later one alone is none. So it is too if the ports' scripts
+//! are cut into pieces, which are run so.
 ghost use Rattle.std.specs.Prelude.{◌≡◌};
 ghost use Rattle.station_parts.specs.Station.{AreOneStation};
 
 use super::ends::are_lists;
 use super::gates::{Rule, RuledGate};
-use super::{LOAD_5, SHAPE, SmallStation, TURNS, scripts_of};
+use super::{LOAD_5, SHAPE, SmallStation, TURNS, VALUE, scripts_of};
 use flat_model::{Lanes, Word};
-use ring_station::{Ask, Crew, Entry, Segment, Told, run_and_renew, station};
+use ring_station::{
+    Ask, Crew, Entry, Keeper, RunFault, Segment, SegmentFault, Told, run_and_renew,
+    run_in_segments, station,
+};
 use station_checks::is_flat;
 use std::alloc::{AllocError, Global};
 use std::process::Abort;
@@ -15,13 +19,28 @@ use std::rt::Clock;
 use std::test::Fail;
 use std::thread::Threads;
 
-/// What two ports ask in one of the runs, and what they are told.
+/// What two ports are told in one of the runs.
 #[derive(Clone, Copy)]
-struct Turn {
-    scripts: [&'static [Ask]; 2],
+struct Expected {
     lists: [&'static [Told]; 2],
     /// Whether its journal alone is a run of flat memory.
     is_flat_alone: bool,
+}
+
+/// What they ask in it.
+#[derive(Clone, Copy)]
+struct Turn {
+    scripts: [&'static [Ask]; 2],
+    gives: Expected,
+}
+
+/// Scripts that are cut into pieces of so many asks, and what is kept of each run.
+#[derive(Clone, Copy)]
+struct Cut {
+    name: &'static str,
+    scripts: [&'static [Ask]; 2],
+    asks: usize,
+    gives: &'static [Expected],
 }
 
 const STORED: Word = Word {
@@ -37,29 +56,98 @@ const STORE_5: Ask = Ask::Store {
     lanes: Lanes(15),
 };
 
-const LOADED: [Told; 2] = [
-    Told::Accepted,
-    Told::Value {
-        tag: 1,
-        word: STORED,
-    },
-];
+const STORED_VALUE: Told = Told::Value {
+    tag: 1,
+    word: STORED,
+};
+
+const LOADED: [Told; 2] = [Told::Accepted, STORED_VALUE];
 
 static TURNS_OF_RUNS: [Turn; 3] = [
     Turn {
         scripts: [&[STORE_5], &[]],
-        lists: [&[Told::Accepted], &[]],
-        is_flat_alone: true,
+        gives: Expected {
+            lists: [&[Told::Accepted], &[]],
+            is_flat_alone: true,
+        },
     },
     Turn {
         scripts: [&[], &[LOAD_5]],
-        lists: [&[], &LOADED],
-        is_flat_alone: false,
+        gives: Expected {
+            lists: [&[], &LOADED],
+            is_flat_alone: false,
+        },
     },
     Turn {
         scripts: [&[LOAD_5], &[]],
+        gives: Expected {
+            lists: [&LOADED, &[]],
+            is_flat_alone: false,
+        },
+    },
+];
+
+// A port that loads the word before it is stored, with one that loads it once; then it is stored, and loaded.
+const ONE_BY_ONE: [Expected; 3] = [
+    Expected {
+        lists: [&[Told::Accepted, VALUE], &[Told::Accepted, VALUE]],
+        is_flat_alone: true,
+    },
+    Expected {
+        lists: [&[Told::Accepted], &[]],
+        is_flat_alone: true,
+    },
+    Expected {
         lists: [&LOADED, &[]],
         is_flat_alone: false,
+    },
+];
+
+static CUTS: [Cut; 5] = [
+    Cut {
+        name: "one ask a piece",
+        scripts: [&[LOAD_5, STORE_5, LOAD_5], &[LOAD_5]],
+        asks: 1,
+        gives: &ONE_BY_ONE,
+    },
+    Cut {
+        name: "none counts as one",
+        scripts: [&[LOAD_5, STORE_5, LOAD_5], &[LOAD_5]],
+        asks: 0,
+        gives: &ONE_BY_ONE,
+    },
+    Cut {
+        name: "two asks a piece, the last of which has one",
+        scripts: [&[], &[STORE_5, LOAD_5, LOAD_5]],
+        asks: 2,
+        gives: &[
+            Expected {
+                lists: [&[], &[Told::Accepted, Told::Accepted, STORED_VALUE]],
+                is_flat_alone: true,
+            },
+            Expected {
+                lists: [&[], &LOADED],
+                is_flat_alone: false,
+            },
+        ],
+    },
+    Cut {
+        name: "just as many asks as a piece has",
+        scripts: [&[STORE_5, LOAD_5], &[]],
+        asks: 2,
+        gives: &[Expected {
+            lists: [&[Told::Accepted, Told::Accepted, STORED_VALUE], &[]],
+            is_flat_alone: true,
+        }],
+    },
+    Cut {
+        name: "no asks",
+        scripts: [&[], &[]],
+        asks: 2,
+        gives: &[Expected {
+            lists: [&[], &[]],
+            is_flat_alone: true,
+        }],
     },
 ];
 
@@ -79,10 +167,19 @@ fn run_turn<R: Abort + Clock + Threads + Sync>(
     Ok(run_and_renew(rt, alloc, all, &scripts, TURNS, Crew::one_each(), &gate)?)
 }
 
-// Whether a run did what it had to.
-fn is_as_said(alloc: Global, segment: &Segment, turn: &Turn) -> Result<bool, AllocError> {
+// Whether a run did what it had to, and its journal says of each port that it ended.
+fn is_as_said(alloc: Global, segment: &Segment, gives: &Expected) -> Result<bool, AllocError> {
     let is_flat_alone = is_flat(alloc, &segment.journal, SHAPE.words)?;
-    Ok(is_flat_alone == turn.is_flat_alone && are_lists(&segment.lists, &turn.lists))
+    Ok(is_flat_alone == gives.is_flat_alone
+        && are_lists(&segment.lists, &gives.lists)
+        && ended_in(&segment.journal) == gives.lists.len())
+}
+
+fn ended_in(journal: &[Entry]) -> usize {
+    journal
+        .iter()
+        .filter(|entry| matches!(entry, Entry::Ended { .. }))
+        .count()
 }
 
 #[test]
@@ -92,10 +189,82 @@ fn renewed_behind_each_run(rt: HostRuntime) -> Result<(), Fail> {
     let mut whole: Vec<Entry> = Vec::new(alloc);
     for turn in &TURNS_OF_RUNS {
         let segment = run_turn(&rt, alloc, &mut all, turn)?;
-        assert!(rt; is_as_said(alloc, &segment, turn)?);
+        assert!(rt; is_as_said(alloc, &segment, &turn.gives)?);
         whole.extend_from_slice(&segment.journal)?;
     }
     assert_eq!(rt; all.cache.entries(), 0);
     assert!(rt; is_flat(alloc, &whole, SHAPE.words)?);
+    Ok(())
+}
+
+// Runs the pieces of the scripts of two ports at a new station.
+fn run_cut<R: Abort + Clock + Threads + Sync, K: Keeper>(
+    rt: &R,
+    alloc: Global,
+    cut: &Cut,
+    keeper: &mut K,
+) -> Result<Option<SegmentFault>, Fail> {
+    let mut all: SmallStation = station(alloc, SHAPE, 2, 1_000)?;
+    let scripts = scripts_of(alloc, &cut.scripts)?;
+    assert_eq!(rt; scripts.len(), all.ports.len());
+    let gate = RuledGate::new(Rule::Open);
+    let crew = Crew::one_each();
+    let run = run_in_segments(rt, alloc, &mut all, &scripts, cut.asks, TURNS, crew, &gate, keeper);
+    Ok(run.err())
+}
+
+// Whether these were kept, and their journals are one of flat memory.
+fn are_as_said(alloc: Global, kept: &[Segment], gives: &[Expected]) -> Result<bool, AllocError> {
+    let mut whole: Vec<Entry> = Vec::new(alloc);
+    for (segment, expected) in kept.iter().zip(gives) {
+        if !is_as_said(alloc, segment, expected)? {
+            return Ok(false);
+        }
+        whole.extend_from_slice(&segment.journal)?;
+    }
+    Ok(kept.len() == gives.len() && is_flat(alloc, &whole, SHAPE.words)?)
+}
+
+#[test]
+fn renewed_behind_each_piece(rt: HostRuntime) -> Result<(), Fail> {
+    let alloc = rt.alloc();
+    for cut in &CUTS {
+        let mut kept: Vec<Segment> = Vec::new(alloc);
+        assert_eq!(rt; run_cut(&rt, alloc, cut, &mut kept)?, None, "{}", cut.name);
+        assert!(rt; are_as_said(alloc, &kept, cut.gives)?, "{}", cut.name);
+    }
+    Ok(())
+}
+
+/// Keeps some segments, and has no memory for more.
+#[derive(Drop)]
+struct Shelf {
+    segments: Vec<Segment>,
+    room: usize,
+}
+
+impl Keeper for Shelf {
+    ghost kept = { λ shelf. shelf.segments.items };
+
+    fn keep(&mut self, segment: Segment) -> Result<(), AllocError> {
+        if self.segments.len() >= self.room {
+            return Err(AllocError);
+        }
+        Ok(self.segments.push(segment)?)
+    }
+}
+
+#[test]
+fn stops_at_a_segment_without_memory(rt: HostRuntime) -> Result<(), Fail> {
+    let alloc = rt.alloc();
+    for room in 0..ONE_BY_ONE.len() {
+        let mut shelf = Shelf {
+            segments: Vec::new(alloc),
+            room,
+        };
+        let fault = run_cut(&rt, alloc, &CUTS[0], &mut shelf)?;
+        assert_eq!(rt; fault, Some(SegmentFault::Run(RunFault::OutOfMemory)));
+        assert!(rt; are_as_said(alloc, &shelf.segments, &ONE_BY_ONE[..room])?);
+    }
     Ok(())
 }

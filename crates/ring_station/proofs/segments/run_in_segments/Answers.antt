@@ -1,0 +1,68 @@
+use Rattle.std.proofs.Common.{◌+◌, ◌<◌, ◌≤◌, refl, sym, ◌∙◌, subst, inl, inr, arith}
+use Rattle.std.proofs.lemmas.Result.{err_from_is_err_and}
+use Rattle.ring_station.specs.Segments.{RunsInSegments, StopsBehind, longest_of}
+use Rattle.ring_station.proofs.Ending.{long_alike}
+use Rattle.ring_station.proofs.RunningOn.{come_nowhere, come_further, runs_to_the_end, stops_there}
+use Rattle.station_parts.specs.Ids.{port_id}
+use Rattle.ring_station.proofs.segments.run_in_segments.Goals as goal
+
+pub loop-begin-init : goal.loop-begin-init
+loop-begin-init g c = record {
+  same_cache = refl;
+  same_ports = refl;
+  same_banks = refl;
+  one = c.requires.one;
+  scripts = c.requires.scripts;
+  more = inl refl;
+  so_far = come_nowhere c.max-asks.result c.args.scripts.now c.args.station.now (g.K.Keeper.kept c.args.keeper.now);
+}
+
+pub returns-in_err-run_pieces-clause-stops : goal.returns-in_err-run_pieces-clause-stops
+returns-in_err-run_pieces-clause-stops g c =
+    let fault = err_from_is_err_and c.from_residual.result c.from_residual.ensures.1 in
+    let inv = c.loop-begin.invariant in
+    let kept = g.K.Keeper.kept c.args.keeper.now in
+    let kept' = g.K.Keeper.kept c.run_pieces.new.keeper in
+    let stop = c.in_err-run_pieces.ensures in
+    rw fault.1
+    (subst (λ f. StopsBehind _ c.args.scripts.now c.args.station.now c.run_pieces.new.station kept kept' f) (sym fault.2)
+    (subst (λ a. StopsBehind a c.args.scripts.now c.args.station.now c.run_pieces.new.station kept kept' c.in_err-run_pieces.field-0.0)
+    c.max-asks.ensures
+    (stops_there c.max-asks.result c.args.scripts.now c.loop-begin.begin c.args.station.now c.loop-begin.station c.run_pieces.new.station
+    kept (g.K.Keeper.kept c.loop-begin.keeper) kept' inv.same_ports inv.so_far c.in_err-run_pieces.field-0.0 stop.same_ports stop.stops)))
+
+pub returns-then-longest-begin-clause-runs : goal.returns-then-longest-begin-clause-runs
+returns-then-longest-begin-clause-runs g c =
+    let inv = c.loop-begin.invariant in
+    let kept = g.K.Keeper.kept c.args.keeper.now in
+    let kept' = g.K.Keeper.kept c.run_pieces.new.keeper in
+    let ran = c.in_ok-run_pieces.ensures in
+    let is = c.longest_script-longest.ensures in
+    let size = c.max-asks.ensures in
+    let some : 0 < c.max-asks.result = omega arith in
+    let enough : longest_of c.args.scripts.now ≤ c.loop-begin.begin + c.max-asks.result =
+        subst (λ n. n ≤ c.loop-begin.begin + c.max-asks.result) is (omega arith) in
+    subst (λ a. RunsInSegments a c.args.scripts.now c.args.station.now c.run_pieces.new.station kept kept') size
+    (runs_to_the_end c.max-asks.result c.args.scripts.now c.loop-begin.begin c.args.station.now c.loop-begin.station
+    c.run_pieces.new.station kept (g.K.Keeper.kept c.loop-begin.keeper) kept' inv.same_ports inv.so_far some
+    (c.requires.scripts ∙ c.args.station.now.ports.ok.0) ran.same_ports inv.more enough ran.runs)
+
+pub loop-begin-preserved : goal.loop-begin-preserved
+loop-begin-preserved g c =
+    let inv = c.loop-begin.invariant in
+    let ran = c.in_ok-run_pieces.ensures in
+    let is = c.longest_script-longest.ensures in
+    let old = c.loop-begin.station.ports in
+    let new = c.run_pieces.new.station.ports in
+    record {
+      same_cache = ran.same_cache ∙ inv.same_cache;
+      same_ports = ran.same_ports ∙ inv.same_ports;
+      same_banks = ran.same_banks ∙ inv.same_banks;
+      one = ran.kept;
+      scripts = inv.scripts ∙ old.ok.0 ∙ sym (long_alike port_id new.items old.items ran.same_ports) ∙ sym new.ok.0;
+      more = inr (subst (λ n. c.loop-begin.begin + c.max-asks.result < n) is (omega arith));
+      so_far =
+          come_further c.max-asks.result c.args.scripts.now c.loop-begin.begin c.args.station.now c.loop-begin.station
+          c.run_pieces.new.station (g.K.Keeper.kept c.args.keeper.now) (g.K.Keeper.kept c.loop-begin.keeper)
+          (g.K.Keeper.kept c.run_pieces.new.keeper) inv.same_ports inv.so_far ran.runs;
+    }
