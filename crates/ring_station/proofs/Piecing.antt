@@ -1,6 +1,6 @@
 -- Pieces of scripts: one more of them, and when they are whole.
-use Rattle.std.proofs.Common.{◌≡◌, ℕ, zero, suc, ◌+◌, ◌-◌, ◌*◌, ◌<◌, ◌≤◌, ◌⊎◌, inl, inr, List, [], ◌∷◌, ◌++◌, length, map, take, drop, slice_index_or, refl, sym, ap, ap₂, ◌∙◌, subst, subst₂, arith, append_assoc}
-use Rattle.std.specs.Prelude.{max, min}
+use Rattle.std.proofs.Common.{◌≡◌, ℕ, zero, suc, ◌+◌, ◌-◌, ◌*◌, ◌<◌, ◌≤◌, ◌⊎◌, inl, inr, List, [], ◌∷◌, ◌++◌, length, take, drop, slice_index_or, refl, sym, ap, ◌∙◌, arith, append_assoc}
+use Rattle.std.specs.Prelude.{max}
 use Rattle.std.specs.Global.{Vec}
 use Rattle.std.specs.Int.{div_ceil}
 use Rattle.std.specs.List.{All, fold}
@@ -12,7 +12,7 @@ use Rattle.std.proofs.lemmas.List.Elements.{All-nil, All-from_get_or}
 use Rattle.station_journal.specs.declared.asks.Ask.{Ask}
 use Rattle.station_journal.specs.declared.asks.Told.{Told}
 use Rattle.station_journal.specs.Conversation.{Converses}
-use Rattle.ring_station.specs.Segments.{pieces_of, joined, EachConverses, longest_of, piece_count}
+use Rattle.ring_station.specs.Segments.{pieces_of, joined, EachConverses, longest_of}
 
 -- ---- one more
 
@@ -24,7 +24,7 @@ pub pieces-suc : (asks : ℕ) (script : List Ask) (n : ℕ)
 pieces-suc asks script zero = rw (zero-mul asks) refl
 pieces-suc asks script (suc n) =
     let there : drop (n * asks) (drop asks script) ≡ drop (suc n * asks) script =
-        drop-drop (n * asks) asks script ∙ ap (λ k. drop k script) (sym (suc-times n asks)) in
+    drop-drop (n * asks) asks script ∙ ap (λ k. drop k script) (sym (suc-times n asks)) in
     ap (λ ps. take asks script ∷ ps) (pieces-suc asks (drop asks script) n)
     ∙ ap (λ rest. take asks script ∷ (pieces_of asks (drop asks script) n ++ take asks rest ∷ [])) there
 
@@ -98,8 +98,8 @@ count_is asks longest n some more enough =
     let bounds = div_ceil_times longest asks some in
     let below : div_ceil longest asks < suc (suc n) = below_next asks (div_ceil longest asks) n longest bounds.1 enough in
     elim more [
-      inl none ↦ let first : n < 1 = lt_of_mul-lt-mul_left asks (omega arith) in omega arith
-    | inr less ↦
-        let above : n < div_ceil longest asks = above_last asks (div_ceil longest asks) n longest less bounds.0 in
-        omega arith
+      | inl none ↦ let first : n < 1 = lt_of_mul-lt-mul_left asks (omega arith) in omega arith
+      | inr less ↦
+          let above : n < div_ceil longest asks = above_last asks (div_ceil longest asks) n longest less bounds.0 in
+          omega arith
     ]

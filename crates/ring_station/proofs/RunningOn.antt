@@ -1,5 +1,5 @@
 -- Runs of the pieces of scripts, one behind the other: none, one more, the last one, and one that stops.
-use Rattle.std.proofs.Common.{◌≡◌, ℕ, zero, suc, ◌+◌, ◌*◌, ◌<◌, ◌≤◌, ◌⊎◌, inl, inr, List, [], ◌∷◌, ◌++◌, length, map, take, drop, slice_index_or, refl, sym, ap, ◌∙◌, subst, subst₂, arith, append_assoc}
+use Rattle.std.proofs.Common.{◌≡◌, ℕ, suc, ◌+◌, ◌*◌, ◌<◌, ◌≤◌, ◌⊎◌, inl, inr, List, [], ◌∷◌, ◌++◌, length, map, slice_index_or, sym, ap, ◌∙◌, subst, subst₂, arith, append_assoc}
 use Rattle.std.specs.Prelude.{false}
 use Rattle.std.specs.Global.{Vec}
 use Rattle.std.specs.List.{All}
@@ -13,20 +13,18 @@ use Rattle.station_journal.specs.declared.journal.Entry.{Entry}
 use Rattle.station_parts.specs.declared.port.Port.{Port}
 use Rattle.station_parts.specs.declared.parts.Station.{Station}
 use Rattle.station_parts.specs.Ids.{port_id}
-use Rattle.station_parts.specs.Words.{offered, offered_before, taken, has_ended, earlier_of, held_of}
-use Rattle.ring_station.specs.declared.fault.RunFault.TheVariants.{OutOfMemory}
+use Rattle.station_parts.specs.Words.{offered, offered_before, taken, has_ended, earlier_of}
 use Rattle.ring_station.specs.declared.fault.SegmentFault.{SegmentFault}
-use Rattle.ring_station.specs.declared.fault.SegmentFault.TheVariants.{Run}
 use Rattle.ring_station.specs.declared.segment.Segment.{Segment}
-use Rattle.ring_station.specs.Segments.{HasRunOn, HaveRunOn, HandsOut, piece_behind, HaveRunNext, HandsOutNext, RunsNext, StopsNext, pieces_of, joined, HasRunPieces, lists_at, journals_of, HaveRunPieces, longest_of, piece_count, RunsInSegments, MayBeLost, StopsBehind}
-use Rattle.ring_station.proofs.Piecing.{pieces-suc, joined-push, grown_more, converse-push, scripts_whole, all_at, count_is}
+use Rattle.ring_station.specs.Segments.{HasRunOn, HaveRunOn, HandsOut, piece_behind, HaveRunNext, HandsOutNext, RunsNext, StopsNext, pieces_of, HasRunPieces, lists_at, journals_of, HaveRunPieces, longest_of, RunsInSegments, StopsBehind}
+use Rattle.ring_station.proofs.Piecing.{pieces-suc, grown_more, converse-push, scripts_whole, all_at, count_is}
 use Rattle.ring_station.proofs.StationRunning.{default_of}
 use Rattle.ring_station.proofs.Ending.{long_alike}
 
 -- ---- one run, of pieces that were cut
 
-next_is : (begin asks : ℕ) (scripts pieces : List (Vec Ask)) → map (λ p. p.items) pieces ≡ map (λ s. piece_behind begin asks s.items) scripts
-    → (p : ℕ) (s : Vec Ask) → p < length scripts → p < length pieces
+next_is : (begin asks : ℕ) (scripts pieces : List (Vec Ask))
+    → map (λ p. p.items) pieces ≡ map (λ s. piece_behind begin asks s.items) scripts → (p : ℕ) (s : Vec Ask) → p < length scripts → p < length pieces
     → (slice_index_or pieces p s).items ≡ piece_behind begin asks (slice_index_or scripts p s).items
 next_is begin asks scripts pieces cut p s less there =
     sym (get_or-map (λ (p : Vec Ask). p.items) pieces p s [] there) ∙ ap (λ l. slice_index_or l p []) cut
@@ -37,8 +35,8 @@ pub have_run_next : (begin asks : ℕ) (scripts pieces : List (Vec Ask)) (old ne
     → HaveRunOn pieces old new segment.lists.items → HaveRunNext begin asks scripts old new segment
 have_run_next begin asks scripts pieces old new segment cut count run =
     let number : length pieces ≡ length scripts =
-        sym (length-map pieces (λ (p : Vec Ask). p.items)) ∙ ap length cut
-        ∙ length-map scripts (λ (s : Vec Ask). piece_behind begin asks s.items) in
+    sym (length-map pieces (λ (p : Vec Ask). p.items)) ∙ ap length cut
+    ∙ length-map scripts (λ (s : Vec Ask). piece_behind begin asks s.items) in
     record {
       number = run.number;
       each = λ p s d l less.
@@ -94,10 +92,10 @@ have_run_more asks scripts first old new segments segment count h next = record 
   each = λ p s d l less.
       let script = (slice_index_or scripts p s).items in
       let pieces : pieces_of asks script (length (segments ++ segment ∷ []))
-          ≡ pieces_of asks script (length segments) ++ piece_behind (length segments * asks) asks script ∷ [] =
-          ap (λ n. pieces_of asks script n) (length-snoc segments segment) ∙ pieces-suc asks script (length segments) in
+      ≡ pieces_of asks script (length segments) ++ piece_behind (length segments * asks) asks script ∷ [] =
+      ap (λ n. pieces_of asks script n) (length-snoc segments segment) ∙ pieces-suc asks script (length segments) in
       let lists : lists_at p l (segments ++ segment ∷ []) ≡ lists_at p l segments ++ (slice_index_or segment.lists.items p l).items ∷ [] =
-          map-append (λ (it : Segment). (slice_index_or it.lists.items p l).items) segments (segment ∷ []) in
+      map-append (λ (it : Segment). (slice_index_or it.lists.items p l).items) segments (segment ∷ []) in
       subst₂ (λ ps ls. HasRunPieces ps (slice_index_or first p d) (slice_index_or new p d) ls) (sym pieces) (sym lists)
       (has_run_more _ _ _ (slice_index_or old p d) _ _ _ (h.each p s d l less)
       (next.each p s d l (subst (λ n. p < n) (sym count) less)));
@@ -119,7 +117,8 @@ handed_more first old new segments segment before more =
 -- ---- the runs so far
 
 -- the pieces before this place were run, and their segments handed out and kept
-pub record HasComeTo {W B R D : ℕ} (begin asks : ℕ) (scripts : List (Vec Ask)) (old new : Station W B R D) (kept kept' : List Segment) : Type 0
+pub record HasComeTo {W B R D : ℕ} (begin asks : ℕ) (scripts : List (Vec Ask)) (old new : Station W B R D) (kept kept' : List Segment)
+    : Type 0
   where
     pub segments : List Segment
     pub begin_is : begin ≡ length segments * asks
@@ -138,7 +137,8 @@ module _ {W B R D : ℕ} (asks : ℕ) (scripts : List (Vec Ask)) where
   }
 
   module _ (begin : ℕ) (first old new : Station W B R D) (kept kept' kept'' : List Segment)
-      (same : map port_id old.ports.items ≡ map port_id first.ports.items) (so_far : HasComeTo begin asks scripts first old kept kept') where
+      (same : map port_id old.ports.items ≡ map port_id first.ports.items)
+      (so_far : HasComeTo begin asks scripts first old kept kept') where
     count : length old.ports.items ≡ length first.ports.items
     count = long_alike port_id old.ports.items first.ports.items same
 
@@ -183,51 +183,60 @@ module _ {W B R D : ℕ} (asks : ℕ) (scripts : List (Vec Ask)) where
         let run = next.ran.each p s d l there in
         (run.before, run.again))
 
-    pub runs_to_the_end : 0 < asks → length scripts ≡ length first.ports.items
-        → map port_id new.ports.items ≡ map port_id old.ports.items → (begin ≡ 0) ⊎ (begin < longest_of scripts)
-        → longest_of scripts ≤ begin + asks → RunsNext begin asks scripts old new kept' kept''
-        → RunsInSegments asks scripts first new kept kept''
-    runs_to_the_end some scripted still more enough next =
+    pub runs_to_the_end : (limit longest : ℕ) → asks ≡ limit → longest ≡ longest_of scripts → 0 < asks
+        → length scripts ≡ length first.ports.items → map port_id new.ports.items ≡ map port_id old.ports.items
+        → (begin ≡ 0) ⊎ (begin < longest_of scripts) → longest ≤ begin + asks → RunsNext begin asks scripts old new kept' kept''
+        → RunsInSegments limit scripts first new kept kept''
+    runs_to_the_end limit longest size is some scripted still more enough next =
         let place = so_far.begin_is in
         let n = length so_far.segments in
+        let all = so_far.segments ++ next.segment ∷ [] in
         let more' : (n * asks ≡ 0) ⊎ (n * asks < longest_of scripts) = subst (λ b. (b ≡ 0) ⊎ (b < longest_of scripts)) place more in
         let enough' : longest_of scripts ≤ suc n * asks =
-            subst (λ b. longest_of scripts ≤ b) (ap (λ b. b + asks) place ∙ sym (suc-mul n asks)) enough in
-        let one_more : length (so_far.segments ++ next.segment ∷ []) ≡ suc n = length-snoc so_far.segments next.segment in
-        record {
-          segments = so_far.segments ++ next.segment ∷ [];
+        subst₂ (λ l b. l ≤ b) is (ap (λ b. b + asks) place ∙ sym (suc-mul n asks)) enough in
+        let one_more : length all ≡ suc n = length-snoc so_far.segments next.segment in
+        subst (λ a. RunsInSegments a scripts first new kept kept'') size
+        (record {
+          segments = all;
           kept_is = kept_more next.segment next.kept_is;
           number = one_more ∙ count_is asks (longest_of scripts) n some more' enough';
           ran = next_at next.segment next.handed_out;
-          whole =
-              scripts_whole asks scripts (length (so_far.segments ++ next.segment ∷ []))
-              (subst (λ k. longest_of scripts ≤ k * asks) (sym one_more) enough');
+          whole = scripts_whole asks scripts (length all) (subst (λ k. longest_of scripts ≤ k * asks) (sym one_more) enough');
           journals = record { earlier = handed_at next.segment next.handed_out; held = next.handed_out.journal.held };
           again = again next.segment scripted still next.handed_out;
-        }
+        })
 
-    pub stops_there : (fault : SegmentFault) → map port_id new.ports.items ≡ map port_id old.ports.items
+    stops_behind : (fault : SegmentFault) → map port_id new.ports.items ≡ map port_id old.ports.items
         → StopsNext begin asks scripts old new kept' kept'' fault → StopsBehind asks scripts first new kept kept'' fault
-    stops_there fault still stop =
+    stops_behind fault still stop =
         elim stop.handed_out [
-          inl unmoved ↦ record {
-            segments = so_far.segments;
-            lost = [];
-            kept_is = stop.kept_is ∙ so_far.kept_is;
-            lost_is = tt;
-            handed_out = unmoved ∙ so_far.handed_out ∙ ap (λ l. earlier_of first.cache ++ journals_of l) (sym (append-nil so_far.segments));
-            ports = old.ports.items;
-            same = same;
-            ran = subst (λ l. HaveRunPieces asks scripts first.ports.items old.ports.items l) (sym (append-nil so_far.segments)) so_far.ran;
-          }
-        | inr lost ↦ record {
-            segments = so_far.segments;
-            lost = lost.0 ∷ [];
-            kept_is = stop.kept_is ∙ so_far.kept_is;
-            lost_is = lost.1.1;
-            handed_out = handed_at lost.0 lost.1.0;
-            ports = new.ports.items;
-            same = still ∙ same;
-            ran = next_at lost.0 lost.1.0;
-          }
+          | inl unmoved ↦
+              let none = sym (append-nil so_far.segments) in
+              record {
+                segments = so_far.segments;
+                lost = [];
+                kept_is = stop.kept_is ∙ so_far.kept_is;
+                lost_is = tt;
+                handed_out = unmoved ∙ so_far.handed_out ∙ ap (λ l. earlier_of first.cache ++ journals_of l) none;
+                ports = old.ports.items;
+                same = same;
+                ran = subst (λ l. HaveRunPieces asks scripts first.ports.items old.ports.items l) none so_far.ran;
+              }
+          | inr lost ↦
+              record {
+                segments = so_far.segments;
+                lost = lost.0 ∷ [];
+                kept_is = stop.kept_is ∙ so_far.kept_is;
+                lost_is = lost.1.1;
+                handed_out = handed_at lost.0 lost.1.0;
+                ports = new.ports.items;
+                same = still ∙ same;
+                ran = next_at lost.0 lost.1.0;
+              }
         ]
+
+    pub stops_there : (limit : ℕ) (fault told : SegmentFault) → asks ≡ limit → told ≡ fault
+        → map port_id new.ports.items ≡ map port_id old.ports.items → StopsNext begin asks scripts old new kept' kept'' fault
+        → StopsBehind limit scripts first new kept kept'' told
+    stops_there limit fault told size is still stop =
+        subst₂ (λ a f. StopsBehind a scripts first new kept kept'' f) size (sym is) (stops_behind fault still stop)

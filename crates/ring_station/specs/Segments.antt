@@ -1,5 +1,5 @@
 -- What a run and the renewal behind it make of a station, and what many of them make of it.
-use Rattle.std.specs.Prelude.{◌≡◌, ℕ, zero, suc, ◌+◌, ◌*◌, ◌<◌, max, ◌⊎◌, ◌++◌, false, List, [], ◌∷◌, map, take, drop, length, slice_index_or}
+use Rattle.std.specs.Prelude.{◌≡◌, ℕ, zero, suc, ◌<◌, max, ◌⊎◌, ◌++◌, false, List, [], ◌∷◌, map, take, drop, length, slice_index_or}
 use Rattle.std.specs.Global.{Vec}
 use Rattle.std.specs.Int.{div_ceil}
 use Rattle.std.specs.List.{All, fold, flat_map}
@@ -58,7 +58,8 @@ pub record HandsOutNext {W B R D : ℕ} (begin asks : ℕ) (scripts : List (Vec 
     pub journal : HandsOut old.cache new.cache segment.journal.items
 
 -- and kept
-pub record RunsNext {W B R D : ℕ} (begin asks : ℕ) (scripts : List (Vec Ask)) (old new : Station W B R D) (kept kept' : List Segment) : Type 0
+pub record RunsNext {W B R D : ℕ} (begin asks : ℕ) (scripts : List (Vec Ask)) (old new : Station W B R D) (kept kept' : List Segment)
+    : Type 0
   where
     pub segment : Segment
     pub kept_is : kept' ≡ kept ++ segment ∷ []
@@ -96,7 +97,7 @@ pub record HasRunPieces (pieces : List (List Ask)) (first port : Port) (lists : 
   pub offered_is : offered port ≡ offered first ++ joined said
   pub taken_is : taken port ≡ taken first ++ joined lists
 
--- what the port of a number took in each of these segments, and all their journals
+-- what the port of a number took in each of these segments; and their journals, one behind the other
 abbrev pub lists_at : ℕ → Vec Told → List Segment → List (List Told)
 lists_at p l segments = map (λ segment. (slice_index_or segment.lists.items p l).items) segments
 
@@ -110,7 +111,7 @@ pub record HaveRunPieces (asks : ℕ) (scripts : List (Vec Ask)) (old new : List
       → HasRunPieces (pieces_of asks (slice_index_or scripts p s).items (length segments)) (slice_index_or old p d) (slice_index_or new p d)
       (lists_at p l segments)
 
--- into how many pieces the longest script is cut, and one if no script has an ask
+-- how many asks the longest script has; and into how many pieces it is cut, at least one
 abbrev pub longest_of : List (Vec Ask) → ℕ
 longest_of scripts = fold (λ longest script. max longest (length script.items)) 0 scripts
 
@@ -118,7 +119,8 @@ abbrev pub piece_count : ℕ → List (Vec Ask) → ℕ
 piece_count asks scripts = max (div_ceil (longest_of scripts) asks) 1
 
 -- the scripts were run in segments, all of which were kept, and behind the last one nothing of them is left
-pub record RunsInSegments {W B R D : ℕ} (asks : ℕ) (scripts : List (Vec Ask)) (old new : Station W B R D) (kept kept' : List Segment) : Type 0
+pub record RunsInSegments {W B R D : ℕ} (asks : ℕ) (scripts : List (Vec Ask)) (old new : Station W B R D) (kept kept' : List Segment)
+    : Type 0
   where
     pub segments : List Segment
     pub kept_is : kept' ≡ kept ++ segments

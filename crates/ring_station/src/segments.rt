@@ -90,7 +90,9 @@ pub fn run_in_segments<
     let longest = longest_script(scripts);
     let mut begin = 0;
     loop {
-        run_pieces(rt, alloc, station, scripts, begin, asks, turns, crew, gate, keeper)?;
+        run_pieces(
+            rt, alloc, station, scripts, begin, asks, turns, crew, gate, keeper,
+        )?;
         if longest - begin <= asks {
             return Ok(());
         }

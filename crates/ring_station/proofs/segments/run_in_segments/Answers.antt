@@ -1,6 +1,6 @@
 use Rattle.std.proofs.Common.{◌+◌, ◌<◌, ◌≤◌, refl, sym, ◌∙◌, subst, inl, inr, arith}
+use Rattle.std.specs.Prelude.{max}
 use Rattle.std.proofs.lemmas.Result.{err_from_is_err_and}
-use Rattle.ring_station.specs.Segments.{RunsInSegments, StopsBehind, longest_of}
 use Rattle.ring_station.proofs.Ending.{long_alike}
 use Rattle.ring_station.proofs.RunningOn.{come_nowhere, come_further, runs_to_the_end, stops_there}
 use Rattle.station_parts.specs.Ids.{port_id}
@@ -19,33 +19,25 @@ loop-begin-init g c = record {
 
 pub returns-in_err-run_pieces-clause-stops : goal.returns-in_err-run_pieces-clause-stops
 returns-in_err-run_pieces-clause-stops g c =
-    let fault = err_from_is_err_and c.from_residual.result c.from_residual.ensures.1 in
+    let told = err_from_is_err_and c.from_residual.result c.from_residual.ensures.1 in
     let inv = c.loop-begin.invariant in
-    let kept = g.K.Keeper.kept c.args.keeper.now in
-    let kept' = g.K.Keeper.kept c.run_pieces.new.keeper in
     let stop = c.in_err-run_pieces.ensures in
-    rw fault.1
-    (subst (λ f. StopsBehind _ c.args.scripts.now c.args.station.now c.run_pieces.new.station kept kept' f) (sym fault.2)
-    (subst (λ a. StopsBehind a c.args.scripts.now c.args.station.now c.run_pieces.new.station kept kept' c.in_err-run_pieces.field-0.0)
-    c.max-asks.ensures
+    rw told.1
     (stops_there c.max-asks.result c.args.scripts.now c.loop-begin.begin c.args.station.now c.loop-begin.station c.run_pieces.new.station
-    kept (g.K.Keeper.kept c.loop-begin.keeper) kept' inv.same_ports inv.so_far c.in_err-run_pieces.field-0.0 stop.same_ports stop.stops)))
+    (g.K.Keeper.kept c.args.keeper.now) (g.K.Keeper.kept c.loop-begin.keeper) (g.K.Keeper.kept c.run_pieces.new.keeper) inv.same_ports
+    inv.so_far (max c.args.asks 1) c.in_err-run_pieces.field-0.0 told.0 c.max-asks.ensures told.2 stop.same_ports stop.stops)
 
 pub returns-then-longest-begin-clause-runs : goal.returns-then-longest-begin-clause-runs
 returns-then-longest-begin-clause-runs g c =
     let inv = c.loop-begin.invariant in
-    let kept = g.K.Keeper.kept c.args.keeper.now in
-    let kept' = g.K.Keeper.kept c.run_pieces.new.keeper in
     let ran = c.in_ok-run_pieces.ensures in
-    let is = c.longest_script-longest.ensures in
-    let size = c.max-asks.ensures in
-    let some : 0 < c.max-asks.result = omega arith in
-    let enough : longest_of c.args.scripts.now ≤ c.loop-begin.begin + c.max-asks.result =
-        subst (λ n. n ≤ c.loop-begin.begin + c.max-asks.result) is (omega arith) in
-    subst (λ a. RunsInSegments a c.args.scripts.now c.args.station.now c.run_pieces.new.station kept kept') size
-    (runs_to_the_end c.max-asks.result c.args.scripts.now c.loop-begin.begin c.args.station.now c.loop-begin.station
-    c.run_pieces.new.station kept (g.K.Keeper.kept c.loop-begin.keeper) kept' inv.same_ports inv.so_far some
-    (c.requires.scripts ∙ c.args.station.now.ports.ok.0) ran.same_ports inv.more enough ran.runs)
+    let some : 0 < c.max-asks.result = let size = c.max-asks.ensures in omega arith in
+    let enough : c.longest_script-longest.result ≤ c.loop-begin.begin + c.max-asks.result = omega arith in
+    runs_to_the_end c.max-asks.result c.args.scripts.now c.loop-begin.begin c.args.station.now c.loop-begin.station
+    c.run_pieces.new.station (g.K.Keeper.kept c.args.keeper.now) (g.K.Keeper.kept c.loop-begin.keeper)
+    (g.K.Keeper.kept c.run_pieces.new.keeper) inv.same_ports inv.so_far (max c.args.asks 1) c.longest_script-longest.result
+    c.max-asks.ensures c.longest_script-longest.ensures some (c.requires.scripts ∙ c.args.station.now.ports.ok.0) ran.same_ports inv.more
+    enough ran.runs
 
 pub loop-begin-preserved : goal.loop-begin-preserved
 loop-begin-preserved g c =

@@ -1,4 +1,4 @@
-use Rattle.std.proofs.Common.{◌≡◌, ◌<◌, ◌≤◌, ◌⊎◌, ◌-◌, length, map, vec_len}
+use Rattle.std.proofs.Common.{◌≡◌, ◌<◌, ◌⊎◌, ◌-◌, length, map, vec_len}
 use Rattle.station_parts.specs.Ids.{port_id, bank_id, cache_id}
 use Rattle.station_parts.specs.Station.{AreOneStation}
 use Rattle.ring_station.specs.Segments.{longest_of}
